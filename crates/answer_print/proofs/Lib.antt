@@ -1,0 +1,3 @@
+pub mod Places
+pub mod Pushing
+pub mod Sums

@@ -1,0 +1,129 @@
+//! The record of an answer.
+ghost use Rattle.std.specs.Prelude.{◌≡◌, ◌<◌, ◌++◌, [], if◌then◌else◌, length, map, string_bytes, take, IfOk, OnOk};
+ghost use Rattle.std.specs.Fmt.{decimal, signed_decimal};
+ghost use Rattle.anyk_model.specs.Output.{line_text};
+ghost use Rattle.anyk_model.specs.Query.{IsCombination, row_counts, sum_of, value_of};
+ghost use Rattle.query_bind.specs.Weighed.{Fits};
+ghost use Rattle.query_bind.specs.Weights.{key_at};
+ghost use Rattle.answer_print.specs.Shown.{style_shown};
+
+use crate::fields::{push_optional, push_texts};
+use crate::style::Style;
+use csv_tables::Tables;
+use query_bind::Query;
+use std::alloc::Global;
+use step_counter::NoMemory;
+
+/// The record of the answer that has these rows, one for each item, counted from 1: the cursor's name where there is one, the selected
+/// columns, the sums of the order keys where they are shown, the row numbers where they are shown.
+pub fn line(
+    alloc: Global,
+    query: &Query,
+    tables: &Tables,
+    rows: &[u32; 16],
+    style: &Style<'_>,
+) -> Result<Vec<u8>, NoMemory>
+    requires fits { Fits query.now tables.now }
+    requires rows { IsCombination (row_counts query.now.query.items tables.now) (take (length query.now.query.items) rows.now) }
+    ensures { IfOk result (λ text. text.items ≡ line_text query.now.query tables.now (style_shown style.now) (take (length query.now.query.items) rows.now)) }
+{
+    let numbers = numbers(alloc, query, tables, rows, style)?;
+    let mut fields = Vec::new(alloc);
+    push_optional(&mut fields, style.cursor)?;
+    push_values(&mut fields, query, tables, rows)?;
+    push_texts(&mut fields, numbers.as_slice())?;
+    csv_tables::line(alloc, fields.as_slice())
+}
+
+/// Puts the selected columns of the rows last.
+fn push_values<'a>(
+    fields: &mut Vec<&'a [u8]>,
+    query: &Query,
+    tables: &'a Tables,
+    rows: &[u32; 16],
+) -> Result<(), NoMemory>
+    requires fits { Fits query.now tables.now }
+    requires rows { IsCombination (row_counts query.now.query.items tables.now) (take (length query.now.query.items) rows.now) }
+    ensures { OnOk result (map (λ f. f.now) fields.new.items ≡ map (λ f. f.now) fields.old.items
+        ++ map (value_of query.now.query tables.now (take (length query.now.query.items) rows.now)) query.now.query.list) }
+{
+    for (item, place) in query.columns() {
+        let table = query.table_of(*item);
+        let row = rows[*item as usize];
+        fields.push(tables.field(table, row, *place))?;
+    }
+    Ok(())
+}
+
+/// The numbers that the style shows, in decimal.
+fn numbers(
+    alloc: Global,
+    query: &Query,
+    tables: &Tables,
+    rows: &[u32; 16],
+    style: &Style<'_>,
+) -> Result<Vec<String>, NoMemory>
+    requires fits { Fits query.now tables.now }
+    requires rows { IsCombination (row_counts query.now.query.items tables.now) (take (length query.now.query.items) rows.now) }
+    ensures { let chosen = take (length query.now.query.items) rows.now in IfOk result (λ numbers. map string_bytes numbers.items
+        ≡ (if style.now.ranks then map (λ k. signed_decimal (sum_of query.now.query tables.now chosen k)) query.now.query.order else [])
+        ++ (if style.now.rows then map decimal chosen else [])) }
+{
+    let mut numbers = Vec::new(alloc);
+    if style.ranks {
+        push_sums(alloc, &mut numbers, query, tables, rows)?;
+    }
+    if style.rows {
+        push_rows(alloc, &mut numbers, query, rows)?;
+    }
+    Ok(numbers)
+}
+
+/// Puts the sums of the order keys last.
+fn push_sums(
+    alloc: Global,
+    numbers: &mut Vec<String>,
+    query: &Query,
+    tables: &Tables,
+    rows: &[u32; 16],
+) -> Result<(), NoMemory>
+    requires fits { Fits query.now tables.now }
+    requires rows { IsCombination (row_counts query.now.query.items tables.now) (take (length query.now.query.items) rows.now) }
+    ensures { let chosen = take (length query.now.query.items) rows.now in OnOk result (map string_bytes numbers.new.items ≡ map string_bytes numbers.old.items
+        ++ map (λ k. signed_decimal (sum_of query.now.query tables.now chosen k)) query.now.query.order) }
+{
+    for key in 0..query.keys() {
+        let sum = key_sum(query, tables, rows, key);
+        numbers.push(format!(in alloc; "{sum}")?)?;
+    }
+    Ok(())
+}
+
+/// Puts the row numbers of the items last.
+fn push_rows(
+    alloc: Global,
+    numbers: &mut Vec<String>,
+    query: &Query,
+    rows: &[u32; 16],
+) -> Result<(), NoMemory>
+    ensures { OnOk result (map string_bytes numbers.new.items ≡ map string_bytes numbers.old.items ++ map decimal (take (length query.now.query.items) rows.now)) }
+{
+    for row in &rows[..query.items() as usize] {
+        numbers.push(format!(in alloc; "{row}")?)?;
+    }
+    Ok(())
+}
+
+/// The sum of an order key, as the query has it.
+fn key_sum(query: &Query, tables: &Tables, rows: &[u32; 16], key: u32) -> i128
+    requires fits { Fits query.now tables.now }
+    requires rows { IsCombination (row_counts query.now.query.items tables.now) (take (length query.now.query.items) rows.now) }
+    requires key { key < length query.now.query.order }
+    ensures { result ≡ sum_of query.now.query tables.now (take (length query.now.query.items) rows.now) (key_at query.now.query.order key) }
+{
+    let mut sum: i128 = 0;
+    for item in 0..query.items() {
+        sum += query.part(tables, item, rows[item as usize], key);
+    }
+    if query.descending(key) { -sum } else { sum }
+}

@@ -1,0 +1,31 @@
+//! The fields of a record, in order, borrowed from what they are taken from.
+ghost use Rattle.std.specs.Prelude.{◌≡◌, ◌++◌, OnOk, map, option_map, string_bytes};
+ghost use Rattle.anyk_model.specs.Output.{optional_field};
+
+use step_counter::NoMemory;
+
+/// Puts a field last, where there is one.
+pub(crate) fn push_optional<'a>(
+    fields: &mut Vec<&'a [u8]>,
+    field: Option<&'a [u8]>,
+) -> Result<(), NoMemory>
+    ensures { OnOk result (map (λ f. f.now) fields.new.items ≡ map (λ f. f.now) fields.old.items ++ optional_field (option_map (λ f. f.now) field.entry)) }
+{
+    if let Some(field) = field {
+        fields.push(field)?;
+    }
+    Ok(())
+}
+
+/// Puts texts last.
+pub(crate) fn push_texts<'a>(
+    fields: &mut Vec<&'a [u8]>,
+    texts: &'a [String],
+) -> Result<(), NoMemory>
+    ensures { OnOk result (map (λ f. f.now) fields.new.items ≡ map (λ f. f.now) fields.old.items ++ map string_bytes texts.now) }
+{
+    for text in texts {
+        fields.push(text.as_bytes())?;
+    }
+    Ok(())
+}

@@ -1,0 +1,14 @@
+//! The records of a query's output: a header, and a line for each answer, as comma-separated values (RFC 4180).
+#![tactic(auto)]
+
+mod answer;
+mod fields;
+mod style;
+mod titles;
+
+pub use answer::line;
+pub use style::Style;
+pub use titles::header;
+
+#[cfg(test)]
+mod tests;

@@ -1,0 +1,3 @@
+pub mod Prints
+pub mod Given
+pub mod Ends

@@ -1,0 +1,84 @@
+//! The top call.
+ghost use Rattle.std.specs.Prelude.{◌≡◌, ◌<◌, map};
+ghost use Rattle.std.specs.String.{string_bytes};
+ghost use Rattle.cmd_words.specs.Commands.{said_of};
+ghost use Rattle.verdict.specs.Outcome.{Outcome};
+ghost use Rattle.anyk_top.specs.Asked.{asked_of};
+
+use crate::asking::read_run;
+use crate::ending::finish;
+use crate::run::run;
+use outer_io::{Shelf, Sink};
+use std::alloc::Global;
+use std::sync::ledger::{Blank, Ledger};
+use step_counter::Steps;
+
+/// Does all that the program does, and answers its exit status: reads the words, the files that they name on the shelf, and
+/// writes the answers to `out` and the line of a refusal to `err`.
+pub fn run_words<F: Shelf, S: Sink, E: Sink, L: Ledger>(
+    alloc: Global,
+    words: &[String],
+    shelf: &mut F,
+    out: &mut S,
+    err: &mut E,
+    steps: &mut Steps<L>,
+) -> u8
+    ensures { Outcome (asked_of (said_of (map string_bytes words.now))) (F.files shelf.old)
+        (record {
+          misses = F.misses shelf.old;
+          read_faults = F.faults shelf.old;
+          output = S.written out.old;
+          write_faults = S.faults out.old;
+          errors = E.written err.old;
+          error_faults = E.faults err.old;
+        })
+        (record {
+          misses = F.misses shelf.new;
+          read_faults = F.faults shelf.new;
+          output = S.written out.new;
+          write_faults = S.faults out.new;
+          errors = E.written err.new;
+          error_faults = E.faults err.new;
+        })
+        result }
+{
+    match read_run(alloc, words) {
+        Ok(said) => finish(err, run(alloc, &said, shelf, out, steps)),
+        Err(refusal) => finish(err, Err(refusal)),
+    }
+}
+
+/// The same, with a counter of its own that nobody reads.
+pub fn run_uncounted<F: Shelf, S: Sink, E: Sink, L: Ledger>(
+    alloc: Global,
+    words: &[String],
+    shelf: &mut F,
+    out: &mut S,
+    err: &mut E,
+    blank: Blank,
+) -> u8
+    requires name { blank.name ≡ L.name }
+    requires parts { blank.parts ≡ L.parts }
+    requires some_part { 0 < blank.parts }
+    ensures { Outcome (asked_of (said_of (map string_bytes words.now))) (F.files shelf.old)
+        (record {
+          misses = F.misses shelf.old;
+          read_faults = F.faults shelf.old;
+          output = S.written out.old;
+          write_faults = S.faults out.old;
+          errors = E.written err.old;
+          error_faults = E.faults err.old;
+        })
+        (record {
+          misses = F.misses shelf.new;
+          read_faults = F.faults shelf.new;
+          output = S.written out.new;
+          write_faults = S.faults out.new;
+          errors = E.written err.new;
+          error_faults = E.faults err.new;
+        })
+        result }
+{
+    let mut steps = Steps::<L>::new(blank);
+    run_words(alloc, words, shelf, out, err, &mut steps)
+}

@@ -1,0 +1,111 @@
+-- What follows from what `clap` says of the words.
+use Rattle.std.proofs.Common.{◌≡◌, ℕ, List, [], ◌∷◌, Option, None, true, refl, sym, ap, ◌∙◌}
+use Rattle.std.specs.Prelude.{Result, Err, IsErrOf}
+use Rattle.clap.specs.Faults.{fault_of, is_simple_and_free}
+use Rattle.clap.specs.Kinds.{Kinds}
+use Rattle.clap.specs.Simple.{App, is_simple, matches_of}
+use Rattle.clap.specs.Walk.{Row}
+use Rattle.cmd_words.specs.Arguments.{run_app, session_app, plan_app, load_app}
+use Rattle.cmd_words.specs.Commands.{if_no, if_taken, run_of, session_of, plan_of, load_of}
+use Rattle.cmd_words.specs.Said.{Texts, texts_of, run_texts, plan_texts, said_by, session_by, load_by, load_by_texts}
+
+-- each command is one of those whose matches and faults `clap` states
+pub run_simple : is_simple run_app ≡ true
+unfolding run_app
+run_simple = refl
+
+pub run_free : is_simple_and_free run_app ≡ true
+unfolding run_app
+run_free = refl
+
+pub session_simple : is_simple session_app ≡ true
+unfolding session_app
+session_simple = refl
+
+pub session_free : is_simple_and_free session_app ≡ true
+unfolding session_app
+session_free = refl
+
+pub plan_simple : is_simple plan_app ≡ true
+unfolding plan_app
+plan_simple = refl
+
+pub plan_free : is_simple_and_free plan_app ≡ true
+unfolding plan_app
+plan_free = refl
+
+pub load_simple : is_simple load_app ≡ true
+unfolding load_app
+load_simple = refl
+
+pub load_free : is_simple_and_free load_app ≡ true
+unfolding load_app
+load_free = refl
+
+module _ {T : Type 0} where
+  if_none : (faults : Kinds) (some : Option T) → (faults ≡ [] → ⊥) → if_no faults some ≡ None
+  if_none [] some fails = absurd (fails refl)
+  if_none (fault ∷ faults) some fails = refl
+
+  -- where `clap` refuses the words they say nothing
+  not_taken : (own app : App) (words : List (List ℕ)) (said : List Row → Option T) → app ≡ own → (fault_of app words ≡ [] → ⊥) → if_taken own words said ≡ None
+  not_taken own app words said same fails = if_none (fault_of own words) (said (matches_of own words)) (λ e. fails (ap (λ (a : App). fault_of a words) same ∙ e))
+
+  if_some : (faults : Kinds) (some : Option T) → faults ≡ [] → if_no faults some ≡ some
+  if_some faults some e = ap (λ (k : Kinds). if_no k some) e
+
+  -- where it takes them they say what the matches say
+  taken : (own app : App) (words : List (List ℕ)) (said : List Row → Option T) (rows : List Row) → app ≡ own → fault_of app words ≡ [] → rows ≡ matches_of app words → if_taken own words said ≡ said rows
+  taken own app words said rows same e found =
+      if_some (fault_of own words) (said (matches_of own words)) (ap (λ (a : App). fault_of a words) (sym same) ∙ e) ∙ ap said (ap (λ (a : App). matches_of a words) (sym same) ∙ sym found)
+
+module _ (app : App) (words : List (List ℕ)) where
+  pub run_refused : app ≡ run_app → (fault_of app words ≡ [] → ⊥) → run_of words ≡ None
+  unfolding run_of
+  run_refused same fails = not_taken run_app app words (λ rows. said_by (run_texts (texts_of rows))) same fails
+
+  pub session_refused : app ≡ session_app → (fault_of app words ≡ [] → ⊥) → session_of words ≡ None
+  unfolding session_of
+  session_refused same fails = not_taken session_app app words (λ rows. session_by (texts_of rows)) same fails
+
+  pub plan_refused : app ≡ plan_app → (fault_of app words ≡ [] → ⊥) → plan_of words ≡ None
+  unfolding plan_of
+  plan_refused same fails = not_taken plan_app app words (λ rows. said_by (plan_texts (texts_of rows))) same fails
+
+  pub load_refused : app ≡ load_app → (fault_of app words ≡ [] → ⊥) → load_of words ≡ None
+  unfolding load_of
+  load_refused same fails = not_taken load_app app words load_by same fails
+
+  module _ (rows : List Row) (e : fault_of app words ≡ []) (found : rows ≡ matches_of app words) where
+    pub run_taken : (t : Texts) → t ≡ texts_of rows → app ≡ run_app → run_of words ≡ said_by (run_texts t)
+    unfolding run_of
+    run_taken t texts same = taken run_app app words (λ rows. said_by (run_texts (texts_of rows))) rows same e found ∙ ap (λ (x : Texts). said_by (run_texts x)) (sym texts)
+
+    pub session_taken : (t : Texts) → t ≡ texts_of rows → app ≡ session_app → session_of words ≡ session_by t
+    unfolding session_of
+    session_taken t texts same = taken session_app app words (λ rows. session_by (texts_of rows)) rows same e found ∙ ap session_by (sym texts)
+
+    pub plan_taken : (t : Texts) → t ≡ texts_of rows → app ≡ plan_app → plan_of words ≡ said_by (plan_texts t)
+    unfolding plan_of
+    plan_taken t texts same = taken plan_app app words (λ rows. said_by (plan_texts (texts_of rows))) rows same e found ∙ ap (λ (x : Texts). said_by (plan_texts x)) (sym texts)
+
+    pub load_taken : app ≡ load_app → load_of words ≡ load_by rows
+    unfolding load_of
+    load_taken same = taken load_app app words load_by rows same e found
+
+abbrev pub made : Option (List ℕ) → Option (List ℕ) → Option (List ℕ) → Option (List ℕ) → Option (List ℕ) → Option (List (List ℕ)) → Texts
+made a b c d e f = record { engine = a; ranks = b; rows = c; script = d; query = e; tables = f }
+
+pub same_texts : (a a' b b' c c' d d' e e' : Option (List ℕ)) (f f' : Option (List (List ℕ))) → a ≡ a' → b ≡ b' → c ≡ c' → d ≡ d' → e ≡ e' → f ≡ f' → made a b c d e f ≡ made a' b' c' d' e' f'
+same_texts a a' b b' c c' d d' e e' f f' p q r s t u =
+    ap (λ (o : Option (List ℕ)). made o b c d e f) p ∙ ap (λ (o : Option (List ℕ)). made a' o c d e f) q ∙ ap (λ (o : Option (List ℕ)). made a' b' o d e f) r
+    ∙ ap (λ (o : Option (List ℕ)). made a' b' c' o e f) s ∙ ap (λ (o : Option (List ℕ)). made a' b' c' d' o f) t ∙ ap (λ (o : Option (List (List ℕ))). made a' b' c' d' e' o) u
+
+pub same_options : (a b c x y z : Option (List ℕ)) → a ≡ x → b ≡ y → c ≡ z → load_by_texts x y z ≡ load_by_texts a b c
+same_options a b c x y z p q r =
+    sym (ap (λ (o : Option (List ℕ)). load_by_texts o b c) p ∙ ap (λ (o : Option (List ℕ)). load_by_texts x o c) q ∙ ap (λ (o : Option (List ℕ)). load_by_texts x y o) r)
+
+-- an error of one result is that of another
+module _ {S T E : Type 0} where
+  pub same_error : (r : Result S E) (q : Result T E) (e f : E) → r ≡ Err e → q ≡ Err e → IsErrOf r f → IsErrOf q f
+  same_error r q e f a b h = let same : e ≡ f = cc in b ∙ ap Err same

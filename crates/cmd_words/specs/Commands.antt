@@ -1,0 +1,60 @@
+-- The command that the words are.
+use Rattle.std.specs.Prelude.{ℕ, List, [], ◌∷◌, Option, None, codes, if◌then◌else◌, option_map}
+use Rattle.std.specs.Str.{bytes_eq}
+use Rattle.clap.specs.Faults.{fault_of}
+use Rattle.clap.specs.Kinds.{Kinds}
+use Rattle.clap.specs.Simple.{App, matches_of}
+use Rattle.clap.specs.Walk.{Row}
+use Rattle.cmd_words.specs.Arguments.{run_app, session_app, plan_app, load_app}
+use Rattle.cmd_words.specs.Said.{WordsSaid, texts_of, run_texts, plan_texts, said_by, session_by, load_by, seen_words}
+use Rattle.cmd_words.specs.declared.command.Engine.{Engine}
+use Rattle.cmd_words.specs.declared.command.Command.{Command}
+use Rattle.cmd_words.specs.declared.command.Command.TheVariants.{Run, Session, Plan, Load}
+
+-- a command and what its words say
+pub data CommandSaid : Type 0 where
+  run_said : WordsSaid → CommandSaid
+  session_said : WordsSaid → CommandSaid
+  plan_said : WordsSaid → CommandSaid
+  load_said : Engine → ℕ → ℕ → CommandSaid
+
+-- the value, where there is no fault
+abbrev pub if_no : {T : Type 0} → Kinds → Option T → Option T
+if_no [] value = value
+if_no (fault ∷ faults) value = None
+
+-- what the matches of the words say, where `clap` takes the words for this command
+abbrev pub if_taken : {T : Type 0} → App → List (List ℕ) → (List Row → Option T) → Option T
+if_taken app words said = if_no (fault_of app words) (said (matches_of app words))
+
+unfoldable pub run_of : List (List ℕ) → Option WordsSaid
+run_of words = if_taken run_app words (λ rows. said_by (run_texts (texts_of rows)))
+
+unfoldable pub session_of : List (List ℕ) → Option WordsSaid
+session_of words = if_taken session_app words (λ rows. session_by (texts_of rows))
+
+unfoldable pub plan_of : List (List ℕ) → Option WordsSaid
+plan_of words = if_taken plan_app words (λ rows. said_by (plan_texts (texts_of rows)))
+
+unfoldable pub load_of : List (List ℕ) → Option (Engine × ℕ × ℕ)
+load_of words = if_taken load_app words load_by
+
+-- what the words say to the command that their first word names
+abbrev pub said_to : List ℕ → List (List ℕ) → Option CommandSaid
+said_to first words =
+    if bytes_eq first (codes "run") then option_map run_said (run_of words)
+    else if bytes_eq first (codes "session") then option_map session_said (session_of words)
+    else if bytes_eq first (codes "plan") then option_map plan_said (plan_of words)
+    else if bytes_eq first (codes "load") then option_map (λ p. load_said p.0 p.1 p.2) (load_of words)
+    else None
+
+-- the command that the words are, and none where they are no command
+abbrev pub said_of : List (List ℕ) → Option CommandSaid
+said_of [] = None
+said_of (first ∷ others) = said_to first (first ∷ others)
+
+abbrev pub seen_command : Command → CommandSaid
+seen_command (Run words) = run_said (seen_words words)
+seen_command (Session words) = session_said (seen_words words)
+seen_command (Plan words) = plan_said (seen_words words)
+seen_command (Load engine number rows) = load_said engine number rows

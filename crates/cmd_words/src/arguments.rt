@@ -1,0 +1,103 @@
+//! The arguments of each command, for `clap`.
+
+ghost use Rattle.std.specs.Prelude.{◌≡◌, false, IfOk};
+ghost use Rattle.clap.specs.Simple.{app_of, with_rule};
+ghost use Rattle.clap.specs.Walk.{rule_of};
+ghost use Rattle.cmd_words.specs.Arguments.{engine_rule, flag_rule, required_rule, query_rule, tables_rule, with_files, run_app, session_app, plan_app, load_app};
+
+use clap::{Arg, ArgAction, Command as Parser};
+use std::alloc::{AllocError, Global};
+
+fn engine<'a>(alloc: Global) -> Arg<'a>
+    ensures rule { rule_of result ≡ engine_rule }
+    ensures local { result.global ≡ false }
+{
+    Arg::new(alloc, "engine")
+        .long("engine")
+        .action(ArgAction::Set)
+        .default_value("part")
+}
+
+// An option without a value.
+fn flag<'a>(alloc: Global, name: &'a str) -> Arg<'a>
+    ensures rule { rule_of result ≡ flag_rule name.entry.now }
+    ensures local { result.global ≡ false }
+{
+    Arg::new(alloc, name).long(name).action(ArgAction::SetTrue)
+}
+
+// An option with a value, which has to be given.
+fn required<'a>(alloc: Global, name: &'a str) -> Arg<'a>
+    ensures rule { rule_of result ≡ required_rule name.entry.now }
+    ensures local { result.global ≡ false }
+{
+    Arg::new(alloc, name)
+        .long(name)
+        .required(true)
+        .action(ArgAction::Set)
+}
+
+fn query<'a>(alloc: Global) -> Arg<'a>
+    ensures rule { rule_of result ≡ query_rule }
+    ensures local { result.global ≡ false }
+{
+    Arg::new(alloc, "query")
+        .required(true)
+        .action(ArgAction::Set)
+}
+
+fn tables<'a>(alloc: Global) -> Arg<'a>
+    ensures rule { rule_of result ≡ tables_rule }
+    ensures local { result.global ≡ false }
+{
+    Arg::new(alloc, "tables")
+        .required(true)
+        .action(ArgAction::Append)
+}
+
+// The command with QUERYFILE and TABLE=FILE after its other arguments.
+fn with_files<'a>(alloc: Global, command: Parser<'a>) -> Result<Parser<'a>, AllocError>
+    ensures { IfOk result (λ whole. app_of whole ≡ with_files (app_of command.entry)) }
+{
+    command.arg(query(alloc))?.arg(tables(alloc))
+}
+
+/// The arguments of `run`.
+pub fn run_command<'a>(alloc: Global) -> Result<Parser<'a>, AllocError>
+    ensures { IfOk result (λ command. app_of command ≡ run_app) }
+{
+    let options = Parser::new(alloc, "run")
+        .arg(engine(alloc))?
+        .arg(flag(alloc, "ranks"))?
+        .arg(flag(alloc, "rows"))?;
+    with_files(alloc, options)
+}
+
+/// The arguments of `session`.
+pub fn session_command<'a>(alloc: Global) -> Result<Parser<'a>, AllocError>
+    ensures { IfOk result (λ command. app_of command ≡ session_app) }
+{
+    let options = Parser::new(alloc, "session")
+        .arg(engine(alloc))?
+        .arg(flag(alloc, "ranks"))?
+        .arg(flag(alloc, "rows"))?
+        .arg(required(alloc, "script"))?;
+    with_files(alloc, options)
+}
+
+/// The arguments of `plan`.
+pub fn plan_command<'a>(alloc: Global) -> Result<Parser<'a>, AllocError>
+    ensures { IfOk result (λ command. app_of command ≡ plan_app) }
+{
+    with_files(alloc, Parser::new(alloc, "plan"))
+}
+
+/// The arguments of `load`.
+pub fn load_command<'a>(alloc: Global) -> Result<Parser<'a>, AllocError>
+    ensures { IfOk result (λ command. app_of command ≡ load_app) }
+{
+    Parser::new(alloc, "load")
+        .arg(engine(alloc))?
+        .arg(required(alloc, "number"))?
+        .arg(required(alloc, "rows"))
+}

@@ -1,0 +1,20 @@
+//! The command that the words after the program's name are.
+//!
+//! The first word names the command, and `clap` reads the others. A clause says what they mean in terms of
+//! `clap`'s own definitions of what it takes (`fault_of`) and of the values that it gives (`matches_of`).
+#![tactic(auto)]
+
+mod arguments;
+mod command;
+mod fault;
+mod pairs;
+mod parse;
+mod reading;
+#[cfg(test)]
+mod tests;
+mod texts;
+
+pub use command::{Command, Engine, Words};
+pub use fault::WordsFault;
+pub use pairs::Named;
+pub use reading::read_words;

@@ -1,0 +1,89 @@
+//! The words of each command.
+
+ghost use Rattle.std.specs.Prelude.{◌≡◌, Some, None, map, IfOk, IsErrOf};
+ghost use Rattle.std.specs.String.{string_bytes};
+ghost use Rattle.cmd_words.specs.Commands.{run_of, session_of, plan_of, load_of, said_of, said_to, seen_command};
+ghost use Rattle.cmd_words.specs.Said.{seen_words};
+
+use crate::WordsFault;
+use crate::arguments::{load_command, plan_command, run_command, session_command};
+use crate::command::{Command, Engine, Words};
+use crate::parse::parsed;
+use crate::texts::{Texts, read_load_texts, read_session_texts, read_texts, texts_of};
+use std::alloc::Global;
+
+/// The command that the words after the program's name are. `Usage` comes exactly where they are no
+/// command: where the first word is none of `run`, `session`, `plan` and `load`, where `clap` refuses the
+/// others, asks for help included, where a TABLE=FILE word has nothing before or after its first `=`, or
+/// where two of them name one table.
+pub fn read_words(alloc: Global, words: &[String]) -> Result<Command, WordsFault>
+    ensures words { IfOk result (λ command. said_of (map string_bytes words.now) ≡ Some (seen_command command)) }
+    ensures usage { IsErrOf result WordsFault.Usage → said_of (map string_bytes words.now) ≡ None }
+{
+    match words {
+        [] => Err(WordsFault::Usage),
+        [first, ..] => read_command(alloc, first.as_str(), words),
+    }
+}
+
+// What the words say to the command that this word names.
+fn read_command(alloc: Global, name: &str, words: &[String]) -> Result<Command, WordsFault>
+    ensures words { IfOk result (λ command. said_to name.now (map string_bytes words.now) ≡ Some (seen_command command)) }
+    ensures usage { IsErrOf result WordsFault.Usage → said_to name.now (map string_bytes words.now) ≡ None }
+{
+    match name {
+        "run" => Ok(Command::Run(read_run(alloc, words)?)),
+        "session" => Ok(Command::Session(read_session(alloc, words)?)),
+        "plan" => Ok(Command::Plan(read_plan(alloc, words)?)),
+        "load" => {
+            let (engine, number, rows) = read_load(alloc, words)?;
+            Ok(Command::Load(engine, number, rows))
+        }
+        _ => Err(WordsFault::Usage),
+    }
+}
+
+fn read_run(alloc: Global, words: &[String]) -> Result<Words, WordsFault>
+    ensures words { IfOk result (λ said. run_of (map string_bytes words.now) ≡ Some (seen_words said)) }
+    ensures usage { IsErrOf result WordsFault.Usage → run_of (map string_bytes words.now) ≡ None }
+{
+    let matches = parsed(run_command(alloc)?, words)?;
+    let mut texts = texts_of(&matches);
+    texts.script = None;
+    read_texts(alloc, texts)
+}
+
+fn read_session(alloc: Global, words: &[String]) -> Result<Words, WordsFault>
+    ensures words { IfOk result (λ said. session_of (map string_bytes words.now) ≡ Some (seen_words said)) }
+    ensures usage { IsErrOf result WordsFault.Usage → session_of (map string_bytes words.now) ≡ None }
+{
+    let matches = parsed(session_command(alloc)?, words)?;
+    read_session_texts(alloc, texts_of(&matches))
+}
+
+fn read_plan(alloc: Global, words: &[String]) -> Result<Words, WordsFault>
+    ensures words { IfOk result (λ said. plan_of (map string_bytes words.now) ≡ Some (seen_words said)) }
+    ensures usage { IsErrOf result WordsFault.Usage → plan_of (map string_bytes words.now) ≡ None }
+{
+    let matches = parsed(plan_command(alloc)?, words)?;
+    let texts = texts_of(&matches);
+    read_texts(
+        alloc,
+        Texts {
+            engine: Some("part"),
+            ranks: None,
+            rows: None,
+            script: None,
+            query: texts.query,
+            tables: texts.tables,
+        },
+    )
+}
+
+fn read_load(alloc: Global, words: &[String]) -> Result<(Engine, u32, u32), WordsFault>
+    ensures words { IfOk result (λ said. load_of (map string_bytes words.now) ≡ Some (said.0, said.1, said.2)) }
+    ensures usage { IsErrOf result WordsFault.Usage → load_of (map string_bytes words.now) ≡ None }
+{
+    let matches = parsed(load_command(alloc)?, words)?;
+    read_load_texts(&matches)
+}

@@ -1,0 +1,168 @@
+//! The texts of the arguments, and what they say.
+
+ghost use Rattle.std.specs.Prelude.{◌≡◌, Some, None, map, option_and_then, option_map, IfOk, IsErrOf};
+ghost use Rattle.std.specs.String.{string_bytes};
+ghost use Rattle.clap.specs.Matches.{found_of};
+ghost use Rattle.clap.specs.Walk.{rows_of};
+ghost use Rattle.cmd_words.specs.NamedPairs.{named_pair};
+ghost use Rattle.cmd_words.specs.Numbers.{number_in};
+ghost use Rattle.cmd_words.specs.Said.{engine_of, is_set, load_by, load_by_texts, said_by, session_by, seen_texts, seen_words, tables_of, texts_of};
+
+use crate::WordsFault;
+use crate::command::{Engine, Words};
+use crate::pairs::{Named, name_distinct_tables, read_pairs};
+use clap::ArgMatches;
+use std::alloc::{AllocError, Global};
+
+/// The texts of the arguments of `run`, `session` and `plan`.
+#[derive(Clone, Copy, Drop)]
+pub struct Texts<'m, 'a> {
+    pub engine: Option<&'a str>,
+    pub ranks: Option<&'a str>,
+    pub rows: Option<&'a str>,
+    pub script: Option<&'a str>,
+    pub query: Option<&'a str>,
+    pub tables: Option<&'m [&'a str]>,
+}
+
+/// The texts that the matches hold.
+pub fn texts_of<'m, 'a>(matches: &'m ArgMatches<'a>) -> Texts<'m, 'a>
+    ensures { seen_texts result ≡ texts_of (rows_of (found_of matches.entry.now)) }
+{
+    Texts {
+        engine: matches.get_str("engine"),
+        ranks: matches.get_str("ranks"),
+        rows: matches.get_str("rows"),
+        script: matches.get_str("script"),
+        query: matches.get_str("query"),
+        tables: matches.get_strs("tables"),
+    }
+}
+
+/// What the texts say.
+pub fn read_texts(alloc: Global, texts: Texts<'_, '_>) -> Result<Words, WordsFault>
+    ensures words { IfOk result (λ said. said_by (seen_texts texts.entry) ≡ Some (seen_words said)) }
+    ensures usage { IsErrOf result WordsFault.Usage → said_by (seen_texts texts.entry) ≡ None }
+{
+    let Some(engine) = read_engine(texts.engine) else {
+        return Err(WordsFault::Usage);
+    };
+    let Some(query) = texts.query else {
+        return Err(WordsFault::Usage);
+    };
+    let tables = read_tables(alloc, texts.tables)?;
+    Ok(Words {
+        engine,
+        ranks: is_set(texts.ranks),
+        rows: is_set(texts.rows),
+        script: owned(alloc, texts.script)?,
+        query: String::from_str(alloc, query)?,
+        tables,
+    })
+}
+
+/// What the texts of `session` say, which has a script.
+pub fn read_session_texts(alloc: Global, texts: Texts<'_, '_>) -> Result<Words, WordsFault>
+    ensures words { IfOk result (λ said. session_by (seen_texts texts.entry) ≡ Some (seen_words said)) }
+    ensures usage { IsErrOf result WordsFault.Usage → session_by (seen_texts texts.entry) ≡ None }
+{
+    match texts.script {
+        Some(_) => read_texts(alloc, texts),
+        None => Err(WordsFault::Usage),
+    }
+}
+
+fn read_tables(alloc: Global, words: Option<&[&str]>) -> Result<Vec<Named>, WordsFault>
+    ensures tables { IfOk result (λ named. tables_of (option_map (λ s. map (λ v. v.now) s.now) words.entry) ≡ Some (map named_pair named.items)) }
+    ensures usage { IsErrOf result WordsFault.Usage → tables_of (option_map (λ s. map (λ v. v.now) s.now) words.entry) ≡ None }
+{
+    let Some(words) = words else {
+        return Err(WordsFault::Usage);
+    };
+    let named = read_pairs(alloc, words)?;
+    if !name_distinct_tables(&named) {
+        return Err(WordsFault::Usage);
+    }
+    Ok(named)
+}
+
+fn owned(alloc: Global, text: Option<&str>) -> Result<Option<String>, AllocError>
+    ensures { IfOk result (λ copy. option_map string_bytes copy ≡ option_map (λ s. s.now) text.entry) }
+{
+    match text {
+        Some(text) => Ok(Some(String::from_str(alloc, text)?)),
+        None => Ok(None),
+    }
+}
+
+fn is_set(text: Option<&str>) -> bool
+    ensures { result ≡ is_set (option_map (λ s. s.now) text.entry) }
+{
+    match text {
+        Some(text) => text == "true",
+        None => false,
+    }
+}
+
+// The engine that a text names.
+fn read_engine(text: Option<&str>) -> Option<Engine>
+    ensures { result ≡ engine_of (option_map (λ s. s.now) text.entry) }
+{
+    match text? {
+        "part" => Some(Engine::Part),
+        "rec" => Some(Engine::Rec),
+        _ => None,
+    }
+}
+
+/// What the matches of `load` say: the engine, the number and the rows.
+pub fn read_load_texts(matches: &ArgMatches<'_>) -> Result<(Engine, u32, u32), WordsFault>
+    ensures words { IfOk result (λ said. load_by (rows_of (found_of matches.now)) ≡ Some (said.0, said.1, said.2)) }
+    ensures usage { IsErrOf result WordsFault.Usage → load_by (rows_of (found_of matches.now)) ≡ None }
+{
+    read_load_options(
+        matches.get_str("engine"),
+        matches.get_str("number"),
+        matches.get_str("rows"),
+    )
+}
+
+fn read_load_options(
+    engine: Option<&str>,
+    number: Option<&str>,
+    rows: Option<&str>,
+) -> Result<(Engine, u32, u32), WordsFault>
+    ensures words { IfOk result (λ said. load_by_texts (option_map (λ s. s.now) engine.entry) (option_map (λ s. s.now) number.entry) (option_map (λ s. s.now) rows.entry) ≡ Some (said.0, said.1, said.2)) }
+    ensures usage { IsErrOf result WordsFault.Usage → load_by_texts (option_map (λ s. s.now) engine.entry) (option_map (λ s. s.now) number.entry) (option_map (λ s. s.now) rows.entry) ≡ None }
+{
+    let Some(engine) = read_engine(engine) else {
+        return Err(WordsFault::Usage);
+    };
+    let Some(number) = read_number(number, 0, 2147483647) else {
+        return Err(WordsFault::Usage);
+    };
+    let Some(rows) = read_number(rows, 1, 100000) else {
+        return Err(WordsFault::Usage);
+    };
+    Ok((engine, number, rows))
+}
+
+// The whole number that a text is, where it lies from `low` to `high`.
+fn read_number(text: Option<&str>, low: u32, high: u32) -> Option<u32>
+    ensures { result ≡ option_and_then (number_in low high) (option_map (λ s. s.now) text.entry) }
+{
+    match text {
+        Some(text) => number_in(text, low, high),
+        None => None,
+    }
+}
+
+// Decimal digits are a number, with leading zeros and one `+` before them allowed.
+fn number_in(text: &str, low: u32, high: u32) -> Option<u32>
+    ensures { result ≡ number_in low high text.now }
+{
+    match text.parse::<u32>() {
+        Ok(number) if low <= number && number <= high => Some(number),
+        _ => None,
+    }
+}

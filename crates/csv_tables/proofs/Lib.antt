@@ -1,0 +1,11 @@
+pub mod Cuts
+pub mod Flaws
+pub mod Headers
+pub mod Kept
+pub mod Numbers
+pub mod Places
+pub mod Progress
+pub mod Reader
+pub mod Rows
+pub mod Stands
+pub mod Weights

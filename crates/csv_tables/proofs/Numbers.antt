@@ -1,0 +1,156 @@
+-- The distinct fields are distinct, so the number of one tells it.
+use Rattle.std.proofs.Common.{◌≡◌, ◌≤◌, ◌<◌, ◌⊎◌, inl, inr, ℕ, zero, suc, Bool, true, false, ◌||◌, if◌then◌else◌, List, [], ◌∷◌, ◌++◌, length, get_or, refl, sym, ap, ◌∙◌, arith, length-append}
+use Rattle.std.specs.List.{list_any, position_or_len}
+use Rattle.std.specs.Str.{bytes_eq}
+use Rattle.std.proofs.lemmas.Bool.{cases_lt, false≢true}
+use Rattle.std.proofs.lemmas.List.{get_or_append_left, get_or_push}
+use Rattle.std.proofs.lemmas.List.Sums.{passes_at_first, position_or_len_is}
+use Rattle.std.proofs.lemmas.Slice.Eq.{bytes_eq-Decides}
+use Rattle.anyk_model.specs.Table.{Fields, Table, field_at, table_at}
+use Rattle.csv_tables.specs.Values.{Extends, number_of, text_at, with_fields, with_rows, with_tables, with_text}
+use Rattle.csv_tables.proofs.Rows.{with_rows-extends}
+use Rattle.csv_tables.proofs.Stands.{extends-same, extends-trans, with_fields-extends}
+
+-- no text stands at two places
+pub record AreDistinct (texts : List (List ℕ)) : Type 0 where
+  pub differ : (j k : ℕ) → j < k → k < length texts → text_at texts j ≡ text_at texts k → ⊥
+
+or-first : (a b : Bool) → (a || b) ≡ false → a ≡ false
+or-first true b e = e
+or-first false b e = refl
+
+or-second : (a b : Bool) → (a || b) ≡ false → b ≡ false
+or-second true b e = absurd (false≢true (sym e))
+or-second false b e = e
+
+none-at : (p : List ℕ → Bool) (xs : List (List ℕ)) (k : ℕ) → list_any p xs ≡ false → k < length xs → p (get_or xs k []) ≡ false
+none-at p [] k e inside = absurd (omega arith)
+none-at p (x ∷ xs) zero e inside = or-first (p x) (list_any p xs) e
+none-at p (x ∷ xs) (suc k) e inside = none-at p xs k (or-second (p x) (list_any p xs) e) (omega arith)
+
+push-distinct : (texts : List (List ℕ)) (text : List ℕ) → AreDistinct texts → list_any (bytes_eq text) texts ≡ false → AreDistinct (texts ++ text ∷ [])
+push-distinct texts text d none = record { differ = λ j k below inside same. by j k below inside same (cases_lt k (length texts)) }
+  where
+    by : (j k : ℕ) → j < k → k < length (texts ++ text ∷ []) → text_at (texts ++ text ∷ []) j ≡ text_at (texts ++ text ∷ []) k
+        → (k < length texts) ⊎ (length texts ≤ k) → ⊥
+    by j k below inside same (inl old) =
+        d.differ j k below old (sym (get_or_append_left texts (text ∷ []) [] j (omega arith)) ∙ same ∙ get_or_append_left texts (text ∷ []) [] k old)
+    by j k below inside same (inr new) =
+        let last : length texts ≡ k = omega (arith, length-append texts (text ∷ [])) in
+        let front : j < length texts = omega arith in
+        let is : text ≡ text_at texts j = sym (get_or_push texts text [] k last) ∙ sym same ∙ get_or_append_left texts (text ∷ []) [] j front in
+        false≢true (sym (none-at (bytes_eq text) texts j none front) ∙ (bytes_eq-Decides text (text_at texts j)).1 is)
+
+with_text-distinct : (texts : List (List ℕ)) (text : List ℕ) → AreDistinct texts → AreDistinct (with_text texts text)
+with_text-distinct texts text d = by (list_any (bytes_eq text) texts) refl
+  where
+    by : (b : Bool) → list_any (bytes_eq text) texts ≡ b → AreDistinct (if b then texts else texts ++ text ∷ [])
+    by true e = d
+    by false e = push-distinct texts text d e
+
+with_fields-distinct : (texts : List (List ℕ)) (fields : Fields) → AreDistinct texts → AreDistinct (with_fields texts fields)
+with_fields-distinct texts [] d = d
+with_fields-distinct texts (f ∷ fields) d = with_fields-distinct (with_text texts f) fields (with_text-distinct texts f d)
+
+with_rows-distinct : (texts : List (List ℕ)) (rows : List Fields) → AreDistinct texts → AreDistinct (with_rows texts rows)
+with_rows-distinct texts [] d = d
+with_rows-distinct texts (r ∷ rows) d = with_rows-distinct (with_fields texts r) rows (with_fields-distinct texts r d)
+
+with_tables-distinct : (texts : List (List ℕ)) (tables : List Table) → AreDistinct texts → AreDistinct (with_tables texts tables)
+with_tables-distinct texts [] d = d
+with_tables-distinct texts (t ∷ tables) d = with_tables-distinct (with_rows texts t.rows) tables (with_rows-distinct texts t.rows d)
+
+-- the distinct fields of tables
+pub known-distinct : (tables : List Table) → AreDistinct (with_tables [] tables)
+known-distinct tables = with_tables-distinct [] tables (record { differ = λ j k below inside same. omega arith })
+
+differ-eq : (a b : List ℕ) → (a ≡ b → ⊥) → bytes_eq a b ≡ false
+differ-eq a b ne = by (bytes_eq a b) refl
+  where
+    by : (c : Bool) → bytes_eq a b ≡ c → c ≡ false
+    by true e = absurd (ne ((bytes_eq-Decides a b).0 e))
+    by false e = refl
+
+-- a text's place is the first at which it stands
+pub place-is : (texts : List (List ℕ)) (n : ℕ) → AreDistinct texts → n < length texts → position_or_len (bytes_eq (text_at texts n)) texts ≡ n
+place-is texts n d inside =
+    position_or_len_is (bytes_eq (text_at texts n)) texts n [] (omega arith)
+    (λ k below. differ-eq (text_at texts n) (text_at texts k) (λ e. d.differ k n below inside (sym e)))
+    (λ _. (bytes_eq-Decides (text_at texts n) (text_at texts n)).1 refl)
+
+-- ---- each field stands among the distinct ones
+
+abbrev Stands : List ℕ → List (List ℕ) → Type 0
+Stands f texts = (n : ℕ) × (n < length texts) × (text_at texts n ≡ f)
+
+stands-extends : (f : List ℕ) (old new : List (List ℕ)) → Extends old new → Stands f old → Stands f new
+stands-extends f old new more s = (
+  s.0,
+  omega (arith, s.1, length-append old more.0, ap length more.1),
+  ap (λ (t : List (List ℕ)). text_at t s.0) more.1 ∙ get_or_append_left old more.0 [] s.0 s.1 ∙ s.2,
+)
+
+any-index : (f : List ℕ) (xs : List (List ℕ)) → list_any (bytes_eq f) xs ≡ true → Stands f xs
+any-index f [] e = absurd (false≢true e)
+any-index f (x ∷ xs) e = by (bytes_eq f x) refl (λ h. any-index f xs (sym (ap (λ b. b || list_any (bytes_eq f) xs) h) ∙ e))
+  where
+    by : (b : Bool) → bytes_eq f x ≡ b → (bytes_eq f x ≡ false → Stands f xs) → Stands f (x ∷ xs)
+    by true is rest = (0, omega arith, sym ((bytes_eq-Decides f x).0 is))
+    by false is rest = let s = rest is in (suc s.0, omega (arith, s.1), s.2)
+
+with_text-stands : (texts : List (List ℕ)) (f : List ℕ) → Stands f (with_text texts f)
+with_text-stands texts f = by (list_any (bytes_eq f) texts) refl
+  where
+    by : (b : Bool) → list_any (bytes_eq f) texts ≡ b → Stands f (if b then texts else texts ++ f ∷ [])
+    by true e = any-index f texts e
+    by false e = (length texts, omega (arith, length-append texts (f ∷ [])), get_or_push texts f [] (length texts) refl)
+
+with_fields-stands : (texts : List (List ℕ)) (fields : Fields) (c : ℕ) → c < length fields → Stands (get_or fields c []) (with_fields texts fields)
+with_fields-stands texts [] c inside = absurd (omega arith)
+with_fields-stands texts (f ∷ fields) zero inside =
+    stands-extends f (with_text texts f) (with_fields (with_text texts f) fields) (with_fields-extends (with_text texts f) fields) (with_text-stands texts f)
+with_fields-stands texts (f ∷ fields) (suc c) inside = with_fields-stands (with_text texts f) fields c (omega arith)
+
+with_rows-stands : (texts : List (List ℕ)) (rows : List Fields) (r c : ℕ) → r < length rows → c < length (get_or rows r [])
+    → Stands (get_or (get_or rows r []) c []) (with_rows texts rows)
+with_rows-stands texts [] r c inside there = absurd (omega arith)
+with_rows-stands texts (row ∷ rows) zero c inside there =
+    stands-extends (get_or row c []) (with_fields texts row) (with_rows (with_fields texts row) rows) (with_rows-extends (with_fields texts row) rows) (with_fields-stands texts row c there)
+with_rows-stands texts (row ∷ rows) (suc r) c inside there = with_rows-stands (with_fields texts row) rows r c (omega arith) there
+
+with_tables-extends : (texts : List (List ℕ)) (tables : List Table) → Extends texts (with_tables texts tables)
+with_tables-extends texts [] = extends-same texts
+with_tables-extends texts (t ∷ tables) =
+    extends-trans texts (with_rows texts t.rows) (with_tables (with_rows texts t.rows) tables) (with_rows-extends texts t.rows) (with_tables-extends (with_rows texts t.rows) tables)
+
+with_tables-stands : (texts : List (List ℕ)) (tables : List Table) (t r c : ℕ) → t < length tables → r < length (table_at tables t).rows
+    → c < length (get_or (table_at tables t).rows r []) → Stands (field_at (table_at tables t) r c) (with_tables texts tables)
+with_tables-stands texts [] t r c inside row there = absurd (omega arith)
+with_tables-stands texts (x ∷ tables) zero r c inside row there =
+    stands-extends (field_at x r c) (with_rows texts x.rows) (with_tables (with_rows texts x.rows) tables) (with_tables-extends (with_rows texts x.rows) tables) (with_rows-stands texts x.rows r c row there)
+with_tables-stands texts (x ∷ tables) (suc t) r c inside row there = with_tables-stands (with_rows texts x.rows) tables t r c (omega arith) row there
+
+-- the number of a field of the tables is that of its text
+pub number-stands : (tables : List Table) (t r c : ℕ) → t < length tables → r < length (table_at tables t).rows
+    → c < length (get_or (table_at tables t).rows r [])
+    → (number_of tables (field_at (table_at tables t) r c) < length (with_tables [] tables))
+    × (text_at (with_tables [] tables) (number_of tables (field_at (table_at tables t) r c)) ≡ field_at (table_at tables t) r c)
+number-stands tables t r c inside row there =
+    let texts = with_tables [] tables in
+    let s = with_tables-stands [] tables t r c inside row there in
+    let own : number_of tables (field_at (table_at tables t) r c) ≡ s.0 =
+    ap (λ (f : List ℕ). position_or_len (bytes_eq f) texts) (sym s.2) ∙ place-is texts s.0 (known-distinct tables) s.1 in
+    (omega (arith, own, s.1), ap (text_at texts) own ∙ s.2)
+
+-- the number of a field of the tables is no other text's
+pub numbers-tell : (tables : List Table) (t r c : ℕ) (b : List ℕ) → t < length tables → r < length (table_at tables t).rows
+    → c < length (get_or (table_at tables t).rows r [])
+    → number_of tables (field_at (table_at tables t) r c) ≡ number_of tables b → field_at (table_at tables t) r c ≡ b
+numbers-tell tables t r c b inside row there e =
+    let texts = with_tables [] tables in
+    let s = with_tables-stands [] tables t r c inside row there in
+    let own : number_of tables (field_at (table_at tables t) r c) ≡ s.0 =
+    ap (λ (f : List ℕ). position_or_len (bytes_eq f) texts) (sym s.2) ∙ place-is texts s.0 (known-distinct tables) s.1 in
+    let at : number_of tables b ≡ s.0 = sym e ∙ own in
+    let hit = passes_at_first (bytes_eq b) texts [] (omega (arith, at, s.1)) in
+    sym ((bytes_eq-Decides b (text_at texts s.0)).0 (sym (ap (λ (n : ℕ). bytes_eq b (text_at texts n)) at) ∙ hit) ∙ s.2)

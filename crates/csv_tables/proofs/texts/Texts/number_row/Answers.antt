@@ -1,0 +1,43 @@
+use Rattle.std.proofs.Common.{◌≡◌, ◌<◌, ◌+◌, ◌∷◌, ◌++◌, [], ◌∙◌, sym, ap, take, length, arith, List, ℕ}
+use Rattle.std.proofs.lemmas.List.{take_more}
+use Rattle.csv.specs.Records.{fields_of}
+use Rattle.csv.proofs.RecordFacts.{field-get, field-there}
+use Rattle.csv_tables.specs.Values.{Extends, with_text}
+use Rattle.csv_tables.proofs.Stands.{adds-push, extends-trans, on-err, with_fields-extends, with_fields-push, with_text-extends}
+use Rattle.csv_tables.proofs.texts.Texts.number_row.Goals as goal
+
+pub unreachable-requires : goal.unreachable-requires
+unreachable-requires c = field-there (fields_of c.args.row.now) c.loop-i.i (omega arith) (sym c.in_default.ensures.value)
+
+pub returns-in_err-number-clause-err : goal.returns-in_err-number-clause-err
+returns-in_err-number-clause-err c =
+    let old = c.args.self.now in
+    let before = with_fields-extends old (take c.loop-i.i (fields_of c.args.row.now)) in
+    let here : Extends old c.loop-i.self = (before.0, c.loop-i.invariant.0 ∙ before.1) in
+    on-err c.from_residual.result (extends-trans old c.loop-i.self c.number.new.self here c.in_err-number.ensures.err)
+
+pub returns-in_err-push-clause-err : goal.returns-in_err-push-clause-err
+returns-in_err-push-clause-err c =
+    let old = c.args.self.now in
+    let fields = take c.loop-i.i (fields_of c.args.row.now) in
+    let all = with_fields-extends old (fields ++ c.in-Some.field.now ∷ []) in
+    let now = c.in_ok-number.ensures.texts ∙ ap (λ t. with_text t c.in-Some.field.now) c.loop-i.invariant.0 ∙ sym (with_fields-push old fields c.in-Some.field.now) in
+    on-err c.from_residual-in_err-push.result (all.0, now ∙ all.1)
+
+pub loop-i-preserved : goal.loop-i-preserved
+loop-i-preserved c =
+    let old = c.args.self.now in
+    let new = c.number.new.self in
+    let row = fields_of c.args.row.now in
+    let fields = take c.loop-i.i row in
+    let field = c.in-Some.field.now in
+    let inside : c.loop-i.i < length row = omega arith in
+    let step : take (c.loop-i.i + 1) row ≡ fields ++ field ∷ [] =
+    take_more row c.loop-i.i [] inside ∙ ap (λ (f : List ℕ). fields ++ f ∷ []) (field-get row c.loop-i.i field (sym c.in-Some.ensures.value)) in
+    let here = with_text-extends c.loop-i.self field in
+    let more : Extends c.loop-i.self new = (here.0, c.in_ok-number.ensures.texts ∙ here.1) in
+    rw (step, c.in_ok-push.ensures.items) (
+      c.in_ok-number.ensures.texts ∙ ap (λ t. with_text t field) c.loop-i.invariant.0 ∙ sym (with_fields-push old fields field),
+      adds-push c.loop-i.self new c.args.cells.now.items c.loop-i.cells.items fields c.in_ok-number.field-0 field
+          more c.loop-i.invariant.1 c.in_ok-number.ensures.within c.in_ok-number.ensures.shown,
+    )

@@ -1,0 +1,6 @@
+pub mod Faults
+pub mod Left
+pub mod Stored
+pub mod Tables
+pub mod Texts
+pub mod Values

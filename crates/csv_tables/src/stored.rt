@@ -1,0 +1,15 @@
+//! A table as it is stored.
+
+/// The rows of a table, a number for each field: the first row's from left to right, then the next row's.
+#[derive(Drop)]
+pub(crate) struct StoredRows {
+    pub(crate) count: usize,
+    pub(crate) cells: Vec<u32>,
+}
+
+/// The names of the columns, and the rows.
+#[derive(Drop)]
+pub(crate) struct StoredTable {
+    pub(crate) names: Vec<Vec<u8>>,
+    pub(crate) rows: StoredRows,
+}

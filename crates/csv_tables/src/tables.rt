@@ -1,0 +1,159 @@
+//! The tables of a query.
+ghost use Rattle.std.specs.Prelude.{◌≡◌, ◌+◌, ◌-◌, ◌*◌, ◌<◌, ◌≤◌, ◌∷◌, ◌++◌, [], IfErr, IfOk, None, List, OnErr, OnOk, get_or, length, ℕ};
+ghost use Rattle.anyk_model.specs.Table.{Table, field_at, flaw_of, records_of, table_at, table_of};
+ghost use Rattle.anyk_model.specs.Weight.{weight_of};
+ghost use Rattle.csv_tables.specs.Faults.{Tells};
+ghost use Rattle.csv_tables.specs.Values.{number_of};
+
+use crate::fault::TableFault;
+use crate::reading::read_table;
+use crate::stored::StoredTable;
+use crate::texts::Texts;
+use crate::weight::parse_weight;
+use std::alloc::Global;
+use std::marker::Model;
+
+/// The tables of a query, in the order in which they were read, numbered from 0 on.
+#[derive(Drop)]
+pub struct Tables {
+    texts: Texts,
+    tables: Vec<StoredTable>,
+    alloc: Global,
+}
+
+impl Model for Tables {
+    ghost use Rattle.std.specs.Prelude.{List};
+    ghost use Rattle.anyk_model.specs.Table.{Table};
+
+    ghost Value = { List Table };
+
+    ghost use Rattle.csv_tables.specs.Tables.{IsKept, tables_of};
+
+    ghost view = { tables_of };
+
+    ghost invariant = { IsKept };
+}
+
+impl Tables {
+    ghost use Rattle.std.specs.List.{AllByRecursion};
+    ghost use Rattle.csv_tables.specs.Tables.{IsSound};
+
+    /// No tables. Takes no memory.
+    pub fn new(alloc: Global) -> Tables
+        ensures { result ≡ [] }
+    {
+        Tables {
+            texts: Texts::new(alloc),
+            tables: Vec::new(alloc),
+            alloc,
+        }
+    }
+
+    /// Adds the table of the bytes of a csv file, and answers its number, from 0 on.
+    ///
+    /// A fault is the first in the file: what is wrong with the header, in the order of `TableFault`, and then what is wrong
+    /// with the first row that is not as the others. `NoMemory` may come at any time. After a refusal the tables are as before.
+    pub fn read(&mut self, bytes: &[u8]) -> Result<u32, TableFault>
+        requires few { length self.old < 16 }
+        requires size { length bytes.now ≤ 67108864 }
+        ensures number { IfOk result (λ n. n ≡ length self.old) }
+        ensures added { OnOk result (self.new ≡ self.old ++ table_of (records_of bytes.now) ∷ []) }
+        ensures sound { OnOk result (flaw_of (records_of bytes.now) ≡ None) }
+        ensures fault { IfErr result (Tells (flaw_of (records_of bytes.now))) }
+        ensures err { OnErr result (self.new ≡ self.old) }
+    {
+        let known = self.texts.len();
+        let number = self.tables.len() as u32;
+        let table = match read_table(self.alloc, &mut self.texts, bytes) {
+            Ok(table) => table,
+            Err(fault) => {
+                self.texts.truncate(known);
+                return Err(fault);
+            }
+        };
+        let Ok(()) = self.tables.push(table) else {
+            self.texts.truncate(known);
+            return Err(TableFault::NoMemory);
+        };
+        Ok(number)
+    }
+
+    /// How many tables there are.
+    pub fn count(&self) -> u32
+        ensures count { result ≡ length self.now }
+        ensures limit { result ≤ 16 }
+        ensures sound { AllByRecursion IsSound self.now }
+    {
+        self.tables.len() as u32
+    }
+
+    /// How many rows a table has, the header not among them.
+    pub fn len(&self, table: u32) -> u32
+        requires { table < length self.now }
+        ensures rows { result ≡ length (table_at self.now table).rows }
+        ensures limit { result ≤ 1048576 }
+    {
+        self.tables[table as usize].rows.count as u32
+    }
+
+    /// How many columns a table has.
+    pub fn width(&self, table: u32) -> u32
+        requires { table < length self.now }
+        ensures columns { result ≡ length (table_at self.now table).names }
+        ensures limit { result ≤ 64 }
+    {
+        self.tables[table as usize].names.len() as u32
+    }
+
+    /// The name of a column. Tables and columns count from 0.
+    pub fn name(&self, table: u32, column: u32) -> &[u8]
+        requires table { table < length self.now }
+        requires column { column < length (table_at self.now table).names }
+        ensures { result.now ≡ get_or (table_at self.now table).names column [] }
+    {
+        self.tables[table as usize].names[column as usize].as_slice()
+    }
+
+    /// The number of a field, the same for two fields of any tables exactly where their bytes are. Tables and columns count from
+    /// 0, and rows from 1.
+    pub fn value(&self, table: u32, row: u32, column: u32) -> u32
+        requires table { table < length self.now }
+        requires first { 1 ≤ row }
+        requires row { row ≤ length (table_at self.now table).rows }
+        requires column { column < length (table_at self.now table).names }
+        ensures { result ≡ number_of self.now (field_at (table_at self.now table) (row - 1) column) }
+    {
+        let stored = &self.tables[table as usize];
+        stored.rows.cells[(row as usize - 1) * stored.names.len() + column as usize]
+    }
+
+    /// The bytes of a field. Tables and columns count from 0, and rows from 1.
+    pub fn field(&self, table: u32, row: u32, column: u32) -> &[u8]
+        requires table { table < length self.now }
+        requires first { 1 ≤ row }
+        requires row { row ≤ length (table_at self.now table).rows }
+        requires column { column < length (table_at self.now table).names }
+        ensures { result.now ≡ field_at (table_at self.now table) (row - 1) column }
+    {
+        self.texts.get(self.value(table, row, column))
+    }
+
+    /// The weight that a field writes: an optional `+` or `-` and 1 to 39 digits, where that fits an `i128`. Else `None`. Tables and
+    /// columns count from 0, and rows from 1.
+    pub fn weight(&self, table: u32, row: u32, column: u32) -> Option<i128>
+        requires table { table < length self.now }
+        requires first { 1 ≤ row }
+        requires row { row ≤ length (table_at self.now table).rows }
+        requires column { column < length (table_at self.now table).names }
+        ensures { result ≡ weight_of (field_at (table_at self.now table) (row - 1) column) }
+    {
+        parse_weight(self.field(table, row, column))
+    }
+}
+
+/// The numbers that `Tables::value` gives tell fields apart: no other text has the number of a field. Rows count from 0 here.
+pub fn numbers_tell()
+    ensures { (tables : List Table) (t row column : ℕ) (text : List ℕ) → t < length tables → row < length (table_at tables t).rows
+        → column < length (get_or (table_at tables t).rows row [])
+        → number_of tables (field_at (table_at tables t) row column) ≡ number_of tables text → field_at (table_at tables t) row column ≡ text }
+{}

@@ -1,0 +1,142 @@
+ghost use Rattle.std.specs.Prelude.{◌≡◌, ℕ, ◌+◌, ◌≤◌, ◌<◌, Some, None, Ok, Err, false, true, replicate, IfOk, IfErr, IfSome, IfNone, OnErr, slice_get, length, position, is_none, IsSome, IsSomeAnd};
+ghost use Rattle.tdp_model.specs.KeyNumbers.{numbers};
+ghost use Rattle.cursor_set.specs.CursorSet.{CursorSet, Keeps, IsKnownAt, ArePlacesKnown, place_of, first_free, with_place};
+ghost use Rattle.cursor_set.specs.Faults.{RefusesNext, RefusesFork};
+
+use crate::cursor_id::{CursorFault, CursorId};
+use crate::fetch::fetch;
+use std::alloc::Global;
+use std::marker::Model;
+use std::sync::ledger::Ledger;
+use step_counter::Steps;
+use tdp_core::{Answer, Ranked};
+
+/// How many cursors may be open at once.
+pub const MOST_OPEN: usize = 64;
+
+/// Cursors over the answers of one engine, which is asked for each answer once. A cursor is a place in
+/// the list of all answers, from 0.
+#[derive(Drop)]
+pub struct Cursors<E: Ranked> {
+    engine: E,
+    found: Vec<Answer<E::Key>>,
+    ended: bool,
+    places: [Option<usize>; MOST_OPEN],
+}
+
+impl<E: Ranked> Model for Cursors<E> {
+    ghost use Rattle.std.specs.Prelude.{◌≡◌, ℕ, ◌≤◌, List, [], ◌++◌, length, map, All, IfSome, true, vec_len};
+    ghost use Rattle.tdp_model.specs.KeyNumbers.{numbers};
+    ghost use Rattle.cursor_set.specs.CursorSet.{CursorSet};
+
+    ghost Value = { CursorSet };
+
+    ghost view = { λ s. record { answers = map (λ a. record { rows = a.rows; key = numbers E.Key.KEYS 16 (E.Key.key a.rank) }) s.found.items ++ E.rest s.engine; known = vec_len s.found; ended = s.ended; places = s.places; calls = E.calls s.engine; due = E.due s.engine; size = E.size s.engine } };
+
+    ghost invariant = { λ s. (s.ended ≡ true → E.rest s.engine ≡ []) × All (λ p. IfSome p (λ n. n ≤ vec_len s.found)) s.places };
+}
+
+impl<E: Ranked> Cursors<E> {
+    /// A set over the answers that `engine` has left, with no open cursor.
+    pub fn new(alloc: Global, engine: E) -> Cursors<E>
+        ensures set { result ≡ record { answers = E.rest engine; known = 0; ended = false; places = replicate 64 None; calls = E.calls engine; due = E.due engine; size = E.size engine } }
+    {
+        Cursors {
+            engine,
+            found: Vec::new(alloc),
+            ended: false,
+            places: [None; MOST_OPEN],
+        }
+    }
+
+    /// Opens the least number that is not open, at place 0. `TooMany` where all are open.
+    pub fn open(&mut self) -> Result<CursorId, CursorFault>
+        ensures opened { IfOk result (λ id. (first_free self.old ≡ Some id.number) × (self.new ≡ with_place self.old id.number (Some 0))) }
+        ensures place { IfOk result (λ id. place_of self.new id.number ≡ Some 0) }
+        ensures refused { IfErr result (λ e. (e ≡ CursorFault.TooMany) × (first_free self.old ≡ None) × (self.new ≡ self.old)) }
+    {
+        let number = free_number(&self.places).ok_or(CursorFault::TooMany)?;
+        self.places[number] = Some(0);
+        Ok(CursorId { number })
+    }
+
+    /// The answer at a cursor's place, which moves on by one, or None at the list's end, where the
+    /// cursor stays. `Unknown` where the cursor is not open. The engine is called, and `NoMemory` can
+    /// come, only where no cursor has been at this place before.
+    pub fn next<L: Ledger>(
+        &mut self,
+        id: CursorId,
+        steps: &mut Steps<L>,
+    ) -> Result<Option<Answer<E::Key>>, CursorFault>
+        ensures some { IfOk result (λ o. IfSome o (λ a. IsSomeAnd (place_of self.old id.number) (λ place.
+            (slice_get self.old.answers place ≡ Some (record { rows = a.rows; key = numbers E.Key.KEYS 16 (E.Key.key a.rank) }))
+            × (self.new.places ≡ (with_place self.old id.number (Some (place + 1))).places) × (place + 1 ≤ self.new.known)))) }
+        ensures end { IfOk result (λ o. IfNone o ((place_of self.old id.number ≡ Some (length self.old.answers)) × (self.new.places ≡ self.old.places) × (self.new.ended ≡ true))) }
+        ensures refused { IfErr result (λ e. RefusesNext self.old id.number e × (self.new.places ≡ self.old.places)) }
+        ensures kept { Keeps self.old self.new }
+        ensures within { ArePlacesKnown self.new }
+        ensures known { IsKnownAt self.old id.number → (self.new ≡ record self.old { places = self.new.places }) × (steps.new ≤ steps.old + 4) }
+        ensures calls { self.new.calls ≤ self.old.calls + 1 }
+        ensures cost { steps.new ≤ steps.old + self.old.due + 4 }
+    {
+        let place = self.places[id.number].ok_or(CursorFault::Unknown(id))?;
+        if place < self.found.len() {
+            self.places[id.number] = Some(place + 1);
+            return Ok(Some(self.found[place]));
+        }
+        if self.ended {
+            return Ok(None);
+        }
+        match fetch(&mut self.engine, &mut self.found, steps) {
+            Ok(Some(answer)) => {
+                self.places[id.number] = Some(place + 1);
+                Ok(Some(answer))
+            }
+            Ok(None) => {
+                self.ended = true;
+                Ok(None)
+            }
+            Err(_) => Err(CursorFault::NoMemory),
+        }
+    }
+
+    /// Opens the least number that is not open, at the place of another cursor. `Unknown` where that
+    /// cursor is not open, else `TooMany` where all are.
+    pub fn fork(&mut self, id: CursorId) -> Result<CursorId, CursorFault>
+        ensures forked { IfOk result (λ copy. IsSome (place_of self.old id.number) × (first_free self.old ≡ Some copy.number) × (self.new ≡ with_place self.old copy.number (place_of self.old id.number))) }
+        ensures place { IfOk result (λ copy. place_of self.new copy.number ≡ place_of self.old id.number) }
+        ensures refused { IfErr result (λ e. RefusesFork self.old id.number e × (self.new ≡ self.old)) }
+    {
+        let place = self.places[id.number].ok_or(CursorFault::Unknown(id))?;
+        let number = free_number(&self.places).ok_or(CursorFault::TooMany)?;
+        self.places[number] = Some(place);
+        Ok(CursorId { number })
+    }
+
+    /// Moves a cursor to place 0. `Unknown` where it is not open.
+    pub fn rewind(&mut self, id: CursorId) -> Result<(), CursorFault>
+        ensures rewound { IfOk result (λ _. IsSome (place_of self.old id.number) × (self.new ≡ with_place self.old id.number (Some 0))) }
+        ensures refused { IfErr result (λ e. (e ≡ CursorFault.Unknown id) × (place_of self.old id.number ≡ None) × (self.new ≡ self.old)) }
+    {
+        self.places[id.number].ok_or(CursorFault::Unknown(id))?;
+        self.places[id.number] = Some(0);
+        Ok(())
+    }
+
+    /// Closes a cursor, and frees its number. `Unknown` where it is not open.
+    pub fn close(&mut self, id: CursorId) -> Result<(), CursorFault>
+        ensures closed { IfOk result (λ _. IsSome (place_of self.old id.number) × (self.new ≡ with_place self.old id.number None)) }
+        ensures refused { IfErr result (λ e. (e ≡ CursorFault.Unknown id) × (place_of self.old id.number ≡ None) × (self.new ≡ self.old)) }
+    {
+        self.places[id.number].ok_or(CursorFault::Unknown(id))?;
+        self.places[id.number] = None;
+        Ok(())
+    }
+}
+
+/// The least number that is not open.
+fn free_number(places: &[Option<usize>]) -> Option<usize>
+    ensures { result ≡ position is_none places.now }
+{
+    places.iter().position(|place| place.is_none())
+}

@@ -1,0 +1,58 @@
+-- One file, as reading it tells.
+use Rattle.std.proofs.Common.{◌≡◌, ◌≤◌, ◌<◌, ℕ, List, Option, Some, None, Ok, Err, refl, sym, ◌∙◌, arith, ap}
+use Rattle.std.proofs.lemmas.Bool.Decides.{nat_tests}
+use Rattle.outer_io.specs.Counts.{Rose}
+use Rattle.outer_io.specs.Files.{Files, HasFile, LacksFile, IsNoShortFile}
+use Rattle.outer_io.specs.declared.reading.FileFault.{FileFault}
+use Rattle.outer_io.specs.declared.reading.FileFault.TheVariants as file
+use Rattle.std.specs.Prelude.{length}
+use Rattle.refusal_lines.specs.Answer as answer
+use Rattle.refusal_lines.specs.Answer.{Answer}
+use Rattle.verdict.specs.Loading.{file_in, file_with, most_bytes, short_enough}
+use Rattle.verdict.specs.Staged.{Fits, Causes, Shelved, Staged}
+use Rattle.verdict.specs.Stages.{Is}
+use Rattle.input_load.specs.Shown.{file_answer}
+
+short_bytes : (name bytes : List ℕ) → length bytes ≤ most_bytes → short_enough name bytes ≡ Ok bytes
+short_bytes name bytes h = grind (arith, nat_tests)
+
+long_bytes : (name bytes : List ℕ) → most_bytes < length bytes → short_enough name bytes ≡ Err (answer.TooLarge name)
+long_bytes name bytes h = grind (arith, nat_tests)
+
+-- a file that was read whole
+pub loaded_fits : (told : Option Files) (name bytes : List ℕ) → HasFile told name (Some bytes) → length bytes ≤ most_bytes
+    → Fits (λ files. Is (file_in files name)) (λ files other. other ≡ name) told (Ok bytes)
+loaded_fits None name bytes h short = tt
+loaded_fits (Some files) name bytes h short = sym (ap (file_with name) (sym h.0) ∙ short_bytes name bytes short)
+
+-- one that was not
+refused_fits : (told : Option Files) (name : List ℕ) (fault : FileFault) → (fault ≡ file.Missing → LacksFile told name) → (fault ≡ file.TooLarge → IsNoShortFile most_bytes told name)
+    → Fits {A = List ℕ} (λ files. Is (file_in files name)) (λ files other. other ≡ name) told (Err (file_answer name fault))
+refused_fits None name file.Missing lacks long = tt
+refused_fits None name file.Failed lacks long = tt
+refused_fits None name file.TooLarge lacks long = tt
+refused_fits None name file.NoMemory lacks long = tt
+refused_fits (Some files) name file.Missing lacks long = sym (ap (file_with name) (lacks refl))
+refused_fits (Some files) name file.Failed lacks long = refl
+refused_fits (Some files) name file.TooLarge lacks long =
+    let h = long refl in sym (ap (file_with name) h.1 ∙ long_bytes name h.0 h.2)
+refused_fits (Some files) name file.NoMemory lacks long = tt
+
+refused_cause : (old new : Shelved) (name : List ℕ) (fault : FileFault) → (fault ≡ file.Missing → Rose old.misses new.misses) → (fault ≡ file.Failed → Rose old.faults new.faults)
+    → Causes {A = List ℕ} old new (Err (file_answer name fault))
+refused_cause old new name file.Missing missing failed = missing refl
+refused_cause old new name file.Failed missing failed = failed refl
+refused_cause old new name file.TooLarge missing failed = tt
+refused_cause old new name file.NoMemory missing failed = tt
+
+pub refused_load : (old new : Shelved) (name : List ℕ) (fault : FileFault) → (fault ≡ file.Missing → LacksFile old.files name) → (fault ≡ file.TooLarge → IsNoShortFile most_bytes old.files name)
+    → (fault ≡ file.Missing → Rose old.misses new.misses) → (fault ≡ file.Failed → Rose old.faults new.faults)
+    → new.files ≡ old.files → old.misses ≤ new.misses → old.faults ≤ new.faults
+    → Staged (λ files. Is (file_in files name)) (λ files other. other ≡ name) old new (Err (file_answer name fault))
+refused_load old new name fault lacks long missing failed same misses faults = record {
+  fits = refused_fits old.files name fault lacks long;
+  caused = refused_cause old new name fault missing failed;
+  files = same;
+  misses = misses;
+  faults = faults;
+}

@@ -1,0 +1,260 @@
+-- The words that name the items' tables, and which of them come first.
+use Rattle.std.proofs.Common.{◌≡◌, ◌+◌, ◌<◌, ◌≤◌, ◌||◌, ◌∷◌, ◌++◌, [], ℕ, Bool, true, false, cond, if◌then◌else◌, List, length, map, drop, take, get_or, find, option_map, Some, None, refl, sym, ap, ◌∙◌, arith, subst, suc, zero, not}
+use Rattle.std.proofs.lemmas.List.{append_assoc, drop_more, get_or-map, length-append, length-map, take_more, map-append}
+use Rattle.std.proofs.lemmas.List.Folds.{list_any-append}
+use Rattle.std.proofs.lemmas.Slice.Eq.{bytes_eq-Decides}
+use Rattle.std.specs.List.{AllByRecursion, list_any, position_or_len}
+use Rattle.std.specs.Str.{bytes_eq}
+use Rattle.std.specs.String.{string_bytes}
+use Rattle.cmd_words.specs.declared.pairs.Named.{Named}
+use Rattle.cmd_words.specs.NamedPairs.{named_pair}
+use Rattle.outer_io.specs.Files.{bytes_of}
+use Rattle.query_parse.specs.declared.select.ItemRef.{ItemRef}
+use Rattle.refusal_lines.specs.Answer.{UnknownTable}
+use Rattle.verdict.specs.Loading.{first_uses, first_uses_after, table_names, table_numbers, unknown_table, unknown_with}
+use Rattle.input_load.specs.Entries.{IsEntryOf, tables_of}
+
+-- ---- the word that names a table
+
+-- the file of a table is that of the first word that names it
+file-of_found : (table : List ℕ) (named : List Named)
+    → bytes_of (map named_pair named) table ≡ option_map (λ (e : Named). string_bytes e.file) (find (λ (e : Named). bytes_eq (string_bytes e.table) table) named)
+file-of_found table [] = refl
+file-of_found table (e ∷ named) = by (bytes_eq (string_bytes e.table) table) (file-of_found table named)
+  where
+    by : (b : Bool) → bytes_of (map named_pair named) table ≡ option_map (λ (e : Named). string_bytes e.file) (find (λ (e : Named). bytes_eq (string_bytes e.table) table) named)
+        → (if b then Some (string_bytes e.file) else bytes_of (map named_pair named) table)
+        ≡ option_map (λ (e : Named). string_bytes e.file) (cond b (Some e) (find (λ (e : Named). bytes_eq (string_bytes e.table) table) named))
+    by true later = refl
+    by false later = later
+
+found-passes : {A : Type 0} (p : A → Bool) (xs : List A) (x : A) → find p xs ≡ Some x → p x ≡ true
+found-passes p [] x e = cc
+found-passes p (y ∷ xs) x e = by (p y) refl e (λ later. found-passes p xs x later)
+  where
+    by : (b : Bool) → p y ≡ b → cond b (Some y) (find p xs) ≡ Some x → (find p xs ≡ Some x → p x ≡ true) → p x ≡ true
+    by true is here later = let same : y ≡ x = cc in ap p (sym same) ∙ is
+    by false is here later = later here
+
+-- the word that was found has the table's name, and is the first of it
+pub found-table : (table : List ℕ) (named : List Named) (e : Named) → find (λ (e : Named). bytes_eq (string_bytes e.table) table) named ≡ Some e → string_bytes e.table ≡ table
+found-table table named e is = (bytes_eq-Decides (string_bytes e.table) table).0 (found-passes (λ (e : Named). bytes_eq (string_bytes e.table) table) named e is)
+
+pub found-entry : (table : List ℕ) (named : List Named) (e : Named) → find (λ (e : Named). bytes_eq (string_bytes e.table) table) named ≡ Some e
+    → IsEntryOf (map named_pair named) (named_pair e)
+found-entry table named e is =
+    ap (bytes_of (map named_pair named)) (found-table table named e is) ∙ file-of_found table named
+    ∙ ap (option_map (λ (e : Named). string_bytes e.file)) is
+
+pub none-file : (table : List ℕ) (named : List Named) → find (λ (e : Named). bytes_eq (string_bytes e.table) table) named ≡ None
+    → bytes_of (map named_pair named) table ≡ None
+none-file table named is = file-of_found table named ∙ ap (option_map (λ (e : Named). string_bytes e.file)) is
+
+-- ---- the items, one after another
+
+-- the items up to i have tables that words name, and these are the words
+pub record HasEntries (named : List (List ℕ × List ℕ)) (items : List ItemRef) (i : ℕ) (words : List (List ℕ × List ℕ)) : Type 0 where
+  pub known : unknown_table named (drop i items) ≡ unknown_table named items
+  pub tables : tables_of words ≡ table_names (take i items)
+  pub entries : AllByRecursion (IsEntryOf named) words
+
+pub all-append : {A : Type 0} (P : A → Type 0) (xs : List A) (x : A) → AllByRecursion P xs → P x → AllByRecursion P (xs ++ x ∷ [])
+all-append P [] x all h = (h, tt)
+all-append P (y ∷ xs) x all h = (all.0, all-append P xs x all.1 h)
+
+pub entries-more : (named : List (List ℕ × List ℕ)) (items : List ItemRef) (i : ℕ) (item : ItemRef) (entries : List (List ℕ × List ℕ)) (e : List ℕ × List ℕ)
+    → i < length items → item ≡ get_or items i item → e.0 ≡ item.table → IsEntryOf named e
+    → HasEntries named items i entries → HasEntries named items (i + 1) (entries ++ e ∷ [])
+entries-more named items i item entries e inside is table entry h =
+    let step : drop i items ≡ item ∷ drop (i + 1) items = drop_more items i item inside ∙ ap (λ (x : ItemRef). x ∷ drop (i + 1) items) (sym is) in
+    let file : bytes_of named item.table ≡ Some e.1 = ap (bytes_of named) (sym table) ∙ entry in
+    record {
+      known = sym (ap (unknown_table named) step ∙ ap (λ o. unknown_with o item.at (unknown_table named (drop (i + 1) items))) file) ∙ h.known;
+      tables = map-append (λ (x : List ℕ × List ℕ). x.0) entries (e ∷ [])
+          ∙ ap (λ (t : List (List ℕ)). t ++ e.0 ∷ []) h.tables
+          ∙ ap (λ (t : List ℕ). table_names (take i items) ++ t ∷ []) table
+          ∙ sym (ap table_names (take_more items i item inside ∙ ap (λ (x : ItemRef). take i items ++ x ∷ []) (sym is))
+          ∙ map-append (λ (x : ItemRef). x.table) (take i items) (item ∷ []));
+      entries = all-append (IsEntryOf named) entries e h.entries entry;
+    }
+
+-- the first item whose table no word names
+pub entries-end : (named : List (List ℕ × List ℕ)) (items : List ItemRef) (i : ℕ) (item : ItemRef) (entries : List (List ℕ × List ℕ))
+    → i < length items → item ≡ get_or items i item → bytes_of named item.table ≡ None → HasEntries named items i entries
+    → unknown_table named items ≡ Some (UnknownTable item.at)
+entries-end named items i item entries inside is none h =
+    let step : drop i items ≡ item ∷ drop (i + 1) items = drop_more items i item inside ∙ ap (λ (x : ItemRef). x ∷ drop (i + 1) items) (sym is) in
+    sym h.known ∙ ap (unknown_table named) step ∙ ap (λ o. unknown_with o item.at (unknown_table named (drop (i + 1) items))) none
+
+-- ---- the first of each table
+
+abbrev pub has_name : List ℕ → List (List ℕ) → Bool
+has_name name names = list_any (λ other. bytes_eq other name) names
+
+-- of the entries up to i, the firsts
+pub record HasFirsts (all : List (List ℕ × List ℕ)) (i : ℕ) (firsts : List (List ℕ × List ℕ)) : Type 0 where
+  pub tables : tables_of firsts ++ first_uses_after (tables_of firsts) (tables_of (drop i all)) ≡ first_uses_after [] (tables_of all)
+  pub entries : (named : List (List ℕ × List ℕ)) → AllByRecursion (IsEntryOf named) all → AllByRecursion (IsEntryOf named) firsts
+  pub few : length firsts ≤ i
+
+-- the entry at i has a table that an earlier one has
+pub firsts-same : (all : List (List ℕ × List ℕ)) (i : ℕ) (e : List ℕ × List ℕ) (firsts : List (List ℕ × List ℕ)) → i < length all → e ≡ get_or all i e
+    → has_name e.0 (tables_of firsts) ≡ true → HasFirsts all i firsts → HasFirsts all (i + 1) firsts
+firsts-same all i e firsts inside is has h =
+    let step : drop i all ≡ e ∷ drop (i + 1) all = drop_more all i e inside ∙ ap (λ (x : List ℕ × List ℕ). x ∷ drop (i + 1) all) (sym is) in
+    let names = tables_of firsts in
+    let later = tables_of (drop (i + 1) all) in
+    let one : first_uses_after names (tables_of (drop i all)) ≡ first_uses_after names later =
+    ap (λ (l : List (List ℕ × List ℕ)). first_uses_after names (tables_of l)) step
+    ∙ ap (λ (b : Bool). if b then first_uses_after names later else e.0 ∷ first_uses_after (names ++ e.0 ∷ []) later) has in
+    let few = h.few in
+    record {
+      tables = ap (λ (l : List (List ℕ)). names ++ l) (sym one) ∙ h.tables;
+      entries = h.entries;
+      few = omega (arith, few);
+    }
+
+pub all-at : {A : Type 0} (P : A → Type 0) (xs : List A) (i : ℕ) (d : A) → i < length xs → AllByRecursion P xs → P (get_or xs i d)
+all-at P [] i d inside all = absurd (omega arith)
+all-at P (x ∷ xs) zero d inside all = all.0
+all-at P (x ∷ xs) (suc i) d inside all = all-at P xs i d (omega arith) all.1
+
+-- the entry at i is the first with its table
+pub firsts-more : (all : List (List ℕ × List ℕ)) (i : ℕ) (e : List ℕ × List ℕ) (firsts : List (List ℕ × List ℕ)) → i < length all → e ≡ get_or all i e
+    → has_name e.0 (tables_of firsts) ≡ false → HasFirsts all i firsts → HasFirsts all (i + 1) (firsts ++ e ∷ [])
+firsts-more all i e firsts inside is has h =
+    let step : drop i all ≡ e ∷ drop (i + 1) all = drop_more all i e inside ∙ ap (λ (x : List ℕ × List ℕ). x ∷ drop (i + 1) all) (sym is) in
+    let names = tables_of firsts in
+    let later = tables_of (drop (i + 1) all) in
+    let one : first_uses_after names (tables_of (drop i all)) ≡ e.0 ∷ first_uses_after (names ++ e.0 ∷ []) later =
+    ap (λ (l : List (List ℕ × List ℕ)). first_uses_after names (tables_of l)) step
+    ∙ ap (λ (b : Bool). if b then first_uses_after names later else e.0 ∷ first_uses_after (names ++ e.0 ∷ []) later) has in
+    let more : tables_of (firsts ++ e ∷ []) ≡ names ++ e.0 ∷ [] = map-append (λ (x : List ℕ × List ℕ). x.0) firsts (e ∷ []) in
+    let few = h.few in
+    let longer : length (firsts ++ e ∷ []) ≡ length firsts + 1 = length-append firsts (e ∷ []) in
+    record {
+      tables = ap (λ (l : List (List ℕ)). l ++ first_uses_after l later) more
+          ∙ append_assoc names (e.0 ∷ []) (first_uses_after (names ++ e.0 ∷ []) later)
+          ∙ ap (λ (l : List (List ℕ)). names ++ l) (sym one) ∙ h.tables;
+      entries = λ named known. all-append (IsEntryOf named) firsts e (h.entries named known)
+          (let P : List ℕ × List ℕ → Type 0 = IsEntryOf named in subst P (sym is) (all-at P all i e inside known));
+      few = omega (arith, few, longer);
+    }
+
+pub no-firsts : (all : List (List ℕ × List ℕ)) → HasFirsts all 0 []
+no-firsts all = record { tables = refl; entries = λ named known. tt; few = omega arith }
+
+-- ---- the numbers of tables
+
+or-true : (a b : Bool) → a ≡ true → (a || b) ≡ true
+or-true true b e = refl
+or-true false b e = cc
+
+or-later : (a b : Bool) → b ≡ true → (a || b) ≡ true
+or-later true b e = refl
+or-later false b e = e
+
+same-bytes : (name : List ℕ) → bytes_eq name name ≡ true
+same-bytes name = (bytes_eq-Decides name name).1 refl
+
+-- each name is among the first uses
+each-used : (earlier names : List (List ℕ)) → AllByRecursion (λ name. has_name name (earlier ++ first_uses_after earlier names) ≡ true) names
+each-used earlier [] = tt
+each-used earlier (x ∷ xs) = by (has_name x earlier) refl (each-used earlier xs) (each-used (earlier ++ x ∷ []) xs)
+  where
+    by : (b : Bool) → has_name x earlier ≡ b
+        → AllByRecursion (λ name. has_name name (earlier ++ first_uses_after earlier xs) ≡ true) xs
+        → AllByRecursion (λ name. has_name name ((earlier ++ x ∷ []) ++ first_uses_after (earlier ++ x ∷ []) xs) ≡ true) xs
+        → (has_name x (earlier ++ (if b then first_uses_after earlier xs else x ∷ first_uses_after (earlier ++ x ∷ []) xs)) ≡ true)
+        × AllByRecursion (λ name. has_name name (earlier ++ (if b then first_uses_after earlier xs else x ∷ first_uses_after (earlier ++ x ∷ []) xs)) ≡ true) xs
+    by true has same more = (list_any-append (λ other. bytes_eq other x) earlier (first_uses_after earlier xs) ∙ or-true _ _ has, same)
+    by false has same more =
+        let rest = first_uses_after (earlier ++ x ∷ []) xs in
+        let P : List (List ℕ) → Type 0 = λ l. AllByRecursion (λ name. has_name name l ≡ true) xs in (
+          list_any-append (λ other. bytes_eq other x) earlier (x ∷ rest) ∙ or-later _ _ (or-true _ _ (same-bytes x)),
+          subst P (append_assoc earlier (x ∷ []) rest) more,
+        )
+
+-- a name that is there has a place
+place-within : (name : List ℕ) (names : List (List ℕ)) → has_name name names ≡ true → position_or_len (λ other. bytes_eq other name) names < length names
+place-within name [] e = cc
+place-within name (x ∷ xs) e = by (bytes_eq x name) e (place-within name xs)
+  where
+    by : (b : Bool) → (b || has_name name xs) ≡ true → (has_name name xs ≡ true → position_or_len (λ other. bytes_eq other name) xs < length xs)
+        → cond (not b) (1 + position_or_len (λ other. bytes_eq other name) xs) 0 < length (x ∷ xs)
+    by true h later = omega arith
+    by false h later = let below = later h in omega (arith, below)
+
+all-map : {A B : Type 0} (P : B → Type 0) (f : A → B) (xs : List A) → AllByRecursion (λ x. P (f x)) xs → AllByRecursion P (map f xs)
+all-map P f [] all = tt
+all-map P f (x ∷ xs) all = (all.0, all-map P f xs all.1)
+
+all-weaker : {A : Type 0} (P Q : A → Type 0) (xs : List A) → ((x : A) → P x → Q x) → AllByRecursion P xs → AllByRecursion Q xs
+all-weaker P Q [] f all = tt
+all-weaker P Q (x ∷ xs) f all = (f x all.0, all-weaker P Q xs f all.1)
+
+-- the numbers of the tables of items are numbers of tables
+pub numbers-within : (items : List ItemRef) → AllByRecursion (λ t. t < length (first_uses items)) (table_numbers items)
+numbers-within items =
+    all-map (λ t. t < length (first_uses items)) (λ name. position_or_len (λ other. bytes_eq other name) (first_uses items)) (table_names items)
+    (all-weaker (λ name. has_name name (first_uses items) ≡ true) (λ name. position_or_len (λ other. bytes_eq other name) (first_uses items) < length (first_uses items))
+    (table_names items) (λ name has. place-within name (first_uses items) has) (each-used [] (table_names items)))
+
+-- ---- tests of the entries, and of their tables' names
+
+pub list_any-map : {A B : Type 0} (p : B → Bool) (f : A → B) (xs : List A) → list_any p (map f xs) ≡ list_any (λ x. p (f x)) xs
+list_any-map p f [] = refl
+list_any-map p f (x ∷ xs) = ap (λ b. p (f x) || b) (list_any-map p f xs)
+
+pub position_or_len-map : {A B : Type 0} (p : B → Bool) (f : A → B) (xs : List A) → position_or_len p (map f xs) ≡ position_or_len (λ x. p (f x)) xs
+position_or_len-map p f [] = refl
+position_or_len-map p f (x ∷ xs) = ap (λ n. cond (not (p (f x))) (1 + n) 0) (position_or_len-map p f xs)
+
+pub position-here : {A : Type 0} (p : A → Bool) (xs : List A) (i : ℕ) (x : A) → i < length xs → x ≡ get_or xs i x → p x ≡ true
+    → position_or_len p (drop i xs) ≡ 0
+position-here {A} p xs i x inside is passes =
+    ap (position_or_len p) (drop_more xs i x inside) ∙ ap (λ (z : A). cond (not (p z)) (1 + position_or_len p (drop (i + 1) xs)) 0) (sym is)
+    ∙ ap (λ b. cond (not b) (1 + position_or_len p (drop (i + 1) xs)) 0) passes
+
+pub position-past : {A : Type 0} (p : A → Bool) (xs : List A) (i : ℕ) (x : A) → i < length xs → x ≡ get_or xs i x → p x ≡ false
+    → position_or_len p (drop i xs) ≡ 1 + position_or_len p (drop (i + 1) xs)
+position-past {A} p xs i x inside is fails =
+    ap (position_or_len p) (drop_more xs i x inside) ∙ ap (λ (z : A). cond (not (p z)) (1 + position_or_len p (drop (i + 1) xs)) 0) (sym is)
+    ∙ ap (λ b. cond (not b) (1 + position_or_len p (drop (i + 1) xs)) 0) fails
+
+-- ---- lists that loops collect
+
+pub map-more : {A B : Type 0} (f : A → B) (xs : List A) (i : ℕ) (x : A) (out : List B) → i < length xs → x ≡ get_or xs i x
+    → out ≡ map f (take i xs) → out ++ f x ∷ [] ≡ map f (take (i + 1) xs)
+map-more {A} {B} f xs i x out inside is so_far =
+    ap (λ (l : List B). l ++ f x ∷ []) so_far ∙ sym (map-append f (take i xs) (x ∷ []))
+    ∙ sym (ap (map f) (take_more xs i x inside ∙ ap (λ (z : A). take i xs ++ z ∷ []) (sym is)))
+
+-- a number by the entries is a number by their tables' names
+pub number-shown : {A : Type 0} (g : A → List ℕ × List ℕ) (ys : List A) (name : List ℕ)
+    → position_or_len (λ other. bytes_eq other name) (tables_of (map g ys)) ≡ position_or_len (λ y. bytes_eq (g y).0 name) ys
+number-shown g ys name =
+    position_or_len-map (λ other. bytes_eq other name) (λ (x : List ℕ × List ℕ). x.0) (map g ys)
+    ∙ position_or_len-map (λ (x : List ℕ × List ℕ). bytes_eq x.0 name) g ys
+
+pub numbers-shown : {A : Type 0} (g : A → List ℕ × List ℕ) (ys xs : List A)
+    → map (λ x. position_or_len (λ y. bytes_eq (g y).0 (g x).0) ys) xs
+    ≡ map (λ name. position_or_len (λ other. bytes_eq other name) (tables_of (map g ys))) (tables_of (map g xs))
+numbers-shown g ys [] = refl
+numbers-shown g ys (x ∷ xs) = let head = sym (number-shown g ys (g x).0) in let tail = numbers-shown g ys xs in λ i. head i ∷ tail i
+
+pub has-shown : {A : Type 0} (g : A → List ℕ × List ℕ) (ys : List A) (name : List ℕ)
+    → has_name name (tables_of (map g ys)) ≡ list_any (λ y. bytes_eq (g y).0 name) ys
+has-shown g ys name =
+    list_any-map (λ other. bytes_eq other name) (λ (x : List ℕ × List ℕ). x.0) (map g ys) ∙ list_any-map (λ (x : List ℕ × List ℕ). bytes_eq x.0 name) g ys
+
+-- an element of a list that is mapped
+pub mapped-inside : {A B : Type 0} (f : A → B) (xs : List A) (i : ℕ) → i < length xs → i < length (map f xs)
+mapped-inside f xs i inside = let same = length-map xs f in omega (arith, inside, same)
+
+pub mapped-at : {A B : Type 0} (f : A → B) (xs : List A) (i : ℕ) (x : A) → i < length xs → x ≡ get_or xs i x → f x ≡ get_or (map f xs) i (f x)
+mapped-at f xs i x inside is = ap f is ∙ sym (get_or-map f xs i x (f x) inside)
+
+pub mapped-all : {A B : Type 0} (P : B → Type 0) (f : A → B) (xs : List A) (i : ℕ) (x : A) → i < length xs → x ≡ get_or xs i x → AllByRecursion P (map f xs) → P (f x)
+mapped-all P f xs i x inside is all =
+    subst P (sym (mapped-at f xs i x inside is)) (all-at P (map f xs) i (f x) (mapped-inside f xs i inside) all)

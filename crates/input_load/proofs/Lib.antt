@@ -1,0 +1,4 @@
+pub mod Files
+pub mod Faults
+pub mod FirstUses
+pub mod Reading

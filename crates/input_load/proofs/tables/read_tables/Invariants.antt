@@ -1,0 +1,18 @@
+use Rattle.std.proofs.Common.{◌≡◌, ℕ, List, Ok, length, map}
+use Rattle.std.specs.List.{AllByRecursion}
+use Rattle.cmd_words.specs.NamedPairs.{named_pair}
+use Rattle.rankings.specs.Order.{IsMember}
+use Rattle.verdict.specs.Loading.{files_read}
+use Rattle.verdict.specs.Staged.{Staged}
+use Rattle.input_load.specs.Entries.{IsEntryOf, tables_of}
+use Rattle.input_load.proofs.Reading.{IsReached}
+use Rattle.input_load.proofs.tables.read_tables.Given as goal
+
+abbrev pub invariant-loop-entry : goal.invariant-loop-entry
+invariant-loop-entry g l =
+    (length l.tables ≡ l.entry-index)
+    × ((named : List (List ℕ × List ℕ)) → AllByRecursion (IsEntryOf named) (map (λ e. named_pair e.now) l.entries)
+    → Staged (IsReached named (map (λ e. named_pair e.now) l.entries) l.entry-index)
+    (λ files file. IsMember file (files_read files named (tables_of (map (λ e. named_pair e.now) l.entries))))
+    (record { files = g.F.Shelf.files l.initial.shelf; misses = g.F.Shelf.misses l.initial.shelf; faults = g.F.Shelf.faults l.initial.shelf })
+    (record { files = g.F.Shelf.files l.shelf; misses = g.F.Shelf.misses l.shelf; faults = g.F.Shelf.faults l.shelf }) (Ok l.tables))

@@ -1,0 +1,30 @@
+use Rattle.std.proofs.Common.{◌≡◌, ◌∙◌, ◌<◌, [], ◌∷◌, length, map, get_or, ap, sym, arith}
+use Rattle.std.proofs.lemmas.List.{map-append, length-map, get_or-map}
+use Rattle.cmd_words.specs.NamedPairs.{named_pair}
+use Rattle.input_load.proofs.FirstUses.{firsts-more, firsts-same, has-shown}
+use Rattle.input_load.proofs.uses.first_entries.Goals as goal
+
+pub loop-entry-preserved-then-has_table : goal.loop-entry-preserved-then-has_table
+loop-entry-preserved-then-has_table c =
+    let all = map (λ e. named_pair e.now) c.args.entries.now in
+    let e = named_pair c.entry-item.result.now in
+    let i = c.loop-entry.entry-index in
+    let longer = length-map c.args.entries.now (λ e. named_pair e.now) in
+    let inside : i < length all = omega (arith, c.loop-entry-test.true, longer) in
+    let is : e ≡ get_or all i e = ap (λ e. named_pair e.now) c.entry-item.is
+    ∙ sym (get_or-map (λ e. named_pair e.now) c.args.entries.now i c.entry-item.result e c.loop-entry-test.true) in
+    let has = has-shown (λ e. named_pair e.now) c.loop-entry.firsts.items e.0 ∙ rw (c.deref.ensures.value, c.as_str.ensures.value) at (sym c.has_table.ensures ∙ c.if-has_table.true) in
+    firsts-same all i e (map (λ e. named_pair e.now) c.loop-entry.firsts.items) inside is has c.loop-entry.invariant
+
+pub loop-entry-preserved : goal.loop-entry-preserved
+loop-entry-preserved c =
+    let all = map (λ e. named_pair e.now) c.args.entries.now in
+    let e = named_pair c.entry-item.result.now in
+    let i = c.loop-entry.entry-index in
+    let longer = length-map c.args.entries.now (λ e. named_pair e.now) in
+    let inside : i < length all = omega (arith, c.loop-entry-test.true, longer) in
+    let is : e ≡ get_or all i e = ap (λ e. named_pair e.now) c.entry-item.is
+    ∙ sym (get_or-map (λ e. named_pair e.now) c.args.entries.now i c.entry-item.result e c.loop-entry-test.true) in
+    let has = has-shown (λ e. named_pair e.now) c.loop-entry.firsts.items e.0 ∙ rw (c.deref.ensures.value, c.as_str.ensures.value) at (sym c.has_table.ensures ∙ c.if-has_table.false) in
+    rw (c.in_ok-push.ensures.items, map-append (λ e. named_pair e.now) c.loop-entry.firsts.items (c.entry-item.result ∷ []))
+    (firsts-more all i e (map (λ e. named_pair e.now) c.loop-entry.firsts.items) inside is has c.loop-entry.invariant)

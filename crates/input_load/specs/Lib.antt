@@ -1,0 +1,4 @@
+pub mod Entries
+pub mod Shown
+pub mod Found
+pub mod Turns

@@ -1,0 +1,24 @@
+-- The files that the stages of loading read.
+use Rattle.std.specs.Prelude.{◌≡◌, ℕ, List}
+use Rattle.outer_io.specs.Files.{Files}
+use Rattle.query_parse.specs.declared.select.Select.{Select}
+use Rattle.rankings.specs.Order.{IsMember}
+use Rattle.verdict.specs.Loading.{IsParse, file_in, files_read, first_uses, tables_in, unknown_table}
+use Rattle.verdict.specs.Staged.{EitherTurn, NoTurn}
+use Rattle.verdict.specs.Stages.{Is, unless}
+use Rattle.verdict.specs.Verdict.{Named}
+
+abbrev pub IsBoundTurn : Named → Files → Select → List ℕ → Type 0
+IsBoundTurn named files select =
+    EitherTurn (λ files. Is (tables_in files named (first_uses select.items))) (λ files file. IsMember file (files_read files named (first_uses select.items)))
+    (λ tables. NoTurn) files
+
+abbrev pub IsSelectedTurn : Named → Files → Select → List ℕ → Type 0
+IsSelectedTurn named files select =
+    EitherTurn (λ files. Is (unless (unknown_table named select.items) select)) NoTurn (λ known files. IsBoundTurn named files known) files
+
+abbrev pub IsReadTurn : Named → Files → List ℕ → List ℕ → Type 0
+IsReadTurn named files bytes = EitherTurn (λ files. IsParse bytes) NoTurn (λ select files. IsSelectedTurn named files select) files
+
+abbrev pub IsTurn : List ℕ → Named → Files → List ℕ → Type 0
+IsTurn query named files = EitherTurn (λ files. Is (file_in files query)) (λ files file. file ≡ query) (λ bytes files. IsReadTurn named files bytes) files

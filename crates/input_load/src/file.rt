@@ -1,0 +1,40 @@
+//! One file.
+ghost use Rattle.std.specs.Prelude.{◌≡◌, ◌≤◌, IfOk, length};
+ghost use Rattle.verdict.specs.Loading.{file_in};
+ghost use Rattle.verdict.specs.Stages.{Is};
+ghost use Rattle.verdict.specs.Staged.{Staged};
+ghost use Rattle.refusal_lines.specs.Refused.{answer_of};
+ghost use Rattle.input_load.specs.Shown.{file_answer, shown_bytes};
+
+use outer_io::{FileFault, Shelf, read_file};
+use refusal_lines::Refusal;
+use std::alloc::Global;
+
+/// The bytes of the file of this name. `NoFile` where there is none, `ReadFault` where a read failed, and `TooLarge` where
+/// the file passes the limit.
+pub(crate) fn load<'a, F: Shelf>(
+    alloc: Global,
+    shelf: &mut F,
+    name: &'a str,
+) -> Result<Vec<u8>, Refusal<'a>>
+    ensures staged { Staged (λ files. Is (file_in files name.now)) (λ files file. file ≡ name.now)
+        (record { files = F.files shelf.old; misses = F.misses shelf.old; faults = F.faults shelf.old })
+        (record { files = F.files shelf.new; misses = F.misses shelf.new; faults = F.faults shelf.new }) (shown_bytes result) }
+    ensures short { IfOk result (λ bytes. length bytes.items ≤ 67108864) }
+{
+    match read_file(alloc, shelf, name) {
+        Ok(bytes) => Ok(bytes),
+        Err(fault) => Err(file_refusal(fault, name)),
+    }
+}
+
+fn file_refusal<'a>(fault: FileFault, name: &'a str) -> Refusal<'a>
+    ensures { answer_of result ≡ file_answer name.now fault }
+{
+    match fault {
+        FileFault::Missing => Refusal::NoFile(name),
+        FileFault::Failed => Refusal::ReadFault(name),
+        FileFault::TooLarge => Refusal::TooLarge(name),
+        FileFault::NoMemory => Refusal::NoMemory,
+    }
+}

@@ -1,0 +1,84 @@
+//! The tables that the query uses.
+ghost use Rattle.std.specs.Prelude.{◌≡◌, ◌≤◌, ◌<◌, ◌+◌, IfOk, OnOk, List, ℕ, length, map};
+ghost use Rattle.std.specs.List.{AllByRecursion};
+ghost use Rattle.std.specs.String.{string_bytes};
+ghost use Rattle.cmd_words.specs.NamedPairs.{named_pair};
+ghost use Rattle.rankings.specs.Order.{IsMember};
+ghost use Rattle.refusal_lines.specs.Refused.{answer_of};
+ghost use Rattle.verdict.specs.Loading.{files_read, sound_table, table_in, tables_in};
+ghost use Rattle.verdict.specs.Stages.{Is};
+ghost use Rattle.verdict.specs.Staged.{Pure, Staged};
+ghost use Rattle.input_load.specs.Entries.{IsEntryOf, table_after, tables_of};
+ghost use Rattle.input_load.specs.Shown.{said_as, shown_tables, table_answer};
+
+use crate::file::load;
+use cmd_words::Named;
+use csv_tables::{TableFault, Tables};
+use outer_io::Shelf;
+use refusal_lines::Refusal;
+use std::alloc::Global;
+
+/// The tables of these entries, one after another: of each its file, and then its records.
+pub(crate) fn read_tables<'a, F: Shelf>(
+    alloc: Global,
+    entries: &[&'a Named],
+    shelf: &mut F,
+) -> Result<Tables, Refusal<'a>>
+    requires { length entries.now ≤ 16 }
+    ensures staged { (named : List (List ℕ × List ℕ)) → AllByRecursion (IsEntryOf named) (map (λ e. named_pair e.now) entries.now)
+        → Staged (λ files. Is (tables_in files named (tables_of (map (λ e. named_pair e.now) entries.now))))
+        (λ files file. IsMember file (files_read files named (tables_of (map (λ e. named_pair e.now) entries.now))))
+        (record { files = F.files shelf.old; misses = F.misses shelf.old; faults = F.faults shelf.old })
+        (record { files = F.files shelf.new; misses = F.misses shelf.new; faults = F.faults shelf.new }) (shown_tables result) }
+    ensures count { IfOk result (λ tables. length tables ≡ length entries.now) }
+{
+    let mut tables = Tables::new(alloc);
+    for entry in entries {
+        read_table(alloc, entry, shelf, &mut tables)?;
+    }
+    Ok(tables)
+}
+
+// One table more.
+fn read_table<'a, F: Shelf>(
+    alloc: Global,
+    entry: &'a Named,
+    shelf: &mut F,
+    tables: &mut Tables,
+) -> Result<(), Refusal<'a>>
+    requires { length tables.old < 16 }
+    ensures longer { OnOk result (length tables.new ≡ length tables.old + 1) }
+    ensures staged { (named : List (List ℕ × List ℕ)) → IsEntryOf named (named_pair entry.now)
+        → Staged (λ files. Is (table_after tables.old (table_in files named (string_bytes entry.now.table)))) (λ files file. file ≡ string_bytes entry.now.file)
+        (record { files = F.files shelf.old; misses = F.misses shelf.old; faults = F.faults shelf.old })
+        (record { files = F.files shelf.new; misses = F.misses shelf.new; faults = F.faults shelf.new }) (said_as tables.new result) }
+{
+    let bytes = load(alloc, shelf, entry.file.as_str())?;
+    add_table(entry.table.as_bytes(), &bytes, tables)
+}
+
+// The table of these bytes, or the refusal that its first flaw is.
+fn add_table<'a>(name: &'a [u8], bytes: &[u8], tables: &mut Tables) -> Result<(), Refusal<'a>>
+    requires few { length tables.old < 16 }
+    requires size { length bytes.now ≤ 67108864 }
+    ensures longer { OnOk result (length tables.new ≡ length tables.old + 1) }
+    ensures added { Pure (Is (table_after tables.old (sound_table name.now bytes.now))) (said_as tables.new result) }
+{
+    match tables.read(bytes) {
+        Ok(_) => Ok(()),
+        Err(fault) => Err(table_refusal(name, fault)),
+    }
+}
+
+fn table_refusal<'a>(table: &'a [u8], fault: TableFault) -> Refusal<'a>
+    ensures { answer_of result ≡ table_answer table.now fault }
+{
+    match fault {
+        TableFault::NoHeader => Refusal::NoHeader(table),
+        TableFault::TooManyColumns => Refusal::TooManyColumns(table),
+        TableFault::DuplicateName(column) => Refusal::DuplicateName { table, column },
+        TableFault::TooManyRows => Refusal::TooManyTableRows(table),
+        TableFault::Ragged(row) => Refusal::Ragged { table, row },
+        TableFault::NoMemory => Refusal::NoMemory,
+    }
+}

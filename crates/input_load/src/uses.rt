@@ -1,0 +1,106 @@
+//! Which tables the items use.
+ghost use Rattle.std.specs.Prelude.{◌≡◌, ◌≤◌, [], IfOk, List, ℕ, find, length, map, option_map};
+ghost use Rattle.std.specs.List.{AllByRecursion, list_any, position_or_len};
+ghost use Rattle.std.specs.Str.{bytes_eq};
+ghost use Rattle.std.specs.String.{string_bytes};
+ghost use Rattle.cmd_words.specs.NamedPairs.{named_pair};
+ghost use Rattle.verdict.specs.Loading.{first_uses_after, table_names, unknown_table};
+ghost use Rattle.verdict.specs.Stages.{Is, unless};
+ghost use Rattle.verdict.specs.Staged.{Pure};
+ghost use Rattle.input_load.specs.Entries.{IsEntryOf, tables_of};
+ghost use Rattle.input_load.specs.Shown.{said_as};
+
+use cmd_words::Named;
+use query_parse::select::Select;
+use refusal_lines::Refusal;
+use std::alloc::Global;
+use step_counter::NoMemory;
+
+/// For each item the word that names its table. `UnknownTable` at the first item whose table no word names.
+pub(crate) fn entries_of<'a>(
+    alloc: Global,
+    named: &'a [Named],
+    select: &Select,
+) -> Result<Vec<&'a Named>, Refusal<'a>>
+    ensures known { Pure (Is (unless (unknown_table (map named_pair named.now) select.now.items) select.now)) (said_as select.now result) }
+    ensures tables { IfOk result (λ entries. tables_of (map (λ e. named_pair e.now) entries.items) ≡ table_names select.now.items) }
+    ensures entries { IfOk result (λ entries. AllByRecursion (IsEntryOf (map named_pair named.now)) (map (λ e. named_pair e.now) entries.items)) }
+{
+    let mut entries = Vec::new(alloc);
+    let items = select.items.as_slice();
+    for item in items {
+        let Some(entry) = entry_of(named, item.table.bytes()) else {
+            return Err(Refusal::UnknownTable(item.at));
+        };
+        let Ok(()) = entries.push(entry) else {
+            return Err(Refusal::NoMemory);
+        };
+    }
+    Ok(entries)
+}
+
+// The first word that names this table.
+fn entry_of<'a>(named: &'a [Named], table: &[u8]) -> Option<&'a Named>
+    ensures { option_map (λ e. e.now) result ≡ find (λ e. bytes_eq (string_bytes e.table) table.now) named.now }
+{
+    named.iter().find(|entry| entry.table.as_bytes() == table)
+}
+
+/// The entries without those whose table an earlier one has.
+pub(crate) fn first_entries<'a>(
+    alloc: Global,
+    entries: &[&'a Named],
+) -> Result<Vec<&'a Named>, NoMemory>
+    ensures tables { IfOk result (λ firsts. tables_of (map (λ e. named_pair e.now) firsts.items)
+        ≡ first_uses_after [] (tables_of (map (λ e. named_pair e.now) entries.now))) }
+    ensures entries { (named : List (List ℕ × List ℕ)) → AllByRecursion (IsEntryOf named) (map (λ e. named_pair e.now) entries.now)
+        → IfOk result (λ firsts. AllByRecursion (IsEntryOf named) (map (λ e. named_pair e.now) firsts.items)) }
+    ensures few { IfOk result (λ firsts. length firsts.items ≤ length entries.now) }
+{
+    let mut firsts = Vec::new(alloc);
+    for entry in entries {
+        if has_table(&firsts, entry.table.as_str()) {
+            continue;
+        }
+        firsts.push(*entry)?;
+    }
+    Ok(firsts)
+}
+
+fn has_table(entries: &[&Named], table: &str) -> bool
+    ensures { result ≡ list_any (λ e. bytes_eq (string_bytes e.now.table) table.now) entries.now }
+{
+    entries.iter().any(|entry| entry.table.as_str() == table)
+}
+
+/// For each entry the number from 0 of its table among the firsts.
+pub(crate) fn table_numbers(
+    alloc: Global,
+    entries: &[&Named],
+    firsts: &[&Named],
+) -> Result<Vec<u32>, NoMemory>
+    requires { length firsts.now ≤ 16 }
+    ensures { IfOk result (λ numbers. numbers.items ≡ map (λ name. position_or_len (λ other. bytes_eq other name) (tables_of (map (λ e. named_pair e.now) firsts.now)))
+        (tables_of (map (λ e. named_pair e.now) entries.now))) }
+{
+    let mut numbers = Vec::new(alloc);
+    for entry in entries {
+        numbers.push(table_number(firsts, entry.table.as_str()))?;
+    }
+    Ok(numbers)
+}
+
+// The number from 0 of the table among the firsts, or how many there are.
+fn table_number(firsts: &[&Named], table: &str) -> u32
+    requires { length firsts.now ≤ 16 }
+    ensures { result ≡ position_or_len (λ e. bytes_eq (string_bytes e.now.table) table.now) firsts.now }
+{
+    let mut number = 0u32;
+    for first in firsts {
+        if first.table.as_str() == table {
+            return number;
+        }
+        number += 1;
+    }
+    number
+}

@@ -1,0 +1,115 @@
+//! The files, the standard output and the standard error of the system: the few lines over std that no
+//! clause describes. They tell no content, and count their faults.
+
+use crate::{ReadFailed, Shelf, ShelfFault, Sink, WriteFailed};
+use std::fs::{self, File};
+use std::io::{ErrorKind, Read, Write};
+
+/// The files of the system.
+#[derive(Drop)]
+pub struct FileShelf {
+    rt: HostRuntime,
+    file: Option<File>,
+    misses: u64,
+    faults: u64,
+    taken: u64,
+}
+
+impl FileShelf {
+    /// With no file open, and all counts at 0.
+    pub fn new(rt: HostRuntime) -> FileShelf {
+        FileShelf {
+            rt,
+            file: None,
+            misses: 0,
+            faults: 0,
+            taken: 0,
+        }
+    }
+}
+
+impl Shelf for FileShelf {
+    ghost use Rattle.std.specs.Prelude.{None};
+
+    ghost files = { λ _. None };
+
+    ghost rest = { λ _. None };
+
+    ghost misses = { λ s. s.misses };
+
+    ghost faults = { λ s. s.faults };
+
+    ghost taken = { λ s. s.taken };
+
+    fn open(&mut self, name: &str) -> Result<(), ShelfFault> {
+        self.file = None;
+        match fs::open(&self.rt, name) {
+            Ok(file) => {
+                self.file = Some(file);
+                Ok(())
+            }
+            Err(error) if error.kind() == ErrorKind::NotFound => {
+                self.misses = self.misses.saturating_add(1);
+                Err(ShelfFault::Missing)
+            }
+            Err(_) => {
+                self.faults = self.faults.saturating_add(1);
+                Err(ShelfFault::Failed)
+            }
+        }
+    }
+
+    fn read(&mut self, buf: &mut [u8]) -> Result<usize, ReadFailed> {
+        let outcome = match &mut self.file {
+            Some(file) => file.read(buf),
+            None => Ok(0),
+        };
+        match outcome {
+            Ok(count) => {
+                self.taken = self.taken.saturating_add(count as u64);
+                Ok(count)
+            }
+            Err(_) => {
+                self.faults = self.faults.saturating_add(1);
+                Err(ReadFailed)
+            }
+        }
+    }
+}
+
+/// A standard stream of the system that takes bytes.
+#[derive(Drop)]
+pub struct StdSink<W> {
+    stream: W,
+    faults: u64,
+}
+
+impl<W: Write> StdSink<W> {
+    /// Over this stream, with no fault so far.
+    pub fn new(stream: W) -> StdSink<W> {
+        StdSink { stream, faults: 0 }
+    }
+}
+
+impl<W: Write> Sink for StdSink<W> {
+    ghost use Rattle.std.specs.Prelude.{None};
+
+    ghost written = { λ _. None };
+
+    ghost faults = { λ s. s.faults };
+
+    fn write(&mut self, bytes: &[u8]) -> Result<usize, WriteFailed> {
+        match self.stream.write(bytes) {
+            Ok(count) => {
+                if count == 0 && !bytes.is_empty() {
+                    self.faults = self.faults.saturating_add(1);
+                }
+                Ok(count)
+            }
+            Err(_) => {
+                self.faults = self.faults.saturating_add(1);
+                Err(WriteFailed)
+            }
+        }
+    }
+}

@@ -1,0 +1,221 @@
+-- The tests of rows that classes make.
+use Rattle.std.proofs.Common.{◌≡◌, ◌⊎◌, ◌↔◌, ◌<◌, ◌+◌, ℕ, zero, suc, true, false, not, List, [], ◌∷◌, ◌++◌, map, length, take, get_or, refl, sym, ap, subst, ◌∙◌, inl, inr, arith}
+use Rattle.std.specs.Str.{bytes_eq}
+use Rattle.std.proofs.lemmas.Bool.{cases_eq, cases_order, not-false, not-true}
+use Rattle.std.proofs.lemmas.Slice.Eq.{bytes_eq-Decides}
+use Rattle.std.proofs.lemmas.List.{map-append, take_more}
+use Rattle.anyk_model.specs.Table.{Table}
+use Rattle.anyk_model.specs.Query.{Query, Item, Column, Equality, of_constant}
+use Rattle.rankings.specs.Order.{IsMember}
+use Rattle.query_bind.specs.Classes.{IsFixedTo, Linked, Passes, row_field}
+use Rattle.query_bind.specs.FilterViews.{constant_shown}
+use Rattle.query_bind.specs.Filters.{HasConstants, HasEqual, HaveConstants, HavePairs, IsFilterOf, ItemFilter, Reaches}
+use Rattle.query_bind.specs.Inside.{IsInside}
+use Rattle.query_bind.specs.Labels.{HasNoPlace, IsFirstPlace, IsLabelling}
+use Rattle.query_bind.specs.Stored.{equality_shown}
+use Rattle.query_bind.specs.declared.bound.BoundEquality.{BoundEquality}
+use Rattle.query_bind.specs.declared.filters.Constant.{Constant}
+use Rattle.query_bind.proofs.Lists.{member-last, member-left, member-map, member-parts, member-unmap}
+use Rattle.query_bind.proofs.Witness.{linked-back}
+
+abbrev column : ℕ → ℕ → Column
+column item place = record { item = item; place = place }
+
+-- ---- pairs
+
+module _ (label : Column → Column) (item : ℕ) where
+  pub pairs-none : HavePairs label item 0 []
+  pairs-none = record { sound = λ v m. absurd m; found = λ q h. absurd (omega (arith, h)) }
+
+  pub pairs-more : (n p : ℕ) (list : List (ℕ × ℕ)) → HavePairs label item n list → IsFirstPlace label item n (label (column item n)) p
+      → HavePairs label item (n + 1) (list ++ (p, n) ∷ [])
+  pairs-more n p list known here = record {
+    sound = λ v m. elim (member-parts v (p, n) list m) [
+      | inl old ↦ known.sound v old
+      | inr e ↦ subst (λ (z : ℕ × ℕ). IsFirstPlace label item z.1 (label (column item z.1)) z.0) (sym e) here
+    ];
+    found = λ q h. elim (cases_eq q n) [
+      | inl e ↦ inr (p, subst (λ (z : ℕ). IsMember (p, z) (list ++ (p, n) ∷ [])) (sym e) (member-last (p, n) list))
+      | inr ne ↦ elim (known.found q (omega (arith, h, ne))) [ inl none ↦ inl none | inr f ↦ inr (f.0, member-left (f.0, q) list ((p, n) ∷ []) f.1) ]
+    ];
+  }
+
+  pub pairs-skip : (n : ℕ) (list : List (ℕ × ℕ)) → HavePairs label item n list → HasNoPlace label item n (label (column item n)) → HavePairs label item (n + 1) list
+  pairs-skip n list known none = record {
+    sound = known.sound;
+    found = λ q h. elim (cases_eq q n) [
+      | inl e ↦ inl (subst (λ (z : ℕ). HasNoPlace label item z (label (column item z))) (sym e) none)
+      | inr ne ↦ known.found q (omega (arith, h, ne))
+    ];
+  }
+
+  -- the first place of a place's class
+  pub record IsRoot (pairs : List (ℕ × ℕ)) (place root : ℕ) : Type 0 where
+    pub reaches : Reaches pairs root place
+    pub labelled : label (column item root) ≡ label (column item place)
+    pub first : (other : ℕ) → other < root → label (column item other) ≡ label (column item place) → ⊥
+
+  pub root-of : (n : ℕ) (pairs : List (ℕ × ℕ)) → HavePairs label item n pairs → (place : ℕ) → place < n → (root : ℕ) × IsRoot pairs place root
+  root-of n pairs known place h = elim (known.found place h) [
+    | inl none ↦ (place, record { reaches = inl refl; labelled = refl; first = none })
+    | inr f ↦ let p = known.sound (f.0, place) f.1 in (f.0, record { reaches = inr f.1; labelled = p.labelled; first = p.first })
+  ]
+
+  pub one-root : (pairs : List (ℕ × ℕ)) (a b p q : ℕ) → IsRoot pairs a p → IsRoot pairs b q → label (column item a) ≡ label (column item b) → p ≡ q
+  one-root pairs a b p q x y same = elim (cases_order p q) [
+    | inl e ↦ e
+    | inr (inl l) ↦ absurd (y.first p l (x.labelled ∙ same))
+    | inr (inr g) ↦ absurd (x.first q g (y.labelled ∙ sym same))
+  ]
+
+-- ---- constants
+
+module _ (label : Column → Column) (item width : ℕ) where
+  pub constants-none : HaveConstants label item width [] []
+  constants-none = record { sound = λ v m. absurd m; found = λ e bytes m is. absurd m }
+
+  pub constants-more : (es : List Equality) (e : Equality) (bytes : List ℕ) (p : ℕ) (list : List (ℕ × List ℕ)) → HaveConstants label item width es list
+      → e.right ≡ of_constant bytes → IsFirstPlace label item width (label e.left) p → HaveConstants label item width (es ++ e ∷ []) (list ++ (p, bytes) ∷ [])
+  constants-more es e bytes p list known is here = record {
+    sound = λ v m. elim (member-parts v (p, bytes) list m) [
+      | inl old ↦ let k = known.sound v old in (k.0, member-left k.0 es (e ∷ []) k.1, k.2, k.3)
+      | inr at ↦
+          let own : (q : Equality) × IsMember q (es ++ e ∷ []) × (q.right ≡ of_constant bytes) × IsFirstPlace label item width (label q.left) p =
+          (e, member-last e es, is, here) in
+          subst (λ (z : ℕ × List ℕ). (q : Equality) × IsMember q (es ++ e ∷ []) × (q.right ≡ of_constant z.1) × IsFirstPlace label item width (label q.left) z.0) (sym at) own
+    ];
+    found = λ q b m at. elim (member-parts q e es m) [
+      | inl old ↦ elim (known.found q b old at) [ inl none ↦ inl none | inr k ↦ inr (k.0, member-left (k.0, b) list ((p, bytes) ∷ []) k.1, k.2) ]
+      | inr new ↦
+          let sides : of_constant b ≡ of_constant bytes = sym at ∙ ap (λ (z : Equality). z.right) new ∙ is in
+          let same : b ≡ bytes = cc in
+          inr (
+            p,
+            subst (λ (z : List ℕ). IsMember (p, z) (list ++ (p, bytes) ∷ [])) (sym same) (member-last (p, bytes) list),
+            subst (λ (z : Equality). IsFirstPlace label item width (label z.left) p) (sym new) here,
+          )
+    ];
+  }
+
+  pub constants-skip : (es : List Equality) (e : Equality) (list : List (ℕ × List ℕ)) → HaveConstants label item width es list
+      → ((bytes : List ℕ) → e.right ≡ of_constant bytes → HasNoPlace label item width (label e.left)) → HaveConstants label item width (es ++ e ∷ []) list
+  constants-skip es e list known none = record {
+    sound = λ v m. let k = known.sound v m in (k.0, member-left k.0 es (e ∷ []) k.1, k.2, k.3);
+    found = λ q b m at. elim (member-parts q e es m) [
+      | inl old ↦ known.found q b old at
+      | inr new ↦ inl (subst (λ (z : Equality). HasNoPlace label item width (label z.left)) (sym new) (none b (sym (ap (λ (z : Equality). z.right) new) ∙ at)))
+    ];
+  }
+
+-- the first i equalities, and one more
+pub equalities-more : (es : List BoundEquality) (i : ℕ) (e : BoundEquality) → i < length es → e ≡ get_or es i e
+    → map equality_shown (take i es) ++ equality_shown e ∷ [] ≡ map equality_shown (take (i + 1) es)
+equalities-more es i e h is =
+    let more : take (i + 1) es ≡ take i es ++ e ∷ [] = take_more es i e h ∙ ap (λ (z : BoundEquality). take i es ++ z ∷ []) (sym is) in
+    sym (ap (map equality_shown) more ∙ map-append equality_shown (take i es) (e ∷ []))
+
+-- ---- the filter of an item
+
+module _ (tables : List Table) (items : List Item) (es : List Equality) (inside : (c d : Column) → Linked es c d → (c ≡ d) ⊎ IsInside tables items c)
+    (there : (e : Equality) → IsMember e es → IsInside tables items e.left)
+    (label : Column → Column) (known : IsLabelling es label) (item width : ℕ) (wide : (place : ℕ) → IsInside tables items (column item place) → place < width) where
+  joined-by : (f : ItemFilter) → HavePairs label item width f.pairs → (a b : ℕ) → Linked es (column item a) (column item b)
+      → (a ≡ b) ⊎ ((first : ℕ) × Reaches f.pairs first a × Reaches f.pairs first b)
+  joined-by f pairs a b link = elim (inside (column item a) (column item b) link) [
+    | inl e ↦ inl (ap (λ (c : Column). c.place) e)
+    | inr ia ↦ elim (inside (column item b) (column item a) (linked-back link)) [
+      | inl e ↦ inl (sym (ap (λ (c : Column). c.place) e))
+      | inr ib ↦
+          let x = root-of label item width f.pairs pairs a (wide a ia) in
+          let y = root-of label item width f.pairs pairs b (wide b ib) in
+          let one : x.0 ≡ y.0 = one-root label item f.pairs a b x.0 y.0 x.1 y.1 (known.complete (column item a) (column item b) link) in
+          inr (x.0, x.1.reaches, subst (λ (z : ℕ). Reaches f.pairs z b) (sym one) y.1.reaches)
+    ]
+  ]
+
+  fixed-inside : (a : ℕ) (bytes : List ℕ) → IsFixedTo es (column item a) bytes → IsInside tables items (column item a)
+  fixed-inside a bytes f = elim (inside (column item a) f.equality.left f.linked) [
+    | inl e ↦ subst (λ (c : Column). IsInside tables items c) (sym e) (there f.equality f.member)
+    | inr h ↦ h
+  ]
+
+  constants-by : (f : ItemFilter) → HavePairs label item width f.pairs → HaveConstants label item width es f.constants → (a : ℕ) (bytes : List ℕ)
+      → IsFixedTo es (column item a) bytes → (first : ℕ) × Reaches f.pairs first a × IsMember (first, bytes) f.constants
+  constants-by f pairs constants a bytes k =
+      let h : a < width = wide a (fixed-inside a bytes k) in
+      let same : label (column item a) ≡ label k.equality.left = known.complete (column item a) k.equality.left k.linked in
+      elim (constants.found k.equality bytes k.member k.constant) [
+        | inl none ↦ absurd (none a h same)
+        | inr p ↦
+            let x = root-of label item width f.pairs pairs a h in
+            let own : IsRoot label item f.pairs p.0 p.0 = record {
+              reaches = inl refl;
+              labelled = refl;
+              first = λ other less is. p.2.first other less (is ∙ p.2.labelled);
+            } in
+            let one : x.0 ≡ p.0 = one-root label item f.pairs a p.0 x.0 p.0 x.1 own (same ∙ sym p.2.labelled) in
+            (p.0, subst (λ (z : ℕ). Reaches f.pairs z a) one x.1.reaches, p.1)
+      ]
+
+  pub filter-of : (f : ItemFilter) → HavePairs label item width f.pairs → HaveConstants label item width es f.constants → IsFilterOf es item f
+  filter-of f pairs constants = record {
+    apart = λ v m. (pairs.sound v m).inside;
+    linked = λ v m. known.sound (column item v.0) (column item v.1) (pairs.sound v m).labelled;
+    joined = joined-by f pairs;
+    fixed = λ v m. let k = constants.sound v m in record {
+      equality = k.0;
+      member = k.1;
+      constant = k.2;
+      linked = known.sound (column item v.0) k.0.left k.3.labelled;
+    };
+    constants = constants-by f pairs constants;
+  }
+
+-- ---- what the tests decide
+
+module _ (query : Query) (tables : List Table) (item row : ℕ) (f : ItemFilter) (known : IsFilterOf query.equalities item f) where
+  abbrev field : ℕ → List ℕ
+  field = row_field query tables item row
+
+  reached : HasEqual field f.pairs → (first place : ℕ) → Reaches f.pairs first place → field first ≡ field place
+  reached h first place (inl e) = ap field e
+  reached h first place (inr m) = h (first, place) m
+
+  -- a row that has equal fields in pairs and the constants passes
+  stands-passes : HasEqual field f.pairs → HasConstants field f.constants → Passes query tables item row
+  stands-passes h k = record {
+    equal = λ a b link. elim (known.joined a b link) [
+      | inl e ↦ ap field e
+      | inr p ↦ sym (reached h p.0 a p.1) ∙ reached h p.0 b p.2
+    ];
+    constant = λ a bytes fixed. let p = known.constants a bytes fixed in sym (reached h p.0 a p.1) ∙ k (p.0, bytes) p.2;
+  }
+
+  pub passes-iff : (HasEqual field f.pairs × HasConstants field f.constants) ↔ Passes query tables item row
+  passes-iff = (
+    λ h. stands-passes h.0 h.1,
+    λ p. (λ v m. p.equal v.0 v.1 (known.linked v m), λ v m. p.constant v.0 v.1 (known.fixed v m)),
+  )
+
+-- ---- stored tests
+
+pub texts-differ : (a b : List ℕ) → not (bytes_eq a b) ≡ true → a ≡ b → ⊥
+texts-differ a b h e =
+    let t : true ≡ false = sym ((bytes_eq-Decides a b).1 e) ∙ not-true (bytes_eq a b) h in
+    absurd (cc)
+
+pub texts-same : (a b : List ℕ) → not (bytes_eq a b) ≡ false → a ≡ b
+texts-same a b h = (bytes_eq-Decides a b).0 (not-false (bytes_eq a b) h)
+
+pub constants-each : (field : ℕ → List ℕ) (xs : List Constant) → ((y : Constant) → IsMember y xs → field y.place ≡ y.bytes) → HasConstants field (map constant_shown xs)
+constants-each field xs h v m =
+    let p = member-unmap constant_shown v xs m in
+    subst (λ (z : ℕ × List ℕ). field z.0 ≡ z.1) (sym p.2) (h p.0 p.1)
+
+pub constants-one : (field : ℕ → List ℕ) (xs : List Constant) → HasConstants field (map constant_shown xs) → (y : Constant) → IsMember y xs → field y.place ≡ y.bytes
+constants-one field xs h y m = h (constant_shown y) (member-map constant_shown y xs m)
+
+pub at-any : {A : Type 0} (xs : List A) (i : ℕ) (d e : A) → i < length xs → get_or xs i d ≡ get_or xs i e
+at-any [] i d e h = absurd (omega arith)
+at-any (x ∷ xs) zero d e h = refl
+at-any (x ∷ xs) (suc i) d e h = at-any xs i d e (omega (arith, h))

@@ -1,0 +1,50 @@
+use Rattle.std.proofs.Common.{◌≡◌, ◌+◌, ◌∙◌, sym, ap, subst, map, take, ◌++◌, ◌∷◌, [], ℕ, List}
+use Rattle.std.proofs.lemmas.List.{map-append}
+use Rattle.anyk_model.specs.Query.{Column, Equality, of_column, of_constant}
+use Rattle.query_bind.specs.FilterViews.{constant_shown}
+use Rattle.query_bind.specs.Filters.{HaveConstants}
+use Rattle.query_bind.specs.Labels.{HasNoPlace, IsFirstPlace, least_in}
+use Rattle.query_bind.specs.Stored.{column_shown, equality_shown, side_shown}
+use Rattle.query_bind.proofs.Filtering.{constants-more, constants-skip, equalities-more}
+use Rattle.query_bind.proofs.filters.constants_of.Goals as goal
+
+pub loop-equality-preserved-in_default : goal.loop-equality-preserved-in_default
+loop-equality-preserved-in_default c =
+    let label = least_in c.args.classes.now in
+    let i = c.loop-equality.equality-index in
+    let es = c.args.equalities.now in
+    let e = c.equality-item.result in
+    let list = map constant_shown c.loop-equality.constants.items in
+    let column : side_shown e.right ≡ of_column (column_shown c.in_default.field-0) = ap side_shown c.in_default.is in
+    subst (λ (l : List Equality). HaveConstants label c.args.item c.args.width l list) (equalities-more es i e c.loop-equality-test.true c.equality-item.is)
+    (constants-skip label c.args.item c.args.width (map equality_shown (take i es)) (equality_shown e) list c.loop-equality.invariant
+    (λ bytes is. absurd (let clash : of_column (column_shown c.in_default.field-0) ≡ of_constant bytes = sym column ∙ is in cc)))
+
+pub loop-equality-preserved-in_default-first_place : goal.loop-equality-preserved-in_default-first_place
+loop-equality-preserved-in_default-first_place c =
+    let label = least_in c.args.classes.now in
+    let i = c.loop-equality.equality-index in
+    let es = c.args.equalities.now in
+    let e = c.equality-item.result in
+    let list = map constant_shown c.loop-equality.constants.items in
+    let none = subst (λ (z : Column). HasNoPlace label c.args.item c.args.width z) c.least_of-least.ensures c.in_default-first_place.ensures in
+    subst (λ (l : List Equality). HaveConstants label c.args.item c.args.width l list) (equalities-more es i e c.loop-equality-test.true c.equality-item.is)
+    (constants-skip label c.args.item c.args.width (map equality_shown (take i es)) (equality_shown e) list c.loop-equality.invariant (λ bytes is. none))
+
+pub loop-equality-preserved : goal.loop-equality-preserved
+loop-equality-preserved c =
+    let label = least_in c.args.classes.now in
+    let i = c.loop-equality.equality-index in
+    let es = c.args.equalities.now in
+    let e = c.equality-item.result in
+    let list = map constant_shown c.loop-equality.constants.items in
+    let p = c.in-Some.place in
+    let bytes = c.from_vec-bytes.result in
+    let copied : bytes ≡ c.in-Constant.bytes = c.from_vec-bytes.ensures ∙ c.in_ok-from_slice.ensures.items ∙ c.bytes.ensures in
+    let constant : side_shown e.right ≡ of_constant bytes = ap side_shown c.in-Constant.is ∙ ap of_constant (sym copied) in
+    let here = subst (λ (z : Column). IsFirstPlace label c.args.item c.args.width z p) c.least_of-least.ensures c.in-Some.ensures in
+    let pushed : map constant_shown c.push.new.self.items ≡ list ++ (p, bytes) ∷ [] =
+    ap (map constant_shown) c.in_ok-push.ensures.items ∙ map-append constant_shown c.loop-equality.constants.items (record { place = p; bytes = bytes } ∷ []) in
+    subst (λ (l : List (ℕ × List ℕ)). HaveConstants label c.args.item c.args.width (map equality_shown (take (i + 1) es)) l) (sym pushed)
+    (subst (λ (l : List Equality). HaveConstants label c.args.item c.args.width l (list ++ (p, bytes) ∷ [])) (equalities-more es i e c.loop-equality-test.true c.equality-item.is)
+    (constants-more label c.args.item c.args.width (map equality_shown (take i es)) (equality_shown e) bytes p list c.loop-equality.invariant constant here))

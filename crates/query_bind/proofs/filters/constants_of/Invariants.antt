@@ -1,0 +1,10 @@
+use Rattle.std.proofs.Common.{map, take}
+use Rattle.query_bind.specs.FilterViews.{constant_shown}
+use Rattle.query_bind.specs.Filters.{HaveConstants}
+use Rattle.query_bind.specs.Labels.{least_in}
+use Rattle.query_bind.specs.Stored.{equality_shown}
+use Rattle.query_bind.proofs.filters.constants_of.Given as goal
+
+abbrev pub invariant-loop-equality : goal.invariant-loop-equality
+invariant-loop-equality l =
+    HaveConstants (least_in l.classes) l.item l.width (map equality_shown (take l.equality-index l.equalities)) (map constant_shown l.constants.items)

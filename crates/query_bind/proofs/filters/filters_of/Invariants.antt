@@ -1,0 +1,8 @@
+use Rattle.std.proofs.Common.{map}
+use Rattle.query_bind.specs.FilterViews.{HaveFilters, filter_shown}
+use Rattle.query_bind.specs.Labels.{least_in}
+use Rattle.query_bind.specs.Stored.{equality_shown, items_shown}
+use Rattle.query_bind.proofs.filters.filters_of.Given as goal
+
+abbrev pub invariant-loop-i : goal.invariant-loop-i
+invariant-loop-i l = HaveFilters (least_in l.classes) (map equality_shown l.equalities) l.tables (items_shown l.items) l.i (map filter_shown l.filters.items)

@@ -1,0 +1,19 @@
+-- The first reference in the order of the text that means no column.
+use Rattle.std.specs.Prelude.{◌≡◌, ◌<◌, List, Some, None}
+use Rattle.query_parse.specs.declared.select.ColumnRef.{ColumnRef}
+use Rattle.anyk_model.specs.Table.{Table}
+use Rattle.anyk_model.specs.Query.{Item}
+use Rattle.rankings.specs.Order.{IsAscending, IsMember}
+use Rattle.query_bind.specs.declared.fault.BindFault.{BindFault}
+use Rattle.query_bind.specs.Names.{ref_fault}
+
+-- the offsets of references ascend, as they do where a text was parsed
+abbrev pub AreInTextOrder : List ColumnRef → Type 0
+AreInTextOrder refs = IsAscending (λ (a b : ColumnRef). a.at < b.at) refs
+
+-- the fault is that of a reference, and none that stands before it in the text has one
+pub record IsFirstFailing (tables : List Table) (items : List Item) (refs : List ColumnRef) (e : BindFault) : Type 0 where
+  pub ref : ColumnRef
+  pub member : IsMember ref refs
+  pub fails : ref_fault tables items ref ≡ Some e
+  pub earlier : (other : ColumnRef) → IsMember other refs → other.at < ref.at → ref_fault tables items other ≡ None

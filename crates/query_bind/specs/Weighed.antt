@@ -1,0 +1,50 @@
+-- A bound query with what its rows add to the order keys.
+use Rattle.std.specs.Prelude.{◌≡◌, ◌<◌, ◌≤◌, ℕ, List, [], map, length, get_or, None, ℤ}
+use Rattle.std.specs.List.{range_with_len}
+use Rattle.anyk_model.specs.Table.{Table}
+use Rattle.anyk_model.specs.Query.{Query, Item, Column, OrderKey}
+use Rattle.query_bind.specs.Classes.{AreVariables, AreVariablesOf}
+use Rattle.query_bind.specs.Filters.{IsFilterOf, ItemFilter, filter_at}
+use Rattle.query_bind.specs.Inside.{IsWithin}
+use Rattle.query_bind.specs.Parts.{numbers_of}
+use Rattle.query_bind.specs.Weights.{cap_of, part_of, range_fault, table_in, weights_fault}
+
+-- of a key: the cap of each item, and what each of its rows adds
+pub record KeyWeights : Type 0 where
+  pub caps : List ℕ
+  pub parts : List (List ℤ)
+
+-- its variables: of each the least column, and of each item its variables by number, each with its least column there; and what the rows of each item are tested by
+pub record BoundQuery : Type 0 where
+  pub query : Query
+  pub weighed : List KeyWeights
+  pub variables : List Column
+  pub lists : List (List (ℕ × ℕ))
+  pub filters : List ItemFilter
+
+-- the variables of an item
+abbrev pub variables_at : List (List (ℕ × ℕ)) → ℕ → List (ℕ × ℕ)
+variables_at lists item = get_or lists item []
+
+-- what the rows of an item add to a key
+abbrev pub row_parts : List Table → List Item → OrderKey → ℕ → List ℤ
+row_parts tables items key item = map (λ row. part_of tables items item row key) (range_with_len 1 (length (table_in tables items item).rows))
+
+abbrev pub key_weights : List Table → List Item → OrderKey → KeyWeights
+key_weights tables items key = record {
+  caps = map (λ i. cap_of tables items i key) (numbers_of items);
+  parts = map (row_parts tables items key) (numbers_of items);
+}
+
+-- the query was bound to these tables
+pub record Fits (bound : BoundQuery) (tables : List Table) : Type 0 where
+  pub within : IsWithin bound.query tables
+  pub weights : weights_fault tables bound.query.items bound.query.order ≡ None
+  pub range : range_fault tables bound.query.items bound.query.order ≡ None
+  pub weighed : bound.weighed ≡ map (key_weights tables bound.query.items) bound.query.order
+  pub variables : AreVariables bound.query.equalities bound.variables
+  pub few : length bound.variables ≤ 1024
+  pub listed : length bound.lists ≡ length bound.query.items
+  pub lists : (item : ℕ) → item < length bound.query.items → AreVariablesOf bound.query.equalities bound.variables item (variables_at bound.lists item)
+  pub filtered : length bound.filters ≡ length bound.query.items
+  pub filters : (item : ℕ) → item < length bound.query.items → IsFilterOf bound.query.equalities item (filter_at bound.filters item)

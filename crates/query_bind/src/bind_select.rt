@@ -1,0 +1,150 @@
+//! Binding a select to tables.
+ghost use Rattle.std.specs.Prelude.{◌≡◌, ◌<◌, ◌≤◌, length, map, IfOk, OnOk, IfErr, None};
+ghost use Rattle.std.specs.List.{AllByRecursion};
+ghost use Rattle.query_bind.specs.Answers.{Tells};
+ghost use Rattle.query_bind.specs.Bind.{bind_fault};
+ghost use Rattle.query_bind.specs.Binding.{bound_query};
+ghost use Rattle.query_bind.specs.Inside.{IsWithin};
+ghost use Rattle.query_bind.specs.Names.{items_of, names_fault, or_else};
+ghost use Rattle.query_bind.specs.FilterViews.{HasFilters, filter_shown};
+ghost use Rattle.query_bind.specs.Labels.{IsLabelling, least_in};
+ghost use Rattle.query_bind.specs.Stored.{column_shown};
+ghost use Rattle.query_bind.specs.Variables.{HasVariables, lists_shown};
+ghost use Rattle.query_bind.specs.Weighed.{Fits, key_weights};
+ghost use Rattle.query_bind.specs.WeighedView.{weighed_shown};
+ghost use Rattle.query_bind.specs.Weights.{range_fault, weights_fault};
+
+use crate::binding::{all_columns, bind_equalities, bind_items, bind_keys, bind_list};
+use crate::bound::Weighed;
+use crate::classes::Member;
+use crate::fault::BindFault;
+use crate::filters::{Filter, filters_of};
+use crate::query::Query;
+use crate::selection::Selection;
+use crate::variables::{Variables, find_variables, places_of_all};
+use crate::weighing::{check_weights, weigh};
+use csv_tables::Tables;
+use query_parse::select::Select;
+use std::alloc::{AllocError, Global};
+
+/// The query with a column for each reference, before its weights are looked at.
+fn bind_names(
+    alloc: Global,
+    select: &Select,
+    tables: &Tables,
+    which: &[u32],
+) -> Result<Selection, BindFault>
+    requires items { length select.now.items ≤ 16 }
+    requires keys { length select.now.keys ≤ 8 }
+    requires tables { length which.now ≡ length select.now.items }
+    requires known { AllByRecursion (λ t. t < length tables.now) which.now }
+    ensures query { IfOk result (λ q. q ≡ bound_query select.now tables.now which.now) }
+    ensures within { IfOk result (λ q. IsWithin q tables.now) }
+    ensures sound { OnOk result (names_fault tables.now (items_of select.now.items which.now) select.now ≡ None) }
+    ensures fault { IfErr result (Tells (names_fault tables.now (items_of select.now.items which.now) select.now)) }
+{
+    let items = bind_items(alloc, select.items.as_slice(), which)?;
+    let list = bind_list(alloc, items.as_slice(), tables, &select.list)?;
+    let equalities = bind_equalities(
+        alloc,
+        items.as_slice(),
+        tables,
+        select.equalities.as_slice(),
+    )?;
+    let keys = bind_keys(alloc, items.as_slice(), tables, select.keys.as_slice())?;
+    let limit = select.limit;
+    Ok(Selection {
+        items,
+        equalities,
+        keys,
+        list,
+        limit,
+    })
+}
+
+/// What the rows add to the keys of a query, where its columns hold weights whose sums fit.
+fn weigh_selection(
+    alloc: Global,
+    selection: &Selection,
+    tables: &Tables,
+) -> Result<Vec<Weighed>, BindFault>
+    requires { IsWithin selection.now tables.now }
+    ensures weighed { IfOk result (λ v. map weighed_shown v.items ≡ map (key_weights tables.now selection.now.items) selection.now.order) }
+    ensures weights { OnOk result (weights_fault tables.now selection.now.items selection.now.order ≡ None) }
+    ensures range { OnOk result (range_fault tables.now selection.now.items selection.now.order ≡ None) }
+    ensures fault { IfErr result (Tells (or_else (weights_fault tables.now selection.now.items selection.now.order)
+        (range_fault tables.now selection.now.items selection.now.order))) }
+{
+    let _tables = tables.count();
+    let items = selection.items.as_slice();
+    let keys = selection.keys.as_slice();
+    check_weights(items, tables, keys)?;
+    let weighed = weigh(alloc, items, tables, keys)?;
+    Ok(weighed)
+}
+
+/// The variables of a query, and those of each of its items.
+fn find_structure(
+    alloc: Global,
+    selection: &Selection,
+    tables: &Tables,
+    classes: &[Member],
+) -> Result<Variables, AllocError>
+    requires within { IsWithin selection.now tables.now }
+    requires known { IsLabelling selection.now.equalities (least_in classes.now) }
+    ensures { IfOk result (λ v. HasVariables selection.now (map column_shown v.least.items) (lists_shown v.of_items.items)) }
+{
+    let _tables = tables.count();
+    let items = selection.items.as_slice();
+    let equalities = selection.equalities.as_slice();
+    let columns = all_columns(alloc, items, tables)?;
+    let least = find_variables(alloc, classes, equalities, columns.as_slice())?;
+    let of_items = places_of_all(alloc, classes, least.as_slice(), items, tables)?;
+    Ok(Variables { least, of_items })
+}
+
+/// What the rows of each item are tested by.
+fn find_filters(
+    alloc: Global,
+    selection: &Selection,
+    tables: &Tables,
+    classes: &[Member],
+) -> Result<Vec<Filter>, AllocError>
+    requires within { IsWithin selection.now tables.now }
+    requires known { IsLabelling selection.now.equalities (least_in classes.now) }
+    ensures { IfOk result (λ v. HasFilters selection.now (map filter_shown v.items)) }
+{
+    let _tables = tables.count();
+    let items = selection.items.as_slice();
+    let equalities = selection.equalities.as_slice();
+    filters_of(alloc, classes, equalities, items, tables)
+}
+
+/// The query that a select means over tables, of which `which` has one for each item.
+pub fn bind(
+    alloc: Global,
+    select: &Select,
+    tables: &Tables,
+    which: &[u32],
+) -> Result<Query, BindFault>
+    requires items { length select.now.items ≤ 16 }
+    requires keys { length select.now.keys ≤ 8 }
+    requires tables { length which.now ≡ length select.now.items }
+    requires known { AllByRecursion (λ t. t < length tables.now) which.now }
+    ensures query { IfOk result (λ q. q.query ≡ bound_query select.now tables.now which.now) }
+    ensures fits { IfOk result (λ q. Fits q tables.now) }
+    ensures sound { OnOk result (bind_fault select.now tables.now which.now ≡ None) }
+    ensures fault { IfErr result (Tells (bind_fault select.now tables.now which.now)) }
+{
+    let selection = bind_names(alloc, select, tables, which)?;
+    let weighed = weigh_selection(alloc, &selection, tables)?;
+    let classes = selection.classes(alloc)?;
+    let variables = find_structure(alloc, &selection, tables, classes.as_slice())?;
+    let filters = find_filters(alloc, &selection, tables, classes.as_slice())?;
+    Ok(Query {
+        selection,
+        weighed,
+        variables,
+        filters,
+    })
+}

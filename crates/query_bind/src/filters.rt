@@ -1,0 +1,158 @@
+//! What the rows of an item are tested by, so that only those that pass are taken.
+ghost use Rattle.std.specs.Prelude.{◌≡◌, ◌≤◌, ◌<◌, ◌-◌, ◌↔◌, length, map, IfOk, IsTrue};
+ghost use Rattle.std.specs.List.{AllByRecursion};
+ghost use Rattle.query_bind.specs.declared.bound.BoundItem.{BoundItem};
+ghost use Rattle.anyk_model.specs.Table.{field_at, table_at};
+ghost use Rattle.query_bind.specs.Filters.{HasConstants, HasEqual, HaveConstants, HavePairs};
+ghost use Rattle.query_bind.specs.FilterViews.{HaveFilters, constant_shown, filter_shown};
+ghost use Rattle.query_bind.specs.Labels.{least_in};
+ghost use Rattle.query_bind.specs.Stored.{equality_shown, items_shown};
+
+use crate::bound::{BoundEquality, BoundItem, BoundSide};
+use crate::classes::{Member, first_place, least_of};
+use csv_tables::Tables;
+use query_parse::name::Bytes;
+use std::alloc::{AllocError, Global};
+
+/// A place of an item, and the constant that it is to have.
+#[derive(Drop)]
+pub(crate) struct Constant {
+    place: u32,
+    bytes: Bytes,
+}
+
+/// The tests of an item's rows: places that are to be equal, and constants that places are to have.
+#[derive(Drop)]
+pub(crate) struct Filter {
+    pairs: Vec<(u32, u32)>,
+    constants: Vec<Constant>,
+}
+
+/// Each place of an item with the first one that is of its class, where that is another one.
+fn pairs_of(
+    alloc: Global,
+    classes: &[Member],
+    item: u32,
+    width: u32,
+) -> Result<Vec<(u32, u32)>, AllocError>
+    ensures { IfOk result (λ v. HavePairs (least_in classes.now) item width v.items) }
+{
+    let mut pairs = Vec::new(alloc);
+    for place in 0..width {
+        let least = least_of(classes, (item, place));
+        let Some(first) = first_place(classes, item, place, least) else {
+            continue;
+        };
+        pairs.push((first, place))?;
+    }
+    Ok(pairs)
+}
+
+/// The constants that equalities give to the columns of an item.
+fn constants_of(
+    alloc: Global,
+    classes: &[Member],
+    equalities: &[BoundEquality],
+    item: u32,
+    width: u32,
+) -> Result<Vec<Constant>, AllocError>
+    ensures { IfOk result (λ v. HaveConstants (least_in classes.now) item width (map equality_shown equalities.now) (map constant_shown v.items)) }
+{
+    let mut constants = Vec::new(alloc);
+    for equality in equalities {
+        let BoundSide::Constant(bytes) = &equality.right else {
+            continue;
+        };
+        let least = least_of(classes, equality.left);
+        let Some(place) = first_place(classes, item, width, least) else {
+            continue;
+        };
+        let bytes = Bytes::from_vec(Vec::from_slice(alloc, bytes.bytes())?);
+        constants.push(Constant { place, bytes })?;
+    }
+    Ok(constants)
+}
+
+/// The tests of an item's rows.
+pub(crate) fn filter_of(
+    alloc: Global,
+    classes: &[Member],
+    equalities: &[BoundEquality],
+    item: u32,
+    width: u32,
+) -> Result<Filter, AllocError>
+    ensures pairs { IfOk result (λ f. HavePairs (least_in classes.now) item width (filter_shown f).pairs) }
+    ensures constants { IfOk result (λ f. HaveConstants (least_in classes.now) item width (map equality_shown equalities.now) (filter_shown f).constants) }
+{
+    let pairs = pairs_of(alloc, classes, item, width)?;
+    let constants = constants_of(alloc, classes, equalities, item, width)?;
+    Ok(Filter { pairs, constants })
+}
+
+/// Whether a row has the same bytes in both places of each pair.
+fn has_pairs(pairs: &[(u32, u32)], tables: &Tables, table: u32, row: u32) -> bool
+    requires table { table < length tables.now }
+    requires first { 1 ≤ row }
+    requires row { row ≤ length (table_at tables.now table).rows }
+    requires left { AllByRecursion (λ p. p.0 < length (table_at tables.now table).names) pairs.now }
+    requires right { AllByRecursion (λ p. p.1 < length (table_at tables.now table).names) pairs.now }
+    ensures { IsTrue result ↔ HasEqual (field_at (table_at tables.now table) (row - 1)) pairs.now }
+{
+    for &(first, place) in pairs {
+        if tables.field(table, row, first) != tables.field(table, row, place) {
+            return false;
+        }
+    }
+    true
+}
+
+/// Whether a row has each constant at its place.
+fn has_constants(constants: &[Constant], tables: &Tables, table: u32, row: u32) -> bool
+    requires table { table < length tables.now }
+    requires first { 1 ≤ row }
+    requires row { row ≤ length (table_at tables.now table).rows }
+    requires places { AllByRecursion (λ c. c.place < length (table_at tables.now table).names) constants.now }
+    ensures { IsTrue result ↔ HasConstants (field_at (table_at tables.now table) (row - 1)) (map constant_shown constants.now) }
+{
+    for constant in constants {
+        if tables.field(table, row, constant.place) != constant.bytes.bytes() {
+            return false;
+        }
+    }
+    true
+}
+
+/// The tests of each item's rows.
+pub(crate) fn filters_of(
+    alloc: Global,
+    classes: &[Member],
+    equalities: &[BoundEquality],
+    items: &[BoundItem],
+    tables: &Tables,
+) -> Result<Vec<Filter>, AllocError>
+    requires items { length items.now ≤ 16 }
+    requires known { AllByRecursion (λ (i : BoundItem). i.table < length tables.now) items.now }
+    ensures { IfOk result (λ v. HaveFilters (least_in classes.now) (map equality_shown equalities.now) tables.now (items_shown items.now) (length items.now) (map filter_shown v.items)) }
+{
+    let mut filters = Vec::new(alloc);
+    for i in 0..items.len() {
+        let width = tables.width(items[i].table);
+        filters.push(filter_of(alloc, classes, equalities, i as u32, width)?)?;
+    }
+    Ok(filters)
+}
+
+/// Whether a row stands the tests of its item.
+pub(crate) fn stands(filter: &Filter, tables: &Tables, table: u32, row: u32) -> bool
+    requires table { table < length tables.now }
+    requires first { 1 ≤ row }
+    requires row { row ≤ length (table_at tables.now table).rows }
+    requires left { AllByRecursion (λ p. p.0 < length (table_at tables.now table).names) filter.now.pairs.items }
+    requires right { AllByRecursion (λ p. p.1 < length (table_at tables.now table).names) filter.now.pairs.items }
+    requires places { AllByRecursion (λ c. c.place < length (table_at tables.now table).names) filter.now.constants.items }
+    ensures { IsTrue result ↔ (HasEqual (field_at (table_at tables.now table) (row - 1)) (filter_shown filter.now).pairs
+        × HasConstants (field_at (table_at tables.now table) (row - 1)) (filter_shown filter.now).constants) }
+{
+    has_pairs(filter.pairs.as_slice(), tables, table, row)
+        && has_constants(filter.constants.as_slice(), tables, table, row)
+}

@@ -1,0 +1,167 @@
+//! A bound query, and its readers.
+ghost use Rattle.std.specs.Prelude.{◌≡◌, ◌↔◌, IsTrue, ◌<◌, ◌≤◌, List, length, map, IfOk};
+ghost use Rattle.anyk_model.specs.Table.{Table};
+ghost use Rattle.query_bind.specs.Names.{item_at};
+ghost use Rattle.query_bind.specs.Graph.{IsGraphOf};
+ghost use Rattle.query_bind.specs.Stored.{column_shown, equality_shown};
+ghost use Rattle.query_bind.specs.Classes.{AreVariablesOf, Passes};
+ghost use Rattle.query_bind.specs.Weighed.{Fits, variables_at};
+ghost use Rattle.query_bind.specs.Weights.{cap_of, key_at, part_of, table_in};
+
+use crate::bound::{BoundEquality, Weighed};
+use crate::filters::{Filter, stands};
+use crate::item_sets::item_sets;
+use crate::selection::Selection;
+use crate::variables::Variables;
+use csv_tables::Tables;
+use hyper_graph::Graph;
+use std::alloc::Global;
+use std::marker::Model;
+use step_counter::NoMemory;
+
+/// A query whose names are bound to the columns of tables, and its weights.
+#[derive(Drop)]
+pub struct Query {
+    pub(crate) selection: Selection,
+    pub(crate) weighed: Vec<Weighed>,
+    pub(crate) variables: Variables,
+    pub(crate) filters: Vec<Filter>,
+}
+
+impl Model for Query {
+    ghost use Rattle.query_bind.specs.Weighed.{BoundQuery};
+
+    ghost Value = { BoundQuery };
+
+    ghost use Rattle.query_bind.specs.QueryView.{bound_shown};
+
+    ghost view = { bound_shown };
+}
+
+impl Query {
+    /// How many items there are.
+    pub fn items(&self) -> u32
+        ensures items { result ≡ length self.now.query.items }
+        ensures limit { result ≤ 16 }
+    {
+        self.selection.items()
+    }
+
+    /// How many order keys there are.
+    pub fn keys(&self) -> u32
+        ensures keys { result ≡ length self.now.query.order }
+        ensures limit { result ≤ 8 }
+    {
+        self.selection.keys()
+    }
+
+    /// The most answers that are wanted, where there is a limit.
+    pub fn limit(&self) -> Option<u64>
+        ensures { result ≡ self.now.query.limit }
+    {
+        self.selection.limit()
+    }
+
+    /// The number of an item's table.
+    pub fn table_of(&self, item: u32) -> u32
+        requires { item < length self.now.query.items }
+        ensures { result ≡ (item_at self.now.query.items item).table }
+    {
+        self.selection.table_of(item)
+    }
+
+    /// The name that the query gives an item.
+    pub fn alias(&self, item: u32) -> &[u8]
+        requires { item < length self.now.query.items }
+        ensures { result.now ≡ (item_at self.now.query.items item).alias }
+    {
+        self.selection.alias(item)
+    }
+
+    /// The equalities, each with its columns.
+    pub fn equalities(&self) -> &[BoundEquality]
+        ensures { map equality_shown result.now ≡ self.now.query.equalities }
+    {
+        self.selection.equalities()
+    }
+
+    /// The selected columns, each with its item.
+    pub fn columns(&self) -> &[(u32, u32)]
+        ensures { map column_shown result.now ≡ self.now.query.list }
+    {
+        self.selection.columns()
+    }
+
+    /// Whether an order key descends.
+    pub fn descending(&self, key: u32) -> bool
+        requires { key < length self.now.query.order }
+        ensures { result ≡ (key_at self.now.query.order key).descending }
+    {
+        self.selection.descending(key)
+    }
+
+    /// Whether a row of an item passes: its columns of one class are equal to each other and to each constant of the class. Rows count from 1.
+    pub fn passes(&self, tables: &Tables, item: u32, row: u32) -> bool
+        requires fits { Fits self.now tables.now }
+        requires item { item < length self.now.query.items }
+        requires first { 1 ≤ row }
+        requires row { row ≤ length (table_in tables.now self.now.query.items item).rows }
+        ensures { IsTrue result ↔ Passes self.now.query tables.now item row }
+    {
+        let table = self.selection.table_of(item);
+        stands(&self.filters[item as usize], tables, table, row)
+    }
+
+    /// What a row of an item adds to a key, negated where the order descends. Rows count from 1.
+    pub fn part(&self, _tables: &Tables, item: u32, row: u32, key: u32) -> i128
+        requires fits { Fits self.now _tables.now }
+        requires item { item < length self.now.query.items }
+        requires first { 1 ≤ row }
+        requires row { row ≤ length (table_in _tables.now self.now.query.items item).rows }
+        requires key { key < length self.now.query.order }
+        ensures { result ≡ part_of _tables.now self.now.query.items item row (key_at self.now.query.order key) }
+    {
+        self.weighed[key as usize].parts[item as usize][row as usize - 1]
+    }
+
+    /// The greatest absolute part that the columns of an item allow. The query fits some tables.
+    pub fn cap(&self, item: u32, key: u32) -> u128
+        requires fits { (tables : List Table) × Fits self.now tables }
+        requires item { item < length self.now.query.items }
+        requires key { key < length self.now.query.order }
+        ensures { (tables : List Table) → Fits self.now tables → result ≡ cap_of tables self.now.query.items item (key_at self.now.query.order key) }
+    {
+        self.weighed[key as usize].caps[item as usize]
+    }
+
+    /// How many variables there are. The query fits some tables.
+    pub fn variables(&self) -> u32
+        requires fits { (tables : List Table) × Fits self.now tables }
+        ensures count { result ≡ length self.now.variables }
+        ensures limit { result ≤ 1024 }
+    {
+        self.variables.least.len() as u32
+    }
+
+    /// The variables of an item by number, ascending, each with its least column there. The query fits some tables.
+    pub fn variables_of(&self, item: u32) -> &[(u32, u32)]
+        requires fits { (tables : List Table) × Fits self.now tables }
+        requires item { item < length self.now.query.items }
+        ensures value { result.now ≡ variables_at self.now.lists item }
+        ensures variables { AreVariablesOf self.now.query.equalities self.now.variables item result.now }
+    {
+        self.variables.of_items[item as usize].as_slice()
+    }
+
+    /// The hypergraph: an atom for each item, and for each variable the items that have it. The query fits some tables, and has an item.
+    pub fn graph(&self, alloc: Global) -> Result<Graph, NoMemory>
+        requires fits { (tables : List Table) × Fits self.now tables }
+        requires some { 1 ≤ length self.now.query.items }
+        ensures { IfOk result (λ g. IsGraphOf self.now.query g) }
+    {
+        let atoms = self.items();
+        let count = self.variables();
+        let sets = item_sets(alloc, self.variables.of_items.as_slice(), count)?;
+        Graph::new(alloc, atoms, sets.as_slice())
+    }
+}

@@ -1,0 +1,119 @@
+//! The variables of a query: classes without a constant that have columns in two items.
+ghost use Rattle.std.specs.Prelude.{◌≡◌, ◌<◌, ◌≤◌, ◌^◌, filter, length, map, IfOk};
+ghost use Rattle.std.specs.List.{AllByRecursion};
+ghost use Rattle.query_bind.specs.declared.bound.BoundItem.{BoundItem};
+ghost use Rattle.query_bind.specs.Labels.{least_in};
+ghost use Rattle.query_bind.specs.Stored.{column_shown, equality_shown, items_shown};
+ghost use Rattle.query_bind.specs.Variables.{HavePlaces, HavePlacesEach, lists_shown, is_elsewhere, is_fixed, is_fixing, is_other, is_variable};
+
+use crate::bound::{BoundEquality, BoundItem, BoundSide};
+use crate::classes::{Member, first_place, least_of};
+use csv_tables::Tables;
+use std::alloc::{AllocError, Global};
+
+/// The variables of a query, each by its least column, and the variables of each item by number, each with the place of its first column there.
+#[derive(Drop)]
+pub(crate) struct Variables {
+    pub(crate) least: Vec<(u32, u32)>,
+    pub(crate) of_items: Vec<Vec<(u32, u32)>>,
+}
+
+/// Whether an equality gives a constant to the class with this least column.
+fn fixes(classes: &[Member], least: (u32, u32), equality: &BoundEquality) -> bool
+    ensures { result ≡ is_fixing (least_in classes.now) (column_shown least) (equality_shown equality.now) }
+{
+    match &equality.right {
+        BoundSide::Column(_) => false,
+        BoundSide::Constant(_) => least_of(classes, equality.left) == least,
+    }
+}
+
+/// Whether the class with this least column has a constant.
+fn has_constant(classes: &[Member], equalities: &[BoundEquality], least: (u32, u32)) -> bool
+    ensures { result ≡ is_fixed classes.now equalities.now (column_shown least) }
+{
+    equalities.iter().any(|e| fixes(classes, least, e))
+}
+
+/// Whether a column is of the class with this least column, and in another item.
+fn is_in_other(classes: &[Member], least: (u32, u32), column: (u32, u32)) -> bool
+    ensures { result ≡ is_other (least_in classes.now) (column_shown least) (column_shown column) }
+{
+    least_of(classes, column) == least && column.0 != least.0
+}
+
+/// Whether the class with this least column has columns in another item.
+fn has_other(classes: &[Member], least: (u32, u32)) -> bool
+    ensures { result ≡ is_elsewhere classes.now (column_shown least) }
+{
+    classes
+        .iter()
+        .any(|m| is_in_other(classes, least, m.column))
+}
+
+/// Whether a column is the least of a variable.
+fn starts_variable(classes: &[Member], equalities: &[BoundEquality], column: (u32, u32)) -> bool
+    ensures { result ≡ is_variable classes.now equalities.now (column_shown column) }
+{
+    least_of(classes, column) == column
+        && has_other(classes, column)
+        && !has_constant(classes, equalities, column)
+}
+
+/// The variables, each by its least column, in order.
+pub(crate) fn find_variables(
+    alloc: Global,
+    classes: &[Member],
+    equalities: &[BoundEquality],
+    columns: &[(u32, u32)],
+) -> Result<Vec<(u32, u32)>, AllocError>
+    ensures { IfOk result (λ v. v.items ≡ filter (λ c. is_variable classes.now equalities.now (column_shown c)) columns.now) }
+{
+    columns
+        .iter()
+        .copied()
+        .filter(|c| starts_variable(classes, equalities, *c))
+        .collect(alloc)
+}
+
+/// The variables of an item by number, each with the place of its first column there.
+pub(crate) fn places_of(
+    alloc: Global,
+    classes: &[Member],
+    variables: &[(u32, u32)],
+    item: u32,
+    width: u32,
+) -> Result<Vec<(u32, u32)>, AllocError>
+    requires few { length variables.now < 2 ^ 32 }
+    ensures { IfOk result (λ v. HavePlaces (least_in classes.now) (map column_shown variables.now) item width (length variables.now) v.items) }
+{
+    let mut places = Vec::new(alloc);
+    for number in 0..variables.len() {
+        let Some(place) = first_place(classes, item, width, variables[number]) else {
+            continue;
+        };
+        places.push((number as u32, place))?;
+    }
+    Ok(places)
+}
+
+/// The variables of each item.
+pub(crate) fn places_of_all(
+    alloc: Global,
+    classes: &[Member],
+    variables: &[(u32, u32)],
+    items: &[BoundItem],
+    tables: &Tables,
+) -> Result<Vec<Vec<(u32, u32)>>, AllocError>
+    requires few { length variables.now < 2 ^ 32 }
+    requires items { length items.now ≤ 16 }
+    requires known { AllByRecursion (λ (i : BoundItem). i.table < length tables.now) items.now }
+    ensures { IfOk result (λ v. HavePlacesEach (least_in classes.now) (map column_shown variables.now) tables.now (items_shown items.now) (length items.now) (lists_shown v.items)) }
+{
+    let mut of_items = Vec::new(alloc);
+    for i in 0..items.len() {
+        let width = tables.width(items[i].table);
+        of_items.push(places_of(alloc, classes, variables, i as u32, width)?)?;
+    }
+    Ok(of_items)
+}

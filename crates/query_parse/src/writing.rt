@@ -1,0 +1,281 @@
+//! The canonical text.
+
+ghost use Rattle.std.specs.Prelude.{◌≡◌, ◌++◌, ◌∷◌, [], IfOk, OnOk, codes, decimal, List, ℕ, ◌≤◌, length};
+ghost use Rattle.std.specs.List.{list_all};
+ghost use Rattle.query_parse.specs.Reading.{same};
+ghost use Rattle.query_parse.specs.Tokens.{is_word_byte, kind_of_word};
+ghost use Rattle.query_parse.specs.Parse.{IsParsed};
+ghost use Rattle.query_parse.specs.Same.{ReadsBack};
+ghost use Rattle.query_parse.specs.Text.{is_bare, name_text_of, doubled, column_text, columns_text, list_text, item_text, items_text, constant_text, side_text, equality_text, where_text, first_term_text, term_text, terms_text, key_text, order_text, limit_text, text_of};
+
+use crate::scanner::{begins_word, goes_on_word, word_kind};
+use crate::select::{ColumnRef, Equality, ItemRef, KeyRef, Select, SelectList, Side, Term};
+use crate::token::Kind;
+use std::alloc::{AllocError, Global};
+use step_counter::NoMemory;
+
+fn is_no_keyword(word: &[u8]) -> bool
+    ensures { result ≡ same (kind_of_word word.now) Kind.Name }
+{
+    word_kind(word) == Kind::Name
+}
+
+fn go_on_word(bytes: &[u8]) -> bool
+    ensures { result ≡ list_all is_word_byte bytes.now }
+{
+    bytes.iter().all(|byte| goes_on_word(*byte))
+}
+
+fn is_bare_name(name: &[u8]) -> bool
+    ensures { result ≡ is_bare name.now }
+{
+    match name {
+        [] => false,
+        [first, rest @ ..] => begins_word(*first) && go_on_word(rest) && is_no_keyword(name),
+    }
+}
+
+/// A name as the canonical text writes it: bare where it can be, else between quotes.
+pub fn name_text(alloc: Global, name: &[u8]) -> Result<Vec<u8>, NoMemory>
+    ensures { IfOk result (λ v. v.items ≡ name_text_of name.now) }
+{
+    let mut text = Vec::new(alloc);
+    push_name(&mut text, name)?;
+    Ok(text)
+}
+
+fn push_name(text: &mut Vec<u8>, name: &[u8]) -> Result<(), AllocError>
+    ensures { OnOk result (text.new.items ≡ text.old.items ++ name_text_of name.now) }
+{
+    if is_bare_name(name) {
+        return text.extend_from_slice(name);
+    }
+    text.push(b'"')?;
+    text.extend_from_slice(name)?;
+    text.push(b'"')?;
+    Ok(())
+}
+
+#[tactic(auto, unfolding(crate::specs::Text::column_text))]
+fn push_column(text: &mut Vec<u8>, column: &ColumnRef) -> Result<(), AllocError>
+    ensures { OnOk result (text.new.items ≡ text.old.items ++ column_text column.now) }
+{
+    if let Some(alias) = &column.alias {
+        push_name(text, alias.bytes())?;
+        text.push(b'.')?;
+    }
+    push_name(text, column.column.bytes())
+}
+
+#[tactic(auto, unfolding(crate::specs::Text::columns_text))]
+fn push_columns(text: &mut Vec<u8>, columns: &[ColumnRef]) -> Result<(), AllocError>
+    ensures { OnOk result (text.new.items ≡ text.old.items ++ columns_text columns.now) }
+{
+    let [first, others @ ..] = columns else {
+        return Ok(());
+    };
+    push_column(text, first)?;
+    for column in others {
+        text.extend_from_slice(b", ")?;
+        push_column(text, column)?;
+    }
+    Ok(())
+}
+
+#[tactic(auto, unfolding(crate::specs::Text::list_text))]
+fn push_list(text: &mut Vec<u8>, list: &SelectList) -> Result<(), AllocError>
+    ensures { OnOk result (text.new.items ≡ text.old.items ++ list_text list.now) }
+{
+    match list {
+        SelectList::Star => text.extend_from_slice(b"*"),
+        SelectList::Columns(columns) => push_columns(text, columns.as_slice()),
+    }
+}
+
+#[tactic(auto, unfolding(crate::specs::Text::item_text))]
+fn push_item(text: &mut Vec<u8>, item: &ItemRef) -> Result<(), AllocError>
+    ensures { OnOk result (text.new.items ≡ text.old.items ++ item_text item.now) }
+{
+    push_name(text, item.table.bytes())?;
+    text.extend_from_slice(b" as ")?;
+    push_name(text, item.alias.bytes())
+}
+
+#[tactic(auto, unfolding(crate::specs::Text::items_text))]
+fn push_items(text: &mut Vec<u8>, items: &[ItemRef]) -> Result<(), AllocError>
+    ensures { OnOk result (text.new.items ≡ text.old.items ++ items_text items.now) }
+{
+    let [first, others @ ..] = items else {
+        return Ok(());
+    };
+    push_item(text, first)?;
+    for item in others {
+        text.extend_from_slice(b", ")?;
+        push_item(text, item)?;
+    }
+    Ok(())
+}
+
+fn push_text_byte(text: &mut Vec<u8>, byte: u8) -> Result<(), AllocError>
+    ensures { OnOk result (text.new.items ≡ text.old.items ++ doubled (byte ∷ [])) }
+{
+    if byte == b'\'' {
+        text.push(byte)?;
+    }
+    text.push(byte)?;
+    Ok(())
+}
+
+fn push_doubled(text: &mut Vec<u8>, bytes: &[u8]) -> Result<(), AllocError>
+    ensures { OnOk result (text.new.items ≡ text.old.items ++ doubled bytes.now) }
+{
+    for byte in bytes {
+        push_text_byte(text, *byte)?;
+    }
+    Ok(())
+}
+
+fn push_constant(text: &mut Vec<u8>, bytes: &[u8]) -> Result<(), AllocError>
+    ensures { OnOk result (text.new.items ≡ text.old.items ++ constant_text bytes.now) }
+{
+    text.push(b'\'')?;
+    push_doubled(text, bytes)?;
+    text.push(b'\'')?;
+    Ok(())
+}
+
+#[tactic(auto, unfolding(crate::specs::Text::side_text))]
+fn push_side(text: &mut Vec<u8>, side: &Side) -> Result<(), AllocError>
+    ensures { OnOk result (text.new.items ≡ text.old.items ++ side_text side.now) }
+{
+    match side {
+        Side::Column(column) => push_column(text, column),
+        Side::Constant(bytes) => push_constant(text, bytes.bytes()),
+    }
+}
+
+#[tactic(auto, unfolding(crate::specs::Text::equality_text))]
+fn push_equality(text: &mut Vec<u8>, equality: &Equality) -> Result<(), AllocError>
+    ensures { OnOk result (text.new.items ≡ text.old.items ++ equality_text equality.now) }
+{
+    push_column(text, &equality.left)?;
+    text.extend_from_slice(b" = ")?;
+    push_side(text, &equality.right)
+}
+
+#[tactic(auto, unfolding(crate::specs::Text::where_text))]
+fn push_where(text: &mut Vec<u8>, equalities: &[Equality]) -> Result<(), AllocError>
+    ensures { OnOk result (text.new.items ≡ text.old.items ++ where_text equalities.now) }
+{
+    let [first, others @ ..] = equalities else {
+        return Ok(());
+    };
+    text.extend_from_slice(b" where ")?;
+    push_equality(text, first)?;
+    for equality in others {
+        text.extend_from_slice(b" and ")?;
+        push_equality(text, equality)?;
+    }
+    Ok(())
+}
+
+#[tactic(auto, unfolding(crate::specs::Text::first_term_text))]
+fn push_first_term(text: &mut Vec<u8>, term: &Term) -> Result<(), AllocError>
+    ensures { OnOk result (text.new.items ≡ text.old.items ++ first_term_text term.now) }
+{
+    if term.minus {
+        text.extend_from_slice(b"- ")?;
+    }
+    push_column(text, &term.column)
+}
+
+#[tactic(auto, unfolding(crate::specs::Text::term_text))]
+fn push_term(text: &mut Vec<u8>, term: &Term) -> Result<(), AllocError>
+    ensures { OnOk result (text.new.items ≡ text.old.items ++ term_text term.now) }
+{
+    if term.minus {
+        text.extend_from_slice(b" - ")?;
+    } else {
+        text.extend_from_slice(b" + ")?;
+    }
+    push_column(text, &term.column)
+}
+
+#[tactic(auto, unfolding(crate::specs::Text::terms_text))]
+fn push_terms(text: &mut Vec<u8>, terms: &[Term]) -> Result<(), AllocError>
+    ensures { OnOk result (text.new.items ≡ text.old.items ++ terms_text terms.now) }
+{
+    let [first, others @ ..] = terms else {
+        return Ok(());
+    };
+    push_first_term(text, first)?;
+    for term in others {
+        push_term(text, term)?;
+    }
+    Ok(())
+}
+
+#[tactic(auto, unfolding(crate::specs::Text::key_text))]
+fn push_key(text: &mut Vec<u8>, key: &KeyRef) -> Result<(), AllocError>
+    ensures { OnOk result (text.new.items ≡ text.old.items ++ key_text key.now) }
+{
+    push_terms(text, key.terms.as_slice())?;
+    if key.descending {
+        text.extend_from_slice(b" desc")?;
+    }
+    Ok(())
+}
+
+#[tactic(auto, unfolding(crate::specs::Text::order_text))]
+fn push_order(text: &mut Vec<u8>, keys: &[KeyRef]) -> Result<(), AllocError>
+    ensures { OnOk result (text.new.items ≡ text.old.items ++ order_text keys.now) }
+{
+    let [first, others @ ..] = keys else {
+        return Ok(());
+    };
+    text.extend_from_slice(b" order by ")?;
+    push_key(text, first)?;
+    for key in others {
+        text.extend_from_slice(b", ")?;
+        push_key(text, key)?;
+    }
+    Ok(())
+}
+
+#[tactic(auto, unfolding(crate::specs::Text::limit_text))]
+fn push_limit(alloc: Global, text: &mut Vec<u8>, limit: Option<u64>) -> Result<(), AllocError>
+    ensures { OnOk result (text.new.items ≡ text.old.items ++ limit_text limit) }
+{
+    if let Some(limit) = limit {
+        let digits = limit.to_string(alloc)?;
+        text.extend_from_slice(b" limit ")?;
+        text.extend_from_slice(digits.as_bytes())?;
+    }
+    Ok(())
+}
+
+#[tactic(auto, unfolding(crate::specs::Text::text_of))]
+fn write_select(alloc: Global, select: &Select) -> Result<Vec<u8>, AllocError>
+    ensures { IfOk result (λ v. v.items ≡ text_of select.now) }
+{
+    let mut text = Vec::from_slice(alloc, b"select ")?;
+    push_list(&mut text, &select.list)?;
+    text.extend_from_slice(b" from ")?;
+    push_items(&mut text, select.items.as_slice())?;
+    push_where(&mut text, select.equalities.as_slice())?;
+    push_order(&mut text, select.keys.as_slice())?;
+    push_limit(alloc, &mut text, select.limit)?;
+    Ok(text)
+}
+
+/// The canonical text of a query: keywords in lower case, one space between tokens but none round `.` or before `,`,
+/// names bare where they can be, each item with its alias, all equalities in the where list, constants as strings,
+/// `desc` and no `asc`, and neither `;` nor a line end.
+pub fn text(alloc: Global, select: &Select) -> Result<Vec<u8>, NoMemory>
+    ensures text { IfOk result (λ v. v.items ≡ text_of select.now) }
+    // Where the query was read from some bytes, the text is read as that query again, if it is not too long.
+    ensures reads_back { IfOk result (λ v. (bytes : List ℕ) → IsParsed bytes select.now → length v.items ≤ 65536 → ReadsBack v.items select.now) }
+{
+    let text = write_select(alloc, select)?;
+    Ok(text)
+}

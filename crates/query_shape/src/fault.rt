@@ -1,0 +1,24 @@
+//! Why a query has no shape.
+
+use step_counter::NoMemory;
+
+/// Why a query has no shape.
+#[derive(Clone, Copy, Debug, PartialEq, Eq)]
+pub enum ShapeFault {
+    /// No join tree exists. The items that are left where no ear is left, as bits: item 1 is the lowest.
+    Cyclic(u16),
+    /// The nodes have too many rows, all together.
+    TooManyRows,
+    NoMemory,
+}
+
+impl From<NoMemory> for ShapeFault {
+    ghost use Rattle.std.specs.Prelude.{◌≡◌};
+    ghost use Rattle.query_shape.specs.declared.fault.ShapeFault.TheVariants.{NoMemory};
+
+    ghost from_gives = { λ _ e. e ≡ NoMemory };
+
+    fn from(_error: NoMemory) -> Self {
+        ShapeFault::NoMemory
+    }
+}

@@ -1,0 +1,5 @@
+pub mod BitLemmas
+pub mod KeyOrder
+pub mod KeyParts
+pub mod Places
+pub mod RowKeys

@@ -1,0 +1,71 @@
+-- The items of a core, sent one after the other.
+use Rattle.std.proofs.Common.{◌≡◌, ◌+◌, ◌<◌, ◌≤◌, ℕ, Bool, true, false, cond, if◌then◌else◌, List, [], ◌∷◌, ◌++◌, Option, Ok, Err, map, filter, flat_map, take, get_or, codes, decimal, refl, sym, ap, ◌∙◌, subst, append-nil, arith}
+use Rattle.std.specs.Io.KnownBytes.{Appends}
+use Rattle.std.specs.List.{range_with_len}
+use Rattle.std.proofs.KnownBytes.{Appends-trans}
+use Rattle.std.proofs.lemmas.Grind.{flat_map-append}
+use Rattle.std.proofs.lemmas.List.FromFn.{get_or-range_with_len, length-range_with_len, map-range_with_len_more, take-map-range_with_len}
+use Rattle.refusal_lines.specs.Answer.{spaced}
+use Rattle.refusal_lines.specs.Core.{has_item, item_text, items_below}
+use Rattle.refusal_lines.specs.Sent.{Sent}
+use Rattle.refusal_lines.proofs.Pieces.{Sent-cut}
+
+-- what one place adds, where it is kept or left out
+place-text : (b : Bool) (place : ℕ) (places : List ℕ)
+    → (if b then codes " " ++ decimal (place + 1) else []) ++ spaced (map (λ p. p + 1) places) ≡ spaced (map (λ p. p + 1) (cond b (place ∷ places) places))
+place-text true place places = refl
+place-text false place places = refl
+
+kept-text : (core : ℕ) (places : List ℕ) → flat_map (item_text core) places ≡ spaced (map (λ p. p + 1) (filter (has_item core) places))
+kept-text core [] = refl
+kept-text core (place ∷ places) =
+    ap (λ l. item_text core place ++ l) (kept-text core places) ∙ place-text (has_item core place) place (filter (has_item core) places)
+
+-- the texts of all places are the items with their spaces
+core-text : (core n : ℕ) → flat_map (item_text core) (range_with_len 0 n) ≡ spaced (items_below core n)
+unfolding items_below
+core-text core n = kept-text core (range_with_len 0 n)
+
+same-list : (xs : List ℕ) → map (λ x. x) xs ≡ xs
+same-list [] = refl
+same-list (x ∷ xs) = ap (λ l. x ∷ l) (same-list xs)
+
+range-more : (n : ℕ) → range_with_len 0 (n + 1) ≡ range_with_len 0 n ++ n ∷ []
+range-more n =
+    sym (same-list (range_with_len 0 (n + 1))) ∙ map-range_with_len_more (λ x. x) 0 n n (omega arith) ∙ ap (λ l. l ++ n ∷ []) (same-list (range_with_len 0 n))
+
+range-first : (n k : ℕ) → k ≤ n → take k (range_with_len 0 n) ≡ range_with_len 0 k
+range-first n k few =
+    ap (take k) (sym (same-list (range_with_len 0 n))) ∙ take-map-range_with_len (λ x. x) 0 n k few ∙ same-list (range_with_len 0 k)
+
+-- one place more was sent
+pub places-more : (core place : ℕ) (a b c : Option (List ℕ)) → Appends a b (flat_map (item_text core) (range_with_len 0 place)) → Appends b c (item_text core place)
+    → Appends a c (flat_map (item_text core) (range_with_len 0 (place + 1)))
+places-more core place a b c before here =
+    subst (λ text. Appends a c text)
+    (sym (ap (flat_map (item_text core)) (range-more place) ∙ flat_map-append (item_text core) (range_with_len 0 place) (place ∷ [])
+    ∙ ap (λ l. flat_map (item_text core) (range_with_len 0 place) ++ l) (append-nil (item_text core place))))
+    (Appends-trans a b c _ _ before here)
+
+-- all places were sent
+pub places-sent : {E : Type 0} (core place count : ℕ) (a b : Option (List ℕ)) (m n : ℕ) → place ≡ count → Appends a b (flat_map (item_text core) (range_with_len 0 place)) → m ≤ n
+    → Sent {E = E} a b m n (spaced (items_below core count)) (Ok tt)
+places-sent core place count a b m n all sent later =
+    let whole : Appends a b (spaced (items_below core count)) = subst (λ text. Appends a b text) (core-text core place ∙ ap (λ p. spaced (items_below core p)) all) sent in
+    record {
+      whole = whole;
+      prefix = (spaced (items_below core count), whole, ([], sym (append-nil (spaced (items_below core count)))));
+      cause = tt;
+      later = later;
+    }
+
+-- the text of one place was cut short
+pub places-cut : {E : Type 0} (core place count : ℕ) (a b c : Option (List ℕ)) (m n k : ℕ) (e : E) → place < count
+    → Appends a b (flat_map (item_text core) (range_with_len 0 place)) → m ≤ n → Sent b c n k (item_text core place) (Err e)
+    → Sent a c m k (spaced (items_below core count)) (Err e)
+places-cut core place count a b c m n k e inside before earlier cut =
+    let first : take place (range_with_len 0 count) ≡ range_with_len 0 place = range-first count place (omega arith) in
+    let here : get_or (range_with_len 0 count) place 0 ≡ place = get_or-range_with_len 0 count place 0 inside ∙ omega arith in
+    subst (λ text. Sent a c m k text (Err e)) (core-text core count)
+    (Sent-cut (item_text core) a b c m n k (range_with_len 0 count) place 0 e (subst (λ l. Appends a b (flat_map (item_text core) l)) (sym first) before) earlier
+    (omega (arith, length-range_with_len 0 count, inside)) (subst (λ p. Sent b c n k (item_text core p) (Err e)) (sym here) cut))

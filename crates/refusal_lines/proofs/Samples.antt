@@ -1,0 +1,29 @@
+-- Lines, computed.
+use Rattle.std.proofs.Common.{◌≡◌, ◌∷◌, [], codes, refl}
+use Rattle.std.specs.Fmt.{digits}
+use Rattle.refusal_lines.specs.Answer.{BadWeight, Cyclic, DuplicateName, LimitRange, line_of}
+use Rattle.refusal_lines.specs.Core.{items_below, items_of}
+
+triangle : items_of 7 ≡ 1 ∷ 2 ∷ 3 ∷ []
+unfolding items_below
+triangle = refl
+
+some_items : items_of 32788 ≡ 3 ∷ 5 ∷ 16 ∷ []
+unfolding items_below
+some_items = refl
+
+cyclic_line : line_of (Cyclic (1 ∷ 2 ∷ 16 ∷ [])) ≡ codes "anyk: cyclic query: items 1 2 16\n"
+unfolding digits
+cyclic_line = refl
+
+weight_line : line_of (BadWeight 1 2 3) ≡ codes "anyk: item 1: row 2: column 3: not a weight\n"
+unfolding digits
+weight_line = refl
+
+name_line : line_of (DuplicateName (codes "R") 2) ≡ codes "anyk: table R: column 2: name used twice\n"
+unfolding digits
+name_line = refl
+
+limit_line : line_of (LimitRange 24) ≡ codes "anyk: limit at byte 24 out of range\n"
+unfolding digits
+limit_line = refl

@@ -1,0 +1,123 @@
+-- The answers of the program but success, each with its status and its line. Items, keys, columns, rows and lines count from 1.
+use Rattle.std.specs.Prelude.{ℕ, List, ◌++◌, codes, decimal}
+use Rattle.std.specs.List.{flat_map}
+
+pub data Answer : Type 0 where
+  Usage : Answer
+  Syntax : (at : ℕ) → Answer
+  BadLine : (line : ℕ) → Answer
+  UnknownCursor : (line : ℕ) → Answer
+  CursorExists : (line : ℕ) → Answer
+  UnknownTable : (at : ℕ) → Answer
+  DuplicateAlias : (item : ℕ) → Answer
+  UnknownAlias : (at : ℕ) → Answer
+  UnknownColumn : (at : ℕ) → Answer
+  Ambiguous : (at : ℕ) → Answer
+  NoHeader : (table : List ℕ) → Answer
+  DuplicateName : (table : List ℕ) (column : ℕ) → Answer
+  Ragged : (table : List ℕ) (row : ℕ) → Answer
+  BadWeight : (item row column : ℕ) → Answer
+  Cyclic : (core : List ℕ) → Answer
+  RankRange : (key : ℕ) → Answer
+  TooLong : Answer
+  TooManyItems : Answer
+  TooManyKeys : Answer
+  LimitRange : (at : ℕ) → Answer
+  TooLarge : (file : List ℕ) → Answer
+  TooManyColumns : (table : List ℕ) → Answer
+  TooManyTableRows : (table : List ℕ) → Answer
+  TooManyNodeRows : Answer
+  TooManyLines : Answer
+  TooManyOpen : (line : ℕ) → Answer
+  NoFile : (file : List ℕ) → Answer
+  ReadFault : (file : List ℕ) → Answer
+  WriteFault : Answer
+  NoMemory : Answer
+  Unbuilt : Answer
+
+abbrev pub status_of : Answer → ℕ
+status_of Usage = 2
+status_of (Syntax at) = 3
+status_of (BadLine line) = 3
+status_of (UnknownCursor line) = 3
+status_of (CursorExists line) = 3
+status_of (UnknownTable at) = 4
+status_of (DuplicateAlias item) = 4
+status_of (UnknownAlias at) = 4
+status_of (UnknownColumn at) = 4
+status_of (Ambiguous at) = 4
+status_of (NoHeader table) = 5
+status_of (DuplicateName table column) = 5
+status_of (Ragged table row) = 5
+status_of (BadWeight item row column) = 5
+status_of (Cyclic core) = 6
+status_of (RankRange key) = 7
+status_of TooLong = 8
+status_of TooManyItems = 8
+status_of TooManyKeys = 8
+status_of (LimitRange at) = 8
+status_of (TooLarge file) = 8
+status_of (TooManyColumns table) = 8
+status_of (TooManyTableRows table) = 8
+status_of TooManyNodeRows = 8
+status_of TooManyLines = 8
+status_of (TooManyOpen line) = 8
+status_of (NoFile file) = 9
+status_of (ReadFault file) = 10
+status_of WriteFault = 11
+status_of NoMemory = 12
+status_of Unbuilt = 13
+
+-- items with a space before each
+abbrev pub spaced : List ℕ → List ℕ
+spaced items = flat_map (λ item. codes " " ++ decimal item) items
+
+abbrev pub on_table : List ℕ → List ℕ → List ℕ
+on_table table what = codes "table " ++ (table ++ (codes ": " ++ what))
+
+abbrev pub on_file : List ℕ → List ℕ → List ℕ
+on_file file what = codes "file " ++ (file ++ what)
+
+abbrev pub on_byte : ℕ → List ℕ → List ℕ
+on_byte at what = codes "byte " ++ (decimal at ++ (codes ": " ++ what))
+
+abbrev pub on_line : ℕ → List ℕ → List ℕ
+on_line line what = codes "script line " ++ (decimal line ++ (codes ": " ++ what))
+
+-- the text between `anyk: ` and the line's end
+abbrev pub text_of : Answer → List ℕ
+text_of Usage = codes "usage"
+text_of (Syntax at) = codes "syntax error at byte " ++ decimal at
+text_of (BadLine line) = on_line line (codes "bad line")
+text_of (UnknownCursor line) = on_line line (codes "unknown cursor")
+text_of (CursorExists line) = on_line line (codes "cursor exists")
+text_of (UnknownTable at) = on_byte at (codes "unknown table")
+text_of (DuplicateAlias item) = codes "item " ++ (decimal item ++ codes ": alias used twice")
+text_of (UnknownAlias at) = on_byte at (codes "unknown alias")
+text_of (UnknownColumn at) = on_byte at (codes "unknown column")
+text_of (Ambiguous at) = on_byte at (codes "ambiguous column")
+text_of (NoHeader table) = on_table table (codes "no header")
+text_of (DuplicateName table column) = on_table table (codes "column " ++ (decimal column ++ codes ": name used twice"))
+text_of (Ragged table row) = on_table table (codes "row " ++ (decimal row ++ codes ": wrong number of fields"))
+text_of (BadWeight item row column) =
+    codes "item " ++ (decimal item ++ (codes ": row " ++ (decimal row ++ (codes ": column " ++ (decimal column ++ codes ": not a weight")))))
+text_of (Cyclic core) = codes "cyclic query: items" ++ spaced core
+text_of (RankRange key) = codes "order key " ++ (decimal key ++ codes ": rank may pass 128 bits")
+text_of TooLong = codes "query longer than 65536 bytes"
+text_of TooManyItems = codes "more than 16 items"
+text_of TooManyKeys = codes "more than 8 order keys"
+text_of (LimitRange at) = codes "limit at byte " ++ (decimal at ++ codes " out of range")
+text_of (TooLarge file) = on_file file (codes " longer than 67108864 bytes")
+text_of (TooManyColumns table) = on_table table (codes "more than 64 columns")
+text_of (TooManyTableRows table) = on_table table (codes "more than 1048576 rows")
+text_of TooManyNodeRows = codes "more than 4194304 node rows"
+text_of TooManyLines = codes "script: more than 10000 lines"
+text_of (TooManyOpen line) = on_line line (codes "more than 64 cursors")
+text_of (NoFile file) = on_file file (codes ": not found")
+text_of (ReadFault file) = on_file file (codes ": read failed")
+text_of WriteFault = codes "write failed"
+text_of NoMemory = codes "out of memory"
+text_of Unbuilt = codes "not built yet"
+
+abbrev pub line_of : Answer → List ℕ
+line_of answer = codes "anyk: " ++ (text_of answer ++ codes "\n")

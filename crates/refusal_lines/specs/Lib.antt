@@ -1,0 +1,5 @@
+pub mod Answer
+pub mod Core
+pub mod Pieces
+pub mod Refused
+pub mod Sent

@@ -1,0 +1,13 @@
+//! The program's refusals: the exit status of each, and its line on the error output, written without memory.
+#![tactic(auto)]
+
+mod line;
+mod memory;
+mod piece;
+mod refusal;
+
+pub use line::write_line;
+pub use refusal::Refusal;
+
+#[cfg(test)]
+mod tests;

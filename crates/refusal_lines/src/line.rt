@@ -1,0 +1,219 @@
+//! The line that tells why a run ended.
+ghost use Rattle.std.specs.Prelude.{◌≡◌, ◌<◌, ◌+◌, ◌++◌, codes, decimal};
+ghost use Rattle.refusal_lines.specs.Answer.{BadWeight, DuplicateName, RankRange, Ragged, line_of, on_byte, on_file, on_line, on_table, spaced, text_of};
+ghost use Rattle.refusal_lines.specs.Core.{has_item, item_text, items_of};
+ghost use Rattle.refusal_lines.specs.Refused.{answer_of};
+ghost use Rattle.refusal_lines.specs.Sent.{Sent};
+
+use crate::piece::{Piece, write_pieces, write_text};
+use crate::refusal::Refusal;
+use outer_io::{Sink, Unwritten};
+
+/// Writes the line that tells the refusal, with its line feed, as far as the sink takes it. It takes no memory.
+pub fn write_line<E: Sink>(err: &mut E, refusal: Refusal<'_>) -> Result<(), Unwritten>
+    ensures { Sent (E.written err.old) (E.written err.new) (E.faults err.old) (E.faults err.new) (line_of (answer_of refusal.entry)) result }
+{
+    write_text(err, b"anyk: ")?;
+    write_reason(err, refusal)?;
+    write_text(err, b"\n")
+}
+
+/// What the line tells.
+fn write_reason<E: Sink>(err: &mut E, refusal: Refusal<'_>) -> Result<(), Unwritten>
+    ensures { Sent (E.written err.old) (E.written err.new) (E.faults err.old) (E.faults err.new) (text_of (answer_of refusal.entry)) result }
+{
+    match refusal {
+        Refusal::Usage => write_text(err, b"usage"),
+        Refusal::Syntax(at) => write_numbered(err, b"syntax error at byte ", at, b""),
+        Refusal::BadLine(line) => write_on_line(err, line, b"bad line"),
+        Refusal::UnknownCursor(line) => write_on_line(err, line, b"unknown cursor"),
+        Refusal::CursorExists(line) => write_on_line(err, line, b"cursor exists"),
+        Refusal::UnknownTable(at) => write_on_byte(err, at, b"unknown table"),
+        Refusal::DuplicateAlias(item) => write_numbered(err, b"item ", item, b": alias used twice"),
+        Refusal::UnknownAlias(at) => write_on_byte(err, at, b"unknown alias"),
+        Refusal::UnknownColumn(at) => write_on_byte(err, at, b"unknown column"),
+        Refusal::Ambiguous(at) => write_on_byte(err, at, b"ambiguous column"),
+        Refusal::NoHeader(table) => write_on_table(err, table, b"no header"),
+        Refusal::DuplicateName { table, column } => write_duplicate_name(err, table, column),
+        Refusal::Ragged { table, row } => write_ragged(err, table, row),
+        Refusal::BadWeight { item, row, column } => write_bad_weight(err, item, row, column),
+        Refusal::Cyclic(core) => write_cyclic(err, core),
+        Refusal::RankRange(key) => write_rank_range(err, key),
+        Refusal::TooLong => write_text(err, b"query longer than 65536 bytes"),
+        Refusal::TooManyItems => write_text(err, b"more than 16 items"),
+        Refusal::TooManyKeys => write_text(err, b"more than 8 order keys"),
+        Refusal::LimitRange(at) => write_numbered(err, b"limit at byte ", at, b" out of range"),
+        Refusal::TooLarge(file) => write_on_file(err, file, b" longer than 67108864 bytes"),
+        Refusal::TooManyColumns(table) => write_on_table(err, table, b"more than 64 columns"),
+        Refusal::TooManyTableRows(table) => write_on_table(err, table, b"more than 1048576 rows"),
+        Refusal::TooManyNodeRows => write_text(err, b"more than 4194304 node rows"),
+        Refusal::TooManyLines => write_text(err, b"script: more than 10000 lines"),
+        Refusal::TooManyOpen(line) => write_on_line(err, line, b"more than 64 cursors"),
+        Refusal::NoFile(file) => write_on_file(err, file, b": not found"),
+        Refusal::ReadFault(file) => write_on_file(err, file, b": read failed"),
+        Refusal::WriteFault => write_text(err, b"write failed"),
+        Refusal::NoMemory => write_text(err, b"out of memory"),
+        Refusal::Unbuilt => write_text(err, b"not built yet"),
+    }
+}
+
+/// A text with a number in it.
+fn write_numbered<'a, E: Sink>(
+    err: &mut E,
+    before: &'a [u8],
+    number: u32,
+    after: &'a [u8],
+) -> Result<(), Unwritten>
+    ensures { Sent (E.written err.old) (E.written err.new) (E.faults err.old) (E.faults err.new) (before.now ++ (decimal number ++ after.now)) result }
+{
+    let pieces = [
+        Piece::Text(before),
+        Piece::Number(number),
+        Piece::Text(after),
+    ];
+    write_pieces(err, &pieces)
+}
+
+/// What the line tells of an offset into the query.
+fn write_on_byte<'a, E: Sink>(err: &mut E, at: u32, what: &'a [u8]) -> Result<(), Unwritten>
+    ensures { Sent (E.written err.old) (E.written err.new) (E.faults err.old) (E.faults err.new) (on_byte at what.now) result }
+{
+    let pieces = [
+        Piece::Text(b"byte "),
+        Piece::Number(at),
+        Piece::Text(b": "),
+        Piece::Text(what),
+    ];
+    write_pieces(err, &pieces)
+}
+
+/// What the line tells of a line of the script.
+fn write_on_line<'a, E: Sink>(err: &mut E, line: u32, what: &'a [u8]) -> Result<(), Unwritten>
+    ensures { Sent (E.written err.old) (E.written err.new) (E.faults err.old) (E.faults err.new) (on_line line what.now) result }
+{
+    let pieces = [
+        Piece::Text(b"script line "),
+        Piece::Number(line),
+        Piece::Text(b": "),
+        Piece::Text(what),
+    ];
+    write_pieces(err, &pieces)
+}
+
+/// What the line tells of a table.
+fn write_on_table<'a, E: Sink>(
+    err: &mut E,
+    table: &'a [u8],
+    what: &'a [u8],
+) -> Result<(), Unwritten>
+    ensures { Sent (E.written err.old) (E.written err.new) (E.faults err.old) (E.faults err.new) (on_table table.now what.now) result }
+{
+    let pieces = [
+        Piece::Text(b"table "),
+        Piece::Text(table),
+        Piece::Text(b": "),
+        Piece::Text(what),
+    ];
+    write_pieces(err, &pieces)
+}
+
+/// What the line tells of a file.
+fn write_on_file<'a, E: Sink>(err: &mut E, file: &'a str, what: &'a [u8]) -> Result<(), Unwritten>
+    ensures { Sent (E.written err.old) (E.written err.new) (E.faults err.old) (E.faults err.new) (on_file file.now what.now) result }
+{
+    let pieces = [
+        Piece::Text(b"file "),
+        Piece::Text(file.as_bytes()),
+        Piece::Text(what),
+    ];
+    write_pieces(err, &pieces)
+}
+
+/// What the line tells of a column that has the name of an earlier one.
+fn write_duplicate_name<E: Sink>(err: &mut E, table: &[u8], column: u32) -> Result<(), Unwritten>
+    ensures { Sent (E.written err.old) (E.written err.new) (E.faults err.old) (E.faults err.new) (text_of (DuplicateName table.now column)) result }
+{
+    let pieces = [
+        Piece::Text(b"table "),
+        Piece::Text(table),
+        Piece::Text(b": column "),
+        Piece::Number(column),
+        Piece::Text(b": name used twice"),
+    ];
+    write_pieces(err, &pieces)
+}
+
+/// What the line tells of a row with another number of fields than the header.
+fn write_ragged<E: Sink>(err: &mut E, table: &[u8], row: u32) -> Result<(), Unwritten>
+    ensures { Sent (E.written err.old) (E.written err.new) (E.faults err.old) (E.faults err.new) (text_of (Ragged table.now row)) result }
+{
+    let pieces = [
+        Piece::Text(b"table "),
+        Piece::Text(table),
+        Piece::Text(b": row "),
+        Piece::Number(row),
+        Piece::Text(b": wrong number of fields"),
+    ];
+    write_pieces(err, &pieces)
+}
+
+/// What the line tells of an order key whose sums may be too great.
+fn write_rank_range<E: Sink>(err: &mut E, key: u32) -> Result<(), Unwritten>
+    ensures { Sent (E.written err.old) (E.written err.new) (E.faults err.old) (E.faults err.new) (text_of (RankRange key)) result }
+{
+    write_numbered(err, b"order key ", key, b": rank may pass 128 bits")
+}
+
+/// What the line tells of a field that is no weight.
+fn write_bad_weight<E: Sink>(err: &mut E, item: u32, row: u32, column: u32) -> Result<(), Unwritten>
+    ensures { Sent (E.written err.old) (E.written err.new) (E.faults err.old) (E.faults err.new)
+        (text_of (BadWeight item row column)) result }
+{
+    let pieces = [
+        Piece::Text(b"item "),
+        Piece::Number(item),
+        Piece::Text(b": row "),
+        Piece::Number(row),
+        Piece::Text(b": column "),
+        Piece::Number(column),
+        Piece::Text(b": not a weight"),
+    ];
+    write_pieces(err, &pieces)
+}
+
+/// What the line tells of a cyclic query.
+fn write_cyclic<E: Sink>(err: &mut E, core: u16) -> Result<(), Unwritten>
+    ensures { Sent (E.written err.old) (E.written err.new) (E.faults err.old) (E.faults err.new) (codes "cyclic query: items" ++ spaced (items_of core)) result }
+{
+    write_text(err, b"cyclic query: items")?;
+    write_items(err, core)
+}
+
+/// The items of a core, each with a space before it.
+fn write_items<E: Sink>(err: &mut E, core: u16) -> Result<(), Unwritten>
+    ensures { Sent (E.written err.old) (E.written err.new) (E.faults err.old) (E.faults err.new) (spaced (items_of core)) result }
+{
+    for place in 0..16 {
+        write_item(err, core, place)?;
+    }
+    Ok(())
+}
+
+/// The item with this number from 0, where the core has it.
+fn write_item<E: Sink>(err: &mut E, core: u16, place: u32) -> Result<(), Unwritten>
+    requires { place < 16 }
+    ensures { Sent (E.written err.old) (E.written err.new) (E.faults err.old) (E.faults err.new) (item_text core place) result }
+{
+    if has_item(core, place) {
+        write_numbered(err, b" ", place + 1, b"")
+    } else {
+        Ok(())
+    }
+}
+
+fn has_item(core: u16, place: u32) -> bool
+    requires { place < 16 }
+    ensures { result ≡ has_item core place }
+{
+    (core >> place) & 1 == 1
+}

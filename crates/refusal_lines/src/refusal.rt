@@ -1,0 +1,113 @@
+//! Why a run ended before its output was complete.
+ghost use Rattle.std.specs.Prelude.{◌≡◌};
+ghost use Rattle.refusal_lines.specs.Answer.{status_of};
+ghost use Rattle.refusal_lines.specs.Refused.{answer_of};
+
+/// Why a run ended before its output was complete. Items, keys, columns, rows and script lines count from 1, and an offset is
+/// that of a byte of the query, from 0. Tables and files are named as in the words.
+#[derive(Clone, Copy, Drop)]
+pub enum Refusal<'a> {
+    /// The words are no command.
+    Usage,
+    /// The query is none of the grammar: the offset of the first token that does not fit.
+    Syntax(u32),
+    /// The script's line is none.
+    BadLine(u32),
+    /// The script's line names a cursor that is not open.
+    UnknownCursor(u32),
+    /// The script's line opens a cursor that is open.
+    CursorExists(u32),
+    /// No word gives a file for the table at this offset.
+    UnknownTable(u32),
+    /// The item has the alias of an earlier one.
+    DuplicateAlias(u32),
+    /// No item has the alias of the column at this offset.
+    UnknownAlias(u32),
+    /// The column at this offset is not there.
+    UnknownColumn(u32),
+    /// The column at this offset stands in several items.
+    Ambiguous(u32),
+    /// The table's file has no record.
+    NoHeader(&'a [u8]),
+    /// The column has the name of an earlier one.
+    DuplicateName { table: &'a [u8], column: u32 },
+    /// The row has another number of fields than the header.
+    Ragged { table: &'a [u8], row: u32 },
+    /// A field of an order column is no weight.
+    BadWeight { item: u32, row: u32, column: u32 },
+    /// The query is cyclic. The core's items are bits, and bit 0 stands for item 1.
+    Cyclic(u16),
+    /// The greatest weights of the order key have too great a sum.
+    RankRange(u32),
+    /// The query has too many bytes.
+    TooLong,
+    /// The query has too many items.
+    TooManyItems,
+    /// The query has too many order keys.
+    TooManyKeys,
+    /// The number of the limit, at this offset, is too great.
+    LimitRange(u32),
+    /// The file has too many bytes.
+    TooLarge(&'a str),
+    /// The table has too many columns.
+    TooManyColumns(&'a [u8]),
+    /// The table has too many rows.
+    TooManyTableRows(&'a [u8]),
+    /// The nodes of the join tree have too many rows.
+    TooManyNodeRows,
+    /// The script has too many lines.
+    TooManyLines,
+    /// The script's line opens one cursor too many.
+    TooManyOpen(u32),
+    /// There is no file of this name.
+    NoFile(&'a str),
+    /// The file of this name was not read.
+    ReadFault(&'a str),
+    /// The output was not written.
+    WriteFault,
+    /// Memory was refused.
+    NoMemory,
+    /// The command or the query has a form that is not built.
+    Unbuilt,
+}
+
+impl<'a> Refusal<'a> {
+    /// The exit status.
+    pub fn status(self) -> u8
+        ensures { result ≡ status_of (answer_of self.entry) }
+    {
+        match self {
+            Refusal::Usage => 2,
+            Refusal::Syntax(_)
+            | Refusal::BadLine(_)
+            | Refusal::UnknownCursor(_)
+            | Refusal::CursorExists(_) => 3,
+            Refusal::UnknownTable(_)
+            | Refusal::DuplicateAlias(_)
+            | Refusal::UnknownAlias(_)
+            | Refusal::UnknownColumn(_)
+            | Refusal::Ambiguous(_) => 4,
+            Refusal::NoHeader(_)
+            | Refusal::DuplicateName { .. }
+            | Refusal::Ragged { .. }
+            | Refusal::BadWeight { .. } => 5,
+            Refusal::Cyclic(_) => 6,
+            Refusal::RankRange(_) => 7,
+            Refusal::TooLong
+            | Refusal::TooManyItems
+            | Refusal::TooManyKeys
+            | Refusal::LimitRange(_)
+            | Refusal::TooLarge(_)
+            | Refusal::TooManyColumns(_)
+            | Refusal::TooManyTableRows(_)
+            | Refusal::TooManyNodeRows
+            | Refusal::TooManyLines
+            | Refusal::TooManyOpen(_) => 8,
+            Refusal::NoFile(_) => 9,
+            Refusal::ReadFault(_) => 10,
+            Refusal::WriteFault => 11,
+            Refusal::NoMemory => 12,
+            Refusal::Unbuilt => 13,
+        }
+    }
+}

@@ -1,0 +1,30 @@
+-- The forms of a line that says a step.
+use Rattle.std.specs.Prelude.{ℕ, List, ◌∷◌, ◌++◌, Option, Some, None, IsTrue, codes, [], not, filter}
+use Rattle.session_script.specs.declared.step.Step.{Step}
+use Rattle.session_script.specs.declared.step.Step.TheVariants.{Open, Next, Fork, Rewind, Close}
+use Rattle.session_script.specs.Names.{is_name}
+use Rattle.session_script.specs.Words.{is_skipped, is_count, decimal_value}
+
+-- exactly one space stands between two parts
+pub data Says : List ℕ → Step → Type 0 where
+  opens : {name : List ℕ} → IsTrue (is_name name) → Says (codes "open " ++ name) (Open name)
+  moves : {name : List ℕ} (digits : List ℕ) → IsTrue (is_name name) → IsTrue (is_count digits) → Says (codes "next " ++ (name ++ 32 ∷ digits)) (Next name (decimal_value digits))
+  forks : {name new : List ℕ} → IsTrue (is_name name) → IsTrue (is_name new) → Says (codes "fork " ++ (name ++ 32 ∷ new)) (Fork name new)
+  rewinds : {name : List ℕ} → IsTrue (is_name name) → Says (codes "rewind " ++ name) (Rewind name)
+  closes : {name : List ℕ} → IsTrue (is_name name) → Says (codes "close " ++ name) (Close name)
+
+-- the step that the line says, and None where it says none
+abbrev pub IsSaid : List ℕ → Option Step → Type 0
+IsSaid line None = (step : Step) → Says line step → ⊥
+IsSaid line (Some step) = Says line step
+
+-- each line says its step
+abbrev pub SayEach : List (List ℕ) → List Step → Type 0
+SayEach [] [] = Unit {0}
+SayEach (line ∷ lines) (step ∷ steps) = Says line step × SayEach lines steps
+SayEach [] (step ∷ steps) = ⊥
+SayEach (line ∷ lines) [] = ⊥
+
+-- the lines that are neither empty nor comments
+abbrev pub said_lines : List (List ℕ) → List (List ℕ)
+said_lines lines = filter (λ line. not (is_skipped line)) lines

@@ -1,0 +1,21 @@
+//! Scripts of a session, a line each for what a named cursor does: their steps, or the first line that breaks a rule.
+//!
+//! Lines are read as `str::lines` of Rust's library reads them, from bytes. A step uses only cursors that are open before
+//! it, opens only ones that are not, and at most 64 are open at a time.
+#![tactic(auto)]
+
+mod fault;
+mod lines;
+mod name;
+mod open_names;
+mod script;
+mod step;
+#[cfg(test)]
+mod tests;
+mod words;
+
+pub use fault::ScriptFault;
+pub use name::{MAX_NAME_BYTES, Name};
+pub use open_names::MAX_OPEN;
+pub use script::{MAX_LINES, read_script};
+pub use step::Step;

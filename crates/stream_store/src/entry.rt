@@ -1,0 +1,24 @@
+use std::marker::Model;
+
+/// Names an entry of a store, and is seen as its place there, from 0.
+#[derive(Clone, Copy, Debug, PartialEq, Eq)]
+pub struct EntryId {
+    pub(crate) place: usize,
+}
+
+impl Model for EntryId {
+    ghost use Rattle.std.specs.Prelude.{ℕ};
+
+    ghost Value = { ℕ };
+
+    ghost view = { λ e. e.place };
+
+    ghost inverse = { λ n. record { place = n } };
+}
+
+/// An entry: a value, and the entry that follows it, once that is set.
+#[derive(Drop)]
+pub struct Linked<T> {
+    pub value: T,
+    pub next: Option<EntryId>,
+}

@@ -1,0 +1,205 @@
+ghost use Rattle.std.specs.Prelude.{◌≡◌, ℕ, ◌+◌, ◌-◌, ◌<◌, ◌≤◌, [], ◌∷◌, ◌++◌, length, slice_index_or, slice_set, IfOk, IfErr, OnOk, OnErr, IsOk};
+ghost use Rattle.stream_store.specs.declared.entry.Linked.{Linked};
+ghost use Rattle.stream_store.specs.Buckets.{joined, AreFilled, whole_room};
+
+use crate::entry::{EntryId, Linked};
+use crate::spot::{FIRST_ROOM, spot_of};
+use std::alloc::Allocator;
+use std::marker::Model;
+use std::sync::ledger::Ledger;
+use step_counter::{NoMemory, Steps};
+
+/// A list of linked entries, and the number of entries for which room is reserved.
+///
+/// Bucket number k has room for 16 * 2^k entries. It is made once with all its room, and no entry
+/// in it is ever moved. Buckets that were made before a later one was refused stay for later use.
+#[derive(Drop)]
+pub struct Store<T, A: Allocator + Clone> {
+    buckets: Vec<Vec<Linked<T>, A>, A>,
+    /// The room of all buckets.
+    made: usize,
+    /// The room that is reserved, from the first place on.
+    room: usize,
+    len: usize,
+}
+
+impl<T, A: Allocator + Clone> Model for Store<T, A> {
+    ghost use Rattle.std.specs.Prelude.{◌≡◌, ◌-◌, ◌≤◌};
+    ghost use Rattle.stream_store.specs.Entries.{Entries};
+    ghost use Rattle.stream_store.specs.Buckets.{joined, AreFilled, whole_room};
+
+    ghost Value = { Entries T };
+
+    ghost view = { λ s. record { entries = joined s.buckets.items; spare = s.room - s.len } };
+
+    ghost invariant = { λ s. AreFilled 16 s.len s.buckets.items × (s.made ≡ whole_room 16 s.buckets.items) × (s.len ≤ s.room) × (s.room ≤ s.made) };
+}
+
+impl<T, A: Allocator + Clone> Store<T, A> {
+    /// An empty store without room, whose memory will come from `alloc`.
+    pub fn new(alloc: A) -> Store<T, A>
+        ensures entries { result.entries ≡ [] }
+        ensures spare { result.spare ≡ 0 }
+    {
+        Store {
+            buckets: Vec::new(alloc),
+            made: 0,
+            room: 0,
+            len: 0,
+        }
+    }
+
+    /// How many entries there are.
+    pub fn len(&self) -> usize
+        ensures { result ≡ length self.now.entries }
+    {
+        self.len
+    }
+
+    /// Makes room for at least `count` more entries, or leaves the store as it was.
+    pub fn reserve(&mut self, count: usize) -> Result<(), NoMemory>
+        ensures entries { self.new.entries ≡ self.old.entries }
+        ensures ok { OnOk result (count ≤ self.new.spare) }
+        ensures err { OnErr result (self.new ≡ self.old) }
+        ensures grows { self.old.spare ≤ self.new.spare }
+        ensures succeeds { count ≤ self.old.spare → IsOk result }
+    {
+        make_room(&mut self.buckets, &mut self.made, self.len, count)?;
+        self.room = self.made;
+        Ok(())
+    }
+
+    fn spare(&self) -> usize
+        ensures { result ≡ self.now.spare }
+    {
+        self.room - self.len
+    }
+
+    /// Adds an entry in room that was reserved, without a next entry. It takes one step and no memory.
+    pub fn push_reserved<L: Ledger>(&mut self, value: T, steps: &mut Steps<L>) -> EntryId
+        requires { 0 < self.old.spare }
+        ensures id { result ≡ length self.old.entries }
+        ensures entries { self.new.entries ≡ self.old.entries ++ record { value = value; next = None } ∷ [] }
+        ensures spare { self.new.spare + 1 ≡ self.old.spare }
+        ensures cost { steps.new ≡ steps.old + 1 }
+    {
+        steps.tick();
+        let place = self.len;
+        let spot = spot_of(place);
+        let bucket = &mut self.buckets[spot.bucket];
+        bucket.push_reserved(Linked { value, next: None });
+        self.len += 1;
+        EntryId { place }
+    }
+
+    /// Adds an entry without a next entry. Where memory is refused it hands the value back, and the
+    /// store is as it was. It takes one step, refused or not.
+    pub fn push<L: Ledger>(
+        &mut self,
+        value: T,
+        steps: &mut Steps<L>,
+    ) -> Result<EntryId, (T, NoMemory)>
+        ensures id { IfOk result (λ id. id ≡ length self.old.entries) }
+        ensures entries { OnOk result (self.new.entries ≡ self.old.entries ++ record { value = value; next = None } ∷ []) }
+        ensures spare { OnOk result (self.old.spare ≤ self.new.spare + 1) }
+        ensures value { IfErr result (λ e. e.0 ≡ value) }
+        ensures err { OnErr result (self.new ≡ self.old) }
+        ensures cost { steps.new ≡ steps.old + 1 }
+    {
+        if self.spare() == 0 {
+            if let Err(refused) = self.reserve(1) {
+                steps.tick();
+                return Err((value, refused));
+            }
+        }
+        Ok(self.push_reserved(value, steps))
+    }
+
+    fn entry(&self, id: EntryId) -> &Linked<T>
+        requires { id < length self.now.entries }
+        ensures { (d : Linked T) → slice_index_or self.now.entries id d ≡ result.now }
+    {
+        let spot = spot_of(id.place);
+        let bucket = &self.buckets[spot.bucket];
+        &bucket[spot.offset]
+    }
+
+    /// The value of an entry of this store. It takes one step.
+    pub fn get<L: Ledger>(&self, id: EntryId, steps: &mut Steps<L>) -> &T
+        requires { id < length self.now.entries }
+        ensures value { (d : Linked T) → (slice_index_or self.now.entries id d).value ≡ result.now }
+        ensures cost { steps.new ≡ steps.old + 1 }
+    {
+        steps.tick();
+        &self.entry(id).value
+    }
+
+    /// The entry that follows an entry of this store, None where none was set. It takes one step.
+    pub fn next_of<L: Ledger>(&self, id: EntryId, steps: &mut Steps<L>) -> Option<EntryId>
+        requires { id < length self.now.entries }
+        ensures next { (d : Linked T) → (slice_index_or self.now.entries id d).next ≡ result }
+        ensures cost { steps.new ≡ steps.old + 1 }
+    {
+        steps.tick();
+        self.entry(id).next
+    }
+
+    /// Sets the entry that follows an entry, which is done at most once for each. It takes one step.
+    pub fn set_next<L: Ledger>(&mut self, id: EntryId, to: EntryId, steps: &mut Steps<L>)
+        requires id { id < length self.old.entries }
+        requires to { to < length self.old.entries }
+        requires none { (d : Linked T) → (slice_index_or self.old.entries id d).next ≡ None }
+        ensures entries { (d : Linked T) → self.new.entries ≡ slice_set self.old.entries id (record (slice_index_or self.old.entries id d) { next = Some to }) }
+        ensures spare { self.new.spare ≡ self.old.spare }
+        ensures cost { steps.new ≡ steps.old + 1 }
+    {
+        steps.tick();
+        let spot = spot_of(id.place);
+        let bucket = &mut self.buckets[spot.bucket];
+        bucket[spot.offset].next = Some(to);
+    }
+}
+
+/// Makes buckets until they have room for `count` entries after the first `len`.
+fn make_room<T, A: Allocator + Clone>(
+    buckets: &mut Vec<Vec<Linked<T>, A>, A>,
+    made: &mut usize,
+    len: usize,
+    count: usize,
+) -> Result<(), NoMemory>
+    requires filled { AreFilled 16 len buckets.old.items }
+    requires made { made.old ≡ whole_room 16 buckets.old.items }
+    requires within { len ≤ made.old }
+    ensures filled { AreFilled 16 len buckets.new.items }
+    ensures made { made.new ≡ whole_room 16 buckets.new.items }
+    ensures entries { joined buckets.new.items ≡ joined buckets.old.items }
+    ensures ok { OnOk result (len + count ≤ made.new) }
+    ensures grows { made.old ≤ made.new }
+    ensures succeeds { len + count ≤ made.old → IsOk result }
+{
+    while *made - len < count {
+        make_bucket(buckets, made)?;
+    }
+    Ok(())
+}
+
+/// Makes the next bucket.
+fn make_bucket<T, A: Allocator + Clone>(
+    buckets: &mut Vec<Vec<Linked<T>, A>, A>,
+    made: &mut usize,
+) -> Result<(), NoMemory>
+    requires made { made.old ≡ whole_room 16 buckets.old.items }
+    ensures filled { (len : ℕ) → AreFilled 16 len buckets.old.items → AreFilled 16 len buckets.new.items }
+    ensures made { made.new ≡ whole_room 16 buckets.new.items }
+    ensures entries { joined buckets.new.items ≡ joined buckets.old.items }
+    ensures ok { OnOk result (made.old < made.new) }
+    ensures err { OnErr result (made.new ≡ made.old) }
+{
+    let size = made.checked_add(FIRST_ROOM).ok_or(NoMemory)?;
+    let total = made.checked_add(size).ok_or(NoMemory)?;
+    let alloc = buckets.allocator().clone()?;
+    buckets.reserve(1)?;
+    buckets.push_reserved(Vec::with_capacity(alloc, size)?);
+    *made = total;
+    Ok(())
+}

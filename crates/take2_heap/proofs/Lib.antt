@@ -1,0 +1,4 @@
+pub mod Heights
+pub mod Sifting
+pub mod Subtree
+pub mod Holes

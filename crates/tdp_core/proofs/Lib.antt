@@ -1,0 +1,11 @@
+pub mod Children
+pub mod Groups
+pub mod KeyRanges
+pub mod LeastKeys
+pub mod NodeViews
+pub mod RawFacts
+pub mod RawReads
+pub mod RowKeys
+pub mod SeenFacts
+pub mod SmallTree
+pub mod TreeFacts

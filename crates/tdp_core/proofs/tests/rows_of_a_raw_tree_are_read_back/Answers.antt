@@ -1,0 +1,19 @@
+use Rattle.std.proofs.Common.{sym, arith}
+use Rattle.tdp_core.proofs.SmallTree.{small_shaped, root_children, leaf_children}
+use Rattle.tdp_core.proofs.tests.rows_of_a_raw_tree_are_read_back.Goals as goal
+
+pub new-requires : goal.new-requires
+new-requires g c = small_shaped
+
+pub add-requires-clause-children : goal.add-requires-clause-children
+add-requires-clause-children g c = sym (rw c.in_ok-tree.ensures root_children)
+
+pub add-requires-2-clause-children : goal.add-requires-2-clause-children
+add-requires-2-clause-children g c = sym (rw (c.in_ok-add.ensures.shapes, c.in_ok-tree.ensures) leaf_children)
+
+pub add-requires-3-clause-children : goal.add-requires-3-clause-children
+add-requires-3-clause-children g c = sym (rw (c.in_ok-add-2.ensures.shapes, c.in_ok-add.ensures.shapes, c.in_ok-tree.ensures) leaf_children)
+
+pub links_of-requires-clause-child : goal.links_of-requires-clause-child
+links_of-requires-clause-child g c =
+    rw (c.in_ok-add-3.ensures.shapes, c.in_ok-add-2.ensures.shapes, c.in_ok-add.ensures.shapes, c.in_ok-tree.ensures) (omega (arith, root_children))

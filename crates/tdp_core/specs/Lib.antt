@@ -1,0 +1,5 @@
+pub mod RawData
+pub mod Seen
+pub mod Solutions
+pub mod TreeData
+pub mod WellFormed

@@ -1,0 +1,20 @@
+//! Tree problems of ranked enumeration: trees whose nodes have rows, with the rows of each node in
+//! groups that the rows of its parent name, and engines that give the solutions one by one.
+//!
+//! They are the tree-based dynamic programs of Tziavelis and others, "Optimal Algorithms for Ranked
+//! Enumeration of Answers to Full Conjunctive Queries", PVLDB 2020.
+#![tactic(auto)]
+
+mod parts;
+mod ranked;
+mod raw_row;
+mod raw_tree;
+mod tree;
+
+pub use parts::{NodeParts, NodeRow, NodeShape};
+pub use ranked::{Answer, Ranked};
+pub use raw_tree::RawTree;
+pub use tree::Tree;
+
+#[cfg(test)]
+mod tests;

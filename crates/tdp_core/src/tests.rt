@@ -1,0 +1,263 @@
+ghost use Rattle.std.specs.Prelude.{◌≡◌, ℕ, ◌+◌, ◌<◌, ◌≤◌, [], ◌∷◌, length, IfOk, OnOk};
+ghost use Rattle.tdp_core.specs.RawData.{row_total, shape_children};
+ghost use Rattle.tdp_core.specs.TreeData.{node_data, child_count};
+
+use super::*;
+use rank_key::{Rank, SumRank};
+use smallvec::SmallVec;
+use std::alloc::Global;
+use std::marker::Brand;
+use std::process::Abort;
+use std::sync::ledger::{Blank, Ledger};
+use std::test::Fail;
+use step_counter::{NoMemory, Steps};
+
+/// Appends a row whose sums are 0.
+fn add<R: Rank>(
+    tree: &mut RawTree<R>,
+    node: u32,
+    number: u32,
+    own: u32,
+    children: &[u32],
+) -> Result<(), NoMemory>
+    requires node { node < length tree.old.shapes }
+    requires children { length children.now ≡ shape_children tree.old.shapes node }
+    requires room { row_total tree.old < 100 }
+    ensures shapes { OnOk result (tree.new.shapes ≡ tree.old.shapes) }
+    ensures room { OnOk result (row_total tree.new ≤ row_total tree.old + 1) }
+{
+    let count = tree.nodes();
+    prove!(node < count);
+    let rank = R::of_row(&[], tree.shape(node).item, number);
+    let row = NodeRow { rank, row: number };
+    tree.add_row(node, row, own, children)
+}
+
+/// The number and the own link of each row of a node.
+fn rows_of<R: Rank>(
+    alloc: Global,
+    tree: &RawTree<R>,
+    node: u32,
+) -> Result<Vec<(u32, u32)>, NoMemory>
+    requires { node < length tree.now.shapes }
+{
+    let mut rows = Vec::new(alloc);
+    for i in 0..tree.len(node) {
+        rows.push((tree.row(node, i).row, tree.own(node, i)))?;
+    }
+    Ok(rows)
+}
+
+/// The link that each row of a node names for its first child.
+fn links_of<R: Rank>(alloc: Global, tree: &RawTree<R>, node: u32) -> Result<Vec<u32>, NoMemory>
+    requires node { node < length tree.now.shapes }
+    requires child { 0 < shape_children tree.now.shapes node }
+{
+    let mut links = Vec::new(alloc);
+    for i in 0..tree.len(node) {
+        links.push(tree.link(node, i, 0))?;
+    }
+    Ok(links)
+}
+
+#[test]
+fn rows_of_a_raw_tree_are_read_back(rt: HostRuntime) -> Result<(), Fail> {
+    let caps = [10; 8];
+    let root = NodeShape {
+        parent: 0,
+        item: 1,
+        caps,
+    };
+    let child = NodeShape {
+        parent: 0,
+        item: 0,
+        caps,
+    };
+    let mut tree: RawTree<SumRank> = RawTree::new(rt.alloc(), &[root, child])?;
+    add(&mut tree, 0, 4, 9, &[7])?;
+    add(&mut tree, 1, 1, 8, &[])?;
+    add(&mut tree, 1, 3, 7, &[])?;
+    assert_eq!(rt; tree.nodes(), 2);
+    assert_eq!(rt; tree.shape(0).item, 1);
+    assert_eq!(rt; tree.shape(1).item, 0);
+    assert_eq!(rt;
+        rows_of(rt.alloc(), &tree, 0)?.as_slice(),
+        [(4, 9)].as_slice()
+    );
+    assert_eq!(rt;
+        rows_of(rt.alloc(), &tree, 1)?.as_slice(),
+        [(1, 8), (3, 7)].as_slice()
+    );
+    assert_eq!(rt; links_of(rt.alloc(), &tree, 0)?.as_slice(), [7].as_slice());
+    Ok(())
+}
+
+fn one<T: Drop>(alloc: Global, first: T) -> Result<Vec<T>, NoMemory>
+    ensures { IfOk result (λ v. v.items ≡ first ∷ []) }
+{
+    let mut items = Vec::new(alloc);
+    items.push(first)?;
+    Ok(items)
+}
+
+fn two<T: Drop>(alloc: Global, first: T, second: T) -> Result<Vec<T>, NoMemory>
+    ensures { IfOk result (λ v. v.items ≡ first ∷ second ∷ []) }
+{
+    let mut items = one(alloc, first)?;
+    items.push(second)?;
+    Ok(items)
+}
+
+fn root_parts<R: Rank>(alloc: Global, top: R, whole: R) -> Result<NodeParts<R>, NoMemory>
+    ensures { IfOk result (λ p. node_data p ≡ record { shape = record { parent = 0; item = 1; caps = (10 ∷ 10 ∷ 10 ∷ 10 ∷ 10 ∷ 10 ∷ 10 ∷ 10 ∷ []) }; rows = record { rank = top; row = 4 } ∷ []; to_child = (0 ∷ []) ∷ []; groups = (0 ∷ []) ∷ []; best = whole ∷ [] }) }
+{
+    Ok(NodeParts {
+        shape: NodeShape {
+            parent: 0,
+            item: 1,
+            caps: [10; 8],
+        },
+        rows: one(alloc, NodeRow { rank: top, row: 4 })?,
+        to_child: one(alloc, SmallVec::from_slice(alloc, &[0])?)?,
+        groups: one(alloc, one(alloc, 0)?)?,
+        best: one(alloc, whole)?,
+    })
+}
+
+fn leaf_parts<R: Rank>(alloc: Global, later: R, sooner: R) -> Result<NodeParts<R>, NoMemory>
+    ensures { IfOk result (λ p. node_data p ≡ record { shape = record { parent = 0; item = 0; caps = (10 ∷ 10 ∷ 10 ∷ 10 ∷ 10 ∷ 10 ∷ 10 ∷ 10 ∷ []) }; rows = record { rank = later; row = 3 } ∷ record { rank = sooner; row = 1 } ∷ []; to_child = [] ∷ [] ∷ []; groups = (1 ∷ 0 ∷ []) ∷ []; best = later ∷ sooner ∷ [] }) }
+{
+    Ok(NodeParts {
+        shape: NodeShape {
+            parent: 0,
+            item: 0,
+            caps: [10; 8],
+        },
+        rows: two(
+            alloc,
+            NodeRow {
+                rank: later,
+                row: 3,
+            },
+            NodeRow {
+                rank: sooner,
+                row: 1,
+            },
+        )?,
+        to_child: two(alloc, SmallVec::new(alloc), SmallVec::new(alloc))?,
+        groups: one(alloc, two(alloc, 1, 0)?)?,
+        best: two(alloc, later, sooner)?,
+    })
+}
+
+/// A root with one row, above a child with two rows, of which the second is the lesser.
+fn small_tree<R: Rank, L: Ledger>(alloc: Global, steps: &mut Steps<L>) -> Result<Tree<R>, NoMemory>
+    ensures nodes { IfOk result (λ t. length t ≡ 2) }
+    ensures child { IfOk result (λ t. child_count t 0 ≡ 1) }
+{
+    let top = R::of_row(&[], 1, 4);
+    let later = R::of_row(&[], 0, 3);
+    let sooner = R::of_row(&[], 0, 1);
+    let whole = R::join(top, sooner, steps);
+    let root = root_parts(alloc, top, whole)?;
+    let leaf = leaf_parts(alloc, later, sooner)?;
+    Ok(Tree::from_parts(two(alloc, root, leaf)?))
+}
+
+/// The numbers of the rows of each group of a node, as the groups have them.
+fn groups_of<R: Rank, L: Ledger>(
+    alloc: Global,
+    tree: &Tree<R>,
+    node: u32,
+    steps: &mut Steps<L>,
+) -> Result<Vec<u32>, NoMemory>
+    requires { node < length tree.now }
+{
+    let mut numbers = Vec::new(alloc);
+    for group in 0..tree.groups(node) {
+        for place in 0..tree.group_len(node, group) {
+            let row = tree.member(node, group, place, steps);
+            numbers.push(row)?;
+        }
+    }
+    Ok(numbers)
+}
+
+/// The number of each row of a node, and the group that it names for the node's first child.
+fn named_of<R: Rank, L: Ledger>(
+    alloc: Global,
+    tree: &Tree<R>,
+    node: u32,
+    steps: &mut Steps<L>,
+) -> Result<Vec<(u32, u32)>, NoMemory>
+    requires node { node < length tree.now }
+    requires child { 0 < child_count tree.now node }
+{
+    let mut rows = Vec::new(alloc);
+    for row in 0..tree.len(node) {
+        let group = tree.group_of(node, row, 0, steps);
+        rows.push((tree.row_at(node, row, steps).row, group))?;
+    }
+    Ok(rows)
+}
+
+/// Whether the best of each row of a node is at least the row's own rank, and where it is more.
+fn adds_of<R: Rank, L: Ledger>(
+    alloc: Global,
+    tree: &Tree<R>,
+    node: u32,
+    steps: &mut Steps<L>,
+) -> Result<Vec<bool>, NoMemory>
+    requires { node < length tree.now }
+{
+    let mut adds = Vec::new(alloc);
+    for row in 0..tree.len(node) {
+        let own = tree.row_at(node, row, steps).rank;
+        let best = tree.best(node, row, steps);
+        adds.push(R::less(&own, &best, steps))?;
+    }
+    Ok(adds)
+}
+
+fn reads_the_small_tree<R: Rank, L: Ledger>(
+    rt: &impl Abort,
+    alloc: Global,
+    blank: Blank,
+) -> Result<(), Fail>
+    requires name { blank.name ≡ L.name }
+    requires parts { blank.parts ≡ L.parts }
+    requires share { 0 < L.parts }
+{
+    let mut steps: Steps<L> = Steps::new(blank);
+    let tree: Tree<R> = small_tree(alloc, &mut steps)?;
+    assert!(rt; tree.live());
+    assert_eq!(rt; tree.nodes(), 2);
+    assert_eq!(rt; tree.shape(1).parent, 0);
+    assert_eq!(rt; tree.child_place(1), 0);
+    assert_eq!(rt;
+        named_of(alloc, &tree, 0, &mut steps)?.as_slice(),
+        [(4, 0)].as_slice()
+    );
+    assert_eq!(rt;
+        groups_of(alloc, &tree, 0, &mut steps)?.as_slice(),
+        [0].as_slice()
+    );
+    assert_eq!(rt;
+        groups_of(alloc, &tree, 1, &mut steps)?.as_slice(),
+        [1, 0].as_slice()
+    );
+    assert_eq!(rt;
+        adds_of(alloc, &tree, 0, &mut steps)?.as_slice(),
+        [true].as_slice()
+    );
+    assert_eq!(rt;
+        adds_of(alloc, &tree, 1, &mut steps)?.as_slice(),
+        [false, false].as_slice()
+    );
+    Ok(())
+}
+
+#[test]
+fn a_tree_of_two_nodes_is_read(rt: HostRuntime) -> Result<(), Fail> {
+    reads_the_small_tree::<SumRank, Brand>(&rt, rt.alloc(), Blank::new(1))
+}

@@ -1,0 +1,154 @@
+ghost use Rattle.std.specs.Prelude.{◌≡◌, ℕ, ◌+◌, ◌<◌, Some, length, nat_lt, slice_get, slice_index};
+ghost use Rattle.tdp_core.specs.TreeData.{tree_data, node_at, rows, number, child_count, child_place, parent, group_count, members, group_named, rank, best};
+ghost use Rattle.tdp_core.specs.WellFormed.{IsFormed};
+ghost use Rattle.tdp_core.specs.Solutions.{IsLeastKey};
+
+use crate::parts::{NodeParts, NodeRow, NodeShape};
+use rank_key::Rank;
+use std::marker::Model;
+use std::sync::ledger::Ledger;
+use step_counter::Steps;
+
+/// A well-formed tree, seen as the list of its nodes. Nodes, rows, groups and places in a group are
+/// counted from 0, and the children of a node in ascending order from 0.
+#[derive(Drop)]
+pub struct Tree<R: Rank> {
+    nodes: Vec<NodeParts<R>>,
+}
+
+impl<R: Rank> Model for Tree<R> {
+    ghost use Rattle.std.specs.Prelude.{List};
+    ghost use Rattle.tdp_core.specs.TreeData.{NodeData, tree_data};
+    ghost use Rattle.tdp_core.specs.WellFormed.{IsFormed};
+
+    ghost Value = { List (NodeData R) };
+
+    ghost view = { λ t. tree_data t.nodes.items };
+
+    ghost invariant = { λ t. IsFormed R.KEYS R.key (tree_data t.nodes.items) };
+}
+
+impl<R: Rank> Tree<R> {
+    /// The tree that well-formed parts make. It takes no memory.
+    pub fn from_parts(nodes: Vec<NodeParts<R>>) -> Tree<R>
+        requires { IsFormed R.KEYS R.key (tree_data nodes.items) }
+        ensures { result ≡ tree_data nodes.items }
+    {
+        Tree { nodes }
+    }
+
+    /// How many nodes there are.
+    pub fn nodes(&self) -> u32
+        ensures count { result ≡ length self.now }
+        ensures formed { IsFormed R.KEYS R.key self.now }
+    {
+        self.nodes.len() as u32
+    }
+
+    /// The shape of a node.
+    pub fn shape(&self, node: u32) -> &NodeShape
+        requires { node < length self.now }
+        ensures { result.now ≡ (node_at self.now node).shape }
+    {
+        &self.nodes[node as usize].shape
+    }
+
+    /// The place of a node among the children of its parent, in ascending order from 0.
+    pub fn child_place(&self, node: u32) -> u32
+        requires some { 0 < node }
+        requires node { node < length self.now }
+        ensures place { result ≡ child_place self.now node }
+        ensures within { result < child_count self.now (parent self.now node) }
+    {
+        let above = self.nodes[node as usize].shape.parent;
+        let mut place = 0;
+        for other in 1..node {
+            if self.nodes[other as usize].shape.parent == above {
+                place += 1;
+            }
+        }
+        place
+    }
+
+    /// How many rows a node has.
+    pub fn len(&self, node: u32) -> u32
+        requires { node < length self.now }
+        ensures { result ≡ rows self.now node }
+    {
+        self.nodes[node as usize].rows.len() as u32
+    }
+
+    /// How many groups a node has.
+    pub fn groups(&self, node: u32) -> u32
+        requires { node < length self.now }
+        ensures { result ≡ group_count self.now node }
+    {
+        self.nodes[node as usize].groups.len() as u32
+    }
+
+    /// How many rows a group has.
+    pub fn group_len(&self, node: u32, group: u32) -> u32
+        requires node { node < length self.now }
+        requires group { group < group_count self.now node }
+        ensures { result ≡ length (members self.now node group) }
+    {
+        self.nodes[node as usize].groups[group as usize].len() as u32
+    }
+
+    /// Whether the tree has a solution.
+    pub fn live(&self) -> bool
+        ensures live { result ≡ nat_lt 0 (group_count self.now 0) }
+        ensures formed { IsFormed R.KEYS R.key self.now }
+    {
+        !self.nodes[0].groups.is_empty()
+    }
+
+    /// A row of a node. It takes one step.
+    pub fn row_at<L: Ledger>(&self, node: u32, row: u32, steps: &mut Steps<L>) -> NodeRow<R>
+        requires node { node < length self.now }
+        requires row { row < rows self.now node }
+        ensures row { slice_get (node_at self.now node).rows row ≡ Some result }
+        ensures rank { R.key result.rank ≡ rank self.now R.KEYS R.key node row }
+        ensures number { result.row ≡ number self.now node row }
+        ensures counted { steps.new ≡ steps.old + 1 }
+    {
+        steps.tick();
+        self.nodes[node as usize].rows[row as usize]
+    }
+
+    /// The group that a row names for a child of its node. It takes one step.
+    pub fn group_of<L: Ledger>(&self, node: u32, row: u32, child: u32, steps: &mut Steps<L>) -> u32
+        requires node { node < length self.now }
+        requires row { row < rows self.now node }
+        requires child { child < child_count self.now node }
+        ensures named { result ≡ group_named self.now node row child }
+        ensures counted { steps.new ≡ steps.old + 1 }
+    {
+        steps.tick();
+        self.nodes[node as usize].to_child[row as usize][child as usize]
+    }
+
+    /// The row at a place of a group. It takes one step.
+    pub fn member<L: Ledger>(&self, node: u32, group: u32, place: u32, steps: &mut Steps<L>) -> u32
+        requires node { node < length self.now }
+        requires group { group < group_count self.now node }
+        requires place { place < length (members self.now node group) }
+        ensures member { result ≡ slice_index (members self.now node group) place }
+        ensures counted { steps.new ≡ steps.old + 1 }
+    {
+        steps.tick();
+        self.nodes[node as usize].groups[group as usize][place as usize]
+    }
+
+    /// The rank of a row's least subtree solution. It takes one step.
+    pub fn best<L: Ledger>(&self, node: u32, row: u32, steps: &mut Steps<L>) -> R
+        requires node { node < length self.now }
+        requires row { row < rows self.now node }
+        ensures best { R.key result ≡ best self.now R.KEYS R.key node row }
+        ensures least { IsLeastKey self.now R.KEYS R.key node row (R.key result) }
+        ensures counted { steps.new ≡ steps.old + 1 }
+    {
+        steps.tick();
+        self.nodes[node as usize].best[row as usize]
+    }
+}

@@ -1,0 +1,5 @@
+use Rattle.tdp_model.proofs.Example.{example, example-nodes}
+use Rattle.tdp_model.proofs.some_tree.Goals as goal
+
+pub returns : goal.returns
+returns c = (example, example-nodes)

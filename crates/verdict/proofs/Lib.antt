@@ -1,0 +1,4 @@
+pub mod One
+pub mod Staging
+pub mod Complete
+pub mod Whole

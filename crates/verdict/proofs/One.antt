@@ -1,0 +1,106 @@
+-- An input has one verdict at most.
+use Rattle.std.proofs.Common.{◌≡◌, ◌≢◌, ℕ, List, Result, Ok, Err, inl, inr, ap, subst, sym, ◌∙◌}
+use Rattle.outer_io.specs.Files.{Files}
+use Rattle.query_parse.specs.declared.fault.ParseFault.{ParseFault}
+use Rattle.query_parse.specs.declared.fault.ParseFault.TheVariants.{NoMemory as out_of_memory}
+use Rattle.query_parse.specs.declared.select.Select.{Select}
+use Rattle.query_parse.specs.Parse.{Agree}
+use Rattle.query_parse.proofs.Exactly.{parses_agree}
+use Rattle.query_shape.specs.Shape.{Flaw, IsShape, Shape}
+use Rattle.query_shape.proofs.OneShape.{one_shape}
+use Rattle.refusal_lines.specs.Answer.{Answer, Usage, Unbuilt}
+use Rattle.verdict.specs.Words.{no_command, not_built, run}
+use Rattle.verdict.specs.Faults.{of_parse, of_shape}
+use Rattle.verdict.specs.Laws.{OneVerdict}
+use Rattle.verdict.specs.Loading.{Found, IsParse, bound_in}
+use Rattle.verdict.specs.Stages.{Then, Is, refused, followed, AtMostOne}
+use Rattle.verdict.specs.Verdict.{Named, IsRead, IsSelected, IsBound, IsShaped}
+
+-- a stage that computes
+pub one_computed : {A : Type 0} (r : Result A Answer) → AtMostOne (Is r)
+one_computed r x y p q = p ∙ sym q
+
+found_same : {A : Type 0} {a b : A} → ◌≡◌ {A = Result A Answer} (Ok a) (Ok b) → a ≡ b
+found_same e = cc
+
+refused_same : {A B : Type 0} {a b : Answer} → ◌≡◌ {A = Result A Answer} (Err a) (Err b) → ◌≡◌ {A = Result B Answer} (Err a) (Err b)
+refused_same e = cc
+
+no_both : {A : Type 0} {a : A} {b : Answer} → ◌≡◌ {A = Result A Answer} (Err b) (Ok a) → ⊥
+no_both e = cc
+
+-- two stages
+pub one_then : {A B : Type 0} (First : Result A Answer → Type 0) (Second : A → Result B Answer → Type 0)
+    → AtMostOne First → ((a : A) → AtMostOne (Second a)) → AtMostOne (Then First Second)
+one_then First Second f s _ _ (refused h) (refused k) = refused_same (f _ _ h k)
+one_then First Second f s _ _ (refused h) (followed k y) = absurd (no_both (f _ _ h k))
+one_then First Second f s _ _ (followed h x) (refused k) = absurd (no_both (f _ _ k h))
+one_then First Second f s result other (followed {a} h x) (followed {a = b} k y) =
+    s b result other (subst (λ c. Second c result) (found_same (f _ _ h k)) x) y
+
+-- the parse of the query
+agreed : (a b : Result Select ParseFault) → a ≢ Err out_of_memory → b ≢ Err out_of_memory → Agree a b → a ≡ b
+agreed a b no_a no_b (inl e) = absurd (no_a e)
+agreed a b no_a no_b (inr (inl e)) = absurd (no_b e)
+agreed a b no_a no_b (inr (inr e)) = e
+
+abbrev Answered : Result Select ParseFault → Result Select ParseFault → Type 0
+Answered a b = a ≡ b
+
+one_fault : {a b : ParseFault} → Answered (Err a) (Err b) → a ≡ b
+one_fault e = cc
+
+is_select : (select : Select) → Answered (Ok select) (Err out_of_memory) → ⊥
+is_select select e = cc
+
+is_fault : (fault : ParseFault) → fault ≢ out_of_memory → Answered (Err fault) (Err out_of_memory) → ⊥
+is_fault fault some e = some (one_fault e)
+
+one_select : {a b : Select} → Answered (Ok a) (Ok b) → ◌≡◌ {A = Result Select Answer} (Ok a) (Ok b)
+one_select e = cc
+
+no_two : {A : Type 0} {a : Select} {b : ParseFault} → Answered (Err b) (Ok a) → A
+no_two e = cc
+
+pub one_parse : (bytes : List ℕ) → AtMostOne (IsParse bytes)
+one_parse bytes (Ok a) (Ok b) h k = one_select (agreed _ _ (is_select a) (is_select b) (parses_agree bytes (Ok a) (Ok b) h k))
+one_parse bytes (Ok a) (Err b) h (fault, faults, some, is) =
+    no_two (agreed _ _ (is_fault fault some) (is_select a) (parses_agree bytes (Err fault) (Ok a) faults h))
+one_parse bytes (Err a) (Ok b) (fault, faults, some, is) k =
+    no_two (agreed _ _ (is_fault fault some) (is_select b) (parses_agree bytes (Err fault) (Ok b) faults k))
+one_parse bytes (Err a) (Err b) (fault, faults, some, is) (fault', faults', some', is') =
+    let same : fault ≡ fault' = one_fault (agreed _ _ (is_fault fault some) (is_fault fault' some') (parses_agree bytes (Err fault) (Err fault') faults faults')) in
+    ap Err (is ∙ ap of_parse same ∙ sym is')
+
+-- the structure
+abbrev Shaped : Result Shape Flaw → Result Shape Flaw → Type 0
+Shaped a b = a ≡ b
+
+no_shape : {A : Type 0} {shape : Shape} {flaw : Flaw} → Shaped (Ok shape) (Err flaw) → A
+no_shape e = cc
+
+same_flaw : {a b : Flaw} → Shaped (Err a) (Err b) → a ≡ b
+same_flaw e = cc
+
+one_shaped : (found : Found) → AtMostOne (IsShaped found)
+one_shaped found (Ok a) (Ok b) h k = ap Ok (h.same ∙ sym k.same)
+one_shaped found (Ok a) (Err b) h k = no_shape (one_shape found.query found.tables (Ok h.shape) (Err k.flaw) h.is_shape k.is_flaw)
+one_shaped found (Err a) (Ok b) h k = no_shape (one_shape found.query found.tables (Ok k.shape) (Err h.flaw) k.is_shape h.is_flaw)
+one_shaped found (Err a) (Err b) h k =
+    let same = same_flaw (one_shape found.query found.tables (Err h.flaw) (Err k.flaw) h.is_flaw k.is_flaw) in
+    ap Err (h.told ∙ ap of_shape same ∙ sym k.told)
+
+-- the whole
+one_bound : (named : Named) (files : Files) (select : Select) → AtMostOne (IsBound named files select)
+one_bound named files select = one_then _ _ (one_computed _) (λ tables. one_then _ _ (one_computed (bound_in select tables)) one_shaped)
+
+one_selected : (named : Named) (files : Files) (select : Select) → AtMostOne (IsSelected named files select)
+one_selected named files select = one_then _ _ (one_computed _) (one_bound named files)
+
+one_read : (named : Named) (files : Files) (bytes : List ℕ) → AtMostOne (IsRead named files bytes)
+one_read named files bytes = one_then _ _ (one_parse bytes) (one_selected named files)
+
+pub one_verdict : OneVerdict
+one_verdict no_command files = one_computed (Err Usage)
+one_verdict not_built files = one_computed (Err Unbuilt)
+one_verdict (run words) files = one_then _ _ (one_computed _) (one_read words.tables files)

@@ -1,0 +1,164 @@
+-- Stages one after another: what they say together.
+use Rattle.std.proofs.Common.{◌≡◌, ◌≤◌, ℕ, List, Option, Some, None, Result, Ok, Err, refl, subst, arith, ◌∙◌}
+use Rattle.outer_io.specs.Files.{Files}
+use Rattle.outer_io.proofs.Counting.{Rose-after}
+use Rattle.refusal_lines.specs.Answer as answer
+use Rattle.refusal_lines.specs.Answer.{Answer}
+use Rattle.verdict.specs.Staged.{Shelved, Fits, Causes, Pure, Staged, NoTurn, EitherTurn, first_turn, second_turn}
+use Rattle.verdict.specs.Stages.{Then, refused, followed}
+
+-- a refusal of a stage is one of a wider stage
+pub wider_fits : {A B : Type 0} (G : Files → Result A Answer → Type 0) (T : Files → List ℕ → Type 0) (H : Files → Result B Answer → Type 0) (U : Files → List ℕ → Type 0)
+    (told : Option Files) (e : Answer)
+    → ((files : Files) → told ≡ Some files → G files (Err e) → H files (Err e))
+    → ((files : Files) (name : List ℕ) → told ≡ Some files → T files name → U files name)
+    → Fits G T told (Err e) → Fits H U told (Err e)
+wider_fits G T H U None answer.NoMemory gives turns h = tt
+wider_fits G T H U None (answer.ReadFault name) gives turns h = tt
+wider_fits G T H U None answer.WriteFault gives turns h = h
+wider_fits G T H U None answer.Usage gives turns h = h
+wider_fits G T H U None answer.Unbuilt gives turns h = h
+wider_fits G T H U None e gives turns h = tt
+wider_fits G T H U (Some files) answer.NoMemory gives turns h = tt
+wider_fits G T H U (Some files) (answer.ReadFault name) gives turns h = turns files name refl h
+wider_fits G T H U (Some files) answer.WriteFault gives turns h = h
+wider_fits G T H U (Some files) answer.Usage gives turns h = h
+wider_fits G T H U (Some files) answer.Unbuilt gives turns h = h
+wider_fits G T H U (Some files) e gives turns h = gives files refl h
+
+-- what a stage found fits where the files are told
+found_fits : {A : Type 0} (G : Files → Result A Answer → Type 0) (T : Files → List ℕ → Type 0) (told : Option Files) (a : A)
+    → Fits G T told (Ok a) → (files : Files) → told ≡ Some files → G files (Ok a)
+found_fits G T told a h files e = let P : Option Files → Type 0 = λ t. Fits G T t (Ok a) in subst P e h
+
+-- a cause of a later stage, whose counts began no lower
+later_cause : {A : Type 0} (old mid new : Shelved) (r : Result A Answer) → old.misses ≤ mid.misses → old.faults ≤ mid.faults
+    → Causes mid new r → Causes old new r
+later_cause old mid new (Ok a) m f h = tt
+later_cause old mid new (Err (answer.NoFile name)) m f h = Rose-after _ _ _ m h
+later_cause old mid new (Err (answer.ReadFault name)) m f h = Rose-after _ _ _ f h
+later_cause old mid new (Err e) m f h = tt
+
+same_cause : (A B : Type 0) (old new : Shelved) (e : Answer) → Causes {A = A} old new (Err e) → Causes {A = B} old new (Err e)
+same_cause A B old new (answer.NoFile name) h = h
+same_cause A B old new (answer.ReadFault name) h = h
+same_cause A B old new e h = tt
+
+-- a stage that refuses, as part of a wider stage
+pub refusal_within : {A B : Type 0} (G : Files → Result A Answer → Type 0) (T : Files → List ℕ → Type 0) (K : Files → Result B Answer → Type 0) (V : Files → List ℕ → Type 0)
+    (old new : Shelved) (e : Answer) → ((files : Files) → G files (Err e) → K files (Err e)) → ((files : Files) (name : List ℕ) → T files name → V files name)
+    → Staged G T old new (Err e) → Staged K V old new (Err e)
+refusal_within {A} {B} G T K V old new e gives turns s = record {
+  fits = wider_fits G T K V old.files e (λ files is h. gives files h) (λ files name is h. turns files name h) s.fits;
+  caused = same_cause A B old new e s.caused;
+  files = s.files;
+  misses = s.misses;
+  faults = s.faults;
+}
+
+-- a stage that finds a, and the stage that follows, as parts of a wider stage
+pub found_within : {A B : Type 0} (G : Files → Result A Answer → Type 0) (T : Files → List ℕ → Type 0) (H : Files → Result B Answer → Type 0) (U : Files → List ℕ → Type 0)
+    (K : Files → Result B Answer → Type 0) (V : Files → List ℕ → Type 0) (old mid new : Shelved) (a : A) (r : Result B Answer)
+    → ((files : Files) → G files (Ok a) → H files r → K files r) → ((files : Files) (name : List ℕ) → G files (Ok a) → U files name → V files name)
+    → Staged G T old mid (Ok a) → Staged H U mid new r → Staged K V old new r
+found_within {A} {B} G T H U K V old mid new a r gives turns s t =
+    let P : Option Files → Type 0 = λ told. Fits H U told r in
+    record {
+      fits = by_result old.files r s.fits (subst P s.files t.fits) gives;
+      caused = later_cause old mid new r s.misses s.faults t.caused;
+      files = t.files ∙ s.files;
+      misses = let first = s.misses in let second = t.misses in omega (arith, first, second);
+      faults = let first = s.faults in let second = t.faults in omega (arith, first, second);
+    }
+  where
+    by_result : (told : Option Files) (r : Result B Answer) → Fits G T told (Ok a) → Fits H U told r
+        → ((files : Files) → G files (Ok a) → H files r → K files r) → Fits K V told r
+    by_result None (Ok b) g h more = tt
+    by_result (Some files) (Ok b) g h more = more files g h
+    by_result told (Err e) g h more =
+        wider_fits H U K V told e (λ files is k. more files (found_fits G T told a g files is) k)
+        (λ files name is k. turns files name (found_fits G T told a g files is) k) h
+
+-- a stage that refuses, and would be followed by another
+pub refusal_then : {A B : Type 0} (G : Files → Result A Answer → Type 0) (T : Files → List ℕ → Type 0) (H : A → Files → Result B Answer → Type 0) (U : A → Files → List ℕ → Type 0)
+    (old new : Shelved) (e : Answer) → Staged G T old new (Err e) → Staged (λ files. Then (G files) (λ a. H a files)) (EitherTurn G T U) old new (Err e)
+refusal_then G T H U old new e =
+    refusal_within G T (λ files. Then (G files) (λ a. H a files)) (EitherTurn G T U) old new e (λ files h. refused h) (λ files name h. first_turn h)
+
+-- a stage that finds a, and the stage that follows
+pub found_then : {A B : Type 0} (G : Files → Result A Answer → Type 0) (T : Files → List ℕ → Type 0) (H : A → Files → Result B Answer → Type 0) (U : A → Files → List ℕ → Type 0)
+    (old mid new : Shelved) (a : A) (r : Result B Answer) → Staged G T old mid (Ok a) → Staged (H a) (U a) mid new r
+    → Staged (λ files. Then (G files) (λ a. H a files)) (EitherTurn G T U) old new r
+found_then G T H U old mid new a r =
+    found_within G T (H a) (U a) (λ files. Then (G files) (λ a. H a files)) (EitherTurn G T U) old mid new a r
+    (λ files g h. followed g h) (λ files name g h. second_turn g h)
+
+-- a stage that is refused memory, with the shelf as it was
+pub memory_staged : {A : Type 0} (G : Files → Result A Answer → Type 0) (T : Files → List ℕ → Type 0) (s : Shelved) → Staged G T s s (Err answer.NoMemory)
+memory_staged G T s = record { fits = tt; caused = tt; files = refl; misses = omega arith; faults = omega arith }
+
+-- ---- stages that look at no file
+
+pure_fits : {A : Type 0} (G : Result A Answer → Type 0) (told : Option Files) (r : Result A Answer) → Pure G r → Fits (λ files. G) NoTurn told r
+pure_fits G None (Ok a) h = tt
+pure_fits G (Some files) (Ok a) h = h
+pure_fits G told (Err answer.NoMemory) h = tt
+pure_fits G told (Err (answer.NoFile name)) h = absurd h
+pure_fits G told (Err (answer.ReadFault name)) h = absurd h
+pure_fits G told (Err answer.WriteFault) h = h
+pure_fits G told (Err answer.Usage) h = h
+pure_fits G told (Err answer.Unbuilt) h = h
+pure_fits G None (Err e) h = tt
+pure_fits G (Some files) (Err e) h = h
+
+pure_causes : {A : Type 0} (G : Result A Answer → Type 0) (s : Shelved) (r : Result A Answer) → Pure G r → Causes s s r
+pure_causes G s (Ok a) h = tt
+pure_causes G s (Err (answer.NoFile name)) h = absurd h
+pure_causes G s (Err (answer.ReadFault name)) h = absurd h
+pure_causes G s (Err e) h = tt
+
+pub pure_staged : {A : Type 0} (G : Result A Answer → Type 0) (s : Shelved) (r : Result A Answer) → Pure G r → Staged (λ files. G) NoTurn s s r
+pure_staged G s r h = record {
+  fits = pure_fits G s.files r h;
+  caused = pure_causes G s r h;
+  files = refl;
+  misses = omega arith;
+  faults = omega arith;
+}
+
+-- what a stage gives, given by another that gives at least that
+pub wider_staged : {A : Type 0} (G K : Files → Result A Answer → Type 0) (T V : Files → List ℕ → Type 0) (old new : Shelved) (r : Result A Answer)
+    → ((files : Files) → G files r → K files r) → ((files : Files) (name : List ℕ) → T files name → V files name) → Staged G T old new r → Staged K V old new r
+wider_staged {A} G K T V old new r gives turns s = record {
+  fits = by_result old.files r s.fits gives;
+  caused = s.caused;
+  files = s.files;
+  misses = s.misses;
+  faults = s.faults;
+}
+  where
+    by_result : (told : Option Files) (r : Result A Answer) → Fits G T told r → ((files : Files) → G files r → K files r) → Fits K V told r
+    by_result None (Ok a) h more = tt
+    by_result (Some files) (Ok a) h more = more files h
+    by_result told (Err e) h more = wider_fits G T K V told e (λ files is k. more files k) (λ files name is k. turns files name k) h
+
+-- ---- two stages that look at no file, one after the other
+
+pub pure_refused : {A B : Type 0} (G : Result A Answer → Type 0) (H : A → Result B Answer → Type 0) (e : Answer) → Pure G (Err e) → Pure (Then G H) (Err e)
+pure_refused G H answer.NoMemory h = tt
+pure_refused G H (answer.NoFile name) h = h
+pure_refused G H (answer.ReadFault name) h = h
+pure_refused G H answer.WriteFault h = h
+pure_refused G H answer.Usage h = h
+pure_refused G H answer.Unbuilt h = h
+pure_refused G H e h = refused h
+
+pub pure_found : {A B : Type 0} (G : Result A Answer → Type 0) (H : A → Result B Answer → Type 0) (a : A) (r : Result B Answer) → G (Ok a) → Pure (H a) r → Pure (Then G H) r
+pure_found G H a (Ok b) g h = followed g h
+pure_found G H a (Err answer.NoMemory) g h = tt
+pure_found G H a (Err (answer.NoFile name)) g h = h
+pure_found G H a (Err (answer.ReadFault name)) g h = h
+pure_found G H a (Err answer.WriteFault) g h = h
+pure_found G H a (Err answer.Usage) g h = h
+pure_found G H a (Err answer.Unbuilt) g h = h
+pure_found G H a (Err e) g h = followed g h

@@ -1,0 +1,9 @@
+pub mod Stages
+pub mod Words
+pub mod Faults
+pub mod Loading
+pub mod Verdict
+pub mod Output
+pub mod Outcome
+pub mod Laws
+pub mod Staged

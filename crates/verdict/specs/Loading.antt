@@ -1,0 +1,109 @@
+-- The stages of looking at an input: its query, its tables, and the query bound to them.
+use Rattle.std.specs.Prelude.{◌≡◌, ◌≢◌, ℕ, nat_lt, if◌then◌else◌, List, [], ◌∷◌, ◌++◌, map, length, Option, None, Some, option_map, unwrap_or, Result, Ok, Err}
+use Rattle.std.specs.List.{list_any, position_or_len}
+use Rattle.std.specs.Str.{bytes_eq}
+use Rattle.outer_io.specs.Files.{Files, bytes_of}
+use Rattle.query_parse.specs.declared.fault.ParseFault.{ParseFault}
+use Rattle.query_parse.specs.declared.fault.ParseFault.TheVariants.{NoMemory as out_of_memory}
+use Rattle.query_parse.specs.declared.select.ItemRef.{ItemRef}
+use Rattle.query_parse.specs.declared.select.Select.{Select}
+use Rattle.query_parse.specs.Parse.{IsParsed, Faults}
+use Rattle.anyk_model.specs.Table.{Table, flaw_of, records_of, table_of}
+use Rattle.anyk_model.specs.Query.{Query}
+use Rattle.query_bind.specs.Bind.{bind_fault}
+use Rattle.query_bind.specs.Binding.{bound_query}
+use Rattle.refusal_lines.specs.Answer.{Answer, NoFile, TooLarge, UnknownTable}
+use Rattle.verdict.specs.Faults.{of_parse, of_bind, of_flaw}
+use Rattle.verdict.specs.Stages.{then_by, unless}
+
+-- ---- one file
+
+-- the most bytes of a file
+abbrev pub most_bytes : ℕ
+most_bytes = 67108864
+
+abbrev pub short_enough : List ℕ → List ℕ → Result (List ℕ) Answer
+short_enough name bytes = if nat_lt most_bytes (length bytes) then Err (TooLarge name) else Ok bytes
+
+abbrev pub file_with : List ℕ → Option (List ℕ) → Result (List ℕ) Answer
+file_with name None = Err (NoFile name)
+file_with name (Some bytes) = short_enough name bytes
+
+-- the bytes of the file of this name
+abbrev pub file_in : Files → List ℕ → Result (List ℕ) Answer
+file_in files name = file_with name (bytes_of files name)
+
+-- ---- the query: a relation, since the grammar is one
+
+abbrev pub IsParse : List ℕ → Result Select Answer → Type 0
+IsParse bytes (Ok select) = IsParsed bytes select
+IsParse bytes (Err answer) =
+    (fault : ParseFault) × Faults bytes fault × (fault ≢ out_of_memory) × (answer ≡ of_parse fault)
+
+-- ---- the tables
+
+-- the first item in the order of the text whose table no word names, told by that word's file
+abbrev pub unknown_with : Option (List ℕ) → ℕ → Option Answer → Option Answer
+unknown_with None at later = Some (UnknownTable at)
+unknown_with (Some file) at later = later
+
+abbrev pub unknown_table : List (List ℕ × List ℕ) → List ItemRef → Option Answer
+unknown_table named [] = None
+unknown_table named (item ∷ items) = unknown_with (bytes_of named item.table) item.at (unknown_table named items)
+
+-- names without those that stand earlier too
+abbrev pub first_uses_after : List (List ℕ) → List (List ℕ) → List (List ℕ)
+first_uses_after earlier [] = []
+first_uses_after earlier (name ∷ names) =
+    if list_any (λ other. bytes_eq other name) earlier then first_uses_after earlier names
+    else name ∷ first_uses_after (earlier ++ name ∷ []) names
+
+abbrev pub table_names : List ItemRef → List (List ℕ)
+table_names items = map (λ (item : ItemRef). item.table) items
+
+-- the tables that items use, in the order of their first use
+abbrev pub first_uses : List ItemRef → List (List ℕ)
+first_uses items = first_uses_after [] (table_names items)
+
+-- the number of each item's table in that order
+abbrev pub table_numbers : List ItemRef → List ℕ
+table_numbers items = map (λ name. position_or_len (λ other. bytes_eq other name) (first_uses items)) (table_names items)
+
+-- the file of a table that some word names
+abbrev pub known_file : List (List ℕ × List ℕ) → List ℕ → List ℕ
+known_file named table = unwrap_or (bytes_of named table) []
+
+-- the table in the bytes of its file
+abbrev pub sound_table : List ℕ → List ℕ → Result Table Answer
+sound_table name bytes = unless (option_map (of_flaw name) (flaw_of (records_of bytes))) (table_of (records_of bytes))
+
+-- a table: its file, and then its records
+abbrev pub table_in : Files → List (List ℕ × List ℕ) → List ℕ → Result Table Answer
+table_in files named name = then_by (file_in files (known_file named name)) (sound_table name)
+
+-- tables one after another
+abbrev pub tables_in : Files → List (List ℕ × List ℕ) → List (List ℕ) → Result (List Table) Answer
+tables_in files named [] = Ok []
+tables_in files named (name ∷ names) =
+    then_by (table_in files named name) (λ table. then_by (tables_in files named names) (λ tables. Ok (table ∷ tables)))
+
+abbrev pub go_on : {A : Type 0} → Result A Answer → List (List ℕ) → List (List ℕ)
+go_on (Ok a) later = later
+go_on (Err answer) later = []
+
+-- the files that are read for these tables: up to the first that refuses
+abbrev pub files_read : Files → List (List ℕ × List ℕ) → List (List ℕ) → List (List ℕ)
+files_read files named [] = []
+files_read files named (name ∷ names) = known_file named name ∷ go_on (table_in files named name) (files_read files named names)
+
+-- ---- the query bound to its tables
+
+-- what is known of an accepted input
+pub record Found : Type 0 where
+  pub query : Query
+  pub tables : List Table
+
+abbrev pub bound_in : Select → List Table → Result Found Answer
+bound_in select tables =
+    unless (option_map of_bind (bind_fault select tables (table_numbers select.items)))
+    (record { query = bound_query select tables (table_numbers select.items); tables = tables })

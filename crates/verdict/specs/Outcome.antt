@@ -1,0 +1,115 @@
+-- What a call of the program has done, by what its words ask for and what the outside told.
+use Rattle.std.specs.Prelude.{◌≡◌, ◌≢◌, ◌⊎◌, ◌==◌, true, ℕ, List, [], ◌∷◌, Option, None, IfSome, Ok, Err}
+use Rattle.std.specs.List.{list_any}
+use Rattle.std.specs.Io.KnownBytes.{Appends}
+use Rattle.outer_io.specs.Counts.{Rose}
+use Rattle.outer_io.specs.Files.{Files}
+use Rattle.query_parse.specs.declared.select.Select.{Select}
+use Rattle.rankings.specs.Order.{IsMember}
+use Rattle.refusal_lines.specs.Answer as answer
+use Rattle.refusal_lines.specs.Answer.{Answer, status_of, line_of}
+use Rattle.verdict.specs.Words.{Words, Asked, no_command, not_built, run}
+use Rattle.verdict.specs.Loading.{Found, IsParse, file_in, unknown_table, first_uses, files_read}
+use Rattle.verdict.specs.Output.{output}
+use Rattle.refusal_lines.specs.Sent.{GotPrefix}
+use Rattle.verdict.specs.Verdict.{IsVerdict}
+
+-- the outside, at the call or at its end
+pub record Outside : Type 0 where
+  pub misses : ℕ
+  pub read_faults : ℕ
+  pub output : Option (List ℕ)
+  pub write_faults : ℕ
+  pub errors : Option (List ℕ)
+  pub error_faults : ℕ
+
+-- ---- what was written
+
+-- the line was written, as far as the sink for errors took it
+pub record HasLine (old new : Outside) (line : List ℕ) : Type 0 where
+  pub prefix : GotPrefix old.errors new.errors line
+  pub whole : (Rose old.error_faults new.error_faults → ⊥) → Appends old.errors new.errors line
+
+-- where the files are told: the input is accepted, and its complete output was written
+abbrev pub IsComplete : Asked → Option Files → Outside → Outside → Type 0
+IsComplete (run words) told old new =
+    IfSome told (λ files. (found : Found) × IsVerdict (run words) files (Ok found) × Appends old.output new.output (output words found))
+IsComplete asked told old new = ⊥
+
+-- where the files are told: the input is accepted, and the output got a prefix of its complete output
+abbrev pub GotAccepted : Asked → Option Files → Outside → Outside → Type 0
+GotAccepted (run words) told old new =
+    IfSome told (λ files. (found : Found) × IsVerdict (run words) files (Ok found) × GotPrefix old.output new.output (output words found))
+GotAccepted asked told old new = ⊥
+
+abbrev pub GotNothing : Outside → Outside → Type 0
+GotNothing old new = Appends old.output new.output []
+
+-- ---- the answers
+
+-- the file is read on this input: the query's, or, once that is parsed, one of the tables' up to the first refusal
+pub data IsTurnOf (words : Words) (files : Files) (name : List ℕ) : Type 0 where
+  query_turn : name ≡ words.query → IsTurnOf words files name
+  table_turn : {bytes : List ℕ} {select : Select} → file_in files words.query ≡ Ok bytes → IsParse bytes (Ok select)
+      → unknown_table words.tables select.items ≡ None → IsMember name (files_read files words.tables (first_uses select.items)) → IsTurnOf words files name
+
+abbrev pub IsTurn : Asked → Option Files → List ℕ → Type 0
+IsTurn (run words) told name = IfSome told (λ files. IsTurnOf words files name)
+IsTurn asked told name = ⊥
+
+-- where the files are told, the answer is the verdict on the input, or it speaks of what happened on the way
+abbrev pub IsAnswer : Asked → Option Files → Answer → Type 0
+IsAnswer asked told answer.Usage = asked ≡ no_command
+IsAnswer asked told answer.Unbuilt = asked ≡ not_built
+IsAnswer asked told (answer.ReadFault name) = IsTurn asked told name
+IsAnswer asked told answer.WriteFault = IfSome told (λ files. (found : Found) × IsVerdict asked files (Ok found))
+IsAnswer asked told answer.NoMemory = Unit {0}
+IsAnswer asked told refusal = IfSome told (λ files. IsVerdict asked files (Err refusal))
+
+-- an answer about the outside comes only where the count that belongs to it rose
+abbrev pub IsCaused : Outside → Outside → Answer → Type 0
+IsCaused old new (answer.NoFile name) = Rose old.misses new.misses
+IsCaused old new (answer.ReadFault name) = Rose old.read_faults new.read_faults
+IsCaused old new answer.WriteFault = Rose old.write_faults new.write_faults
+IsCaused old new other = Unit {0}
+
+-- what the output got where the answer is not success
+abbrev pub IsCut : Asked → Option Files → Outside → Outside → Answer → Type 0
+IsCut asked told old new answer.WriteFault = GotAccepted asked told old new
+IsCut asked told old new answer.NoMemory = GotNothing old new ⊎ GotAccepted asked told old new
+IsCut asked told old new other = GotNothing old new
+
+-- the call ended with this answer
+pub record Ended (asked : Asked) (told : Option Files) (old new : Outside) (answer : Answer) : Type 0 where
+  pub fits : IsAnswer asked told answer
+  pub caused : IsCaused old new answer
+  pub cut : IsCut asked told old new answer
+  pub line : HasLine old new (line_of answer)
+
+-- ---- completeness
+
+-- where the input is accepted and nothing failed, the call is done, or memory ran out
+abbrev pub IsDoneWhereAccepted : Asked → Option Files → Outside → Outside → ℕ → Type 0
+IsDoneWhereAccepted asked told old new status = IfSome told (λ files. (found : Found) → IsVerdict asked files (Ok found)
+    → (Rose old.read_faults new.read_faults → ⊥) → (Rose old.write_faults new.write_faults → ⊥) → (status ≡ 0) ⊎ (status ≡ 12))
+
+-- where the input is refused and no read failed, the status is the refusal's, or memory ran out
+abbrev pub IsRefusedWhereRefused : Asked → Option Files → Outside → Outside → ℕ → Type 0
+IsRefusedWhereRefused asked told old new status = IfSome told (λ files. (refusal : Answer) → IsVerdict asked files (Err refusal)
+    → (Rose old.read_faults new.read_faults → ⊥) → (status ≡ status_of refusal) ⊎ (status ≡ 12))
+
+-- ---- the whole
+
+abbrev pub statuses : List ℕ
+statuses = 0 ∷ 2 ∷ 3 ∷ 4 ∷ 5 ∷ 6 ∷ 7 ∷ 8 ∷ 9 ∷ 10 ∷ 11 ∷ 12 ∷ 13 ∷ []
+
+-- all that is said of one call of the program
+pub record Outcome (asked : Asked) (told : Option Files) (old new : Outside) (status : ℕ) : Type 0 where
+  pub known : list_any (λ s. s == status) statuses ≡ true
+  pub done : status ≡ 0 → IsComplete asked told old new
+  pub quiet : status ≡ 0 → Appends old.errors new.errors []
+  pub refused : status ≢ 0 → (answer : Answer) × (status_of answer ≡ status) × Ended asked told old new answer
+  pub usage : asked ≡ no_command → (status ≡ 2) ⊎ (status ≡ 12)
+  pub unbuilt : asked ≡ not_built → (status ≡ 13) ⊎ (status ≡ 12)
+  pub accepted : IsDoneWhereAccepted asked told old new status
+  pub exact : IsRefusedWhereRefused asked told old new status

@@ -1,0 +1,53 @@
+-- What one stage of a call answers: the verdict of its stage, or a cause on the way.
+use Rattle.std.specs.Prelude.{◌≡◌, ◌≤◌, ℕ, List, Option, IfSome, Result, Ok, Err}
+use Rattle.outer_io.specs.Counts.{Rose}
+use Rattle.outer_io.specs.Files.{Files}
+use Rattle.refusal_lines.specs.Answer as answer
+use Rattle.refusal_lines.specs.Answer.{Answer}
+
+-- what a shelf tells and counts, before a stage or after it
+pub record Shelved : Type 0 where
+  pub files : Option Files
+  pub misses : ℕ
+  pub faults : ℕ
+
+-- where the files are told: the result is the stage's, or, where a read failed, the file is one that the stage reads
+abbrev pub Fits : {A : Type 0} → (Files → Result A Answer → Type 0) → (Files → List ℕ → Type 0) → Option Files → Result A Answer → Type 0
+Fits Gives Turn told (Err answer.NoMemory) = Unit {0}
+Fits Gives Turn told (Err (answer.ReadFault name)) = IfSome told (λ files. Turn files name)
+Fits Gives Turn told (Err answer.WriteFault) = ⊥
+Fits Gives Turn told (Err answer.Usage) = ⊥
+Fits Gives Turn told (Err answer.Unbuilt) = ⊥
+Fits Gives Turn told result = IfSome told (λ files. Gives files result)
+
+-- an answer about the shelf comes only where its count rose
+abbrev pub Causes : {A : Type 0} → Shelved → Shelved → Result A Answer → Type 0
+Causes old new (Err (answer.NoFile name)) = Rose old.misses new.misses
+Causes old new (Err (answer.ReadFault name)) = Rose old.faults new.faults
+Causes old new result = Unit {0}
+
+pub record Staged {A : Type 0} (Gives : Files → Result A Answer → Type 0) (Turn : Files → List ℕ → Type 0) (old new : Shelved) (result : Result A Answer) : Type 0 where
+  pub fits : Fits Gives Turn old.files result
+  pub caused : Causes old new result
+  pub files : new.files ≡ old.files
+  pub misses : old.misses ≤ new.misses
+  pub faults : old.faults ≤ new.faults
+
+-- a stage that looks at no file: its answer, or want of memory
+abbrev pub Pure : {A : Type 0} → (Result A Answer → Type 0) → Result A Answer → Type 0
+Pure Gives (Err answer.NoMemory) = Unit {0}
+Pure Gives (Err (answer.NoFile name)) = ⊥
+Pure Gives (Err (answer.ReadFault name)) = ⊥
+Pure Gives (Err answer.WriteFault) = ⊥
+Pure Gives (Err answer.Usage) = ⊥
+Pure Gives (Err answer.Unbuilt) = ⊥
+Pure Gives result = Gives result
+
+-- it reads none
+abbrev pub NoTurn : Files → List ℕ → Type 0
+NoTurn files name = ⊥
+
+-- the files that two stages read, one after the other
+pub data EitherTurn {A : Type 0} (Gives : Files → Result A Answer → Type 0) (First : Files → List ℕ → Type 0) (Second : A → Files → List ℕ → Type 0) (files : Files) (name : List ℕ) : Type 0 where
+  first_turn : First files name → EitherTurn Gives First Second files name
+  second_turn : {a : A} → Gives files (Ok a) → Second a files name → EitherTurn Gives First Second files name

@@ -1,0 +1,5 @@
+use Rattle.witness_key.proofs.Rankings.{keys-tell-witnesses}
+use Rattle.witness_key.proofs.keys_tell_witnesses.Goals as goal
+
+pub returns : goal.returns
+returns c = λ d query tables a b items of_a of_b alike. keys-tell-witnesses d query tables a b items of_a of_b alike

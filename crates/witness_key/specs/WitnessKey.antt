@@ -1,0 +1,25 @@
+-- The key of a rank that stands for a combination of rows of a query, and the answer that it is seen as.
+use Rattle.std.specs.Prelude.{◌≡◌, ℕ, List, map}
+use Rattle.tdp_model.specs.KeyTuple.{KeyOf}
+use Rattle.tdp_model.specs.KeyNumbers.{key_of_lists}
+use Rattle.tdp_core.specs.Seen.{Seen, answer_of}
+use Rattle.anyk_model.specs.Table.{Table}
+use Rattle.anyk_model.specs.Query.{Query, IsWitness, rank_of}
+
+-- the sums as they are compared, with zeros up to d of them, and each row number in the slot of its item
+abbrev pub witness_key : (d : ℕ) → Query → List Table → List ℕ → KeyOf d 16
+witness_key d query tables rows = key_of_lists d 16 (map (rank_of query tables rows) query.order) rows
+
+-- the key of some witness
+pub record IsWitnessKey (d : ℕ) (query : Query) (tables : List Table) (key : KeyOf d 16) : Type 0 where
+  pub rows : List ℕ
+  pub witness : IsWitness query tables rows
+  pub is : key ≡ witness_key d query tables rows
+
+-- the answer that stands for a combination: its row numbers, with zeros up to 16 of them, and the numbers of its key
+abbrev pub answer_of_witness : (d : ℕ) → Query → List Table → List ℕ → Seen
+answer_of_witness d query tables rows = answer_of d (witness_key d query tables rows)
+
+-- the answers that stand for combinations
+abbrev pub answers_of_ranking : (d : ℕ) → Query → List Table → List (List ℕ) → List Seen
+answers_of_ranking d query tables list = map (answer_of_witness d query tables) list

@@ -1,0 +1,33 @@
+//! How a query's own key and the key of a rank belong together. A rank has room for more sums and more
+//! rows than a query has, and what is left of it is 0 in every witness of one query. So ranks stand in
+//! the order of the query's own keys.
+#![tactic(auto)]
+
+ghost use Rattle.std.specs.Prelude.{◌≡◌, ◌≤◌, ◌↔◌, ℕ, List, length, map};
+ghost use Rattle.rankings.specs.Order.{IsRanking};
+ghost use Rattle.tdp_model.specs.KeyTuple.{KeyOf, key_below};
+ghost use Rattle.anyk_model.specs.Table.{Table};
+ghost use Rattle.anyk_model.specs.Query.{Query};
+ghost use Rattle.anyk_model.specs.Ranking.{Precedes, ranking_of};
+ghost use Rattle.witness_key.specs.WitnessKey.{IsWitnessKey, witness_key};
+
+/// Of two combinations the ranks stand in the order in which the query's own keys do.
+pub fn both_orders_agree()
+    ensures { (d : ℕ) (query : Query) (tables : List Table) (a b : List ℕ) → length query.order ≤ d → length query.items ≤ 16
+        → length a ≡ length query.items → length b ≡ length query.items
+        → key_below d 16 (witness_key d query tables a) (witness_key d query tables b) ↔ Precedes query tables a b }
+{}
+
+/// No two combinations have one key.
+pub fn keys_tell_witnesses()
+    ensures { (d : ℕ) (query : Query) (tables : List Table) (a b : List ℕ) → length query.items ≤ 16
+        → length a ≡ length query.items → length b ≡ length query.items
+        → witness_key d query tables a ≡ witness_key d query tables b → a ≡ b }
+{}
+
+/// The ranking of the witnesses' keys is that of the witnesses.
+pub fn rankings_agree()
+    ensures { (d : ℕ) (query : Query) (tables : List Table) (keys : List (KeyOf d 16)) → length query.order ≤ d → length query.items ≤ 16
+        → IsRanking (KeyOf d 16) (key_below d 16) (IsWitnessKey d query tables) keys
+        → keys ≡ map (witness_key d query tables) (ranking_of query tables) }
+{}

@@ -1,0 +1,531 @@
+#!/usr/bin/env python3
+"""Compares the program with a plain evaluation, written apart from it, on generated tables and queries.
+
+usage: tests/differential.py [PROGRAM] [COUNT]
+
+PROGRAM is ./anyk where it is not given, and COUNT is 300. Each case has a seed of its own, from 1 on, so that a case that
+fails is the same in the next run. Tables and queries are small and their values few, so that rows join and sums tie. The
+evaluation here goes through all combinations of rows, keeps those for which every equality holds on bytes, sorts by the sums
+(negated where a key descends) and then by the row numbers, and cuts at the limit. A query is cyclic where ears are removed,
+the greatest first, until none is left, and more than one item is left; it is refused with these items. Output, error output
+and status are compared to the byte. After that come inputs with their output, and inputs that are refused, each with its line
+and status.
+"""
+import itertools
+import os
+import random
+import subprocess
+import sys
+import tempfile
+
+KEYWORDS = set("select from where and order by limit asc desc as join inner on union all".split())
+TABLE_NAMES = ["R", "S", "T", "u_2", "Big Table", "order", "Ab"]
+ALIASES = ["a", "b", "c", "x1", "Q", "left side", "from", "_"]
+COLUMN_NAMES = ["a", "b", "c", "k", "A", "two words", "limit", "søk", "x,y", ""]
+WEIGHT_NAMES = ["w", "v", "price", "W", "by"]
+TEXTS = ["x", "y", "x", "z", "", "1", "01", "-1", "a,b", 'q"q', "it's", "two\nlines", "é", "x "]
+WEIGHTS = ["0", "1", "2", "2", "3", "-1", "-3", "+2", "007", "-0", "10" + "0" * 36, "-1" + "0" * 36]
+
+
+# ---- csv
+
+def needs_quotes(field):
+    return any(it in field for it in ',"\r\n')
+
+
+def quoted(field):
+    return '"' + field.replace('"', '""') + '"'
+
+
+def output_record(fields):
+    """A record as it is expected: quotes only where a field needs them, or where it is the empty only one."""
+    if fields == [""]:
+        return '""\n'
+    return ",".join(quoted(it) if needs_quotes(it) else it for it in fields) + "\n"
+
+
+def table_file(rng, names, rows):
+    """A table's file, with quotes that are needed and some that are not."""
+    end = rng.choice(["\n", "\n", "\r\n"])
+    lines = []
+    for fields in [names, *rows]:
+        must = fields == [""]
+        lines.append(",".join(quoted(it) if must or needs_quotes(it) or rng.random() < 0.1 else it for it in fields))
+    text = end.join(lines) + (end if rng.random() < 0.8 else "")
+    return ("\ufeff" if rng.random() < 0.05 else "") + text
+
+
+# ---- cyclic queries
+
+def classes_of(equalities):
+    """The columns that equalities lead to from each other, each class with whether a constant is among what it equals."""
+    classes = []
+    for left, right in equalities:
+        columns, is_fixed = {it for it in (left, right) if isinstance(it, tuple)}, not isinstance(right, tuple)
+        met = [it for it in classes if it[0] & columns]
+        classes = [it for it in classes if not it[0] & columns]
+        for others, is_other_fixed in met:
+            columns, is_fixed = columns | others, is_fixed or is_other_fixed
+        classes.append((columns, is_fixed))
+    return classes
+
+
+def variables_of(equalities):
+    """Each variable as the set of its items: a class without a constant that has columns in at least two items."""
+    sets = [{item for item, _ in columns} for columns, is_fixed in classes_of(equalities) if not is_fixed]
+    return [it for it in sets if len(it) > 1]
+
+
+def is_ear(variables, live, e):
+    """Whether another live item has every variable that e shares with any other live item."""
+    shared = [it for it in variables if e in it and it & live != {e}]
+    return any(all(f in it for it in shared) for f in live - {e})
+
+
+def core_of(variables, items):
+    """The items that are left where ears are removed, the greatest first. It is one where the query is not cyclic."""
+    live = set(range(items))
+    while len(live) > 1:
+        ears = [it for it in live if is_ear(variables, live, it)]
+        if not ears:
+            break
+        live.remove(max(ears))
+    return sorted(live)
+
+
+# ---- queries
+
+class Case:
+    """A query with its tables, as its text, its words and its expected output."""
+
+    def __init__(self, seed):
+        self.rng = rng = random.Random(seed)
+        # (all tables draw from the same few texts, so that rows join)
+        self.few = rng.sample(TEXTS, rng.randint(1, 3))
+        self.tables = {}
+        for name in rng.sample(TABLE_NAMES, rng.randint(1, 3)):
+            self.tables[name] = self.table()
+        self.items = []
+        for _ in range(rng.choice([1, 2, 2, 2, 3, 3, 4])):
+            self.items.append(self.item())
+        self.list = None if rng.random() < 0.15 else [self.column() for _ in range(rng.randint(1, 4))]
+        self.where, self.on = [], [None] + [[] for _ in self.items[1:]]
+        for at in range(1, len(self.items)):
+            if rng.random() < 0.4:
+                self.on[at] = [self.equality(at) for _ in range(rng.randint(1, 2))]
+            else:
+                self.on[at] = None
+                if rng.random() < 0.7:
+                    self.where.append(self.equality(at))
+        if len(self.items) > 2 and rng.random() < 0.7:
+            self.where = self.ring() or self.where
+        for _ in range(rng.choice([0, 0, 1, 1, 2])):
+            self.where.append(self.equality(None))
+        self.keys = [it for it in (self.key() for _ in range(rng.choice([0, 1, 1, 1, 2, 3]))) if it]
+        self.limit = rng.choice([None, None, 0, 1, 2, 5, 20, 18446744073709551615])
+        self.ranks, self.rows = rng.random() < 0.5, rng.random() < 0.5
+
+    def table(self):
+        rng = self.rng
+        texts = rng.sample(COLUMN_NAMES, rng.randint(1, 3))
+        weights = rng.sample(WEIGHT_NAMES, rng.randint(0, 2))
+        names = texts + weights
+        rng.shuffle(names)
+        few = self.few
+        some = rng.sample(WEIGHTS, rng.randint(2, 5))
+        rows = [[rng.choice(some if it in weights else few) for it in names] for _ in range(rng.choice([0, 1, 2, 3, 3, 4, 4, 5, 5, 6, 6, 6]))]
+        if rng.random() < 0.3 and 0 < len(rows) < 6:
+            rows.append(list(rows[0]))
+        return names, rows, [it in weights for it in names]
+
+    def item(self):
+        """A table and its alias, which no item has yet."""
+        rng = self.rng
+        table = rng.choice(list(self.tables))
+        taken = {alias for _, alias in self.items}
+        if table not in taken and rng.random() < 0.5:
+            return table, table
+        return table, rng.choice([it for it in ALIASES if it not in taken])
+
+    def names(self, item):
+        return self.tables[self.items[item][0]][0]
+
+    def column(self, item=None):
+        item = self.rng.randrange(len(self.items)) if item is None else item
+        return item, self.rng.randrange(len(self.names(item)))
+
+    def text_column(self, item=None):
+        """A column of texts, or now and then any."""
+        item, place = self.column(item)
+        texts = [it for it, is_weight in enumerate(self.tables[self.items[item][0]][2]) if not is_weight]
+        return item, place if self.rng.random() < 0.1 else self.rng.choice(texts)
+
+    def equality(self, item):
+        """Two sides: columns as pairs of numbers, constants as what they mean."""
+        rng = self.rng
+        left = self.text_column(item)
+        if item is None and rng.random() < 0.5:
+            return left, rng.choice([*self.few, *self.few, rng.choice(["x", "", "1", "01", "-1", "it's"])])
+        other = rng.randrange(item) if item and rng.random() < 0.9 else None
+        return left, self.text_column(other)
+
+    def two_columns(self, item):
+        """Two columns of an item, of texts where it has two of them."""
+        is_weight = self.tables[self.items[item][0]][2]
+        texts = [it for it, weighs in enumerate(is_weight) if not weighs]
+        return [(item, it) for it in self.rng.sample(texts if len(texts) > 1 else range(len(is_weight)), 2)]
+
+    def ring(self):
+        """Equalities round three items or more, each left by another column than it is entered by: many are cyclic."""
+        able = [it for it in range(len(self.items)) if len(self.names(it)) > 1]
+        if len(able) < 3:
+            return []
+        sides = [self.two_columns(it) for it in self.rng.sample(able, self.rng.randint(3, len(able)))]
+        return [(one[1], other[0]) for one, other in zip(sides, sides[1:] + sides[:1])]
+
+    def key(self):
+        rng = self.rng
+        weights = [(i, c) for i, (table, _) in enumerate(self.items) for c, it in enumerate(self.tables[table][2]) if it]
+        if not weights:
+            return None
+        terms = [(rng.choice([1, 1, 1, -1]), rng.choice(weights)) for _ in range(rng.randint(1, 3))]
+        return terms, rng.random() < 0.4
+
+    # -- the text
+
+    def word(self, keyword):
+        return self.rng.choice([keyword, keyword.upper(), keyword.capitalize()])
+
+    def name_text(self, name):
+        is_bare = name != "" and name.isascii() and (name[0].isalpha() or name[0] == "_") and all(it.isalnum() or it == "_" for it in name)
+        if is_bare and name.lower() not in KEYWORDS and self.rng.random() < 0.85:
+            return name
+        return f'"{name}"'
+
+    def column_tokens(self, column):
+        item, place = column
+        name = self.names(item)[place]
+        is_only = sum(self.names(it).count(name) for it in range(len(self.items))) == 1
+        if is_only and self.rng.random() < 0.6:
+            return [self.name_text(name)]
+        return [self.name_text(self.items[item][1]), ".", self.name_text(name)]
+
+    def side_tokens(self, side):
+        if isinstance(side, tuple):
+            return self.column_tokens(side)
+        digits = side[1:] if side.startswith("-") else side
+        if digits.isascii() and digits.isdigit() and self.rng.random() < 0.6:
+            return ["-"] * side.startswith("-") + [digits]
+        return ["'" + side.replace("'", "''") + "'"]
+
+    def equality_tokens(self, equality):
+        left, right = equality
+        if self.rng.random() < 0.3:
+            left, right = right, left
+        return self.side_tokens(left) + ["="] + self.side_tokens(right)
+
+    def equalities_tokens(self, equalities):
+        tokens = []
+        for at, it in enumerate(equalities):
+            tokens += [self.word("and")] * (at > 0) + self.equality_tokens(it)
+        return tokens
+
+    def tokens(self):
+        rng = self.rng
+        tokens = [self.word("select")]
+        if self.list is None:
+            tokens.append("*")
+        for at, it in enumerate(self.list or []):
+            tokens += [","] * (at > 0) + self.column_tokens(it)
+        tokens.append(self.word("from"))
+        for at, (table, alias) in enumerate(self.items):
+            if at and self.on[at] is None:
+                tokens.append(",")
+            elif at:
+                tokens += [self.word("inner")] * (rng.random() < 0.3) + [self.word("join")]
+            tokens.append(self.name_text(table))
+            if alias != table or rng.random() < 0.2:
+                tokens += [self.word("as")] * (rng.random() < 0.5) + [self.name_text(alias)]
+            if at and self.on[at]:
+                tokens += [self.word("on")] + self.equalities_tokens(self.on[at])
+        if self.where:
+            tokens += [self.word("where")] + self.equalities_tokens(self.where)
+        for at, (terms, descending) in enumerate(self.keys):
+            tokens += [","] if at else [self.word("order"), self.word("by")]
+            for number, (sign, column) in enumerate(terms):
+                if number or sign < 0 or rng.random() < 0.1:
+                    tokens.append("+" if sign > 0 else "-")
+                tokens += self.column_tokens(column)
+            if descending:
+                tokens.append(self.word("desc"))
+            elif rng.random() < 0.3:
+                tokens.append(self.word("asc"))
+        if self.limit is not None:
+            tokens += [self.word("limit"), "0" * rng.randint(0, 1) + str(self.limit)]
+        return tokens + [";"] * (rng.random() < 0.3)
+
+    def text(self):
+        """The tokens with blanks between them: at least one where two words would run together."""
+        joined, last = self.blanks(0), ""
+        for token in self.tokens():
+            runs_on = last != "" and (last[-1].isalnum() or last[-1] == "_") and (token[0].isalnum() or token[0] == "_")
+            # (two quotes of one kind beside each other would read as another token)
+            meets = last != "" and last[-1] in "'\"" and token[0] == last[-1]
+            joined += self.blanks(1 if runs_on or meets or self.rng.random() < 0.8 else 0) + token
+            last = token
+        return joined + self.blanks(0)
+
+    def blanks(self, least):
+        rng = self.rng
+        count = least if rng.random() < 0.9 else least + rng.randint(0, 2)
+        return "".join(rng.choice("    \n\t\r") for _ in range(count))
+
+    def words(self):
+        rng = self.rng
+        named = [f"{name}=t{at}.csv" for at, name in enumerate(self.tables)]
+        if rng.random() < 0.1:
+            # (a table that no item uses is not read)
+            named.append("unused=missing.csv")
+        rng.shuffle(named)
+        options = ["--ranks"] * self.ranks + ["--rows"] * self.rows
+        engine = rng.choice([None, None, ["--engine", "part"], ["--engine", "rec"], ["--engine=rec"]])
+        options = [[it] for it in options] + ([engine] if engine else [])
+        rng.shuffle(options)
+        flat = [it for option in options for it in option]
+        return ["run", *flat, "q.sql", *named] if rng.random() < 0.7 else ["run", "q.sql", *named, *flat]
+
+    def files(self):
+        made = {"q.sql": self.text()}
+        for at, (names, rows, _) in enumerate(self.tables.values()):
+            made[f"t{at}.csv"] = table_file(self.rng, names, rows)
+        return made
+
+    # -- the evaluation
+
+    def equalities(self):
+        return self.where + [it for on in self.on for it in on or []]
+
+    def core(self):
+        return core_of(variables_of(self.equalities()), len(self.items))
+
+    def expected(self):
+        """Status, output and error output, and how many witnesses there are."""
+        core = self.core()
+        if len(core) > 1:
+            return (6, b"", f"anyk: {cyclic(*[it + 1 for it in core])}\n".encode()), 0
+        text, found = self.answered()
+        return (0, text.encode(), b""), found
+
+    def answered(self):
+        """The output, and how many witnesses there are."""
+        lists = [self.tables[table][1] for table, _ in self.items]
+
+        def value(rows, column):
+            return lists[column[0]][rows[column[0]] - 1][column[1]]
+
+        def side(rows, it):
+            return value(rows, it) if isinstance(it, tuple) else it
+
+        equalities = self.equalities()
+        found = []
+        for rows in itertools.product(*[range(1, len(it) + 1) for it in lists]):
+            if all(side(rows, left) == side(rows, right) for left, right in equalities):
+                sums = [sum(sign * int(value(rows, column)) for sign, column in terms) for terms, _ in self.keys]
+                compared = [-it if descending else it for it, (_, descending) in zip(sums, self.keys)]
+                found.append((compared, rows, sums))
+        found.sort()
+        shown = self.list or [(item, place) for item in range(len(self.items)) for place in range(len(self.names(item)))]
+        header = [self.names(item)[place] for item, place in shown]
+        header += [f"rank{it + 1}" for it in range(len(self.keys))] if self.ranks else []
+        header += [f"row{it + 1}" for it in range(len(self.items))] if self.rows else []
+        text = output_record(header)
+        for _, rows, sums in found[: self.limit]:
+            record = [value(rows, it) for it in shown]
+            record += [str(it) for it in sums] if self.ranks else []
+            record += [str(it) for it in rows] if self.rows else []
+            text += output_record(record)
+        return text, len(found)
+
+
+# ---- fixed inputs: files, words, status, and the output or the line on the error output
+
+R = "a,b,w\n1,x,3\n2,y,1\n3,x,1\n"
+S = "b,c,w\nx,p,5\ny,q,2\nx,q,4\n"
+JOIN = "select R.a, S.c from R, S where R.b = S.b order by R.w + S.w"
+GREATEST = 2**127 - 1
+
+E = "a,b,w\n1,1,1\n1,2,2\n2,1,3\n"
+TRIANGLE = "A.b = B.a and B.b = C.a and C.b = A.a"
+FIVE = "i1.a = i2.a and i2.a = i4.a and i2.b = i3.a and i3.b = i1.b and i1.b = i5.a and i4.b = i5.b"
+
+# (14 items of MANY and two rows of one item more are as many node rows as there may be)
+MANY = "a\n" + "x\n" * 299593
+NODES = "select N.a from N, " + ", ".join(f"M m{it}" for it in range(14)) + ", L where L.a = 'x'"
+NODE_WORDS = ["run", "q.sql", "N=N.csv", "M=M.csv", "L=L.csv"]
+
+
+def over(query, status, line, words=None, **files):
+    """A refusal of a query over R and S, or other files."""
+    made = {"q.sql": query, "R.csv": R, "S.csv": S, **{f"{name}.csv": text for name, text in files.items()}}
+    return {it: text for it, text in made.items() if text is not None}, words or ["run", "q.sql", "R=R.csv", "S=S.csv"], status, line
+
+
+def edges(query, status, line, *options, **files):
+    """A query over E, or other files too: its refusal, or its output where the status is 0."""
+    made = {"q.sql": query, "E.csv": E, **{f"{name}.csv": text for name, text in files.items()}}
+    return made, ["run", *options, "q.sql", "E=E.csv", *[f"{it}={it}.csv" for it in files if it != "E"]], status, line
+
+
+def cyclic(*items):
+    return " ".join(["cyclic query: items", *map(str, items)])
+
+
+# each is answered with this output
+ANSWERS = [
+    # (a constant on one of the three classes of a triangle leaves a path)
+    edges(f"select A.b from E A, E B, E C where {TRIANGLE} and A.a = '1'", 0, "b,row1,row2,row3\n1,1,1,1\n1,1,2,3\n2,2,3,1\n", "--rows"),
+    edges(f"select B.b from E A, E B, E C where {TRIANGLE} and '1' = C.a order by B.w desc", 0, "b\n1\n1\n1\n"),
+    # (an item that has all three variables, last and first)
+    edges(f"select A.a from E A, E B, E C, D where {TRIANGLE} and D.x = A.a and D.y = A.b and D.z = B.b", 0,
+          "a,row1,row2,row3,row4\n1,1,2,3,1\n", "--rows", D="x,y,z\n1,1,2\n2,2,2\n"),
+    edges(f"select A.a from D, E A, E B, E C where {TRIANGLE} and D.x = A.a and D.y = A.b and D.z = B.b", 0,
+          "a,row1,row2,row3,row4\n1,1,1,2,3\n", "--rows", D="x,y,z\n1,1,2\n2,2,2\n"),
+    # (one class for all three: a star)
+    edges("select A.b, B.b, C.b from E A, E B, E C where A.a = B.a and B.a = C.a and C.a = A.a and A.b = '2' limit 2", 0,
+          "b,b,b\n2,1,1\n2,1,2\n"),
+    # (no row of the first item, so there is no combination)
+    over(NODES, 0, "a\n", NODE_WORDS, N="a\n", M=MANY, L="a\nx\ny\nx\ny\n"),
+]
+
+
+REFUSALS = [
+    over(JOIN, 2, "usage", ["run"]),
+    over(JOIN, 2, "usage", ["go", "q.sql", "R=R.csv"]),
+    over(JOIN, 2, "usage", ["run", "q.sql"]),
+    over(JOIN, 2, "usage", ["run", "q.sql", "R.csv"]),
+    over(JOIN, 2, "usage", ["run", "q.sql", "=R.csv"]),
+    over(JOIN, 2, "usage", ["run", "q.sql", "R="]),
+    over(JOIN, 2, "usage", ["run", "q.sql", "R=R.csv", "R=R.csv"]),
+    over(JOIN, 2, "usage", ["run", "--engine", "best", "q.sql", "R=R.csv"]),
+    over(JOIN, 2, "usage", ["run", "--help"]),
+    over(JOIN, 2, "usage", ["run", "--ranks", "--ranks", "q.sql", "R=R.csv"]),
+    over(JOIN, 2, "usage", ["plan", "--ranks", "q.sql", "R=R.csv", "S=S.csv"]),
+    over(JOIN, 2, "usage", ["load", "--number", "1", "--rows", "0"]),
+    over("select R.a from R where R.a < 1", 3, "syntax error at byte 28"),
+    over("select R.a R.b from R", 3, "syntax error at byte 11"),
+    over("select R.a from", 3, "syntax error at byte 15"),
+    over("select R.a from R where R.a = 'x", 3, "syntax error at byte 30"),
+    over("select a.* from R a", 3, "syntax error at byte 9"),
+    over("", 3, "syntax error at byte 0"),
+    over("select w from R, S", 4, "byte 7: ambiguous column"),
+    over("select R.a from R, R", 4, "item 2: alias used twice"),
+    over("select X.a from R", 4, "byte 7: unknown alias"),
+    over("select R.a from R r", 4, "byte 7: unknown alias"),
+    over("select R.zz from R", 4, "byte 7: unknown column"),
+    over("select zz from R, S", 4, "byte 7: unknown column"),
+    over(JOIN, 4, "byte 24: unknown table", ["run", "q.sql", "R=R.csv"]),
+    over(JOIN, 5, "table S: no header", S=""),
+    over(JOIN, 5, "table S: column 3: name used twice", S="b,c,b\n"),
+    over(JOIN, 5, "table R: row 2: wrong number of fields", R="a,b,w\n1,x,3\n2,y\n"),
+    over(JOIN, 5, "item 1: row 2: column 3: not a weight", R="a,b,w\n1,x,3\n2,y,12x\n"),
+    over(JOIN, 5, "item 2: row 1: column 3: not a weight", S="b,c,w\nx,p,\n"),
+    over(JOIN, 5, "item 1: row 1: column 3: not a weight", R=f"a,b,w\n1,x,{GREATEST + 1}\n"),
+    edges(f"select A.a from E A, E B, E C where {TRIANGLE}", 6, cyclic(1, 2, 3)),
+    edges("select A.a from E A join E B on A.b = B.a join E C on C.b = A.a and B.b = C.a order by A.w + B.w limit 0", 6,
+          cyclic(1, 2, 3), "--ranks"),
+    edges(f"select A.a from E A, E B, E C where {TRIANGLE}", 6, cyclic(1, 2, 3), "--engine", "rec", E="a,b\n"),
+    # (a constant on the class of another column changes nothing)
+    edges(f"select A.a from E A, E B, E C where {TRIANGLE} and A.w = '1'", 6, cyclic(1, 2, 3)),
+    # (tails of a triangle are no part of the core: behind it, and before and in it)
+    edges(f"select A.a from E A, E B, E C, E D, E F where {TRIANGLE} and D.a = B.b and D.b = F.a", 6, cyclic(1, 2, 3)),
+    edges(f"select A.a from E D, E A, E B, E F, E C where {TRIANGLE} and D.a = B.b and D.b = F.a", 6, cyclic(2, 3, 5)),
+    edges(f"select i1.a from E i1, E i2, E i3, E i4, E i5 where {FIVE}", 6, cyclic(1, 2, 3, 4, 5)),
+    edges("select A.a from E A, E B, E C, E D where A.b = B.a and B.b = C.a and C.b = D.a and D.b = A.a", 6, cyclic(1, 2, 3, 4)),
+    # (of two alike items the one with the greater number is removed)
+    edges(f"select A.a from E A, E B, E X, E C where {TRIANGLE} and X.a = B.a and X.b = B.b", 6, cyclic(1, 2, 4)),
+    # (two triangles apart: 4 3 2 and 7 6 5, and an item beside them)
+    edges(f"select A.a from R, E A, E B, E C, E X, E Y, E Z where {TRIANGLE} and X.b = Y.a and Y.b = Z.a and Z.b = X.a", 6,
+          cyclic(2, 3, 4, 5, 6, 7), R=R),
+    # (names, weights and ranges come first)
+    edges(f"select A.zz from E A, E B, E C where {TRIANGLE}", 4, "byte 7: unknown column"),
+    edges(f"select A.a from E A, E B, E C where {TRIANGLE} order by B.w", 5, "item 2: row 1: column 3: not a weight",
+          E="a,b,w\n1,1,x\n"),
+    edges(f"select A.a from E A, E B, E C where {TRIANGLE} order by A.w, B.w + C.w", 7, "order key 2: rank may pass 128 bits",
+          E=f"a,b,w\n1,1,{GREATEST}\n"),
+    over(JOIN, 7, "order key 1: rank may pass 128 bits", R=f"a,b,w\n1,x,{GREATEST}\n", S="b,c,w\nx,p,1\n"),
+    over("select R.a from R order by R.w, R.w + R.w", 7, "order key 2: rank may pass 128 bits", R=f"a,b,w\n1,x,-{GREATEST}\n"),
+    over("select R.a from R" + " " * 65536, 8, "query longer than 65536 bytes"),
+    over("select a1.a from " + ", ".join(f"R a{it}" for it in range(1, 18)), 8, "more than 16 items"),
+    over("select R.a from R order by " + ", ".join(["R.w"] * 9), 8, "more than 8 order keys"),
+    over("select R.a from R limit 18446744073709551616", 8, "limit at byte 24 out of range"),
+    over(JOIN, 8, "table R: more than 64 columns", R=",".join(f"c{it}" for it in range(65)) + "\n"),
+    over(NODES, 8, "more than 4194304 node rows", NODE_WORDS, N="a\n", M=MANY, L="a\nx\ny\nx\nx\n"),
+    over(None, 9, "file q.sql: not found", ["run", "q.sql", "R=R.csv"]),
+    over(JOIN, 9, "file S.csv: not found", S=None),
+    over(JOIN, 13, "not built yet", ["plan", "q.sql", "R=R.csv", "S=S.csv"]),
+    over(JOIN, 13, "not built yet", ["session", "--script", "s.txt", "q.sql", "R=R.csv", "S=S.csv"]),
+    over(JOIN, 13, "not built yet", ["load", "--number", "1", "--rows", "2"]),
+]
+
+
+# ---- running
+
+def run(program, files, words):
+    """Status, output and error output of the program in a folder with these files."""
+    with tempfile.TemporaryDirectory(prefix="anyk-differential-") as room:
+        for name, text in files.items():
+            with open(f"{room}/{name}", "wb") as it:
+                it.write(text.encode())
+        ran = subprocess.run([program, *words], cwd=room, stdin=subprocess.DEVNULL, capture_output=True, timeout=60)
+        return ran.returncode, ran.stdout, ran.stderr
+
+
+def told(what, files, words, wanted, got):
+    """Says what went wrong, with all that one needs to run it again."""
+    print(f"differential: {what}: FAILED\n  words: {words}")
+    for name, text in files.items():
+        print(f"  {name}: {text[:2000]!r}")
+    for name, one, other in zip(("status", "output", "errors"), wanted, got):
+        if one != other:
+            print(f"  {name} wanted: {one!r}\n  {name} got:    {other!r}")
+
+
+def main():
+    program = os.path.abspath(sys.argv[1] if len(sys.argv) > 1 else "./anyk")
+    count = int(sys.argv[2]) if len(sys.argv) > 2 else 300
+    failed = answers = cycles = 0
+    for seed in range(1, count + 1):
+        case = Case(seed)
+        files, words = case.files(), case.words()
+        wanted, found = case.expected()
+        got = run(program, files, words)
+        answers += found
+        cycles += wanted[0] == 6
+        if got != wanted:
+            failed += 1
+            if failed <= 5:
+                told(f"seed {seed}", files, words, wanted, got)
+    fixed = [(files, words, (0, text.encode(), b"")) for files, words, _, text in ANSWERS]
+    fixed += [(files, words, (status, b"", f"anyk: {line}\n".encode())) for files, words, status, line in REFUSALS]
+    answered = refused = 0
+    for files, words, wanted in fixed:
+        got = run(program, files, words)
+        answered += got == wanted and wanted[0] == 0
+        refused += got == wanted and wanted[0] != 0
+        if got != wanted:
+            failed += 1
+            if failed <= 5:
+                told(f"fixed input of status {wanted[0]}", files, words, wanted, got)
+    # (words that are no text end the program before all else, and it says nothing)
+    got = run(program, {}, [b"run", b"\xff"])
+    if got != (16, b"", b""):
+        failed += 1
+        told("a word that is no text", {}, ["run", "0xff"], (16, b"", b""), got)
+    verdict = f"FAILED: {failed}" if failed else "passed"
+    of_fixed = f"{answered} of {len(ANSWERS)} fixed answers, {refused} of {len(REFUSALS)} refusals"
+    print(f"differential: {count} queries, {cycles} of them cyclic, with {answers} witnesses, {of_fixed}: {verdict}")
+    return 1 if failed else 0
+
+
+if __name__ == "__main__":
+    sys.exit(main())
