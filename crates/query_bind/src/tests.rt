@@ -233,11 +233,12 @@ fn refuses_names(rt: HostRuntime) -> Result<(), Fail> {
     Ok(())
 }
 
+const SUM: &[u8] = b"select R.a from R, S where R.b = S.b order by R.w + S.w";
+
 #[test]
 fn refuses_weights(rt: HostRuntime) -> Result<(), Fail> {
-    let sum = b"select R.a from R, S where R.b = S.b order by R.w + S.w";
     let flawed = b"a,b,w\n1,x,3\n2,y,12x\n".as_slice();
-    let fault = fault_of(rt.alloc(), (flawed, S), sum, &[0, 1])?;
+    let fault = fault_of(rt.alloc(), (flawed, S), SUM, &[0, 1])?;
     let expected = BindFault::BadWeight {
         item: 1,
         row: 2,
@@ -248,27 +249,51 @@ fn refuses_weights(rt: HostRuntime) -> Result<(), Fail> {
     let text = b"select R.a from R, S where R.b = S.b order by S.w";
     let b = query_of(rt.alloc(), (flawed, S), text, &[0, 1])?;
     assert!(rt; cap(&b, 1, 0) == Some(5));
-    let fault = fault_of(rt.alloc(), (GREATEST, b"b,w\nx,1\n"), sum, &[0, 1])?;
+    // A table without rows adds nothing.
+    let b = query_of(rt.alloc(), (GREATEST, b"b,w\n"), SUM, &[0, 1])?;
+    assert!(rt; cap(&b, 1, 0) == Some(0));
+    Ok(())
+}
+
+#[test]
+fn refuses_sums_past_the_range(rt: HostRuntime) -> Result<(), Fail> {
+    let fault = fault_of(rt.alloc(), (GREATEST, b"b,w\nx,1\n"), SUM, &[0, 1])?;
     assert!(rt; fault == Some(BindFault::RankRange(1)));
-    // The greatest sum is taken, and the least 128 bit number is past it.
-    let b = query_of(rt.alloc(), (GREATEST, b"b,w\nx,0\n"), sum, &[0, 1])?;
-    assert!(rt; part(&b, 0, 1, 0) == Some(170141183460469231731687303715884105727));
-    assert!(rt; cap(&b, 0, 0) == Some(170141183460469231731687303715884105727));
     let fault = fault_of(rt.alloc(), (LEAST, S), b"select b from R order by w", &[0])?;
     assert!(rt; fault == Some(BindFault::RankRange(1)));
-    // A table without rows adds nothing.
-    let b = query_of(rt.alloc(), (GREATEST, b"b,w\n"), sum, &[0, 1])?;
-    assert!(rt; cap(&b, 1, 0) == Some(0));
     // Twice the greatest weight is past the range.
     let text = b"select a from R order by w desc, w + w";
     let fault = fault_of(rt.alloc(), (GREATEST, S), text, &[0])?;
     assert!(rt; fault == Some(BindFault::RankRange(2)));
-    let b = query_of(
-        rt.alloc(),
-        (GREATEST, S),
-        b"select a from R order by w desc",
-        &[0],
-    )?;
-    assert!(rt; part(&b, 0, 1, 0) == Some(-170141183460469231731687303715884105727));
+    Ok(())
+}
+
+// The first item's only part and its cap for the first key.
+fn first_part(
+    alloc: Global,
+    files: (&[u8], &[u8]),
+    text: &[u8],
+    which: &[u32],
+) -> Result<Option<(i128, u128)>, Fail>
+    requires known { AllByRecursion (λ t. t < 2) which.now }
+{
+    let b = query_of(alloc, files, text, which)?;
+    let Some(added) = part(&b, 0, 1, 0) else {
+        return Ok(None);
+    };
+    let Some(most) = cap(&b, 0, 0) else {
+        return Ok(None);
+    };
+    Ok(Some((added, most)))
+}
+
+#[test]
+fn takes_the_greatest_sums(rt: HostRuntime) -> Result<(), Fail> {
+    let greatest = 170141183460469231731687303715884105727;
+    let told = first_part(rt.alloc(), (GREATEST, b"b,w\nx,0\n"), SUM, &[0, 1])?;
+    assert!(rt; told == Some((greatest, 170141183460469231731687303715884105727)));
+    let text = b"select a from R order by w desc";
+    let told = first_part(rt.alloc(), (GREATEST, S), text, &[0])?;
+    assert!(rt; told == Some((-greatest, 170141183460469231731687303715884105727)));
     Ok(())
 }
