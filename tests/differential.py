@@ -7,9 +7,9 @@ PROGRAM is ./anyk where it is not given, and COUNT is 300. Each case has a seed 
 fails is the same in the next run. Tables and queries are small and their values few, so that rows join and sums tie. The
 evaluation here goes through all combinations of rows, keeps those for which every equality holds on bytes, sorts by the sums
 (negated where a key descends) and then by the row numbers, and cuts at the limit. A query is cyclic where ears are removed,
-the greatest first, until none is left, and more than one item is left; it is refused with these items. Output, error output
-and status are compared to the byte. After that come inputs with their output, and inputs that are refused, each with its line
-and status.
+the greatest first, until none is left, and more than one item is left; it is refused with these items. `plan` is called on the
+same input, and its report is made from the same removal. So is `session`, with a script of its own. Output, error output and status are compared to the byte. After that
+come inputs with their output, and inputs that are refused, each with its line and status.
 """
 import itertools
 import os
@@ -58,42 +58,52 @@ def table_file(rng, names, rows):
 # ---- cyclic queries
 
 def classes_of(equalities):
-    """The columns that equalities lead to from each other, each class with whether a constant is among what it equals."""
+    """The columns that equalities lead to from each other, each class with the constants among what it equals."""
     classes = []
     for left, right in equalities:
-        columns, is_fixed = {it for it in (left, right) if isinstance(it, tuple)}, not isinstance(right, tuple)
+        columns = {it for it in (left, right) if isinstance(it, tuple)}
+        constants = {it for it in (left, right) if not isinstance(it, tuple)}
         met = [it for it in classes if it[0] & columns]
         classes = [it for it in classes if not it[0] & columns]
-        for others, is_other_fixed in met:
-            columns, is_fixed = columns | others, is_fixed or is_other_fixed
-        classes.append((columns, is_fixed))
+        for others, more in met:
+            columns, constants = columns | others, constants | more
+        classes.append((columns, constants))
     return classes
 
 
 def variables_of(equalities):
     """Each variable as the set of its items: a class without a constant that has columns in at least two items."""
-    sets = [{item for item, _ in columns} for columns, is_fixed in classes_of(equalities) if not is_fixed]
+    sets = [{item for item, _ in columns} for columns, constants in classes_of(equalities) if not constants]
     return [it for it in sets if len(it) > 1]
 
 
-def is_ear(variables, live, e):
-    """Whether another live item has every variable that e shares with any other live item."""
+def covers_of(variables, live, e):
+    """The other live items that have every variable that e shares with any other live item."""
     shared = [it for it in variables if e in it and it & live != {e}]
-    return any(all(f in it for it in shared) for f in live - {e})
+    return [f for f in live - {e} if all(f in it for it in shared)]
 
 
-def core_of(variables, items):
-    """The items that are left where ears are removed, the greatest first. It is one where the query is not cyclic."""
-    live = set(range(items))
+def removal_of(variables, items):
+    """The items that are left where ears are removed, the greatest first, and the ears in the order of their removal, each with the
+    least item that covers it. One item is left where the query is not cyclic."""
+    live, removed = set(range(items)), []
     while len(live) > 1:
-        ears = [it for it in live if is_ear(variables, live, it)]
+        ears = [it for it in live if covers_of(variables, live, it)]
         if not ears:
             break
-        live.remove(max(ears))
-    return sorted(live)
+        ear = max(ears)
+        removed.append((ear, min(covers_of(variables, live, ear))))
+        live.remove(ear)
+    return sorted(live), removed
 
 
 # ---- queries
+
+def canonical_name(name):
+    """The name bare where it can be, else between quotes."""
+    is_bare = name != "" and name.isascii() and (name[0].isalpha() or name[0] == "_") and all(it.isalnum() or it == "_" for it in name)
+    return name if is_bare and name.lower() not in KEYWORDS else f'"{name}"'
+
 
 class Case:
     """A query with its tables, as its text, its words and its expected output."""
@@ -197,10 +207,7 @@ class Case:
         return self.rng.choice([keyword, keyword.upper(), keyword.capitalize()])
 
     def name_text(self, name):
-        is_bare = name != "" and name.isascii() and (name[0].isalpha() or name[0] == "_") and all(it.isalnum() or it == "_" for it in name)
-        if is_bare and name.lower() not in KEYWORDS and self.rng.random() < 0.85:
-            return name
-        return f'"{name}"'
+        return name if canonical_name(name) == name and self.rng.random() < 0.85 else f'"{name}"'
 
     def column_tokens(self, column):
         item, place = column
@@ -306,7 +313,30 @@ class Case:
         return self.where + [it for on in self.on for it in on or []]
 
     def core(self):
-        return core_of(variables_of(self.equalities()), len(self.items))
+        return removal_of(variables_of(self.equalities()), len(self.items))[0]
+
+    def passing(self, item):
+        """How many rows of an item have one text in all columns of a class, which is each constant of the class too."""
+        classes = [([place for it, place in columns if it == item], constants) for columns, constants in classes_of(self.equalities())]
+        rows = self.tables[self.items[item][0]][1]
+        return sum(all(len({row[it] for it in places} | constants) == 1 for places, constants in classes if places) for row in rows)
+
+    def plan_words(self):
+        return ["plan", "q.sql", *[f"{name}=t{at}.csv" for at, name in enumerate(self.tables)]]
+
+    def planned(self):
+        """Status, output and error output of `plan`."""
+        core, removed = removal_of(variables_of(self.equalities()), len(self.items))
+        if len(core) > 1:
+            return 6, b"", f"anyk: {cyclic(*[it + 1 for it in core])}\n".encode()
+        nodes = [(core[0], None), *reversed(removed)]
+        numbers = {item: at + 1 for at, (item, _) in enumerate(nodes)}
+        lines = [
+            f"node {numbers[item]} parent {numbers.get(parent, 0)} rows {self.passing(item)} item {canonical_name(self.items[item][1])}\n"
+            for item, parent in nodes
+        ]
+        total = sum(len(self.tables[table][1]) for table, _ in self.items) + sum(self.passing(it) for it in range(len(self.items)))
+        return 0, ("".join(lines) + f"total {total}\n").encode(), b""
 
     def expected(self):
         """Status, output and error output, and how many witnesses there are."""
@@ -316,8 +346,66 @@ class Case:
         text, found = self.answered()
         return (0, text.encode(), b""), found
 
+    def script(self):
+        """Lines of a script with what they do: the command, the names and the number."""
+        rng = self.rng
+        open_names, lines = [], []
+        for _ in range(rng.randint(0, 14)):
+            word = rng.choice(["open", "next", "next", "next", "next", "fork", "rewind", "close"])
+            new = rng.choice([it for it in ["a", "b", "c1", "Q_", "_", "9", "a" * 32] if it not in open_names] or [None])
+            name = rng.choice(open_names or [None])
+            if rng.random() < 0.15:
+                lines.append((rng.choice(["", "# a comment", "#"]), None))
+            elif word == "open" and new:
+                open_names.append(new)
+                lines.append((f"open {new}", ("open", new)))
+            elif word == "fork" and name and new:
+                open_names.append(new)
+                lines.append((f"fork {name} {new}", ("fork", name, new)))
+            elif word == "next" and name:
+                count = rng.choice([0, 1, 1, 2, 3, 7, 100, 999999999])
+                lines.append((f"next {name} {'0' * rng.randint(0, 9 - len(str(count)))}{count}", ("next", name, count)))
+            elif word in ("rewind", "close") and name:
+                if word == "close":
+                    open_names.remove(name)
+                lines.append((f"{word} {name}", (word, name)))
+        end = rng.choice(["\n", "\n", "\r\n"])
+        text = end.join(line for line, _ in lines) + (end if lines and rng.random() < 0.8 else "")
+        return text, [it for _, it in lines if it]
+
+    def session_words(self):
+        flags = ["--ranks"] * self.ranks + ["--rows"] * self.rows
+        return ["session", *flags, "--script", "s.txt", "q.sql", *[f"{name}=t{at}.csv" for at, name in enumerate(self.tables)]]
+
+    def told_by(self, steps):
+        """Status, output and error output of `session` with these steps."""
+        core = self.core()
+        if len(core) > 1:
+            return 6, b"", f"anyk: {cyclic(*[it + 1 for it in core])}\n".encode()
+        header, records, _ = self.listed()
+        text, places = output_record(["cursor", *header]), {}
+        for word, name, *more in steps:
+            if word == "open":
+                places[name] = 0
+            elif word == "next":
+                given = records[places[name] : places[name] + more[0]]
+                places[name] += len(given)
+                text += "".join(output_record([name, *it]) for it in given) + (f"{name}\n" if len(given) < more[0] else "")
+            elif word == "fork":
+                places[more[0]] = places[name]
+            elif word == "rewind":
+                places[name] = 0
+            else:
+                del places[name]
+        return 0, text.encode(), b""
+
     def answered(self):
         """The output, and how many witnesses there are."""
+        header, records, found = self.listed()
+        return output_record(header) + "".join(output_record(it) for it in records), found
+
+    def listed(self):
+        """The header, the records, and how many witnesses there are."""
         lists = [self.tables[table][1] for table, _ in self.items]
 
         def value(rows, column):
@@ -338,13 +426,13 @@ class Case:
         header = [self.names(item)[place] for item, place in shown]
         header += [f"rank{it + 1}" for it in range(len(self.keys))] if self.ranks else []
         header += [f"row{it + 1}" for it in range(len(self.items))] if self.rows else []
-        text = output_record(header)
+        records = []
         for _, rows, sums in found[: self.limit]:
             record = [value(rows, it) for it in shown]
             record += [str(it) for it in sums] if self.ranks else []
             record += [str(it) for it in rows] if self.rows else []
-            text += output_record(record)
-        return text, len(found)
+            records.append(record)
+        return header, records, len(found)
 
 
 # ---- fixed inputs: files, words, status, and the output or the line on the error output
@@ -380,8 +468,13 @@ def cyclic(*items):
     return " ".join(["cyclic query: items", *map(str, items)])
 
 
+SESSION_WORDS = ["session", "--script", "s.txt", "q.sql", "R=R.csv", "S=S.csv"]
+
 # each is answered with this output
 ANSWERS = [
+    ({"q.sql": JOIN, "R.csv": R, "S.csv": S, "s.txt": "open a\nnext a 2\nfork a b\nnext b 1\nnext a 2\nrewind b\nnext b 3\nnext a 2\n"}, SESSION_WORDS, 0,
+     "cursor,a,c\na,2,q\na,3,q\nb,3,p\na,3,p\na,1,q\nb,2,q\nb,3,q\nb,3,p\na,1,p\na\n"),
+    over(JOIN, 0, "node 1 parent 0 rows 3 item R\nnode 2 parent 1 rows 3 item S\ntotal 12\n", ["plan", "q.sql", "R=R.csv", "S=S.csv"]),
     # (a constant on one of the three classes of a triangle leaves a path)
     edges(f"select A.b from E A, E B, E C where {TRIANGLE} and A.a = '1'", 0, "b,row1,row2,row3\n1,1,1,1\n1,1,2,3\n2,2,3,1\n", "--rows"),
     edges(f"select B.b from E A, E B, E C where {TRIANGLE} and '1' = C.a order by B.w desc", 0, "b\n1\n1\n1\n"),
@@ -396,6 +489,12 @@ ANSWERS = [
     # (no row of the first item, so there is no combination)
     over(NODES, 0, "a\n", NODE_WORDS, N="a\n", M=MANY, L="a\nx\ny\nx\ny\n"),
 ]
+
+
+def scripted(script, status, line, query=JOIN):
+    """A session with this script over R and S, and its refusal or its output."""
+    files = {"q.sql": query, "R.csv": R, "S.csv": S, "s.txt": script}
+    return {it: text for it, text in files.items() if text is not None}, SESSION_WORDS, status, line
 
 
 REFUSALS = [
@@ -436,6 +535,7 @@ REFUSALS = [
     edges(f"select A.a from E A, E B, E C where {TRIANGLE}", 6, cyclic(1, 2, 3), "--engine", "rec", E="a,b\n"),
     # (a constant on the class of another column changes nothing)
     edges(f"select A.a from E A, E B, E C where {TRIANGLE} and A.w = '1'", 6, cyclic(1, 2, 3)),
+    over("select x.a from R x, R y, R z where x.a = y.b and y.a = z.b and z.a = x.b", 6, cyclic(1, 2, 3), ["plan", "q.sql", "R=R.csv"]),
     # (tails of a triangle are no part of the core: behind it, and before and in it)
     edges(f"select A.a from E A, E B, E C, E D, E F where {TRIANGLE} and D.a = B.b and D.b = F.a", 6, cyclic(1, 2, 3)),
     edges(f"select A.a from E D, E A, E B, E F, E C where {TRIANGLE} and D.a = B.b and D.b = F.a", 6, cyclic(2, 3, 5)),
@@ -462,8 +562,16 @@ REFUSALS = [
     over(NODES, 8, "more than 4194304 node rows", NODE_WORDS, N="a\n", M=MANY, L="a\nx\ny\nx\nx\n"),
     over(None, 9, "file q.sql: not found", ["run", "q.sql", "R=R.csv"]),
     over(JOIN, 9, "file S.csv: not found", S=None),
-    over(JOIN, 13, "not built yet", ["plan", "q.sql", "R=R.csv", "S=S.csv"]),
-    over(JOIN, 13, "not built yet", ["session", "--script", "s.txt", "q.sql", "R=R.csv", "S=S.csv"]),
+    over(JOIN, 2, "usage", ["session", "q.sql", "R=R.csv", "S=S.csv"]),
+    scripted("open a\nnext a\n", 3, "script line 2: bad line"),
+    scripted("\n# x\nnext a 1\n", 3, "script line 3: unknown cursor"),
+    scripted("open a\nopen a\n", 3, "script line 2: cursor exists"),
+    scripted("".join(f"open c{it}\n" for it in range(65)), 8, "script line 65: more than 64 cursors"),
+    scripted("\n" * 10001, 8, "script: more than 10000 lines"),
+    scripted(None, 9, "file s.txt: not found"),
+    # (the query before the script, and the script before the tables)
+    scripted("open", 3, "syntax error at byte 0", ""),
+    scripted("open", 3, "script line 1: bad line", "select X.a from X"),
     over(JOIN, 13, "not built yet", ["load", "--number", "1", "--rows", "2"]),
 ]
 
@@ -505,6 +613,19 @@ def main():
             failed += 1
             if failed <= 5:
                 told(f"seed {seed}", files, words, wanted, got)
+        wanted, words = case.planned(), case.plan_words()
+        got = run(program, files, words)
+        if got != wanted:
+            failed += 1
+            if failed <= 5:
+                told(f"plan of seed {seed}", files, words, wanted, got)
+        script, steps = case.script()
+        files["s.txt"], wanted, words = script, case.told_by(steps), case.session_words()
+        got = run(program, files, words)
+        if got != wanted:
+            failed += 1
+            if failed <= 5:
+                told(f"session of seed {seed}", files, words, wanted, got)
     fixed = [(files, words, (0, text.encode(), b"")) for files, words, _, text in ANSWERS]
     fixed += [(files, words, (status, b"", f"anyk: {line}\n".encode())) for files, words, status, line in REFUSALS]
     answered = refused = 0

@@ -11,17 +11,18 @@ use Rattle.refusal_lines.specs.Answer.{Answer, line_of, status_of}
 use Rattle.refusal_lines.specs.Refused.{answer_of}
 use Rattle.refusal_lines.specs.Sent.{GotPrefix, Sent}
 use Rattle.input_load.specs.Turns.{IsTurn as IsLoadTurn}
-use Rattle.verdict.specs.Loading.{Found, files_read, first_uses, unknown_table}
-use Rattle.verdict.specs.Outcome.{GotAccepted, GotNothing, HasLine, IsAnswer, IsCaused, IsComplete, IsCut, IsTurnOf, Outcome, Outside, query_turn, table_turn}
+use Rattle.verdict.specs.Found.{Found}
+use Rattle.verdict.specs.Loading.{files_read, first_uses, unknown_table}
+use Rattle.verdict.specs.Outcome.{GotAccepted, GotNothing, HasLine, IsAnswer, IsCaused, IsComplete, IsCut, IsTurnOf, Outcome, Outside, query_turn, script_turn, table_turn}
 use Rattle.verdict.specs.Output.{output}
 use Rattle.verdict.specs.Staged.{Causes, Fits, first_turn, second_turn}
 use Rattle.verdict.specs.Stages.{unless}
 use Rattle.verdict.specs.Verdict.{IsVerdictOn}
-use Rattle.verdict.specs.Words.{Asked, Words, no_command, not_built, run}
+use Rattle.verdict.specs.Words.{Asked, Command, Words, no_command, not_built, built, command_script, command_words}
 use Rattle.verdict.proofs.Whole.{done_outcome, ended_outcome}
 use Rattle.anyk_top.specs.Asked.{IsEarly}
 use Rattle.anyk_top.specs.Finished.{Finished, HasSent}
-use Rattle.anyk_top.specs.Printed.{IsPrintCause}
+use Rattle.ranking_print.specs.Printed.{IsPrintCause}
 
 -- ---- the line of a refusal
 
@@ -32,16 +33,16 @@ line-sent old new line (Err e) sent = record { prefix = sent.prefix; whole = λ 
 has-line : (old new : Outside) (line : List ℕ) → HasSent old.errors new.errors old.error_faults new.error_faults line → HasLine old new line
 has-line old new line h = line-sent old new line h.result h.sent
 
--- ---- how `run` ends
+-- ---- how a command ends that is built
 
 abbrev Same : Asked → Asked → Type 0
 Same a b = a ≡ b
 
-run-no_command : {A : Type 0} {w : Words} → Same (run w) no_command → A
-run-no_command h = cc
+built-no_command : {A : Type 0} {k : Command} → Same (built k) no_command → A
+built-no_command h = cc
 
-run-not_built : {A : Type 0} {w : Words} → Same (run w) not_built → A
-run-not_built h = cc
+built-not_built : {A : Type 0} {k : Command} → Same (built k) not_built → A
+built-not_built h = cc
 
 no_command-not_built : {A : Type 0} → Same no_command not_built → A
 no_command-not_built h = cc
@@ -63,31 +64,31 @@ cut-same : (asked : Asked) (told : Option Files) (old new : Outside) (e e' : Opt
     → IsCut asked told old new a → IsCut asked told (with_errors old e n) (with_errors new e' n') a
 cut-same no_command told old new e e' n n' answer.WriteFault h = h
 cut-same not_built told old new e e' n n' answer.WriteFault h = h
-cut-same (run words) told old new e e' n n' answer.WriteFault h = h
+cut-same (built command) told old new e e' n n' answer.WriteFault h = h
 cut-same no_command told old new e e' n n' answer.NoMemory h = h
 cut-same not_built told old new e e' n n' answer.NoMemory h = h
-cut-same (run words) told old new e e' n n' answer.NoMemory h = h
+cut-same (built command) told old new e e' n n' answer.NoMemory h = h
 cut-same asked told old new e e' n n' a h = h
 
-pub run-outcome : (words : Words) (told : Option Files) (old new : Outside) (e e' : Option (List ℕ)) (n n' : ℕ) (r : Result (Unit {0}) Refusal) (status : ℕ)
-    → OnOk r (IsComplete (run words) told old new) → IfErr r (λ refusal. IsAnswer (run words) told (answer_of refusal))
-    → IfErr r (λ refusal. IsCaused old new (answer_of refusal)) → IfErr r (λ refusal. IsCut (run words) told old new (answer_of refusal))
-    → Finished e e' n n' r status → Outcome (run words) told (with_errors old e n) (with_errors new e' n') status
-run-outcome words told old new e e' n n' (Ok done) status complete fits caused cut (zero, quiet) =
-    let P : ℕ → Type 0 = Outcome (run words) told (with_errors old e n) (with_errors new e' n') in
-    subst P (sym zero) (done_outcome (run words) told (with_errors old e n) (with_errors new e' n') complete quiet)
-run-outcome words told old new e e' n n' (Err refusal) status complete fits caused cut (is, sent) =
-    let P : ℕ → Type 0 = Outcome (run words) told (with_errors old e n) (with_errors new e' n') in
-    subst P (sym is) (ended_outcome (run words) told (with_errors old e n) (with_errors new e' n') (answer_of refusal)
+pub built-outcome : (command : Command) (told : Option Files) (old new : Outside) (e e' : Option (List ℕ)) (n n' : ℕ) (r : Result (Unit {0}) Refusal) (status : ℕ)
+    → OnOk r (IsComplete (built command) told old new) → IfErr r (λ refusal. IsAnswer (built command) told (answer_of refusal))
+    → IfErr r (λ refusal. IsCaused old new (answer_of refusal)) → IfErr r (λ refusal. IsCut (built command) told old new (answer_of refusal))
+    → Finished e e' n n' r status → Outcome (built command) told (with_errors old e n) (with_errors new e' n') status
+built-outcome command told old new e e' n n' (Ok done) status complete fits caused cut (zero, quiet) =
+    let P : ℕ → Type 0 = Outcome (built command) told (with_errors old e n) (with_errors new e' n') in
+    subst P (sym zero) (done_outcome (built command) told (with_errors old e n) (with_errors new e' n') complete quiet)
+built-outcome command told old new e e' n n' (Err refusal) status complete fits caused cut (is, sent) =
+    let P : ℕ → Type 0 = Outcome (built command) told (with_errors old e n) (with_errors new e' n') in
+    subst P (sym is) (ended_outcome (built command) told (with_errors old e n) (with_errors new e' n') (answer_of refusal)
     (record {
       fits = fits;
       caused = caused-same old new e e' n n' (answer_of refusal) caused;
-      cut = cut-same (run words) told old new e e' n n' (answer_of refusal) cut;
+      cut = cut-same (built command) told old new e e' n n' (answer_of refusal) cut;
       line = has-line (with_errors old e n) (with_errors new e' n') (line_of (answer_of refusal)) sent;
     })
-    (λ h. run-no_command h) (λ h. run-not_built h))
+    (λ h. built-no_command h) (λ h. built-not_built h))
 
--- ---- how a call ends whose words name no `run`
+-- ---- how a call ends whose words are no command that is built
 
 early-answer : (asked : Asked) (told : Option Files) (old new : Outside) (a : Answer) → IsEarly asked a → GotNothing old new → HasLine old new (line_of a)
     → Outcome asked told old new (status_of a)
@@ -114,80 +115,94 @@ unless-ok None a k e = (refl, cc)
 unless-ok (Some answer) a k e = cc
 
 -- a file of the stages is one that is read on this input
-turn-of : (words : Words) (files : Files) (name : List ℕ) → IsLoadTurn words.query words.tables files name → IsTurnOf words files name
-turn-of words files name (first_turn is) = query_turn is
-turn-of words files name (second_turn read (first_turn no_turn)) = absurd no_turn
-turn-of words files name (second_turn read (second_turn parsed (first_turn no_turn))) = absurd no_turn
-turn-of words files name (second_turn read (second_turn {a = select} parsed (second_turn {a = known} all_known (first_turn member)))) =
+turn-of : (words : Words) (script : Option (List ℕ)) (files : Files) (name : List ℕ) → IsLoadTurn words.query script words.tables files name
+    → IsTurnOf words script files name
+turn-of words script files name (first_turn is) = query_turn is
+turn-of words script files name (second_turn read (first_turn no_turn)) = absurd no_turn
+turn-of words script files name (second_turn read (second_turn parsed (first_turn is))) = script_turn (sym read) parsed is
+turn-of words script files name (second_turn read (second_turn parsed (second_turn said (first_turn no_turn)))) = absurd no_turn
+turn-of words script files name (second_turn read (second_turn {a = select} parsed (second_turn said (second_turn {a = known} all_known (first_turn member))))) =
     let h = unless-ok (unknown_table words.tables select.items) select known all_known in
     let P : Select → Type 0 = λ s. IsMember name (files_read files words.tables (first_uses s.items)) in
-    table_turn (sym read) parsed h.0 (subst P h.1 member)
-turn-of words files name (second_turn read (second_turn parsed (second_turn known (second_turn tables no_turn)))) = absurd no_turn
+    table_turn (sym read) parsed (sym said) h.0 (subst P h.1 member)
+turn-of words script files name (second_turn read (second_turn parsed (second_turn said (second_turn known (second_turn tables no_turn))))) = absurd no_turn
 
-abbrev Loads : Words → Option Files → Result Found Answer → Type 0
-Loads words told result = Fits (IsVerdictOn words.query words.tables) (IsLoadTurn words.query words.tables) told result
+abbrev pub Loads : Command → Option Files → Result Found Answer → Type 0
+Loads command told result =
+    Fits (IsVerdictOn (command_words command).query (command_script command) (command_words command).tables)
+    (IsLoadTurn (command_words command).query (command_script command) (command_words command).tables) told result
 
-pub load-answer : (words : Words) (told : Option Files) (a : Answer) → Loads words told (Err a) → IsAnswer (run words) told a
-load-answer words told answer.Usage h = absurd h
-load-answer words told answer.Unbuilt h = absurd h
-load-answer words None (answer.ReadFault name) h = tt
-load-answer words (Some files) (answer.ReadFault name) h = turn-of words files name h
-load-answer words told answer.WriteFault h = absurd h
-load-answer words told answer.NoMemory h = tt
-load-answer words None a h = tt
-load-answer words (Some files) a h = h
+-- the words that were loaded are those of the command
+pub loaded-words : (words : Words) (script : Option (List ℕ)) (command : Command) (told : Option Files) (result : Result Found Answer) → words ≡ command_words command
+    → script ≡ command_script command → Fits (IsVerdictOn words.query script words.tables) (IsLoadTurn words.query script words.tables) told result
+    → Loads command told result
+loaded-words words script command told result same also h =
+    let P : Words → Type 0 = λ w. Fits (IsVerdictOn w.query script w.tables) (IsLoadTurn w.query script w.tables) told result in
+    let Q : Option (List ℕ) → Type 0 =
+    λ s. Fits (IsVerdictOn (command_words command).query s (command_words command).tables) (IsLoadTurn (command_words command).query s (command_words command).tables) told result in
+    subst Q also (subst P same h)
+
+pub load-answer : (command : Command) (told : Option Files) (a : Answer) → Loads command told (Err a) → IsAnswer (built command) told a
+load-answer command told answer.Usage h = absurd h
+load-answer command told answer.Unbuilt h = absurd h
+load-answer command None (answer.ReadFault name) h = tt
+load-answer command (Some files) (answer.ReadFault name) h = turn-of (command_words command) (command_script command) files name h
+load-answer command told answer.WriteFault h = absurd h
+load-answer command told answer.NoMemory h = tt
+load-answer command None a h = tt
+load-answer command (Some files) a h = h
 
 -- the outside, of which loading changes the shelf alone
-pub load-caused : (words : Words) (old new : Outside) (files files' : Option Files) (a : Answer) → Loads words files (Err a)
+pub load-caused : (command : Command) (old new : Outside) (files files' : Option Files) (a : Answer) → Loads command files (Err a)
     → Causes {A = Found} (record { files = files; misses = old.misses; faults = old.read_faults }) (record { files = files'; misses = new.misses; faults = new.read_faults }) (Err a)
     → IsCaused old new a
-load-caused words old new files files' answer.WriteFault fits h = absurd fits
-load-caused words old new files files' (answer.NoFile name) fits h = h
-load-caused words old new files files' (answer.ReadFault name) fits h = h
-load-caused words old new files files' a fits h = tt
+load-caused command old new files files' answer.WriteFault fits h = absurd fits
+load-caused command old new files files' (answer.NoFile name) fits h = h
+load-caused command old new files files' (answer.ReadFault name) fits h = h
+load-caused command old new files files' a fits h = tt
 
-pub load-cut : (words : Words) (told : Option Files) (old new : Outside) (a : Answer) → Loads words told (Err a) → GotNothing old new → IsCut (run words) told old new a
-load-cut words told old new answer.WriteFault fits nothing = absurd fits
-load-cut words told old new answer.NoMemory fits nothing = inl nothing
-load-cut words told old new a fits nothing = nothing
+pub load-cut : (command : Command) (told : Option Files) (old new : Outside) (a : Answer) → Loads command told (Err a) → GotNothing old new → IsCut (built command) told old new a
+load-cut command told old new answer.WriteFault fits nothing = absurd fits
+load-cut command told old new answer.NoMemory fits nothing = inl nothing
+load-cut command told old new a fits nothing = nothing
 
 -- ---- how printing ends
 
 -- the whole output was printed
-pub printed-complete : (words : Words) (told : Option Files) (old new : Outside) (found : Found) (r : Result (Unit {0}) Refusal) → Loads words told (Ok found)
-    → OnOk r (Appends old.output new.output (output words found)) → OnOk r (IsComplete (run words) told old new)
-printed-complete words None old new found (Ok done) loads whole = tt
-printed-complete words (Some files) old new found (Ok done) loads whole = (found, loads, whole)
-printed-complete words told old new found (Err e) loads whole = tt
+pub printed-complete : (command : Command) (told : Option Files) (old new : Outside) (found : Found) (r : Result (Unit {0}) Refusal) → Loads command told (Ok found)
+    → OnOk r (Appends old.output new.output (output command found)) → OnOk r (IsComplete (built command) told old new)
+printed-complete command None old new found (Ok done) loads whole = tt
+printed-complete command (Some files) old new found (Ok done) loads whole = (found, loads, whole)
+printed-complete command told old new found (Err e) loads whole = tt
 
-answer-fits : (words : Words) (told : Option Files) (before now : ℕ) (found : Found) (a : Answer) → Loads words told (Ok found) → IsPrintCause before now a
-    → IsAnswer (run words) told a
-answer-fits words None before now found answer.WriteFault loads cause = tt
-answer-fits words (Some files) before now found answer.WriteFault loads cause = (found, loads)
-answer-fits words told before now found answer.NoMemory loads cause = tt
-answer-fits words told before now found a loads cause = absurd cause
+answer-fits : (command : Command) (told : Option Files) (before now : ℕ) (found : Found) (a : Answer) → Loads command told (Ok found) → IsPrintCause before now a
+    → IsAnswer (built command) told a
+answer-fits command None before now found answer.WriteFault loads cause = tt
+answer-fits command (Some files) before now found answer.WriteFault loads cause = (found, loads)
+answer-fits command told before now found answer.NoMemory loads cause = tt
+answer-fits command told before now found a loads cause = absurd cause
 
 answer-caused : (old new : Outside) (a : Answer) → IsPrintCause old.write_faults new.write_faults a → IsCaused old new a
 answer-caused old new answer.WriteFault cause = cause
 answer-caused old new answer.NoMemory cause = tt
 answer-caused old new a cause = absurd cause
 
-got-accepted : (words : Words) (told : Option Files) (old new : Outside) (found : Found) → Loads words told (Ok found)
-    → GotPrefix old.output new.output (output words found) → GotAccepted (run words) told old new
-got-accepted words None old new found loads prefix = tt
-got-accepted words (Some files) old new found loads prefix = (found, loads, prefix)
+got-accepted : (command : Command) (told : Option Files) (old new : Outside) (found : Found) → Loads command told (Ok found)
+    → GotPrefix old.output new.output (output command found) → GotAccepted (built command) told old new
+got-accepted command None old new found loads prefix = tt
+got-accepted command (Some files) old new found loads prefix = (found, loads, prefix)
 
-answer-cut : (words : Words) (told : Option Files) (old new : Outside) (found : Found) (a : Answer) → Loads words told (Ok found)
-    → IsPrintCause old.write_faults new.write_faults a → GotPrefix old.output new.output (output words found) → IsCut (run words) told old new a
-answer-cut words told old new found answer.WriteFault loads cause prefix = got-accepted words told old new found loads prefix
-answer-cut words told old new found answer.NoMemory loads cause prefix = inr (got-accepted words told old new found loads prefix)
-answer-cut words told old new found a loads cause prefix = absurd cause
+answer-cut : (command : Command) (told : Option Files) (old new : Outside) (found : Found) (a : Answer) → Loads command told (Ok found)
+    → IsPrintCause old.write_faults new.write_faults a → GotPrefix old.output new.output (output command found) → IsCut (built command) told old new a
+answer-cut command told old new found answer.WriteFault loads cause prefix = got-accepted command told old new found loads prefix
+answer-cut command told old new found answer.NoMemory loads cause prefix = inr (got-accepted command told old new found loads prefix)
+answer-cut command told old new found a loads cause prefix = absurd cause
 
-module _ (words : Words) (told : Option Files) (old new : Outside) (found : Found) (loads : Loads words told (Ok found)) where
+module _ (command : Command) (told : Option Files) (old new : Outside) (found : Found) (loads : Loads command told (Ok found)) where
   pub printed-fits : (r : Result (Unit {0}) Refusal) → IfErr r (λ refusal. IsPrintCause old.write_faults new.write_faults (answer_of refusal))
-      → IfErr r (λ refusal. IsAnswer (run words) told (answer_of refusal))
+      → IfErr r (λ refusal. IsAnswer (built command) told (answer_of refusal))
   printed-fits (Ok done) cause = tt
-  printed-fits (Err e) cause = answer-fits words told old.write_faults new.write_faults found (answer_of e) loads cause
+  printed-fits (Err e) cause = answer-fits command told old.write_faults new.write_faults found (answer_of e) loads cause
 
   pub printed-caused : (r : Result (Unit {0}) Refusal) → IfErr r (λ refusal. IsPrintCause old.write_faults new.write_faults (answer_of refusal))
       → IfErr r (λ refusal. IsCaused old new (answer_of refusal))
@@ -195,6 +210,6 @@ module _ (words : Words) (told : Option Files) (old new : Outside) (found : Foun
   printed-caused (Err e) cause = answer-caused old new (answer_of e) cause
 
   pub printed-cut : (r : Result (Unit {0}) Refusal) → IfErr r (λ refusal. IsPrintCause old.write_faults new.write_faults (answer_of refusal))
-      → GotPrefix old.output new.output (output words found) → IfErr r (λ refusal. IsCut (run words) told old new (answer_of refusal))
+      → GotPrefix old.output new.output (output command found) → IfErr r (λ refusal. IsCut (built command) told old new (answer_of refusal))
   printed-cut (Ok done) cause prefix = tt
-  printed-cut (Err e) cause prefix = answer-cut words told old new found (answer_of e) loads cause prefix
+  printed-cut (Err e) cause prefix = answer-cut command told old new found (answer_of e) loads cause prefix

@@ -1,3 +1,2 @@
-pub mod Prints
-pub mod Given
 pub mod Ends
+pub mod Bounds

@@ -1,20 +1,25 @@
 -- What the words of the command line ask for.
-use Rattle.std.specs.Prelude.{◌≡◌, Option, Some, None}
+use Rattle.std.specs.Prelude.{◌≡◌, ℕ, List, Option, Some, None}
 use Rattle.refusal_lines.specs.Answer as answer
 use Rattle.refusal_lines.specs.Answer.{Answer}
 use Rattle.cmd_words.specs.Commands.{CommandSaid, run_said, session_said, plan_said, load_said}
 use Rattle.cmd_words.specs.Said.{WordsSaid}
-use Rattle.verdict.specs.Words.{Words, Asked, no_command, not_built, run}
+use Rattle.verdict.specs.Words.{Words, Asked, no_command, not_built, built, run, plan, session}
 
 -- all but the engine, which changes no output
 abbrev pub words_of : WordsSaid → Words
 words_of said = record { ranks = said.ranks; rows = said.rows; query = said.query; tables = said.tables }
 
+-- `clap` takes the words of a session only where a script is among them
+abbrev pub asked_session : Option (List ℕ) → Words → Asked
+asked_session None words = no_command
+asked_session (Some script) words = built (session script words)
+
 abbrev pub asked_of : Option CommandSaid → Asked
 asked_of None = no_command
-asked_of (Some (run_said said)) = run (words_of said)
-asked_of (Some (session_said said)) = not_built
-asked_of (Some (plan_said said)) = not_built
+asked_of (Some (run_said said)) = built (run (words_of said))
+asked_of (Some (session_said said)) = asked_session said.script (words_of said)
+asked_of (Some (plan_said said)) = built (plan (words_of said))
 asked_of (Some (load_said engine number rows)) = not_built
 
 -- the answer is the words' own: they are no command, or one that is not built; or memory ran out

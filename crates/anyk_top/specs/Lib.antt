@@ -1,3 +1,3 @@
 pub mod Asked
 pub mod Finished
-pub mod Printed
+pub mod Requests

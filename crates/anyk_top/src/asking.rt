@@ -4,31 +4,62 @@ ghost use Rattle.std.specs.String.{string_bytes};
 ghost use Rattle.cmd_words.specs.Commands.{said_of, seen_command};
 ghost use Rattle.cmd_words.specs.Said.{seen_words};
 ghost use Rattle.refusal_lines.specs.Refused.{answer_of};
-ghost use Rattle.verdict.specs.Words.{run};
+ghost use Rattle.verdict.specs.Words.{built, command_words};
 ghost use Rattle.anyk_top.specs.Asked.{IsEarly, asked_of, words_of};
+ghost use Rattle.anyk_top.specs.Requests.{command_of};
 
+use crate::request::Request;
 use cmd_words::{Command, Words, WordsFault, read_words};
 use refusal_lines::Refusal;
 use std::alloc::Global;
 
-/// What the words of `run` say. `Usage` where the words are no command, and `Unbuilt` where they are another one.
-pub(crate) fn read_run<'a>(alloc: Global, words: &[String]) -> Result<Words, Refusal<'a>>
-    ensures run { IfOk result (λ said. asked_of (said_of (map string_bytes words.now)) ≡ run (words_of (seen_words said))) }
+/// The command that the words are. `Usage` where they are none, and `Unbuilt` where they are one that is not built.
+pub(crate) fn read_request<'a>(alloc: Global, words: &[String]) -> Result<Request, Refusal<'a>>
+    ensures built { IfOk result (λ request. asked_of (said_of (map string_bytes words.now)) ≡ built (command_of request)) }
     ensures early { IfErr result (λ refusal. IsEarly (asked_of (said_of (map string_bytes words.now))) (answer_of refusal)) }
 {
     match read_words(alloc, words) {
-        Ok(command) => run_of(command),
+        Ok(command) => request_of(command),
         Err(WordsFault::Usage) => Err(Refusal::Usage),
         Err(WordsFault::NoMemory) => Err(Refusal::NoMemory),
     }
 }
 
-fn run_of<'a>(command: Command) -> Result<Words, Refusal<'a>>
-    ensures run { IfOk result (λ said. asked_of (Some (seen_command command)) ≡ run (words_of (seen_words said))) }
+fn request_of<'a>(command: Command) -> Result<Request, Refusal<'a>>
+    ensures built { IfOk result (λ request. asked_of (Some (seen_command command)) ≡ built (command_of request)) }
     ensures early { IfErr result (λ refusal. IsEarly (asked_of (Some (seen_command command))) (answer_of refusal)) }
 {
     match command {
-        Command::Run(words) => Ok(words),
-        Command::Session(_) | Command::Plan(_) | Command::Load(_, _, _) => Err(Refusal::Unbuilt),
+        Command::Run(words) => Ok(Request::Run(words)),
+        Command::Plan(words) => Ok(Request::Plan(words)),
+        Command::Session(words) => session_of(words),
+        Command::Load(_, _, _) => Err(Refusal::Unbuilt),
     }
+}
+
+// The session of these words, of which the script is one.
+fn session_of<'a>(words: Words) -> Result<Request, Refusal<'a>>
+    ensures built { IfOk result (λ request. asked_of (Some (seen_command (Command.Session words))) ≡ built (command_of request)) }
+    ensures early { IfErr result (λ refusal. IsEarly (asked_of (Some (seen_command (Command.Session words)))) (answer_of refusal)) }
+{
+    let Words {
+        engine,
+        ranks,
+        rows,
+        script,
+        query,
+        tables,
+    } = words;
+    let Some(script) = script else {
+        return Err(Refusal::Usage);
+    };
+    let others = Words {
+        engine,
+        ranks,
+        rows,
+        script: None,
+        query,
+        tables,
+    };
+    Ok(Request::Session(script, others))
 }

@@ -1,12 +1,15 @@
 //! All that the program does, over a shelf of files and two sinks, one for the output and one for the errors. The answers of a
-//! query are taken from an engine of ranked enumeration, best first and one by one, and each is written by one call. The engine
-//! is the plain list of all witnesses as yet.
+//! query are taken from an engine of ranked enumeration, best first and one by one, within a bound on counted steps, and each is
+//! written by one call.
 #![tactic(auto)]
 
+mod answering;
 mod asking;
 mod ending;
-mod printing;
+mod plan;
+mod request;
 mod run;
+mod session;
 #[cfg(test)]
 mod tests;
 mod top;

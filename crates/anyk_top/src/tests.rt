@@ -13,13 +13,15 @@ const JOIN: &[u8] = b"select R.a, S.c from R, S where R.b = S.b order by R.w + S
 
 const FOUND: &[u8] = b"a,c\n2,q\n3,q\n3,p\n1,q\n1,p\n";
 
-/// The words, the bytes of the three files, and what is to come of them.
+/// The words, the bytes of the query's file and of two tables, further files, the script of a session, and what is to come of them.
 #[derive(Clone, Copy)]
 struct Case<'a> {
     words: &'a str,
     query: &'a [u8],
     left: &'a [u8],
     right: &'a [u8],
+    more: &'a [(&'a str, &'a [u8])],
+    script: Option<&'a [u8]>,
     status: u8,
     out: &'a [u8],
     err: &'a [u8],
@@ -65,6 +67,12 @@ fn shelf_of(alloc: Global, case: &Case<'_>, read: u64) -> Result<Option<MemShelf
     files.push(file(alloc, "q.sql", case.query)?)?;
     files.push(file(alloc, "R.csv", case.left)?)?;
     files.push(file(alloc, "S.csv", case.right)?)?;
+    if let Some(script) = case.script {
+        files.push(file(alloc, "s.txt", script)?)?;
+    }
+    for (name, bytes) in case.more {
+        files.push(file(alloc, name, bytes)?)?;
+    }
     if !have_distinct_names(&files) {
         return Ok(None);
     }
@@ -102,6 +110,8 @@ fn run<'a>(query: &'a [u8], status: u8, out: &'a [u8], err: &'a [u8]) -> Case<'a
         query,
         left: LEFT,
         right: RIGHT,
+        more: &[],
+        script: None,
         status,
         out,
         err,
@@ -250,9 +260,158 @@ fn refusals_come_in_their_order(rt: HostRuntime) -> Result<(), AllocError> {
             ..run(JOIN, 2, b"", b"anyk: usage\n")
         },
         Case {
-            words: "plan q.sql R=R.csv S=S.csv",
+            words: "load --number 1 --rows 2",
             ..run(JOIN, 13, b"", b"anyk: not built yet\n")
         },
+    ];
+    for case in &cases {
+        assert!(rt; holds(alloc, case, NEVER)?);
+    }
+    Ok(())
+}
+
+/// A plan of a query over the two tables.
+fn plan<'a>(query: &'a [u8], status: u8, out: &'a [u8], err: &'a [u8]) -> Case<'a> {
+    Case {
+        words: "plan q.sql R=R.csv S=S.csv",
+        ..run(query, status, out, err)
+    }
+}
+
+#[test]
+fn plans_are_reported(rt: HostRuntime) -> Result<(), AllocError> {
+    let alloc = rt.alloc();
+    let path = b"node 1 parent 0 rows 3 item R\nnode 2 parent 1 rows 3 item S\ntotal 12\n";
+    let star =
+        b"select L1.v, L2.v, L3.v from C, L1, L2, L3 where C.k = L1.k and C.k = L2.k and C.k = L3.k order by L1.w + L2.w + L3.w";
+    let five =
+        b"select A.x, B.z, D.w from A, B, C, D, E where A.y = B.y and B.z = C.z and C.x = A.x and A.y = D.y and D.w = E.w and E.x = A.x";
+    let cases = [
+        plan(JOIN, 0, path.as_slice(), b""),
+        // The limit plays no part.
+        plan(
+            b"select R.a, S.c from R, S where R.b = S.b order by R.w + S.w limit 0",
+            0,
+            path.as_slice(),
+            b"",
+        ),
+        Case {
+            words: "plan q.sql C=R.csv L1=S.csv L2=L2.csv L3=L3.csv",
+            left: b"k\nz\n",
+            right: b"k,v,w\nz,1,0\nz,2,0\n",
+            more: &[
+                ("L2.csv", b"k,v,w\nz,3,0\nz,4,0\n"),
+                ("L3.csv", b"k,v,w\nz,5,0\n"),
+            ],
+            ..plan(
+                star.as_slice(),
+                0,
+                b"node 1 parent 0 rows 1 item C\nnode 2 parent 1 rows 2 item L1\nnode 3 parent 1 rows 2 item L2\nnode 4 parent 1 rows 1 item L3\ntotal 12\n",
+                b"",
+            )
+        },
+        plan(
+            b"select x.a from R x, R y, R z where x.a = y.b and y.a = z.b and z.a = x.b",
+            6,
+            b"",
+            b"anyk: cyclic query: items 1 2 3\n",
+        ),
+        Case {
+            words: "plan q.sql A=R.csv B=S.csv C=C.csv D=D.csv E=E.csv",
+            left: b"x,y\n1,2\n",
+            right: b"y,z\n2,3\n",
+            more: &[
+                ("C.csv", b"z,x\n3,1\n"),
+                ("D.csv", b"y,w\n2,4\n"),
+                ("E.csv", b"w,x\n4,1\n"),
+            ],
+            ..plan(
+                five.as_slice(),
+                6,
+                b"",
+                b"anyk: cyclic query: items 1 2 3 4 5\n",
+            )
+        },
+        plan(
+            b"select R.a from R where R.a < 1",
+            3,
+            b"",
+            b"anyk: syntax error at byte 28\n",
+        ),
+    ];
+    for case in &cases {
+        assert!(rt; holds(alloc, case, NEVER)?);
+    }
+    let failing = Failing { write: 1, ..NEVER };
+    assert!(rt;
+        holds(
+            alloc,
+            &plan(JOIN, 11, b"", b"anyk: write failed\n"),
+            failing
+        )?
+    );
+    Ok(())
+}
+
+/// A session over the two tables, with this script.
+fn session<'a>(
+    query: &'a [u8],
+    script: Option<&'a [u8]>,
+    status: u8,
+    out: &'a [u8],
+    err: &'a [u8],
+) -> Case<'a> {
+    Case {
+        words: "session --script s.txt q.sql R=R.csv S=S.csv",
+        script,
+        ..run(query, status, out, err)
+    }
+}
+
+#[test]
+fn sessions_follow_their_scripts(rt: HostRuntime) -> Result<(), AllocError> {
+    let alloc = rt.alloc();
+    let moves = b"open a\nnext a 2\nfork a b\nnext b 1\nnext a 2\nrewind b\nnext b 3\nnext a 2\n";
+    let moved = b"cursor,a,c\na,2,q\na,3,q\nb,3,p\na,3,p\na,1,q\nb,2,q\nb,3,q\nb,3,p\na,1,p\na\n";
+    let limited = b"select R.a, S.c from R, S where R.b = S.b order by R.w + S.w limit 2";
+    let ends =
+        b"open a\nnext a 9\nfork a b\nnext b 1\nnext b 0\nrewind a\nnext a 1\nclose a\nopen a\nnext a 1";
+    let ended = b"cursor,a,c\na,2,q\na,3,q\na,3,p\na,1,q\na,1,p\na\nb\na,2,q\na,2,q\n";
+    let many =
+        b"open c0\nopen c1\nopen c2\nopen c3\nopen c4\nopen c5\nopen c6\nopen c7\nopen c8\nopen c9\nopen c10\nopen c11\nopen c12\nopen c13\nopen c14\nopen c15\nopen c16\nopen c17\nopen c18\nopen c19\nopen c20\nopen c21\nopen c22\nopen c23\nopen c24\nopen c25\nopen c26\nopen c27\nopen c28\nopen c29\nopen c30\nopen c31\nopen c32\nopen c33\nopen c34\nopen c35\nopen c36\nopen c37\nopen c38\nopen c39\nopen c40\nopen c41\nopen c42\nopen c43\nopen c44\nopen c45\nopen c46\nopen c47\nopen c48\nopen c49\nopen c50\nopen c51\nopen c52\nopen c53\nopen c54\nopen c55\nopen c56\nopen c57\nopen c58\nopen c59\nopen c60\nopen c61\nopen c62\nopen c63\nopen c64\n";
+    let cases = [
+        session(JOIN, Some(moves.as_slice()), 0, moved.as_slice(), b""),
+        session(
+            limited.as_slice(),
+            Some(b"open a\nnext a 9\nnext a 1\nnext a 0\n"),
+            0,
+            b"cursor,a,c\na,2,q\na,3,q\na\na\n",
+            b"",
+        ),
+        session(JOIN, Some(ends.as_slice()), 0, ended.as_slice(), b""),
+        session(JOIN, Some(b""), 0, b"cursor,a,c\n", b""),
+        session(
+            JOIN,
+            Some(b"open a\nopen a\n"),
+            3,
+            b"",
+            b"anyk: script line 2: cursor exists\n",
+        ),
+        session(
+            JOIN,
+            Some(many.as_slice()),
+            8,
+            b"",
+            b"anyk: script line 65: more than 64 cursors\n",
+        ),
+        session(JOIN, None, 9, b"", b"anyk: file s.txt: not found\n"),
+        session(
+            b"select X.a from X",
+            Some(b"open\n"),
+            3,
+            b"",
+            b"anyk: script line 1: bad line\n",
+        ),
     ];
     for case in &cases {
         assert!(rt; holds(alloc, case, NEVER)?);

@@ -2,12 +2,13 @@
 ghost use Rattle.std.specs.Prelude.{◌≡◌, ◌<◌, map};
 ghost use Rattle.std.specs.String.{string_bytes};
 ghost use Rattle.cmd_words.specs.Commands.{said_of};
+ghost use Rattle.verdict.specs.Bound.{IsBounded, IsPrompt};
 ghost use Rattle.verdict.specs.Outcome.{Outcome};
 ghost use Rattle.anyk_top.specs.Asked.{asked_of};
 
-use crate::asking::read_run;
+use crate::answering::answer;
+use crate::asking::read_request;
 use crate::ending::finish;
-use crate::run::run;
 use outer_io::{Shelf, Sink};
 use std::alloc::Global;
 use std::sync::ledger::{Blank, Ledger};
@@ -23,7 +24,7 @@ pub fn run_words<F: Shelf, S: Sink, E: Sink, L: Ledger>(
     err: &mut E,
     steps: &mut Steps<L>,
 ) -> u8
-    ensures { Outcome (asked_of (said_of (map string_bytes words.now))) (F.files shelf.old)
+    ensures outcome { Outcome (asked_of (said_of (map string_bytes words.now))) (F.files shelf.old)
         (record {
           misses = F.misses shelf.old;
           read_faults = F.faults shelf.old;
@@ -41,9 +42,11 @@ pub fn run_words<F: Shelf, S: Sink, E: Sink, L: Ledger>(
           error_faults = E.faults err.new;
         })
         result }
+    ensures bounded { IsBounded (asked_of (said_of (map string_bytes words.now))) (F.files shelf.old) steps.old steps.new }
+    ensures prompt { IsPrompt (asked_of (said_of (map string_bytes words.now))) (F.files shelf.old) (S.written out.old) (S.written out.new) steps.old steps.new }
 {
-    match read_run(alloc, words) {
-        Ok(said) => finish(err, run(alloc, &said, shelf, out, steps)),
+    match read_request(alloc, words) {
+        Ok(request) => finish(err, answer(alloc, &request, shelf, out, steps)),
         Err(refusal) => finish(err, Err(refusal)),
     }
 }
@@ -60,7 +63,7 @@ pub fn run_uncounted<F: Shelf, S: Sink, E: Sink, L: Ledger>(
     requires name { blank.name ≡ L.name }
     requires parts { blank.parts ≡ L.parts }
     requires some_part { 0 < blank.parts }
-    ensures { Outcome (asked_of (said_of (map string_bytes words.now))) (F.files shelf.old)
+    ensures outcome { Outcome (asked_of (said_of (map string_bytes words.now))) (F.files shelf.old)
         (record {
           misses = F.misses shelf.old;
           read_faults = F.faults shelf.old;

@@ -1,10 +1,12 @@
 -- Texts that grow, and numbers that stand for fields among them.
 use Rattle.std.proofs.Common.{Result, Ok, Err, OnErr, ◌≤◌, arith, length-append, ◌≡◌, ◌<◌, ℕ, Bool, true, false, ◌||◌, if◌then◌else◌, List, [], ◌∷◌, ◌++◌, map, length, get_or, slice_get, Some, refl, sym, ap, ◌∙◌, append_assoc}
-use Rattle.std.specs.List.{AllByRecursion, list_any}
+use Rattle.std.specs.List.{AllByRecursion, list_any, position}
 use Rattle.std.specs.Option.{option_map}
 use Rattle.std.specs.Str.{bytes_eq}
 use Rattle.std.proofs.lemmas.List.{map-append, append-nil, get_or_append_left}
-use Rattle.std.proofs.lemmas.Option.{get_or_from_slice_get, slice_get-map}
+use Rattle.std.proofs.lemmas.List.Folds.{list_any_at}
+use Rattle.std.proofs.lemmas.List.Quantifiers.{position-Some}
+use Rattle.std.proofs.lemmas.Option.{get_or_from_slice_get, slice_get-get_or, slice_get-map}
 use Rattle.std.proofs.lemmas.Slice.Eq.{bytes_eq-Decides}
 use Rattle.indexmap.specs.IndexSet.{insert_key}
 use Rattle.anyk_model.specs.Table.{Fields}
@@ -38,6 +40,18 @@ module _ {K : Type 0} (text : K → List ℕ) (eq : K → K → Bool) (same : (a
   text_at-stored keys n k stored at alike =
       get_or_from_slice_get (map text keys) n (text stored) [] (slice_get-map text keys n ∙ ap (option_map text) at)
       ∙ sym ((bytes_eq-Decides (text k) (text stored)).0 (sym (same k stored) ∙ alike))
+
+  -- a key that is found is there already, and the text at its place is its own
+  pub texts-found : (keys : List K) (n : ℕ) (k : K) → position (eq k) keys ≡ Some n → map text keys ≡ with_text (map text keys) (text k)
+  texts-found keys n k at =
+      let found = position-Some (eq k) keys n k at in
+      let any = list_any_at (eq k) keys n k found.0 found.1 in
+      sym (ap (λ b. if b then map text keys else map text keys ++ text k ∷ []) (sym (any-texts keys k) ∙ any))
+
+  pub text_at-found : (keys : List K) (n : ℕ) (k : K) → position (eq k) keys ≡ Some n → text_at (map text keys) n ≡ text k
+  text_at-found keys n k at =
+      let found = position-Some (eq k) keys n k at in
+      text_at-stored keys n k (get_or keys n k) (slice_get-get_or keys n k found.0) found.1
 
 -- ---- texts with more behind them
 

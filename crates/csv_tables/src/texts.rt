@@ -10,11 +10,16 @@ use std::alloc::Global;
 use std::marker::Model;
 use step_counter::NoMemory;
 
+/// The most bytes of a text that lies in the set itself.
+const SHORT: usize = 16;
+
 /// The distinct fields of tables, numbered from 0 on in the order in which they were first read.
 /// A field of at most 16 bytes lies in the set itself.
 #[derive(Drop)]
 pub(crate) struct Texts {
     set: IndexSet<SmallVec<u8, 16>>,
+    /// The long text that was looked up last. Its memory is used again for the next.
+    searched: SmallVec<u8, 16>,
     alloc: Global,
 }
 
@@ -34,6 +39,7 @@ impl Texts {
     {
         Texts {
             set: IndexSet::new(alloc),
+            searched: SmallVec::new(alloc),
             alloc,
         }
     }
@@ -60,12 +66,42 @@ impl Texts {
         ensures shown { IfOk result (λ n. text_at self.new n ≡ text.now) }
         ensures err { OnErr result (Extends self.old self.new) }
     {
-        let key = SmallVec::from_slice(self.alloc, text)?;
-        let (index, _) = self.set.insert_full(key)?;
+        let index = if text.len() <= SHORT {
+            self.put(text)?
+        } else {
+            self.find_or_put(text)?
+        };
         let Ok(number) = u32::try_from(index) else {
             return Err(NoMemory);
         };
         Ok(number)
+    }
+
+    // The place of a text, which is put last where it is new. A short one takes no memory of its own.
+    fn put(&mut self, text: &[u8]) -> Result<usize, NoMemory>
+        ensures texts { OnOk result (self.new ≡ with_text self.old text.now) }
+        ensures within { IfOk result (λ n. n < length self.new) }
+        ensures shown { IfOk result (λ n. text_at self.new n ≡ text.now) }
+        ensures err { OnErr result (self.new ≡ self.old) }
+    {
+        let key = SmallVec::from_slice(self.alloc, text)?;
+        let (index, _) = self.set.insert_full(key)?;
+        Ok(index)
+    }
+
+    // The same, with a look-up first, so that memory is taken for new texts alone.
+    fn find_or_put(&mut self, text: &[u8]) -> Result<usize, NoMemory>
+        ensures texts { OnOk result (self.new ≡ with_text self.old text.now) }
+        ensures within { IfOk result (λ n. n < length self.new) }
+        ensures shown { IfOk result (λ n. text_at self.new n ≡ text.now) }
+        ensures err { OnErr result (self.new ≡ self.old) }
+    {
+        self.searched.clear();
+        self.searched.extend_from_slice(text)?;
+        match self.set.get_index_of(&self.searched) {
+            Some(index) => Ok(index),
+            None => self.put(text),
+        }
     }
 
     /// Puts the numbers of the fields of a row behind the numbers in `cells`.

@@ -1,5 +1,5 @@
 -- The faults of the parts as refusals of their stages.
-use Rattle.std.proofs.Common.{◌≡◌, inl, inr, ℕ, List, Option, Some, None, option_map, Err, refl, sym, ◌≤◌, Ok, arith, subst, length, suc}
+use Rattle.std.proofs.Common.{◌≡◌, inl, inr, ℕ, List, Option, Some, None, option_map, Err, ap, refl, sym, ◌≤◌, Ok, arith, subst, length, suc}
 use Rattle.query_parse.specs.declared.fault.ParseFault.{ParseFault}
 use Rattle.query_parse.specs.declared.fault.ParseFault.TheVariants as parse
 use Rattle.query_parse.specs.Parse.{Parses}
@@ -10,8 +10,13 @@ use Rattle.csv_tables.specs.declared.fault.TableFault.{TableFault}
 use Rattle.csv_tables.specs.Faults.{fault_of}
 use Rattle.csv_tables.specs.Faults as tables
 use Rattle.anyk_model.specs.Table.{Flaw, Table, no_header, too_many_columns, duplicate_name, too_many_rows, ragged}
-use Rattle.verdict.specs.Faults.{of_bind, of_flaw, of_parse}
-use Rattle.verdict.specs.Loading.{Found, IsParse}
+use Rattle.session_script.specs.declared.fault.ScriptFault.{ScriptFault}
+use Rattle.session_script.specs.declared.fault.ScriptFault.TheVariants as script
+use Rattle.session_script.specs.declared.step.Step.{Step}
+use Rattle.session_script.specs.Script.{Fails, steps_of}
+use Rattle.verdict.specs.Faults.{of_bind, of_flaw, of_parse, of_script}
+use Rattle.verdict.specs.Loading.{Bound, IsParse, steps_said, told_steps}
+use Rattle.verdict.specs.Found.{found_of}
 use Rattle.verdict.specs.Stages.{Is, unless}
 use Rattle.verdict.specs.Staged.{Pure}
 use Rattle.input_load.specs.Entries.{table_after}
@@ -41,19 +46,32 @@ parse_refused bytes (parse.LimitRange at) h = (parse.LimitRange at, h, (λ e. cc
 parse_refused bytes parse.NoMemory h = tt
 
 -- the first fault of binding
-bind_fault_refused : (found : Found) (fault : BindFault) → Pure (Is (unless (Some (of_bind fault)) found)) (Err (of_bind fault))
-bind_fault_refused found (bind.DuplicateAlias item) = refl
-bind_fault_refused found (bind.UnknownAlias at) = refl
-bind_fault_refused found (bind.UnknownColumn at) = refl
-bind_fault_refused found (bind.Ambiguous at) = refl
-bind_fault_refused found (bind.BadWeight item row column) = refl
-bind_fault_refused found (bind.RankRange key) = refl
-bind_fault_refused found bind.NoMemory = tt
+bind_fault_refused : (bound : Bound) (fault : BindFault) → Pure (Is (unless (Some (of_bind fault)) bound)) (Err (of_bind fault))
+bind_fault_refused bound (bind.DuplicateAlias item) = refl
+bind_fault_refused bound (bind.UnknownAlias at) = refl
+bind_fault_refused bound (bind.UnknownColumn at) = refl
+bind_fault_refused bound (bind.Ambiguous at) = refl
+bind_fault_refused bound (bind.BadWeight item row column) = refl
+bind_fault_refused bound (bind.RankRange key) = refl
+bind_fault_refused bound bind.NoMemory = tt
 
-pub bind_refused : (first : Option BindFault) (found : Found) (fault : BindFault) → Tells first fault
-    → Pure (Is (unless (option_map of_bind first) found)) (Err (of_bind fault))
-bind_refused first found fault (inl e) = rw e tt
-bind_refused first found fault (inr e) = rw e (bind_fault_refused found fault)
+pub bind_refused : (first : Option BindFault) (bound : Bound) (fault : BindFault) → Tells first fault
+    → Pure (Is (unless (option_map of_bind first) bound)) (Err (of_bind fault))
+bind_refused first bound fault (inl e) = rw e tt
+bind_refused first bound fault (inr e) = rw e (bind_fault_refused bound fault)
+
+-- the first fault of a script
+pub script_told : (bytes : List ℕ) (steps : List Step) → steps_of bytes ≡ Ok steps → Pure (Is (steps_said bytes)) (Ok steps)
+script_told bytes steps h = sym (ap told_steps h)
+
+pub script_refused : (bytes : List ℕ) (fault : ScriptFault) → Fails (steps_of bytes) fault → Pure (Is (steps_said bytes)) (Err (of_script fault))
+script_refused bytes fault (inl e) = rw e tt
+script_refused bytes script.NoMemory (inr e) = tt
+script_refused bytes script.TooManyLines (inr e) = sym (ap told_steps e)
+script_refused bytes (script.BadLine line) (inr e) = sym (ap told_steps e)
+script_refused bytes (script.UnknownCursor line) (inr e) = sym (ap told_steps e)
+script_refused bytes (script.CursorExists line) (inr e) = sym (ap told_steps e)
+script_refused bytes (script.TooManyOpen line) (inr e) = sym (ap told_steps e)
 
 -- the first flaw of a table
 flaw_refused : (name : List ℕ) (old : List Table) (t : Table) (flaw : Flaw)
@@ -73,13 +91,13 @@ table_refused name old t (Some flaw) fault (inr e) =
     rw (sym is) (flaw_refused name old t flaw)
 
 -- the structure that a query has, or its flaw
-pub shape_found : (found : Found) (shape : Shape) → IsShape found.query found.tables (Ok shape) → Pure (IsShaped found) (Ok found)
-shape_found found shape is = record { same = refl; shape = shape; is_shape = is }
+pub shape_found : (bound : Bound) (shape : Shape) → IsShape bound.query bound.tables (Ok shape) → Pure (IsShaped bound) (Ok (found_of bound shape))
+shape_found bound shape is = record { shape = shape; is_shape = is; same = refl }
 
-pub shape_refused : (found : Found) (f : ShapeFault) → TellsFlaw found.query found.tables f → Pure (IsShaped found) (Err (shape_answer f))
-shape_refused found (shape_fault.Cyclic core) h = record { flaw = cyclic (items_of core); is_flaw = h; told = refl }
-shape_refused found shape_fault.TooManyRows h = record { flaw = too_many_node_rows; is_flaw = h; told = refl }
-shape_refused found shape_fault.NoMemory h = tt
+pub shape_refused : (bound : Bound) (f : ShapeFault) → TellsFlaw bound.query bound.tables f → Pure (IsShaped bound) (Err (shape_answer f))
+shape_refused bound (shape_fault.Cyclic core) h = record { flaw = cyclic (items_of core); is_flaw = h; told = refl }
+shape_refused bound shape_fault.TooManyRows h = record { flaw = too_many_node_rows; is_flaw = h; told = refl }
+shape_refused bound shape_fault.NoMemory h = tt
 
 -- a query has an item
 some-items : {ts rest : List Lexeme} {r : List ItemRef × List Equality} → IsItems ts rest r → 1 ≤ length r.0

@@ -2,3 +2,4 @@ pub mod Files
 pub mod Faults
 pub mod FirstUses
 pub mod Reading
+pub mod Following

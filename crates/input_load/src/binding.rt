@@ -12,14 +12,19 @@ ghost use Rattle.input_load.specs.Found.{shown_query};
 use csv_tables::Tables;
 use query_bind::{BindFault, Query, bind};
 use query_parse::select::Select;
+use query_shape::TreeShape;
 use refusal_lines::Refusal;
+use session_script::Step;
 use std::alloc::Global;
 
-/// An accepted input: the tables, in the order of their first use, and the query bound to them.
+/// An accepted input: the tables, in the order of their first use, the query bound to them, its join tree, and the steps of the
+/// script, of which there are none where there is no script.
 #[derive(Drop)]
 pub struct Input {
     pub query: Query,
     pub tables: Tables,
+    pub shape: TreeShape,
+    pub steps: Vec<Step>,
 }
 
 /// The query that the select means over the tables, or the refusal that its first fault is.

@@ -1,19 +1,24 @@
 //! The stages, one after another.
-ghost use Rattle.std.specs.Prelude.{◌≡◌, ◌≤◌, IfOk, List, ℕ, length, map};
+ghost use Rattle.std.specs.Prelude.{◌≡◌, ◌≤◌, [], IfOk, List, Ok, ℕ, length, map, option_map};
 ghost use Rattle.std.specs.List.{AllByRecursion};
 ghost use Rattle.cmd_words.specs.NamedPairs.{named_pair};
+ghost use Rattle.plan_report.specs.Stored.{IsStored};
 ghost use Rattle.query_bind.specs.Weighed.{Fits};
+ghost use Rattle.query_shape.specs.Shape.{IsShape};
+ghost use Rattle.query_shape.specs.Shown.{shape_shown};
+ghost use Rattle.session_script.specs.Script.{KeepsRules};
 ghost use Rattle.verdict.specs.Loading.{table_names};
 ghost use Rattle.verdict.specs.Staged.{Staged};
-ghost use Rattle.verdict.specs.Verdict.{IsBound, IsRead, IsSelected, IsVerdictOn};
+ghost use Rattle.verdict.specs.Verdict.{IsBound, IsRead, IsScripted, IsSelected, IsVerdictOn};
 ghost use Rattle.input_load.specs.Entries.{IsEntryOf, tables_of};
 ghost use Rattle.input_load.specs.Found.{shown_input};
-ghost use Rattle.input_load.specs.Turns.{IsBoundTurn, IsReadTurn, IsSelectedTurn, IsTurn};
+ghost use Rattle.input_load.specs.Turns.{IsBoundTurn, IsReadTurn, IsScriptedTurn, IsSelectedTurn, IsTurn};
 
 use crate::binding::{Input, bind_query};
 use crate::file::load;
 use crate::query::parse_query;
-use crate::structure::check_shape;
+use crate::script::load_script;
+use crate::structure::find_shape;
 use crate::tables::read_tables;
 use crate::uses::{entries_of, first_entries, table_numbers};
 use cmd_words::Named;
@@ -22,36 +27,79 @@ use query_parse::select::Select;
 use refusal_lines::Refusal;
 use std::alloc::Global;
 
-/// The input that the query file and the tables' files hold, or its first refusal.
+/// The input that the query file, the script's file, where there is one, and the tables' files hold, or its first refusal.
 pub fn load_input<'a, F: Shelf>(
     alloc: Global,
     query: &'a str,
+    script: Option<&'a str>,
     named: &'a [Named],
     shelf: &mut F,
 ) -> Result<Input, Refusal<'a>>
-    ensures staged { Staged (IsVerdictOn query.now (map named_pair named.now)) (IsTurn query.now (map named_pair named.now))
+    ensures staged { Staged (IsVerdictOn query.now (option_map (λ name. name.now) script.entry) (map named_pair named.now))
+        (IsTurn query.now (option_map (λ name. name.now) script.entry) (map named_pair named.now))
         (record { files = F.files shelf.old; misses = F.misses shelf.old; faults = F.faults shelf.old })
         (record { files = F.files shelf.new; misses = F.misses shelf.new; faults = F.faults shelf.new }) (shown_input result) }
     ensures fits { IfOk result (λ input. Fits input.query input.tables) }
+    ensures stored { IfOk result (λ input. IsStored input.query.query input.shape) }
+    ensures some { IfOk result (λ input. 1 ≤ length input.query.query.items) }
+    ensures shape { IfOk result (λ input. IsShape input.query.query input.tables (Ok (shape_shown input.shape))) }
+    ensures rules { IfOk result (λ input. KeepsRules [] input.steps.items) }
 {
     let bytes = load(alloc, shelf, query)?;
-    read_input(alloc, &bytes, named, shelf)
+    read_input(alloc, &bytes, script, named, shelf)
 }
 
 // From the bytes of the query file on.
 fn read_input<'a, F: Shelf>(
     alloc: Global,
     bytes: &[u8],
+    script: Option<&'a str>,
     named: &'a [Named],
     shelf: &mut F,
 ) -> Result<Input, Refusal<'a>>
-    ensures staged { Staged (λ files. IsRead (map named_pair named.now) files bytes.now) (λ files. IsReadTurn (map named_pair named.now) files bytes.now)
+    ensures staged { Staged (λ files. IsRead (option_map (λ name. name.now) script.entry) (map named_pair named.now) files bytes.now)
+        (λ files. IsReadTurn (option_map (λ name. name.now) script.entry) (map named_pair named.now) files bytes.now)
         (record { files = F.files shelf.old; misses = F.misses shelf.old; faults = F.faults shelf.old })
         (record { files = F.files shelf.new; misses = F.misses shelf.new; faults = F.faults shelf.new }) (shown_input result) }
     ensures fits { IfOk result (λ input. Fits input.query input.tables) }
+    ensures stored { IfOk result (λ input. IsStored input.query.query input.shape) }
+    ensures some { IfOk result (λ input. 1 ≤ length input.query.query.items) }
+    ensures shape { IfOk result (λ input. IsShape input.query.query input.tables (Ok (shape_shown input.shape))) }
+    ensures rules { IfOk result (λ input. KeepsRules [] input.steps.items) }
 {
     let select = parse_query(alloc, bytes)?;
-    select_input(alloc, &select, named, shelf)
+    script_input(alloc, &select, script, named, shelf)
+}
+
+// From the script on.
+fn script_input<'a, F: Shelf>(
+    alloc: Global,
+    select: &Select,
+    script: Option<&'a str>,
+    named: &'a [Named],
+    shelf: &mut F,
+) -> Result<Input, Refusal<'a>>
+    requires some { 1 ≤ length select.now.items }
+    requires items { length select.now.items ≤ 16 }
+    requires keys { length select.now.keys ≤ 8 }
+    ensures staged { Staged (λ files. IsScripted (option_map (λ name. name.now) script.entry) (map named_pair named.now) files select.now)
+        (λ files. IsScriptedTurn (option_map (λ name. name.now) script.entry) (map named_pair named.now) files select.now)
+        (record { files = F.files shelf.old; misses = F.misses shelf.old; faults = F.faults shelf.old })
+        (record { files = F.files shelf.new; misses = F.misses shelf.new; faults = F.faults shelf.new }) (shown_input result) }
+    ensures fits { IfOk result (λ input. Fits input.query input.tables) }
+    ensures stored { IfOk result (λ input. IsStored input.query.query input.shape) }
+    ensures some { IfOk result (λ input. 1 ≤ length input.query.query.items) }
+    ensures shape { IfOk result (λ input. IsShape input.query.query input.tables (Ok (shape_shown input.shape))) }
+    ensures rules { IfOk result (λ input. KeepsRules [] input.steps.items) }
+{
+    let steps = load_script(alloc, script, shelf)?;
+    let input = select_input(alloc, select, named, shelf)?;
+    Ok(Input {
+        query: input.query,
+        tables: input.tables,
+        shape: input.shape,
+        steps,
+    })
 }
 
 // From the select on.
@@ -68,6 +116,9 @@ fn select_input<'a, F: Shelf>(
         (record { files = F.files shelf.old; misses = F.misses shelf.old; faults = F.faults shelf.old })
         (record { files = F.files shelf.new; misses = F.misses shelf.new; faults = F.faults shelf.new }) (shown_input result) }
     ensures fits { IfOk result (λ input. Fits input.query input.tables) }
+    ensures stored { IfOk result (λ input. IsStored input.query.query input.shape) }
+    ensures some { IfOk result (λ input. 1 ≤ length input.query.query.items) }
+    ensures shape { IfOk result (λ input. IsShape input.query.query input.tables (Ok (shape_shown input.shape))) }
 {
     let entries = entries_of(alloc, named, select)?;
     bound_input(alloc, select, &entries, shelf)
@@ -89,11 +140,20 @@ fn bound_input<'a, F: Shelf>(
         (record { files = F.files shelf.old; misses = F.misses shelf.old; faults = F.faults shelf.old })
         (record { files = F.files shelf.new; misses = F.misses shelf.new; faults = F.faults shelf.new }) (shown_input result) }
     ensures fits { IfOk result (λ input. Fits input.query input.tables) }
+    ensures stored { IfOk result (λ input. IsStored input.query.query input.shape) }
+    ensures some { IfOk result (λ input. 1 ≤ length input.query.query.items) }
+    ensures shape { IfOk result (λ input. IsShape input.query.query input.tables (Ok (shape_shown input.shape))) }
 {
     let firsts = first_entries(alloc, entries)?;
     let which = table_numbers(alloc, entries, &firsts)?;
     let tables = read_tables(alloc, &firsts, shelf)?;
     let query = bind_query(alloc, select, &tables, &which)?;
-    check_shape(alloc, &query, &tables)?;
-    Ok(Input { query, tables })
+    let shape = find_shape(alloc, &query, &tables)?;
+    let steps = Vec::new(alloc);
+    Ok(Input {
+        query,
+        tables,
+        shape,
+        steps,
+    })
 }

@@ -1,9 +1,10 @@
 -- Solutions of a tree problem: one row for each node, such that each row stands below the row of its node's parent.
 use Rattle.std.specs.Prelude.{◌≡◌, ℕ, ◌<◌, ◌⊎◌, List, Contains, length}
+use Rattle.rankings.specs.Order.{IsRanking}
 use Rattle.tdp_model.specs.Below.{is_below}
 use Rattle.tdp_model.specs.KeyTuple.{KeyOf, key_add, key_none, key_below}
 use Rattle.tdp_model.specs.Remains.{AtMost}
-use Rattle.tdp_model.specs.TreeProblem.{sum_from, RowHas}
+use Rattle.tdp_model.specs.TreeProblem.{sum_from, RowHas, SolutionHas}
 use Rattle.tdp_core.specs.RawData.{RawData, raw_len, raw_number, raw_rank, own_link, child_link, shape_parent, shape_child_place}
 use Rattle.tdp_core.specs.TreeData.{NodeData, parent, group, rank}
 
@@ -66,3 +67,8 @@ SubtreeHas t d key v r k = RowHas (key_add d 16) (key_none d 16) (length t) (par
 pub record IsLeastKey {R : Type 0} (t : List (NodeData R)) (d : ℕ) (key : R → KeyOf d 16) (v r : ℕ) (k : KeyOf d 16) : Type 0 where
   pub had : SubtreeHas t d key v r k
   pub least : (other : KeyOf d 16) → SubtreeHas t d key v r other → AtMost (key_below d 16) k other
+
+-- these are the keys of the tree's solutions, in ascending order
+abbrev pub IsTreeRanking : {R : Type 0} → List (NodeData R) → (d : ℕ) (key : R → KeyOf d 16) → List (KeyOf d 16) → Type 0
+IsTreeRanking t d key ks =
+    IsRanking (KeyOf d 16) (key_below d 16) (SolutionHas (key_add d 16) (key_none d 16) (length t) (parent t) (rank t d key) (group t)) ks

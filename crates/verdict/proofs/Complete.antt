@@ -4,8 +4,8 @@ use Rattle.outer_io.specs.Counts.{Rose}
 use Rattle.outer_io.specs.Files.{Files}
 use Rattle.refusal_lines.specs.Answer as answer
 use Rattle.refusal_lines.specs.Answer.{Answer, status_of}
-use Rattle.verdict.specs.Words.{Words, Asked, no_command, not_built, run}
-use Rattle.verdict.specs.Loading.{Found}
+use Rattle.verdict.specs.Words.{Command, Asked, no_command, not_built, built}
+use Rattle.verdict.specs.Found.{Found}
 use Rattle.verdict.specs.Outcome.{Outside, Ended, IsComplete, IsAnswer, IsCaused, IsDoneWhereAccepted, IsRefusedWhereRefused}
 use Rattle.verdict.specs.Verdict.{IsVerdict}
 use Rattle.verdict.proofs.One.{one_verdict}
@@ -22,17 +22,17 @@ pub complete_only : (asked : Asked) (told : Option Files) (old new : Outside)
 complete_only asked None old new h = tt
 complete_only no_command (Some files) old new h = absurd h
 complete_only not_built (Some files) old new h = absurd h
-complete_only (run words) (Some files) old new (found, accepted, written) =
-    λ refusal refused no_fault. no_both (one_verdict (run words) files _ _ accepted refused)
+complete_only (built command) (Some files) old new (found, accepted, written) =
+    λ refusal refused no_fault. no_both (one_verdict (built command) files _ _ accepted refused)
 
 abbrev Same : Asked → Asked → Type 0
 Same a b = a ≡ b
 
-differ-run-none : {A : Type 0} {w : Words} → Same (run w) no_command → A
-differ-run-none h = cc
+differ-built-none : {A : Type 0} {k : Command} → Same (built k) no_command → A
+differ-built-none h = cc
 
-differ-run-unbuilt : {A : Type 0} {w : Words} → Same (run w) not_built → A
-differ-run-unbuilt h = cc
+differ-built-unbuilt : {A : Type 0} {k : Command} → Same (built k) not_built → A
+differ-built-unbuilt h = cc
 
 differ-unbuilt-none : {A : Type 0} → Same not_built no_command → A
 differ-unbuilt-none h = cc
@@ -44,13 +44,13 @@ differ-none-unbuilt h = cc
 usage_verdict : (files : Files) (asked : Asked) (result : Result Found Answer) → asked ≡ no_command → IsVerdict asked files result → result ≡ Err answer.Usage
 usage_verdict files no_command result e v = v
 usage_verdict files not_built result e v = differ-unbuilt-none e
-usage_verdict files (run words) result e v = differ-run-none e
+usage_verdict files (built command) result e v = differ-built-none e
 
 -- and so has a command that is not built
 unbuilt_verdict : (files : Files) (asked : Asked) (result : Result Found Answer) → asked ≡ not_built → IsVerdict asked files result → result ≡ Err answer.Unbuilt
 unbuilt_verdict files no_command result e v = differ-none-unbuilt e
 unbuilt_verdict files not_built result e v = v
-unbuilt_verdict files (run words) result e v = differ-run-unbuilt e
+unbuilt_verdict files (built command) result e v = differ-built-unbuilt e
 
 -- the refusal of a call that ended with it is the verdict's
 done_by : (asked : Asked) (files : Files) (old new : Outside) (a : Answer) → IsAnswer asked (Some files) a → IsCaused old new a

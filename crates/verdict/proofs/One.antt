@@ -1,5 +1,5 @@
 -- An input has one verdict at most.
-use Rattle.std.proofs.Common.{◌≡◌, ◌≢◌, ℕ, List, Result, Ok, Err, inl, inr, ap, subst, sym, ◌∙◌}
+use Rattle.std.proofs.Common.{◌≡◌, ◌≢◌, ℕ, List, Option, Result, Ok, Err, inl, inr, ap, subst, sym, ◌∙◌}
 use Rattle.outer_io.specs.Files.{Files}
 use Rattle.query_parse.specs.declared.fault.ParseFault.{ParseFault}
 use Rattle.query_parse.specs.declared.fault.ParseFault.TheVariants.{NoMemory as out_of_memory}
@@ -9,12 +9,13 @@ use Rattle.query_parse.proofs.Exactly.{parses_agree}
 use Rattle.query_shape.specs.Shape.{Flaw, IsShape, Shape}
 use Rattle.query_shape.proofs.OneShape.{one_shape}
 use Rattle.refusal_lines.specs.Answer.{Answer, Usage, Unbuilt}
-use Rattle.verdict.specs.Words.{no_command, not_built, run}
+use Rattle.verdict.specs.Words.{no_command, not_built, built, command_words, command_script}
 use Rattle.verdict.specs.Faults.{of_parse, of_shape}
 use Rattle.verdict.specs.Laws.{OneVerdict}
-use Rattle.verdict.specs.Loading.{Found, IsParse, bound_in}
+use Rattle.verdict.specs.Loading.{Bound, IsParse, bound_in}
+use Rattle.verdict.specs.Found.{found_of, with_steps}
 use Rattle.verdict.specs.Stages.{Then, Is, refused, followed, AtMostOne}
-use Rattle.verdict.specs.Verdict.{Named, IsRead, IsSelected, IsBound, IsShaped}
+use Rattle.verdict.specs.Verdict.{Named, IsRead, IsScripted, IsSelected, IsBound, IsShaped}
 
 -- a stage that computes
 pub one_computed : {A : Type 0} (r : Result A Answer) → AtMostOne (Is r)
@@ -79,15 +80,20 @@ Shaped a b = a ≡ b
 no_shape : {A : Type 0} {shape : Shape} {flaw : Flaw} → Shaped (Ok shape) (Err flaw) → A
 no_shape e = cc
 
+same_shape : {a b : Shape} → Shaped (Ok a) (Ok b) → a ≡ b
+same_shape e = cc
+
 same_flaw : {a b : Flaw} → Shaped (Err a) (Err b) → a ≡ b
 same_flaw e = cc
 
-one_shaped : (found : Found) → AtMostOne (IsShaped found)
-one_shaped found (Ok a) (Ok b) h k = ap Ok (h.same ∙ sym k.same)
-one_shaped found (Ok a) (Err b) h k = no_shape (one_shape found.query found.tables (Ok h.shape) (Err k.flaw) h.is_shape k.is_flaw)
-one_shaped found (Err a) (Ok b) h k = no_shape (one_shape found.query found.tables (Ok k.shape) (Err h.flaw) k.is_shape h.is_flaw)
-one_shaped found (Err a) (Err b) h k =
-    let same = same_flaw (one_shape found.query found.tables (Err h.flaw) (Err k.flaw) h.is_flaw k.is_flaw) in
+one_shaped : (bound : Bound) → AtMostOne (IsShaped bound)
+one_shaped bound (Ok a) (Ok b) h k =
+    let same = same_shape (one_shape bound.query bound.tables (Ok h.shape) (Ok k.shape) h.is_shape k.is_shape) in
+    ap Ok (h.same ∙ ap (found_of bound) same ∙ sym k.same)
+one_shaped bound (Ok a) (Err b) h k = no_shape (one_shape bound.query bound.tables (Ok h.shape) (Err k.flaw) h.is_shape k.is_flaw)
+one_shaped bound (Err a) (Ok b) h k = no_shape (one_shape bound.query bound.tables (Ok k.shape) (Err h.flaw) k.is_shape h.is_flaw)
+one_shaped bound (Err a) (Err b) h k =
+    let same = same_flaw (one_shape bound.query bound.tables (Err h.flaw) (Err k.flaw) h.is_flaw k.is_flaw) in
     ap Err (h.told ∙ ap of_shape same ∙ sym k.told)
 
 -- the whole
@@ -97,10 +103,14 @@ one_bound named files select = one_then _ _ (one_computed _) (λ tables. one_the
 one_selected : (named : Named) (files : Files) (select : Select) → AtMostOne (IsSelected named files select)
 one_selected named files select = one_then _ _ (one_computed _) (one_bound named files)
 
-one_read : (named : Named) (files : Files) (bytes : List ℕ) → AtMostOne (IsRead named files bytes)
-one_read named files bytes = one_then _ _ (one_parse bytes) (one_selected named files)
+one_scripted : (script : Option (List ℕ)) (named : Named) (files : Files) (select : Select) → AtMostOne (IsScripted script named files select)
+one_scripted script named files select =
+    one_then _ _ (one_computed _) (λ steps. one_then _ _ (one_selected named files select) (λ found. one_computed (Ok (with_steps steps found))))
+
+one_read : (script : Option (List ℕ)) (named : Named) (files : Files) (bytes : List ℕ) → AtMostOne (IsRead script named files bytes)
+one_read script named files bytes = one_then _ _ (one_parse bytes) (one_scripted script named files)
 
 pub one_verdict : OneVerdict
 one_verdict no_command files = one_computed (Err Usage)
 one_verdict not_built files = one_computed (Err Unbuilt)
-one_verdict (run words) files = one_then _ _ (one_computed _) (one_read words.tables files)
+one_verdict (built command) files = one_then _ _ (one_computed _) (one_read (command_script command) (command_words command).tables files)

@@ -5,7 +5,7 @@ use Rattle.std.specs.Io.KnownBytes.{Appends}
 use Rattle.outer_io.specs.Files.{Files}
 use Rattle.refusal_lines.specs.Answer as answer
 use Rattle.refusal_lines.specs.Answer.{Answer, status_of}
-use Rattle.verdict.specs.Words.{Words, Asked, no_command, not_built, run}
+use Rattle.verdict.specs.Words.{Command, Asked, no_command, not_built, built}
 use Rattle.verdict.specs.Outcome.{Outside, Outcome, Ended, IsComplete, IsDoneWhereAccepted, statuses}
 use Rattle.verdict.proofs.Complete.{complete_only, done_only, refused_only}
 
@@ -34,21 +34,21 @@ ended_outcome asked told old new a h usage unbuilt = record {
 abbrev Same : Asked → Asked → Type 0
 Same a b = a ≡ b
 
-differ-none : {A : Type 0} {w : Words} → Same (run w) no_command → A
+differ-none : {A : Type 0} {k : Command} → Same (built k) no_command → A
 differ-none h = cc
 
-differ-unbuilt : {A : Type 0} {w : Words} → Same (run w) not_built → A
+differ-unbuilt : {A : Type 0} {k : Command} → Same (built k) not_built → A
 differ-unbuilt h = cc
 
 complete_command : {A : Type 0} (asked : Asked) (told : Option Files) (old new : Outside) → IsComplete asked told old new → asked ≡ no_command → A
 complete_command no_command told old new h e = absurd h
 complete_command not_built told old new h e = absurd h
-complete_command (run words) told old new h e = differ-none e
+complete_command (built command) told old new h e = differ-none e
 
 complete_built : {A : Type 0} (asked : Asked) (told : Option Files) (old new : Outside) → IsComplete asked told old new → asked ≡ not_built → A
 complete_built no_command told old new h e = absurd h
 complete_built not_built told old new h e = absurd h
-complete_built (run words) told old new h e = differ-unbuilt e
+complete_built (built command) told old new h e = differ-unbuilt e
 
 zero_accepted : (asked : Asked) (told : Option Files) (old new : Outside) → IsDoneWhereAccepted asked told old new 0
 zero_accepted asked None old new = tt

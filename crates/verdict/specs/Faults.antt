@@ -2,6 +2,8 @@
 use Rattle.std.specs.Prelude.{ℕ, List}
 use Rattle.query_parse.specs.declared.fault.ParseFault.{ParseFault}
 use Rattle.query_parse.specs.declared.fault.ParseFault.TheVariants as parse
+use Rattle.session_script.specs.declared.fault.ScriptFault.{ScriptFault}
+use Rattle.session_script.specs.declared.fault.ScriptFault.TheVariants as script
 use Rattle.query_bind.specs.declared.fault.BindFault.{BindFault}
 use Rattle.query_bind.specs.declared.fault.BindFault.TheVariants as bind
 use Rattle.anyk_model.specs.Table.{Flaw, no_header, too_many_columns, duplicate_name, too_many_rows, ragged}
@@ -16,6 +18,14 @@ of_parse parse.TooManyItems = answer.TooManyItems
 of_parse parse.TooManyKeys = answer.TooManyKeys
 of_parse (parse.LimitRange at) = answer.LimitRange at
 of_parse parse.NoMemory = answer.NoMemory
+
+abbrev pub of_script : ScriptFault → Answer
+of_script script.TooManyLines = answer.TooManyLines
+of_script (script.BadLine line) = answer.BadLine line
+of_script (script.UnknownCursor line) = answer.UnknownCursor line
+of_script (script.CursorExists line) = answer.CursorExists line
+of_script (script.TooManyOpen line) = answer.TooManyOpen line
+of_script script.NoMemory = answer.NoMemory
 
 abbrev pub of_bind : BindFault → Answer
 of_bind (bind.DuplicateAlias item) = answer.DuplicateAlias item

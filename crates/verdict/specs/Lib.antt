@@ -2,8 +2,11 @@ pub mod Stages
 pub mod Words
 pub mod Faults
 pub mod Loading
+pub mod Found
 pub mod Verdict
 pub mod Output
+pub mod Session
 pub mod Outcome
+pub mod Bound
 pub mod Laws
 pub mod Staged

@@ -1,4 +1,4 @@
--- The stages of looking at an input: its query, its tables, and the query bound to them.
+-- The stages of looking at an input: its query, its script, its tables, and the query bound to them.
 use Rattle.std.specs.Prelude.{◌≡◌, ◌≢◌, ℕ, nat_lt, if◌then◌else◌, List, [], ◌∷◌, ◌++◌, map, length, Option, None, Some, option_map, unwrap_or, Result, Ok, Err}
 use Rattle.std.specs.List.{list_any, position_or_len}
 use Rattle.std.specs.Str.{bytes_eq}
@@ -13,7 +13,10 @@ use Rattle.anyk_model.specs.Query.{Query}
 use Rattle.query_bind.specs.Bind.{bind_fault}
 use Rattle.query_bind.specs.Binding.{bound_query}
 use Rattle.refusal_lines.specs.Answer.{Answer, NoFile, TooLarge, UnknownTable}
-use Rattle.verdict.specs.Faults.{of_parse, of_bind, of_flaw}
+use Rattle.session_script.specs.declared.fault.ScriptFault.{ScriptFault}
+use Rattle.session_script.specs.declared.step.Step.{Step}
+use Rattle.session_script.specs.Script.{steps_of}
+use Rattle.verdict.specs.Faults.{of_parse, of_script, of_bind, of_flaw}
 use Rattle.verdict.specs.Stages.{then_by, unless}
 
 -- ---- one file
@@ -39,6 +42,21 @@ abbrev pub IsParse : List ℕ → Result Select Answer → Type 0
 IsParse bytes (Ok select) = IsParsed bytes select
 IsParse bytes (Err answer) =
     (fault : ParseFault) × Faults bytes fault × (fault ≢ out_of_memory) × (answer ≡ of_parse fault)
+
+-- ---- the script
+
+abbrev pub told_steps : Result (List Step) ScriptFault → Result (List Step) Answer
+told_steps (Ok steps) = Ok steps
+told_steps (Err fault) = Err (of_script fault)
+
+-- the steps that the bytes of a script say
+abbrev pub steps_said : List ℕ → Result (List Step) Answer
+steps_said bytes = told_steps (steps_of bytes)
+
+-- the steps of the script in a file, where there is one
+abbrev pub steps_in : Files → Option (List ℕ) → Result (List Step) Answer
+steps_in files None = Ok []
+steps_in files (Some name) = then_by (file_in files name) steps_said
 
 -- ---- the tables
 
@@ -98,12 +116,12 @@ files_read files named (name ∷ names) = known_file named name ∷ go_on (table
 
 -- ---- the query bound to its tables
 
--- what is known of an accepted input
-pub record Found : Type 0 where
+-- a query, and the tables that it is bound to
+pub record Bound : Type 0 where
   pub query : Query
   pub tables : List Table
 
-abbrev pub bound_in : Select → List Table → Result Found Answer
+abbrev pub bound_in : Select → List Table → Result Bound Answer
 bound_in select tables =
     unless (option_map of_bind (bind_fault select tables (table_numbers select.items)))
     (record { query = bound_query select tables (table_numbers select.items); tables = tables })

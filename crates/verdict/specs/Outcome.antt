@@ -1,15 +1,17 @@
 -- What a call of the program has done, by what its words ask for and what the outside told.
-use Rattle.std.specs.Prelude.{◌≡◌, ◌≢◌, ◌⊎◌, ◌==◌, true, ℕ, List, [], ◌∷◌, Option, None, IfSome, Ok, Err}
+use Rattle.std.specs.Prelude.{◌≡◌, ◌≢◌, ◌⊎◌, ◌==◌, true, ℕ, List, [], ◌∷◌, Option, Some, None, IfSome, Ok, Err}
 use Rattle.std.specs.List.{list_any}
 use Rattle.std.specs.Io.KnownBytes.{Appends}
 use Rattle.outer_io.specs.Counts.{Rose}
 use Rattle.outer_io.specs.Files.{Files}
 use Rattle.query_parse.specs.declared.select.Select.{Select}
+use Rattle.session_script.specs.declared.step.Step.{Step}
 use Rattle.rankings.specs.Order.{IsMember}
 use Rattle.refusal_lines.specs.Answer as answer
 use Rattle.refusal_lines.specs.Answer.{Answer, status_of, line_of}
-use Rattle.verdict.specs.Words.{Words, Asked, no_command, not_built, run}
-use Rattle.verdict.specs.Loading.{Found, IsParse, file_in, unknown_table, first_uses, files_read}
+use Rattle.verdict.specs.Words.{Words, Command, Asked, no_command, not_built, built, command_words, command_script}
+use Rattle.verdict.specs.Found.{Found}
+use Rattle.verdict.specs.Loading.{IsParse, file_in, steps_in, unknown_table, first_uses, files_read}
 use Rattle.verdict.specs.Output.{output}
 use Rattle.refusal_lines.specs.Sent.{GotPrefix}
 use Rattle.verdict.specs.Verdict.{IsVerdict}
@@ -32,14 +34,14 @@ pub record HasLine (old new : Outside) (line : List ℕ) : Type 0 where
 
 -- where the files are told: the input is accepted, and its complete output was written
 abbrev pub IsComplete : Asked → Option Files → Outside → Outside → Type 0
-IsComplete (run words) told old new =
-    IfSome told (λ files. (found : Found) × IsVerdict (run words) files (Ok found) × Appends old.output new.output (output words found))
+IsComplete (built command) told old new =
+    IfSome told (λ files. (found : Found) × IsVerdict (built command) files (Ok found) × Appends old.output new.output (output command found))
 IsComplete asked told old new = ⊥
 
 -- where the files are told: the input is accepted, and the output got a prefix of its complete output
 abbrev pub GotAccepted : Asked → Option Files → Outside → Outside → Type 0
-GotAccepted (run words) told old new =
-    IfSome told (λ files. (found : Found) × IsVerdict (run words) files (Ok found) × GotPrefix old.output new.output (output words found))
+GotAccepted (built command) told old new =
+    IfSome told (λ files. (found : Found) × IsVerdict (built command) files (Ok found) × GotPrefix old.output new.output (output command found))
 GotAccepted asked told old new = ⊥
 
 abbrev pub GotNothing : Outside → Outside → Type 0
@@ -47,14 +49,18 @@ GotNothing old new = Appends old.output new.output []
 
 -- ---- the answers
 
--- the file is read on this input: the query's, or, once that is parsed, one of the tables' up to the first refusal
-pub data IsTurnOf (words : Words) (files : Files) (name : List ℕ) : Type 0 where
-  query_turn : name ≡ words.query → IsTurnOf words files name
-  table_turn : {bytes : List ℕ} {select : Select} → file_in files words.query ≡ Ok bytes → IsParse bytes (Ok select)
-      → unknown_table words.tables select.items ≡ None → IsMember name (files_read files words.tables (first_uses select.items)) → IsTurnOf words files name
+-- the file is read on this input: the query's, or, once that is parsed, the script's, or, once that is read, one of the tables' up to
+-- the first refusal
+pub data IsTurnOf (words : Words) (script : Option (List ℕ)) (files : Files) (name : List ℕ) : Type 0 where
+  query_turn : name ≡ words.query → IsTurnOf words script files name
+  script_turn : {bytes : List ℕ} {select : Select} → file_in files words.query ≡ Ok bytes → IsParse bytes (Ok select)
+      → script ≡ Some name → IsTurnOf words script files name
+  table_turn : {bytes : List ℕ} {select : Select} {steps : List Step} → file_in files words.query ≡ Ok bytes → IsParse bytes (Ok select)
+      → steps_in files script ≡ Ok steps → unknown_table words.tables select.items ≡ None
+      → IsMember name (files_read files words.tables (first_uses select.items)) → IsTurnOf words script files name
 
 abbrev pub IsTurn : Asked → Option Files → List ℕ → Type 0
-IsTurn (run words) told name = IfSome told (λ files. IsTurnOf words files name)
+IsTurn (built command) told name = IfSome told (λ files. IsTurnOf (command_words command) (command_script command) files name)
 IsTurn asked told name = ⊥
 
 -- where the files are told, the answer is the verdict on the input, or it speaks of what happened on the way

@@ -2,8 +2,10 @@
 use Rattle.std.specs.Prelude.{ℕ, List, None}
 use Rattle.anyk_model.specs.Output.{Style, output_of, cut}
 use Rattle.anyk_model.specs.Ranking.{ranking_of}
-use Rattle.verdict.specs.Words.{Words}
-use Rattle.verdict.specs.Loading.{Found}
+use Rattle.plan_report.specs.Report.{report_of}
+use Rattle.verdict.specs.Words.{Words, Command, run, plan, session}
+use Rattle.verdict.specs.Found.{Found}
+use Rattle.verdict.specs.Session.{session_text}
 
 abbrev pub style_of : Words → Style
 style_of words = record { ranks = words.ranks; rows = words.rows; cursor = None }
@@ -12,6 +14,9 @@ style_of words = record { ranks = words.ranks; rows = words.rows; cursor = None 
 abbrev pub members_of : Found → List (List ℕ)
 members_of found = cut found.query.limit (ranking_of found.query found.tables)
 
--- the header, and then a record for each of these members
-abbrev pub output : Words → Found → List ℕ
-output words found = output_of found.query found.tables (style_of words) (members_of found)
+-- on `run` the header, and then a record for each of these members; on `plan` the report of the join tree; on `session` what the
+-- steps of its script print of these members
+abbrev pub output : Command → Found → List ℕ
+output (run words) found = output_of found.query found.tables (style_of words) (members_of found)
+output (plan words) found = report_of found.query found.tables found.shape
+output (session script words) found = session_text found.query found.tables (style_of words) (members_of found) found.steps

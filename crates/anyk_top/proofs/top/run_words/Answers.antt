@@ -1,13 +1,16 @@
-use Rattle.std.proofs.Common.{None}
-use Rattle.cmd_words.specs.Said.{seen_words}
+use Rattle.std.proofs.Common.{None, map}
+use Rattle.std.specs.String.{string_bytes}
+use Rattle.cmd_words.specs.Commands.{said_of}
+use Rattle.anyk_top.specs.Asked.{asked_of}
+use Rattle.anyk_top.proofs.Bounds.{bounded-still, prompt-still}
 use Rattle.verdict.specs.Outcome.{Outside}
-use Rattle.anyk_top.specs.Asked.{words_of}
-use Rattle.anyk_top.proofs.Ends.{early-outcome, run-outcome}
-use Rattle.anyk_top.proofs.Prints.{appends-nothing}
+use Rattle.anyk_top.specs.Requests.{command_of}
+use Rattle.anyk_top.proofs.Ends.{early-outcome, built-outcome}
+use Rattle.ranking_print.proofs.Prints.{appends-nothing}
 use Rattle.anyk_top.proofs.top.run_words.Goals as goal
 
-pub returns-in-Ok : goal.returns-in-Ok
-returns-in-Ok g c =
+pub returns-in-Ok-clause-outcome : goal.returns-in-Ok-clause-outcome
+returns-in-Ok-clause-outcome g c =
     let old : Outside = record {
       misses = g.F.Shelf.misses c.args.shelf.now;
       read_faults = g.F.Shelf.faults c.args.shelf.now;
@@ -17,17 +20,30 @@ returns-in-Ok g c =
       error_faults = 0;
     } in
     let new : Outside = record {
-      misses = g.F.Shelf.misses c.run.new.shelf;
-      read_faults = g.F.Shelf.faults c.run.new.shelf;
-      output = g.S.Sink.written c.run.new.out;
-      write_faults = g.S.Sink.faults c.run.new.out;
+      misses = g.F.Shelf.misses c.answer.new.shelf;
+      read_faults = g.F.Shelf.faults c.answer.new.shelf;
+      output = g.S.Sink.written c.answer.new.out;
+      write_faults = g.S.Sink.faults c.answer.new.out;
       errors = None;
       error_faults = 0;
     } in
-    rw c.in-Ok.ensures.run
-    (run-outcome (words_of (seen_words c.in-Ok.said)) (g.F.Shelf.files c.args.shelf.now) old new
+    rw c.in-Ok.ensures.built
+    (built-outcome (command_of c.in-Ok.request) (g.F.Shelf.files c.args.shelf.now) old new
     (g.E.Sink.written c.args.err.now) (g.E.Sink.written c.finish.new.err) (g.E.Sink.faults c.args.err.now) (g.E.Sink.faults c.finish.new.err)
-    c.run.result c.finish.result c.run.ensures.done c.run.ensures.fits c.run.ensures.caused c.run.ensures.cut c.finish.ensures)
+    c.answer.result c.finish.result c.answer.ensures.done c.answer.ensures.fits c.answer.ensures.caused c.answer.ensures.cut c.finish.ensures)
 
-pub returns-in-Err : goal.returns-in-Err
-returns-in-Err g c = early-outcome _ _ _ _ c.in-Err.refusal _ c.in-Err.ensures.early (appends-nothing _) c.finish-in-Err.ensures
+pub returns-in-Err-clause-outcome : goal.returns-in-Err-clause-outcome
+returns-in-Err-clause-outcome g c = early-outcome _ _ _ _ c.in-Err.refusal _ c.in-Err.ensures.early (appends-nothing _) c.finish-in-Err.ensures
+
+pub returns-in-Ok-clause-bounded : goal.returns-in-Ok-clause-bounded
+returns-in-Ok-clause-bounded g c = rw c.in-Ok.ensures.built c.answer.ensures.bounded
+
+pub returns-in-Ok-clause-prompt : goal.returns-in-Ok-clause-prompt
+returns-in-Ok-clause-prompt g c = rw c.in-Ok.ensures.built c.answer.ensures.prompt
+
+pub returns-in-Err-clause-bounded : goal.returns-in-Err-clause-bounded
+returns-in-Err-clause-bounded g c = bounded-still (asked_of (said_of (map string_bytes c.args.words.now))) (g.F.Shelf.files c.args.shelf.now) c.args.steps.now
+
+pub returns-in-Err-clause-prompt : goal.returns-in-Err-clause-prompt
+returns-in-Err-clause-prompt g c =
+    prompt-still (asked_of (said_of (map string_bytes c.args.words.now))) (g.F.Shelf.files c.args.shelf.now) (g.S.Sink.written c.args.out.now) (g.S.Sink.written c.args.out.now) c.args.steps.now

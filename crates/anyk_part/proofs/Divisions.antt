@@ -1,0 +1,187 @@
+-- The division of a region, from its start to its end.
+use Rattle.std.proofs.Common.{◌≡◌, ℕ, zero, suc, ◌+◌, ◌-◌, ◌*◌, ◌<◌, ◌≤◌, Bool, true, false, cond, Option, Some, None, IsSome, List, [], ◌∷◌, ◌++◌, length, take, get_or, refl, sym, ap, ◌∙◌, subst, arith}
+use Rattle.std.specs.List.{All}
+use Rattle.std.specs.List.Sorted.{IsPermutation}
+use Rattle.std.proofs.lemmas.Bool.{false≢true}
+use Rattle.std.proofs.lemmas.List.Sums.{sum_by-cons}
+use Rattle.std.proofs.lemmas.List.Sorted.{sum_by-IsPermutation, All-permutation}
+use Rattle.std.proofs.lemmas.List.Elements.{All-tail}
+use Rattle.stream_store.specs.declared.entry.Linked.{Linked}
+use Rattle.take2_heap.specs.declared.entry.Entry.{Entry}
+use Rattle.tdp_model.specs.KeyTuple.{KeyOf}
+use Rattle.tdp_model.specs.Regions.{in_region, in_regions, completion, deviations, opening, best_of, divided}
+use Rattle.tdp_core.specs.TreeData.{NodeData}
+use Rattle.anyk_part.specs.declared.candidate.Link.{Link}
+use Rattle.anyk_part.specs.declared.candidate.Candidate.{Candidate}
+use Rattle.anyk_part.specs.declared.candidate.Walk.{Walk}
+use Rattle.anyk_part.specs.Chains.{chain}
+use Rattle.anyk_part.specs.Regions.{followers, Reached, region_of, region_at, held_by, IsEntry}
+use Rattle.anyk_part.specs.Walks.{best_from, divided_from, IsAt, IsDivision, row_at, start_region}
+use Rattle.anyk_part.proofs.ChainLemmas.{chain-length}
+use Rattle.anyk_part.proofs.Sites.{sum_by-first}
+
+module _ (members : List ℕ → List ℕ) where
+  best_from-first : (n : ℕ) (pre : List ℕ) → best_from members n pre 0 ≡ completion members n pre
+  unfolding best_from completion
+  best_from-first zero pre = refl
+  best_from-first (suc n) pre = refl
+
+  divided_from-first : (n : ℕ) (pre : List ℕ) → divided_from members n pre 0 ≡ deviations members n pre
+  unfolding divided_from deviations
+  divided_from-first zero pre = refl
+  divided_from-first (suc n) pre = refl
+
+  best_from-next : (n : ℕ) (pre : List ℕ) (place : ℕ) → best_from members (suc n) pre place ≡ best_from members n (pre ++ (get_or (members pre) place 0 ∷ [])) 0
+  unfolding best_from
+  best_from-next n pre place = sym (best_from-first n (pre ++ (get_or (members pre) place 0 ∷ [])))
+
+  divided_from-next : (n : ℕ) (pre : List ℕ) (place : ℕ) (s : List ℕ) → in_regions members (divided_from members (suc n) pre place) s
+      ≡ in_region members (record { chosen = pre; place = 2 * place + 1; left = n }) s
+      + (in_region members (record { chosen = pre; place = 2 * place + 2; left = n }) s + in_regions members (divided_from members n (pre ++ (get_or (members pre) place 0 ∷ [])) 0) s)
+  unfolding divided_from in_regions
+  divided_from-next n pre place s =
+      ap (λ ds. in_region members (record { chosen = pre; place = 2 * place + 1; left = n }) s + (in_region members (record { chosen = pre; place = 2 * place + 2; left = n }) s + in_regions members ds s))
+      (sym (divided_from-first n (pre ++ (get_or (members pre) place 0 ∷ []))))
+
+-- the numbers of a step: what a walk has divided, and what it puts in
+division_step : (stands stands' : Bool) (whole i j dev top here_top now next : ℕ) → whole ≡ (i + (j + dev)) + (cond stands 0 top + now)
+    → i + (j + now) ≡ cond stands (cond stands' 0 here_top) 0 + next → (stands ≡ true → here_top ≡ top) → (stands' ≡ true → stands ≡ true) → whole ≡ dev + (cond stands' 0 top + next)
+division_step true true whole i j dev top here_top now next a b p q = omega (arith, a, b)
+division_step true false whole i j dev top here_top now next a b p q = omega (arith, a, b, p refl)
+division_step false true whole i j dev top here_top now next a b p q = absurd (false≢true (q refl))
+division_step false false whole i j dev top here_top now next a b p q = omega (arith, a, b)
+
+stands_yes : (b : Bool) (n : ℕ) → b ≡ true → cond {A = ℕ} b 0 n ≡ 0
+stands_yes true n e = refl
+stands_yes false n e = absurd (false≢true e)
+
+stands_no : (b : Bool) (n : ℕ) → b ≡ false → cond {A = ℕ} b 0 n ≡ n
+stands_no true n e = absurd (false≢true (sym e))
+stands_no false n e = refl
+
+module _ {R : Type 0} (d : ℕ) (key : R → KeyOf d 16) (t : List (NodeData R)) where
+  pub division_init : (start : Walk) (links : List (Linked Link)) (before : List (Entry R Candidate)) → start.node < length t → start.top_stands ≡ true → All (IsEntry d key t links) before
+      → IsDivision d key t start links before start links before
+  unfolding best_of best_from divided divided_from opening
+  division_init start links before l e all =
+      let F : List ℕ → List ℕ = followers t in
+      let pre : List ℕ = chain links start.node start.before in
+      let one : suc (length t - suc start.node) ≡ length t - start.node = omega (arith, l) in record {
+        from = omega arith;
+        goal = subst (λ n. best_of F (start_region d key t links start) ≡ best_from F n pre start.place) one refl;
+        held = λ s.
+            subst (λ n. in_regions F (divided F (start_region d key t links start)) s + held_by t links before s
+            ≡ in_regions F (divided_from F n pre start.place) s + (cond start.top_stands 0 (held_by t links (take 1 before) s) + held_by t links before s)) one
+            (omega (arith, stands_yes start.top_stands (held_by t links (take 1 before) s) e));
+        each = all;
+        stands = λ _. (refl, λ s. refl);
+        few = omega arith;
+      }
+
+  pub division_next : (whole : R) (start : Walk) (old_links : List (Linked Link)) (before : List (Entry R Candidate)) (w w' : Walk) (links links' : List (Linked Link)) (chosen : List ℕ)
+      (entries entries' : List (Entry R Candidate)) → IsAt d key t whole w chosen links → w.node < length t → IsDivision d key t start old_links before w links entries → w'.node ≡ w.node + 1 → w'.place ≡ 0
+      → chain links' w'.node w'.before ≡ chain links w.node w.before ++ (row_at d key t w links ∷ [])
+      → All (IsEntry d key t links') entries'
+      → ((s : List ℕ) → in_region (followers t) (region_at t (chain links w.node w.before) (2 * w.place + 1)) s
+      + (in_region (followers t) (region_at t (chain links w.node w.before) (2 * w.place + 2)) s + held_by t links entries s)
+      ≡ cond w.top_stands (cond w'.top_stands 0 (held_by t links (take 1 entries) s)) 0 + held_by t links' entries' s)
+      → (w'.top_stands ≡ true → (w.top_stands ≡ true) × (entries' ≡ entries))
+      → (w'.top_stands ≡ true → (s : List ℕ) → held_by t links' (take 1 entries') s ≡ held_by t links (take 1 entries) s)
+      → length entries' ≤ length entries + 2
+      → IsDivision d key t start old_links before w' links' entries'
+  division_next whole start old_links before w w' links links' chosen entries entries' at l h en ep ec all step stands top few =
+      let F : List ℕ → List ℕ = followers t in
+      let pre : List ℕ = chain links w.node w.before in
+      let n : ℕ = length t - suc w.node in
+      let long : length pre ≡ w.node = chain-length links w.node w.before at.chained in
+      let size : length t - w.node ≡ suc n = omega (arith, l) in
+      let left : length t - w'.node ≡ n = omega (arith, en) in
+      let next : List ℕ = pre ++ (row_at d key t w links ∷ []) in
+      record {
+        from = omega (arith, en, h.from);
+        goal = h.goal
+            ∙ ap (λ k. best_from F k pre w.place) size
+            ∙ best_from-next F n pre w.place
+            ∙ ap (λ k. best_from F k next 0) (sym left)
+            ∙ ap (λ p. best_from F (length t - w'.node) p 0) (sym ec)
+            ∙ ap (λ k. best_from F (length t - w'.node) (chain links' w'.node w'.before) k) (sym ep);
+        held = λ s.
+            let i : ℕ → ℕ → ℕ = λ place k. in_region F (record { chosen = pre; place = place; left = length t - suc k }) s in
+            let dev : ℕ = in_regions F (divided_from F n next 0) s in
+            let dev_is : dev ≡ in_regions F (divided_from F (length t - w'.node) (chain links' w'.node w'.before) w'.place) s =
+            ap (λ k. in_regions F (divided_from F k next 0) s) (sym left)
+            ∙ ap (λ p. in_regions F (divided_from F (length t - w'.node) p 0) s) (sym ec)
+            ∙ ap (λ k. in_regions F (divided_from F (length t - w'.node) (chain links' w'.node w'.before) k) s) (sym ep) in
+            let was : in_regions F (divided F (start_region d key t old_links start)) s + held_by t old_links before s
+            ≡ (i (2 * w.place + 1) w.node + (i (2 * w.place + 2) w.node + dev)) + (cond w.top_stands 0 (held_by t old_links (take 1 before) s) + held_by t links entries s) =
+            h.held s
+            ∙ ap (λ k. in_regions F (divided_from F k pre w.place) s + (cond w.top_stands 0 (held_by t old_links (take 1 before) s) + held_by t links entries s)) size
+            ∙ ap (λ z. z + (cond w.top_stands 0 (held_by t old_links (take 1 before) s) + held_by t links entries s)) (divided_from-next F n pre w.place s) in
+            let now : i (2 * w.place + 1) w.node + (i (2 * w.place + 2) w.node + held_by t links entries s) ≡ cond w.top_stands (cond w'.top_stands 0 (held_by t links (take 1 entries) s)) 0 + held_by t links' entries' s =
+            subst (λ k. i (2 * w.place + 1) k + (i (2 * w.place + 2) k + held_by t links entries s) ≡ cond w.top_stands (cond w'.top_stands 0 (held_by t links (take 1 entries) s)) 0 + held_by t links' entries' s) long (step s) in
+            division_step w.top_stands w'.top_stands _ (i (2 * w.place + 1) w.node) (i (2 * w.place + 2) w.node) dev (held_by t old_links (take 1 before) s) (held_by t links (take 1 entries) s) (held_by t links entries s) (held_by t links' entries' s)
+            was now (λ e. (h.stands e).1 s) (λ e. (stands e).0)
+            ∙ ap (λ z. z + (cond w'.top_stands 0 (held_by t old_links (take 1 before) s) + held_by t links' entries' s)) dev_is;
+        each = all;
+        stands = λ e. ((stands e).1 ∙ (h.stands (stands e).0).0, λ s. top e s ∙ (h.stands (stands e).0).1 s);
+        few = omega (arith, few, h.few, en, h.from);
+      }
+
+  -- # The end
+
+  module _ (whole : R) (start : Walk) (old_links : List (Linked Link)) (before : List (Entry R Candidate)) (w : Walk) (links : List (Linked Link)) (chosen : List ℕ)
+      (entries : List (Entry R Candidate)) (at : IsAt d key t whole w chosen links) (h : IsDivision d key t start old_links before w links entries) (done : length t ≤ w.node) where
+    none_left : length t - w.node ≡ 0
+    none_left = omega (arith, done)
+
+    all_nodes : w.node ≡ length t
+    all_nodes = omega (arith, done, at.to)
+
+    pub division_best : take (length t) chosen ≡ best_of (followers t) (start_region d key t old_links start)
+    unfolding best_from
+    division_best =
+        ap (λ n. take n chosen) (sym all_nodes)
+        ∙ at.rows
+        ∙ sym (h.goal ∙ ap (λ n. best_from (followers t) n (chain links w.node w.before) w.place) none_left)
+
+    pub division_reached : Reached t 0 (take (length t) chosen)
+    division_reached =
+        subst (λ n. Reached t n (take (length t) chosen)) none_left
+        (subst (λ p. Reached t (length t - w.node) p) (sym at.rows ∙ ap (λ n. take n chosen) all_nodes) at.reached)
+
+    division_held : (s : List ℕ) → in_regions (followers t) (divided (followers t) (start_region d key t old_links start)) s + held_by t old_links before s
+        ≡ cond w.top_stands 0 (held_by t old_links (take 1 before) s) + held_by t links entries s
+    unfolding divided_from in_regions
+    division_held s = h.held s ∙ ap (λ n. in_regions (followers t) (divided_from (followers t) n (chain links w.node w.before) w.place) s + (cond w.top_stands 0 (held_by t old_links (take 1 before) s) + held_by t links entries s)) none_left ∙ omega arith
+
+    pub held_gone : w.top_stands ≡ false → (s : List ℕ) → in_regions (followers t) (divided (followers t) (start_region d key t old_links start)) s + held_by t old_links before s
+        ≡ held_by t old_links (take 1 before) s + held_by t links entries s
+    held_gone e s = omega (arith, division_held s, stands_no w.top_stands (held_by t old_links (take 1 before) s) e)
+
+    pub held_popped : w.top_stands ≡ true → (top : Entry R Candidate) (new : List (Entry R Candidate)) → 0 < length entries → top ≡ get_or entries 0 top → IsPermutation entries (top ∷ new) → (s : List ℕ)
+        → in_regions (followers t) (divided (followers t) (start_region d key t old_links start)) s + held_by t old_links before s ≡ held_by t old_links (take 1 before) s + held_by t links new s
+    held_popped e top new some first p s =
+        let f : Entry R Candidate → ℕ = λ x. in_region (followers t) (region_of links (length t) x.tag) s in
+        omega (
+          arith,
+          division_held s,
+          stands_yes w.top_stands (held_by t old_links (take 1 before) s) e,
+          sum_by-IsPermutation f entries (top ∷ new) p,
+          sum_by-cons f top new,
+          sum_by-first f entries top some,
+          ap f first,
+          (h.stands e).1 s,
+        )
+
+    pub entries_popped : (top : Entry R Candidate) (new : List (Entry R Candidate)) → IsPermutation entries (top ∷ new) → All (IsEntry d key t links) new
+    entries_popped top new p = All-tail (IsEntry d key t links) top new (All-permutation (IsEntry d key t links) entries (top ∷ new) p h.each)
+
+pub some_is : {X : Type 0} (o : Option X) → IsSome o → (x : X) × (o ≡ Some x)
+some_is None h = absurd (false≢true h)
+some_is (Some x) h = (x, refl)
+
+pub times_next : (a b k x y z : ℕ) → a ≡ b + 1 → y ≤ x + b * k → z ≤ y + k → z ≤ x + a * k
+times_next a b k x y z e h i = let p : a * k ≡ b * k + k = ap (λ n. n * k) e ∙ omega arith in omega (arith, p, h, i)
+
+pub times_within : (a b k x y z u : ℕ) → a ≤ b → y ≤ x + a * k → z ≤ y + u → z ≤ x + b * k + u
+times_within a b k x y z u l h i = let p : a * k ≤ b * k = grind arith in omega (arith, p, h, i)

@@ -1,0 +1,14 @@
+pub mod Beginnings
+pub mod CandidateFacts
+pub mod ChainLemmas
+pub mod Divisions
+pub mod HeldSolutions
+pub mod LiveTrees
+pub mod NextAnswers
+pub mod Numbers
+pub mod Queues
+pub mod Sites
+pub mod Starts
+pub mod Steps
+pub mod WholeSolutions
+pub mod SmallTrees

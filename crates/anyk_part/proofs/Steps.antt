@@ -1,0 +1,165 @@
+-- One node of the division of a region.
+use Rattle.std.proofs.Common.{◌≡◌, ℕ, suc, ◌+◌, ◌-◌, ◌<◌, Bool, true, false, cond, nat_eq, Some, None, List, [], ◌∷◌, ◌++◌, length, take, get_or, refl, sym, ap, ◌∙◌, subst, inl, inr, arith}
+use Rattle.std.specs.List.{All}
+use Rattle.std.proofs.Math.ListN.{set, length-set}
+use Rattle.std.proofs.Math.Seq.{take-suc-set}
+use Rattle.std.proofs.lemmas.List.{get_or-take}
+use Rattle.std.proofs.lemmas.Bool.{cases_eq, eq-eqb, cond-true, false≢true}
+use Rattle.std.proofs.lemmas.List.Sums.{sum_by-cons}
+use Rattle.std.proofs.lemmas.List.Elements.{All-head, All-tail, All-cons, All-nil}
+use Rattle.stream_store.specs.declared.entry.Linked.{Linked}
+use Rattle.take2_heap.specs.declared.entry.Entry.{Entry}
+use Rattle.tdp_model.specs.KeyTuple.{KeyOf, key_below}
+use Rattle.tdp_model.specs.Staged.{IsStaged}
+use Rattle.tdp_model.specs.Regions.{in_region, opening}
+use Rattle.tdp_core.specs.TreeData.{NodeData, parent, rows, members, group_number, group_named, child_place, group, best}
+use Rattle.tdp_core.proofs.TreeFacts.{member_is_row, rows_within, group_rows_within}
+use Rattle.anyk_part.specs.declared.candidate.Link.{Link}
+use Rattle.anyk_part.specs.declared.candidate.Candidate.{Candidate}
+use Rattle.anyk_part.specs.declared.candidate.Walk.{Walk}
+use Rattle.anyk_part.specs.Chains.{chain, IsChain}
+use Rattle.anyk_part.specs.Regions.{followers, Reached, least, region_of, held_by, IsEntry}
+use Rattle.anyk_part.specs.Walks.{IsSite, IsAt, row_at}
+use Rattle.anyk_part.proofs.ChainLemmas.{chain-length, IsChain-kept, chain-kept, IsChain-new, chain-new}
+use Rattle.anyk_part.proofs.LiveTrees.{staged}
+
+-- # Entries and a growing store
+
+pub entry_kept : {R : Type 0} (d : ℕ) (key : R → KeyOf d 16) (t : List (NodeData R)) (links more : List (Linked Link)) (e : Entry R Candidate) → IsEntry d key t links e → IsEntry d key t (links ++ more) e
+unfolding opening
+entry_kept d key t links more e h =
+    let same : chain (links ++ more) e.tag.position e.tag.before ≡ chain links e.tag.position e.tag.before = chain-kept links more e.tag.position e.tag.before h.chained in
+    record {
+      position = h.position;
+      chained = IsChain-kept links more e.tag.position e.tag.before h.chained;
+      reached = subst (λ p. Reached t (length t - e.tag.position) p) (sym same) h.reached;
+      place = subst (λ p. e.tag.place < length (followers t p)) (sym same) h.place;
+      ranked = h.ranked ∙ ap (λ p. least d key t (p ++ (get_or (followers t p) e.tag.place 0 ∷ []))) (sym same);
+    }
+
+pub held_kept : {R : Type 0} (d : ℕ) (key : R → KeyOf d 16) (t : List (NodeData R)) (links more : List (Linked Link)) (es : List (Entry R Candidate)) → All (IsEntry d key t links) es → (u : List ℕ)
+    → held_by t (links ++ more) es u ≡ held_by t links es u
+held_kept d key t links more [] all u = refl
+held_kept d key t links more (e ∷ es) all u =
+    let head : IsEntry d key t links e = All-head (IsEntry d key t links) e es all in
+    let same : in_region (followers t) (region_of (links ++ more) (length t) e.tag) u ≡ in_region (followers t) (region_of links (length t) e.tag) u =
+    ap (λ p. in_region (followers t) (record { chosen = p; place = e.tag.place; left = length t - suc e.tag.position }) u) (chain-kept links more e.tag.position e.tag.before head.chained) in
+    omega (
+      arith,
+      same,
+      held_kept d key t links more es (All-tail (IsEntry d key t links) e es all) u,
+      sum_by-cons (λ x. in_region (followers t) (region_of (links ++ more) (length t) x.tag) u) e es,
+      sum_by-cons (λ x. in_region (followers t) (region_of links (length t) x.tag) u) e es,
+    )
+
+pub All-first : {X : Type 0} (P : X → Type 0) (xs : List X) → All P xs → All P (take 1 xs)
+All-first P [] all = all
+All-first P (x ∷ xs) all = All-cons P x [] (All-head P x xs all) (All-nil P)
+
+-- two candidates put in, one after the other: f of what the queue held, of its top, and of what it holds
+pub put_twice : (first second third : Bool) (i j old top mid mid_top new : ℕ) → i + old ≡ cond first (cond second 0 top) 0 + mid → j + mid ≡ cond second (cond third 0 mid_top) 0 + new
+    → (second ≡ true → first ≡ true) → (second ≡ true → mid_top ≡ top) → (third ≡ true → second ≡ true) → i + (j + old) ≡ cond first (cond third 0 top) 0 + new
+put_twice true true third i j old top mid mid_top new a b p q r = at third b
+  where
+    at : (x : Bool) → j + mid ≡ cond x 0 mid_top + new → i + (j + old) ≡ cond {A = ℕ} x 0 top + new
+    at true h = omega (arith, a, h)
+    at false h = omega (arith, a, h, q refl)
+put_twice true false true i j old top mid mid_top new a b p q r = absurd (false≢true (r refl))
+put_twice true false false i j old top mid mid_top new a b p q r = omega (arith, a, b)
+put_twice false true third i j old top mid mid_top new a b p q r = absurd (false≢true (p refl))
+put_twice false false third i j old top mid mid_top new a b p q r = omega (arith, a, b)
+
+module _ {R : Type 0} (d : ℕ) (key : R → KeyOf d 16) (t : List (NodeData R)) (whole : R) (w : Walk) (chosen : List ℕ) (links : List (Linked Link)) (h : IsAt d key t whole w chosen links) (l : w.node < length t) where
+  abbrev pub so_far : List ℕ
+  so_far = chain links w.node w.before
+
+  abbrev pub row : ℕ
+  row = row_at d key t w links
+
+  long : length so_far ≡ w.node
+  long = chain-length links w.node w.before h.chained
+
+  -- the row chosen at an earlier node
+  pub chosen_is : (q : ℕ) → q < w.node → get_or chosen q 0 ≡ get_or so_far q 0
+  chosen_is q l = sym (get_or-take w.node chosen q 0 l) ∙ ap (λ xs. get_or xs q 0) h.rows
+
+  same_number : group_number t w.node (get_or chosen (parent t w.node) 0) ≡ group_number t w.node (get_or so_far (parent t w.node) 0)
+  same_number = elim (cases_eq w.node 0) [
+    | inl e ↦
+        cond-true (nat_eq w.node 0) 0 (group_named t (parent t w.node) (get_or chosen (parent t w.node) 0) (child_place t w.node)) (eq-eqb w.node 0 e)
+        ∙ sym (cond-true (nat_eq w.node 0) 0 (group_named t (parent t w.node) (get_or so_far (parent t w.node) 0) (child_place t w.node)) (eq-eqb w.node 0 e))
+    | inr n ↦ ap (λ r. group_number t w.node r) (chosen_is (parent t w.node) (h.formed.shaped.parents_first w.node (omega arith) l))
+  ]
+
+  -- the group of the number that is found holds what may follow
+  pub group_is : (g : ℕ) → g ≡ group_number t w.node (get_or chosen (parent t w.node) 0) → members t w.node g ≡ followers t so_far
+  group_is g e = ap (λ z. members t w.node z) (e ∙ same_number) ∙ sym (ap (λ p. group t p (get_or so_far (parent t p) 0)) long)
+
+  pub row_is : (g r : ℕ) → g ≡ group_number t w.node (get_or chosen (parent t w.node) 0) → r ≡ get_or (members t w.node g) w.place 0 → r ≡ row
+  row_is g r e f = f ∙ ap (λ ms. get_or ms w.place 0) (group_is g e)
+
+  pub row_fits : (g r : ℕ) → g ≡ group_number t w.node (get_or chosen (parent t w.node) 0) → r ≡ get_or (members t w.node g) w.place 0 → r < rows t w.node
+  row_fits g r e f =
+      subst (λ z. z < rows t w.node) (sym f) (member_is_row d key t h.formed w.node g w.place l (subst (λ ms. w.place < length ms) (sym (group_is g e)) (h.place l)))
+
+  pub place_small : (g : ℕ) → g ≡ group_number t w.node (get_or chosen (parent t w.node) 0) → w.place < 4194304
+  place_small g e =
+      omega (
+        arith,
+        subst (λ ms. w.place < length ms) (sym (group_is g e)) (h.place l),
+        group_rows_within d key t h.formed w.node g l,
+        rows_within d key t h.formed w.node l,
+      )
+
+  pub site_of : (g r : ℕ) (b : R) → g ≡ group_number t w.node (get_or chosen (parent t w.node) 0) → r ≡ get_or (members t w.node g) w.place 0 → key b ≡ best t d key w.node r
+      → IsSite d key t links (record { total = whole; best = b; node = w.node; group = g; row = r; before = w.before })
+  site_of g r b e f k = record {
+    formed = h.formed;
+    live = h.live;
+    node = l;
+    chained = h.chained;
+    reached = h.reached;
+    group = e ∙ same_number;
+    row = row_fits g r e f;
+    best = k;
+    total = h.total l ∙ ap (λ z. least d key t (so_far ++ (z ∷ []))) (sym (row_is g r e f));
+  }
+
+  next_size : suc w.node ≡ w.node + 1
+  next_size = omega arith
+
+  abbrev pub linked : Linked Link
+  linked = record { value = record { row = row; before = w.before }; next = None }
+
+  pub chain_next : chain (links ++ (linked ∷ [])) (w.node + 1) (Some (length links)) ≡ so_far ++ (row ∷ [])
+  chain_next = subst (λ n. chain (links ++ (linked ∷ [])) n (Some (length links)) ≡ so_far ++ (row ∷ [])) next_size (chain-new links linked w.node h.chained)
+
+  abbrev pub law : IsStaged (KeyOf d 16) (key_below d 16) (followers t) (least d key t) (Reached t)
+  law = staged d key t h.formed h.live
+
+  reach : Reached t (suc (length t - (w.node + 1))) so_far
+  reach = (omega (arith, h.reached.0), h.reached.1)
+
+  next_reach : Reached t (length t - (w.node + 1)) (so_far ++ (row ∷ []))
+  next_reach = law.step (length t - (w.node + 1)) so_far w.place reach (h.place l)
+
+  open_reach : w.node + 1 < length t → Reached t (suc (length t - (w.node + 2))) (so_far ++ (row ∷ []))
+  open_reach m = (omega (arith, next_reach.0), next_reach.1)
+
+  pub at_next : (stands : Bool) → IsAt d key t whole (record { node = w.node + 1; place = 0; before = Some (length links); top_stands = stands }) (set chosen w.node row) (links ++ (linked ∷ []))
+  at_next stands =
+      let few = h.formed.shaped.few_nodes in record {
+        formed = h.formed;
+        live = h.live;
+        to = omega (arith, l);
+        long = length-set chosen w.node row ∙ h.long;
+        chained = subst (λ n. IsChain (links ++ (linked ∷ [])) n (Some (length links))) next_size (IsChain-new links linked w.node h.chained);
+        rows =
+            subst (λ n. take n (set chosen w.node row) ≡ so_far ++ (row ∷ [])) next_size (take-suc-set chosen w.node row (omega (arith, h.long, l, few)) ∙ ap (λ xs. xs ++ (row ∷ [])) h.rows)
+            ∙ sym chain_next;
+        reached = subst (λ p. Reached t (length t - (w.node + 1)) p) (sym chain_next) next_reach;
+        place = λ m. subst (λ p. 0 < length (followers t p)) (sym chain_next) (law.inhabited (length t - (w.node + 2)) (so_far ++ (row ∷ [])) (open_reach m));
+        total = λ m.
+            subst (λ p. key whole ≡ least d key t (p ++ (get_or (followers t p) 0 0 ∷ []))) (sym chain_next)
+            (h.total l ∙ sym (law.first (length t - (w.node + 2)) (so_far ++ (row ∷ [])) (open_reach m)));
+      }

@@ -1,0 +1,78 @@
+-- The division of a region by one answer, node by node.
+use Rattle.std.specs.Prelude.{Bool, ◌≡◌, ℕ, ◌+◌, ◌-◌, ◌*◌, ◌<◌, ◌≤◌, zero, suc, true, cond, List, [], ◌∷◌, ◌++◌, length, take, slice_index}
+use Rattle.std.specs.List.{All}
+use Rattle.stream_store.specs.declared.entry.Linked.{Linked}
+use Rattle.take2_heap.specs.declared.entry.Entry.{Entry}
+use Rattle.tdp_model.specs.KeyTuple.{KeyOf}
+use Rattle.tdp_model.specs.Regions.{Region, in_regions, completion, deviations, best_of, divided}
+use Rattle.tdp_core.specs.TreeData.{NodeData, parent, rows, group_count, group_number, best}
+use Rattle.tdp_core.specs.WellFormed.{IsFormed}
+use Rattle.anyk_part.specs.declared.candidate.Link.{Link}
+use Rattle.anyk_part.specs.declared.candidate.Candidate.{Candidate}
+use Rattle.anyk_part.specs.declared.candidate.Site.{Site}
+use Rattle.anyk_part.specs.declared.candidate.Walk.{Walk}
+use Rattle.anyk_part.specs.Chains.{chain, IsChain}
+use Rattle.anyk_part.specs.Regions.{followers, Reached, least, held_by, IsEntry}
+
+-- the best solution that begins with `pre` and then the member at a place, where n rows are left
+unfoldable pub best_from : (List ℕ → List ℕ) → ℕ → List ℕ → ℕ → List ℕ
+best_from members zero pre place = pre
+best_from members (suc n) pre place = completion members n (pre ++ (slice_index (members pre) place ∷ []))
+
+-- the regions that deviate from it
+unfoldable pub divided_from : (List ℕ → List ℕ) → ℕ → List ℕ → ℕ → List Region
+divided_from members zero pre place = []
+divided_from members (suc n) pre place =
+    (record { chosen = pre; place = 2 * place + 1; left = n })
+    ∷ ((record { chosen = pre; place = 2 * place + 2; left = n }) ∷ deviations members n (pre ++ (slice_index (members pre) place ∷ [])))
+
+-- n, where the queue's top stood before and stands no longer
+abbrev pub gone : Bool → Bool → ℕ → ℕ
+gone stood stands n = cond stood (cond stands 0 n) 0
+
+module _ {R : Type 0} (d : ℕ) (key : R → KeyOf d 16) (t : List (NodeData R)) where
+  -- what the candidates that deviate at one node share is as it says
+  pub record IsSite (links : List (Linked Link)) (s : Site R) : Type 0 where
+    pub formed : IsFormed d key t
+    pub live : 0 < group_count t 0
+    pub node : s.node < length t
+    pub chained : IsChain links s.node s.before
+    pub reached : Reached t (length t - s.node) (chain links s.node s.before)
+    pub group : s.group ≡ group_number t s.node (slice_index (chain links s.node s.before) (parent t s.node))
+    pub row : s.row < rows t s.node
+    pub best : key s.best ≡ best t d key s.node s.row
+    pub total : key s.total ≡ least d key t (chain links s.node s.before ++ (s.row ∷ []))
+
+  -- The division of a region has come to the walk's node: `chosen` are the rows before it, and `whole` is the rank of the region's best
+  -- solution, which goes on with the member at the walk's place.
+  pub record IsAt (whole : R) (w : Walk) (chosen : List ℕ) (links : List (Linked Link)) : Type 0 where
+    pub formed : IsFormed d key t
+    pub live : 0 < group_count t 0
+    pub to : w.node ≤ length t
+    pub long : length chosen ≡ 16
+    pub chained : IsChain links w.node w.before
+    pub rows : take w.node chosen ≡ chain links w.node w.before
+    pub reached : Reached t (length t - w.node) (chain links w.node w.before)
+    pub place : w.node < length t → w.place < length (followers t (chain links w.node w.before))
+    pub total : w.node < length t → key whole ≡ least d key t (chain links w.node w.before ++ (slice_index (followers t (chain links w.node w.before)) w.place ∷ []))
+
+  -- the row that the walk chooses
+  abbrev pub row_at : Walk → List (Linked Link) → ℕ
+  row_at w links = slice_index (followers t (chain links w.node w.before)) w.place
+
+  -- the region of which the division starts
+  abbrev pub start_region : List (Linked Link) → Walk → Region
+  start_region links w = record { chosen = chain links w.node w.before; place = w.place; left = length t - suc w.node }
+
+  -- The division of the region `start` at the top of the queue `before`, so far: what the region holds is its best solution, the regions
+  -- that are still to be put in, and what the queue now holds beside the others.
+  pub record IsDivision (start : Walk) (old_links : List (Linked Link)) (before : List (Entry R Candidate)) (w : Walk)
+      (links : List (Linked Link)) (entries : List (Entry R Candidate)) : Type 0 where
+    pub from : start.node ≤ w.node
+    pub goal : best_of (followers t) (start_region old_links start) ≡ best_from (followers t) (length t - w.node) (chain links w.node w.before) w.place
+    pub held : (s : List ℕ) → in_regions (followers t) (divided (followers t) (start_region old_links start)) s + held_by t old_links before s
+        ≡ in_regions (followers t) (divided_from (followers t) (length t - w.node) (chain links w.node w.before) w.place) s
+        + (cond w.top_stands 0 (held_by t old_links (take 1 before) s) + held_by t links entries s)
+    pub each : All (IsEntry d key t links) entries
+    pub stands : w.top_stands ≡ true → (entries ≡ before) × ((s : List ℕ) → held_by t links (take 1 entries) s ≡ held_by t old_links (take 1 before) s)
+    pub few : length entries ≤ length before + 2 * (w.node - start.node)

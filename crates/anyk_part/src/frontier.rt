@@ -1,0 +1,256 @@
+ghost use Rattle.std.specs.Prelude.{◌≡◌, ℕ, ◌+◌, ◌-◌, ◌*◌, ◌^◌, ◌<◌, ◌≤◌, Bool, true, false, List, [], ◌∷◌, cond, ◌++◌, length, take, slice_index_or, OnOk, OnErr, IsSome, IfSome, ◌↔◌};
+ghost use Rattle.std.specs.List.{All};
+ghost use Rattle.std.specs.List.Sorted.{IsPermutation};
+ghost use Rattle.take2_heap.specs.Order.{IsLeast};
+ghost use Rattle.rank_key.specs.Bits.{bit_length};
+ghost use Rattle.tdp_model.specs.Regions.{in_region, in_regions, best_of, divided};
+ghost use Rattle.anyk_part.specs.Chains.{chain, IsChain};
+ghost use Rattle.anyk_part.specs.Regions.{followers, Reached, region_at, held_by, IsEntry};
+ghost use Rattle.anyk_part.specs.Walks.{IsSite, IsAt, gone, row_at, start_region};
+
+use crate::candidate::{Candidate, Link, Site, Walk};
+use crate::paths::group_at;
+use rank_key::Rank;
+use std::alloc::Allocator;
+use std::sync::ledger::Ledger;
+use step_counter::{NoMemory, Steps};
+use stream_store::{EntryId, Store};
+use take2_heap::{Entry, HeapOf};
+use tdp_core::Tree;
+
+/// The candidates in heap order of their ranks, and the links of their prefixes.
+#[derive(Drop)]
+pub(crate) struct Frontier<R: Rank, A: Allocator + Clone> {
+    pub queue: HeapOf<R, Candidate, A>,
+    pub links: Store<Link, A>,
+}
+
+impl<R: Rank, A: Allocator + Clone> Frontier<R, A> {
+    /// The rank of the queue's top, and where the division of its region starts.
+    pub fn start(&self) -> Option<(R, Walk)>
+        ensures variant { IsSome result ↔ (0 < length self.now.queue.entries) }
+        ensures top { IfSome result (λ s. (d : Entry R Candidate) → slice_index_or self.now.queue.entries 0 d
+            ≡ record { rank = s.0; tag = record { position = s.1.node; place = s.1.place; before = s.1.before } }) }
+        ensures stands { IfSome result (λ s. s.1.top_stands ≡ true) }
+        ensures limit { length self.now.queue.entries < 2 ^ 64 }
+        ensures least { IfSome result (λ s. IsLeast R.KEYS R.key
+            (record { rank = s.0; tag = record { position = s.1.node; place = s.1.place; before = s.1.before } }) self.now.queue.entries) }
+    {
+        let entry = self.queue.peek()?;
+        let walk = Walk {
+            node: entry.tag.position,
+            place: entry.tag.place,
+            before: entry.tag.before,
+            top_stands: true,
+        };
+        Some((entry.rank, walk))
+    }
+
+    /// Room for all that one answer over this many nodes can add.
+    pub fn make_room(&mut self, nodes: u32) -> Result<(), NoMemory>
+        requires { nodes ≤ 16 }
+        ensures entries { self.new.queue.entries ≡ self.old.queue.entries }
+        ensures links { self.new.links.entries ≡ self.old.links.entries }
+        ensures room { OnOk result (2 * nodes ≤ self.new.queue.spare) }
+        ensures link_room { OnOk result (nodes ≤ self.new.links.spare) }
+    {
+        self.queue.reserve(2 * nodes as usize)?;
+        self.links.reserve(nodes as usize)
+    }
+
+    /// The first rows of a solution, by node, of which the last is named.
+    pub fn prefix<L: Ledger>(
+        &self,
+        count: u32,
+        last: Option<EntryId>,
+        steps: &mut Steps<L>,
+    ) -> [u32; 16]
+        requires count { count ≤ 16 }
+        requires chained { IsChain self.now.links.entries count last }
+        ensures rows { take count result ≡ chain self.now.links.entries count last }
+        ensures cost { steps.new ≤ steps.old + count }
+    {
+        let mut chosen = [0; 16];
+        let mut node = count as usize;
+        let mut before = last;
+        while node > 0 {
+            node -= 1;
+            if let Some(id) = before {
+                let link = *self.links.get(id, steps);
+                chosen[node] = link.row;
+                before = link.before;
+            }
+        }
+        chosen
+    }
+
+    /// Puts a candidate in the place of the queue's top, or beside the others once the top is gone.
+    fn put<L: Ledger>(
+        &mut self,
+        rank: R,
+        candidate: Candidate,
+        top_stands: bool,
+        steps: &mut Steps<L>,
+    )
+        requires top { top_stands ≡ true → 0 < length self.old.queue.entries }
+        requires room { 0 < self.old.queue.spare }
+        ensures replaced { (d : Entry R Candidate) → top_stands ≡ true → IsPermutation
+            (record { rank = rank; tag = candidate } ∷ self.old.queue.entries) (slice_index_or self.old.queue.entries 0 d ∷ self.new.queue.entries) }
+        ensures pushed { top_stands ≡ false → IsPermutation
+            (record { rank = rank; tag = candidate } ∷ self.old.queue.entries) self.new.queue.entries }
+        ensures links { self.new.links ≡ self.old.links }
+        ensures room { self.old.queue.spare ≤ self.new.queue.spare + 1 }
+        ensures cost { steps.new ≤ steps.old + 2 * bit_length (length self.old.queue.entries + 1) }
+    {
+        if top_stands {
+            self.queue.replace_top(rank, candidate, steps);
+        } else {
+            self.queue.push_reserved(rank, candidate, steps);
+        }
+    }
+
+    /// Puts in the candidate at one place of a site, where the group reaches that far. It answers
+    /// whether the queue's top still stands.
+    fn offer<L: Ledger>(
+        &mut self,
+        tree: &Tree<R>,
+        site: &Site<R>,
+        place: u32,
+        top_stands: bool,
+        steps: &mut Steps<L>,
+    ) -> bool
+        requires site { IsSite R.KEYS R.key tree.now self.old.links.entries site.now }
+        requires entries { All (IsEntry R.KEYS R.key tree.now self.old.links.entries) self.old.queue.entries }
+        requires top { top_stands ≡ true → 0 < length self.old.queue.entries }
+        requires room { 0 < self.old.queue.spare }
+        ensures entries { All (IsEntry R.KEYS R.key tree.now self.old.links.entries) self.new.queue.entries }
+        ensures held { (s : List ℕ) →
+            in_region (followers tree.now) (region_at tree.now (chain self.old.links.entries site.now.node site.now.before) place) s
+            + held_by tree.now self.old.links.entries self.old.queue.entries s
+            ≡ gone top_stands result (held_by tree.now self.old.links.entries (take 1 self.old.queue.entries) s)
+            + held_by tree.now self.old.links.entries self.new.queue.entries s }
+        ensures stands { result ≡ true → (top_stands ≡ true) × (self.new.queue.entries ≡ self.old.queue.entries) }
+        ensures links { self.new.links ≡ self.old.links }
+        ensures room { self.old.queue.spare ≤ self.new.queue.spare + 1 }
+        ensures length { length self.new.queue.entries ≤ length self.old.queue.entries + 1 }
+        ensures cost { steps.new ≤ steps.old + 3 + 2 * bit_length (length self.old.queue.entries + 1) }
+    {
+        if place >= tree.group_len(site.node, site.group) {
+            return top_stands;
+        }
+        let row = tree.member(site.node, site.group, place, steps);
+        let best = tree.best(site.node, row, steps);
+        let rank = R::swap(site.total, site.best, best, steps);
+        let candidate = Candidate {
+            position: site.node,
+            place,
+            before: site.before,
+        };
+        self.put(rank, candidate, top_stands, steps);
+        false
+    }
+
+    /// Chooses the row at one node, and puts in the candidates that deviate from it.
+    fn advance<L: Ledger>(
+        &mut self,
+        tree: &Tree<R>,
+        total: R,
+        walk: Walk,
+        chosen: &mut [u32; 16],
+        steps: &mut Steps<L>,
+    ) -> Walk
+        requires at { IsAt R.KEYS R.key tree.now total walk chosen.old self.old.links.entries }
+        requires node { walk.node < length tree.now }
+        requires entries { All (IsEntry R.KEYS R.key tree.now self.old.links.entries) self.old.queue.entries }
+        requires top { walk.top_stands ≡ true → 0 < length self.old.queue.entries }
+        requires room { 2 ≤ self.old.queue.spare }
+        requires link_room { 1 ≤ self.old.links.spare }
+        ensures node { result.node ≡ walk.node + 1 }
+        ensures place { result.place ≡ 0 }
+        ensures at { IsAt R.KEYS R.key tree.now total result chosen.new self.new.links.entries }
+        ensures chain { chain self.new.links.entries result.node result.before
+            ≡ chain self.old.links.entries walk.node walk.before ++ (row_at R.KEYS R.key tree.now walk self.old.links.entries ∷ []) }
+        ensures entries { All (IsEntry R.KEYS R.key tree.now self.new.links.entries) self.new.queue.entries }
+        ensures held { (s : List ℕ) →
+            in_region (followers tree.now) (region_at tree.now (chain self.old.links.entries walk.node walk.before) (2 * walk.place + 1)) s
+            + (in_region (followers tree.now) (region_at tree.now (chain self.old.links.entries walk.node walk.before) (2 * walk.place + 2)) s
+            + held_by tree.now self.old.links.entries self.old.queue.entries s)
+            ≡ gone walk.top_stands result.top_stands (held_by tree.now self.old.links.entries (take 1 self.old.queue.entries) s)
+            + held_by tree.now self.new.links.entries self.new.queue.entries s }
+        ensures stands { result.top_stands ≡ true → (walk.top_stands ≡ true) × (self.new.queue.entries ≡ self.old.queue.entries) }
+        ensures top { result.top_stands ≡ true → (s : List ℕ) →
+            held_by tree.now self.new.links.entries (take 1 self.new.queue.entries) s
+            ≡ held_by tree.now self.old.links.entries (take 1 self.old.queue.entries) s }
+        ensures room { self.old.queue.spare ≤ self.new.queue.spare + 2 }
+        ensures link_room { self.old.links.spare ≤ self.new.links.spare + 1 }
+        ensures length { length self.new.queue.entries ≤ length self.old.queue.entries + 2 }
+        ensures cost { steps.new ≤ steps.old + 10 + 4 * bit_length (length self.old.queue.entries + 2) }
+    {
+        let group = group_at(tree, walk.node, chosen, steps);
+        let row = tree.member(walk.node, group, walk.place, steps);
+        let best = tree.best(walk.node, row, steps);
+        let site = Site {
+            total,
+            best,
+            node: walk.node,
+            group,
+            row,
+            before: walk.before,
+        };
+        let stands = self.offer(tree, &site, 2 * walk.place + 1, walk.top_stands, steps);
+        let top_stands = self.offer(tree, &site, 2 * walk.place + 2, stands, steps);
+        chosen[walk.node as usize] = row;
+        let link = Link {
+            row,
+            before: walk.before,
+        };
+        let last = self.links.push_reserved(link, steps);
+        Walk {
+            node: walk.node + 1,
+            place: 0,
+            before: Some(last),
+            top_stands,
+        }
+    }
+
+    /// Chooses the best rows from the start of the top's region on, and puts the candidates that
+    /// deviate from them in the top's place.
+    pub fn divide<L: Ledger>(
+        &mut self,
+        tree: &Tree<R>,
+        total: R,
+        start: Walk,
+        chosen: &mut [u32; 16],
+        steps: &mut Steps<L>,
+    )
+        requires at { IsAt R.KEYS R.key tree.now total start chosen.old self.old.links.entries }
+        requires node { start.node < length tree.now }
+        requires stands { start.top_stands ≡ true }
+        requires entries { All (IsEntry R.KEYS R.key tree.now self.old.links.entries) self.old.queue.entries }
+        requires some { 0 < length self.old.queue.entries }
+        requires room { 2 * length tree.now ≤ self.old.queue.spare }
+        requires link_room { length tree.now ≤ self.old.links.spare }
+        ensures best { take (length tree.now) chosen.new
+            ≡ best_of (followers tree.now) (start_region R.KEYS R.key tree.now self.old.links.entries start) }
+        ensures reached { Reached tree.now 0 (take (length tree.now) chosen.new) }
+        ensures held { (s : List ℕ) →
+            in_regions (followers tree.now) (divided (followers tree.now) (start_region R.KEYS R.key tree.now self.old.links.entries start)) s
+            + held_by tree.now self.old.links.entries self.old.queue.entries s
+            ≡ held_by tree.now self.old.links.entries (take 1 self.old.queue.entries) s
+            + held_by tree.now self.new.links.entries self.new.queue.entries s }
+        ensures entries { All (IsEntry R.KEYS R.key tree.now self.new.links.entries) self.new.queue.entries }
+        ensures length { length self.new.queue.entries ≤ length self.old.queue.entries + 2 * length tree.now }
+        ensures cost { steps.new
+            ≤ steps.old + length tree.now * (10 + 4 * bit_length (length self.old.queue.entries + 2 * length tree.now))
+            + 2 * bit_length (length self.old.queue.entries + 2 * length tree.now) }
+    {
+        let nodes = tree.nodes();
+        let mut walk = start;
+        while walk.node < nodes {
+            walk = self.advance(tree, total, walk, chosen, steps);
+        }
+        if walk.top_stands {
+            self.queue.pop(steps);
+        }
+    }
+}

@@ -1,0 +1,49 @@
+//! The command `session`.
+ghost use Rattle.std.specs.Prelude.{◌≤◌, [], Ok, length};
+ghost use Rattle.anyk_model.specs.Output.{cut};
+ghost use Rattle.anyk_model.specs.Ranking.{ranking_of};
+ghost use Rattle.cmd_words.specs.Said.{seen_words};
+ghost use Rattle.query_bind.specs.Weighed.{Fits};
+ghost use Rattle.query_shape.specs.Shape.{IsShape, Shape};
+ghost use Rattle.ranking_print.specs.Printed.{Printed};
+ghost use Rattle.session_script.specs.Script.{KeepsRules};
+ghost use Rattle.verdict.specs.Output.{style_of};
+ghost use Rattle.verdict.specs.Session.{session_text};
+ghost use Rattle.anyk_top.specs.Asked.{words_of};
+
+use answer_print::Style;
+use cmd_words::Words;
+use csv_tables::Tables;
+use outer_io::Sink;
+use query_bind::Query;
+use query_run::run_session;
+use refusal_lines::Refusal;
+use session_script::Step;
+use std::alloc::Global;
+use std::sync::ledger::Ledger;
+use step_counter::Steps;
+
+/// Prints what the steps of the script print of the query's ranking, as far as the limit allows.
+pub(crate) fn print_script<'a, S: Sink, L: Ledger>(
+    alloc: Global,
+    words: &Words,
+    query: &Query,
+    tables: &Tables,
+    script: &[Step],
+    out: &mut S,
+    steps: &mut Steps<L>,
+) -> Result<(), Refusal<'a>>
+    requires fits { Fits query.now tables.now }
+    requires some { 1 ≤ length query.now.query.items }
+    requires shaped { (shape : Shape) × IsShape query.now.query tables.now (Ok shape) }
+    requires rules { KeepsRules [] script.now }
+    ensures { Printed (S.written out.old) (S.written out.new) (S.faults out.old) (S.faults out.new)
+        (session_text query.now.query tables.now (style_of (words_of (seen_words words.now))) (cut query.now.query.limit (ranking_of query.now.query tables.now)) script.now) result }
+{
+    let style = Style {
+        ranks: words.ranks,
+        rows: words.rows,
+        cursor: None,
+    };
+    run_session(alloc, query, tables, &style, script, out, steps)
+}

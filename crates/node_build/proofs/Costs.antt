@@ -1,0 +1,34 @@
+-- The nodes have no more rows than the tables of all items.
+use Rattle.std.proofs.Common.{◌≡◌, ◌≤◌, ◌+◌, ◌*◌, ℕ, List, [], length, ap, arith}
+use Rattle.std.specs.List.{sum_by}
+use Rattle.std.proofs.Math.Nat.{mul-le-mul_right}
+use Rattle.tdp_model.specs.TreeProblem.{sum_from}
+use Rattle.join_tree.specs.declared.tree.JoinTree.{JoinTree}
+use Rattle.anyk_model.specs.Table.{Table, table_at}
+use Rattle.anyk_model.specs.Query.{Item, Query, item_table, row_counts}
+use Rattle.query_bind.specs.Parts.{sum_of_all}
+use Rattle.node_build.specs.Nodes.{IsJoinTreeOf, item_of}
+use Rattle.node_build.specs.Rows.{HaveRows, table_rows}
+use Rattle.node_build.proofs.NodeSums.{fewer-nodes, lengths-fewer, over, range-map}
+use Rattle.node_build.proofs.Shaped.{apart}
+
+module _ (query : Query) (tables : List Table) (join : JoinTree) (tree : IsJoinTreeOf query join) (rows : List (List ℕ)) (of_nodes : HaveRows query tables join join.count rows) where
+  abbrev rows_in : ℕ → ℕ
+  rows_in i = length (item_table query tables i).rows
+
+  pub rows-fewer : sum_by length rows ≤ sum_of_all (row_counts query.items tables)
+  rows-fewer =
+      let a : sum_by length rows ≤ sum_from ◌+◌ 0 (table_rows query tables join) join.count 0 =
+      lengths-fewer rows join.count (table_rows query tables join) of_nodes.count of_nodes.fewer in
+      let b : sum_from ◌+◌ 0 (λ v. rows_in (item_of join v)) join.count 0 ≤ over rows_in (length query.items) =
+      fewer-nodes (length query.items) (item_of join) join.count rows_in (apart query join tree) in
+      let e : over rows_in (length query.items) ≡ sum_of_all (row_counts query.items tables) =
+      ap sum_of_all (range-map (λ (i : Item). length (table_at tables i.table).rows) (record { table = 0; alias = [] }) query.items) in
+      omega (arith, a, b, e)
+
+  pub cost-within : (old new : ℕ) → new ≤ old + sum_by length rows * join.count → new ≤ old + length query.items * sum_of_all (row_counts query.items tables)
+  cost-within old new h =
+      let fewer = mul-le-mul_right join.count rows-fewer in
+      let count = ap (λ (n : ℕ). sum_of_all (row_counts query.items tables) * n) tree.count in
+      let turn : sum_of_all (row_counts query.items tables) * length query.items ≡ length query.items * sum_of_all (row_counts query.items tables) = omega arith in
+      omega (arith, h, fewer, count, turn)

@@ -1,0 +1,53 @@
+-- A row of a node fits the node's shape.
+use Rattle.std.proofs.Common.{◌≡◌, ◌<◌, ◌≤◌, ◌^◌, ℕ, pos, unsigned_abs, nat_lt, false, List, [], length, get_or, sym, ap, subst, ◌∙◌, inl, inr, arith}
+use Rattle.std.proofs.lemmas.Bool.{cases_lt, cond-true, lt-ltb}
+use Rattle.std.proofs.lemmas.List.{get_or-map, get_or_past, length-map}
+use Rattle.tdp_model.specs.KeyTuple.{KeyOf}
+use Rattle.rank_key.specs.Keys.{row_key}
+use Rattle.tdp_core.specs.declared.parts.NodeShape.{NodeShape}
+use Rattle.tdp_core.specs.RawData.{shape_cap, shape_children, shape_item, shape_parent}
+use Rattle.tdp_core.specs.TreeData.{kids_below}
+use Rattle.tdp_core.specs.WellFormed.{RowFits}
+use Rattle.tdp_core.proofs.RowKeys.{row_key-fits}
+use Rattle.join_tree.specs.declared.tree.JoinTree.{JoinTree}
+use Rattle.anyk_model.specs.Table.{Table}
+use Rattle.query_bind.specs.Weighed.{BoundQuery}
+use Rattle.query_bind.specs.Weights.{cap_of, key_at, part_of}
+use Rattle.query_bind.proofs.Parts.{part-capped}
+use Rattle.node_build.specs.Nodes.{cap_at, item_of, parent_of, row_parts}
+use Rattle.node_build.specs.Shapes.{AreShapesOf}
+use Rattle.node_build.proofs.Naming.{kids-ap}
+
+module _ (bound : BoundQuery) (tables : List Table) where
+  part-small : (item row i : ℕ) → unsigned_abs (get_or (row_parts bound tables item row) i (pos 0)) ≤ cap_at bound tables item i
+  part-small item row i = elim (cases_lt i (length bound.query.order)) [
+    | inl l ↦
+        let key = key_at bound.query.order i in
+        let at : get_or (row_parts bound tables item row) i (pos 0) ≡ part_of tables bound.query.items item row key =
+        get_or-map (part_of tables bound.query.items item row) bound.query.order i (record { terms = []; descending = false }) (pos 0) l in
+        let cap : cap_at bound tables item i ≡ cap_of tables bound.query.items item key =
+        cond-true (nat_lt i (length bound.query.order)) (cap_of tables bound.query.items item key) 0 (lt-ltb i (length bound.query.order) l) in
+        let small : unsigned_abs (part_of tables bound.query.items item row key) ≤ cap_of tables bound.query.items item key = part-capped tables bound.query.items row item key in
+        let same : unsigned_abs (get_or (row_parts bound tables item row) i (pos 0)) ≡ unsigned_abs (part_of tables bound.query.items item row key) = ap unsigned_abs at in
+        omega (arith, same, cap, small)
+    | inr g ↦
+        let none : get_or (row_parts bound tables item row) i (pos 0) ≡ pos 0 =
+        get_or_past (row_parts bound tables item row) i (pos 0) (omega (arith, g, length-map bound.query.order (part_of tables bound.query.items item row))) in
+        let zero_abs : unsigned_abs (get_or (row_parts bound tables item row) i (pos 0)) ≡ 0 = ap unsigned_abs none in
+        omega (arith, zero_abs)
+  ]
+
+  module _ (join : JoinTree) (shapes : List NodeShape) (of_join : AreShapesOf bound tables join join.count shapes) (v : ℕ) (l : v < join.count) where
+    pub row-fits : (d row : ℕ) (k : KeyOf d 16) → item_of join v < 16 → row < 2 ^ 32 → k ≡ row_key d (row_parts bound tables (item_of join v) row) (item_of join v) row
+        → RowFits d (shape_item shapes v) (shape_cap shapes v) row k
+    row-fits d row k few low is =
+        let item = of_join.items v l in
+        subst (RowFits d (shape_item shapes v) (shape_cap shapes v) row) (sym is)
+        (subst (λ (i : ℕ). RowFits d i (shape_cap shapes v) row (row_key d (row_parts bound tables (item_of join v) row) (item_of join v) row)) (sym item)
+        (row_key-fits d (row_parts bound tables (item_of join v) row) (item_of join v) row (shape_cap shapes v) few low
+        (λ i h. let cap = of_join.caps v i l in let small = part-small (item_of join v) row i in omega (arith, cap, small))))
+
+    pub children-are : kids_below (parent_of join) v join.count ≡ shape_children shapes v
+    children-are =
+        kids-ap (parent_of join) (shape_parent shapes) v join.count (λ q h. sym (of_join.parents q h))
+        ∙ ap (kids_below (shape_parent shapes) v) (sym of_join.count)

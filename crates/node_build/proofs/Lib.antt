@@ -1,0 +1,15 @@
+pub mod Agreement
+pub mod Begun
+pub mod Collected
+pub mod Costs
+pub mod Fitting
+pub mod Growing
+pub mod Naming
+pub mod NodeSums
+pub mod Numbering
+pub mod Passing
+pub mod Ranks
+pub mod Read
+pub mod Results
+pub mod Shaped
+pub mod Sharing

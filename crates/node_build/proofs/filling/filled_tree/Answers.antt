@@ -1,0 +1,107 @@
+use Rattle.std.proofs.Common.{◌≡◌, ◌<◌, ◌*◌, ◌∙◌, ℕ, List, [], length, get_or, refl, sym, ap, subst, arith}
+use Rattle.std.proofs.Math.Nat.{mul-le-mul_right}
+use Rattle.std.proofs.lemmas.List.Sums.{sum_by_more, sum_by_more_le}
+use Rattle.tdp_core.specs.declared.parts.NodeShape.{NodeShape}
+use Rattle.tdp_core.specs.RawData.{AreShapes, rows_at}
+use Rattle.rankings.specs.Order.{IsMember}
+use Rattle.node_build.specs.Filled.{AreFilled, HasOnlyMore}
+use Rattle.node_build.specs.Links.{HasRowsOf, names_of}
+use Rattle.node_build.specs.Rows.{lists_of}
+use Rattle.node_build.proofs.Begun.{names-count, no-numbers, no-rows-yet}
+use Rattle.node_build.proofs.Growing.{filled-more}
+use Rattle.node_build.proofs.Naming.{list-at, lists-length}
+use Rattle.node_build.proofs.Shaped.{shapes-are}
+use Rattle.node_build.proofs.filling.filled_tree.Goals as goal
+
+pub new-requires : goal.new-requires
+new-requires g c =
+    subst AreShapes (sym c.as_slice.ensures.value)
+    (shapes-are c.args.query.now c.args.tables.now c.requires.fits c.args.join.now c.in_ok-shapes.shapes.items c.requires.tree (c.in_ok-shapes.ensures c.args.tables.now c.requires.fits))
+
+pub loop-node-init : goal.loop-node-init
+loop-node-init g c =
+    let join = c.args.join.now in
+    let own = lists_of c.in_ok-columns.columns.own.items in
+    let above = lists_of c.in_ok-columns.columns.above.items in
+    let names = names_of c.in_ok-links.links.items in
+    let of_join = c.in_ok-shapes.ensures c.args.tables.now c.requires.fits in
+    let count : length c.as_slice.result.now ≡ join.count = ap (λ (xs : List NodeShape). length xs) c.as_slice.ensures.value ∙ of_join.count in
+    record {
+      shapes = refl;
+      count = names-count names join.count c.in_ok-links.ensures;
+      numbers = no-numbers names join.count c.in_ok-links.ensures;
+      filled = no-rows-yet c.args.query.now c.args.tables.now join own above g.R.Rank.KEYS g.R.Rank.key names (lists_of c.args.rows.now) c.as_slice.result.now c.in_ok-tree.tree count c.in_ok-tree.ensures;
+      cost = omega arith;
+    }
+
+pub add_rows-requires-clause-rows : goal.add_rows-requires-clause-rows
+add_rows-requires-clause-rows g c row m =
+    let vs = c.args.rows.now in
+    let node = c.loop-node.node in
+    let inside : node < length vs = omega (arith, c.requires.rows.count, lists-length vs, c.loop-node-test.true) in
+    let list : c.as_slice-list.result.now ≡ get_or (lists_of vs) node [] = c.as_slice-list.ensures.value ∙ sym (list-at vs node c.index-rows-node.result inside c.index-rows-node.is) in
+    let h = ((c.requires.rows.each node (omega arith)).members row).0 (subst (λ (xs : List ℕ). IsMember row xs) list m) in
+    (h.0, h.1)
+
+pub add_rows-requires-clause-room : goal.add_rows-requires-clause-room
+add_rows-requires-clause-room g c =
+    let vs = c.args.rows.now in
+    let node = c.loop-node.node in
+    let inside : node < length vs = omega (arith, c.requires.rows.count, lists-length vs, c.loop-node-test.true) in
+    let list : c.as_slice-list.result.now ≡ get_or (lists_of vs) node [] = c.as_slice-list.ensures.value ∙ sym (list-at vs node c.index-rows-node.result inside c.index-rows-node.is) in
+    let size = ap (λ (xs : List ℕ). length xs) list in
+    let more = sum_by_more_le (λ (xs : List ℕ). length xs) (lists_of vs) node [] (omega (arith, inside, lists-length vs)) in
+    omega (arith, size, more, c.loop-node.invariant.filled.total, c.requires.room)
+
+pub returns-in_err-add_rows-clause-cost : goal.returns-in_err-add_rows-clause-cost
+returns-in_err-add_rows-clause-cost g c =
+    let vs = c.args.rows.now in
+    let node = c.loop-node.node in
+    let inside : node < length vs = omega (arith, c.requires.rows.count, lists-length vs, c.loop-node-test.true) in
+    let list : c.as_slice-list.result.now ≡ get_or (lists_of vs) node [] = c.as_slice-list.ensures.value ∙ sym (list-at vs node c.index-rows-node.result inside c.index-rows-node.is) in
+    let size = ap (λ (xs : List ℕ). length xs * c.args.join.now.count) list in
+    let more = mul-le-mul_right c.args.join.now.count (sum_by_more_le (λ (xs : List ℕ). length xs) (lists_of vs) node [] (omega (arith, inside, lists-length vs))) in
+    omega (arith, size, more, c.loop-node.invariant.cost, c.in_err-add_rows.ensures.cost)
+
+pub loop-node-preserved : goal.loop-node-preserved
+loop-node-preserved g c =
+    let query = c.args.query.now in
+    let tables = c.args.tables.now in
+    let join = c.args.join.now in
+    let own = lists_of c.in_ok-columns.columns.own.items in
+    let above = lists_of c.in_ok-columns.columns.above.items in
+    let vs = c.args.rows.now in
+    let node = c.loop-node.node in
+    let old = names_of c.loop-node.links.items in
+    let new = names_of c.add_rows.new.links.items in
+    let before = c.loop-node.invariant in
+    let now = c.in_ok-add_rows.ensures in
+    let inside : node < length vs = omega (arith, c.requires.rows.count, lists-length vs, c.loop-node-test.true) in
+    let there : node < length (lists_of vs) = omega (arith, inside, lists-length vs) in
+    let list : c.as_slice-list.result.now ≡ get_or (lists_of vs) node [] = c.as_slice-list.ensures.value ∙ sym (list-at vs node c.index-rows-node.result inside c.index-rows-node.is) in
+    let size = ap (λ (xs : List ℕ). length xs * join.count) list in
+    let one = ap (λ (n : ℕ). n * join.count) (sum_by_more (λ (xs : List ℕ). length xs) (lists_of vs) node [] there) in
+    record {
+      shapes = now.others.shapes ∙ before.shapes;
+      count = now.more.count ∙ before.count;
+      numbers = now.more.numbers before.numbers;
+      filled = filled-more query tables join own above g.R.Rank.KEYS g.R.Rank.key old new node (lists_of vs) c.loop-node.tree c.add_rows.new.tree now.more there before.filled
+          (subst (λ (xs : List ℕ). HasOnlyMore node (length xs) c.loop-node.tree c.add_rows.new.tree) list now.others)
+          (subst (λ (xs : List ℕ). HasRowsOf query tables join own above g.R.Rank.KEYS g.R.Rank.key new node (length xs) xs (rows_at c.add_rows.new.tree node)) list now.rows);
+      cost = omega (arith, size, one, before.cost, now.cost);
+    }
+
+pub returns-clause-filled : goal.returns-clause-filled
+returns-clause-filled g c =
+    let own = lists_of c.in_ok-columns.columns.own.items in
+    let above = lists_of c.in_ok-columns.columns.above.items in
+    let names = names_of c.loop-node.links.items in
+    let all : c.loop-node.node ≡ c.args.join.now.count = omega arith in
+    record {
+      own = own;
+      above = above;
+      names = names;
+      columns = c.in_ok-columns.ensures;
+      numbers = c.loop-node.invariant.numbers;
+      filled = subst (λ (n : ℕ). AreFilled c.args.query.now c.args.tables.now c.args.join.now own above g.R.Rank.KEYS g.R.Rank.key names n (lists_of c.args.rows.now) c.loop-node.tree) all c.loop-node.invariant.filled;
+    }

@@ -1,0 +1,14 @@
+use Rattle.std.proofs.Common.{◌≡◌, ◌≤◌, ◌+◌, length}
+use Rattle.tdp_core.specs.TreeData.{kids_below}
+use Rattle.node_build.specs.Links.{AreMore, NamesLinks, names_of}
+use Rattle.node_build.specs.Nodes.{parent_of}
+use Rattle.node_build.specs.Rows.{lists_of}
+use Rattle.node_build.proofs.node.child_links.Given as goal
+
+abbrev pub invariant-loop-child : goal.invariant-loop-child
+invariant-loop-child g l = record {
+  more : AreMore (names_of l.initial.links.items) (names_of l.links.items);
+  count : length l.children.items ≡ kids_below (parent_of l.join) l.node l.child;
+  names : NamesLinks l.query l.tables l.join (lists_of l.columns.own.items) (lists_of l.columns.above.items) (names_of l.links.items) l.node l.row l.child l.children.items;
+  cost : l.steps ≤ l.initial.steps + kids_below (parent_of l.join) l.node l.child;
+}

@@ -1,0 +1,64 @@
+-- Links: the numbers of lists of values.
+use Rattle.std.specs.Prelude.{◌≡◌, ◌<◌, ◌-◌, ℕ, List, [], map, length, slice_index, slice_index_or, slice_get, Some}
+use Rattle.std.specs.HashSet.{HashSet}
+use Rattle.smallvec.specs.SmallVec.{SmallVec}
+use Rattle.rank_key.specs.Keys.{row_key}
+use Rattle.tdp_model.specs.KeyTuple.{KeyOf}
+use Rattle.tdp_core.specs.TreeData.{kids_below}
+use Rattle.tdp_core.specs.RawData.{RawRowData}
+use Rattle.join_tree.specs.declared.tree.JoinTree.{JoinTree}
+use Rattle.anyk_model.specs.Table.{Table, field_at}
+use Rattle.csv_tables.specs.Values.{number_of}
+use Rattle.query_bind.specs.Weighed.{BoundQuery}
+use Rattle.query_bind.specs.Weights.{table_in}
+use Rattle.node_build.specs.Nodes.{item_of, parent_of, row_parts}
+
+-- the numbers of the fields that a row has in some columns
+abbrev pub values_in : List Table → Table → ℕ → List ℕ → List ℕ
+values_in tables table row columns = map (λ (c : ℕ). number_of tables (field_at table (row - 1) c)) columns
+
+-- the lists of a set
+abbrev pub lists_in : {S : Type 0} → HashSet (SmallVec ℕ) S → List (List ℕ)
+lists_in s = map (λ v. v.items) s.keys
+
+-- the lists of each set
+abbrev pub names_of : {S : Type 0} → List (HashSet (SmallVec ℕ) S) → List (List (List ℕ))
+names_of sets = map lists_in sets
+
+-- list number n of node q
+pub record IsNumbered (names : List (List (List ℕ))) (q n : ℕ) (values : List ℕ) : Type 0 where
+  pub within : n < length (slice_index_or names q [])
+  pub is : slice_index_or (slice_index_or names q []) n [] ≡ values
+
+-- no list has two numbers
+abbrev pub AreNumbers : List (List (List ℕ)) → Type 0
+AreNumbers names = (q m n : ℕ) (values : List ℕ) → IsNumbered names q m values → IsNumbered names q n values → m ≡ n
+
+-- lists keep their numbers when others are added
+pub record AreMore (old new : List (List (List ℕ))) : Type 0 where
+  pub count : length new ≡ length old
+  pub kept : (q n : ℕ) (values : List ℕ) → IsNumbered old q n values → IsNumbered new q n values
+  pub numbers : AreNumbers old → AreNumbers new
+
+module _ (bound : BoundQuery) (tables : List Table) (join : JoinTree) (own above : List (List ℕ)) where
+  -- the values that a row of node v has in some columns
+  abbrev pub values_at : ℕ → ℕ → List ℕ → List ℕ
+  values_at v row columns = values_in tables (table_in tables bound.query.items (item_of join v)) row columns
+
+  -- the links that a row of node v names for the first n nodes
+  abbrev pub NamesLinks : List (List (List ℕ)) → ℕ → ℕ → ℕ → List ℕ → Type 0
+  NamesLinks names v row n children =
+      (q : ℕ) → 0 < q → q < n → parent_of join q ≡ v
+      → IsNumbered names q (slice_index children (kids_below (parent_of join) v q)) (values_at v row (slice_index_or above q []))
+
+  -- the raw tree's row for a row of node v
+  pub record IsRowOf {R : Type 0} (d : ℕ) (key : R → KeyOf d 16) (names : List (List (List ℕ))) (v row : ℕ) (x : RawRowData R) : Type 0 where
+    pub number : x.row.row ≡ row
+    pub rank : key x.row.rank ≡ row_key d (row_parts bound tables (item_of join v) row) (item_of join v) row
+    pub link : IsNumbered names v x.own (values_at v row (slice_index_or own v []))
+    pub children : NamesLinks names v row join.count x.children
+
+  -- the rows of node v are the first n of a list
+  pub record HasRowsOf {R : Type 0} (d : ℕ) (key : R → KeyOf d 16) (names : List (List (List ℕ))) (v n : ℕ) (rows : List ℕ) (xs : List (RawRowData R)) : Type 0 where
+    pub count : length xs ≡ n
+    pub each : (r : ℕ) (x : RawRowData R) → slice_get xs r ≡ Some x → IsRowOf d key names v (slice_index rows r) x

@@ -1,0 +1,22 @@
+-- The rows of nodes, collected one node after another.
+use Rattle.std.specs.Prelude.{◌≡◌, ◌≤◌, ◌<◌, ◌*◌, ℕ, List, [], map, length, slice_index_or, Vec}
+use Rattle.std.specs.Global.{Global}
+use Rattle.std.specs.List.{sum_by}
+use Rattle.join_tree.specs.declared.tree.JoinTree.{JoinTree}
+use Rattle.anyk_model.specs.Table.{Table}
+use Rattle.anyk_model.specs.Query.{Query, item_table}
+use Rattle.node_build.specs.Nodes.{AreNodeRows, item_of}
+
+abbrev pub lists_of : List (Vec ℕ Global) → List (List ℕ)
+lists_of vs = map (λ (v : Vec ℕ Global). v.items) vs
+
+-- how many rows the table of a node's item has
+abbrev pub table_rows : Query → List Table → JoinTree → ℕ → ℕ
+table_rows query tables join v = length (item_table query tables (item_of join v)).rows
+
+-- the rows of the first n nodes
+pub record HaveRows (query : Query) (tables : List Table) (join : JoinTree) (n : ℕ) (rows : List (List ℕ)) : Type 0 where
+  pub count : length rows ≡ n
+  pub each : (v : ℕ) → v < n → AreNodeRows query tables (item_of join v) (slice_index_or rows v [])
+  pub fewer : (v : ℕ) → v < n → length (slice_index_or rows v []) ≤ table_rows query tables join v
+  pub limit : sum_by length rows ≤ n * 1048576

@@ -1,0 +1,52 @@
+//! Filling the raw tree, one node after another.
+ghost use Rattle.std.specs.Prelude.{◌<◌, ◌≤◌, ◌+◌, ◌*◌, length, IfOk};
+ghost use Rattle.std.specs.List.{sum_by};
+ghost use Rattle.query_bind.specs.Weighed.{Fits};
+ghost use Rattle.node_build.specs.Filled.{IsFilledTree};
+ghost use Rattle.node_build.specs.Nodes.{IsJoinTreeOf};
+ghost use Rattle.node_build.specs.Rows.{HaveRows, lists_of};
+ghost use Rattle.node_build.specs.Shapes.{AreShapesOf};
+
+use crate::columns::columns_of;
+use crate::links::no_links;
+use crate::node::add_rows;
+use crate::shapes::shapes_of;
+use csv_tables::Tables;
+use join_tree::JoinTree;
+use query_bind::Query;
+use rank_key::Rank;
+use std::alloc::Global;
+use std::sync::ledger::Ledger;
+use step_counter::{NoMemory, Steps};
+use tdp_core::RawTree;
+
+/// The raw tree with these rows of each node.
+pub(crate) fn filled_tree<R: Rank, L: Ledger>(
+    alloc: Global,
+    query: &Query,
+    tables: &Tables,
+    join: &JoinTree,
+    rows: &[Vec<u32>],
+    steps: &mut Steps<L>,
+) -> Result<RawTree<R>, NoMemory>
+    requires fits { Fits query.now tables.now }
+    requires keys { length query.now.query.order ≤ R.KEYS }
+    requires tree { IsJoinTreeOf query.now.query join.now }
+    requires rows { HaveRows query.now.query tables.now join.now join.now.count (lists_of rows.now) }
+    requires room { sum_by length (lists_of rows.now) ≤ 4194304 }
+    ensures shapes { IfOk result (λ tree. AreShapesOf query.now tables.now join.now join.now.count tree.shapes) }
+    ensures filled { IfOk result (λ tree. IsFilledTree query.now tables.now join.now R.KEYS R.key (lists_of rows.now) tree) }
+    ensures cost { steps.new ≤ steps.old + sum_by length (lists_of rows.now) * join.now.count }
+{
+    let shapes = shapes_of(alloc, query, join)?;
+    let mut tree = RawTree::new(alloc, shapes.as_slice())?;
+    let columns = columns_of(alloc, query, join)?;
+    let mut links = no_links(alloc, join.count)?;
+    for node in 0..join.count {
+        let list = rows[node as usize].as_slice();
+        add_rows(
+            alloc, query, tables, join, &columns, node, list, &mut links, &mut tree, steps,
+        )?;
+    }
+    Ok(tree)
+}

@@ -1,0 +1,144 @@
+//! The rows of one node.
+ghost use Rattle.std.specs.Prelude.{◌≡◌, ◌<◌, ◌≤◌, ◌+◌, ◌*◌, ℕ, [], length, vec_len, IfOk, OnOk};
+ghost use Rattle.rankings.specs.Order.{IsMember};
+ghost use Rattle.tdp_core.specs.RawData.{RawRowData, row_total, rows_at, with_row};
+ghost use Rattle.tdp_core.specs.TreeData.{kids_below};
+ghost use Rattle.query_bind.specs.Weighed.{Fits};
+ghost use Rattle.query_bind.specs.Weights.{table_in};
+ghost use Rattle.node_build.specs.Columns.{HaveColumns};
+ghost use Rattle.node_build.specs.Filled.{HasOnlyMore};
+ghost use Rattle.node_build.specs.Links.{AreMore, HasRowsOf, IsRowOf, NamesLinks, names_of};
+ghost use Rattle.node_build.specs.Nodes.{IsJoinTreeOf, item_of, parent_of};
+ghost use Rattle.node_build.specs.Rows.{lists_of};
+ghost use Rattle.node_build.specs.Shapes.{AreShapesOf};
+
+use crate::columns::Columns;
+use crate::links::{Links, link_of, values_of};
+use crate::shapes::rank_of;
+use csv_tables::Tables;
+use join_tree::JoinTree;
+use query_bind::Query;
+use rank_key::Rank;
+use smallvec::SmallVec;
+use std::alloc::Global;
+use std::sync::ledger::Ledger;
+use step_counter::{NoMemory, Steps};
+use tdp_core::{NodeRow, RawTree};
+
+// The links that a row of a node names for the node's children.
+fn child_links<L: Ledger>(
+    alloc: Global,
+    query: &Query,
+    tables: &Tables,
+    join: &JoinTree,
+    columns: &Columns,
+    node: u32,
+    row: u32,
+    links: &mut Links,
+    steps: &mut Steps<L>,
+) -> Result<SmallVec<u32, 4>, NoMemory>
+    requires fits { Fits query.now tables.now }
+    requires tree { IsJoinTreeOf query.now.query join.now }
+    requires columns { HaveColumns query.now join.now join.now.count (lists_of columns.now.own.items) (lists_of columns.now.above.items) }
+    requires node { node < join.now.count }
+    requires first { 1 ≤ row }
+    requires row { row ≤ length (table_in tables.now query.now.query.items (item_of join.now node)).rows }
+    requires links { vec_len links.old ≡ join.now.count }
+    ensures more { OnOk result (AreMore (names_of links.old.items) (names_of links.new.items)) }
+    ensures count { IfOk result (λ children. length children.items ≡ kids_below (parent_of join.now) node join.now.count) }
+    ensures names { IfOk result (λ children. NamesLinks query.now tables.now join.now (lists_of columns.now.own.items) (lists_of columns.now.above.items)
+        (names_of links.new.items) node row join.now.count children.items) }
+    ensures cost { steps.new ≤ steps.old + kids_below (parent_of join.now) node join.now.count }
+{
+    let table = query.table_of(join.atom[node as usize]);
+    let mut children = SmallVec::new(alloc);
+    for child in 1..join.count as usize {
+        if join.parent[child] != node {
+            continue;
+        }
+        let values = values_of(alloc, tables, table, row, columns.above[child].as_slice())?;
+        children.push(link_of(links, child, values, steps)?)?;
+    }
+    Ok(children)
+}
+
+// Adds a row of a node to the tree, with its links.
+fn add_row<R: Rank, L: Ledger>(
+    alloc: Global,
+    query: &Query,
+    tables: &Tables,
+    join: &JoinTree,
+    columns: &Columns,
+    node: u32,
+    row: u32,
+    links: &mut Links,
+    tree: &mut RawTree<R>,
+    steps: &mut Steps<L>,
+) -> Result<(), NoMemory>
+    requires fits { Fits query.now tables.now }
+    requires keys { length query.now.query.order ≤ R.KEYS }
+    requires tree { IsJoinTreeOf query.now.query join.now }
+    requires columns { HaveColumns query.now join.now join.now.count (lists_of columns.now.own.items) (lists_of columns.now.above.items) }
+    requires node { node < join.now.count }
+    requires first { 1 ≤ row }
+    requires row { row ≤ length (table_in tables.now query.now.query.items (item_of join.now node)).rows }
+    requires links { vec_len links.old ≡ join.now.count }
+    requires shapes { AreShapesOf query.now tables.now join.now join.now.count tree.old.shapes }
+    requires room { row_total tree.old < 4194304 }
+    ensures more { OnOk result (AreMore (names_of links.old.items) (names_of links.new.items)) }
+    ensures added { OnOk result ((x : RawRowData R) × (tree.new ≡ with_row tree.old node x)
+        × IsRowOf query.now tables.now join.now (lists_of columns.now.own.items) (lists_of columns.now.above.items) R.KEYS R.key (names_of links.new.items) node row x) }
+    ensures cost { steps.new ≤ steps.old + join.now.count }
+{
+    let item = join.atom[node as usize];
+    let table = query.table_of(item);
+    let values = values_of(
+        alloc,
+        tables,
+        table,
+        row,
+        columns.own[node as usize].as_slice(),
+    )?;
+    let own = link_of(links, node as usize, values, steps)?;
+    let children = child_links(alloc, query, tables, join, columns, node, row, links, steps)?;
+    let rank = rank_of(query, tables, item, row);
+    tree.add_row(node, NodeRow { rank, row }, own, children.as_slice())
+}
+
+/// Adds the rows of a node to the tree, with their links.
+pub(crate) fn add_rows<R: Rank, L: Ledger>(
+    alloc: Global,
+    query: &Query,
+    tables: &Tables,
+    join: &JoinTree,
+    columns: &Columns,
+    node: u32,
+    rows: &[u32],
+    links: &mut Links,
+    tree: &mut RawTree<R>,
+    steps: &mut Steps<L>,
+) -> Result<(), NoMemory>
+    requires fits { Fits query.now tables.now }
+    requires keys { length query.now.query.order ≤ R.KEYS }
+    requires tree { IsJoinTreeOf query.now.query join.now }
+    requires columns { HaveColumns query.now join.now join.now.count (lists_of columns.now.own.items) (lists_of columns.now.above.items) }
+    requires node { node < join.now.count }
+    requires rows { (row : ℕ) → IsMember row rows.now → (1 ≤ row) × (row ≤ length (table_in tables.now query.now.query.items (item_of join.now node)).rows) }
+    requires links { vec_len links.old ≡ join.now.count }
+    requires shapes { AreShapesOf query.now tables.now join.now join.now.count tree.old.shapes }
+    requires each_node { length tree.old.rows ≡ join.now.count }
+    requires empty { rows_at tree.old node ≡ [] }
+    requires room { row_total tree.old + length rows.now ≤ 4194304 }
+    ensures more { OnOk result (AreMore (names_of links.old.items) (names_of links.new.items)) }
+    ensures others { OnOk result (HasOnlyMore node (length rows.now) tree.old tree.new) }
+    ensures rows { OnOk result (HasRowsOf query.now tables.now join.now (lists_of columns.now.own.items) (lists_of columns.now.above.items)
+        R.KEYS R.key (names_of links.new.items) node (length rows.now) rows.now (rows_at tree.new node)) }
+    ensures cost { steps.new ≤ steps.old + length rows.now * join.now.count }
+{
+    for row in rows {
+        add_row(
+            alloc, query, tables, join, columns, node, *row, links, tree, steps,
+        )?;
+    }
+    Ok(())
+}

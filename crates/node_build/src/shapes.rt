@@ -1,0 +1,83 @@
+//! The shapes of the nodes, and the ranks of their rows.
+ghost use Rattle.std.specs.Prelude.{◌≡◌, ◌<◌, ◌≤◌, ℕ, List, length, take, IfOk, slice_index};
+ghost use Rattle.anyk_model.specs.Table.{Table};
+ghost use Rattle.rank_key.specs.Keys.{row_key};
+ghost use Rattle.query_bind.specs.Weighed.{Fits};
+ghost use Rattle.query_bind.specs.Weights.{table_in};
+ghost use Rattle.node_build.specs.Nodes.{IsJoinTreeOf, cap_at, row_parts};
+ghost use Rattle.node_build.specs.Shapes.{AreShapesOf};
+
+use csv_tables::Tables;
+use join_tree::JoinTree;
+use query_bind::Query;
+use rank_key::Rank;
+use std::alloc::Global;
+use step_counter::NoMemory;
+use tdp_core::NodeShape;
+
+/// The most order keys that a query has.
+const MOST_KEYS: usize = 8;
+
+// The caps of an item, key by key, with zeros behind them.
+fn caps_of(query: &Query, item: u32) -> [u128; MOST_KEYS]
+    requires fits { (tables : List Table) × Fits query.now tables }
+    requires item { item < length query.now.query.items }
+    ensures { (tables : List Table) → Fits query.now tables → (i : ℕ) → slice_index result i ≡ cap_at query.now tables item i }
+{
+    let mut caps = [0; MOST_KEYS];
+    for key in 0..query.keys() {
+        caps[key as usize] = query.cap(item, key);
+    }
+    caps
+}
+
+/// The shapes of the nodes of a join tree.
+pub(crate) fn shapes_of(
+    alloc: Global,
+    query: &Query,
+    join: &JoinTree,
+) -> Result<Vec<NodeShape>, NoMemory>
+    requires fits { (tables : List Table) × Fits query.now tables }
+    requires tree { IsJoinTreeOf query.now.query join.now }
+    ensures { IfOk result (λ shapes. (tables : List Table) → Fits query.now tables → AreShapesOf query.now tables join.now join.now.count shapes.items) }
+{
+    let mut shapes = Vec::new(alloc);
+    for node in 0..join.count as usize {
+        let item = join.atom[node];
+        shapes.push(NodeShape {
+            parent: join.parent[node],
+            item,
+            caps: caps_of(query, item),
+        })?;
+    }
+    Ok(shapes)
+}
+
+// The parts of a row, key by key, in the first places.
+fn parts_of(query: &Query, tables: &Tables, item: u32, row: u32) -> [i128; MOST_KEYS]
+    requires fits { Fits query.now tables.now }
+    requires item { item < length query.now.query.items }
+    requires first { 1 ≤ row }
+    requires row { row ≤ length (table_in tables.now query.now.query.items item).rows }
+    ensures { take (length query.now.query.order) result ≡ row_parts query.now tables.now item row }
+{
+    let mut parts = [0; MOST_KEYS];
+    for key in 0..query.keys() {
+        parts[key as usize] = query.part(tables, item, row, key);
+    }
+    parts
+}
+
+/// The rank of a row: its parts, and its number in the slot of its item.
+pub(crate) fn rank_of<R: Rank>(query: &Query, tables: &Tables, item: u32, row: u32) -> R
+    requires fits { Fits query.now tables.now }
+    requires keys { length query.now.query.order ≤ R.KEYS }
+    requires item { item < length query.now.query.items }
+    requires first { 1 ≤ row }
+    requires row { row ≤ length (table_in tables.now query.now.query.items item).rows }
+    ensures { R.key result ≡ row_key R.KEYS (row_parts query.now tables.now item row) item row }
+{
+    let _items = query.items();
+    let parts = parts_of(query, tables, item, row);
+    R::of_row(&parts[..query.keys() as usize], item, row)
+}

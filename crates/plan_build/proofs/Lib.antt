@@ -1,0 +1,12 @@
+pub mod TreeSolutions
+pub mod PlanOf
+pub mod Sizes
+pub mod ShapeOf
+pub mod Planned
+pub mod WitnessSums
+pub mod WitnessKeys
+pub mod WitnessTrees
+pub mod WitnessRows
+pub mod Witnesses
+pub mod Places
+pub mod PlanRows

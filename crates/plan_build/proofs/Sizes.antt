@@ -1,0 +1,96 @@
+-- Numbers of rows, node by node and in all.
+use Rattle.std.proofs.Common.{◌≡◌, ℕ, zero, suc, ◌+◌, ◌*◌, ◌<◌, ◌≤◌, List, [], ◌∷◌, map, take, length, get_or, slice_index, slice_index_or, refl, sym, ap, ◌∙◌, subst, arith}
+use Rattle.std.specs.List.{sum_by}
+use Rattle.std.specs.List.Sorted.{IsStrictlyIncreasing}
+use Rattle.std.proofs.lemmas.Nat.{mul-le}
+use Rattle.std.proofs.lemmas.List.Sums.{sum_by-cons}
+use Rattle.tdp_model.specs.TreeProblem.{sum_from}
+use Rattle.std.proofs.lemmas.List.{get_or-map}
+use Rattle.anyk_model.specs.Table.{Table, table_at}
+use Rattle.anyk_model.specs.Query.{Item, row_counts}
+use Rattle.query_bind.specs.Names.{item_at}
+use Rattle.query_bind.specs.Parts.{sum_of_all}
+
+-- an ascending list of numbers below n has at most n of them
+pub few-below : (xs : List ℕ) (n : ℕ) → IsStrictlyIncreasing xs → ((k : ℕ) → k < length xs → slice_index xs k < n) → length xs ≤ n
+few-below [] n rises low = omega arith
+few-below (x ∷ xs) n rises low =
+    let last = low (length xs) (omega arith) in
+    let at = at-least (length xs) (omega arith) in
+    omega (arith, last, at)
+  where
+    at-least : (k : ℕ) → k < length (x ∷ xs) → k ≤ slice_index (x ∷ xs) k
+    at-least zero l = omega arith
+    at-least (suc k) l =
+        let before = at-least k (omega (arith, l)) in
+        let same : k + 1 ≡ suc k = omega arith in
+        let up : slice_index (x ∷ xs) k < slice_index (x ∷ xs) (suc k) = subst (λ j. slice_index (x ∷ xs) k < slice_index (x ∷ xs) j) same (rises k (omega (arith, l))) in
+        omega (arith, before, up)
+
+pub sum-of-lengths : {X : Type 0} (xss : List (List X)) → sum_of_all (map length xss) ≡ sum_by length xss
+sum-of-lengths [] = refl
+sum-of-lengths (xs ∷ xss) = let rest = sum-of-lengths xss in let whole = sum_by-cons length xs xss in omega (arith, rest, whole)
+
+-- the first i numbers and the next one
+pub sum-one-more : (xs : List ℕ) (i : ℕ) → i < length xs → sum_of_all (take (i + 1) xs) ≡ sum_of_all (take i xs) + get_or xs i 0
+sum-one-more xs i l = subst (λ n. sum_of_all (take n xs) ≡ sum_of_all (take i xs) + get_or xs i 0) (let e : suc i ≡ i + 1 = omega arith in e) (by xs i l)
+  where
+    by : (xs : List ℕ) (i : ℕ) → i < length xs → sum_of_all (take (suc i) xs) ≡ sum_of_all (take i xs) + get_or xs i 0
+    by [] i l = absurd (omega (arith, l))
+    by (x ∷ xs) zero l = omega arith
+    by (x ∷ xs) (suc i) l = let rest = by xs i (omega (arith, l)) in omega (arith, rest)
+
+-- each node has at most so many rows, so all have
+pub fewer-in-all : (few many : ℕ → ℕ) (k q : ℕ) → ((v : ℕ) → q ≤ v → v < q + k → few v ≤ many v) → sum_from ◌+◌ 0 few k q ≤ sum_from ◌+◌ 0 many k q
+unfolding sum_from
+fewer-in-all few many zero q h = omega arith
+fewer-in-all few many (suc k) q h =
+    let here = h q (omega arith) (omega arith) in
+    let rest = fewer-in-all few many k (suc q) (λ v a b. h v (omega (arith, a)) (omega (arith, b))) in
+    omega (arith, here, rest)
+
+lengths-from : {X : Type 0} (xss : List (List X)) (all : ℕ → ℕ) (q : ℕ) → ((v : ℕ) → v < length xss → all (q + v) ≡ length (slice_index_or xss v []))
+    → sum_from ◌+◌ 0 all (length xss) q ≡ sum_by length xss
+unfolding sum_from
+lengths-from [] all q h = refl
+lengths-from (xs ∷ xss) all q h =
+    let none : q + 0 ≡ q = omega arith in
+    let here : all q ≡ length xs = ap all (sym none) ∙ h 0 (omega arith) in
+    let rest = lengths-from xss all (suc q) (λ v l. let move : suc q + v ≡ q + suc v = omega arith in ap all move ∙ h (suc v) (omega (arith, l))) in
+    let whole = sum_by-cons length xs xss in
+    omega (arith, here, rest, whole)
+
+-- the lengths of lists, by node
+pub lengths-in-all : {X : Type 0} (xss : List (List X)) → sum_from ◌+◌ 0 (λ v. length (slice_index_or xss v [])) (length xss) 0 ≡ sum_by length xss
+lengths-in-all xss = lengths-from xss (λ v. length (slice_index_or xss v [])) 0 (λ v l. let none : 0 + v ≡ v = omega arith in ap (λ w. length (slice_index_or xss w [])) none)
+
+-- the shares of building, reducing and solving, where l nodes have n rows before and k rows after the reduction
+pub shares : (l t n k : ℕ) → 1 ≤ l → n ≤ t → k ≤ n → l * t + 2 * l * (1 + n) + 4 * l * (1 + k) ≤ 16 * (l * l * (1 + t))
+shares zero t n k some a b = absurd (omega (arith, some))
+shares (suc m) t n k some a b =
+    let l = suc m in
+    let rows = mul-le l (1 + n) l (1 + t) (omega arith) (omega (arith, a)) in
+    let kept = mul-le l (1 + k) l (1 + t) (omega arith) (omega (arith, a, b)) in
+    let all : l * t + 2 * (l * (1 + t)) + 4 * (l * (1 + t)) ≤ 16 * (l * l * (1 + t)) = omega arith in
+    omega (arith, rows, kept, all)
+
+-- how many rows the table of an item has
+pub row-count-at : (items : List Item) (tables : List Table) (i : ℕ) → i < length items → get_or (row_counts items tables) i 0 ≡ length (table_at tables (item_at items i).table).rows
+row-count-at items tables i l = get_or-map (λ (i : Item). length ((table_at tables i.table).rows)) items i _ 0 l
+
+-- the steps of building and reducing
+pub steps-of-reduction : (before built now l t m n : ℕ) → 1 ≤ l → n ≤ t → m ≡ l → built ≤ before + l * t → now ≤ built + 2 * m * (1 + n)
+    → now ≤ before + 16 * (l * l * (1 + t))
+steps-of-reduction before built now l t m n some low same first second =
+    let all = shares l t n 0 some low (omega arith) in
+    let here : 2 * m * (1 + n) ≡ 2 * l * (1 + n) = ap (λ k. 2 * k * (1 + n)) same in
+    omega (arith, all, first, second, here)
+
+-- and of solving
+pub steps-of-plan : (before built reduced now l t m n p k : ℕ) → 1 ≤ l → n ≤ t → k ≤ n → m ≡ l → p ≡ l → built ≤ before + l * t
+    → reduced ≤ built + 2 * m * (1 + n) → now ≤ reduced + 4 * p * (1 + k) → now ≤ before + 16 * (l * l * (1 + t))
+steps-of-plan before built reduced now l t m n p k some low kept same alike first second third =
+    let all = shares l t n k some low kept in
+    let here : 2 * m * (1 + n) ≡ 2 * l * (1 + n) = ap (λ j. 2 * j * (1 + n)) same in
+    let there : 4 * p * (1 + k) ≡ 4 * l * (1 + k) = ap (λ j. 4 * j * (1 + k)) alike in
+    omega (arith, all, first, second, third, here, there)

@@ -1,0 +1,123 @@
+-- Sums over numbers in another order, and lists that are chosen place by place.
+use Rattle.std.proofs.Common.{◌≡◌, ◌≢◌, ◌+◌, ◌<◌, ◌==◌, ℕ, zero, suc, Bool, true, false, cond, ℤ, pos, ◌+ℤ◌, List, [], ◌∷◌, map, length, get_or, refl, sym, ap, ◌∙◌, inl, inr, arith}
+use Rattle.std.specs.List.{range_with_len}
+use Rattle.std.proofs.lemmas.Bool.{cases_eq}
+use Rattle.std.proofs.lemmas.Bool.Decides.{Decides-eqb}
+use Rattle.std.proofs.lemmas.Int.{ints}
+use Rattle.anyk_model.specs.Query.{total}
+use Rattle.query_bind.proofs.Parts.{picks}
+
+-- ---- tests of equal numbers
+
+pub equal-test : (a b : ℕ) → a ≡ b → (a == b) ≡ true
+equal-test a b e = (Decides-eqb a b).1 e
+
+pub other-test : (a b : ℕ) → a ≢ b → (a == b) ≡ false
+other-test a b ne = by_test (a == b) refl
+  where
+    by_test : (t : Bool) → (a == b) ≡ t → (a == b) ≡ false
+    by_test true e = absurd (ne ((Decides-eqb a b).0 e))
+    by_test false e = e
+
+-- ---- sums over a range
+
+pub total-zeros : (a n : ℕ) → total (map (λ (i : ℕ). pos 0) (range_with_len a n)) ≡ pos 0
+total-zeros a zero = refl
+total-zeros a (suc n) = let h = total-zeros (a + 1) n in omega (arith, ints, h)
+
+-- values that are equal on the range have equal sums
+total-within : (f g : ℕ → ℤ) (a n m : ℕ) → a + n ≡ m → ((i : ℕ) → i < m → f i ≡ g i) → total (map f (range_with_len a n)) ≡ total (map g (range_with_len a n))
+total-within f g a zero m at e = refl
+total-within f g a (suc n) m at e =
+    let h = total-within f g (a + 1) n m (omega arith) e in
+    let first = e a (omega arith) in
+    omega (arith, ints, h, first)
+
+pub total-same : (f g : ℕ → ℤ) (n : ℕ) → ((i : ℕ) → i < n → f i ≡ g i) → total (map f (range_with_len 0 n)) ≡ total (map g (range_with_len 0 n))
+total-same f g n e = total-within f g 0 n n (omega arith) e
+
+last-at : (f : ℕ → ℤ) (a n j : ℕ) → a + n ≡ j → total (map f (range_with_len a (suc n))) ≡ f j +ℤ total (map f (range_with_len a n))
+last-at f a zero j at = let e : f a ≡ f j = ap f (omega arith) in omega (arith, ints, e)
+last-at f a (suc n) j at = let h = last-at f (a + 1) n j (omega arith) in omega (arith, ints, h)
+
+-- the sum of one number more
+pub total-last : (f : ℕ → ℤ) (n : ℕ) → total (map f (range_with_len 0 (suc n))) ≡ f n +ℤ total (map f (range_with_len 0 n))
+total-last f n = last-at f 0 n n (omega arith)
+
+-- the sum of a value at one number alone
+pub total-one : (m n : ℕ) (v : ℕ → ℤ) → m < n → total (map (λ (i : ℕ). cond (m == i) (v i +ℤ pos 0) (pos 0)) (range_with_len 0 n)) ≡ v m
+total-one m n v inside =
+    let h = picks m v (λ i. pos 0) 0 n (omega arith) (omega arith) in
+    let none = total-zeros 0 n in
+    omega (arith, ints, h, none)
+
+-- ---- numbers below n in another order
+
+-- `item 0`, `item 1` and on to n places are the numbers below n, each once
+pub record IsOrderOf (n : ℕ) (item : ℕ → ℕ) : Type 0 where
+  pub within : (v : ℕ) → v < n → item v < n
+  pub distinct : (u v : ℕ) → u < v → v < n → item u ≢ item v
+  pub each : (a : ℕ) → a < n → (v : ℕ) × (v < n) × (item v ≡ a)
+
+module _ (n : ℕ) (item : ℕ → ℕ) (order : IsOrderOf n item) (g : ℕ → ℤ) where
+  -- the value of a number that is among the first k, and 0 at the others
+  met : ℕ → ℕ → ℤ
+  met zero a = pos 0
+  met (suc k) a = cond (item k == a) (g a +ℤ met k a) (met k a)
+
+  met-total : (k : ℕ) → (k < suc n) → total (map (λ v. g (item v)) (range_with_len 0 k)) ≡ total (map (met k) (range_with_len 0 n))
+  unfolding met
+  met-total zero few = sym (total-zeros 0 n)
+  met-total (suc k) few =
+      let inside : item k < n = order.within k (omega arith) in
+      let h = met-total k (omega arith) in
+      let more = total-last (λ v. g (item v)) k in
+      let p : total (map (met (suc k)) (range_with_len 0 n)) ≡ g (item k) +ℤ total (map (met k) (range_with_len 0 n)) = picks (item k) g (met k) 0 n (omega arith) (omega arith) in
+      omega (arith, ints, h, more, p)
+
+  met-none : (k a : ℕ) → ((v : ℕ) → v < k → item v ≢ a) → met k a ≡ pos 0
+  unfolding met
+  met-none zero a none = refl
+  met-none (suc k) a none =
+      ap (λ (b : Bool). cond b (g a +ℤ met k a) (met k a)) (other-test (item k) a (none k (omega arith)))
+      ∙ met-none k a (λ v l. none v (omega arith))
+
+  met-one : (k a v : ℕ) → k < suc n → v < k → item v ≡ a → met k a ≡ g a
+  unfolding met
+  met-one zero a v few l e = absurd (omega arith)
+  met-one (suc k) a v few l e = elim (cases_eq v k) [
+    | inl is ↦
+        let here : item k ≡ a = ap item (sym is) ∙ e in
+        let rest : met k a ≡ pos 0 = met-none k a (λ u m s. order.distinct u k m (omega arith) (s ∙ sym here)) in
+        let step : met (suc k) a ≡ g a +ℤ met k a = ap (λ (b : Bool). cond b (g a +ℤ met k a) (met k a)) (equal-test (item k) a here) in
+        omega (arith, ints, rest, step)
+    | inr other ↦
+        let below : v < k = omega (arith, other, l) in
+        let there : item k ≢ a = λ s. order.distinct v k below (omega arith) (e ∙ sym s) in
+        ap (λ (b : Bool). cond b (g a +ℤ met k a) (met k a)) (other-test (item k) a there) ∙ met-one k a v (omega arith) below e
+  ]
+
+  -- a sum over the places is the sum over the numbers
+  pub total-reordered : total (map (λ v. g (item v)) (range_with_len 0 n)) ≡ total (map g (range_with_len 0 n))
+  total-reordered =
+      met-total n (omega arith)
+      ∙ total-same (met n) g n (λ a l. let at = order.each a l in met-one n a at.0 (omega arith) at.1 at.2)
+
+-- ---- lists that are chosen place by place
+
+-- where there is a number with P at each place below n, a list has them
+pub record Chosen (n : ℕ) (P : ℕ → ℕ → Type 0) : Type 0 where
+  pub list : List ℕ
+  pub count : length list ≡ n
+  pub each : (a : ℕ) → a < n → P a (get_or list a 0)
+
+pub choose : (n : ℕ) (P : ℕ → ℕ → Type 0) → ((a : ℕ) → a < n → (x : ℕ) × P a x) → Chosen n P
+choose zero P f = record { list = []; count = refl; each = λ a l. absurd (omega arith) }
+choose (suc n) P f =
+    let first = f 0 (omega arith) in
+    let rest = choose n (λ a. P (suc a)) (λ a l. f (suc a) (omega arith)) in
+    record { list = first.0 ∷ rest.list; count = ap suc rest.count; each = pick first.0 first.1 rest.list rest.each }
+  where
+    pick : (x : ℕ) → P 0 x → (list : List ℕ) → ((a : ℕ) → a < n → P (suc a) (get_or list a 0)) → (a : ℕ) → a < suc n → P a (get_or (x ∷ list) a 0)
+    pick x p list rest zero l = p
+    pick x p list rest (suc a) l = rest a (omega arith)

@@ -1,0 +1,18 @@
+use Rattle.std.proofs.Common.{◌≡◌, ℕ, List, inl, inr, refl}
+use Rattle.anyk_model.specs.Table.{Table}
+use Rattle.join_tree.specs.declared.tree.JoinTree.{JoinTree}
+use Rattle.query_bind.specs.Weighed.{BoundQuery}
+use Rattle.node_build.specs.Nodes.{PassesBudget, TellsFault}
+use Rattle.node_build.specs.declared.built.BuildFault.TheVariants as fault
+use Rattle.plan_build.proofs.Planned.{too-many}
+use Rattle.plan_build.proofs.plan.nodes_of.Goals as goal
+
+passed : (bound : BoundQuery) (tables : List Table) (join : JoinTree) (budget told : ℕ) → TellsFault bound tables join budget (fault.TooManyRows told)
+    → (told ≡ budget) × PassesBudget bound tables join budget
+passed bound tables join budget told (inl none) = cc
+passed bound tables join budget told (inr (same, past)) = (let e : told ≡ budget = cc in e, past)
+
+pub returns-in-Err-TooManyRows-clause-refusal : goal.returns-in-Err-TooManyRows-clause-refusal
+returns-in-Err-TooManyRows-clause-refusal g c =
+    let past = passed c.args.query.now c.args.tables.now c.args.join.now 4194304 c.in-Err-TooManyRows.budget (rw c.in-Err-TooManyRows.field-0-is at c.in-Err-TooManyRows.ensures.refusal) in
+    (past.0, too-many c.args.query.now c.args.tables.now c.args.join.now c.requires.tree c.requires.count 4194304 refl past.1)

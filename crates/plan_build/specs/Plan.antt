@@ -1,0 +1,83 @@
+-- The plan of a query: the tree problem whose solutions are the query's witnesses.
+use Rattle.std.specs.Prelude.{◌≡◌, ◌↔◌, ◌⊎◌, ℕ, ◌+◌, ◌<◌, ◌≤◌, List, Contains, map, length, slice_index, Ok, Err}
+use Rattle.rankings.specs.Order.{IsAscending, IsMember}
+use Rattle.tdp_model.specs.KeyTuple.{KeyOf}
+use Rattle.tdp_model.specs.TreeProblem.{sum_from}
+use Rattle.tdp_core.specs.TreeData.{NodeData, group, item, node_at, number, parent, rows}
+use Rattle.tdp_core.specs.Solutions.{Extends, IsTreeRanking, IsTreeSolution, solution_key}
+use Rattle.tdp_core.specs.WellFormed.{IsTieFreeTree}
+use Rattle.anyk_model.specs.Table.{Table}
+use Rattle.anyk_model.specs.Query.{Query, IsWitness, item_table}
+use Rattle.anyk_model.specs.Ranking.{ranking_of}
+use Rattle.query_bind.specs.Classes.{Passes}
+use Rattle.query_bind.specs.Parts.{sum_of_all}
+use Rattle.query_bind.specs.Weighed.{BoundQuery}
+use Rattle.query_shape.specs.Shape.{IsShape, Shape, cyclic, too_many_rows}
+use Rattle.node_build.specs.Nodes.{RowsAgree, RowsAlike}
+use Rattle.semi_join.specs.Reduced.{ShareGroup}
+use Rattle.refusal_lines.specs.Core.{items_of}
+use Rattle.step_bounds.specs.Bounded.{total_of}
+use Rattle.witness_key.specs.WitnessKey.{witness_key}
+use Rattle.plan_build.specs.declared.fault.PlanFault.{PlanFault}
+use Rattle.plan_build.specs.declared.fault.PlanFault.TheVariants as fault
+
+-- a tree, and how many rows the tables of all items and the nodes have together
+pub record PlanData (R : Type 0) : Type 0 where
+  pub tree : List (NodeData R)
+  pub total : ℕ
+
+module _ {R : Type 0} (d : ℕ) (key : R → KeyOf d 16) (query : Query) (tables : List Table) where
+  -- a solution of the tree has the key of a witness, each witness has the key of a solution, and two solutions with one key are
+  -- the same rows
+  pub record HasWitnesses (tree : List (NodeData R)) : Type 0 where
+    pub witness : (rows : ℕ → ℕ) → IsTreeSolution tree rows → (found : List ℕ) × IsWitness query tables found × (solution_key tree d key rows ≡ witness_key d query tables found)
+    pub solution : (found : List ℕ) → IsWitness query tables found → (rows : ℕ → ℕ) × IsTreeSolution tree rows × (solution_key tree d key rows ≡ witness_key d query tables found)
+    pub once : (t u : ℕ → ℕ) → IsTreeSolution tree t → IsTreeSolution tree u → solution_key tree d key t ≡ solution_key tree d key u
+        → (q : ℕ) → q < length tree → t q ≡ u q
+
+module _ (bound : BoundQuery) (tables : List Table) {R : Type 0} (tree : List (NodeData R)) where
+  -- the item of node v has this row, and it passes
+  abbrev pub RowPasses : ℕ → ℕ → Type 0
+  RowPasses v row = (1 ≤ row) × (row ≤ length (item_table bound.query tables (item tree v)).rows) × Passes bound.query tables (item tree v) row
+
+  -- and below the root it agrees with row `above` of the item of the node's parent on the variables that both items have
+  abbrev pub RowsJoined : ℕ → ℕ → ℕ → Type 0
+  RowsJoined v above row = RowPasses v row × ((v ≡ 0) ⊎ RowsAgree bound tables (item tree v) (item tree (parent tree v)) row above)
+
+  -- the numbers of the rows of node v
+  abbrev pub numbers : ℕ → List ℕ
+  numbers v = map (λ x. x.row) (node_at tree v).rows
+
+  -- the rows of the nodes and their groups, in the words of the query
+  pub record HasReducedRows : Type 0 where
+    -- a node has exactly the rows of its item that pass and extend to one row for each node below it, in ascending order
+    pub ascending : (v : ℕ) → v < length tree → IsAscending (λ a b. a < b) (numbers v)
+    pub members : (v row : ℕ) → v < length tree → IsMember row (numbers v) ↔ (RowPasses v row × Extends (length tree) (parent tree) RowsJoined v row)
+    -- two rows of a node stand in one group exactly where they are alike in the variables that its parent's item has too
+    pub groups : (v i j : ℕ) → 0 < v → v < length tree → i < rows tree v → j < rows tree v
+        → ShareGroup tree v i j ↔ RowsAlike bound tables (item tree v) (item tree (parent tree v)) (number tree v i) (number tree v j)
+    -- and a row names the group of exactly the rows that agree with it
+    pub named : (v r i : ℕ) → 0 < v → v < length tree → r < rows tree (parent tree v)
+        → Contains (group tree v r) i ↔ ((i < rows tree v) × RowsAgree bound tables (item tree v) (item tree (parent tree v)) (number tree v i) (number tree (parent tree v) r))
+
+-- the plan of the query over these tables
+pub record IsPlan {R : Type 0} (d : ℕ) (key : R → KeyOf d 16) (bound : BoundQuery) (tables : List Table) (plan : PlanData R) : Type 0 where
+  pub shape : Shape
+  pub is_shape : IsShape bound.query tables (Ok shape)
+  pub total : plan.total ≡ total_of bound.query tables shape
+  -- the nodes are those of the join tree
+  pub nodes : length plan.tree ≡ length bound.query.items
+  pub items : (v : ℕ) → v < length plan.tree → item plan.tree v ≡ slice_index shape.atoms v
+  pub parents : (v : ℕ) → v < length plan.tree → parent plan.tree v ≡ slice_index shape.parents v
+  pub fewer : sum_from ◌+◌ 0 (rows plan.tree) (length plan.tree) 0 ≤ sum_of_all shape.node_rows
+  pub reduced : HasReducedRows bound tables plan.tree
+  pub witnesses : HasWitnesses d key bound.query tables plan.tree
+  pub tie_free : IsTieFreeTree plan.tree
+  -- the ranking of the tree is that of the witnesses
+  pub ranking : (ks : List (KeyOf d 16)) → IsTreeRanking plan.tree d key ks → ks ≡ map (witness_key d bound.query tables) (ranking_of bound.query tables)
+
+-- the fault that may be answered: memory ran out, or the query has that flaw
+abbrev pub TellsFlaw : Query → List Table → PlanFault → Type 0
+TellsFlaw query tables fault.NoMemory = Unit {0}
+TellsFlaw query tables (fault.Cyclic core) = IsShape query tables (Err (cyclic (items_of core)))
+TellsFlaw query tables (fault.TooManyRows most) = (most ≡ 4194304) × IsShape query tables (Err too_many_rows)

@@ -1,0 +1,144 @@
+//! The plan of a query.
+ghost use Rattle.std.specs.Prelude.{◌≡◌, ◌≤◌, ◌+◌, ◌*◌, ◌<◌, ◌^◌, List, length, IfErr, IfOk, Ok, ℕ};
+ghost use Rattle.anyk_model.specs.Query.{row_counts};
+ghost use Rattle.anyk_model.specs.Table.{Table};
+ghost use Rattle.query_bind.specs.Parts.{sum_of_all};
+ghost use Rattle.query_bind.specs.Weighed.{Fits};
+ghost use Rattle.query_shape.specs.Shown.{HasStoredTree};
+ghost use Rattle.tdp_core.specs.RawData.{IsRawFormed, row_total};
+ghost use Rattle.tdp_core.specs.Solutions.{IsTieFreeRaw};
+ghost use Rattle.node_build.specs.Nodes.{IsBuilt};
+ghost use Rattle.plan_build.specs.Plan.{IsPlan, TellsFlaw};
+
+use crate::fault::PlanFault;
+use csv_tables::Tables;
+use join_tree::JoinTree;
+use node_build::{BuildFault, Built, build};
+use query_bind::Query;
+use query_shape::{MOST_NODE_ROWS, ShapeFault, tree_shape};
+use rank_key::Rank;
+use semi_join::reduce;
+use std::alloc::Global;
+use std::marker::Model;
+use std::sync::ledger::Ledger;
+use step_counter::Steps;
+use tdp_core::Tree;
+use tree_dp::solve;
+
+/// A query's tree problem, prepared for ranked enumeration. It is seen as the tree and the number of rows of the tables of all
+/// items and of all nodes.
+#[derive(Drop)]
+pub struct Plan<R: Rank> {
+    tree: Tree<R>,
+    total: u64,
+}
+
+impl<R: Rank> Model for Plan<R> {
+    ghost use Rattle.plan_build.specs.Plan.{PlanData};
+
+    ghost Value = { PlanData R };
+
+    ghost view = { λ p. record { tree = p.tree; total = p.total } };
+}
+
+impl<R: Rank> Plan<R> {
+    /// The tree, one node for each item.
+    pub fn tree(&self) -> &Tree<R>
+        ensures { result.now ≡ self.now.tree }
+    {
+        &self.tree
+    }
+
+    /// How many rows the tables of all items, a table counted once for each item, and the nodes of the tree before its reduction
+    /// have together.
+    pub fn total(&self) -> u64
+        ensures { result ≡ self.now.total }
+    {
+        self.total
+    }
+}
+
+/// The plan of a query over the tables to which it is bound. The query is cyclic exactly where no join tree exists; there are too
+/// many rows exactly where more than 4,194,304 rows of all nodes pass. The other error is that memory is refused.
+pub fn prepare<R: Rank, L: Ledger>(
+    alloc: Global,
+    query: &Query,
+    tables: &Tables,
+    steps: &mut Steps<L>,
+) -> Result<Plan<R>, PlanFault>
+    requires fits { Fits query.now tables.now }
+    requires keys { length query.now.query.order ≤ R.KEYS }
+    requires some { 1 ≤ length query.now.query.items }
+    ensures plan { IfOk result (IsPlan R.KEYS R.key query.now tables.now) }
+    ensures refusal { IfErr result (TellsFlaw query.now.query tables.now) }
+    ensures cost { steps.new ≤ steps.old
+        + 16 * (length query.now.query.items * length query.now.query.items * (1 + sum_of_all (row_counts query.now.query.items tables.now))) }
+{
+    let join = join_tree_of(alloc, query)?;
+    let built = nodes_of(alloc, query, tables, &join, steps)?;
+    let total = rows_of_tables(query, tables) + built.used;
+    let reduced = reduce(alloc, built.tree, steps)?;
+    let tree = solve(alloc, reduced, steps)?;
+    let _nodes = tree.nodes();
+    Ok(Plan { tree, total })
+}
+
+// The join tree of a query.
+fn join_tree_of(alloc: Global, query: &Query) -> Result<JoinTree, PlanFault>
+    requires fits { (tables : List Table) × Fits query.now tables }
+    requires some { 1 ≤ length query.now.query.items }
+    ensures tree { IfOk result (HasStoredTree query.now.query) }
+    ensures count { IfOk result (λ tree. tree.count ≡ length query.now.query.items) }
+    ensures refusal { IfErr result (λ fault. (tables : List Table) → TellsFlaw query.now.query tables fault) }
+{
+    match tree_shape(alloc, query) {
+        Ok(tree) => Ok(tree),
+        Err(ShapeFault::Cyclic(core)) => Err(PlanFault::Cyclic(core)),
+        Err(ShapeFault::TooManyRows) => Err(PlanFault::TooManyRows(MOST_NODE_ROWS as u64)),
+        Err(ShapeFault::NoMemory) => Err(PlanFault::NoMemory),
+    }
+}
+
+// The nodes of the join tree, with their rows and links.
+fn nodes_of<R: Rank, L: Ledger>(
+    alloc: Global,
+    query: &Query,
+    tables: &Tables,
+    join: &JoinTree,
+    steps: &mut Steps<L>,
+) -> Result<Built<R>, PlanFault>
+    requires fits { Fits query.now tables.now }
+    requires keys { length query.now.query.order ≤ R.KEYS }
+    requires tree { HasStoredTree query.now.query join.now }
+    requires count { join.now.count ≡ length query.now.query.items }
+    ensures built { IfOk result (λ built. IsBuilt query.now tables.now R.KEYS R.key join.now built.tree) }
+    ensures formed { IfOk result (λ built. IsRawFormed R.KEYS R.key built.tree) }
+    ensures tie_free { IfOk result (λ built. IsTieFreeRaw built.tree) }
+    ensures used { IfOk result (λ built. built.used ≡ row_total built.tree) }
+    ensures within { IfOk result (λ built. built.used ≤ 4194304) }
+    ensures fewer { IfOk result (λ built. built.used ≤ sum_of_all (row_counts query.now.query.items tables.now)) }
+    ensures refusal { IfErr result (TellsFlaw query.now.query tables.now) }
+    ensures cost { steps.new ≤ steps.old + length query.now.query.items * sum_of_all (row_counts query.now.query.items tables.now) }
+{
+    match build(alloc, query, tables, join, MOST_NODE_ROWS as u64, steps) {
+        Ok(built) => {
+            let _nodes = built.tree.nodes();
+            Ok(built)
+        }
+        Err(BuildFault::TooManyRows(budget)) => Err(PlanFault::TooManyRows(budget)),
+        Err(BuildFault::NoMemory) => Err(PlanFault::NoMemory),
+    }
+}
+
+// How many rows the tables of all items have, a table counted once for each item.
+fn rows_of_tables(query: &Query, tables: &Tables) -> u64
+    requires fits { Fits query.now tables.now }
+    ensures rows { result ≡ sum_of_all (row_counts query.now.query.items tables.now) }
+    ensures few { result ≤ 16777216 }
+{
+    let mut rows = 0;
+    for item in 0..query.items() {
+        rows += tables.len(query.table_of(item)) as u64;
+    }
+    rows
+}

@@ -1,0 +1,34 @@
+-- The report of a query's join tree.
+use Rattle.std.specs.Prelude.{ℕ, ◌+◌, ◌==◌, if◌then◌else◌, List, ◌++◌, length, slice_index, codes, decimal}
+use Rattle.std.specs.List.{flat_map, range_with_len}
+use Rattle.anyk_model.specs.Query.{Query, row_counts}
+use Rattle.anyk_model.specs.Table.{Table}
+use Rattle.query_bind.specs.Names.{item_at}
+use Rattle.query_bind.specs.Parts.{sum_of_all}
+use Rattle.query_parse.specs.Text.{name_text_of}
+use Rattle.query_shape.specs.Shape.{Shape}
+
+-- nodes count from 1, and the first has the parent 0
+abbrev pub parent_number : Shape → ℕ → ℕ
+parent_number shape node = if node == 0 then 0 else slice_index shape.parents node + 1
+
+-- a line of these numbers, and of a name as the canonical text writes it
+abbrev pub node_text : ℕ → ℕ → ℕ → List ℕ → List ℕ
+node_text number parent rows name =
+    codes "node " ++ (decimal number ++ (codes " parent " ++ (decimal parent ++ (codes " rows " ++ (decimal rows ++ (codes " item " ++ (name ++ codes "\n")))))))
+
+-- the line of a node: its number, its parent's, how many rows it has, and its item's alias
+abbrev pub node_line : Query → Shape → ℕ → List ℕ
+node_line query shape node =
+    node_text (node + 1) (parent_number shape node) (slice_index shape.node_rows node) (name_text_of (item_at query.items (slice_index shape.atoms node)).alias)
+
+-- the rows of the tables of all items, a table once for each item, and the rows of all nodes
+abbrev pub total_rows : Query → List Table → Shape → ℕ
+total_rows query tables shape = sum_of_all (row_counts query.items tables) + sum_of_all shape.node_rows
+
+abbrev pub total_line : Query → List Table → Shape → List ℕ
+total_line query tables shape = codes "total " ++ (decimal (total_rows query tables shape) ++ codes "\n")
+
+-- a line for each node, in order, and the total
+abbrev pub report_of : Query → List Table → Shape → List ℕ
+report_of query tables shape = flat_map (node_line query shape) (range_with_len 0 (length shape.atoms)) ++ total_line query tables shape

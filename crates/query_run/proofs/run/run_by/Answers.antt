@@ -1,0 +1,76 @@
+use Rattle.std.proofs.Common.{◌≡◌, ◌≤◌, ◌+◌, ◌*◌, Err, rules, length, subst, sym, ◌∙◌}
+use Rattle.anyk_part.specs.Bounds.{row_count}
+use Rattle.tdp_core.specs.Solutions.{IsTreeRanking}
+use Rattle.tdp_core.specs.WellFormed.{IsTieFreeTree}
+use Rattle.anyk_model.specs.Ranking.{ranking_of}
+use Rattle.refusal_lines.specs.declared.refusal.Refusal.TheVariants as refusal
+use Rattle.ranking_print.proofs.Prints.{unprinted}
+use Rattle.query_run.proofs.Bounds.{answers-agree, called-by, early, rows-counted, started}
+use Rattle.query_run.proofs.run.run_by.Goals as goal
+
+pub returns-in_err-plan-clause-printed : goal.returns-in_err-plan-clause-printed
+returns-in_err-plan-clause-printed g c =
+    let e : c.from_residual.result ≡ Err refusal.NoMemory = search rules in
+    rw e (unprinted _ _ _)
+
+pub returns-in_err-plan-clause-bounded : goal.returns-in_err-plan-clause-bounded
+returns-in_err-plan-clause-bounded g c shape has =
+    early g.R.Rank.KEYS g.R.Rank.key c.args.query.now.query c.args.tables.now c.requires.some shape _ _ _ c.plan_of.ensures.cost
+
+pub returns-in_err-plan-clause-prompt : goal.returns-in_err-plan-clause-prompt
+returns-in_err-plan-clause-prompt g c shape has start part is_old is_new =
+    early g.R.Rank.KEYS g.R.Rank.key c.args.query.now.query c.args.tables.now c.requires.some shape _ _ _ c.plan_of.ensures.cost
+
+pub returns-in_err-part-clause-printed : goal.returns-in_err-part-clause-printed
+returns-in_err-part-clause-printed g c =
+    let e : c.from_residual-in_err-part.result ≡ Err refusal.NoMemory = search rules in
+    rw e (unprinted _ _ _)
+
+pub returns-in_err-part-clause-bounded : goal.returns-in_err-part-clause-bounded
+returns-in_err-part-clause-bounded g c shape has =
+    let plan = c.in_ok-plan.ensures.plan in
+    let query = c.args.query.now.query in
+    let tables = c.args.tables.now in
+    let cost = subst (λ t. c.new.new.steps ≤ c.plan_of.new.steps + 16 * (length t * (1 + row_count t))) c.tree.ensures c.in_err-part.ensures.cost in
+    started g.R.Rank.KEYS g.R.Rank.key query tables c.requires.some shape c.in_ok-plan.plan plan.nodes (rows-counted g.R.Rank.KEYS g.R.Rank.key c.args.query.now tables c.in_ok-plan.plan plan shape has)
+    _ _ _ _ c.in_ok-plan.ensures.cost cost
+
+pub returns-in_err-part-clause-prompt : goal.returns-in_err-part-clause-prompt
+returns-in_err-part-clause-prompt g c shape has start part is_old is_new =
+    let plan = c.in_ok-plan.ensures.plan in
+    let query = c.args.query.now.query in
+    let tables = c.args.tables.now in
+    let cost = subst (λ t. c.new.new.steps ≤ c.plan_of.new.steps + 16 * (length t * (1 + row_count t))) c.tree.ensures c.in_err-part.ensures.cost in
+    started g.R.Rank.KEYS g.R.Rank.key query tables c.requires.some shape c.in_ok-plan.plan plan.nodes (rows-counted g.R.Rank.KEYS g.R.Rank.key c.args.query.now tables c.in_ok-plan.plan plan shape has)
+    _ _ _ _ c.in_ok-plan.ensures.cost cost
+
+pub new-requires : goal.new-requires
+new-requires g c = record { tie_free = subst (λ t. IsTieFreeTree t) (sym c.tree.ensures) c.in_ok-plan.ensures.plan.tie_free }
+
+pub print_ranking-requires-clause-rest : goal.print_ranking-requires-clause-rest
+print_ranking-requires-clause-rest g c =
+    let query = c.args.query.now.query in
+    let tables = c.args.tables.now in
+    let found = c.in_ok-part.ensures.ranking in
+    let of_plan = subst (λ t. IsTreeRanking t g.R.Rank.KEYS g.R.Rank.key found.0) c.tree.ensures found.1 in
+    found.2 ∙ answers-agree g.R.Rank.KEYS query tables (ranking_of query tables) found.0 (c.in_ok-plan.ensures.plan.ranking found.0 of_plan)
+
+pub returns-clause-bounded : goal.returns-clause-bounded
+returns-clause-bounded g c shape has =
+    let plan = c.in_ok-plan.ensures.plan in
+    let query = c.args.query.now.query in
+    let tables = c.args.tables.now in
+    let cost = subst (λ t. c.new.new.steps ≤ c.plan_of.new.steps + 16 * (length t * (1 + row_count t))) c.tree.ensures c.in_ok-part.ensures.cost in
+    called-by g.R.Rank.KEYS g.R.Rank.key query tables c.requires.some shape c.in_ok-plan.plan plan.nodes (rows-counted g.R.Rank.KEYS g.R.Rank.key c.args.query.now tables c.in_ok-plan.plan plan shape has)
+    c.in_ok-part.part.tree c.in_ok-part.part.calls (c.in_ok-part.ensures.tree ∙ c.tree.ensures) c.in_ok-part.ensures.calls
+    _ _ _ _ _ c.in_ok-plan.ensures.cost cost c.print_ranking.ensures.bounded
+
+pub returns-clause-prompt : goal.returns-clause-prompt
+returns-clause-prompt g c shape has start part is_old is_new =
+    let plan = c.in_ok-plan.ensures.plan in
+    let query = c.args.query.now.query in
+    let tables = c.args.tables.now in
+    let cost = subst (λ t. c.new.new.steps ≤ c.plan_of.new.steps + 16 * (length t * (1 + row_count t))) c.tree.ensures c.in_ok-part.ensures.cost in
+    called-by g.R.Rank.KEYS g.R.Rank.key query tables c.requires.some shape c.in_ok-plan.plan plan.nodes (rows-counted g.R.Rank.KEYS g.R.Rank.key c.args.query.now tables c.in_ok-plan.plan plan shape has)
+    c.in_ok-part.part.tree c.in_ok-part.part.calls (c.in_ok-part.ensures.tree ∙ c.tree.ensures) c.in_ok-part.ensures.calls
+    _ _ _ _ _ c.in_ok-plan.ensures.cost cost (c.print_ranking.ensures.prompt start part is_old is_new)

@@ -1,0 +1,66 @@
+-- The tree that the tests build: three nodes, each below the one before.
+use Rattle.std.proofs.Common.{◌≡◌, ℕ, zero, suc, ◌+◌, ◌^◌, ◌<◌, cond, nat_lt, List, [], ◌∷◌, get_or, refl, sym, ◌∙◌, arith}
+use Rattle.std.proofs.lemmas.Bool.Decides.{nat_tests}
+use Rattle.tdp_model.specs.TreeProblem.{sum_from}
+use Rattle.tdp_core.specs.declared.parts.NodeShape.{NodeShape}
+use Rattle.tdp_core.specs.RawData.{AreShapes, shape_item, shape_parent, shape_cap, shape_children}
+use Rattle.tdp_core.specs.TreeData.{kids_below}
+
+abbrev pub no_caps : List ℕ
+no_caps = 0 ∷ 0 ∷ 0 ∷ 0 ∷ 0 ∷ 0 ∷ 0 ∷ 0 ∷ []
+
+abbrev pub chain_shapes : List NodeShape
+chain_shapes = record { parent = 0; item = 0; caps = no_caps } ∷ record { parent = 0; item = 1; caps = no_caps } ∷ record { parent = 1; item = 2; caps = no_caps } ∷ []
+
+no-cap : (i : ℕ) → get_or no_caps i 0 ≡ 0
+no-cap zero = refl
+no-cap (suc zero) = refl
+no-cap (suc (suc zero)) = refl
+no-cap (suc (suc (suc zero))) = refl
+no-cap (suc (suc (suc (suc zero)))) = refl
+no-cap (suc (suc (suc (suc (suc zero))))) = refl
+no-cap (suc (suc (suc (suc (suc (suc zero)))))) = refl
+no-cap (suc (suc (suc (suc (suc (suc (suc zero))))))) = refl
+no-cap (suc (suc (suc (suc (suc (suc (suc (suc i)))))))) = refl
+
+capped : (i n : ℕ) → n ≡ 0 → cond {A = ℕ} (nat_lt i 8) n 0 ≡ 0
+capped i n e = grind (arith, nat_tests)
+
+item-is : (v : ℕ) → v < 3 → shape_item chain_shapes v ≡ v
+item-is zero h = refl
+item-is (suc zero) h = refl
+item-is (suc (suc zero)) h = refl
+item-is (suc (suc (suc v))) h = absurd (omega arith)
+
+parent-less : (q : ℕ) → 0 < q → q < 3 → shape_parent chain_shapes q < q
+parent-less zero some h = absurd (omega arith)
+parent-less (suc zero) some h = omega arith
+parent-less (suc (suc zero)) some h = omega arith
+parent-less (suc (suc (suc q))) some h = absurd (omega arith)
+
+caps-few : (i : ℕ) → sum_from ◌+◌ 0 (λ v. shape_cap chain_shapes v i) 3 0 < 2 ^ 127
+unfolding sum_from
+caps-few i = omega (arith, capped i (get_or no_caps i 0) (no-cap i))
+
+pub chain-shaped : AreShapes chain_shapes
+chain-shaped = record {
+  some_node = omega arith;
+  few_nodes = omega arith;
+  root = refl;
+  parents_first = parent-less;
+  items = λ v h. omega (arith, h, item-is v h);
+  items_apart = λ u v hu hv e. sym (item-is u hu) ∙ e ∙ item-is v hv;
+  caps_fit = caps-few;
+}
+
+pub first-children : shape_children chain_shapes 0 ≡ 1
+unfolding kids_below
+first-children = refl
+
+pub second-children : shape_children chain_shapes 1 ≡ 1
+unfolding kids_below
+second-children = refl
+
+pub third-children : shape_children chain_shapes 2 ≡ 0
+unfolding kids_below
+third-children = refl

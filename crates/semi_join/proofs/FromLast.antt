@@ -1,0 +1,70 @@
+-- The last nodes, from the last one back.
+use Rattle.std.proofs.Common.{◌≡◌, ℕ, zero, suc, ◌+◌, ◌-◌, ◌*◌, ◌<◌, ◌≤◌, List, [], ◌∷◌, length, get_or, drop, sum_by, sym, ap, subst, ◌∙◌, arith}
+use Rattle.std.proofs.Math.Nat.{mul-le-mul_left}
+use Rattle.std.proofs.lemmas.List.Sums.{sum_by-cons}
+use Rattle.tdp_core.specs.RawData.{RawData}
+use Rattle.tdp_core.specs.TreeData.{NodeData}
+use Rattle.semi_join.specs.Reduction.{AreFew, IsReducedNode, group_links}
+
+module _ {R : Type 0} (raw : RawData R) where
+  -- the links of the groups of each of the last n nodes
+  abbrev pub links_last : ℕ → List (List ℕ)
+  links_last zero = []
+  links_last (suc n) = group_links raw (length raw.shapes - suc n) (links_last n) ∷ links_last n
+
+  -- the parts are those of the last n nodes
+  pub record AreReducedLast (n : ℕ) (parts : List (NodeData R)) : Type 0 where
+    pub size : length parts ≡ n
+    pub node : (k : ℕ) (part : NodeData R) → k < n → part ≡ get_or parts k part → IsReducedNode raw (length raw.shapes - n + k) (links_last (n - suc k)) part
+
+pub rows-more : {X : Type 0} (rows : List (List X)) (v : ℕ) → v < length rows → sum_by length (drop v rows) ≡ length (get_or rows v []) + sum_by length (drop (suc v) rows)
+rows-more [] v h = absurd (omega arith)
+rows-more (n ∷ rows) zero h = sum_by-cons length n rows
+rows-more (n ∷ rows) (suc v) h = let less : v < length rows = omega arith in rows-more rows v less
+
+module _ {R : Type 0} (raw : RawData R) where
+  pub from-more : (n v : ℕ) (part : NodeData R) (parts : List (NodeData R)) → v + suc n ≡ length raw.shapes → AreReducedLast raw n parts → IsReducedNode raw v (links_last raw n) part → AreReducedLast raw (suc n) (part ∷ parts)
+  from-more n v part parts s later here = record {
+    size = ap suc later.size;
+    node = at;
+  }
+    where
+      at : (k : ℕ) (p : NodeData R) → k < suc n → p ≡ get_or (part ∷ parts) k p → IsReducedNode raw (length raw.shapes - suc n + k) (links_last raw (suc n - suc k)) p
+      at zero p h e =
+          let one : v ≡ length raw.shapes - suc n + 0 = omega arith in
+          let two : n ≡ suc n - 1 = omega arith in
+          subst (λ u. IsReducedNode raw u (links_last raw (suc n - 1)) p) one (subst (λ l. IsReducedNode raw v (links_last raw l) p) two (subst (IsReducedNode raw v (links_last raw n)) (sym e) here))
+      at (suc k) p h e =
+          let less : k < n = omega arith in
+          let one : length raw.shapes - n + k ≡ length raw.shapes - suc n + suc k = omega arith in
+          let two : n - suc k ≡ suc n - suc (suc k) = omega arith in
+          subst (λ u. IsReducedNode raw u (links_last raw (suc n - suc (suc k))) p) one (subst (λ l. IsReducedNode raw (length raw.shapes - n + k) (links_last raw l) p) two (later.node k p less e))
+
+  pub links-more : (n v : ℕ) (links : List ℕ) (later : List (List ℕ)) → v + suc n ≡ length raw.shapes → later ≡ links_last raw n → links ≡ group_links raw v later → (links ∷ later) ≡ links_last raw (suc n)
+  links-more n v links later s e k =
+      let one : length raw.shapes - suc n ≡ v = omega arith in
+      ap (λ l. links ∷ l) e ∙ ap (λ x. x ∷ links_last raw n) (k ∙ ap (group_links raw v) e ∙ ap (λ u. group_links raw u (links_last raw n)) (sym one))
+
+pub few-more : (links : List ℕ) (later : List (List ℕ)) → length links ≤ 4194304 → AreFew later → AreFew (links ∷ later)
+few-more links later h few = at
+  where
+    at : (k : ℕ) (d : List ℕ) → k < length (links ∷ later) → length (get_or (links ∷ later) k d) ≤ 4194304
+    at zero d l = h
+    at (suc k) d l = let less : k < length later = omega arith in few k d less
+
+pub rows-all : {X : Type 0} (rows : List (List X)) (v : ℕ) → sum_by length (drop v rows) ≤ sum_by length rows
+rows-all [] zero = omega arith
+rows-all [] (suc v) = omega arith
+rows-all (n ∷ rows) zero = omega arith
+rows-all (n ∷ rows) (suc v) = omega (arith, rows-all rows v, sum_by-cons length n rows)
+
+-- the steps of one more node
+pub steps-more : {X : Type 0} (rows : List (List X)) (v node m start s0 s1 : ℕ) → v < length rows → node ≡ suc v → s0 ≤ start + sum_by length (drop node rows) * m → s1 ≤ s0 + length (get_or rows v []) * m
+    → s1 ≤ start + sum_by length (drop v rows) * m
+steps-more rows v node m start s0 s1 less is before one =
+    let more = ap (λ x. x * m) (rows-more rows v less ∙ ap (λ k. length (get_or rows v []) + sum_by length (drop k rows)) (sym is)) in
+    omega (arith, more, before, one)
+
+-- and they are few
+pub steps-few : {X : Type 0} (rows : List (List X)) (v m start s : ℕ) → s ≤ start + sum_by length (drop v rows) * m → s ≤ start + 2 * m * (1 + sum_by length rows)
+steps-few rows v m start s h = let most = mul-le-mul_left m (rows-all rows v) in omega (arith, h, most)

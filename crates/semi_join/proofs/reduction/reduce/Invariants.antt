@@ -1,0 +1,14 @@
+use Rattle.std.proofs.Common.{◌≡◌, ◌≤◌, ◌+◌, ◌-◌, ◌*◌, map, length, drop, sum_by}
+use Rattle.tdp_core.specs.TreeData.{node_data}
+use Rattle.semi_join.specs.Reduction.{AreFew, links_of}
+use Rattle.semi_join.proofs.FromLast.{AreReducedLast, links_last}
+use Rattle.semi_join.proofs.reduction.reduce.Given as goal
+
+abbrev pub invariant-loop-node : goal.invariant-loop-node
+invariant-loop-node g l = record {
+  reduced : AreReducedLast l.fn.raw (length l.fn.raw.shapes - l.node) (map node_data l.nodes.items);
+  links : map links_of l.later.items ≡ links_last l.fn.raw (length l.fn.raw.shapes - l.node);
+  few : AreFew (map links_of l.later.items);
+  count : l.node + length l.later.items ≡ length l.fn.raw.shapes;
+  counted : l.steps ≤ l.initial.steps + sum_by length (drop l.node l.fn.raw.rows) * length l.fn.raw.shapes;
+}

@@ -1,0 +1,3 @@
+pub mod Grouped
+pub mod Reduced
+pub mod Reduction

@@ -1,0 +1,78 @@
+-- What the bottom-up reduction of a raw tree computes, node by node.
+use Rattle.std.specs.Prelude.{◌≡◌, ℕ, suc, ◌-◌, ◌<◌, ◌≤◌, Bool, cond, nat_eq, List, [], ◌∷◌, ◌++◌, map, length, slice_index, slice_index_or, Some, IsPermutation, All}
+use Rattle.std.specs.List.{filter, list_any, list_all, position_or_len, range_with_len, concat}
+use Rattle.std.specs.declared.vec.Vec.{Vec}
+use Rattle.indexmap.specs.IndexSet.{IndexSet, insert_all}
+use Rattle.tdp_core.specs.RawData.{RawData, shape_at, shape_parent, raw_len, raw_row_at, own_link, child_link}
+use Rattle.tdp_core.specs.TreeData.{NodeData}
+
+-- # Groups of one node
+
+-- the links of a set, in its order
+abbrev pub links_of : {S : Type 0} → IndexSet ℕ S → List ℕ
+links_of s = s.keys
+
+-- no node has more groups than a tree has rows
+abbrev pub AreFew : List (List ℕ) → Type 0
+AreFew = All (λ links. length links ≤ 4194304)
+
+-- The rows with one own link make one group, and each row stands in its group once. `owns` has the own link of each row, and
+-- `links` that of each group.
+pub record IsGrouping (owns links : List ℕ) (groups : List (List ℕ)) : Type 0 where
+  pub size : length groups ≡ length links
+  pub distinct : (i j : ℕ) → i < length links → j < length links → slice_index links i ≡ slice_index links j → i ≡ j
+  pub spread : IsPermutation (range_with_len 0 (length owns)) (concat groups)
+  pub inhabited : (g : ℕ) → g < length groups → 0 < length (slice_index_or groups g [])
+  pub members : (g j : ℕ) → g < length groups → j < length (slice_index_or groups g []) → slice_index (slice_index_or groups g []) j < length owns
+  pub same : (g j : ℕ) → g < length groups → j < length (slice_index_or groups g []) → slice_index owns (slice_index (slice_index_or groups g []) j) ≡ slice_index links g
+  pub few : length links ≤ length owns
+
+-- what puts one more row with this link, at this place, after the rows that stand in groups
+abbrev pub GroupsOneMore : ℕ → ℕ → List ℕ → List (List ℕ) → List ℕ → List (List ℕ) → Type 0
+GroupsOneMore own place links groups new_links new_groups =
+    (owns : List ℕ) → length owns ≡ place → IsGrouping owns links groups → IsGrouping (owns ++ own ∷ []) new_links new_groups
+
+-- the members of each group
+abbrev pub members_of : {Z : Type 0} → List (Vec ℕ Z) → List (List ℕ)
+members_of groups = map (λ g. g.items) groups
+
+-- # The rows of one node
+
+module _ {R : Type 0} (raw : RawData R) (v : ℕ) where
+  -- the children of v
+  abbrev pub child_nodes : List ℕ
+  child_nodes = filter (λ u. nat_eq (shape_parent raw.shapes u) v) (range_with_len (suc v) (length raw.shapes - suc v))
+
+  -- the link by which a row is put into its group: its own link, and at the root 0
+  abbrev pub group_link : ℕ → ℕ
+  group_link i = cond (nat_eq v 0) 0 (own_link raw v i)
+
+-- `later` has, for each node after v, the link of each of its groups
+module _ {R : Type 0} (raw : RawData R) (v : ℕ) (later : List (List ℕ)) where
+  -- the links of the groups of child number c
+  abbrev pub child_links : ℕ → List ℕ
+  child_links c = slice_index_or later (slice_index (child_nodes raw v) c - v - 1) []
+
+  -- for each child there is a group that row i names
+  abbrev pub has_partners : ℕ → Bool
+  has_partners i = list_all (λ c. list_any (nat_eq (child_link raw v i c)) (child_links c)) (range_with_len 0 (length (child_nodes raw v)))
+
+  -- the numbers of these groups
+  abbrev pub groups_named : ℕ → List ℕ
+  groups_named i = map (λ c. position_or_len (nat_eq (child_link raw v i c)) (child_links c)) (range_with_len 0 (length (child_nodes raw v)))
+
+  -- the rows that stay
+  abbrev pub kept_rows : List ℕ
+  kept_rows = filter has_partners (range_with_len 0 (raw_len raw v))
+
+  -- the links of the groups of v
+  abbrev pub group_links : List ℕ
+  group_links = insert_all nat_eq [] (map (group_link raw v) kept_rows)
+
+  -- the parts of v
+  pub record IsReducedNode (part : NodeData R) : Type 0 where
+    pub shape : part.shape ≡ shape_at raw.shapes v
+    pub rows : map Some part.rows ≡ map (raw_row_at raw v) kept_rows
+    pub to_child : part.to_child ≡ map groups_named kept_rows
+    pub grouping : IsGrouping (map (group_link raw v) kept_rows) group_links part.groups
+    pub best : part.best ≡ []

@@ -1,0 +1,14 @@
+//! Bottom-up reduction of a tree problem to the rows that extend to a solution of their subtree.
+//!
+//! This is the bottom-up half of the semi-join program of Yannakakis, "Algorithms for Acyclic Database
+//! Schemes", VLDB 1981: a row goes where for some child of its node no row that is left has the link
+//! that it names.
+#![tactic(auto)]
+
+mod node;
+mod reduction;
+
+pub use reduction::{Reduced, reduce};
+
+#[cfg(test)]
+mod tests;

@@ -1,0 +1,39 @@
+ghost use Rattle.std.specs.Prelude.{◌+◌, ◌*◌, ◌≤◌, length, IfOk};
+ghost use Rattle.tdp_core.specs.RawData.{row_total};
+ghost use Rattle.tdp_core.specs.TreeData.{tree_data};
+ghost use Rattle.semi_join.specs.Reduced.{IsReduced};
+
+use crate::node::reduce_node;
+use indexmap::IndexSet;
+use rank_key::Rank;
+use std::alloc::Global;
+use std::sync::ledger::Ledger;
+use step_counter::{NoMemory, Steps};
+use tdp_core::{NodeParts, RawTree};
+
+/// Parts of a tree whose rows all extend to a solution of their subtree, with the rows of each node in
+/// groups. No row's least rank is known yet, and the groups have no order.
+#[derive(Drop)]
+pub struct Reduced<R> {
+    pub nodes: Vec<NodeParts<R>>,
+}
+
+/// Takes out the rows that extend to no solution of their subtree, from the last node up to the root,
+/// and puts those that stay into groups. A look-up or an insertion in an index takes one step.
+pub fn reduce<R: Rank, L: Ledger>(
+    alloc: Global,
+    raw: RawTree<R>,
+    steps: &mut Steps<L>,
+) -> Result<Reduced<R>, NoMemory>
+    ensures reduced { IfOk result (λ reduced. IsReduced R.KEYS R.key raw (tree_data reduced.nodes.items)) }
+    ensures cost { steps.new ≤ steps.old + 2 * length raw.shapes * (1 + row_total raw) }
+{
+    let mut nodes = Vec::new(alloc);
+    let mut later: Vec<IndexSet<u32>> = Vec::new(alloc);
+    for node in (0..raw.nodes()).rev() {
+        let grouped = reduce_node(alloc, &raw, node, &later, steps)?;
+        nodes.insert(0, grouped.parts)?;
+        later.insert(0, grouped.links)?;
+    }
+    Ok(Reduced { nodes })
+}

@@ -1,0 +1,5 @@
+pub mod Left
+pub mod Moves
+pub mod Names
+pub mod Follows
+pub mod Steps

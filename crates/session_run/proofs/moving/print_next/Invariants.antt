@@ -1,0 +1,26 @@
+use Rattle.std.proofs.Common.{◌≡◌, ◌+◌, ◌-◌, ◌≤◌, ◌++◌, Some, length, drop}
+use Rattle.std.specs.Prelude.{codes, slice_set}
+use Rattle.anyk_model.specs.Output.{cut, line_text}
+use Rattle.anyk_model.specs.Ranking.{ranking_of}
+use Rattle.answer_print.specs.Shown.{style_shown}
+use Rattle.cursor_set.specs.CursorSet.{place_of}
+use Rattle.verdict.specs.Session.{next_text, with_name}
+use Rattle.session_run.proofs.Left.{HasLeft}
+use Rattle.session_run.proofs.moving.print_next.Given as goal
+
+abbrev pub invariant-loop-given : goal.invariant-loop-given
+invariant-loop-given g l =
+    let members = cut l.query.query.limit (ranking_of l.query.query l.tables) in
+    let line = line_text l.query.query l.tables (with_name (style_shown l.style) l.initial.cursor.name.now) in
+    let ending = l.initial.cursor.name.now ++ codes "\n" in
+    let start = l.initial.cursor.place in
+    record {
+      place : l.cursor.place ≡ start + l._given;
+      name : l.cursor.name.now ≡ l.initial.cursor.name.now;
+      within : l._given ≤ length (drop start members);
+      answers : l.set.answers ≡ l.initial.set.answers;
+      places : l.set.places ≡ slice_set l.initial.set.places l.id.number (Some l.cursor.place);
+      here : place_of l.set l.id.number ≡ Some l.cursor.place;
+      left : HasLeft (next_text line ending (drop start members) l.count) (next_text line ending (drop (start + l._given) members) (l.count - l._given))
+          (g.S.Sink.written l.initial.out) (g.S.Sink.written l.out) (g.S.Sink.faults l.initial.out) (g.S.Sink.faults l.out);
+    }

@@ -1,0 +1,8 @@
+//! A session: what the steps of a script print of a query's ranking, over cursors that share one engine of ranked enumeration.
+#![tactic(auto)]
+
+mod moving;
+mod open_cursors;
+mod session;
+
+pub use session::print_session;

@@ -1,0 +1,181 @@
+//! A session, step by step.
+ghost use Rattle.std.specs.Prelude.{◌≡◌, [], IsSome, None, OnOk, map, option_map, replicate};
+ghost use Rattle.anyk_model.specs.Output.{cut, line_text};
+ghost use Rattle.anyk_model.specs.Ranking.{ranking_of};
+ghost use Rattle.answer_print.specs.Shown.{style_shown};
+ghost use Rattle.query_bind.specs.Weighed.{Fits};
+ghost use Rattle.ranking_print.specs.Printed.{Printed};
+ghost use Rattle.session_script.specs.declared.step.Step.TheVariants.{Next};
+ghost use Rattle.session_script.specs.Script.{KeepsRules};
+ghost use Rattle.verdict.specs.Session.{Places, no_cursors, places_after, session_text, step_text, steps_text, with_name};
+ghost use Rattle.witness_key.specs.WitnessKey.{answers_of_ranking};
+ghost use Rattle.session_run.specs.Held.{IsHeld};
+ghost use Rattle.session_run.specs.Rules.{CanFollow, CanStep};
+
+use crate::moving::print_next;
+use crate::open_cursors::{OpenCursors, close, fork, number_of, open, rewind};
+use answer_print::Style;
+use csv_tables::Tables;
+use cursor_set::{CursorId, Cursors, MOST_OPEN};
+use outer_io::Sink;
+use query_bind::Query;
+use ranking_print::print_header;
+use refusal_lines::Refusal;
+use session_script::Step;
+use std::alloc::Global;
+use std::sync::ledger::Ledger;
+use step_counter::Steps;
+use tdp_core::Ranked;
+
+/// Prints the header with the title of the cursors' names, and then what the steps of the script print of the answers that the
+/// engine gives, as far as the limit allows. `NoMemory` where memory is refused, and `WriteFault` where a write failed.
+pub fn print_session<'a, E: Ranked + Drop, S: Sink, L: Ledger>(
+    alloc: Global,
+    query: &Query,
+    tables: &Tables,
+    style: &Style<'_>,
+    engine: E,
+    script: &[Step],
+    out: &mut S,
+    steps: &mut Steps<L>,
+) -> Result<(), Refusal<'a>>
+    requires fits { Fits query.now tables.now }
+    requires rest { E.rest engine ≡ answers_of_ranking E.Key.KEYS query.now.query tables.now (ranking_of query.now.query tables.now) }
+    requires rules { KeepsRules [] script.now }
+    ensures { Printed (S.written out.old) (S.written out.new) (S.faults out.old) (S.faults out.new)
+        (session_text query.now.query tables.now (style_shown style.now) (cut query.now.query.limit (ranking_of query.now.query tables.now)) script.now) result }
+{
+    let titled = Style {
+        ranks: style.ranks,
+        rows: style.rows,
+        cursor: Some(b""),
+    };
+    print_header(alloc, query, tables, &titled, out)?;
+    let mut set = Cursors::new(alloc, engine);
+    print_steps(alloc, query, tables, style, &mut set, script, out, steps)
+}
+
+// What the steps print, over a set without an open cursor.
+fn print_steps<'a, E: Ranked, S: Sink, L: Ledger>(
+    alloc: Global,
+    query: &Query,
+    tables: &Tables,
+    style: &Style<'_>,
+    set: &mut Cursors<E>,
+    script: &[Step],
+    out: &mut S,
+    steps: &mut Steps<L>,
+) -> Result<(), Refusal<'a>>
+    requires fits { Fits query.now tables.now }
+    requires answers { set.old.answers ≡ answers_of_ranking E.Key.KEYS query.now.query tables.now (ranking_of query.now.query tables.now) }
+    requires places { set.old.places ≡ replicate 64 None }
+    requires rules { KeepsRules [] script.now }
+    ensures { Printed (S.written out.old) (S.written out.new) (S.faults out.old) (S.faults out.new)
+        (steps_text (λ name. line_text query.now.query tables.now (with_name (style_shown style.now) name))
+        (cut query.now.query.limit (ranking_of query.now.query tables.now)) no_cursors script.now) result }
+{
+    let mut cursors = [None; MOST_OPEN];
+    for step in script {
+        take_step(
+            alloc,
+            query,
+            tables,
+            style,
+            set,
+            &mut cursors,
+            step,
+            out,
+            steps,
+        )?;
+    }
+    Ok(())
+}
+
+fn take_step<'a, 's, E: Ranked, S: Sink, L: Ledger>(
+    alloc: Global,
+    query: &Query,
+    tables: &Tables,
+    style: &Style<'_>,
+    set: &mut Cursors<E>,
+    cursors: &mut OpenCursors<'s>,
+    step: &'s Step,
+    out: &mut S,
+    steps: &mut Steps<L>,
+) -> Result<(), Refusal<'a>>
+    requires fits { Fits query.now tables.now }
+    requires answers { set.old.answers ≡ answers_of_ranking E.Key.KEYS query.now.query tables.now (ranking_of query.now.query tables.now) }
+    requires same { set.old.places ≡ map (option_map (λ cursor. cursor.place)) cursors.old }
+    ensures printed { (places : Places) → IsHeld set.old cursors.old places → CanStep places step.now
+        → Printed (S.written out.old) (S.written out.new) (S.faults out.old) (S.faults out.new)
+        (step_text (λ name. line_text query.now.query tables.now (with_name (style_shown style.now) name))
+        (cut query.now.query.limit (ranking_of query.now.query tables.now)) places step.now) result }
+    ensures held { (places : Places) → IsHeld set.old cursors.old places → CanStep places step.now
+        → OnOk result (IsHeld set.new cursors.new (places_after (cut query.now.query.limit (ranking_of query.now.query tables.now)) places step.now)) }
+    ensures kept { OnOk result (set.new.answers ≡ set.old.answers) }
+{
+    match step {
+        Step::Open(name) => open(set, cursors, name.bytes()),
+        Step::Next(name, count) => take_next(
+            alloc,
+            query,
+            tables,
+            style,
+            set,
+            cursors,
+            name.bytes(),
+            *count,
+            out,
+            steps,
+        ),
+        Step::Fork(name, new) => fork(set, cursors, name.bytes(), new.bytes()),
+        Step::Rewind(name) => rewind(set, cursors, name.bytes()),
+        Step::Close(name) => close(set, cursors, name.bytes()),
+    }
+}
+
+// The step `next` of the cursor of this name.
+fn take_next<'a, E: Ranked, S: Sink, L: Ledger>(
+    alloc: Global,
+    query: &Query,
+    tables: &Tables,
+    style: &Style<'_>,
+    set: &mut Cursors<E>,
+    cursors: &mut OpenCursors<'_>,
+    name: &[u8],
+    count: u64,
+    out: &mut S,
+    steps: &mut Steps<L>,
+) -> Result<(), Refusal<'a>>
+    requires fits { Fits query.now tables.now }
+    requires answers { set.old.answers ≡ answers_of_ranking E.Key.KEYS query.now.query tables.now (ranking_of query.now.query tables.now) }
+    requires same { set.old.places ≡ map (option_map (λ cursor. cursor.place)) cursors.old }
+    ensures printed { (places : Places) → IsHeld set.old cursors.old places → IsSome (places name.now)
+        → Printed (S.written out.old) (S.written out.new) (S.faults out.old) (S.faults out.new)
+        (step_text (λ name. line_text query.now.query tables.now (with_name (style_shown style.now) name))
+        (cut query.now.query.limit (ranking_of query.now.query tables.now)) places (Next name.now count)) result }
+    ensures held { (places : Places) → IsHeld set.old cursors.old places → IsSome (places name.now)
+        → OnOk result (IsHeld set.new cursors.new (places_after (cut query.now.query.limit (ranking_of query.now.query tables.now)) places (Next name.now count))) }
+    ensures kept { OnOk result (set.new.answers ≡ set.old.answers) }
+{
+    let Some(number) = number_of(cursors, name) else {
+        return Ok(());
+    };
+    let Some(mut cursor) = cursors[number] else {
+        return Ok(());
+    };
+    let id = CursorId { number };
+    print_next(
+        alloc,
+        query,
+        tables,
+        style,
+        set,
+        id,
+        &mut cursor,
+        count,
+        out,
+        steps,
+    )?;
+    cursors[number] = Some(cursor);
+    Ok(())
+}

@@ -1,0 +1,13 @@
+pub mod Copies
+pub mod Entries
+pub mod FirstParts
+pub mod FirstWalk
+pub mod Forms
+pub mod Grouping
+pub mod LaterNodes
+pub mod NodeReads
+pub mod NodeSolved
+pub mod RankingHead
+pub mod Reordered
+pub mod RowTotals
+pub mod SampleFacts

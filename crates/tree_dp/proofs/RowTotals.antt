@@ -1,0 +1,31 @@
+-- Sums over the last nodes.
+use Rattle.std.proofs.Common.{◌≡◌, ℕ, zero, suc, ◌+◌, ◌-◌, ◌<◌, ◌≤◌, ap, ◌∙◌, arith}
+use Rattle.tdp_model.specs.TreeProblem.{sum_from}
+
+-- the sum over the nodes from v on, of m nodes
+abbrev pub total_from : (ℕ → ℕ) → ℕ → ℕ → ℕ
+total_from f m v = sum_from ◌+◌ 0 f (m - v) v
+
+pub total_from-before : (f : ℕ → ℕ) (m v : ℕ) → 0 < v → v ≤ m → total_from f m (v - 1) ≡ f (v - 1) + total_from f m v
+unfolding sum_from
+total_from-before f m v some l =
+    let more : m - (v - 1) ≡ suc (m - v) = omega arith in
+    let back : suc (v - 1) ≡ v = omega arith in
+    ap (λ n. sum_from ◌+◌ 0 f n (v - 1)) more ∙ ap (λ q. f (v - 1) + sum_from ◌+◌ 0 f (m - v) q) back
+
+sum_rest : (f : ℕ → ℕ) (n k q : ℕ) → sum_from ◌+◌ 0 f n (q + k) ≤ sum_from ◌+◌ 0 f (n + k) q
+unfolding sum_from
+sum_rest f n zero q =
+    let same : q + 0 ≡ q = omega arith in
+    let all : n + 0 ≡ n = omega arith in
+    omega (arith, ap (sum_from ◌+◌ 0 f n) same, ap (λ k. sum_from ◌+◌ 0 f k q) all)
+sum_rest f n (suc k) q =
+    let place : q + suc k ≡ suc q + k = omega arith in
+    let more : n + suc k ≡ suc (n + k) = omega arith in
+    omega (arith, ap (sum_from ◌+◌ 0 f n) place, ap (λ j. sum_from ◌+◌ 0 f j q) more, sum_rest f n k (suc q))
+
+pub total_from-most : (f : ℕ → ℕ) (m v : ℕ) → v ≤ m → total_from f m v ≤ sum_from ◌+◌ 0 f m 0
+total_from-most f m v l =
+    let place : 0 + v ≡ v = omega arith in
+    let whole : (m - v) + v ≡ m = omega arith in
+    omega (arith, sum_rest f (m - v) v 0, ap (sum_from ◌+◌ 0 f (m - v)) place, ap (λ n. sum_from ◌+◌ 0 f n 0) whole)

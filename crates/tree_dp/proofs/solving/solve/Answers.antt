@@ -1,0 +1,40 @@
+use Rattle.std.proofs.Common.{◌≡◌, ℕ, length, sym, ap, ◌∙◌, subst}
+use Rattle.std.proofs.lemmas.List.{length-map}
+use Rattle.tdp_core.specs.TreeData.{node_data, tree_data, node_at}
+use Rattle.tdp_core.specs.WellFormed.{IsFormed}
+use Rattle.tree_dp.specs.Progress.{IsLaidOut}
+use Rattle.tree_dp.specs.Solved.{IsReordered, IsSolved}
+use Rattle.tree_dp.proofs.Forms.{laid_out, formed}
+use Rattle.tree_dp.proofs.Grouping.{items-written}
+use Rattle.tree_dp.proofs.Reordered.{layout-kept, solved-of}
+use Rattle.tree_dp.proofs.solving.solve.Goals as goal
+
+pub solve_nodes-requires : goal.solve_nodes-requires
+solve_nodes-requires g c =
+    subst (λ ns. IsLaidOut g.R.Rank.KEYS g.R.Rank.key (tree_data ns)) (sym c.as_mut_slice.ensures.value)
+    (laid_out g.R.Rank.KEYS g.R.Rank.key (tree_data c.args.reduced.nodes.items) c.requires)
+
+pub from_parts-requires : goal.from_parts-requires
+from_parts-requires g c =
+    let d = g.R.Rank.KEYS in
+    let key = g.R.Rank.key in
+    let items = c.args.reduced.nodes.items in
+    let new = c.solve_nodes.new.nodes in
+    let long : length new ≡ length items = c.solve_nodes.auto.nodes ∙ ap length c.as_mut_slice.ensures.value in
+    let count : length (tree_data new) ≡ length (tree_data items) = length-map new node_data ∙ long ∙ sym (length-map items node_data) in
+    let nodes : (v : ℕ) → IsReordered (node_at (tree_data items) v) (node_at (tree_data new) v) =
+    subst (λ ns. (v : ℕ) → IsReordered (node_at (tree_data ns) v) (node_at (tree_data new) v)) c.as_mut_slice.ensures.value c.in_ok-solve_nodes.ensures.reordered
+    in
+    subst (λ ns. IsFormed d key (tree_data ns)) (sym (items-written c.args.reduced.nodes new long))
+    (formed d key (tree_data new) (layout-kept (tree_data items) (tree_data new) nodes d key count (laid_out d key (tree_data items) c.requires)) c.in_ok-solve_nodes.ensures.solved)
+
+pub returns-clause-solved : goal.returns-clause-solved
+returns-clause-solved g c =
+    let items = c.args.reduced.nodes.items in
+    let new = c.solve_nodes.new.nodes in
+    let long : length new ≡ length items = c.solve_nodes.auto.nodes ∙ ap length c.as_mut_slice.ensures.value in
+    let count : length (tree_data new) ≡ length (tree_data items) = length-map new node_data ∙ long ∙ sym (length-map items node_data) in
+    let nodes : (v : ℕ) → IsReordered (node_at (tree_data items) v) (node_at (tree_data new) v) =
+    subst (λ ns. (v : ℕ) → IsReordered (node_at (tree_data ns) v) (node_at (tree_data new) v)) c.as_mut_slice.ensures.value c.in_ok-solve_nodes.ensures.reordered
+    in
+    subst (IsSolved (tree_data items)) (sym (c.from_parts.ensures ∙ ap tree_data (items-written c.args.reduced.nodes new long))) (solved-of (tree_data items) (tree_data new) count nodes)

@@ -1,0 +1,15 @@
+use Rattle.std.proofs.Common.{ℕ, ◌+◌, ◌-◌, ◌*◌, ◌≤◌, length}
+use Rattle.tdp_model.specs.TreeProblem.{sum_from}
+use Rattle.tdp_core.specs.TreeData.{tree_data, node_at, rows}
+use Rattle.tree_dp.specs.Progress.{IsSolvedFrom}
+use Rattle.tree_dp.specs.Solved.{IsReordered}
+use Rattle.tree_dp.proofs.solving.solve_nodes.Given as goal
+
+abbrev pub invariant-loop-node : goal.invariant-loop-node
+invariant-loop-node g l =
+    let before = tree_data l.initial.nodes in
+    record {
+      reordered : (v : ℕ) → IsReordered (node_at before v) (node_at (tree_data l.nodes) v);
+      solved : IsSolvedFrom g.R.Rank.KEYS g.R.Rank.key (tree_data l.nodes) l.node;
+      counted : l.steps ≤ l.initial.steps + sum_from ◌+◌ 0 (rows before) (length before - l.node) l.node * (length l.initial.nodes + 2);
+    }

@@ -1,0 +1,4 @@
+pub mod Orders
+pub mod Progress
+pub mod SampleTrees
+pub mod Solved

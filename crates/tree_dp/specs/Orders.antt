@@ -1,0 +1,20 @@
+-- Groups of rows and the keys of a node's rows.
+use Rattle.std.specs.Prelude.{ℕ, ◌-◌, ◌/◌, ◌<◌, List, map, length, slice_index, slice_index_or}
+use Rattle.std.specs.declared.vec.Vec.{Vec}
+use Rattle.tdp_model.specs.KeyTuple.{KeyOf, key_below, key_none}
+use Rattle.tdp_model.specs.Remains.{AtMost}
+
+-- the rows of each group
+abbrev pub group_lists : {Z : Type 0} → List (Vec ℕ Z) → List (List ℕ)
+group_lists groups = map (λ g. g.items) groups
+
+module _ {R : Type 0} (d : ℕ) (key : R → KeyOf d 16) where
+  -- the key of row r, where `best` has the rank of each row; the key of zeros past the last one
+  abbrev pub key_at : List R → ℕ → KeyOf d 16
+  key_at best r = slice_index_or (map key best) r (key_none d 16)
+
+  -- no row of the group has a lesser key than the row at its place's parent in a binary heap
+  abbrev pub IsHeapOver : List R → List ℕ → Type 0
+  IsHeapOver best group =
+      (i : ℕ) → 0 < i → i < length group
+      → AtMost (key_below d 16) (key_at best (slice_index group ((i - 1) / 2))) (key_at best (slice_index group i))

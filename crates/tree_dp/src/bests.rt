@@ -1,0 +1,84 @@
+ghost use Rattle.std.specs.Prelude.{◌≡◌, ℕ, ◌+◌, ◌*◌, ◌<◌, ◌≤◌, [], length, slice_index, slice_index_or, IfOk};
+ghost use Rattle.tdp_core.specs.TreeData.{tree_data, node_at, rows, members, group_count, group_named, best};
+ghost use Rattle.tree_dp.specs.Orders.{key_at};
+ghost use Rattle.tree_dp.specs.Progress.{IsLaidOut, IsSolvedFrom, by_children};
+
+use rank_key::Rank;
+use std::alloc::Global;
+use std::sync::ledger::Ledger;
+use step_counter::{NoMemory, Steps};
+use tdp_core::NodeParts;
+
+/// The rank of the least subtree solution of each row of a node, where the later nodes are solved. It takes at most one step
+/// for each row and each node.
+pub(crate) fn bests_of<R: Rank, L: Ledger>(
+    alloc: Global,
+    nodes: &[NodeParts<R>],
+    node: usize,
+    steps: &mut Steps<L>,
+) -> Result<Vec<R>, NoMemory>
+    requires node { node < length nodes.now }
+    requires laid_out { IsLaidOut R.KEYS R.key (tree_data nodes.now) }
+    requires solved { IsSolvedFrom R.KEYS R.key (tree_data nodes.now) (node + 1) }
+    ensures count { IfOk result (λ bests. length bests.items ≡ rows (tree_data nodes.now) node) }
+    ensures bests { IfOk result (λ bests. (r : ℕ) → r < rows (tree_data nodes.now) node → key_at R.KEYS R.key bests.items r ≡ by_children R.KEYS R.key (tree_data nodes.now) node r) }
+    ensures cost { steps.new ≤ steps.old + rows (tree_data nodes.now) node * length nodes.now }
+{
+    let mut bests = Vec::new(alloc);
+    for row in 0..nodes[node].rows.len() {
+        let best = row_best(nodes, node, row, steps);
+        bests.push(best)?;
+    }
+    Ok(bests)
+}
+
+/// The rank of the least subtree solution of a row of a node, where the later nodes are solved. It takes at most one step for
+/// each node.
+fn row_best<R: Rank, L: Ledger>(
+    nodes: &[NodeParts<R>],
+    node: usize,
+    row: usize,
+    steps: &mut Steps<L>,
+) -> R
+    requires node { node < length nodes.now }
+    requires row { row < rows (tree_data nodes.now) node }
+    requires laid_out { IsLaidOut R.KEYS R.key (tree_data nodes.now) }
+    requires solved { IsSolvedFrom R.KEYS R.key (tree_data nodes.now) (node + 1) }
+    ensures best { R.key result ≡ by_children R.KEYS R.key (tree_data nodes.now) node row }
+    ensures cost { steps.new ≤ steps.old + length nodes.now }
+{
+    let mut best = nodes[node].rows[row].rank;
+    let mut place = 0;
+    for child in node + 1..nodes.len() {
+        if nodes[child].shape.parent as usize == node {
+            let group = named_group(nodes, node, row, place);
+            let least = first_best(nodes, child, group);
+            best = R::join(best, least, steps);
+            place += 1;
+        }
+    }
+    best
+}
+
+/// The group that a row names for a child of its node.
+fn named_group<R: Rank>(nodes: &[NodeParts<R>], node: usize, row: usize, child: usize) -> usize
+    requires node { node < length nodes.now }
+    requires row { row < length (node_at (tree_data nodes.now) node).to_child }
+    requires child { child < length (slice_index_or (node_at (tree_data nodes.now) node).to_child row []) }
+    requires few { child < 16 }
+    ensures { result ≡ group_named (tree_data nodes.now) node row child }
+{
+    nodes[node].to_child[row][child] as usize
+}
+
+/// The best of the row at place 0 of a group.
+fn first_best<R: Rank>(nodes: &[NodeParts<R>], node: usize, group: usize) -> R
+    requires node { node < length nodes.now }
+    requires group { group < group_count (tree_data nodes.now) node }
+    requires inhabited { 0 < length (members (tree_data nodes.now) node group) }
+    requires row { slice_index (members (tree_data nodes.now) node group) 0 < length (node_at (tree_data nodes.now) node).best }
+    ensures { R.key result ≡ best (tree_data nodes.now) R.KEYS R.key node (slice_index (members (tree_data nodes.now) node group) 0) }
+{
+    let row = nodes[node].groups[group][0];
+    nodes[node].best[row as usize]
+}

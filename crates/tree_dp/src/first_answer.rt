@@ -1,0 +1,77 @@
+ghost use Rattle.std.specs.Prelude.{◌≡◌, ℕ, ◌+◌, ◌*◌, ◌<◌, ◌≤◌, List, [], length, slice_get, slice_index, Some, IfSome, IfNone};
+ghost use Rattle.tdp_model.specs.KeyTuple.{KeyOf};
+ghost use Rattle.tdp_model.specs.KeyNumbers.{numbers};
+ghost use Rattle.tdp_core.specs.Seen.{answers_of};
+ghost use Rattle.tdp_core.specs.Solutions.{IsTreeRanking};
+ghost use Rattle.tdp_core.specs.TreeData.{parent, rows, group_count, group_number, group};
+ghost use Rattle.tdp_core.specs.WellFormed.{IsFormed, IsTieFreeTree};
+
+use rank_key::{Rank, SLOTS};
+use std::sync::ledger::Ledger;
+use step_counter::Steps;
+use tdp_core::{Answer, Tree};
+
+/// The first answer of a tree, the one that a ranking of its solutions begins with; None where it has no solution. For m nodes
+/// it takes at most 4 * m steps, and no memory.
+pub fn first<R: Rank, L: Ledger>(tree: &Tree<R>, steps: &mut Steps<L>) -> Option<Answer<R>>
+    requires { IsTieFreeTree tree.now }
+    ensures none { (ks : List (KeyOf R.KEYS 16)) → IsTreeRanking tree.now R.KEYS R.key ks → IfNone result (ks ≡ []) }
+    ensures head { (ks : List (KeyOf R.KEYS 16)) → IsTreeRanking tree.now R.KEYS R.key ks → IfSome result (λ a. slice_get (answers_of R.KEYS ks) 0 ≡ Some (record { rows = a.rows; key = numbers R.KEYS 16 (R.key a.rank) })) }
+    ensures cost { steps.new ≤ steps.old + 4 * length tree.now }
+{
+    if !tree.live() {
+        return None;
+    }
+    let mut chosen = [0; SLOTS];
+    let mut rows = [0; SLOTS];
+    for node in 0..tree.nodes() {
+        let row = first_row(tree, &chosen, node, steps);
+        chosen[node as usize] = row;
+        rows[tree.shape(node).item as usize] = tree.row_at(node, row, steps).row;
+    }
+    let rank = tree.best(0, chosen[0], steps);
+    Some(Answer { rows, rank })
+}
+
+/// The row at place 0 of the group that the row chosen at a node's parent names, and at the root of the only group. It takes
+/// at most two steps.
+fn first_row<R: Rank, L: Ledger>(
+    tree: &Tree<R>,
+    chosen: &[u32],
+    node: u32,
+    steps: &mut Steps<L>,
+) -> u32
+    requires formed { IsFormed R.KEYS R.key tree.now }
+    requires live { 0 < group_count tree.now 0 }
+    requires node { node < length tree.now }
+    requires above { (q : ℕ) → q < node → slice_index chosen.now q < rows tree.now q }
+    requires long { node ≤ length chosen.now }
+    ensures first { result ≡ slice_index (group tree.now node (slice_index chosen.now (parent tree.now node))) 0 }
+    ensures row { result < rows tree.now node }
+    ensures cost { steps.new ≤ steps.old + 2 }
+{
+    let group = named_group(tree, chosen, node, steps);
+    tree.member(node, group, 0, steps)
+}
+
+/// The group that the row chosen at a node's parent names, and at the root the only group. It takes at most one step.
+fn named_group<R: Rank, L: Ledger>(
+    tree: &Tree<R>,
+    chosen: &[u32],
+    node: u32,
+    steps: &mut Steps<L>,
+) -> u32
+    requires formed { IsFormed R.KEYS R.key tree.now }
+    requires node { node < length tree.now }
+    requires above { (q : ℕ) → q < node → slice_index chosen.now q < rows tree.now q }
+    requires long { node ≤ length chosen.now }
+    ensures group { result ≡ group_number tree.now node (slice_index chosen.now (parent tree.now node)) }
+    ensures cost { steps.new ≤ steps.old + 1 }
+{
+    if node == 0 {
+        return 0;
+    }
+    let above = tree.shape(node).parent;
+    let place = tree.child_place(node);
+    tree.group_of(above, chosen[above as usize], place, steps)
+}

@@ -1,0 +1,18 @@
+//! Least keys of subtree solutions, groups in heap order by them, and the first answer of a tree.
+//!
+//! Nodes are gone through from the last to the root. The least key of a row is its own key with, for each child of its node,
+//! the least key in the group that it names there: dynamic programming over a tree, by which Tziavelis et al., "Optimal
+//! Algorithms for Ranked Enumeration of Answers to Full Conjunctive Queries", PVLDB 2020, prepare ranked enumeration. A
+//! group is made a heap as soon as its rows' least keys are known, so that its least row is the one at place 0.
+#![tactic(auto)]
+
+mod bests;
+mod first_answer;
+mod order;
+mod solving;
+
+pub use first_answer::first;
+pub use solving::solve;
+
+#[cfg(test)]
+mod tests;

@@ -1,0 +1,69 @@
+ghost use Rattle.std.specs.Prelude.{◌≡◌, ℕ, ◌+◌, ◌*◌, ◌<◌, ◌≤◌, length, OnOk, IfOk};
+ghost use Rattle.tdp_core.specs.TreeData.{tree_data, node_at, rows};
+ghost use Rattle.semi_join.specs.Grouped.{IsGrouped};
+ghost use Rattle.tree_dp.specs.Progress.{IsLaidOut, IsSolvedFrom};
+ghost use Rattle.tree_dp.specs.Solved.{IsReordered, IsSolved, row_count};
+
+use crate::bests::bests_of;
+use crate::order::order_groups;
+use rank_key::Rank;
+use semi_join::Reduced;
+use std::alloc::Global;
+use std::sync::ledger::Ledger;
+use step_counter::{NoMemory, Steps};
+use tdp_core::{NodeParts, Tree};
+
+/// The well-formed tree of parts whose rows stand in groups: with the rank of each row's least subtree solution, and each
+/// group in heap order by these. It has the same solutions. For m nodes and N rows it takes at most 4 * m * (1 + N) steps,
+/// also where memory is refused.
+pub fn solve<R: Rank, L: Ledger>(
+    alloc: Global,
+    reduced: Reduced<R>,
+    steps: &mut Steps<L>,
+) -> Result<Tree<R>, NoMemory>
+    requires { IsGrouped R.KEYS R.key (tree_data reduced.nodes.items) }
+    ensures solved { IfOk result (λ tree. IsSolved (tree_data reduced.nodes.items) tree) }
+    ensures cost { steps.new ≤ steps.old + 4 * length reduced.nodes.items * (1 + row_count (tree_data reduced.nodes.items)) }
+{
+    let mut nodes = reduced.nodes;
+    solve_nodes(alloc, nodes.as_mut_slice(), steps)?;
+    Ok(Tree::from_parts(nodes))
+}
+
+/// Finds the best of each row and orders each group, from the last node to the root.
+fn solve_nodes<R: Rank, L: Ledger>(
+    alloc: Global,
+    nodes: &mut [NodeParts<R>],
+    steps: &mut Steps<L>,
+) -> Result<(), NoMemory>
+    requires { IsLaidOut R.KEYS R.key (tree_data nodes.old) }
+    ensures reordered { OnOk result ((v : ℕ) → IsReordered (node_at (tree_data nodes.old) v) (node_at (tree_data nodes.new) v)) }
+    ensures solved { OnOk result (IsSolvedFrom R.KEYS R.key (tree_data nodes.new) 0) }
+    ensures cost { steps.new ≤ steps.old + row_count (tree_data nodes.old) * (length nodes.old + 2) }
+{
+    for node in (0..nodes.len()).rev() {
+        solve_node(alloc, nodes, node, steps)?;
+    }
+    Ok(())
+}
+
+/// Finds the best of each row of a node and orders its groups, where the later nodes are solved.
+fn solve_node<R: Rank, L: Ledger>(
+    alloc: Global,
+    nodes: &mut [NodeParts<R>],
+    node: usize,
+    steps: &mut Steps<L>,
+) -> Result<(), NoMemory>
+    requires node { node < length nodes.old }
+    requires laid_out { IsLaidOut R.KEYS R.key (tree_data nodes.old) }
+    requires solved { IsSolvedFrom R.KEYS R.key (tree_data nodes.old) (node + 1) }
+    ensures reordered { OnOk result ((v : ℕ) → IsReordered (node_at (tree_data nodes.old) v) (node_at (tree_data nodes.new) v)) }
+    ensures solved { OnOk result (IsSolvedFrom R.KEYS R.key (tree_data nodes.new) node) }
+    ensures cost { steps.new ≤ steps.old + rows (tree_data nodes.old) node * (length nodes.old + 2) }
+{
+    let best = bests_of(alloc, nodes, node, steps)?;
+    let parts = &mut nodes[node];
+    order_groups(alloc, parts.groups.as_mut_slice(), best.as_slice(), steps)?;
+    parts.best = best;
+    Ok(())
+}

@@ -1,0 +1,92 @@
+#!/usr/bin/env python3
+"""Runs the program on generated tables that are too large to list their join, and compares the sums of its first answers.
+
+usage: tests/generated.py [PROGRAM] [ROWS]
+
+PROGRAM is ./anyk where it is not given, and ROWS is 20000. Four tables in a row are made by a linear congruential generator
+(1103515245 x + 12345 modulo 2^31), joined on their shared columns and ranked by the sum of their weights. The first 100 sums are
+found here by keeping, for each value of a join column, the 100 least sums of what follows. Both engines are to give these, in this
+order, and a small input whose sums are known is run first.
+"""
+import heapq
+import os
+import subprocess
+import sys
+import tempfile
+
+COLUMNS = ["a,b,w", "b,c,w", "c,d,w", "d,e,w"]
+QUERY = ("select P1.a, P4.e from P1, P2, P3, P4 where P1.b = P2.b and P2.c = P3.c and P3.d = P4.d "
+         "order by P1.w + P2.w + P3.w + P4.w limit 100")
+FIRST = 100
+
+
+def draws(number):
+    x = number
+    while True:
+        x = (1103515245 * x + 12345) % 2**31
+        yield x
+
+
+def tables_of(number, rows):
+    """The rows of the four tables: two join fields and a weight."""
+    draw = draws(number)
+    values = rows // 100 + 1
+    tables = []
+    for _ in COLUMNS:
+        table = []
+        for _ in range(rows):
+            v = next(draw) // 128
+            table.append((v // 4096 % values, v % 4096 % values, next(draw) // 65536 % 1000))
+        tables.append(table)
+    return tables
+
+
+def least_sums(tables):
+    """The least sums of the join, in ascending order."""
+    after = None
+    for table in reversed(tables):
+        sums = {}
+        for left, right, weight in table:
+            rest = [0] if after is None else after.get(right, [])
+            sums.setdefault(left, []).extend(weight + it for it in rest)
+        after = {key: heapq.nsmallest(FIRST, each) for key, each in sums.items()}
+    return heapq.nsmallest(FIRST, [it for each in after.values() for it in each])
+
+
+def run(program, folder, engine):
+    words = [program, "run", "--engine", engine, "--ranks", "q.sql"] + ["P%d=P%d.csv" % (n, n) for n in range(1, 5)]
+    done = subprocess.run(words, cwd=folder, capture_output=True)
+    lines = done.stdout.decode().splitlines()
+    return done.returncode, [int(it.split(",")[2]) for it in lines[1:]]
+
+
+def agrees(program, number, rows):
+    tables = tables_of(number, rows)
+    wanted = least_sums(tables)
+    with tempfile.TemporaryDirectory() as folder:
+        for n, (columns, table) in enumerate(zip(COLUMNS, tables), 1):
+            with open(os.path.join(folder, "P%d.csv" % n), "w") as file:
+                file.write(columns + "\n" + "".join("%d,%d,%d\n" % row for row in table))
+        with open(os.path.join(folder, "q.sql"), "w") as file:
+            file.write(QUERY + "\n")
+        for engine in ("part", "rec"):
+            status, sums = run(program, folder, engine)
+            if status != 0 or sums != wanted:
+                print("generated tables, number %d, %d rows, --engine %s: FAILED, status %d, %d sums" % (number, rows, engine, status, len(sums)))
+                return False
+    print("generated tables, number %d, %d rows: passed, %d answers, first %d, last %d" % (number, rows, len(wanted), wanted[0], wanted[-1]))
+    return True
+
+
+def main():
+    program = os.path.abspath(sys.argv[1] if len(sys.argv) > 1 else "./anyk")
+    rows = int(sys.argv[2]) if len(sys.argv) > 2 else 20000
+    small = least_sums(tables_of(1, 2))
+    if (len(small), small[0], small[-1]) != (16, 1080, 2695):
+        print("generated tables: FAILED, the generator is another")
+        return 1
+    return 0 if agrees(program, 1, 2) and agrees(program, 1, rows) else 1
+
+
+if __name__ == "__main__":
+    sys.exit(main())
