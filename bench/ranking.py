@@ -7,8 +7,8 @@ ROWS is the number of rows of each table, 10000 where it is not given. Three que
 of 7. Each join column has ROWS / 10 values, so that a row meets ten of the next table. For each query the first answer, the first
 1,000 and the first 100,000 are asked for, with both engines and with sqlite3 (tables in memory, indexes on the join columns, both
 made before the time starts; the answers' sums are compared). Seconds are those of the whole command; `read` is a run of the program
-with `limit 0`, so that what ranking takes is what stands above it. The program is `anyk` at the top of the repository, or what
-ANYK names. A sqlite3 run that takes longer than 100 seconds is given up.
+with `limit 0`, so that what ranking takes is what stands above it. The program is what `./anyk` has built on its first use, or
+what ANYK names. A sqlite3 run that takes longer than 100 seconds is given up.
 """
 import multiprocessing
 import os
@@ -19,7 +19,7 @@ import tempfile
 import time
 
 TOP = os.path.dirname(os.path.dirname(os.path.abspath(__file__)))
-PROGRAM = os.environ.get("ANYK", os.path.join(TOP, "anyk"))
+PROGRAM = os.environ.get("ANYK", os.path.join(TOP, "crates/anyk_cli/out/anyk_cli"))
 ROWS = int(sys.argv[1]) if len(sys.argv) > 1 else 10000
 PATIENCE = 100
 

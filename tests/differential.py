@@ -8,8 +8,9 @@ fails is the same in the next run. Tables and queries are small and their values
 evaluation here goes through all combinations of rows, keeps those for which every equality holds on bytes, sorts by the sums
 (negated where a key descends) and then by the row numbers, and cuts at the limit. A query is cyclic where ears are removed,
 the greatest first, until none is left, and more than one item is left; it is refused with these items. `plan` is called on the
-same input, and its report is made from the same removal. So is `session`, with a script of its own. Output, error output and status are compared to the byte. After that
-come inputs with their output, and inputs that are refused, each with its line and status.
+same input, and its report is made from the same removal. So is `session`, with a script of its own. `run` and `session` are called
+with each engine. Output, error output and status are compared to the byte. After that come inputs with their output, and inputs
+that are refused, each with its line and status.
 """
 import itertools
 import os
@@ -559,6 +560,8 @@ REFUSALS = [
     over("select R.a from R order by " + ", ".join(["R.w"] * 9), 8, "more than 8 order keys"),
     over("select R.a from R limit 18446744073709551616", 8, "limit at byte 24 out of range"),
     over(JOIN, 8, "table R: more than 64 columns", R=",".join(f"c{it}" for it in range(65)) + "\n"),
+    over(JOIN, 8, "table R: more than 1048576 rows", R="a\n" + "x\n" * 1048577),
+    over(JOIN, 8, "file R.csv longer than 67108864 bytes", R="x" * 67108865),
     over(NODES, 8, "more than 4194304 node rows", NODE_WORDS, N="a\n", M=MANY, L="a\nx\ny\nx\nx\n"),
     over(None, 9, "file q.sql: not found", ["run", "q.sql", "R=R.csv"]),
     over(JOIN, 9, "file S.csv: not found", S=None),
@@ -572,7 +575,6 @@ REFUSALS = [
     # (the query before the script, and the script before the tables)
     scripted("open", 3, "syntax error at byte 0", ""),
     scripted("open", 3, "script line 1: bad line", "select X.a from X"),
-    over(JOIN, 13, "not built yet", ["load", "--number", "1", "--rows", "2"]),
 ]
 
 
@@ -586,6 +588,13 @@ def run(program, files, words):
                 it.write(text.encode())
         ran = subprocess.run([program, *words], cwd=room, stdin=subprocess.DEVNULL, capture_output=True, timeout=60)
         return ran.returncode, ran.stdout, ran.stderr
+
+
+def with_other_engine(words):
+    """The words with the engine that they do not choose."""
+    other = "part" if "rec" in words or "--engine=rec" in words else "rec"
+    bare = [it for at, it in enumerate(words) if not it.startswith("--engine") and words[at - 1] != "--engine"]
+    return [bare[0], "--engine", other, *bare[1:]]
 
 
 def told(what, files, words, wanted, got):
@@ -606,13 +615,14 @@ def main():
         case = Case(seed)
         files, words = case.files(), case.words()
         wanted, found = case.expected()
-        got = run(program, files, words)
         answers += found
         cycles += wanted[0] == 6
-        if got != wanted:
-            failed += 1
-            if failed <= 5:
-                told(f"seed {seed}", files, words, wanted, got)
+        for each in (words, with_other_engine(words)):
+            got = run(program, files, each)
+            if got != wanted:
+                failed += 1
+                if failed <= 5:
+                    told(f"seed {seed}", files, each, wanted, got)
         wanted, words = case.planned(), case.plan_words()
         got = run(program, files, words)
         if got != wanted:
@@ -621,11 +631,12 @@ def main():
                 told(f"plan of seed {seed}", files, words, wanted, got)
         script, steps = case.script()
         files["s.txt"], wanted, words = script, case.told_by(steps), case.session_words()
-        got = run(program, files, words)
-        if got != wanted:
-            failed += 1
-            if failed <= 5:
-                told(f"session of seed {seed}", files, words, wanted, got)
+        for each in (words, with_other_engine(words)):
+            got = run(program, files, each)
+            if got != wanted:
+                failed += 1
+                if failed <= 5:
+                    told(f"session of seed {seed}", files, each, wanted, got)
     fixed = [(files, words, (0, text.encode(), b"")) for files, words, _, text in ANSWERS]
     fixed += [(files, words, (status, b"", f"anyk: {line}\n".encode())) for files, words, status, line in REFUSALS]
     answered = refused = 0

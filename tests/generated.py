@@ -1,12 +1,13 @@
 #!/usr/bin/env python3
-"""Runs the program on generated tables that are too large to list their join, and compares the sums of its first answers.
+"""Runs the program on generated tables that are too large to list their join, and compares the sums of its answers.
 
 usage: tests/generated.py [PROGRAM] [ROWS]
 
 PROGRAM is ./anyk where it is not given, and ROWS is 20000. Four tables in a row are made by a linear congruential generator
 (1103515245 x + 12345 modulo 2^31), joined on their shared columns and ranked by the sum of their weights. The first 100 sums are
-found here by keeping, for each value of a join column, the 100 least sums of what follows. Both engines are to give these, in this
-order, and a small input whose sums are known is run first.
+found here by keeping, for each value of a join column, the 100 least sums of what follows. With both engines `run` and `session`
+are to give these over files, in this order, and `load`, which makes the tables itself, the first and the last of them. A small input
+whose sums are known is run first.
 """
 import heapq
 import os
@@ -53,26 +54,35 @@ def least_sums(tables):
     return heapq.nsmallest(FIRST, [it for each in after.values() for it in each])
 
 
-def run(program, folder, engine):
-    words = [program, "run", "--engine", engine, "--ranks", "q.sql"] + ["P%d=P%d.csv" % (n, n) for n in range(1, 5)]
-    done = subprocess.run(words, cwd=folder, capture_output=True)
-    lines = done.stdout.decode().splitlines()
-    return done.returncode, [int(it.split(",")[2]) for it in lines[1:]]
+def printed(program, folder, words):
+    done = subprocess.run([program] + words, cwd=folder, capture_output=True)
+    return done.returncode, done.stdout.decode().splitlines()
+
+
+def calls(engine, number, rows):
+    """The words of each call, and the column of its sums, or none where it prints a summary."""
+    files = ["q.sql"] + ["P%d=P%d.csv" % (n, n) for n in range(1, 5)]
+    yield ["run", "--engine", engine, "--ranks"] + files, 2
+    yield ["session", "--engine", engine, "--ranks", "--script", "s.txt"] + files, 3
+    yield ["load", "--engine", engine, "--number", str(number), "--rows", str(rows)], None
 
 
 def agrees(program, number, rows):
     tables = tables_of(number, rows)
     wanted = least_sums(tables)
+    summary = ["rows %d" % (4 * rows), "answers %d" % len(wanted), "first %d" % wanted[0], "last %d" % wanted[-1]]
     with tempfile.TemporaryDirectory() as folder:
         for n, (columns, table) in enumerate(zip(COLUMNS, tables), 1):
             with open(os.path.join(folder, "P%d.csv" % n), "w") as file:
                 file.write(columns + "\n" + "".join("%d,%d,%d\n" % row for row in table))
-        with open(os.path.join(folder, "q.sql"), "w") as file:
-            file.write(QUERY + "\n")
-        for engine in ("part", "rec"):
-            status, sums = run(program, folder, engine)
-            if status != 0 or sums != wanted:
-                print("generated tables, number %d, %d rows, --engine %s: FAILED, status %d, %d sums" % (number, rows, engine, status, len(sums)))
+        for name, text in (("q.sql", QUERY + "\n"), ("s.txt", "open a\nnext a %d\n" % len(wanted))):
+            with open(os.path.join(folder, name), "w") as file:
+                file.write(text)
+        for words, column in [it for engine in ("part", "rec") for it in calls(engine, number, rows)]:
+            status, lines = printed(program, folder, words)
+            same = lines == summary if column is None else [int(it.split(",")[column]) for it in lines[1:]] == wanted
+            if status != 0 or not same:
+                print("generated tables, number %d, %d rows, %s: FAILED, status %d, %d lines" % (number, rows, " ".join(words), status, len(lines)))
                 return False
     print("generated tables, number %d, %d rows: passed, %d answers, first %d, last %d" % (number, rows, len(wanted), wanted[0], wanted[-1]))
     return True

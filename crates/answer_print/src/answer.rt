@@ -114,8 +114,8 @@ fn push_rows(
     Ok(())
 }
 
-/// The sum of an order key, as the query has it.
-fn key_sum(query: &Query, tables: &Tables, rows: &[u32; 16], key: u32) -> i128
+/// The sum of an order key, as the query has it, over the rows of the items, counted from 1. Keys count from 0.
+pub fn key_sum(query: &Query, tables: &Tables, rows: &[u32; 16], key: u32) -> i128
     requires fits { Fits query.now tables.now }
     requires rows { IsCombination (row_counts query.now.query.items tables.now) (take (length query.now.query.items) rows.now) }
     requires key { key < length query.now.query.order }

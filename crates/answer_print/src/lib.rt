@@ -6,7 +6,7 @@ mod fields;
 mod style;
 mod titles;
 
-pub use answer::line;
+pub use answer::{key_sum, line};
 pub use style::Style;
 pub use titles::header;
 

@@ -15,7 +15,7 @@ use Rattle.tdp_core.specs.Seen.{rows_of_key, answers_of}
 use Rattle.tdp_core.specs.TreeData.{NodeData}
 use Rattle.anyk_part.specs.declared.candidate.Link.{Link}
 use Rattle.anyk_part.specs.declared.candidate.Candidate.{Candidate}
-use Rattle.anyk_part.specs.Bounds.{most_steps}
+use Rattle.tdp_core.specs.Shares.{most_steps}
 use Rattle.anyk_part.specs.Candidates.{key_of_rows}
 use Rattle.anyk_part.specs.Regions.{followers, region_of, regions_of, candidates_of, held_by, rest_keys, rest_of, IsEntry, IsPart}
 use Rattle.anyk_part.specs.Rest.{held_solutions}

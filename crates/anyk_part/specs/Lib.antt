@@ -1,7 +1,5 @@
-pub mod Bounds
 pub mod Candidates
 pub mod Chains
 pub mod Regions
 pub mod Rest
-pub mod Shares
 pub mod Walks

@@ -2,14 +2,14 @@ ghost use Rattle.std.specs.Prelude.{◌≡◌, ℕ, ◌+◌, ◌-◌, ◌*◌, �
 ghost use Rattle.stream_store.specs.declared.entry.Linked.{Linked};
 ghost use Rattle.std.specs.List.{All};
 ghost use Rattle.tdp_model.specs.KeyTuple.{KeyOf};
-ghost use Rattle.tdp_core.specs.TreeData.{group_count};
+ghost use Rattle.tdp_core.specs.TreeData.{group_count, row_count};
 ghost use Rattle.tdp_core.specs.WellFormed.{IsTieFreeTree};
 ghost use Rattle.tdp_core.specs.Solutions.{IsTreeRanking};
 ghost use Rattle.tdp_core.specs.Seen.{answers_of};
+ghost use Rattle.tdp_core.specs.Shares.{most_steps, share_of, size_of};
+ghost use Rattle.tdp_core.specs.RisingShares.{shares_rise, at_most_itself};
 ghost use Rattle.anyk_part.specs.Regions.{rest_of, rest_keys, regions_of, IsPart};
 ghost use Rattle.anyk_part.specs.Candidates.{HoldTheRest, HasLeastRank};
-ghost use Rattle.anyk_part.specs.Bounds.{most_steps, share_of, size_of, row_count};
-ghost use Rattle.anyk_part.specs.Shares.{shares_rise, at_most_itself};
 
 use crate::candidate::{Candidate, Link, Walk};
 use crate::frontier::Frontier;

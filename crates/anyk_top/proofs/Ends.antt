@@ -1,5 +1,5 @@
 -- How a call ended, from what its parts answer.
-use Rattle.std.proofs.Common.{◌≡◌, ℕ, List, Option, Some, None, Result, Ok, Err, OnOk, IfErr, inl, inr, refl, sym, subst}
+use Rattle.std.proofs.Common.{◌≡◌, ℕ, List, Option, Some, None, IfSome, Result, Ok, Err, OnOk, IfErr, inl, inr, refl, sym, subst}
 use Rattle.std.specs.Io.KnownBytes.{Appends}
 use Rattle.outer_io.specs.Files.{Files}
 use Rattle.outer_io.specs.declared.writing.Unwritten.{Unwritten}
@@ -13,15 +13,17 @@ use Rattle.refusal_lines.specs.Sent.{GotPrefix, Sent}
 use Rattle.input_load.specs.Turns.{IsTurn as IsLoadTurn}
 use Rattle.verdict.specs.Found.{Found}
 use Rattle.verdict.specs.Loading.{files_read, first_uses, unknown_table}
-use Rattle.verdict.specs.Outcome.{GotAccepted, GotNothing, HasLine, IsAnswer, IsCaused, IsComplete, IsCut, IsTurnOf, Outcome, Outside, query_turn, script_turn, table_turn}
+use Rattle.verdict.specs.Outcome.{GotAccepted, GotNothing, HasLine, IsAnswer, IsCaused, IsComplete, IsCut, IsTurn, IsTurnOf, Outcome, Outside, query_turn, script_turn, table_turn}
 use Rattle.verdict.specs.Output.{output}
-use Rattle.verdict.specs.Staged.{Causes, Fits, first_turn, second_turn}
+use Rattle.verdict.specs.Made.{made_files}
+use Rattle.verdict.specs.Staged.{Fits, Pure, Shelved, Staged, first_turn, second_turn}
 use Rattle.verdict.specs.Stages.{unless}
-use Rattle.verdict.specs.Verdict.{IsVerdictOn}
-use Rattle.verdict.specs.Words.{Asked, Command, Words, no_command, not_built, built, command_script, command_words}
+use Rattle.verdict.specs.Verdict.{IsVerdict, IsVerdictOn}
+use Rattle.verdict.specs.Words.{Asked, Command, Words, no_command, built, run, plan, session, load, made_words}
 use Rattle.verdict.proofs.Whole.{done_outcome, ended_outcome}
 use Rattle.anyk_top.specs.Asked.{IsEarly}
 use Rattle.anyk_top.specs.Finished.{Finished, HasSent}
+use Rattle.anyk_top.specs.Looked.{IsLooked}
 use Rattle.ranking_print.specs.Printed.{IsPrintCause}
 
 -- ---- the line of a refusal
@@ -33,22 +35,13 @@ line-sent old new line (Err e) sent = record { prefix = sent.prefix; whole = λ 
 has-line : (old new : Outside) (line : List ℕ) → HasSent old.errors new.errors old.error_faults new.error_faults line → HasLine old new line
 has-line old new line h = line-sent old new line h.result h.sent
 
--- ---- how a command ends that is built
+-- ---- how a command ends
 
 abbrev Same : Asked → Asked → Type 0
 Same a b = a ≡ b
 
 built-no_command : {A : Type 0} {k : Command} → Same (built k) no_command → A
 built-no_command h = cc
-
-built-not_built : {A : Type 0} {k : Command} → Same (built k) not_built → A
-built-not_built h = cc
-
-no_command-not_built : {A : Type 0} → Same no_command not_built → A
-no_command-not_built h = cc
-
-not_built-no_command : {A : Type 0} → Same not_built no_command → A
-not_built-no_command h = cc
 
 -- the outside with other counts of the sink for errors
 abbrev with_errors : Outside → Option (List ℕ) → ℕ → Outside
@@ -63,10 +56,8 @@ caused-same old new e e' n n' a h = tt
 cut-same : (asked : Asked) (told : Option Files) (old new : Outside) (e e' : Option (List ℕ)) (n n' : ℕ) (a : Answer)
     → IsCut asked told old new a → IsCut asked told (with_errors old e n) (with_errors new e' n') a
 cut-same no_command told old new e e' n n' answer.WriteFault h = h
-cut-same not_built told old new e e' n n' answer.WriteFault h = h
 cut-same (built command) told old new e e' n n' answer.WriteFault h = h
 cut-same no_command told old new e e' n n' answer.NoMemory h = h
-cut-same not_built told old new e e' n n' answer.NoMemory h = h
 cut-same (built command) told old new e e' n n' answer.NoMemory h = h
 cut-same asked told old new e e' n n' a h = h
 
@@ -86,20 +77,16 @@ built-outcome command told old new e e' n n' (Err refusal) status complete fits 
       cut = cut-same (built command) told old new e e' n n' (answer_of refusal) cut;
       line = has-line (with_errors old e n) (with_errors new e' n') (line_of (answer_of refusal)) sent;
     })
-    (λ h. built-no_command h) (λ h. built-not_built h))
+    (λ h. built-no_command h))
 
--- ---- how a call ends whose words are no command that is built
+-- ---- how a call ends whose words are no command
 
 early-answer : (asked : Asked) (told : Option Files) (old new : Outside) (a : Answer) → IsEarly asked a → GotNothing old new → HasLine old new (line_of a)
     → Outcome asked told old new (status_of a)
 early-answer asked told old new answer.Usage early nothing line =
-    ended_outcome asked told old new answer.Usage (record { fits = early; caused = tt; cut = nothing; line = line })
-    (λ h. inl refl) (λ h. no_command-not_built (let P : Asked → Type 0 = λ a. Same a not_built in subst P early h))
-early-answer asked told old new answer.Unbuilt early nothing line =
-    ended_outcome asked told old new answer.Unbuilt (record { fits = early; caused = tt; cut = nothing; line = line })
-    (λ h. not_built-no_command (let P : Asked → Type 0 = λ a. Same a no_command in subst P early h)) (λ h. inl refl)
+    ended_outcome asked told old new answer.Usage (record { fits = early; caused = tt; cut = nothing; line = line }) (λ h. inl refl)
 early-answer asked told old new answer.NoMemory early nothing line =
-    ended_outcome asked told old new answer.NoMemory (record { fits = tt; caused = tt; cut = inl nothing; line = line }) (λ h. inr refl) (λ h. inr refl)
+    ended_outcome asked told old new answer.NoMemory (record { fits = tt; caused = tt; cut = inl nothing; line = line }) (λ h. inr refl)
 early-answer asked told old new a early nothing line = absurd early
 
 pub early-outcome : (asked : Asked) (told : Option Files) (old new : Outside) (refusal : Refusal) (status : ℕ) → IsEarly asked (answer_of refusal) → GotNothing old new
@@ -108,7 +95,7 @@ early-outcome asked told old new refusal status early nothing (is, sent) =
     let P : ℕ → Type 0 = Outcome asked told old new in
     subst P (sym is) (early-answer asked told old new (answer_of refusal) early nothing (has-line old new (line_of (answer_of refusal)) sent))
 
--- ---- how loading ends
+-- ---- how looking at the input ends
 
 unless-ok : {A : Type 0} (o : Option Answer) (a k : A) → Ok k ≡ unless o a → (o ≡ None) × (k ≡ a)
 unless-ok None a k e = (refl, cc)
@@ -127,82 +114,144 @@ turn-of words script files name (second_turn read (second_turn {a = select} pars
     table_turn (sym read) parsed (sym said) h.0 (subst P h.1 member)
 turn-of words script files name (second_turn read (second_turn parsed (second_turn said (second_turn known (second_turn tables no_turn))))) = absurd no_turn
 
-abbrev pub Loads : Command → Option Files → Result Found Answer → Type 0
-Loads command told result =
-    Fits (IsVerdictOn (command_words command).query (command_script command) (command_words command).tables)
-    (IsLoadTurn (command_words command).query (command_script command) (command_words command).tables) told result
+turn-told : (words : Words) (script : Option (List ℕ)) (told : Option Files) (name : List ℕ) → IfSome told (λ files. IsLoadTurn words.query script words.tables files name)
+    → IfSome told (λ files. IsTurnOf words script files name)
+turn-told words script None name h = tt
+turn-told words script (Some files) name h = turn-of words script files name h
 
--- the words that were loaded are those of the command
-pub loaded-words : (words : Words) (script : Option (List ℕ)) (command : Command) (told : Option Files) (result : Result Found Answer) → words ≡ command_words command
-    → script ≡ command_script command → Fits (IsVerdictOn words.query script words.tables) (IsLoadTurn words.query script words.tables) told result
-    → Loads command told result
-loaded-words words script command told result same also h =
-    let P : Words → Type 0 = λ w. Fits (IsVerdictOn w.query script w.tables) (IsLoadTurn w.query script w.tables) told result in
-    let Q : Option (List ℕ) → Type 0 =
-    λ s. Fits (IsVerdictOn (command_words command).query s (command_words command).tables) (IsLoadTurn (command_words command).query s (command_words command).tables) told result in
-    subst Q also (subst P same h)
+-- where the files are told, the verdict is this
+abbrev pub Accepts : Command → Option Files → Found → Type 0
+Accepts command told found = IfSome told (λ files. IsVerdict (built command) files (Ok found))
 
-pub load-answer : (command : Command) (told : Option Files) (a : Answer) → Loads command told (Err a) → IsAnswer (built command) told a
-load-answer command told answer.Usage h = absurd h
-load-answer command told answer.Unbuilt h = absurd h
-load-answer command None (answer.ReadFault name) h = tt
-load-answer command (Some files) (answer.ReadFault name) h = turn-of (command_words command) (command_script command) files name h
-load-answer command told answer.WriteFault h = absurd h
-load-answer command told answer.NoMemory h = tt
-load-answer command None a h = tt
-load-answer command (Some files) a h = h
+abbrev Refuses : Command → Option Files → Answer → Type 0
+Refuses command told a = IfSome told (λ files. IsVerdict (built command) files (Err a))
 
--- the outside, of which loading changes the shelf alone
-pub load-caused : (command : Command) (old new : Outside) (files files' : Option Files) (a : Answer) → Loads command files (Err a)
-    → Causes {A = Found} (record { files = files; misses = old.misses; faults = old.read_faults }) (record { files = files'; misses = new.misses; faults = new.read_faults }) (Err a)
-    → IsCaused old new a
-load-caused command old new files files' answer.WriteFault fits h = absurd fits
-load-caused command old new files files' (answer.NoFile name) fits h = h
-load-caused command old new files files' (answer.ReadFault name) fits h = h
-load-caused command old new files files' a fits h = tt
+anywhere : {A : Type 0} (told : Option Files) → A → IfSome told (λ files. A)
+anywhere None a = tt
+anywhere (Some files) a = a
 
-pub load-cut : (command : Command) (told : Option Files) (old new : Outside) (a : Answer) → Loads command told (Err a) → GotNothing old new → IsCut (built command) told old new a
-load-cut command told old new answer.WriteFault fits nothing = absurd fits
-load-cut command told old new answer.NoMemory fits nothing = inl nothing
-load-cut command told old new a fits nothing = nothing
+pub looked-accepts : (command : Command) (old new : Shelved) (found : Found) → IsLooked command old new (Ok found) → Accepts command old.files found
+looked-accepts (run words) old new found h = h.fits
+looked-accepts (plan words) old new found h = h.fits
+looked-accepts (session script words) old new found h = h.fits
+looked-accepts (load number rows) old new found h = anywhere old.files h.0
+
+-- a refusal that is no word of the outside is the verdict
+fits-answer : (asked : Asked) (G : Files → Result Found Answer → Type 0) (T : Files → List ℕ → Type 0) (told : Option Files) (a : Answer)
+    → (IfSome told (λ files. G files (Err a)) → IfSome told (λ files. IsVerdict asked files (Err a)))
+    → ((name : List ℕ) → IfSome told (λ files. T files name) → IsTurn asked told name) → Fits G T told (Err a) → IsAnswer asked told a
+fits-answer asked G T told answer.Usage gives turns h = absurd h
+fits-answer asked G T told (answer.ReadFault name) gives turns h = turns name h
+fits-answer asked G T told answer.WriteFault gives turns h = absurd h
+fits-answer asked G T told answer.NoMemory gives turns h = tt
+fits-answer asked G T told a gives turns h = gives h
+
+pure-answer : (asked : Asked) (G : Result Found Answer → Type 0) (told : Option Files) (a : Answer)
+    → (G (Err a) → IfSome told (λ files. IsVerdict asked files (Err a))) → Pure G (Err a) → IsAnswer asked told a
+pure-answer asked G told answer.Usage gives h = absurd h
+pure-answer asked G told (answer.NoFile name) gives h = absurd h
+pure-answer asked G told (answer.ReadFault name) gives h = absurd h
+pure-answer asked G told answer.WriteFault gives h = absurd h
+pure-answer asked G told answer.NoMemory gives h = tt
+pure-answer asked G told a gives h = gives h
+
+pub looked-answer : (command : Command) (old new : Shelved) (a : Answer) → IsLooked command old new (Err a) → IsAnswer (built command) old.files a
+looked-answer (run words) old new a h =
+    fits-answer (built (run words)) (IsVerdictOn words.query None words.tables) (IsLoadTurn words.query None words.tables) old.files a (λ g. g) (turn-told words None old.files) h.fits
+looked-answer (plan words) old new a h =
+    fits-answer (built (plan words)) (IsVerdictOn words.query None words.tables) (IsLoadTurn words.query None words.tables) old.files a (λ g. g) (turn-told words None old.files) h.fits
+looked-answer (session script words) old new a h =
+    fits-answer (built (session script words)) (IsVerdictOn words.query (Some script) words.tables) (IsLoadTurn words.query (Some script) words.tables) old.files a (λ g. g)
+    (turn-told words (Some script) old.files) h.fits
+looked-answer (load number rows) old new a h =
+    pure-answer (built (load number rows)) (IsVerdictOn made_words.query None made_words.tables (made_files number rows)) old.files a (anywhere old.files) h.0
+
+-- the counts of the shelf, as the outside has them
+abbrev shelf_of : Option Files → Outside → Shelved
+shelf_of files outside = record { files = files; misses = outside.misses; faults = outside.read_faults }
+
+staged-caused : (G : Files → Result Found Answer → Type 0) (T : Files → List ℕ → Type 0) (old new : Outside) (files files' : Option Files) (a : Answer)
+    → Staged G T (shelf_of files old) (shelf_of files' new) (Err a) → IsCaused old new a
+staged-caused G T old new files files' answer.WriteFault h = absurd h.fits
+staged-caused G T old new files files' (answer.NoFile name) h = h.caused
+staged-caused G T old new files files' (answer.ReadFault name) h = h.caused
+staged-caused G T old new files files' a h = tt
+
+pure-caused : (G : Result Found Answer → Type 0) (old new : Outside) (a : Answer) → Pure G (Err a) → IsCaused old new a
+pure-caused G old new answer.WriteFault h = absurd h
+pure-caused G old new (answer.NoFile name) h = absurd h
+pure-caused G old new (answer.ReadFault name) h = absurd h
+pure-caused G old new a h = tt
+
+pub looked-caused : (command : Command) (old new : Outside) (files files' : Option Files) (a : Answer) → IsLooked command (shelf_of files old) (shelf_of files' new) (Err a) → IsCaused old new a
+looked-caused (run words) old new files files' a h =
+    staged-caused (IsVerdictOn words.query None words.tables) (IsLoadTurn words.query None words.tables) old new files files' a h
+looked-caused (plan words) old new files files' a h =
+    staged-caused (IsVerdictOn words.query None words.tables) (IsLoadTurn words.query None words.tables) old new files files' a h
+looked-caused (session script words) old new files files' a h =
+    staged-caused (IsVerdictOn words.query (Some script) words.tables) (IsLoadTurn words.query (Some script) words.tables) old new files files' a h
+looked-caused (load number rows) old new files files' a h =
+    pure-caused (IsVerdictOn made_words.query None made_words.tables (made_files number rows)) old new a h.0
+
+-- it writes nothing
+fits-cut : (asked : Asked) (G : Files → Result Found Answer → Type 0) (T : Files → List ℕ → Type 0) (told : Option Files) (old new : Outside) (a : Answer)
+    → Fits G T told (Err a) → GotNothing old new → IsCut asked told old new a
+fits-cut asked G T told old new answer.WriteFault h nothing = absurd h
+fits-cut asked G T told old new answer.NoMemory h nothing = inl nothing
+fits-cut asked G T told old new a h nothing = nothing
+
+pure-cut : (asked : Asked) (G : Result Found Answer → Type 0) (told : Option Files) (old new : Outside) (a : Answer) → Pure G (Err a) → GotNothing old new → IsCut asked told old new a
+pure-cut asked G told old new answer.WriteFault h nothing = absurd h
+pure-cut asked G told old new answer.NoMemory h nothing = inl nothing
+pure-cut asked G told old new a h nothing = nothing
+
+pub looked-cut : (command : Command) (s t : Shelved) (old new : Outside) (a : Answer) → IsLooked command s t (Err a) → GotNothing old new → IsCut (built command) s.files old new a
+looked-cut (run words) s t old new a h =
+    fits-cut (built (run words)) (IsVerdictOn words.query None words.tables) (IsLoadTurn words.query None words.tables) s.files old new a h.fits
+looked-cut (plan words) s t old new a h =
+    fits-cut (built (plan words)) (IsVerdictOn words.query None words.tables) (IsLoadTurn words.query None words.tables) s.files old new a h.fits
+looked-cut (session script words) s t old new a h =
+    fits-cut (built (session script words)) (IsVerdictOn words.query (Some script) words.tables) (IsLoadTurn words.query (Some script) words.tables) s.files old new a h.fits
+looked-cut (load number rows) s t old new a h =
+    pure-cut (built (load number rows)) (IsVerdictOn made_words.query None made_words.tables (made_files number rows)) s.files old new a h.0
 
 -- ---- how printing ends
 
 -- the whole output was printed
-pub printed-complete : (command : Command) (told : Option Files) (old new : Outside) (found : Found) (r : Result (Unit {0}) Refusal) → Loads command told (Ok found)
+pub printed-complete : (command : Command) (told : Option Files) (old new : Outside) (found : Found) (r : Result (Unit {0}) Refusal) → Accepts command told found
     → OnOk r (Appends old.output new.output (output command found)) → OnOk r (IsComplete (built command) told old new)
-printed-complete command None old new found (Ok done) loads whole = tt
-printed-complete command (Some files) old new found (Ok done) loads whole = (found, loads, whole)
-printed-complete command told old new found (Err e) loads whole = tt
+printed-complete command None old new found (Ok done) accepts whole = tt
+printed-complete command (Some files) old new found (Ok done) accepts whole = (found, accepts, whole)
+printed-complete command told old new found (Err e) accepts whole = tt
 
-answer-fits : (command : Command) (told : Option Files) (before now : ℕ) (found : Found) (a : Answer) → Loads command told (Ok found) → IsPrintCause before now a
+answer-fits : (command : Command) (told : Option Files) (before now : ℕ) (found : Found) (a : Answer) → Accepts command told found → IsPrintCause before now a
     → IsAnswer (built command) told a
-answer-fits command None before now found answer.WriteFault loads cause = tt
-answer-fits command (Some files) before now found answer.WriteFault loads cause = (found, loads)
-answer-fits command told before now found answer.NoMemory loads cause = tt
-answer-fits command told before now found a loads cause = absurd cause
+answer-fits command None before now found answer.WriteFault accepts cause = tt
+answer-fits command (Some files) before now found answer.WriteFault accepts cause = (found, accepts)
+answer-fits command told before now found answer.NoMemory accepts cause = tt
+answer-fits command told before now found a accepts cause = absurd cause
 
 answer-caused : (old new : Outside) (a : Answer) → IsPrintCause old.write_faults new.write_faults a → IsCaused old new a
 answer-caused old new answer.WriteFault cause = cause
 answer-caused old new answer.NoMemory cause = tt
 answer-caused old new a cause = absurd cause
 
-got-accepted : (command : Command) (told : Option Files) (old new : Outside) (found : Found) → Loads command told (Ok found)
+got-accepted : (command : Command) (told : Option Files) (old new : Outside) (found : Found) → Accepts command told found
     → GotPrefix old.output new.output (output command found) → GotAccepted (built command) told old new
-got-accepted command None old new found loads prefix = tt
-got-accepted command (Some files) old new found loads prefix = (found, loads, prefix)
+got-accepted command None old new found accepts prefix = tt
+got-accepted command (Some files) old new found accepts prefix = (found, accepts, prefix)
 
-answer-cut : (command : Command) (told : Option Files) (old new : Outside) (found : Found) (a : Answer) → Loads command told (Ok found)
+answer-cut : (command : Command) (told : Option Files) (old new : Outside) (found : Found) (a : Answer) → Accepts command told found
     → IsPrintCause old.write_faults new.write_faults a → GotPrefix old.output new.output (output command found) → IsCut (built command) told old new a
-answer-cut command told old new found answer.WriteFault loads cause prefix = got-accepted command told old new found loads prefix
-answer-cut command told old new found answer.NoMemory loads cause prefix = inr (got-accepted command told old new found loads prefix)
-answer-cut command told old new found a loads cause prefix = absurd cause
+answer-cut command told old new found answer.WriteFault accepts cause prefix = got-accepted command told old new found accepts prefix
+answer-cut command told old new found answer.NoMemory accepts cause prefix = inr (got-accepted command told old new found accepts prefix)
+answer-cut command told old new found a accepts cause prefix = absurd cause
 
-module _ (command : Command) (told : Option Files) (old new : Outside) (found : Found) (loads : Loads command told (Ok found)) where
+module _ (command : Command) (told : Option Files) (old new : Outside) (found : Found) (accepts : Accepts command told found) where
   pub printed-fits : (r : Result (Unit {0}) Refusal) → IfErr r (λ refusal. IsPrintCause old.write_faults new.write_faults (answer_of refusal))
       → IfErr r (λ refusal. IsAnswer (built command) told (answer_of refusal))
   printed-fits (Ok done) cause = tt
-  printed-fits (Err e) cause = answer-fits command told old.write_faults new.write_faults found (answer_of e) loads cause
+  printed-fits (Err e) cause = answer-fits command told old.write_faults new.write_faults found (answer_of e) accepts cause
 
   pub printed-caused : (r : Result (Unit {0}) Refusal) → IfErr r (λ refusal. IsPrintCause old.write_faults new.write_faults (answer_of refusal))
       → IfErr r (λ refusal. IsCaused old new (answer_of refusal))
@@ -212,4 +261,4 @@ module _ (command : Command) (told : Option Files) (old new : Outside) (found : 
   pub printed-cut : (r : Result (Unit {0}) Refusal) → IfErr r (λ refusal. IsPrintCause old.write_faults new.write_faults (answer_of refusal))
       → GotPrefix old.output new.output (output command found) → IfErr r (λ refusal. IsCut (built command) told old new (answer_of refusal))
   printed-cut (Ok done) cause prefix = tt
-  printed-cut (Err e) cause prefix = answer-cut command told old new found (answer_of e) loads cause prefix
+  printed-cut (Err e) cause prefix = answer-cut command told old new found (answer_of e) accepts cause prefix

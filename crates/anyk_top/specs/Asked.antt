@@ -4,7 +4,7 @@ use Rattle.refusal_lines.specs.Answer as answer
 use Rattle.refusal_lines.specs.Answer.{Answer}
 use Rattle.cmd_words.specs.Commands.{CommandSaid, run_said, session_said, plan_said, load_said}
 use Rattle.cmd_words.specs.Said.{WordsSaid}
-use Rattle.verdict.specs.Words.{Words, Asked, no_command, not_built, built, run, plan, session}
+use Rattle.verdict.specs.Words.{Words, Asked, no_command, built, run, plan, session, load}
 
 -- all but the engine, which changes no output
 abbrev pub words_of : WordsSaid → Words
@@ -20,11 +20,10 @@ asked_of None = no_command
 asked_of (Some (run_said said)) = built (run (words_of said))
 asked_of (Some (session_said said)) = asked_session said.script (words_of said)
 asked_of (Some (plan_said said)) = built (plan (words_of said))
-asked_of (Some (load_said engine number rows)) = not_built
+asked_of (Some (load_said engine number rows)) = built (load number rows)
 
--- the answer is the words' own: they are no command, or one that is not built; or memory ran out
+-- the answer is the words' own: they are no command; or memory ran out
 abbrev pub IsEarly : Asked → Answer → Type 0
 IsEarly asked answer.Usage = asked ≡ no_command
-IsEarly asked answer.Unbuilt = asked ≡ not_built
 IsEarly asked answer.NoMemory = Unit {0}
 IsEarly asked other = ⊥

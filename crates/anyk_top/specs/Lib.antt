@@ -1,3 +1,4 @@
 pub mod Asked
 pub mod Finished
 pub mod Requests
+pub mod Looked

@@ -14,18 +14,20 @@ ghost use Rattle.verdict.specs.Words.{built};
 ghost use Rattle.ranking_print.specs.Printed.{Printed};
 ghost use Rattle.anyk_top.specs.Requests.{command_of};
 
+use crate::looking::look_at;
 use crate::plan::print_report;
 use crate::request::Request;
 use crate::run::print_run;
 use crate::session::print_script;
-use input_load::{Input, load_input};
+use input_load::Input;
 use outer_io::{Shelf, Sink};
+use query_run::run_load;
 use refusal_lines::Refusal;
 use std::alloc::Global;
 use std::sync::ledger::Ledger;
 use step_counter::Steps;
 
-/// Reads the input that the words name, and prints the command's output.
+/// Reads the input that the words name, or makes it, and prints the command's output.
 pub(crate) fn answer<'a, F: Shelf, S: Sink, L: Ledger>(
     alloc: Global,
     request: &'a Request,
@@ -46,14 +48,7 @@ pub(crate) fn answer<'a, F: Shelf, S: Sink, L: Ledger>(
     ensures bounded { IsBounded (built (command_of request.now)) (F.files shelf.old) steps.old steps.new }
     ensures prompt { IsPrompt (built (command_of request.now)) (F.files shelf.old) (S.written out.old) (S.written out.new) steps.old steps.new }
 {
-    let words = request.words();
-    let input = load_input(
-        alloc,
-        words.query.as_str(),
-        request.script(),
-        words.tables.as_slice(),
-        shelf,
-    )?;
+    let input = look_at(alloc, request, shelf)?;
     print_output(alloc, request, &input, out, steps)
 }
 
@@ -82,6 +77,14 @@ fn print_output<'a, S: Sink, L: Ledger>(
             &input.query,
             &input.tables,
             input.steps.as_slice(),
+            out,
+            steps,
+        ),
+        Request::Load(engine, _) => run_load(
+            alloc,
+            *engine,
+            &input.query,
+            &input.tables,
             out,
             steps,
         ),

@@ -1,7 +1,8 @@
 //! What the words ask for.
 ghost use Rattle.std.specs.Prelude.{◌≡◌, Some, IfErr, IfOk, map};
 ghost use Rattle.std.specs.String.{string_bytes};
-ghost use Rattle.cmd_words.specs.Commands.{said_of, seen_command};
+ghost use Rattle.cmd_words.specs.Commands.{KeepsRange, said_of, seen_command};
+ghost use Rattle.cmd_words.specs.Numbers.{IsInRange};
 ghost use Rattle.cmd_words.specs.Said.{seen_words};
 ghost use Rattle.refusal_lines.specs.Refused.{answer_of};
 ghost use Rattle.verdict.specs.Words.{built, command_words};
@@ -10,22 +11,24 @@ ghost use Rattle.anyk_top.specs.Requests.{command_of};
 
 use crate::request::Request;
 use cmd_words::{Command, Words, WordsFault, read_words};
+use input_load::MadeTables;
 use refusal_lines::Refusal;
 use std::alloc::Global;
 
-/// The command that the words are. `Usage` where they are none, and `Unbuilt` where they are one that is not built.
+/// The command that the words are. `Usage` where they are none.
 pub(crate) fn read_request<'a>(alloc: Global, words: &[String]) -> Result<Request, Refusal<'a>>
     ensures built { IfOk result (λ request. asked_of (said_of (map string_bytes words.now)) ≡ built (command_of request)) }
     ensures early { IfErr result (λ refusal. IsEarly (asked_of (said_of (map string_bytes words.now))) (answer_of refusal)) }
 {
     match read_words(alloc, words) {
-        Ok(command) => request_of(command),
+        Ok(command) => request_of(alloc, command),
         Err(WordsFault::Usage) => Err(Refusal::Usage),
         Err(WordsFault::NoMemory) => Err(Refusal::NoMemory),
     }
 }
 
-fn request_of<'a>(command: Command) -> Result<Request, Refusal<'a>>
+fn request_of<'a>(alloc: Global, command: Command) -> Result<Request, Refusal<'a>>
+    requires { KeepsRange command }
     ensures built { IfOk result (λ request. asked_of (Some (seen_command command)) ≡ built (command_of request)) }
     ensures early { IfErr result (λ refusal. IsEarly (asked_of (Some (seen_command command))) (answer_of refusal)) }
 {
@@ -33,7 +36,9 @@ fn request_of<'a>(command: Command) -> Result<Request, Refusal<'a>>
         Command::Run(words) => Ok(Request::Run(words)),
         Command::Plan(words) => Ok(Request::Plan(words)),
         Command::Session(words) => session_of(words),
-        Command::Load(_, _, _) => Err(Refusal::Unbuilt),
+        Command::Load(engine, number, rows) => {
+            Ok(Request::Load(engine, MadeTables::new(alloc, number, rows)?))
+        }
     }
 }
 

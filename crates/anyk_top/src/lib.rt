@@ -6,6 +6,7 @@
 mod answering;
 mod asking;
 mod ending;
+mod looking;
 mod plan;
 mod request;
 mod run;

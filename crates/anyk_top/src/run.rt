@@ -43,5 +43,5 @@ pub(crate) fn print_run<'a, S: Sink, L: Ledger>(
         rows: words.rows,
         cursor: None,
     };
-    run_query(alloc, query, tables, &style, out, steps)
+    run_query(alloc, words.engine, query, tables, &style, out, steps)
 }

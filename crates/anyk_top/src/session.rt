@@ -4,6 +4,7 @@ ghost use Rattle.anyk_model.specs.Output.{cut};
 ghost use Rattle.anyk_model.specs.Ranking.{ranking_of};
 ghost use Rattle.cmd_words.specs.Said.{seen_words};
 ghost use Rattle.query_bind.specs.Weighed.{Fits};
+ghost use Rattle.query_run.specs.SessionBound.{KeepsSessionBound};
 ghost use Rattle.query_shape.specs.Shape.{IsShape, Shape};
 ghost use Rattle.ranking_print.specs.Printed.{Printed};
 ghost use Rattle.session_script.specs.Script.{KeepsRules};
@@ -37,13 +38,23 @@ pub(crate) fn print_script<'a, S: Sink, L: Ledger>(
     requires some { 1 ≤ length query.now.query.items }
     requires shaped { (shape : Shape) × IsShape query.now.query tables.now (Ok shape) }
     requires rules { KeepsRules [] script.now }
-    ensures { Printed (S.written out.old) (S.written out.new) (S.faults out.old) (S.faults out.new)
+    ensures printed { Printed (S.written out.old) (S.written out.new) (S.faults out.old) (S.faults out.new)
         (session_text query.now.query tables.now (style_of (words_of (seen_words words.now))) (cut query.now.query.limit (ranking_of query.now.query tables.now)) script.now) result }
+    ensures bounded { KeepsSessionBound query.now.query tables.now script.now steps.old steps.new }
 {
     let style = Style {
         ranks: words.ranks,
         rows: words.rows,
         cursor: None,
     };
-    run_session(alloc, query, tables, &style, script, out, steps)
+    run_session(
+        alloc,
+        words.engine,
+        query,
+        tables,
+        &style,
+        script,
+        out,
+        steps,
+    )
 }

@@ -7,6 +7,7 @@ use Rattle.clap.specs.Simple.{App, matches_of}
 use Rattle.clap.specs.Walk.{Row}
 use Rattle.cmd_words.specs.Arguments.{run_app, session_app, plan_app, load_app}
 use Rattle.cmd_words.specs.Said.{WordsSaid, texts_of, run_texts, plan_texts, said_by, session_by, load_by, seen_words}
+use Rattle.cmd_words.specs.Numbers.{IsInRange}
 use Rattle.cmd_words.specs.declared.command.Engine.{Engine}
 use Rattle.cmd_words.specs.declared.command.Command.{Command}
 use Rattle.cmd_words.specs.declared.command.Command.TheVariants.{Run, Session, Plan, Load}
@@ -58,3 +59,10 @@ seen_command (Run words) = run_said (seen_words words)
 seen_command (Session words) = session_said (seen_words words)
 seen_command (Plan words) = plan_said (seen_words words)
 seen_command (Load engine number rows) = load_said engine number rows
+
+-- the numbers of `load` are where it wants them
+abbrev pub KeepsRange : Command → Type 0
+KeepsRange (Run words) = Unit {0}
+KeepsRange (Session words) = Unit {0}
+KeepsRange (Plan words) = Unit {0}
+KeepsRange (Load engine number rows) = IsInRange number rows

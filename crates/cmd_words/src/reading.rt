@@ -2,7 +2,8 @@
 
 ghost use Rattle.std.specs.Prelude.{◌≡◌, Some, None, map, IfOk, IsErrOf};
 ghost use Rattle.std.specs.String.{string_bytes};
-ghost use Rattle.cmd_words.specs.Commands.{run_of, session_of, plan_of, load_of, said_of, said_to, seen_command};
+ghost use Rattle.cmd_words.specs.Commands.{run_of, session_of, plan_of, load_of, said_of, said_to, seen_command, KeepsRange};
+ghost use Rattle.cmd_words.specs.Numbers.{IsInRange};
 ghost use Rattle.cmd_words.specs.Said.{seen_words};
 
 use crate::WordsFault;
@@ -19,6 +20,7 @@ use std::alloc::Global;
 pub fn read_words(alloc: Global, words: &[String]) -> Result<Command, WordsFault>
     ensures words { IfOk result (λ command. said_of (map string_bytes words.now) ≡ Some (seen_command command)) }
     ensures usage { IsErrOf result WordsFault.Usage → said_of (map string_bytes words.now) ≡ None }
+    ensures ranges { IfOk result KeepsRange }
 {
     match words {
         [] => Err(WordsFault::Usage),
@@ -30,6 +32,7 @@ pub fn read_words(alloc: Global, words: &[String]) -> Result<Command, WordsFault
 fn read_command(alloc: Global, name: &str, words: &[String]) -> Result<Command, WordsFault>
     ensures words { IfOk result (λ command. said_to name.now (map string_bytes words.now) ≡ Some (seen_command command)) }
     ensures usage { IsErrOf result WordsFault.Usage → said_to name.now (map string_bytes words.now) ≡ None }
+    ensures ranges { IfOk result KeepsRange }
 {
     match name {
         "run" => Ok(Command::Run(read_run(alloc, words)?)),
@@ -83,6 +86,7 @@ fn read_plan(alloc: Global, words: &[String]) -> Result<Words, WordsFault>
 fn read_load(alloc: Global, words: &[String]) -> Result<(Engine, u32, u32), WordsFault>
     ensures words { IfOk result (λ said. load_of (map string_bytes words.now) ≡ Some (said.0, said.1, said.2)) }
     ensures usage { IsErrOf result WordsFault.Usage → load_of (map string_bytes words.now) ≡ None }
+    ensures ranges { IfOk result (λ said. IsInRange said.1 said.2) }
 {
     let matches = parsed(load_command(alloc)?, words)?;
     read_load_texts(&matches)

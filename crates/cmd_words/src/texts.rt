@@ -1,11 +1,11 @@
 //! The texts of the arguments, and what they say.
 
-ghost use Rattle.std.specs.Prelude.{◌≡◌, Some, None, map, option_and_then, option_map, IfOk, IsErrOf};
+ghost use Rattle.std.specs.Prelude.{◌≡◌, ◌≤◌, Some, None, map, option_and_then, option_map, IfOk, IfSome, IsErrOf};
 ghost use Rattle.std.specs.String.{string_bytes};
 ghost use Rattle.clap.specs.Matches.{found_of};
 ghost use Rattle.clap.specs.Walk.{rows_of};
 ghost use Rattle.cmd_words.specs.NamedPairs.{named_pair};
-ghost use Rattle.cmd_words.specs.Numbers.{number_in};
+ghost use Rattle.cmd_words.specs.Numbers.{IsInRange, number_in};
 ghost use Rattle.cmd_words.specs.Said.{engine_of, is_set, load_by, load_by_texts, said_by, session_by, seen_texts, seen_words, tables_of, texts_of};
 
 use crate::WordsFault;
@@ -119,6 +119,7 @@ fn read_engine(text: Option<&str>) -> Option<Engine>
 pub fn read_load_texts(matches: &ArgMatches<'_>) -> Result<(Engine, u32, u32), WordsFault>
     ensures words { IfOk result (λ said. load_by (rows_of (found_of matches.now)) ≡ Some (said.0, said.1, said.2)) }
     ensures usage { IsErrOf result WordsFault.Usage → load_by (rows_of (found_of matches.now)) ≡ None }
+    ensures ranges { IfOk result (λ said. IsInRange said.1 said.2) }
 {
     read_load_options(
         matches.get_str("engine"),
@@ -134,6 +135,7 @@ fn read_load_options(
 ) -> Result<(Engine, u32, u32), WordsFault>
     ensures words { IfOk result (λ said. load_by_texts (option_map (λ s. s.now) engine.entry) (option_map (λ s. s.now) number.entry) (option_map (λ s. s.now) rows.entry) ≡ Some (said.0, said.1, said.2)) }
     ensures usage { IsErrOf result WordsFault.Usage → load_by_texts (option_map (λ s. s.now) engine.entry) (option_map (λ s. s.now) number.entry) (option_map (λ s. s.now) rows.entry) ≡ None }
+    ensures ranges { IfOk result (λ said. IsInRange said.1 said.2) }
 {
     let Some(engine) = read_engine(engine) else {
         return Err(WordsFault::Usage);
@@ -149,7 +151,9 @@ fn read_load_options(
 
 // The whole number that a text is, where it lies from `low` to `high`.
 fn read_number(text: Option<&str>, low: u32, high: u32) -> Option<u32>
-    ensures { result ≡ option_and_then (number_in low high) (option_map (λ s. s.now) text.entry) }
+    ensures value { result ≡ option_and_then (number_in low high) (option_map (λ s. s.now) text.entry) }
+    ensures low { IfSome result (λ number. low ≤ number) }
+    ensures high { IfSome result (λ number. number ≤ high) }
 {
     match text {
         Some(text) => number_in(text, low, high),
@@ -159,7 +163,9 @@ fn read_number(text: Option<&str>, low: u32, high: u32) -> Option<u32>
 
 // Decimal digits are a number, with leading zeros and one `+` before them allowed.
 fn number_in(text: &str, low: u32, high: u32) -> Option<u32>
-    ensures { result ≡ number_in low high text.now }
+    ensures value { result ≡ number_in low high text.now }
+    ensures low { IfSome result (λ number. low ≤ number) }
+    ensures high { IfSome result (λ number. number ≤ high) }
 {
     match text.parse::<u32>() {
         Ok(number) if low <= number && number <= high => Some(number),

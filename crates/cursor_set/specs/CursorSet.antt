@@ -1,5 +1,5 @@
 -- What contracts see of a set of cursors.
-use Rattle.std.specs.Prelude.{◌≡◌, ℕ, ◌+◌, ◌≤◌, Bool, true, ◌⊎◌, Option, Some, None, IfSome, is_none, List, All, position, slice_index_or, slice_set}
+use Rattle.std.specs.Prelude.{◌≡◌, ℕ, ◌+◌, ◌≤◌, Bool, true, if◌then◌else◌, ◌⊎◌, Option, Some, None, IfSome, is_none, List, All, position, slice_index_or, slice_set}
 use Rattle.tdp_core.specs.Seen.{Seen}
 
 -- cursors over one list of answers
@@ -40,6 +40,10 @@ IsKnownAt s number = (place : ℕ) × (place_of s number ≡ Some place) × ((pl
 -- no cursor's place passes the answers that were found
 abbrev pub ArePlacesKnown : CursorSet → Type 0
 ArePlacesKnown s = All (λ place. IfSome place (λ n. n ≤ s.known)) s.places
+
+-- how much of the list was seen: each answer that was found, and the end
+abbrev pub seen_of : CursorSet → ℕ
+seen_of s = s.known + (if s.ended then 1 else 0)
 
 -- nothing of the answers is lost or forgotten
 pub record Keeps (old new : CursorSet) : Type 0 where

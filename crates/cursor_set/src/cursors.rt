@@ -1,6 +1,6 @@
 ghost use Rattle.std.specs.Prelude.{◌≡◌, ℕ, ◌+◌, ◌≤◌, ◌<◌, Some, None, Ok, Err, false, true, replicate, IfOk, IfErr, IfSome, IfNone, OnErr, slice_get, length, position, is_none, IsSome, IsSomeAnd};
 ghost use Rattle.tdp_model.specs.KeyNumbers.{numbers};
-ghost use Rattle.cursor_set.specs.CursorSet.{CursorSet, Keeps, IsKnownAt, ArePlacesKnown, place_of, first_free, with_place};
+ghost use Rattle.cursor_set.specs.CursorSet.{CursorSet, Keeps, IsKnownAt, ArePlacesKnown, place_of, first_free, seen_of, with_place};
 ghost use Rattle.cursor_set.specs.Faults.{RefusesNext, RefusesFork};
 
 use crate::cursor_id::{CursorFault, CursorId};
@@ -76,8 +76,10 @@ impl<E: Ranked> Cursors<E> {
         ensures kept { Keeps self.old self.new }
         ensures within { ArePlacesKnown self.new }
         ensures known { IsKnownAt self.old id.number → (self.new ≡ record self.old { places = self.new.places }) × (steps.new ≤ steps.old + 4) }
+        ensures grown { seen_of self.new ≤ seen_of self.old + 1 }
         ensures calls { self.new.calls ≤ self.old.calls + 1 }
         ensures cost { steps.new ≤ steps.old + self.old.due + 4 }
+        ensures share { steps.new ≤ steps.old + E.share self.old.size self.old.calls + 4 }
     {
         let place = self.places[id.number].ok_or(CursorFault::Unknown(id))?;
         if place < self.found.len() {

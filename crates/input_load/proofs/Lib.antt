@@ -3,3 +3,5 @@ pub mod Faults
 pub mod FirstUses
 pub mod Reading
 pub mod Following
+pub mod MadeShelf
+pub mod NoneMissing

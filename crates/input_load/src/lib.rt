@@ -1,10 +1,13 @@
 //! The input of a command, looked at in the order of its refusals: the query file, the script, a table that no word names, each
-//! table in the order of its first use, the query bound to its tables, and its structure.
+//! table in the order of its first use, the query bound to its tables, and its structure. The files are those of a shelf, or those
+//! that are made from a number.
 #![tactic(auto)]
 
 mod binding;
 mod file;
+mod generated;
 mod input;
+mod made;
 mod query;
 mod script;
 mod structure;
@@ -12,4 +15,6 @@ mod tables;
 mod uses;
 
 pub use binding::Input;
+pub use generated::MadeTables;
 pub use input::load_input;
+pub use made::load_made;

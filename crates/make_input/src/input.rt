@@ -2,7 +2,7 @@
 
 ghost use Rattle.std.specs.Prelude.{◌≡◌, ◌+◌, ◌*◌, ◌^◌, ◌<◌, ◌≤◌, ◌++◌, map, IfOk, codes};
 ghost use Rattle.std.specs.String.{string_bytes};
-ghost use Rattle.make_input.specs.Input.{next_draw, draw, row_text, rows_text, table_text, files};
+ghost use Rattle.make_input.specs.Input.{next_draw, draw, row_text, rows_text, table_text, files, load_query};
 
 use std::alloc::{AllocError, Global};
 use step_counter::NoMemory;
@@ -10,6 +10,14 @@ use step_counter::NoMemory;
 /// The query over the four tables P1 to P4: the 100 least sums of weights along their chain of joins.
 pub const LOAD_QUERY: &str =
     "select P1.a, P4.e from P1, P2, P3, P4 where P1.b = P2.b and P2.c = P3.c and P3.d = P4.d order by P1.w + P2.w + P3.w + P4.w limit 100";
+
+/// The bytes of the file of `LOAD_QUERY`.
+pub fn query_of(alloc: Global) -> Result<Vec<u8>, NoMemory>
+    ensures { IfOk result (λ bytes. bytes.items ≡ load_query) }
+{
+    let text = String::from_str(alloc, LOAD_QUERY)?;
+    Ok(text.into_bytes())
+}
 
 /// The generator's state: the number that it began with, or the last draw.
 #[derive(Drop)]

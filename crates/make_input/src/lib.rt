@@ -8,4 +8,4 @@ mod input;
 #[cfg(test)]
 mod tests;
 
-pub use input::{LOAD_QUERY, tables_of};
+pub use input::{LOAD_QUERY, query_of, tables_of};

@@ -1,9 +1,8 @@
 -- The plan of a query: the tree problem whose solutions are the query's witnesses.
-use Rattle.std.specs.Prelude.{◌≡◌, ◌↔◌, ◌⊎◌, ℕ, ◌+◌, ◌<◌, ◌≤◌, List, Contains, map, length, slice_index, Ok, Err}
+use Rattle.std.specs.Prelude.{◌≡◌, ◌↔◌, ◌⊎◌, ℕ, ◌<◌, ◌≤◌, List, Contains, map, length, slice_index, Ok, Err}
 use Rattle.rankings.specs.Order.{IsAscending, IsMember}
 use Rattle.tdp_model.specs.KeyTuple.{KeyOf}
-use Rattle.tdp_model.specs.TreeProblem.{sum_from}
-use Rattle.tdp_core.specs.TreeData.{NodeData, group, item, node_at, number, parent, rows}
+use Rattle.tdp_core.specs.TreeData.{NodeData, group, item, node_at, number, parent, row_count, rows}
 use Rattle.tdp_core.specs.Solutions.{Extends, IsTreeRanking, IsTreeSolution, solution_key}
 use Rattle.tdp_core.specs.WellFormed.{IsTieFreeTree}
 use Rattle.anyk_model.specs.Table.{Table}
@@ -69,7 +68,7 @@ pub record IsPlan {R : Type 0} (d : ℕ) (key : R → KeyOf d 16) (bound : Bound
   pub nodes : length plan.tree ≡ length bound.query.items
   pub items : (v : ℕ) → v < length plan.tree → item plan.tree v ≡ slice_index shape.atoms v
   pub parents : (v : ℕ) → v < length plan.tree → parent plan.tree v ≡ slice_index shape.parents v
-  pub fewer : sum_from ◌+◌ 0 (rows plan.tree) (length plan.tree) 0 ≤ sum_of_all shape.node_rows
+  pub fewer : row_count plan.tree ≤ sum_of_all shape.node_rows
   pub reduced : HasReducedRows bound tables plan.tree
   pub witnesses : HasWitnesses d key bound.query tables plan.tree
   pub tie_free : IsTieFreeTree plan.tree

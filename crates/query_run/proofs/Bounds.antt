@@ -12,8 +12,8 @@ use Rattle.query_shape.proofs.OneShape.{one_shape}
 use Rattle.rank_key.specs.Bits.{bit_length}
 use Rattle.tdp_model.specs.KeyTuple.{KeyOf}
 use Rattle.tdp_core.specs.Seen.{Seen, answer_of, answers_of}
-use Rattle.tdp_core.specs.TreeData.{NodeData, group_count}
-use Rattle.anyk_part.specs.Bounds.{most_steps, row_count, share_of, size_of}
+use Rattle.tdp_core.specs.TreeData.{NodeData, group_count, row_count}
+use Rattle.tdp_core.specs.Shares.{most_steps, share_of, size_of}
 use Rattle.witness_key.specs.WitnessKey.{answer_of_witness, answers_of_ranking, witness_key}
 use Rattle.step_bounds.specs.Steps.{cost, steps_for}
 use Rattle.step_bounds.proofs.Shares.{shares}

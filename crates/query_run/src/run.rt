@@ -10,8 +10,10 @@ ghost use Rattle.step_bounds.specs.Bounded.{KeepsBound, KeepsPace};
 
 use crate::plan::plan_of;
 use answer_print::Style;
-use anyk_part::Part;
+use bumpalo::Bump;
+use cmd_words::Engine;
 use csv_tables::Tables;
+use engine_choice::choose_engine;
 use outer_io::Sink;
 use query_bind::Query;
 use rank_key::{LexRank, Rank, SumRank};
@@ -26,6 +28,7 @@ use step_counter::Steps;
 /// within their limit.
 pub fn run_query<'a, S: Sink, L: Ledger>(
     alloc: Global,
+    engine: Engine,
     query: &Query,
     tables: &Tables,
     style: &Style<'_>,
@@ -41,15 +44,16 @@ pub fn run_query<'a, S: Sink, L: Ledger>(
     ensures prompt { KeepsPace query.now.query tables.now (style_shown style.now) (S.written out.old) (S.written out.new) steps.old steps.new }
 {
     if query.keys() <= 1 {
-        run_by::<SumRank, S, L>(alloc, query, tables, style, out, steps)
+        run_by::<SumRank, S, L>(alloc, engine, query, tables, style, out, steps)
     } else {
-        run_by::<LexRank, S, L>(alloc, query, tables, style, out, steps)
+        run_by::<LexRank, S, L>(alloc, engine, query, tables, style, out, steps)
     }
 }
 
 // Runs by ranks that have room for the query's order keys.
 fn run_by<'a, R: Rank, S: Sink, L: Ledger>(
     alloc: Global,
+    engine: Engine,
     query: &Query,
     tables: &Tables,
     style: &Style<'_>,
@@ -66,6 +70,7 @@ fn run_by<'a, R: Rank, S: Sink, L: Ledger>(
     ensures prompt { KeepsPace query.now.query tables.now (style_shown style.now) (S.written out.old) (S.written out.new) steps.old steps.new }
 {
     let plan = plan_of::<R, L>(alloc, query, tables, steps)?;
-    let mut part = Part::new(alloc, plan.tree(), steps)?;
-    print_ranking(alloc, query, tables, style, &mut part, out, steps)
+    let arena = Bump::new(alloc);
+    let mut chosen = choose_engine(alloc, engine, plan.tree(), &arena, steps)?;
+    print_ranking(alloc, query, tables, style, &mut chosen, out, steps)
 }

@@ -7,12 +7,15 @@ ghost use Rattle.query_bind.specs.Weighed.{Fits};
 ghost use Rattle.query_shape.specs.Shape.{IsShape, Shape};
 ghost use Rattle.session_script.specs.Script.{KeepsRules};
 ghost use Rattle.verdict.specs.Session.{session_text};
+ghost use Rattle.query_run.specs.SessionBound.{KeepsSessionBound};
 ghost use Rattle.ranking_print.specs.Printed.{Printed};
 
 use crate::plan::plan_of;
 use answer_print::Style;
-use anyk_part::Part;
+use bumpalo::Bump;
+use cmd_words::Engine;
 use csv_tables::Tables;
+use engine_choice::choose_engine;
 use outer_io::Sink;
 use query_bind::Query;
 use rank_key::{LexRank, Rank, SumRank};
@@ -28,6 +31,7 @@ use step_counter::Steps;
 /// and its node rows are within their limit.
 pub fn run_session<'a, S: Sink, L: Ledger>(
     alloc: Global,
+    engine: Engine,
     query: &Query,
     tables: &Tables,
     style: &Style<'_>,
@@ -39,19 +43,21 @@ pub fn run_session<'a, S: Sink, L: Ledger>(
     requires some { 1 ≤ length query.now.query.items }
     requires shaped { (shape : Shape) × IsShape query.now.query tables.now (Ok shape) }
     requires rules { KeepsRules [] script.now }
-    ensures { Printed (S.written out.old) (S.written out.new) (S.faults out.old) (S.faults out.new)
+    ensures printed { Printed (S.written out.old) (S.written out.new) (S.faults out.old) (S.faults out.new)
         (session_text query.now.query tables.now (style_shown style.now) (cut query.now.query.limit (ranking_of query.now.query tables.now)) script.now) result }
+    ensures bounded { KeepsSessionBound query.now.query tables.now script.now steps.old steps.new }
 {
     if query.keys() <= 1 {
-        session_by::<SumRank, S, L>(alloc, query, tables, style, script, out, steps)
+        session_by::<SumRank, S, L>(alloc, engine, query, tables, style, script, out, steps)
     } else {
-        session_by::<LexRank, S, L>(alloc, query, tables, style, script, out, steps)
+        session_by::<LexRank, S, L>(alloc, engine, query, tables, style, script, out, steps)
     }
 }
 
 // Runs by ranks that have room for the query's order keys.
 fn session_by<'a, R: Rank, S: Sink, L: Ledger>(
     alloc: Global,
+    engine: Engine,
     query: &Query,
     tables: &Tables,
     style: &Style<'_>,
@@ -64,10 +70,12 @@ fn session_by<'a, R: Rank, S: Sink, L: Ledger>(
     requires some { 1 ≤ length query.now.query.items }
     requires shaped { (shape : Shape) × IsShape query.now.query tables.now (Ok shape) }
     requires rules { KeepsRules [] script.now }
-    ensures { Printed (S.written out.old) (S.written out.new) (S.faults out.old) (S.faults out.new)
+    ensures printed { Printed (S.written out.old) (S.written out.new) (S.faults out.old) (S.faults out.new)
         (session_text query.now.query tables.now (style_shown style.now) (cut query.now.query.limit (ranking_of query.now.query tables.now)) script.now) result }
+    ensures bounded { KeepsSessionBound query.now.query tables.now script.now steps.old steps.new }
 {
     let plan = plan_of::<R, L>(alloc, query, tables, steps)?;
-    let part = Part::new(alloc, plan.tree(), steps)?;
-    print_session(alloc, query, tables, style, part, script, out, steps)
+    let arena = Bump::new(alloc);
+    let chosen = choose_engine(alloc, engine, plan.tree(), &arena, steps)?;
+    print_session(alloc, query, tables, style, chosen, script, out, steps)
 }

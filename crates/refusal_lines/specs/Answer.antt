@@ -33,7 +33,6 @@ pub data Answer : Type 0 where
   ReadFault : (file : List ℕ) → Answer
   WriteFault : Answer
   NoMemory : Answer
-  Unbuilt : Answer
 
 abbrev pub status_of : Answer → ℕ
 status_of Usage = 2
@@ -66,7 +65,6 @@ status_of (NoFile file) = 9
 status_of (ReadFault file) = 10
 status_of WriteFault = 11
 status_of NoMemory = 12
-status_of Unbuilt = 13
 
 -- items with a space before each
 abbrev pub spaced : List ℕ → List ℕ
@@ -117,7 +115,6 @@ text_of (NoFile file) = on_file file (codes ": not found")
 text_of (ReadFault file) = on_file file (codes ": read failed")
 text_of WriteFault = codes "write failed"
 text_of NoMemory = codes "out of memory"
-text_of Unbuilt = codes "not built yet"
 
 abbrev pub line_of : Answer → List ℕ
 line_of answer = codes "anyk: " ++ (text_of answer ++ codes "\n")

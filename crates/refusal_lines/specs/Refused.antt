@@ -1,7 +1,7 @@
 -- The program's refusals as answers.
 use Rattle.refusal_lines.specs.declared.refusal.Refusal.{Refusal}
 use Rattle.refusal_lines.specs.declared.refusal.Refusal.TheVariants as refusal
-use Rattle.refusal_lines.specs.Answer.{Answer, Usage, Syntax, BadLine, UnknownCursor, CursorExists, UnknownTable, DuplicateAlias, UnknownAlias, UnknownColumn, Ambiguous, NoHeader, DuplicateName, Ragged, BadWeight, Cyclic, RankRange, TooLong, TooManyItems, TooManyKeys, LimitRange, TooLarge, TooManyColumns, TooManyTableRows, TooManyNodeRows, TooManyLines, TooManyOpen, NoFile, ReadFault, WriteFault, NoMemory, Unbuilt}
+use Rattle.refusal_lines.specs.Answer.{Answer, Usage, Syntax, BadLine, UnknownCursor, CursorExists, UnknownTable, DuplicateAlias, UnknownAlias, UnknownColumn, Ambiguous, NoHeader, DuplicateName, Ragged, BadWeight, Cyclic, RankRange, TooLong, TooManyItems, TooManyKeys, LimitRange, TooLarge, TooManyColumns, TooManyTableRows, TooManyNodeRows, TooManyLines, TooManyOpen, NoFile, ReadFault, WriteFault, NoMemory}
 use Rattle.refusal_lines.specs.Core.{items_of}
 
 -- the answer that a refusal gives
@@ -36,4 +36,3 @@ answer_of (refusal.NoFile file) = NoFile file.now
 answer_of (refusal.ReadFault file) = ReadFault file.now
 answer_of refusal.WriteFault = WriteFault
 answer_of refusal.NoMemory = NoMemory
-answer_of refusal.Unbuilt = Unbuilt

@@ -53,7 +53,6 @@ fn write_reason<E: Sink>(err: &mut E, refusal: Refusal<'_>) -> Result<(), Unwrit
         Refusal::ReadFault(file) => write_on_file(err, file, b": read failed"),
         Refusal::WriteFault => write_text(err, b"write failed"),
         Refusal::NoMemory => write_text(err, b"out of memory"),
-        Refusal::Unbuilt => write_text(err, b"not built yet"),
     }
 }
 

@@ -67,8 +67,6 @@ pub enum Refusal<'a> {
     WriteFault,
     /// Memory was refused.
     NoMemory,
-    /// The command or the query has a form that is not built.
-    Unbuilt,
 }
 
 impl<'a> Refusal<'a> {
@@ -107,7 +105,6 @@ impl<'a> Refusal<'a> {
             Refusal::ReadFault(_) => 10,
             Refusal::WriteFault => 11,
             Refusal::NoMemory => 12,
-            Refusal::Unbuilt => 13,
         }
     }
 }

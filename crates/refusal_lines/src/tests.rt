@@ -170,7 +170,6 @@ fn writes_lines_on_files_and_limits(rt: HostRuntime) -> Result<(), Fail> {
         ),
         expected(Refusal::WriteFault, 11, b"anyk: write failed\n"),
         expected(Refusal::NoMemory, 12, b"anyk: out of memory\n"),
-        expected(Refusal::Unbuilt, 13, b"anyk: not built yet\n"),
     ];
     for i in 0..rows.len() {
         assert!(rt; writes(rt.alloc(), &rows[i], 200)?, "row {i}");

@@ -3,3 +3,5 @@ pub mod Moves
 pub mod Names
 pub mod Follows
 pub mod Steps
+pub mod Costs
+pub mod Reach

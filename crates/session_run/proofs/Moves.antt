@@ -1,5 +1,5 @@
 -- Cursors that are opened, moved and closed.
-use Rattle.std.proofs.Common.{◌≡◌, ◌≢◌, ◌<◌, ℕ, List, Bool, true, false, cond, Option, Some, None, IsSome, option_map, is_none, map, length, set, get_or, not, zero, suc, [], ◌∷◌, ◌+◌, nat_lt, refl, sym, ap, subst, ◌∙◌, inl, inr, ◌⊎◌, arith}
+use Rattle.std.proofs.Common.{◌≡◌, ◌≢◌, ◌<◌, ℕ, List, Bool, true, false, cond, Option, Some, None, IsSome, option_map, is_none, length, set, get_or, not, zero, suc, [], ◌∷◌, ◌+◌, nat_lt, refl, sym, ap, subst, ◌∙◌, inl, inr, ◌⊎◌, arith}
 use Rattle.std.specs.Prelude.{position}
 use Rattle.std.specs.List.{position_or_len}
 use Rattle.std.specs.Str.{bytes_eq}

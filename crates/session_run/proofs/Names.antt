@@ -1,6 +1,5 @@
 -- A script that keeps its rules by names uses no cursor but those that are open.
-use Rattle.std.proofs.Common.{◌≡◌, ◌≢◌, ℕ, List, [], ◌∷◌, ◌++◌, Bool, true, false, not, ◌&&◌, ◌||◌, cond, IsTrue, Option, Some, None, IsSome, is_some, length, take, drop, ◌+◌, refl, sym, ap, subst, ◌∙◌}
-use Rattle.std.specs.List.{list_any, filter}
+use Rattle.std.proofs.Common.{◌≡◌, ◌≢◌, ℕ, List, [], ◌∷◌, ◌++◌, Bool, true, false, not, ◌&&◌, ◌||◌, cond, Option, Some, None, IsSome, is_some, length, take, drop, ◌+◌, refl, sym, ap, ◌∙◌}
 use Rattle.std.specs.Str.{bytes_eq}
 use Rattle.std.proofs.lemmas.List.Folds.{list_any-append}
 use Rattle.std.proofs.lemmas.Map.Views.{any-filter_same}
@@ -8,8 +7,8 @@ use Rattle.std.proofs.lemmas.Slice.Eq.{bytes_eq-Decides}
 use Rattle.session_script.specs.declared.step.Step.{Step}
 use Rattle.session_script.specs.declared.step.Step.TheVariants.{Open, Next, Fork, Rewind, Close}
 use Rattle.session_script.specs.Script.{KeepsRules, is_open, names_after, names_without}
-use Rattle.verdict.specs.Session.{Places, no_cursors, place_in, places_after, with_cursor}
-use Rattle.session_run.specs.Rules.{CanFollow, CanStep}
+use Rattle.verdict.specs.Session.{Places, place_in, places_after, with_cursor}
+use Rattle.session_run.specs.Rules.{CanFollow}
 
 -- ---- names as texts
 

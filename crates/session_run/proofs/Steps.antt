@@ -1,7 +1,6 @@
 -- Steps that were taken one by one.
-use Rattle.std.proofs.Common.{◌≡◌, ◌+◌, ◌<◌, ◌≤◌, ℕ, List, [], ◌∷◌, ◌++◌, Option, Some, None, Result, Ok, Err, OnOk, map, length, drop, get_or, unwrap_or, replicate, refl, sym, ap, subst, ◌∙◌, arith}
+use Rattle.std.proofs.Common.{◌≡◌, ◌+◌, ◌<◌, ◌≤◌, ℕ, List, [], ◌∷◌, ◌++◌, Option, Some, None, Ok, Err, map, length, drop, get_or, unwrap_or, replicate, sym, ap, subst, ◌∙◌, arith}
 use Rattle.std.specs.Prelude.{take}
-use Rattle.std.specs.Io.KnownBytes.{Appends}
 use Rattle.std.proofs.lemmas.List.{drop_all, drop_more, get_or-map, get_or-replicate, length-replicate}
 use Rattle.cursor_set.specs.CursorSet.{CursorSet}
 use Rattle.refusal_lines.specs.declared.refusal.Refusal.{Refusal}
@@ -34,50 +33,49 @@ none-held set cursors none same = record {
 -- ---- one step
 
 -- so many steps were taken, and what the others print is left
-pub record HasTaken (line : List ℕ → List ℕ → List ℕ) (members : List (List ℕ)) (script : List Step) (i : ℕ) (set : CursorSet) (cursors : List Cursor)
-    (old now : Option (List ℕ)) (before faults : ℕ) : Type 0 where
-  pub places : Places
+pub record HasTaken (line : List ℕ → List ℕ → List ℕ) (members : List (List ℕ)) (script : List Step) (i : ℕ) (places : Places) (set : CursorSet)
+    (cursors : List Cursor) (old now : Option (List ℕ)) (before faults : ℕ) : Type 0 where
   pub held : IsHeld set cursors places
   pub rules : CanFollow members places (drop i script)
   pub left : HasLeft (steps_text line members no_cursors script) (steps_text line members places (drop i script)) old now before faults
 
-module _ (line : List ℕ → List ℕ → List ℕ) (members : List (List ℕ)) (script : List Step) (i : ℕ) (step : Step) (inside : i < length script) (here : get_or script i step ≡ step) where
+module _ (line : List ℕ → List ℕ → List ℕ) (members : List (List ℕ)) (script : List Step) (i : ℕ) (step : Step) (inside : i < length script) (here : get_or script i step ≡ step)
+    (places : Places) where
   split : drop i script ≡ step ∷ drop (i + 1) script
   split = drop_more script i step inside ∙ ap (λ (s : Step). s ∷ drop (i + 1) script) here
 
-  pub can-step : (places : Places) → CanFollow members places (drop i script) → CanStep places step × CanFollow members (places_after members places step) (drop (i + 1) script)
-  can-step places rules = let P : List Step → Type 0 = CanFollow members places in subst P split rules
+  pub can-step : CanFollow members places (drop i script) → CanStep places step × CanFollow members (places_after members places step) (drop (i + 1) script)
+  can-step rules = let P : List Step → Type 0 = CanFollow members places in subst P split rules
 
-  text-split : (places : Places) → steps_text line members places (drop i script)
+  text-split : steps_text line members places (drop i script)
       ≡ step_text line members places step ++ steps_text line members (places_after members places step) (drop (i + 1) script)
-  text-split places = ap (steps_text line members places) split
+  text-split = ap (steps_text line members places) split
 
   pub taken-more : (set set' : CursorSet) (cursors cursors' : List Cursor) (old mid now : Option (List ℕ)) (before m n : ℕ)
-      → (t : HasTaken line members script i set cursors old mid before m) → IsHeld set' cursors' (places_after members t.places step)
-      → Printed mid now m n (step_text line members t.places step) (Ok tt) → HasTaken line members script (i + 1) set' cursors' old now before n
+      → (t : HasTaken line members script i places set cursors old mid before m) → IsHeld set' cursors' (places_after members places step)
+      → Printed mid now m n (step_text line members places step) (Ok tt) → HasTaken line members script (i + 1) (places_after members places step) set' cursors' old now before n
   taken-more set set' cursors cursors' old mid now before m n t held printed = record {
-    places = places_after members t.places step;
     held = held;
-    rules = (can-step t.places t.rules).1;
-    left = left-more (steps_text line members no_cursors script) (steps_text line members t.places (drop i script)) old mid now before m n t.left
-        (step_text line members t.places step) (steps_text line members (places_after members t.places step) (drop (i + 1) script)) (text-split t.places)
+    rules = (can-step t.rules).1;
+    left = left-more (steps_text line members no_cursors script) (steps_text line members places (drop i script)) old mid now before m n t.left
+        (step_text line members places step) (steps_text line members (places_after members places step) (drop (i + 1) script)) text-split
         printed.whole printed.later;
   }
 
   pub taken-stopped : (set : CursorSet) (cursors : List Cursor) (old mid now : Option (List ℕ)) (before m n : ℕ) (e : Refusal)
-      → (t : HasTaken line members script i set cursors old mid before m) → Printed mid now m n (step_text line members t.places step) (Err e)
+      → (t : HasTaken line members script i places set cursors old mid before m) → Printed mid now m n (step_text line members places step) (Err e)
       → Printed old now before n (steps_text line members no_cursors script) (Err e)
   taken-stopped set cursors old mid now before m n e t printed =
-      left-stopped (steps_text line members no_cursors script) (steps_text line members t.places (drop i script)) old mid now before m n t.left
-      (step_text line members t.places step) (steps_text line members (places_after members t.places step) (drop (i + 1) script)) e (text-split t.places) printed
+      left-stopped (steps_text line members no_cursors script) (steps_text line members places (drop i script)) old mid now before m n t.left
+      (step_text line members places step) (steps_text line members (places_after members places step) (drop (i + 1) script)) e text-split printed
 
 -- all steps were taken
-pub taken-all : (line : List ℕ → List ℕ → List ℕ) (members : List (List ℕ)) (script : List Step) (i : ℕ) (set : CursorSet) (cursors : List Cursor)
-    (old now : Option (List ℕ)) (before n : ℕ) → length script ≤ i → HasTaken line members script i set cursors old now before n
+pub taken-all : (line : List ℕ → List ℕ → List ℕ) (members : List (List ℕ)) (script : List Step) (i : ℕ) (places : Places) (set : CursorSet) (cursors : List Cursor)
+    (old now : Option (List ℕ)) (before n : ℕ) → length script ≤ i → HasTaken line members script i places set cursors old now before n
     → Printed old now before n (steps_text line members no_cursors script) (Ok tt)
-taken-all line members script i set cursors old now before n end t =
-    left-none (steps_text line members no_cursors script) (steps_text line members t.places (drop i script)) old now before n t.left
-    (ap (steps_text line members t.places) (drop_all i script end))
+taken-all line members script i places set cursors old now before n end t =
+    left-none (steps_text line members no_cursors script) (steps_text line members places (drop i script)) old now before n t.left
+    (ap (steps_text line members places) (drop_all i script end))
 
 -- ---- the step `next`
 

@@ -8,7 +8,9 @@ ghost use Rattle.query_bind.specs.Weighed.{Fits};
 ghost use Rattle.ranking_print.specs.Printed.{Printed};
 ghost use Rattle.tdp_model.specs.KeyNumbers.{numbers};
 ghost use Rattle.verdict.specs.Session.{next_text, with_name};
+ghost use Rattle.verdict.specs.SessionCalls.{calls_among, ends_by_itself};
 ghost use Rattle.witness_key.specs.WitnessKey.{answers_of_ranking};
+ghost use Rattle.session_run.specs.Spent.{Paid, calls_at};
 
 use crate::open_cursors::OpenCursor;
 use answer_print::Style;
@@ -47,6 +49,10 @@ pub(crate) fn print_next<'a, E: Ranked, S: Sink, L: Ledger>(
     ensures moved { OnOk result (cursor.new.place ≡ cursor.old.place + length (take count (drop cursor.old.place (cut query.now.query.limit (ranking_of query.now.query tables.now))))) }
     ensures places { OnOk result (set.new.places ≡ (with_place set.old id.number (Some cursor.new.place)).places) }
     ensures kept { OnOk result (set.new.answers ≡ set.old.answers) }
+    ensures paid { Paid E.share set.old set.new
+        (cursor.old.place + calls_among (ends_by_itself query.now.query.limit (ranking_of query.now.query tables.now)) (length (drop cursor.old.place (cut query.now.query.limit (ranking_of query.now.query tables.now)))) count)
+        (calls_among (ends_by_itself query.now.query.limit (ranking_of query.now.query tables.now)) (length (drop cursor.old.place (cut query.now.query.limit (ranking_of query.now.query tables.now)))) count)
+        steps.old steps.new result }
 {
     let _items = query.items();
     let named = Style {
@@ -78,6 +84,7 @@ fn next_member<E: Ranked, L: Ledger>(
     ensures name { cursor.new.name.now ≡ cursor.old.name.now }
     ensures places { set.new.places ≡ (with_place set.old id.number (Some cursor.new.place)).places }
     ensures kept { set.new.answers ≡ set.old.answers }
+    ensures paid { Paid E.share set.old set.new (cursor.old.place + calls_at limit cursor.old.place) (calls_at limit cursor.old.place) steps.old steps.new result }
 {
     if is_reached(limit, cursor.place) {
         return Ok(None);

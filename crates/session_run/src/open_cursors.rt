@@ -45,6 +45,7 @@ pub(crate) fn open<'a, 's, E: Ranked>(
         → OnOk result (IsHeld set.new cursors.new (with_cursor places name.entry.now (Some 0))) }
     ensures memory { IfErr result (λ refusal. answer_of refusal ≡ answer.NoMemory) }
     ensures answers { set.new.answers ≡ set.old.answers }
+    ensures only { set.new ≡ record set.old { places = set.new.places } }
 {
     let Ok(id) = set.open() else {
         return Err(Refusal::NoMemory);
@@ -64,6 +65,7 @@ pub(crate) fn fork<'a, 's, E: Ranked>(
         → OnOk result (IsHeld set.new cursors.new (with_cursor places new.entry.now (places name.now))) }
     ensures memory { IfErr result (λ refusal. answer_of refusal ≡ answer.NoMemory) }
     ensures answers { set.new.answers ≡ set.old.answers }
+    ensures only { set.new ≡ record set.old { places = set.new.places } }
 {
     let Some(number) = number_of(cursors, name) else {
         return Ok(());
@@ -91,6 +93,7 @@ pub(crate) fn rewind<'a, E: Ranked>(
         → OnOk result (IsHeld set.new cursors.new (with_cursor places name.now (Some 0))) }
     ensures memory { IfErr result (λ refusal. answer_of refusal ≡ answer.NoMemory) }
     ensures answers { set.new.answers ≡ set.old.answers }
+    ensures only { set.new ≡ record set.old { places = set.new.places } }
 {
     let Some(number) = number_of(cursors, name) else {
         return Ok(());
@@ -118,6 +121,7 @@ pub(crate) fn close<'a, E: Ranked>(
         → OnOk result (IsHeld set.new cursors.new (with_cursor places name.now None)) }
     ensures memory { IfErr result (λ refusal. answer_of refusal ≡ answer.NoMemory) }
     ensures answers { set.new.answers ≡ set.old.answers }
+    ensures only { set.new ≡ record set.old { places = set.new.places } }
 {
     let Some(number) = number_of(cursors, name) else {
         return Ok(());

@@ -1,5 +1,5 @@
 //! A session, step by step.
-ghost use Rattle.std.specs.Prelude.{◌≡◌, [], IsSome, None, OnOk, map, option_map, replicate};
+ghost use Rattle.std.specs.Prelude.{◌≡◌, ◌≤◌, ◌+◌, ◌*◌, [], IsSome, None, OnOk, map, option_map, replicate};
 ghost use Rattle.anyk_model.specs.Output.{cut, line_text};
 ghost use Rattle.anyk_model.specs.Ranking.{ranking_of};
 ghost use Rattle.answer_print.specs.Shown.{style_shown};
@@ -8,9 +8,12 @@ ghost use Rattle.ranking_print.specs.Printed.{Printed};
 ghost use Rattle.session_script.specs.declared.step.Step.TheVariants.{Next};
 ghost use Rattle.session_script.specs.Script.{KeepsRules};
 ghost use Rattle.verdict.specs.Session.{Places, no_cursors, places_after, session_text, step_text, steps_text, with_name};
+ghost use Rattle.verdict.specs.SessionCalls.{calls_of_step, calls_of_steps, ends_by_itself, reach_of_step, reach_of_steps};
+ghost use Rattle.step_bounds.specs.Steps.{steps_for};
 ghost use Rattle.witness_key.specs.WitnessKey.{answers_of_ranking};
 ghost use Rattle.session_run.specs.Held.{IsHeld};
 ghost use Rattle.session_run.specs.Rules.{CanFollow, CanStep};
+ghost use Rattle.session_run.specs.Spent.{IsWithin, Paid};
 
 use crate::moving::print_next;
 use crate::open_cursors::{OpenCursors, close, fork, number_of, open, rewind};
@@ -28,7 +31,8 @@ use step_counter::Steps;
 use tdp_core::Ranked;
 
 /// Prints the header with the title of the cursors' names, and then what the steps of the script print of the answers that the
-/// engine gives, as far as the limit allows. `NoMemory` where memory is refused, and `WriteFault` where a write failed.
+/// engine gives, as far as the limit allows. `NoMemory` where memory is refused, and `WriteFault` where a write failed. The engine is
+/// called as often as the steps go far in the list, and each other call for a member takes at most 4 counted steps.
 pub fn print_session<'a, E: Ranked + Drop, S: Sink, L: Ledger>(
     alloc: Global,
     query: &Query,
@@ -42,8 +46,11 @@ pub fn print_session<'a, E: Ranked + Drop, S: Sink, L: Ledger>(
     requires fits { Fits query.now tables.now }
     requires rest { E.rest engine ≡ answers_of_ranking E.Key.KEYS query.now.query tables.now (ranking_of query.now.query tables.now) }
     requires rules { KeepsRules [] script.now }
-    ensures { Printed (S.written out.old) (S.written out.new) (S.faults out.old) (S.faults out.new)
+    ensures printed { Printed (S.written out.old) (S.written out.new) (S.faults out.old) (S.faults out.new)
         (session_text query.now.query tables.now (style_shown style.now) (cut query.now.query.limit (ranking_of query.now.query tables.now)) script.now) result }
+    ensures bounded { steps.new ≤ steps.old
+        + steps_for (λ n. E.share (E.size engine) (E.calls engine + n)) (reach_of_steps (ends_by_itself query.now.query.limit (ranking_of query.now.query tables.now)) (cut query.now.query.limit (ranking_of query.now.query tables.now)) no_cursors script.now)
+        + 4 * calls_of_steps (ends_by_itself query.now.query.limit (ranking_of query.now.query tables.now)) (cut query.now.query.limit (ranking_of query.now.query tables.now)) no_cursors script.now }
 {
     let titled = Style {
         ranks: style.ranks,
@@ -70,9 +77,11 @@ fn print_steps<'a, E: Ranked, S: Sink, L: Ledger>(
     requires answers { set.old.answers ≡ answers_of_ranking E.Key.KEYS query.now.query tables.now (ranking_of query.now.query tables.now) }
     requires places { set.old.places ≡ replicate 64 None }
     requires rules { KeepsRules [] script.now }
-    ensures { Printed (S.written out.old) (S.written out.new) (S.faults out.old) (S.faults out.new)
+    ensures printed { Printed (S.written out.old) (S.written out.new) (S.faults out.old) (S.faults out.new)
         (steps_text (λ name. line_text query.now.query tables.now (with_name (style_shown style.now) name))
         (cut query.now.query.limit (ranking_of query.now.query tables.now)) no_cursors script.now) result }
+    ensures within { IsWithin E.share set.old (reach_of_steps (ends_by_itself query.now.query.limit (ranking_of query.now.query tables.now)) (cut query.now.query.limit (ranking_of query.now.query tables.now)) no_cursors script.now)
+        (calls_of_steps (ends_by_itself query.now.query.limit (ranking_of query.now.query tables.now)) (cut query.now.query.limit (ranking_of query.now.query tables.now)) no_cursors script.now) steps.old steps.new }
 {
     let mut cursors = [None; MOST_OPEN];
     for step in script {
@@ -112,6 +121,9 @@ fn take_step<'a, 's, E: Ranked, S: Sink, L: Ledger>(
     ensures held { (places : Places) → IsHeld set.old cursors.old places → CanStep places step.now
         → OnOk result (IsHeld set.new cursors.new (places_after (cut query.now.query.limit (ranking_of query.now.query tables.now)) places step.now)) }
     ensures kept { OnOk result (set.new.answers ≡ set.old.answers) }
+    ensures paid { (places : Places) → IsHeld set.old cursors.old places → CanStep places step.now
+        → Paid E.share set.old set.new (reach_of_step (ends_by_itself query.now.query.limit (ranking_of query.now.query tables.now)) (cut query.now.query.limit (ranking_of query.now.query tables.now)) places step.now)
+        (calls_of_step (ends_by_itself query.now.query.limit (ranking_of query.now.query tables.now)) (cut query.now.query.limit (ranking_of query.now.query tables.now)) places step.now) steps.old steps.new result }
 {
     match step {
         Step::Open(name) => open(set, cursors, name.bytes()),
@@ -156,6 +168,9 @@ fn take_next<'a, E: Ranked, S: Sink, L: Ledger>(
     ensures held { (places : Places) → IsHeld set.old cursors.old places → IsSome (places name.now)
         → OnOk result (IsHeld set.new cursors.new (places_after (cut query.now.query.limit (ranking_of query.now.query tables.now)) places (Next name.now count))) }
     ensures kept { OnOk result (set.new.answers ≡ set.old.answers) }
+    ensures paid { (places : Places) → IsHeld set.old cursors.old places → IsSome (places name.now)
+        → Paid E.share set.old set.new (reach_of_step (ends_by_itself query.now.query.limit (ranking_of query.now.query tables.now)) (cut query.now.query.limit (ranking_of query.now.query tables.now)) places (Next name.now count))
+        (calls_of_step (ends_by_itself query.now.query.limit (ranking_of query.now.query tables.now)) (cut query.now.query.limit (ranking_of query.now.query tables.now)) places (Next name.now count)) steps.old steps.new result }
 {
     let Some(number) = number_of(cursors, name) else {
         return Ok(());

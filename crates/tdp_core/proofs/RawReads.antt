@@ -6,7 +6,7 @@ use Rattle.std.proofs.lemmas.List.{length-map, get_or-map}
 use Rattle.std.proofs.lemmas.List.Sums.{sum_by-cons}
 use Rattle.std.proofs.lemmas.Option.{slice_get_read, slice_get_within, get_or_from_slice_get}
 use Rattle.tdp_core.specs.declared.raw_row.RawRow.{RawRow}
-use Rattle.tdp_core.specs.RawData.{RawRowData, raw_row, raw_rows}
+use Rattle.tdp_core.specs.RawData.{raw_row, raw_rows}
 
 -- one list is not longer than all together
 pub length_within : {X : Type 0} (xss : List (List X)) (v : ℕ) → length (get_or xss v []) ≤ sum_by length xss

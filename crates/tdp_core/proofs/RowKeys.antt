@@ -1,9 +1,8 @@
 -- The key of a row is one that a node with the row's item can have.
-use Rattle.std.proofs.Common.{◌≡◌, ◌≢◌, ℕ, ◌^◌, ◌<◌, ◌≤◌, ℤ, pos, cond, nat_eq, List, [], length, get_or, replicate, unsigned_abs, sym, ap, subst, ◌∙◌, inl, inr, arith}
+use Rattle.std.proofs.Common.{◌≡◌, ℕ, ◌^◌, ◌<◌, ◌≤◌, ℤ, pos, cond, nat_eq, List, get_or, replicate, unsigned_abs, sym, ap, subst, ◌∙◌, inl, inr, arith}
 use Rattle.std.proofs.Math.ListN.{set}
 use Rattle.std.proofs.lemmas.Bool.{cases_eq, eq-eqb, ne_eqb, cond-true, cond-false}
 use Rattle.std.proofs.lemmas.List.{get_or-set_same, get_or-set_other, get_or-replicate, length-replicate}
-use Rattle.tdp_model.specs.KeyNumbers.{sum_of}
 use Rattle.tdp_model.specs.KeyTuple.{slot_of}
 use Rattle.tdp_model.proofs.KeyNumbers.{sum_of_lists, slot_of_lists}
 use Rattle.rank_key.specs.Keys.{row_key}

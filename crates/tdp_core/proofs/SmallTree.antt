@@ -1,9 +1,8 @@
 -- The trees that the tests build: a root of item 1 with one row, and one child of item 0 with two rows.
 use Rattle.std.proofs.Common.{◌≡◌, ℕ, pos, ◌+ℤ◌, nat_eq, zero, suc, ◌+◌, ◌-◌, ◌/◌, ◌^◌, ◌<◌, ◌≤◌, cond, nat_lt, List, [], ◌∷◌, length, get_or, refl, sym, ap, subst, ◌∙◌, inl, inr, arith}
-use Rattle.std.specs.List.{All, concat, range_with_len}
+use Rattle.std.specs.List.{concat, range_with_len}
 use Rattle.std.specs.List.Sorted.{IsPermutation}
 use Rattle.std.proofs.lemmas.List.Sorted.{IsPermutation-refl, IsPermutation-swap}
-use Rattle.std.proofs.lemmas.Bool.{cases_lt, cond-true, cond-false}
 use Rattle.std.proofs.lemmas.Bool.Decides.{nat_tests}
 use Rattle.tdp_model.specs.Remains.{AtMost}
 use Rattle.tdp_model.specs.KeyTuple.{KeyOf, key_below, key_add, key_none, slot_of}
@@ -19,7 +18,7 @@ use Rattle.tdp_model.proofs.KeyNumbers.{sum_of_add, sum_of_lists}
 use Rattle.tdp_core.specs.declared.parts.NodeShape.{NodeShape}
 use Rattle.tdp_core.specs.declared.parts.NodeParts.{NodeParts}
 use Rattle.tdp_core.specs.RawData.{AreShapes, shape_children}
-use Rattle.tdp_core.specs.TreeData.{NodeData, node_data, tree_data, cap_of, kids_below, parent, item, cap, rows, number, child_count, child_place, group_count, group_named, members, group, rank, best, node_at}
+use Rattle.tdp_core.specs.TreeData.{NodeData, node_data, tree_data, kids_below, parent, item, cap, rows, number, child_count, child_place, group_count, group_named, members, group, rank, best, node_at}
 use Rattle.tdp_core.specs.WellFormed.{IsShaped, IsFormed, RowFits}
 use Rattle.tdp_core.proofs.RowKeys.{row_key-fits, row_key-slot}
 

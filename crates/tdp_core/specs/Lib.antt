@@ -1,5 +1,7 @@
 pub mod RawData
+pub mod RisingShares
 pub mod Seen
+pub mod Shares
 pub mod Solutions
 pub mod TreeData
 pub mod WellFormed

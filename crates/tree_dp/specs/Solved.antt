@@ -1,9 +1,8 @@
 -- A tree beside the parts that it was made of.
-use Rattle.std.specs.Prelude.{◌≡◌, ℕ, ◌+◌, ◌↔◌, List, [], length, slice_index_or}
+use Rattle.std.specs.Prelude.{◌≡◌, ℕ, ◌↔◌, List, [], length, slice_index_or}
 use Rattle.std.specs.List.Sorted.{IsPermutation}
 use Rattle.tdp_model.specs.KeyTuple.{KeyOf}
-use Rattle.tdp_model.specs.TreeProblem.{sum_from}
-use Rattle.tdp_core.specs.TreeData.{NodeData, node_at, rows}
+use Rattle.tdp_core.specs.TreeData.{NodeData, node_at}
 use Rattle.tdp_core.specs.Solutions.{IsTreeSolution, solution_key}
 use Rattle.tdp_core.specs.WellFormed.{IsTieFreeTree}
 
@@ -22,7 +21,3 @@ pub record IsSolved {R : Type 0} (before after : List (NodeData R)) : Type 0 whe
   pub solutions : (t : ℕ → ℕ) → IsTreeSolution before t ↔ IsTreeSolution after t
   pub same_key : (d : ℕ) (key : R → KeyOf d 16) (t : ℕ → ℕ) → solution_key after d key t ≡ solution_key before d key t
   pub tie_free : IsTieFreeTree before → IsTieFreeTree after
-
--- how many rows there are in all
-abbrev pub row_count : {R : Type 0} → List (NodeData R) → ℕ
-row_count t = sum_from ◌+◌ 0 (rows t) (length t) 0

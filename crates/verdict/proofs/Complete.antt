@@ -4,7 +4,7 @@ use Rattle.outer_io.specs.Counts.{Rose}
 use Rattle.outer_io.specs.Files.{Files}
 use Rattle.refusal_lines.specs.Answer as answer
 use Rattle.refusal_lines.specs.Answer.{Answer, status_of}
-use Rattle.verdict.specs.Words.{Command, Asked, no_command, not_built, built}
+use Rattle.verdict.specs.Words.{Command, Asked, no_command, built}
 use Rattle.verdict.specs.Found.{Found}
 use Rattle.verdict.specs.Outcome.{Outside, Ended, IsComplete, IsAnswer, IsCaused, IsDoneWhereAccepted, IsRefusedWhereRefused}
 use Rattle.verdict.specs.Verdict.{IsVerdict}
@@ -21,7 +21,6 @@ pub complete_only : (asked : Asked) (told : Option Files) (old new : Outside)
     → IsComplete asked told old new → IsRefusedWhereRefused asked told old new 0
 complete_only asked None old new h = tt
 complete_only no_command (Some files) old new h = absurd h
-complete_only not_built (Some files) old new h = absurd h
 complete_only (built command) (Some files) old new (found, accepted, written) =
     λ refusal refused no_fault. no_both (one_verdict (built command) files _ _ accepted refused)
 
@@ -31,33 +30,16 @@ Same a b = a ≡ b
 differ-built-none : {A : Type 0} {k : Command} → Same (built k) no_command → A
 differ-built-none h = cc
 
-differ-built-unbuilt : {A : Type 0} {k : Command} → Same (built k) not_built → A
-differ-built-unbuilt h = cc
-
-differ-unbuilt-none : {A : Type 0} → Same not_built no_command → A
-differ-unbuilt-none h = cc
-
-differ-none-unbuilt : {A : Type 0} → Same no_command not_built → A
-differ-none-unbuilt h = cc
-
 -- words that are no command have that verdict alone
 usage_verdict : (files : Files) (asked : Asked) (result : Result Found Answer) → asked ≡ no_command → IsVerdict asked files result → result ≡ Err answer.Usage
 usage_verdict files no_command result e v = v
-usage_verdict files not_built result e v = differ-unbuilt-none e
 usage_verdict files (built command) result e v = differ-built-none e
-
--- and so has a command that is not built
-unbuilt_verdict : (files : Files) (asked : Asked) (result : Result Found Answer) → asked ≡ not_built → IsVerdict asked files result → result ≡ Err answer.Unbuilt
-unbuilt_verdict files no_command result e v = differ-none-unbuilt e
-unbuilt_verdict files not_built result e v = v
-unbuilt_verdict files (built command) result e v = differ-built-unbuilt e
 
 -- the refusal of a call that ended with it is the verdict's
 done_by : (asked : Asked) (files : Files) (old new : Outside) (a : Answer) → IsAnswer asked (Some files) a → IsCaused old new a
     → (found : Found) → IsVerdict asked files (Ok found) → (Rose old.read_faults new.read_faults → ⊥) → (Rose old.write_faults new.write_faults → ⊥)
     → (status_of a ≡ 0) ⊎ (status_of a ≡ 12)
 done_by asked files old new answer.Usage fits caused found accepted read write = no_both (usage_verdict files asked (Ok found) fits accepted)
-done_by asked files old new answer.Unbuilt fits caused found accepted read write = no_both (unbuilt_verdict files asked (Ok found) fits accepted)
 done_by asked files old new (answer.ReadFault name) fits caused found accepted read write = absurd (read caused)
 done_by asked files old new answer.WriteFault fits caused found accepted read write = absurd (write caused)
 done_by asked files old new answer.NoMemory fits caused found accepted read write = inr refl
@@ -74,8 +56,6 @@ refused_by : (asked : Asked) (files : Files) (old new : Outside) (a : Answer) �
     → (status_of a ≡ status_of refusal) ⊎ (status_of a ≡ 12)
 refused_by asked files old new answer.Usage fits caused refusal refused read =
     inl (ap status_of (sym (same_refusal (usage_verdict files asked (Err refusal) fits refused))))
-refused_by asked files old new answer.Unbuilt fits caused refusal refused read =
-    inl (ap status_of (sym (same_refusal (unbuilt_verdict files asked (Err refusal) fits refused))))
 refused_by asked files old new (answer.ReadFault name) fits caused refusal refused read = absurd (read caused)
 refused_by asked files old new answer.WriteFault fits caused refusal refused read = no_both (one_verdict asked files _ _ fits.1 refused)
 refused_by asked files old new answer.NoMemory fits caused refusal refused read = inr refl

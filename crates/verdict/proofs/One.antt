@@ -8,8 +8,9 @@ use Rattle.query_parse.specs.Parse.{Agree}
 use Rattle.query_parse.proofs.Exactly.{parses_agree}
 use Rattle.query_shape.specs.Shape.{Flaw, IsShape, Shape}
 use Rattle.query_shape.proofs.OneShape.{one_shape}
-use Rattle.refusal_lines.specs.Answer.{Answer, Usage, Unbuilt}
-use Rattle.verdict.specs.Words.{no_command, not_built, built, command_words, command_script}
+use Rattle.refusal_lines.specs.Answer.{Answer, Usage}
+use Rattle.verdict.specs.Made.{files_of}
+use Rattle.verdict.specs.Words.{no_command, built, command_words, command_script}
 use Rattle.verdict.specs.Faults.{of_parse, of_shape}
 use Rattle.verdict.specs.Laws.{OneVerdict}
 use Rattle.verdict.specs.Loading.{Bound, IsParse, bound_in}
@@ -112,5 +113,4 @@ one_read script named files bytes = one_then _ _ (one_parse bytes) (one_scripted
 
 pub one_verdict : OneVerdict
 one_verdict no_command files = one_computed (Err Usage)
-one_verdict not_built files = one_computed (Err Unbuilt)
-one_verdict (built command) files = one_then _ _ (one_computed _) (one_read (command_script command) (command_words command).tables files)
+one_verdict (built command) files = one_then _ _ (one_computed _) (one_read (command_script command) (command_words command).tables (files_of command files))

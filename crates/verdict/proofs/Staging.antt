@@ -17,13 +17,11 @@ wider_fits G T H U None answer.NoMemory gives turns h = tt
 wider_fits G T H U None (answer.ReadFault name) gives turns h = tt
 wider_fits G T H U None answer.WriteFault gives turns h = h
 wider_fits G T H U None answer.Usage gives turns h = h
-wider_fits G T H U None answer.Unbuilt gives turns h = h
 wider_fits G T H U None e gives turns h = tt
 wider_fits G T H U (Some files) answer.NoMemory gives turns h = tt
 wider_fits G T H U (Some files) (answer.ReadFault name) gives turns h = turns files name refl h
 wider_fits G T H U (Some files) answer.WriteFault gives turns h = h
 wider_fits G T H U (Some files) answer.Usage gives turns h = h
-wider_fits G T H U (Some files) answer.Unbuilt gives turns h = h
 wider_fits G T H U (Some files) e gives turns h = gives files refl h
 
 -- what a stage found fits where the files are told
@@ -107,7 +105,6 @@ pure_fits G told (Err (answer.NoFile name)) h = absurd h
 pure_fits G told (Err (answer.ReadFault name)) h = absurd h
 pure_fits G told (Err answer.WriteFault) h = h
 pure_fits G told (Err answer.Usage) h = h
-pure_fits G told (Err answer.Unbuilt) h = h
 pure_fits G None (Err e) h = tt
 pure_fits G (Some files) (Err e) h = h
 
@@ -150,7 +147,6 @@ pure_refused G H (answer.NoFile name) h = h
 pure_refused G H (answer.ReadFault name) h = h
 pure_refused G H answer.WriteFault h = h
 pure_refused G H answer.Usage h = h
-pure_refused G H answer.Unbuilt h = h
 pure_refused G H e h = refused h
 
 pub pure_found : {A B : Type 0} (G : Result A Answer → Type 0) (H : A → Result B Answer → Type 0) (a : A) (r : Result B Answer) → G (Ok a) → Pure (H a) r → Pure (Then G H) r
@@ -160,5 +156,4 @@ pure_found G H a (Err (answer.NoFile name)) g h = h
 pure_found G H a (Err (answer.ReadFault name)) g h = h
 pure_found G H a (Err answer.WriteFault) g h = h
 pure_found G H a (Err answer.Usage) g h = h
-pure_found G H a (Err answer.Unbuilt) g h = h
 pure_found G H a (Err e) g h = followed g h

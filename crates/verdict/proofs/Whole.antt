@@ -5,13 +5,13 @@ use Rattle.std.specs.Io.KnownBytes.{Appends}
 use Rattle.outer_io.specs.Files.{Files}
 use Rattle.refusal_lines.specs.Answer as answer
 use Rattle.refusal_lines.specs.Answer.{Answer, status_of}
-use Rattle.verdict.specs.Words.{Command, Asked, no_command, not_built, built}
-use Rattle.verdict.specs.Outcome.{Outside, Outcome, Ended, IsComplete, IsDoneWhereAccepted, statuses}
+use Rattle.verdict.specs.Words.{Command, Asked, no_command, built}
+use Rattle.verdict.specs.Outcome.{Outside, Outcome, Ended, IsAnswer, IsComplete, IsDoneWhereAccepted, statuses}
 use Rattle.verdict.proofs.Complete.{complete_only, done_only, refused_only}
 
-known_status : (a : Answer) → list_any (λ s. s == status_of a) statuses ≡ true
-known_status answer.Usage = refl
-known_status a = refl
+known_status : (asked : Asked) (told : Option Files) (a : Answer) → IsAnswer asked told a → list_any (λ s. s == status_of a) statuses ≡ true
+known_status asked told answer.NoMemory fits = refl
+known_status asked told a fits = refl
 
 not_done : {A : Type 0} (a : Answer) → status_of a ≡ 0 → A
 not_done answer.Usage e = absurd (omega (arith, e))
@@ -19,14 +19,13 @@ not_done a e = absurd (omega (arith, e))
 
 -- a call that ended with an answer
 pub ended_outcome : (asked : Asked) (told : Option Files) (old new : Outside) (a : Answer) → Ended asked told old new a
-    → (asked ≡ no_command → (status_of a ≡ 2) ⊎ (status_of a ≡ 12)) → (asked ≡ not_built → (status_of a ≡ 13) ⊎ (status_of a ≡ 12)) → Outcome asked told old new (status_of a)
-ended_outcome asked told old new a h usage unbuilt = record {
-  known = known_status a;
+    → (asked ≡ no_command → (status_of a ≡ 2) ⊎ (status_of a ≡ 12)) → Outcome asked told old new (status_of a)
+ended_outcome asked told old new a h usage = record {
+  known = known_status asked told a h.fits;
   done = λ e. not_done a e;
   quiet = λ e. not_done a e;
   refused = λ _. (a, refl, h);
   usage = usage;
-  unbuilt = unbuilt;
   accepted = done_only asked told old new a h;
   exact = refused_only asked told old new a h;
 }
@@ -37,18 +36,9 @@ Same a b = a ≡ b
 differ-none : {A : Type 0} {k : Command} → Same (built k) no_command → A
 differ-none h = cc
 
-differ-unbuilt : {A : Type 0} {k : Command} → Same (built k) not_built → A
-differ-unbuilt h = cc
-
 complete_command : {A : Type 0} (asked : Asked) (told : Option Files) (old new : Outside) → IsComplete asked told old new → asked ≡ no_command → A
 complete_command no_command told old new h e = absurd h
-complete_command not_built told old new h e = absurd h
 complete_command (built command) told old new h e = differ-none e
-
-complete_built : {A : Type 0} (asked : Asked) (told : Option Files) (old new : Outside) → IsComplete asked told old new → asked ≡ not_built → A
-complete_built no_command told old new h e = absurd h
-complete_built not_built told old new h e = absurd h
-complete_built (built command) told old new h e = differ-unbuilt e
 
 zero_accepted : (asked : Asked) (told : Option Files) (old new : Outside) → IsDoneWhereAccepted asked told old new 0
 zero_accepted asked None old new = tt
@@ -63,7 +53,6 @@ done_outcome asked told old new h quiet = record {
   quiet = λ _. quiet;
   refused = λ not_zero. absurd (not_zero refl);
   usage = λ e. complete_command asked told old new h e;
-  unbuilt = λ e. complete_built asked told old new h e;
   accepted = zero_accepted asked told old new;
   exact = complete_only asked told old new h;
 }

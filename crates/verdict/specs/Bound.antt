@@ -1,20 +1,23 @@
 -- The bound on the counted steps of an input that is accepted.
-use Rattle.std.specs.Prelude.{◌≡◌, ◌+◌, ◌++◌, ◌≤◌, ℕ, List, Option, Some, IfSome, Ok}
+use Rattle.std.specs.Prelude.{◌≡◌, ◌+◌, ◌*◌, ◌++◌, ◌≤◌, ℕ, List, Option, Some, IfSome, Ok}
 use Rattle.outer_io.specs.Files.{Files}
 use Rattle.anyk_model.specs.Ranking.{ranking_of}
 use Rattle.step_bounds.specs.Bounded.{cost_over, records_in}
 use Rattle.step_bounds.specs.Steps.{calls_for}
 use Rattle.verdict.specs.Found.{Found}
 use Rattle.verdict.specs.Output.{style_of}
+use Rattle.verdict.specs.SessionCalls.{session_calls, session_reach}
 use Rattle.verdict.specs.Verdict.{IsVerdict}
-use Rattle.verdict.specs.Words.{Asked, Command, built, plan, run, session}
+use Rattle.verdict.specs.Words.{Asked, Command, built, load, plan, run, session}
 
--- the steps are within the bound: on `run` for the calls that give its members, and on `plan` for no call; of a session nothing is
--- said
+-- the steps are within the bound: on `run` and on `load` for the calls that give the members, on `plan` for no call, and on `session`
+-- for as many calls as its steps go far, and 4 more for each call that they make
 abbrev pub IsWithin : Command → Found → ℕ → ℕ → Type 0
 IsWithin (run words) found before now = now ≤ before + cost_over found.query found.tables found.shape (calls_for found.query.limit (ranking_of found.query found.tables))
 IsWithin (plan words) found before now = now ≤ before + cost_over found.query found.tables found.shape 0
-IsWithin (session script words) found before now = Unit {0}
+IsWithin (session script words) found before now = now ≤ before + cost_over found.query found.tables found.shape (session_reach found.query.limit (ranking_of found.query found.tables) found.steps)
+    + 4 * session_calls found.query.limit (ranking_of found.query found.tables) found.steps
+IsWithin (load number rows) found before now = now ≤ before + cost_over found.query found.tables found.shape (calls_for found.query.limit (ranking_of found.query found.tables))
 
 -- where the files are told and the input is accepted they are, also where the call ended early
 abbrev pub IsBounded : Asked → Option Files → ℕ → ℕ → Type 0
@@ -27,6 +30,7 @@ IsPaced (run words) found old new before now = (start part : List ℕ) → old �
     → now ≤ before + cost_over found.query found.tables found.shape (records_in found.query found.tables (style_of words) part + 1)
 IsPaced (plan words) found old new before now = Unit {0}
 IsPaced (session script words) found old new before now = Unit {0}
+IsPaced (load number rows) found old new before now = Unit {0}
 
 -- and so where the files are told and the input is accepted
 abbrev pub IsPrompt : Asked → Option Files → Option (List ℕ) → Option (List ℕ) → ℕ → ℕ → Type 0

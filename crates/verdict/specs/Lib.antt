@@ -1,11 +1,14 @@
 pub mod Stages
 pub mod Words
+pub mod Made
 pub mod Faults
 pub mod Loading
 pub mod Found
 pub mod Verdict
 pub mod Output
 pub mod Session
+pub mod SessionCalls
+pub mod Summary
 pub mod Outcome
 pub mod Bound
 pub mod Laws

@@ -9,7 +9,7 @@ use Rattle.session_script.specs.declared.step.Step.{Step}
 use Rattle.rankings.specs.Order.{IsMember}
 use Rattle.refusal_lines.specs.Answer as answer
 use Rattle.refusal_lines.specs.Answer.{Answer, status_of, line_of}
-use Rattle.verdict.specs.Words.{Words, Command, Asked, no_command, not_built, built, command_words, command_script}
+use Rattle.verdict.specs.Words.{Words, Command, Asked, no_command, built, run, plan, session, load}
 use Rattle.verdict.specs.Found.{Found}
 use Rattle.verdict.specs.Loading.{IsParse, file_in, steps_in, unknown_table, first_uses, files_read}
 use Rattle.verdict.specs.Output.{output}
@@ -59,14 +59,20 @@ pub data IsTurnOf (words : Words) (script : Option (List ℕ)) (files : Files) (
       → steps_in files script ≡ Ok steps → unknown_table words.tables select.items ≡ None
       → IsMember name (files_read files words.tables (first_uses select.items)) → IsTurnOf words script files name
 
+-- where the files are told, it is one that the command reads, and `load` reads none
+abbrev pub IsCommandTurn : Command → Option Files → List ℕ → Type 0
+IsCommandTurn (run words) told name = IfSome told (λ files. IsTurnOf words None files name)
+IsCommandTurn (plan words) told name = IfSome told (λ files. IsTurnOf words None files name)
+IsCommandTurn (session script words) told name = IfSome told (λ files. IsTurnOf words (Some script) files name)
+IsCommandTurn (load number rows) told name = ⊥
+
 abbrev pub IsTurn : Asked → Option Files → List ℕ → Type 0
-IsTurn (built command) told name = IfSome told (λ files. IsTurnOf (command_words command) (command_script command) files name)
-IsTurn asked told name = ⊥
+IsTurn (built command) told name = IsCommandTurn command told name
+IsTurn no_command told name = ⊥
 
 -- where the files are told, the answer is the verdict on the input, or it speaks of what happened on the way
 abbrev pub IsAnswer : Asked → Option Files → Answer → Type 0
 IsAnswer asked told answer.Usage = asked ≡ no_command
-IsAnswer asked told answer.Unbuilt = asked ≡ not_built
 IsAnswer asked told (answer.ReadFault name) = IsTurn asked told name
 IsAnswer asked told answer.WriteFault = IfSome told (λ files. (found : Found) × IsVerdict asked files (Ok found))
 IsAnswer asked told answer.NoMemory = Unit {0}
@@ -107,7 +113,7 @@ IsRefusedWhereRefused asked told old new status = IfSome told (λ files. (refusa
 -- ---- the whole
 
 abbrev pub statuses : List ℕ
-statuses = 0 ∷ 2 ∷ 3 ∷ 4 ∷ 5 ∷ 6 ∷ 7 ∷ 8 ∷ 9 ∷ 10 ∷ 11 ∷ 12 ∷ 13 ∷ []
+statuses = 0 ∷ 2 ∷ 3 ∷ 4 ∷ 5 ∷ 6 ∷ 7 ∷ 8 ∷ 9 ∷ 10 ∷ 11 ∷ 12 ∷ []
 
 -- all that is said of one call of the program
 pub record Outcome (asked : Asked) (told : Option Files) (old new : Outside) (status : ℕ) : Type 0 where
@@ -116,6 +122,5 @@ pub record Outcome (asked : Asked) (told : Option Files) (old new : Outside) (st
   pub quiet : status ≡ 0 → Appends old.errors new.errors []
   pub refused : status ≢ 0 → (answer : Answer) × (status_of answer ≡ status) × Ended asked told old new answer
   pub usage : asked ≡ no_command → (status ≡ 2) ⊎ (status ≡ 12)
-  pub unbuilt : asked ≡ not_built → (status ≡ 13) ⊎ (status ≡ 12)
   pub accepted : IsDoneWhereAccepted asked told old new status
   pub exact : IsRefusedWhereRefused asked told old new status

@@ -3,9 +3,10 @@ use Rattle.std.specs.Prelude.{ℕ, List, None}
 use Rattle.anyk_model.specs.Output.{Style, output_of, cut}
 use Rattle.anyk_model.specs.Ranking.{ranking_of}
 use Rattle.plan_report.specs.Report.{report_of}
-use Rattle.verdict.specs.Words.{Words, Command, run, plan, session}
+use Rattle.verdict.specs.Words.{Words, Command, run, plan, session, load}
 use Rattle.verdict.specs.Found.{Found}
 use Rattle.verdict.specs.Session.{session_text}
+use Rattle.verdict.specs.Summary.{summary_text}
 
 abbrev pub style_of : Words → Style
 style_of words = record { ranks = words.ranks; rows = words.rows; cursor = None }
@@ -15,8 +16,9 @@ abbrev pub members_of : Found → List (List ℕ)
 members_of found = cut found.query.limit (ranking_of found.query found.tables)
 
 -- on `run` the header, and then a record for each of these members; on `plan` the report of the join tree; on `session` what the
--- steps of its script print of these members
+-- steps of its script print of these members; on `load` their summary
 abbrev pub output : Command → Found → List ℕ
 output (run words) found = output_of found.query found.tables (style_of words) (members_of found)
 output (plan words) found = report_of found.query found.tables found.shape
 output (session script words) found = session_text found.query found.tables (style_of words) (members_of found) found.steps
+output (load number rows) found = summary_text found.query found.tables (members_of found)

@@ -17,7 +17,6 @@ Fits Gives Turn told (Err answer.NoMemory) = Unit {0}
 Fits Gives Turn told (Err (answer.ReadFault name)) = IfSome told (λ files. Turn files name)
 Fits Gives Turn told (Err answer.WriteFault) = ⊥
 Fits Gives Turn told (Err answer.Usage) = ⊥
-Fits Gives Turn told (Err answer.Unbuilt) = ⊥
 Fits Gives Turn told result = IfSome told (λ files. Gives files result)
 
 -- an answer about the shelf comes only where its count rose
@@ -40,7 +39,6 @@ Pure Gives (Err (answer.NoFile name)) = ⊥
 Pure Gives (Err (answer.ReadFault name)) = ⊥
 Pure Gives (Err answer.WriteFault) = ⊥
 Pure Gives (Err answer.Usage) = ⊥
-Pure Gives (Err answer.Unbuilt) = ⊥
 Pure Gives result = Gives result
 
 -- it reads none

@@ -3,11 +3,12 @@ use Rattle.std.specs.Prelude.{◌≡◌, ℕ, List, Option, Result, Ok, Err}
 use Rattle.outer_io.specs.Files.{Files}
 use Rattle.query_parse.specs.declared.select.Select.{Select}
 use Rattle.anyk_model.specs.Table.{Table}
-use Rattle.refusal_lines.specs.Answer.{Answer, Usage, Unbuilt}
+use Rattle.refusal_lines.specs.Answer.{Answer, Usage}
 use Rattle.session_script.specs.declared.step.Step.{Step}
 use Rattle.query_shape.specs.Shape.{Flaw, IsShape, Shape}
 use Rattle.verdict.specs.Faults.{of_shape}
-use Rattle.verdict.specs.Words.{Asked, no_command, not_built, built, command_words, command_script}
+use Rattle.verdict.specs.Made.{files_of}
+use Rattle.verdict.specs.Words.{Asked, no_command, built, command_words, command_script}
 use Rattle.verdict.specs.Loading.{Bound, IsParse, file_in, steps_in, unknown_table, tables_in, first_uses, bound_in}
 use Rattle.verdict.specs.Found.{Found, found_of, with_steps}
 use Rattle.verdict.specs.Stages.{Then, Is, unless}
@@ -63,5 +64,5 @@ IsVerdictOn query script named files = Then (Is (file_in files query)) (IsRead s
 -- the words before everything
 abbrev pub IsVerdict : Asked → Files → Result Found Answer → Type 0
 IsVerdict no_command files = Is (Err Usage)
-IsVerdict not_built files = Is (Err Unbuilt)
-IsVerdict (built command) files = IsVerdictOn (command_words command).query (command_script command) (command_words command).tables files
+IsVerdict (built command) files =
+    IsVerdictOn (command_words command).query (command_script command) (command_words command).tables (files_of command files)

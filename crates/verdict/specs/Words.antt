@@ -1,5 +1,6 @@
 -- What the words of the command line ask for. Which engine they name is not among it: both meet the same text.
-use Rattle.std.specs.Prelude.{ℕ, List, Bool, Option, Some, None}
+use Rattle.std.specs.Prelude.{ℕ, List, Bool, false, Option, Some, None}
+use Rattle.make_input.specs.Input.{query_file, table_files}
 
 -- the names of files and tables are written as in the words
 pub record Words : Type 0 where
@@ -9,27 +10,32 @@ pub record Words : Type 0 where
   -- each table's name, and its file
   pub tables : List (List ℕ × List ℕ)
 
--- a command that is built
 pub data Command : Type 0 where
   run : Words → Command
   plan : Words → Command
   -- with the file of its script
   session : List ℕ → Words → Command
+  -- a run over the tables that are made from a number, with so many rows each
+  load : (number rows : ℕ) → Command
+
+-- those of a run over the files that are made
+abbrev pub made_words : Words
+made_words = record { ranks = false; rows = false; query = query_file; tables = table_files }
 
 abbrev pub command_words : Command → Words
 command_words (run words) = words
 command_words (plan words) = words
 command_words (session script words) = words
+command_words (load number rows) = made_words
 
 -- the file of the script, where the command has one
 abbrev pub command_script : Command → Option (List ℕ)
 command_script (run words) = None
 command_script (plan words) = None
 command_script (session script words) = Some script
+command_script (load number rows) = None
 
 pub data Asked : Type 0 where
   -- the words are no command
   no_command : Asked
-  -- they are a command that is not built yet
-  not_built : Asked
   built : Command → Asked

@@ -1,8 +1,7 @@
 use Rattle.std.proofs.Common.{◌≡◌, Err, rules, arith, length, sym, ap, ◌∙◌}
 use Rattle.std.proofs.lemmas.List.{length-map}
 use Rattle.tdp_core.specs.RawData.{row_total}
-use Rattle.tdp_core.specs.TreeData.{node_data, tree_data}
-use Rattle.tree_dp.specs.Solved.{row_count}
+use Rattle.tdp_core.specs.TreeData.{node_data, tree_data, row_count}
 use Rattle.plan_build.proofs.Planned.{planned}
 use Rattle.plan_build.proofs.ShapeOf.{kept-in-all}
 use Rattle.plan_build.proofs.Sizes.{steps-of-plan, steps-of-reduction}

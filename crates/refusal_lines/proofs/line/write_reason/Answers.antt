@@ -36,6 +36,3 @@ returns-in-TooManyNodeRows g c = rw c.in-TooManyNodeRows.is c.write_text-in-TooM
 
 pub returns-in-NoFile : goal.returns-in-NoFile
 returns-in-NoFile g c = rw c.in-NoFile.is c.write_on_file-in-NoFile.ensures
-
-pub returns-in-Unbuilt : goal.returns-in-Unbuilt
-returns-in-Unbuilt g c = rw c.in-Unbuilt.is c.write_text-in-Unbuilt.ensures

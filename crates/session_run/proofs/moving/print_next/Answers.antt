@@ -1,4 +1,4 @@
-use Rattle.std.proofs.Common.{◌≡◌, ◌+◌, ◌-◌, ◌<◌, ◌≤◌, ◌++◌, [], ℕ, List, Option, Some, None, Err, Ok, Result, OnOk, IfSome, length, drop, take, get_or, ap, sym, refl, subst, ◌∙◌, arith, rules}
+use Rattle.std.proofs.Common.{◌≡◌, ◌+◌, ◌-◌, ◌<◌, ◌≤◌, ◌++◌, [], ℕ, List, None, Err, Ok, length, drop, take, get_or, ap, sym, refl, subst, ◌∙◌, arith, rules}
 use Rattle.std.specs.Prelude.{codes, slice_set}
 use Rattle.std.proofs.lemmas.List.{set-get_or}
 use Rattle.anyk_model.specs.Output.{cut, line_text}
@@ -9,7 +9,9 @@ use Rattle.ranking_print.specs.Printed.{Printed}
 use Rattle.verdict.specs.Session.{next_text, with_name}
 use Rattle.witness_key.specs.WitnessKey.{answer_of_witness}
 use Rattle.ranking_print.proofs.Given.{member-combination, member-rows}
-use Rattle.session_run.proofs.Follows.{always, answer-is, answer-within, cut-at, cut-length, cut-within, given-all, given-less, next-done, next-ending, next-given, next-start, past-start, place-set, places-set}
+use Rattle.session_run.proofs.Follows.{always, answer-is, answer-within, cut-length, cut-within, given-all, given-less, next-done, next-ending, next-given, next-start, past-start, place-set, places-set}
+use Rattle.session_run.proofs.Costs.{paid-spent, spent-places}
+use Rattle.session_run.proofs.Reach.{given-done, given-more, given-spent, given-within}
 use Rattle.session_run.proofs.Left.{HasLeft, left-last, left-more, left-none, left-stopped, left-unprinted, left-whole}
 use Rattle.session_run.proofs.moving.print_next.Goals as goal
 
@@ -29,6 +31,8 @@ loop-given-init g c =
       here = c.requires.place;
       left = next-start (λ left. HasLeft whole left (g.S.Sink.written c.args.out.now) (g.S.Sink.written c.args.out.now) (g.S.Sink.faults c.args.out.now) (g.S.Sink.faults c.args.out.now))
           line ending members c.args.cursor.now.place c.args.count (left-whole whole (g.S.Sink.written c.args.out.now) (g.S.Sink.faults c.args.out.now));
+      spent = spent-places g.E.Ranked.share g.met.E.Ranked.share_rises c.args.set.now c.args.set.now (c.args.cursor.now.place + 0) 0 c.args.steps.now c.args.steps.now refl
+          (omega arith);
     }
 
 pub next_member-requires : goal.next_member-requires
@@ -193,6 +197,9 @@ loop-given-preserved g c =
       here = place-set c.loop-given.set.places c.next_member.new.set.places c.args.id.number place c.next_member.new.cursor.place c.loop-given.invariant.here
           c.in_ok-answer.ensures.places;
       left = left-more whole left _ _ _ _ _ _ c.loop-given.invariant.left _ _ split printed.whole printed.later;
+      spent = given-more g.E.Ranked.share g.met.E.Ranked.share_rises query.limit ranking start given c.args.count place c.args.set.now c.loop-given.set
+          c.args.steps.now c.loop-given.steps at c.loop-given.invariant.within c.loop-given.invariant.spent c.next_member.new.set c.next_member.new.steps found.0
+          (rw c.limit.ensures at c.in_ok-answer.ensures.paid.spent);
     }
 
 pub returns-clause-printed : goal.returns-clause-printed
@@ -231,3 +238,59 @@ returns-clause-moved g c =
     let full : given ≡ c.args.count = omega arith in
     let all = given-all members start given c.args.count c.loop-given.invariant.within full in
     omega (arith, c.loop-given.invariant.place, all)
+
+pub returns-in_err-answer-clause-paid : goal.returns-in_err-answer-clause-paid
+returns-in_err-answer-clause-paid g c =
+    let query = c.args.query.now.query in
+    let ranking = ranking_of query c.args.tables.now in
+    let start = c.args.cursor.now.place in
+    let given = c.loop-given._given in
+    let place = c.loop-given.cursor.place in
+    let at = c.loop-given.invariant.place in
+    let less : given < c.args.count = c.loop-given-test.true in
+    let e : c.from_residual.result ≡ Err refusal.NoMemory = search rules in
+    rw e (record {
+      spent = tt;
+      within = given-within g.E.Ranked.share g.met.E.Ranked.share_rises query.limit ranking start given c.args.count place c.args.set.now c.loop-given.set
+          c.args.steps.now c.loop-given.steps at c.loop-given.invariant.within c.loop-given.invariant.spent c.next_member.new.steps less (rw c.limit.ensures at c.in_err-answer.ensures.paid.within);
+    })
+
+pub returns-in_default-clause-paid : goal.returns-in_default-clause-paid
+returns-in_default-clause-paid g c =
+    let query = c.args.query.now.query in
+    let ranking = ranking_of query c.args.tables.now in
+    let start = c.args.cursor.now.place in
+    let given = c.loop-given._given in
+    let place = c.loop-given.cursor.place in
+    let at = c.loop-given.invariant.place in
+    let less : given < c.args.count = c.loop-given-test.true in
+    paid-spent g.E.Ranked.share g.met.E.Ranked.share_rises c.args.set.now c.next_member.new.set _ _ c.args.steps.now c.next_member.new.steps c.print_end.result
+    (given-spent g.E.Ranked.share g.met.E.Ranked.share_rises query.limit ranking start given c.args.count place c.args.set.now c.loop-given.set
+    c.args.steps.now c.loop-given.steps at c.loop-given.invariant.within c.loop-given.invariant.spent c.next_member.new.set c.next_member.new.steps
+    less (rw c.limit.ensures at c.in_ok-answer.ensures.paid.spent))
+
+pub returns-in_err-print_answer-clause-paid : goal.returns-in_err-print_answer-clause-paid
+returns-in_err-print_answer-clause-paid g c =
+    let query = c.args.query.now.query in
+    let ranking = ranking_of query c.args.tables.now in
+    let start = c.args.cursor.now.place in
+    let given = c.loop-given._given in
+    let place = c.loop-given.cursor.place in
+    let at = c.loop-given.invariant.place in
+    let less : given < c.args.count = c.loop-given-test.true in
+    paid-spent g.E.Ranked.share g.met.E.Ranked.share_rises c.args.set.now c.next_member.new.set _ _ c.args.steps.now c.next_member.new.steps
+    c.from_residual-in_err-print_answer.result
+    (given-spent g.E.Ranked.share g.met.E.Ranked.share_rises query.limit ranking start given c.args.count place c.args.set.now c.loop-given.set
+    c.args.steps.now c.loop-given.steps at c.loop-given.invariant.within c.loop-given.invariant.spent c.next_member.new.set c.next_member.new.steps
+    less (rw c.limit.ensures at c.in_ok-answer.ensures.paid.spent))
+
+pub returns-clause-paid : goal.returns-clause-paid
+returns-clause-paid g c =
+    let query = c.args.query.now.query in
+    let ranking = ranking_of query c.args.tables.now in
+    let start = c.args.cursor.now.place in
+    let given = c.loop-given._given in
+    let place = c.loop-given.cursor.place in
+    paid-spent g.E.Ranked.share g.met.E.Ranked.share_rises c.args.set.now c.loop-given.set _ _ c.args.steps.now c.loop-given.steps (Ok tt)
+    (given-done g.E.Ranked.share g.met.E.Ranked.share_rises query.limit ranking start given c.args.count place c.args.set.now c.loop-given.set
+    c.args.steps.now c.loop-given.steps c.loop-given.invariant.place c.loop-given.invariant.within c.loop-given.invariant.spent (omega arith))

@@ -5,6 +5,7 @@ use Rattle.anyk_model.specs.Ranking.{ranking_of}
 use Rattle.answer_print.specs.Shown.{style_shown}
 use Rattle.cursor_set.specs.CursorSet.{place_of}
 use Rattle.verdict.specs.Session.{next_text, with_name}
+use Rattle.session_run.specs.Spent.{Spent}
 use Rattle.session_run.proofs.Left.{HasLeft}
 use Rattle.session_run.proofs.moving.print_next.Given as goal
 
@@ -23,4 +24,5 @@ invariant-loop-given g l =
       here : place_of l.set l.id.number ≡ Some l.cursor.place;
       left : HasLeft (next_text line ending (drop start members) l.count) (next_text line ending (drop (start + l._given) members) (l.count - l._given))
           (g.S.Sink.written l.initial.out) (g.S.Sink.written l.out) (g.S.Sink.faults l.initial.out) (g.S.Sink.faults l.out);
+      spent : Spent g.E.Ranked.share l.initial.set l.set (start + l._given) l._given l.initial.steps l.steps;
     }

@@ -1,4 +1,4 @@
-use Rattle.std.proofs.Common.{None, Some, ap, sym, ◌∙◌}
+use Rattle.std.proofs.Common.{None, ap, sym, ◌∙◌}
 use Rattle.cursor_set.specs.CursorSet.{CursorSet}
 use Rattle.session_run.proofs.Moves.{found-named, held-moved, no-place, none-some, place-held, unknown-closed}
 use Rattle.session_run.proofs.open_cursors.close.Goals as goal

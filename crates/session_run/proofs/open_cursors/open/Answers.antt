@@ -1,4 +1,4 @@
-use Rattle.std.proofs.Common.{sym, ap}
+use Rattle.std.proofs.Common.{ap}
 use Rattle.cursor_set.specs.CursorSet.{CursorSet}
 use Rattle.session_run.proofs.Moves.{held-new}
 use Rattle.session_run.proofs.open_cursors.open.Goals as goal

@@ -1,12 +1,16 @@
-use Rattle.std.proofs.Common.{◌≡◌, ℕ, List, Option, Some, Result, Ok, Err, ap, sym, ◌∙◌, rules}
+use Rattle.std.proofs.Common.{◌≡◌, ℕ, List, Some, Ok, Err, ap, sym, ◌∙◌, rules}
 use Rattle.std.specs.Prelude.{slice_set}
 use Rattle.anyk_model.specs.Output.{cut, line_text}
 use Rattle.anyk_model.specs.Ranking.{ranking_of}
 use Rattle.answer_print.specs.Shown.{style_shown}
+use Rattle.refusal_lines.specs.declared.refusal.Refusal.{Refusal}
 use Rattle.ranking_print.specs.Printed.{Printed}
-use Rattle.verdict.specs.Session.{Places, with_name}
+use Rattle.verdict.specs.Session.{with_name}
 use Rattle.session_run.specs.declared.open_cursors.OpenCursor.{OpenCursor}
 use Rattle.session_run.specs.Held.{IsHeld}
+use Rattle.verdict.specs.SessionCalls.{ends_by_itself}
+use Rattle.session_run.specs.Spent.{Paid}
+use Rattle.session_run.proofs.Reach.{next-paid}
 use Rattle.session_run.proofs.Moves.{found-named, held-moved, no-cursor, place-named, some-same, unknown-closed}
 use Rattle.session_run.proofs.Steps.{next-after, next-told, same-place}
 use Rattle.session_run.proofs.session.take_next.Goals as goal
@@ -78,3 +82,34 @@ returns-clause-held g c = λ places held opened.
     c.in_ok-print_next.ensures.places in
     next-after (λ after. IsHeld c.print_next.new.set (slice_set c.args.cursors.now c.in-Some.number (Some now)) after) members places c.args.name.now c.in-Some-cursors.cursor.place now.place c.args.count at
     c.in_ok-print_next.ensures.moved moved
+
+pub returns-in_default-clause-paid : goal.returns-in_default-clause-paid
+returns-in_default-clause-paid g c = λ places held opened.
+    unknown-closed c.args.set.now c.args.cursors.now places c.args.name.now c.in_default.ensures held opened
+
+pub returns-in_default-cursors-clause-paid : goal.returns-in_default-cursors-clause-paid
+returns-in_default-cursors-clause-paid g c = λ places held opened.
+    no-cursor c.args.cursors.now c.in-Some.number c.args.name.now c.in-Some.ensures c.in_default-cursors.is
+
+pub returns-in_err-print_next-clause-paid : goal.returns-in_err-print_next-clause-paid
+returns-in_err-print_next-clause-paid g c = λ places held opened.
+    let query = c.args.query.now.query in
+    let ranking = ranking_of query c.args.tables.now in
+    let found = found-named c.args.cursors.now c.in-Some.number c.args.name.now c.in-Some.ensures in
+    let same = some-same (sym found.at ∙ c.in-Some-cursors.is) in
+    let at = place-named c.args.set.now c.args.set.now c.args.cursors.now places c.in-Some.number c.args.name.now found.cursor held found.within found.at found.is
+    ∙ ap (λ (e : OpenCursor). Some e.place) same in
+    let e : c.from_residual.result ≡ Err c.in_err-print_next.field-0.0 = search rules in
+    rw e (next-paid (λ reach calls. Paid {A = Unit {0}} {E = Refusal} g.E.Ranked.share c.args.set.now c.print_next.new.set reach calls c.args.steps.now c.print_next.new.steps (Err c.in_err-print_next.field-0.0))
+    (ends_by_itself query.limit ranking) (cut query.limit ranking) places c.args.name.now c.in-Some-cursors.cursor.place c.args.count at c.in_err-print_next.ensures.paid)
+
+pub returns-clause-paid : goal.returns-clause-paid
+returns-clause-paid g c = λ places held opened.
+    let query = c.args.query.now.query in
+    let ranking = ranking_of query c.args.tables.now in
+    let found = found-named c.args.cursors.now c.in-Some.number c.args.name.now c.in-Some.ensures in
+    let same = some-same (sym found.at ∙ c.in-Some-cursors.is) in
+    let at = place-named c.args.set.now c.args.set.now c.args.cursors.now places c.in-Some.number c.args.name.now found.cursor held found.within found.at found.is
+    ∙ ap (λ (e : OpenCursor). Some e.place) same in
+    next-paid (λ reach calls. Paid {A = Unit {0}} {E = Refusal} g.E.Ranked.share c.args.set.now c.print_next.new.set reach calls c.args.steps.now c.print_next.new.steps (Ok tt))
+    (ends_by_itself query.limit ranking) (cut query.limit ranking) places c.args.name.now c.in-Some-cursors.cursor.place c.args.count at c.in_ok-print_next.ensures.paid

@@ -2,8 +2,8 @@ use Rattle.std.proofs.Common.{ℕ, ◌+◌, ◌*◌, ◌≤◌, List, length, ap
 use Rattle.stream_store.specs.declared.entry.Linked.{Linked}
 use Rattle.tdp_model.specs.Regions.{Region}
 use Rattle.tdp_core.specs.Seen.{answers_of}
+use Rattle.tdp_core.specs.TreeData.{row_count}
 use Rattle.anyk_part.specs.declared.candidate.Link.{Link}
-use Rattle.anyk_part.specs.Bounds.{row_count}
 use Rattle.anyk_part.specs.Regions.{rest_keys, regions_of}
 use Rattle.anyk_part.proofs.Queues.{regions_seen}
 use Rattle.anyk_part.proofs.part.Part.new.Goals as goal

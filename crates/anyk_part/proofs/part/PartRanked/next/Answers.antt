@@ -4,8 +4,8 @@ use Rattle.take2_heap.specs.declared.entry.Entry.{Entry}
 use Rattle.tdp_core.specs.Seen.{rows_of_key}
 use Rattle.anyk_part.specs.declared.candidate.Link.{Link}
 use Rattle.anyk_part.specs.declared.candidate.Candidate.{Candidate}
-use Rattle.tdp_core.specs.TreeData.{group_count}
-use Rattle.anyk_part.specs.Bounds.{most_steps, row_count}
+use Rattle.tdp_core.specs.TreeData.{group_count, row_count}
+use Rattle.tdp_core.specs.Shares.{most_steps}
 use Rattle.anyk_part.specs.Regions.{PartState, rest_of, candidates_of}
 use Rattle.anyk_part.proofs.NextAnswers.{top_entry, top_next, top_key, answer_found, answers_end, steps_within}
 use Rattle.anyk_part.proofs.Starts.{starts_at}

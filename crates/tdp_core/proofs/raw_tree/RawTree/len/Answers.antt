@@ -1,4 +1,4 @@
-use Rattle.std.proofs.Common.{◌≡◌, ◌<◌, ◌≤◌, [], length, map, get_or, ap, arith}
+use Rattle.std.proofs.Common.{◌<◌, length, map, ap, arith}
 use Rattle.std.proofs.lemmas.List.{length-map}
 use Rattle.tdp_core.specs.RawData.{RawData, raw_row, raw_rows}
 use Rattle.tdp_core.proofs.RawReads.{length_within, node_read}

@@ -1,0 +1,79 @@
+//! The engine that is asked for.
+ghost use Rattle.std.specs.Prelude.{◌≡◌, ◌+◌, ◌*◌, ◌≤◌, IfOk, List, length};
+ghost use Rattle.tdp_model.specs.KeyTuple.{KeyOf};
+ghost use Rattle.tdp_core.specs.Seen.{answers_of};
+ghost use Rattle.tdp_core.specs.RisingShares.{at_most_itself, shares_rise};
+ghost use Rattle.tdp_core.specs.Shares.{share_of, size_of};
+ghost use Rattle.tdp_core.specs.Solutions.{IsTreeRanking};
+ghost use Rattle.tdp_core.specs.TreeData.{row_count};
+ghost use Rattle.tdp_core.specs.WellFormed.{IsTieFreeTree};
+ghost use Rattle.engine_choice.specs.Chosen.{calls_of, rest_of, tree_of};
+
+use anyk_part::Part;
+use anyk_rec::Rec;
+use bumpalo::Bump;
+use cmd_words::Engine;
+use rank_key::Rank;
+use std::alloc::Global;
+use std::sync::ledger::Ledger;
+use step_counter::{NoMemory, Steps};
+use tdp_core::{Answer, Ranked, Tree};
+
+/// One of the engines over a tree. What the second finds stands in an arena, which outlives it.
+#[derive(Drop)]
+pub enum ChosenEngine<'t, R: Rank> {
+    Part(Part<'t, R, Global>),
+    Rec(Rec<'t, R, &'t Bump>),
+}
+
+/// The engine of this name over the tree, of which no answer was taken yet. It takes at most 16 * m * (1 + N) steps over m nodes that
+/// have N rows in all, and gives `NoMemory` where memory is refused.
+pub fn choose_engine<'t, R: Rank, L: Ledger>(
+    alloc: Global,
+    engine: Engine,
+    tree: &'t Tree<R>,
+    arena: &'t Bump,
+    steps: &mut Steps<L>,
+) -> Result<ChosenEngine<'t, R>, NoMemory>
+    requires tie_free { IsTieFreeTree tree.now }
+    ensures tree { IfOk result (λ e. tree_of e ≡ tree.now) }
+    ensures calls { IfOk result (λ e. calls_of e ≡ 0) }
+    ensures ranking { IfOk result (λ e. (ks : List (KeyOf R.KEYS 16)) × IsTreeRanking tree.now R.KEYS R.key ks × (rest_of R.KEYS R.key e ≡ answers_of R.KEYS ks)) }
+    ensures cost { steps.new ≤ steps.old + 16 * (length tree.now * (1 + row_count tree.now)) }
+{
+    match engine {
+        Engine::Part => {
+            let part = Part::new(alloc, tree, steps)?;
+            Ok(ChosenEngine::Part(part))
+        }
+        Engine::Rec => {
+            let rec = Rec::new(arena, tree, steps)?;
+            Ok(ChosenEngine::Rec(rec))
+        }
+    }
+}
+
+impl<'t, R: Rank> Ranked for ChosenEngine<'t, R> {
+    type Key = R;
+
+    ghost rest = { rest_of R.KEYS R.key };
+
+    ghost calls = { calls_of };
+
+    ghost due = { λ e. share_of (size_of (tree_of e)) (calls_of e) };
+
+    ghost size = { λ e. size_of (tree_of e) };
+
+    ghost share = { share_of };
+
+    ghost share_rises = { shares_rise };
+
+    ghost due_within = { λ e. at_most_itself (share_of (size_of (tree_of e)) (calls_of e)) };
+
+    fn next<L: Ledger>(&mut self, steps: &mut Steps<L>) -> Result<Option<Answer<R>>, NoMemory> {
+        match self {
+            ChosenEngine::Part(part) => part.next(steps),
+            ChosenEngine::Rec(rec) => rec.next(steps),
+        }
+    }
+}

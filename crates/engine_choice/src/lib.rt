@@ -1,0 +1,7 @@
+//! The choice between the engines of ranked enumeration: anyK-part and anyK-rec of Tziavelis and others, "Optimal Algorithms for
+//! Ranked Enumeration of Answers to Full Conjunctive Queries", PVLDB 2020. Both give the same answers.
+#![tactic(auto)]
+
+mod engine;
+
+pub use engine::{ChosenEngine, choose_engine};

@@ -1,0 +1,210 @@
+//! The second engine over an arena that refuses each allocation in turn.
+ghost use Rattle.std.specs.Prelude.{◌≡◌, ◌<◌, ◌≤◌, IfOk, length};
+ghost use Rattle.std.specs.List.{AllByRecursion};
+ghost use Rattle.query_bind.specs.Weighed.{Fits};
+ghost use Rattle.tdp_core.specs.WellFormed.{IsTieFreeTree};
+
+use anyk_rec::Rec;
+use bumpalo::Bump;
+use csv_tables::Tables;
+use plan_build::prepare;
+use query_bind::{Query, bind};
+use query_parse::parse;
+use rank_key::{Rank, SumRank};
+use std::alloc::Global;
+use std::marker::Brand;
+use std::sync::ledger::{Blank, Ledger};
+use std::test::Fail;
+use step_counter::{NoMemory, Steps};
+use tdp_core::{Answer, Ranked, Tree};
+
+/// How many bytes a new chunk of an arena has at least.
+const CHUNK: usize = 448;
+
+/// How often memory may be refused in one call before the test gives up.
+const TRIES: usize = 200;
+
+// The query of this text over the tables, which are those of its items in their order.
+fn bound(alloc: Global, tables: &Tables, text: &[u8], which: &[u32]) -> Result<Query, Fail>
+    requires known { AllByRecursion (λ t. t < length tables.now) which.now }
+    ensures fits { IfOk result (λ query. Fits query tables.now) }
+    ensures some { IfOk result (λ query. 1 ≤ length query.query.items) }
+    ensures keys { IfOk result (λ query. length query.query.order ≤ 1) }
+{
+    let select = parse(alloc, text)?;
+    if select.items.as_slice().len() > 16
+        || select.keys.as_slice().len() > 1
+        || which.len() != select.items.as_slice().len()
+    {
+        return Err("not a small query".into());
+    }
+    let query = bind(alloc, &select, tables, which)?;
+    if query.items() == 0 || query.keys() > 1 {
+        return Err("not a small query".into());
+    }
+    Ok(query)
+}
+
+// Lets the arena take more memory, the more it was refused: an engine that is not made leaves what it took to the arena.
+fn allow_more(arena: &Bump, refused: usize) {
+    let limit = arena.allocation_limit().unwrap_or(0);
+    let more = refused.saturating_add(1).saturating_mul(64);
+    arena.set_allocation_limit(Some(limit.saturating_add(more)));
+}
+
+// The engine over the tree, with as much memory as it needs.
+fn engine_in<'t, 'a, R: Rank, L: Ledger>(
+    arena: &'a Bump,
+    tree: &'t Tree<R>,
+    steps: &mut Steps<L>,
+) -> Result<Rec<'t, R, &'a Bump>, NoMemory>
+    requires tie_free { IsTieFreeTree tree.now }
+{
+    for refused in 0..TRIES {
+        match Rec::new(arena, tree, steps) {
+            Ok(engine) => return Ok(engine),
+            Err(_) => allow_more(arena, refused),
+        }
+    }
+    Err(NoMemory)
+}
+
+// The next answer, and how often memory was refused before it was had, where the arena may take none at first.
+fn next_in<E: Ranked, L: Ledger>(
+    engine: &mut E,
+    arena: &Bump,
+    steps: &mut Steps<L>,
+) -> Result<(Option<Answer<E::Key>>, usize), NoMemory> {
+    arena.set_allocation_limit(Some(arena.allocated_bytes()));
+    for refused in 0..TRIES {
+        match engine.next(steps) {
+            Ok(answer) => return Ok((answer, refused)),
+            Err(_) => allow_more(arena, refused),
+        }
+    }
+    Err(NoMemory)
+}
+
+// Whether there is an answer, and its first items have these rows.
+fn has_rows<R: Rank>(answer: Option<Answer<R>>, rows: &[u32; 4]) -> bool {
+    let Some(answer) = answer else {
+        return false;
+    };
+    let all = answer.rows;
+    all.starts_with(rows)
+}
+
+// How often memory was refused while the engine gave all its answers, where these are the wanted rows of the first four items.
+fn refusals_over<'t, 'a, R: Rank, L: Ledger>(
+    arena: &'a Bump,
+    tree: &'t Tree<R>,
+    wanted: &[[u32; 4]],
+    steps: &mut Steps<L>,
+) -> Result<Option<usize>, NoMemory>
+    requires tie_free { IsTieFreeTree tree.now }
+{
+    let mut engine = engine_in(arena, tree, steps)?;
+    let mut refusals: usize = 0;
+    for rows in wanted {
+        let (answer, refused) = next_in(&mut engine, arena, steps)?;
+        refusals = refusals.saturating_add(refused);
+        if !has_rows(answer, rows) {
+            return Ok(None);
+        }
+    }
+    let (end, _) = next_in(&mut engine, arena, steps)?;
+    Ok(if end.is_none() { Some(refusals) } else { None })
+}
+
+// The same over an arena of which so many bytes are taken.
+fn refusals_in<R: Rank, L: Ledger>(
+    alloc: Global,
+    tree: &Tree<R>,
+    taken: usize,
+    wanted: &[[u32; 4]],
+    steps: &mut Steps<L>,
+) -> Result<Option<usize>, NoMemory>
+    requires tie_free { IsTieFreeTree tree.now }
+{
+    let arena = Bump::new(alloc);
+    let _filler: Vec<u8, &Bump> = Vec::with_capacity(&arena, taken)?;
+    arena.set_allocation_limit(Some(arena.allocated_bytes()));
+    refusals_over(&arena, tree, wanted, steps)
+}
+
+// How often memory was refused in all runs, where the wanted rows come in each: what the arena has taken before a run moves the places
+// of the refusals.
+fn refusals_in_all<R: Rank, L: Ledger>(
+    alloc: Global,
+    query: &Query,
+    tables: &Tables,
+    wanted: &[[u32; 4]],
+    blank: Blank,
+) -> Result<usize, Fail>
+    requires fits { Fits query.now tables.now }
+    requires keys { length query.now.query.order ≤ R.KEYS }
+    requires some { 1 ≤ length query.now.query.items }
+    requires name { blank.name ≡ L.name }
+    requires parts { blank.parts ≡ L.parts }
+    requires some_part { 0 < blank.parts }
+{
+    let mut steps = Steps::<L>::new(blank);
+    let Ok(plan) = prepare::<R, L>(alloc, query, tables, &mut steps) else {
+        return Err("no plan".into());
+    };
+    let mut refusals: usize = 0;
+    for eighth in 0..CHUNK / 8 {
+        let run = refusals_in(alloc, plan.tree(), 8 * eighth, wanted, &mut steps)?;
+        refusals = refusals.saturating_add(run.ok_or("other answers")?);
+    }
+    Ok(refusals)
+}
+
+#[test]
+fn a_join_comes_back_after_each_refusal(rt: HostRuntime) -> Result<(), Fail> {
+    let alloc = rt.alloc();
+    let mut tables = Tables::new(alloc);
+    tables.read(b"a,b,w\n1,x,3\n2,y,1\n3,x,1\n")?;
+    tables.read(b"b,c,w\nx,p,5\ny,q,2\nx,q,4\n")?;
+    let text = b"select R.a, S.c from R, S where R.b = S.b order by R.w + S.w";
+    let query = bound(alloc, &tables, text, &[0, 1])?;
+    let wanted = [
+        [2, 2, 0, 0],
+        [3, 3, 0, 0],
+        [3, 1, 0, 0],
+        [1, 3, 0, 0],
+        [1, 1, 0, 0],
+    ];
+    let refusals = refusals_in_all::<SumRank, Brand>(
+        alloc,
+        &query,
+        &tables,
+        &wanted,
+        Blank::new(1),
+    )?;
+    assert!(rt; refusals > 50, "{refusals}");
+    Ok(())
+}
+
+#[test]
+fn a_star_comes_back_after_each_refusal(rt: HostRuntime) -> Result<(), Fail> {
+    let alloc = rt.alloc();
+    let mut tables = Tables::new(alloc);
+    tables.read(b"k\nz\n")?;
+    tables.read(b"k,v,w\nz,1,0\nz,2,0\n")?;
+    tables.read(b"k,v,w\nz,3,0\nz,4,0\n")?;
+    tables.read(b"k,v,w\nz,5,0\n")?;
+    let text =
+        b"select L1.v, L2.v, L3.v from C, L1, L2, L3 where C.k = L1.k and C.k = L2.k and C.k = L3.k order by L1.w + L2.w + L3.w";
+    let query = bound(alloc, &tables, text, &[0, 1, 2, 3])?;
+    let wanted = [[1, 1, 1, 1], [1, 1, 2, 1], [1, 2, 1, 1], [1, 2, 2, 1]];
+    let refusals = refusals_in_all::<SumRank, Brand>(
+        alloc,
+        &query,
+        &tables,
+        &wanted,
+        Blank::new(1),
+    )?;
+    assert!(rt; refusals > 50, "{refusals}");
+    Ok(())
+}

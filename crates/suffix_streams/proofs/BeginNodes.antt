@@ -1,0 +1,185 @@
+-- The streams of a tree are made node by node, the last one first.
+use Rattle.std.proofs.Common.{◌≡◌, ◌≢◌, ℕ, zero, suc, ◌+◌, ◌-◌, ◌*◌, ◌<◌, ◌≤◌, None, List, [], ◌∷◌, ◌++◌, length, take, get_or, slice_set, refl, sym, ap, ◌∙◌, subst, inl, inr, arith, length-append, length-set, get_or-set_same, get_or-set_other}
+use Rattle.std.specs.List.{concat, range_with_len}
+use Rattle.std.proofs.lemmas.Bool.{cases_lt, cases_eq}
+use Rattle.std.proofs.lemmas.List.FromFn.{length-range_with_len}
+use Rattle.std.proofs.lemmas.List.Sorted.{length_permutation}
+use Rattle.stream_store.specs.declared.entry.Linked.{Linked}
+use Rattle.tdp_model.specs.KeyTuple.{KeyOf, key_none}
+use Rattle.tdp_model.specs.TreeProblem.{sum_from}
+use Rattle.tdp_core.specs.TreeData.{NodeData, node_at, parent, members, group_count, group_named, child_count, child_place, rows}
+use Rattle.tdp_core.specs.WellFormed.{IsFormed}
+use Rattle.tdp_core.proofs.TreeFacts.{member_is_row, group_count_within}
+use Rattle.tdp_core.proofs.Children.{kids_below-most}
+use Rattle.suffix_streams.specs.declared.stream.Found.{Found}
+use Rattle.suffix_streams.specs.StreamData.{StreamData}
+use Rattle.suffix_streams.specs.NodeLists.{NodeLists}
+use Rattle.suffix_streams.specs.Rankings.{child, part_list, group_list}
+use Rattle.suffix_streams.specs.Frontiers.{HasRows}
+use Rattle.suffix_streams.specs.StreamsData.{lists_of, IsHeaded}
+use Rattle.suffix_streams.specs.Beginnings.{HasHeads, IsEmptyNode, IsBegunFrom, IsBegunIn}
+use Rattle.suffix_streams.proofs.BeginFirsts.{group_head, row_head}
+use Rattle.suffix_streams.proofs.BeginRankings.{group_ranks, row_ranks}
+use Rattle.suffix_streams.proofs.BeginChildren.{child_is}
+use Rattle.suffix_streams.proofs.BeginOwners.{get_before, get_behind, get_default}
+use Rattle.suffix_streams.proofs.BeginMade.{with_stream, begun_none, begun_more}
+
+module _ {R : Type 0} (d : ℕ) (key : R → KeyOf d 16) (t : List (NodeData R)) (formed : IsFormed d key t) where
+  -- a group's ranking begins with the first solution of its first member
+  pub first_member : (q g : ℕ) → q < length t → g < group_count t q
+      → get_or (part_list d key t q (get_or (members t q g) 0 0) (child_count t q)) 0 (key_none d 16) ≡ get_or (group_list d key t q g) 0 (key_none d 16)
+  first_member q g l lg =
+      let some = formed.inhabited q g l lg in
+      (row_head d key t formed q (get_or (members t q g) 0 0) _ l (member_is_row d key t formed q g 0 l some) (row_ranks d key t formed q (get_or (members t q g) 0 0) l)).1
+      ∙ sym (group_head d key t formed q g _ l some (group_ranks d key t q g l)).1
+
+module _ {R : Type 0} (d : ℕ) (key : R → KeyOf d 16) (t : List (NodeData R)) where
+  pub from_none : (nodes : List (NodeLists R)) → length nodes ≡ length t → ((v : ℕ) → v < length t → IsEmptyNode t v (lists_of nodes v)) → IsBegunFrom d key t [] nodes (length t)
+  from_none nodes n empty = record {
+    streams = begun_none d key t nodes n empty;
+    behind = λ q a b. absurd (omega arith);
+    before = λ q l. (empty q l).no_streams;
+  }
+
+  pub from_in : (es : List (Linked (Found R))) (nodes : List (NodeLists R)) (v w : ℕ) → w ≡ v + 1 → IsBegunFrom d key t es nodes w → IsBegunIn d key t es nodes v 0
+  from_in es nodes v w e b = record { streams = b.streams; behind = λ q a l. b.behind q (omega arith) l; own = ap length (b.before v (omega arith)); before = λ q l. b.before q (omega arith) }
+
+  pub in_from : (es : List (Linked (Found R))) (nodes : List (NodeLists R)) (v g : ℕ) → g ≡ group_count t v → IsBegunIn d key t es nodes v g → IsBegunFrom d key t es nodes v
+  in_from es nodes v g all b = record {
+    streams = b.streams;
+    behind = λ q a l. elim (cases_eq q v) [
+      | inl e ↦ subst (λ z. length (lists_of nodes z).streams ≡ group_count t z) (sym e) (b.own ∙ all)
+      | inr n ↦ b.behind q (omega arith) l
+    ];
+    before = b.before;
+  }
+
+  -- the children of a node have their streams when the node's own are made
+  pub in_headed : IsFormed d key t → (es : List (Linked (Found R))) (nodes : List (NodeLists R)) (v g r : ℕ) → v < length t → r < rows t v → IsBegunIn d key t es nodes v g → IsHeaded d key t es nodes v r
+  in_headed formed es nodes v g r l row b =
+      record {
+        all_nodes = b.streams.all_nodes;
+        all_children = (b.streams.children v l).count;
+        children = (b.streams.children v l).each;
+        streams = there;
+        heads = λ c lc. (b.streams.begun (child t v c) (group_named t v r c) (child_is t v c lc).1 (there c lc)).head_in;
+        keys = λ c lc. (b.streams.begun (child t v c) (group_named t v r c) (child_is t v c lc).1 (there c lc)).first;
+      }
+    where
+      there : (c : ℕ) → c < child_count t v → group_named t v r c < length (lists_of nodes (child t v c)).streams
+      there c lc =
+          let q = child_is t v c lc in
+          let above : v < child t v c = omega (arith, formed.shaped.parents_first (child t v c) q.0 q.1, q.2) in
+          let named : group_named t v r c < group_count t (child t v c) =
+          subst (λ z. group_named t v r z < group_count t (child t v c)) q.3 (subst (λ z. group_named t z r (child_place t (child t v c)) < group_count t (child t v c)) q.2
+          (formed.named (child t v c) r q.0 q.1 (subst (λ z. r < rows t z) (sym q.2) row))) in
+          omega (arith, named, b.behind (child t v c) above q.1)
+
+  -- one more stream of the node is made
+  pub in_more : (es : List (Linked (Found R))) (nodes nodes' : List (NodeLists R)) (v g w : ℕ) (e : Linked (Found R)) (s : StreamData R) → length nodes' ≡ length nodes → ((q : ℕ) → q ≢ v → lists_of nodes' q ≡ lists_of nodes q)
+      → lists_of nodes' v ≡ with_stream (lists_of nodes v) s → v < length t → g < group_count t v → w ≡ g + 1 → e.value.node ≡ v → e.value.group ≡ g → e.next ≡ None → s.head ≡ length es
+      → key e.value.answer.rank ≡ get_or (group_list d key t v g) 0 (key_none d 16) → HasRows d key e.value.answer → HasHeads d key t v g s.queue
+      → IsBegunIn d key t es nodes v g → IsBegunIn d key t (es ++ (e ∷ [])) nodes' v w
+  in_more es nodes nodes' v g w e s same other own l lg more en eg el at_head first rows heads b = record {
+    streams = begun_more d key t es nodes nodes' v e s same other own g l (sym b.own) lg en eg el at_head first rows heads b.streams;
+    behind = λ q a lq. ap (λ z. length z.streams) (other q (λ e. omega arith)) ∙ b.behind q a lq;
+    own = ap (λ z. length z.streams) own ∙ length_more (lists_of nodes v).streams s ∙ ap (λ z. z + 1) b.own ∙ sym more;
+    before = λ q lq. ap (λ z. z.streams) (other q (λ e. omega arith)) ∙ b.before q lq;
+  }
+    where
+      length_more : (xs : List (StreamData R)) (x : StreamData R) → length (xs ++ (x ∷ [])) ≡ length xs + 1
+      length_more [] x = refl
+      length_more (y ∷ xs) x = omega (arith, length_more xs x)
+
+  -- # Steps
+
+  -- how many members the first g groups of node v have
+  abbrev pub members_to : ℕ → ℕ → ℕ
+  members_to v g = length (concat (take g (node_at t v).groups))
+
+  pub members_none : (v g : ℕ) → g ≡ 0 → members_to v g ≡ 0
+  members_none v g e = ap (λ k. length (concat (take k (node_at t v).groups))) e
+
+  pub members_more : (v g : ℕ) → g < group_count t v → members_to v (g + 1) ≡ members_to v g + length (members t v g)
+  members_more v g l = let next : g + 1 ≡ suc g = omega arith in ap (members_to v) next ∙ more (node_at t v).groups g l
+    where
+      more : (xss : List (List ℕ)) (g : ℕ) → g < length xss → length (concat (take (suc g) xss)) ≡ length (concat (take g xss)) + length (get_or xss g [])
+      more [] g l = absurd (omega arith)
+      more (xs ∷ xss) zero l = omega (arith, length-append xs (concat (take 0 xss)))
+      more (xs ∷ xss) (suc g) l = omega (arith, length-append xs (concat (take (suc g) xss)), length-append xs (concat (take g xss)), more xss g (omega arith))
+
+  pub members_all : IsFormed d key t → (v g : ℕ) → v < length t → g ≡ group_count t v → members_to v g ≡ rows t v
+  members_all formed v g l e =
+      ap (λ k. length (concat (take k (node_at t v).groups))) e ∙ ap (λ z. length (concat z)) (all (node_at t v).groups)
+      ∙ length_permutation (range_with_len 0 (rows t v)) (concat (node_at t v).groups) (formed.grouped v l) ∙ length-range_with_len 0 (rows t v)
+    where
+      all : (xss : List (List ℕ)) → take (length xss) xss ≡ xss
+      all [] = refl
+      all (xs ∷ xss) = ap (λ z. xs ∷ z) (all xss)
+
+  -- the steps of all groups of a node
+  pub node_steps : IsFormed d key t → (v : ℕ) → v < length t → 2 * rows t v + group_count t v * (3 + 3 * child_count t v) ≤ 8 * length t * rows t v
+  node_steps formed v l =
+      let few : group_count t v ≤ rows t v = group_count_within d key t formed v l in
+      let kids : child_count t v ≤ length t = kids_below-most (parent t) v (length t) in
+      at (rows t v) (group_count t v) (child_count t v) (length t) few kids formed.shaped.some_node
+    where
+      at : (n g k m : ℕ) → g ≤ n → k ≤ m → 1 ≤ m → 2 * n + g * (3 + 3 * k) ≤ 8 * m * n
+      at n g k m a b c =
+          let x : g * (3 + 3 * k) ≤ n * (3 + 3 * k) = grind arith in
+          let y : n * (3 + 3 * k) ≤ n * (3 + 3 * m) = grind arith in
+          let z : n * 5 ≤ n * (5 * m) = grind arith in
+          omega (arith, x, y, z)
+
+  -- the rows of the nodes from v on
+  abbrev pub rows_from : ℕ → ℕ
+  rows_from v = sum_from ◌+◌ 0 (rows t) (length t - v) v
+
+  pub rows_none : (v : ℕ) → v ≡ length t → rows_from v ≡ 0
+  unfolding sum_from
+  rows_none v e = let none : length t - v ≡ 0 = omega arith in ap (λ n. sum_from ◌+◌ 0 (rows t) n v) none
+
+  pub rows_more : (v w : ℕ) → v < length t → w ≡ v + 1 → rows_from v ≡ rows t v + rows_from w
+  unfolding sum_from
+  rows_more v w l e =
+      let step : length t - v ≡ suc (length t - suc v) = omega arith in
+      let next : suc v ≡ w = omega arith in
+      ap (λ n. sum_from ◌+◌ 0 (rows t) n v) step ∙ ap (λ z. rows t v + sum_from ◌+◌ 0 (rows t) (length t - z) z) next
+
+  pub members_most : IsFormed d key t → (v g : ℕ) → v < length t → members_to v g ≤ rows t v
+  members_most formed v g l = omega (arith, few (node_at t v).groups g, length_permutation (range_with_len 0 (rows t v)) (concat (node_at t v).groups) (formed.grouped v l), length-range_with_len 0 (rows t v))
+    where
+      few : (xss : List (List ℕ)) (g : ℕ) → length (concat (take g xss)) ≤ length (concat xss)
+      few [] zero = omega arith
+      few [] (suc g) = omega arith
+      few (xs ∷ xss) zero = omega arith
+      few (xs ∷ xss) (suc g) = omega (arith, length-append xs (concat (take g xss)), length-append xs (concat xss), few xss g)
+
+  -- the steps of the first groups of a node
+  pub groups_steps : IsFormed d key t → (v g : ℕ) → v < length t → g ≤ group_count t v → 2 * members_to v g + g * (3 + 3 * child_count t v) ≤ 8 * length t * rows t v
+  groups_steps formed v g l few =
+      let more : g * (3 + 3 * child_count t v) ≤ group_count t v * (3 + 3 * child_count t v) = at g (group_count t v) (3 + 3 * child_count t v) few in
+      omega (arith, members_most formed v g l, node_steps formed v l, more)
+    where
+      at : (a b c : ℕ) → a ≤ b → a * c ≤ b * c
+      at a b c l = grind arith
+
+  -- the nodes with one more stream at a node
+  pub nodes_set : (nodes : List (NodeLists R)) (v : ℕ) (n n' : NodeLists R) (s : StreamData R) → v < length nodes → n ≡ get_or nodes v n → n' ≡ with_stream n s
+      → (length (slice_set nodes v n') ≡ length nodes) × ((q : ℕ) → q ≢ v → lists_of (slice_set nodes v n') q ≡ lists_of nodes q) × (lists_of (slice_set nodes v n') v ≡ with_stream (lists_of nodes v) s)
+  nodes_set nodes v n n' s l e e' = (
+    length-set nodes v n',
+    (λ q other. get_or-set_other nodes v q n' (record { children = []; streams = []; products = [] }) other),
+    get_or-set_same nodes v n' (record { children = []; streams = []; products = [] }) l ∙ e' ∙ ap (λ z. with_stream z s) (e ∙ get_default nodes v n (record { children = []; streams = []; products = [] }) l),
+  )
+
+  -- one more node without streams
+  pub empties_more : (nodes : List (NodeLists R)) (n : NodeLists R) (k : ℕ) → length nodes ≡ k → ((v : ℕ) → v < k → IsEmptyNode t v (lists_of nodes v)) → IsEmptyNode t k n
+      → (v : ℕ) → v < k + 1 → IsEmptyNode t v (lists_of (nodes ++ (n ∷ [])) v)
+  empties_more nodes n k e h x v l = elim (cases_lt v k) [
+    | inl before ↦ subst (IsEmptyNode t v) (sym (get_before nodes n v (record { children = []; streams = []; products = [] }) (omega (arith, before, e)))) (h v before)
+    | inr g ↦
+        let here : v ≡ k = omega arith in
+        subst (λ z. IsEmptyNode t z (lists_of (nodes ++ (n ∷ [])) z)) (sym here)
+        (subst (IsEmptyNode t k) (sym (get_behind nodes n k (record { children = []; streams = []; products = [] }) (sym e))) x)
+  ]

@@ -1,0 +1,148 @@
+-- A product and a group grow by one solution, and keep what holds of them while the store grows.
+use Rattle.std.proofs.Common.{◌≡◌, ℕ, suc, ◌<◌, Option, None, List, [], ◌∷◌, ◌++◌, length, take, drop, get_or, refl, sym, ap, ◌∙◌, subst, inr, arith}
+use Rattle.std.specs.List.{All}
+use Rattle.std.specs.List.Sorted.{IsPermutation}
+use Rattle.std.proofs.lemmas.List.Elements.{All-nil, All-cons, All-head, All-tail}
+use Rattle.take2_heap.specs.declared.entry.Entry.{Entry}
+use Rattle.take2_heap.specs.Order.{IsLeast}
+use Rattle.tdp_core.specs.declared.ranked.Answer.{Answer}
+use Rattle.tdp_core.specs.Seen.{rows_of_key}
+use Rattle.rankings.specs.Order.{IsAscending}
+use Rattle.tdp_model.specs.Remains.{Remains, total}
+use Rattle.tdp_model.specs.KeyTuple.{KeyOf, key_below, key_add, key_none}
+use Rattle.tdp_model.proofs.KeyNumbers.{at_most-not_less}
+use Rattle.tdp_model.specs.Product.{Pair, pair_key, stands_for, runs_to, run_key}
+use Rattle.stream_model.specs.Offers.{offers}
+use Rattle.stream_model.specs.Ahead.{IsAhead}
+use Rattle.stream_model.specs.Held.{IsHeld, places, InProduct, InRuns}
+use Rattle.stream_model.proofs.Held.{MaybeHolds}
+use Rattle.stream_model.proofs.Steps.{product_passes, product_shows, product_done, group_passes, group_shows, group_done, IsDown, IsAcross, IsNext}
+use Rattle.suffix_streams.specs.Frontiers.{HasRows, IsFrontier, IsMerge}
+use Rattle.suffix_streams.proofs.State.{prefix_more, count_more}
+
+one_taken : {K : Type 0} (ks : List K) (d : K) → 0 < length ks → get_or ks 0 d ∷ [] ≡ take 1 ks
+one_taken [] d l = absurd (omega arith)
+one_taken (k ∷ ks) d l = refl
+
+module _ {R T : Type 0} (d : ℕ) (key : R → KeyOf d 16) (xs ys zs : List (KeyOf d 16)) (ax : IsAscending (key_below d 16) xs) (ay : IsAscending (key_below d 16) ys) (at : T → Pair) where
+  -- the last solution is passed, and what follows it stands in the frontier
+  passed_on : (found : List (Answer R)) (old new : List (Entry R T)) (a b : Option (Entry R T)) (top : Entry R T) → IsFrontier d key at xs ys zs found old → 0 < length old → top ≡ get_or old 0 top → IsLeast d key top old
+      → IsPermutation (offers a b old) (top ∷ new) → MaybeHolds (IsHeld d key (pair_key (key_add d 16) (key_none d 16) xs ys) (InProduct d xs ys) at) a
+      → MaybeHolds (IsHeld d key (pair_key (key_add d 16) (key_none d 16) xs ys) (InProduct d xs ys) at) b
+      → InProduct d xs ys (at top.tag) → IsDown d key xs ys at (at top.tag) a → IsAcross d key xs ys at (at top.tag) b
+      → All (IsHeld d key (pair_key (key_add d 16) (key_none d 16) xs ys) (InProduct d xs ys) at) new
+      × Remains Pair (KeyOf d 16) (key_below d 16) (pair_key (key_add d 16) (key_none d 16) xs ys) (total (stands_for (length xs) (length ys)) (places at new)) (drop (length found) zs)
+  passed_on found old new a b top f some is_top least moved ha hb inside da ab =
+      product_passes d key xs ys at ax ay zs (length found) a b top old new f.held some is_top least moved ha hb inside da ab f.ahead
+
+  -- One more solution is found: the new top's.
+  pub frontier_grows : (found : List (Answer R)) (old new : List (Entry R T)) (a b : Option (Entry R T)) (top next : Entry R T) (answer : Answer R) → IsFrontier d key at xs ys zs found old
+      → 0 < length old → top ≡ get_or old 0 top → IsLeast d key top old
+      → IsPermutation (offers a b old) (top ∷ new) → MaybeHolds (IsHeld d key (pair_key (key_add d 16) (key_none d 16) xs ys) (InProduct d xs ys) at) a
+      → MaybeHolds (IsHeld d key (pair_key (key_add d 16) (key_none d 16) xs ys) (InProduct d xs ys) at) b
+      → InProduct d xs ys (at top.tag) → IsDown d key xs ys at (at top.tag) a → IsAcross d key xs ys at (at top.tag) b
+      → 0 < length new → next ≡ get_or new 0 next → IsLeast d key next new → key answer.rank ≡ key next.rank → answer.rows ≡ rows_of_key d 16 (key answer.rank)
+      → (length found < length zs) × IsFrontier d key at xs ys zs (found ++ (answer ∷ [])) new
+  frontier_grows found old new a b top next answer f some is_top least moved ha hb inside da ab more is_next next_least rank rows =
+      let p : All (IsHeld d key (pair_key (key_add d 16) (key_none d 16) xs ys) (InProduct d xs ys) at) new
+      × Remains Pair (KeyOf d 16) (key_below d 16) (pair_key (key_add d 16) (key_none d 16) xs ys) (total (stands_for (length xs) (length ys)) (places at new)) (drop (length found) zs) =
+      passed_on found old new a b top f some is_top least moved ha hb inside da ab in
+      let s : (length found < length zs) × (get_or zs (length found) (key_none d 16) ≡ key next.rank)
+      × IsAhead Pair (KeyOf d 16) (key_below d 16) (pair_key (key_add d 16) (key_none d 16) xs ys) (stands_for (length xs) (length ys)) (InProduct d xs ys) zs (suc (length found)) (places at new) =
+      product_shows d key xs ys at ax ay zs (length found) next new p.0 more is_next next_least p.1 in (
+        s.0,
+        record {
+          prefix = prefix_more d key found answer zs (key_none d 16) f.prefix s.0 (s.1 ∙ sym rank) rows;
+          held = p.0;
+          ahead = subst (λ n. IsAhead Pair (KeyOf d 16) (key_below d 16) (pair_key (key_add d 16) (key_none d 16) xs ys) (stands_for (length xs) (length ys)) (InProduct d xs ys) zs n (places at new)) (sym (count_more found answer)) s.2;
+        },
+      )
+
+  -- No further solution is there.
+  pub frontier_ends : (found : List (Answer R)) (old : List (Entry R T)) (a b : Option (Entry R T)) (top : Entry R T) → IsFrontier d key at xs ys zs found old
+      → 0 < length old → top ≡ get_or old 0 top → IsLeast d key top old
+      → IsPermutation (offers a b old) (top ∷ []) → MaybeHolds (IsHeld d key (pair_key (key_add d 16) (key_none d 16) xs ys) (InProduct d xs ys) at) a
+      → MaybeHolds (IsHeld d key (pair_key (key_add d 16) (key_none d 16) xs ys) (InProduct d xs ys) at) b
+      → InProduct d xs ys (at top.tag) → IsDown d key xs ys at (at top.tag) a → IsAcross d key xs ys at (at top.tag) b
+      → (length found ≡ length zs) × IsFrontier d key at xs ys zs found []
+  frontier_ends found old a b top f some is_top least moved ha hb inside da ab =
+      let p : All (IsHeld d key (pair_key (key_add d 16) (key_none d 16) xs ys) (InProduct d xs ys) at) []
+      × Remains Pair (KeyOf d 16) (key_below d 16) (pair_key (key_add d 16) (key_none d 16) xs ys) (total (stands_for (length xs) (length ys)) []) (drop (length found) zs) =
+      passed_on found old [] a b top f some is_top least moved ha hb inside da ab in
+      let s : IsAhead Pair (KeyOf d 16) (key_below d 16) (pair_key (key_add d 16) (key_none d 16) xs ys) (stands_for (length xs) (length ys)) (InProduct d xs ys) zs (length found) [] × (length found ≡ length zs) =
+      product_done d key xs ys at ax ay zs (length found) f.prefix.0 f.prefix.1 p.1 in
+      (s.1, record { prefix = f.prefix; held = p.0; ahead = s.0 })
+
+  -- A product begins with the sum of the two heads.
+  pub frontier_begins : (answer : Answer R) (entry : Entry R T) → 0 < length xs → 0 < length ys → at entry.tag ≡ record { left = 0; right = 0 } → key answer.rank ≡ key entry.rank
+      → key entry.rank ≡ key_add d 16 (get_or xs 0 (key_none d 16)) (get_or ys 0 (key_none d 16)) → HasRows d key answer
+      → Remains Pair (KeyOf d 16) (key_below d 16) (pair_key (key_add d 16) (key_none d 16) xs ys) (total (stands_for (length xs) (length ys)) ((record { left = 0; right = 0 }) ∷ [])) zs
+      → (get_or zs 0 (key_none d 16) ≡ key entry.rank) × IsFrontier d key at xs ys zs (answer ∷ []) (entry ∷ [])
+  frontier_begins answer entry sx sy place same rank rows q =
+      let held : All (IsHeld d key (pair_key (key_add d 16) (key_none d 16) xs ys) (InProduct d xs ys) at) (entry ∷ []) =
+      All-cons (IsHeld d key (pair_key (key_add d 16) (key_none d 16) xs ys) (InProduct d xs ys) at) entry [] (subst (λ p. InProduct d xs ys p) (sym place) (sx, sy), rank ∙ ap (λ p. pair_key (key_add d 16) (key_none d 16) xs ys p) (sym place)) (All-nil (IsHeld d key (pair_key (key_add d 16) (key_none d 16) xs ys) (InProduct d xs ys) at)) in
+      let s : (0 < length zs) × (get_or zs 0 (key_none d 16) ≡ key entry.rank)
+      × IsAhead Pair (KeyOf d 16) (key_below d 16) (pair_key (key_add d 16) (key_none d 16) xs ys) (stands_for (length xs) (length ys)) (InProduct d xs ys) zs 1 (places at (entry ∷ [])) =
+      product_shows d key xs ys at ax ay zs 0 entry (entry ∷ []) held (omega arith) refl (at_most-not_less d 16 (key entry.rank) (key entry.rank) (inr refl), tt)
+      (subst (λ p. Remains Pair (KeyOf d 16) (key_below d 16) (pair_key (key_add d 16) (key_none d 16) xs ys) (total (stands_for (length xs) (length ys)) (p ∷ [])) zs) (sym place) q) in (
+        s.1,
+        record {
+          prefix = (omega arith, s.0, ap (λ k. k ∷ []) (same ∙ sym s.1) ∙ one_taken zs (key_none d 16) s.0, All-cons (HasRows d key) answer [] rows (All-nil (HasRows d key)));
+          held = held;
+          ahead = s.2;
+        },
+      )
+
+-- # A group
+
+module _ {R T : Type 0} (d : ℕ) (key : R → KeyOf d 16) (n : ℕ) (lists : ℕ → List (KeyOf d 16)) (zs : List (KeyOf d 16))
+    (asc : (r : ℕ) → r < n → IsAscending (key_below d 16) (lists r)) (at : T → Pair) where
+  -- One more member of the group's ranking is found: the new top's.
+  pub merge_grows : (found : List (Answer R)) (old new : List (Entry R T)) (a : Option (Entry R T)) (top next : Entry R T) (answer : Answer R) → IsMerge d key at n lists zs found old
+      → 0 < length old → top ≡ get_or old 0 top → IsLeast d key top old → IsPermutation (offers a None old) (top ∷ new)
+      → MaybeHolds (IsHeld d key (run_key (key_none d 16) lists) (InRuns d n lists) at) a → InRuns d n lists (at top.tag) → IsNext d key n lists at (at top.tag) a
+      → 0 < length new → next ≡ get_or new 0 next → IsLeast d key next new → key answer.rank ≡ key next.rank → answer.rows ≡ rows_of_key d 16 (key answer.rank)
+      → (length found < length zs) × IsMerge d key at n lists zs (found ++ (answer ∷ [])) new
+  merge_grows found old new a top next answer f some is_top least moved ha inside na more is_next next_least rank rows =
+      let p : All (IsHeld d key (run_key (key_none d 16) lists) (InRuns d n lists) at) new
+      × Remains Pair (KeyOf d 16) (key_below d 16) (run_key (key_none d 16) lists) (total (runs_to n (λ r. length (lists r))) (places at new)) (drop (length found) zs) =
+      group_passes d key n lists at asc zs (length found) a top old new f.held some is_top least moved ha inside na f.ahead in
+      let s : (length found < length zs) × (get_or zs (length found) (key_none d 16) ≡ key next.rank)
+      × IsAhead Pair (KeyOf d 16) (key_below d 16) (run_key (key_none d 16) lists) (runs_to n (λ r. length (lists r))) (InRuns d n lists) zs (suc (length found)) (places at new) =
+      group_shows d key n lists at asc zs (length found) next new p.0 more is_next next_least p.1 in (
+        s.0,
+        record {
+          prefix = prefix_more d key found answer zs (key_none d 16) f.prefix s.0 (s.1 ∙ sym rank) rows;
+          held = p.0;
+          ahead = subst (λ k. IsAhead Pair (KeyOf d 16) (key_below d 16) (run_key (key_none d 16) lists) (runs_to n (λ r. length (lists r))) (InRuns d n lists) zs k (places at new)) (sym (count_more found answer)) s.2;
+        },
+      )
+
+  -- No further member is there.
+  pub merge_ends : (found : List (Answer R)) (old : List (Entry R T)) (a : Option (Entry R T)) (top : Entry R T) → IsMerge d key at n lists zs found old
+      → 0 < length old → top ≡ get_or old 0 top → IsLeast d key top old → IsPermutation (offers a None old) (top ∷ [])
+      → MaybeHolds (IsHeld d key (run_key (key_none d 16) lists) (InRuns d n lists) at) a → InRuns d n lists (at top.tag) → IsNext d key n lists at (at top.tag) a
+      → (length found ≡ length zs) × IsMerge d key at n lists zs found []
+  merge_ends found old a top f some is_top least moved ha inside na =
+      let p : All (IsHeld d key (run_key (key_none d 16) lists) (InRuns d n lists) at) []
+      × Remains Pair (KeyOf d 16) (key_below d 16) (run_key (key_none d 16) lists) (total (runs_to n (λ r. length (lists r))) []) (drop (length found) zs) =
+      group_passes d key n lists at asc zs (length found) a top old [] f.held some is_top least moved ha inside na f.ahead in
+      let s : IsAhead Pair (KeyOf d 16) (key_below d 16) (run_key (key_none d 16) lists) (runs_to n (λ r. length (lists r))) (InRuns d n lists) zs (length found) [] × (length found ≡ length zs) =
+      group_done d key n lists at asc zs (length found) f.prefix.0 f.prefix.1 p.1 in
+      (s.1, record { prefix = f.prefix; held = p.0; ahead = s.0 })
+
+-- # What stays while the store grows
+
+module _ {R T X : Type 0} (d : ℕ) (rank_key : R → KeyOf d 16) (key_at : X → KeyOf d 16) (InRange : X → Type 0) (at later : T → X) (Known : Entry R T → Type 0)
+    (same : (e : Entry R T) → Known e → at e.tag ≡ later e.tag) where
+  -- entries whose places stay stand for the same
+  pub places_kept : (es : List (Entry R T)) → All Known es → places at es ≡ places later es
+  places_kept [] a = refl
+  places_kept (e ∷ es) a = ap (λ z. z ∷ places at es) (same e (All-head Known e es a)) ∙ ap (λ z. later e.tag ∷ z) (places_kept es (All-tail Known e es a))
+
+  pub held_kept : (es : List (Entry R T)) → All Known es → All (IsHeld d rank_key key_at InRange at) es → All (IsHeld d rank_key key_at InRange later) es
+  held_kept [] a h = All-nil (IsHeld d rank_key key_at InRange later)
+  held_kept (e ∷ es) a h =
+      let x : IsHeld d rank_key key_at InRange at e = All-head (IsHeld d rank_key key_at InRange at) e es h in
+      let s : at e.tag ≡ later e.tag = same e (All-head Known e es a) in
+      All-cons (IsHeld d rank_key key_at InRange later) e es (subst (λ z. InRange z × (rank_key e.rank ≡ key_at z)) s x) (held_kept es (All-tail Known e es a) (All-tail (IsHeld d rank_key key_at InRange at) e es h))

@@ -1,0 +1,74 @@
+-- What holds of a stream and of a product stays, while the store grows and other objects change.
+use Rattle.std.proofs.Common.{◌≡◌, ℕ, suc, ◌^◌, ◌<◌, ◌≤◌, List, length, get_or, refl, sym, ap, ◌∙◌, subst, arith}
+use Rattle.std.specs.List.{All}
+use Rattle.std.proofs.lemmas.List.Elements.{All-weaker}
+use Rattle.take2_heap.specs.declared.entry.Entry.{Entry}
+use Rattle.stream_store.specs.declared.entry.Linked.{Linked}
+use Rattle.tdp_core.specs.declared.ranked.Answer.{Answer}
+use Rattle.tdp_core.specs.TreeData.{NodeData, members, group_named, child_count}
+use Rattle.tdp_model.specs.KeyTuple.{KeyOf, key_below, key_add, key_none}
+use Rattle.tdp_model.specs.Product.{Pair, pair_key, stands_for}
+use Rattle.stream_model.specs.Ahead.{IsAhead}
+use Rattle.stream_model.specs.Held.{InProduct}
+use Rattle.suffix_streams.specs.declared.cell.Cell.{Cell}
+use Rattle.suffix_streams.specs.declared.stream.Source.{Source}
+use Rattle.suffix_streams.specs.declared.stream.Found.{Found}
+use Rattle.suffix_streams.specs.StreamData.{StreamData}
+use Rattle.suffix_streams.specs.NodeLists.{NodeLists}
+use Rattle.suffix_streams.specs.Rankings.{child, part_list, group_list}
+use Rattle.suffix_streams.specs.Frontiers.{IsFrontier, IsMerge}
+use Rattle.suffix_streams.specs.StreamsData.{node_of, group_of, place_of, stream, product_of, stream_of, part_known, row_known, pair_of, run_of, IsStreamOf, IsProductOf}
+use Rattle.suffix_streams.proofs.Growth.{places_kept, held_kept}
+
+-- entries stay, with their owners and places
+pub record AreHeld {R : Type 0} (es es' : List (Linked (Found R))) : Type 0 where
+  pub longer : length es ≤ length es'
+  pub nodes : (i : ℕ) → i < length es → node_of es' i ≡ node_of es i
+  pub groups : (i : ℕ) → i < length es → group_of es' i ≡ group_of es i
+  pub places : (i : ℕ) → i < length es → place_of es' i ≡ place_of es i
+
+pub held_itself : {R : Type 0} (es : List (Linked (Found R))) → AreHeld es es
+held_itself es = record { longer = omega arith; nodes = λ i l. refl; groups = λ i l. refl; places = λ i l. refl }
+
+module _ {R : Type 0} (d : ℕ) (key : R → KeyOf d 16) (t : List (NodeData R)) (es es' : List (Linked (Found R))) (nodes nodes' : List (NodeLists R)) (held : AreHeld es es') where
+  pub stream_stays : (q g : ℕ) → stream_of nodes' q g ≡ stream_of nodes q g → stream es' q g ≡ stream es q g → ((r : ℕ) → row_known nodes q r ≤ row_known nodes' q r)
+      → IsStreamOf d key t es nodes q g → IsStreamOf d key t es' nodes' q g
+  stream_stays q g same found rises s = record {
+    head_in = omega (arith, ap (λ z. z.head) same, s.head_in, held.longer);
+    head_node = ap (λ z. node_of es' z.head) same ∙ held.nodes (stream_of nodes q g).head s.head_in ∙ s.head_node;
+    head_group = ap (λ z. group_of es' z.head) same ∙ held.groups (stream_of nodes q g).head s.head_in ∙ s.head_group;
+    head_place = ap (λ z. place_of es' z.head) same ∙ held.places (stream_of nodes q g).head s.head_in ∙ s.head_place;
+    few = omega (arith, ap (λ z. length z.queue) same, s.few);
+    known = subst (λ (z : StreamData R). All (λ (e : Entry R Source). e.tag.place < row_known nodes' q (get_or (members t q g) e.tag.member 0)) z.queue) (sym same)
+        (All-weaker (λ (e : Entry R Source). e.tag.place < row_known nodes q (get_or (members t q g) e.tag.member 0)) (λ (e : Entry R Source). e.tag.place < row_known nodes' q (get_or (members t q g) e.tag.member 0))
+        (λ e h. omega (arith, h, rises (get_or (members t q g) e.tag.member 0))) (stream_of nodes q g).queue s.known);
+    merge = subst (λ (z : StreamData R). IsMerge d key run_of (length (members t q g)) (λ i. part_list d key t q (get_or (members t q g) i 0) (child_count t q)) (group_list d key t q g) (stream es' q g) z.queue) (sym same)
+        (subst (λ (z : List (Answer R)). IsMerge d key run_of (length (members t q g)) (λ i. part_list d key t q (get_or (members t q g) i 0) (child_count t q)) (group_list d key t q g) z (stream_of nodes q g).queue) (sym found) s.merge);
+  }
+
+  -- a frontier whose entries stay
+  pub frontier_stays : (v c g : ℕ) (xs ys zs : List (KeyOf d 16)) (found : List (Answer R)) (frontier : List (Entry R Cell)) → All (λ (e : Entry R Cell). e.tag.right < length es) frontier
+      → IsFrontier d key (pair_of es) xs ys zs found frontier → IsFrontier d key (pair_of es') xs ys zs found frontier
+  frontier_stays v c g xs ys zs found frontier known f =
+      let same : (e : Entry R Cell) → e.tag.right < length es → pair_of es e.tag ≡ pair_of es' e.tag =
+      λ e h. ap (λ (p : ℕ). (let z : Pair = record { left = e.tag.left; right = p } in z)) (sym (held.places e.tag.right h)) in
+      record {
+        prefix = f.prefix;
+        held = held_kept d key (pair_key (key_add d 16) (key_none d 16) xs ys) (InProduct d xs ys) (pair_of es) (pair_of es') (λ (e : Entry R Cell). e.tag.right < length es) same frontier known f.held;
+        ahead = subst (λ ps. IsAhead Pair (KeyOf d 16) (key_below d 16) (pair_key (key_add d 16) (key_none d 16) xs ys) (stands_for (length xs) (length ys)) (InProduct d xs ys) zs (length found) ps)
+            (places_kept d key (pair_key (key_add d 16) (key_none d 16) xs ys) (InProduct d xs ys) (pair_of es) (pair_of es') (λ (e : Entry R Cell). e.tag.right < length es) same frontier known) f.ahead;
+      }
+
+  pub product_stays : (v r c : ℕ) → (product_of nodes' v r c).found ≡ (product_of nodes v r c).found → (product_of nodes' v r c).frontier ≡ (product_of nodes v r c).frontier → part_known nodes v r c ≤ part_known nodes' v r c
+      → IsProductOf d key t es nodes v r c → IsProductOf d key t es' nodes' v r c
+  product_stays v r c found frontier rises p = record {
+    few = subst (λ (z : List (Entry R Cell)). length z < 2 ^ 64) (sym frontier) p.few;
+    known = subst (λ (z : List (Entry R Cell)). All (λ (e : Entry R Cell). (e.tag.left < part_known nodes' v r c) × (e.tag.right < length es') × (node_of es' e.tag.right ≡ child t v c) × (group_of es' e.tag.right ≡ group_named t v r c)) z) (sym frontier)
+        (All-weaker (λ (e : Entry R Cell). (e.tag.left < part_known nodes v r c) × (e.tag.right < length es) × (node_of es e.tag.right ≡ child t v c) × (group_of es e.tag.right ≡ group_named t v r c))
+        (λ (e : Entry R Cell). (e.tag.left < part_known nodes' v r c) × (e.tag.right < length es') × (node_of es' e.tag.right ≡ child t v c) × (group_of es' e.tag.right ≡ group_named t v r c))
+        (λ e h. (omega (arith, h.0, rises), omega (arith, h.1, held.longer), held.nodes e.tag.right h.1 ∙ h.2, held.groups e.tag.right h.1 ∙ h.3)) (product_of nodes v r c).frontier p.known);
+    sums = subst (λ (z : List (Entry R Cell)). IsFrontier d key (pair_of es') (part_list d key t v r c) (group_list d key t (child t v c) (group_named t v r c)) (part_list d key t v r (suc c)) (product_of nodes' v r c).found z) (sym frontier)
+        (subst (λ (z : List (Answer R)). IsFrontier d key (pair_of es') (part_list d key t v r c) (group_list d key t (child t v c) (group_named t v r c)) (part_list d key t v r (suc c)) z (product_of nodes v r c).frontier) (sym found)
+        (frontier_stays v c (group_named t v r c) (part_list d key t v r c) (group_list d key t (child t v c) (group_named t v r c)) (part_list d key t v r (suc c)) (product_of nodes v r c).found (product_of nodes v r c).frontier
+        (All-weaker (λ (e : Entry R Cell). (e.tag.left < part_known nodes v r c) × (e.tag.right < length es) × (node_of es e.tag.right ≡ child t v c) × (group_of es e.tag.right ≡ group_named t v r c)) (λ (e : Entry R Cell). e.tag.right < length es) (λ e h. h.1) (product_of nodes v r c).frontier p.known) p.sums));
+  }

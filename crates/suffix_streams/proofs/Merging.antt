@@ -1,0 +1,312 @@
+-- One step of a group's stream.
+use Rattle.std.proofs.Common.{◌≡◌, ◌≢◌, ℕ, zero, suc, ◌+◌, ◌<◌, ◌≤◌, ◌⊎◌, Option, Some, None, IfSome, IfNone, List, [], ◌∷◌, ◌++◌, length, get_or, slice_set, refl, sym, ap, ◌∙◌, subst, inl, inr, arith}
+use Rattle.std.specs.List.{All}
+use Rattle.std.specs.List.Sorted.{IsPermutation}
+use Rattle.std.proofs.lemmas.Bool.{cases_eq}
+use Rattle.std.proofs.lemmas.List.{get_or-set_same, get_or-set_other}
+use Rattle.std.proofs.lemmas.List.Elements.{All-cons, All-tail, All-get_or, All-weaker}
+use Rattle.std.proofs.lemmas.List.Sorted.{All-permutation, length_permutation}
+use Rattle.stream_store.specs.declared.entry.Linked.{Linked}
+use Rattle.take2_heap.specs.declared.entry.Entry.{Entry}
+use Rattle.take2_heap.specs.Order.{IsLeast}
+use Rattle.tdp_core.specs.declared.ranked.Answer.{Answer}
+use Rattle.tdp_core.specs.TreeData.{NodeData, rows, members, child_count, group_count, group_named}
+use Rattle.tdp_core.proofs.TreeFacts.{member_is_row}
+use Rattle.tdp_model.specs.KeyTuple.{KeyOf, key_none}
+use Rattle.tdp_model.specs.Product.{Pair, run_key}
+use Rattle.stream_model.specs.Offers.{offers}
+use Rattle.stream_model.specs.Held.{IsHeld, InRuns}
+use Rattle.stream_model.specs.Links.{IsLinked}
+use Rattle.stream_model.proofs.Held.{MaybeHolds, held_moved}
+use Rattle.stream_model.proofs.Steps.{IsNext}
+use Rattle.suffix_streams.specs.declared.stream.Source.{Source}
+use Rattle.suffix_streams.specs.declared.stream.Found.{Found}
+use Rattle.suffix_streams.specs.ProductData.{ProductData}
+use Rattle.suffix_streams.specs.StreamData.{StreamData}
+use Rattle.suffix_streams.specs.NodeLists.{NodeLists, stream_at, known_of, with_queue}
+use Rattle.suffix_streams.specs.Rankings.{child, part_list, group_list}
+use Rattle.suffix_streams.specs.Frontiers.{HasRows, IsPrefix, IsMerge}
+use Rattle.suffix_streams.specs.StreamsData.{node_list, group_list_of, next_list, node_of, group_of, place_of, stream, lists_of, products_of, stream_of, part_known, row_known, run_of, HasKey, AreLefts, HasRow, IsStreamOf, IsStreams}
+use Rattle.suffix_streams.specs.Growing.{IsReached}
+use Rattle.suffix_streams.proofs.Rankings.{part_ascends}
+use Rattle.suffix_streams.proofs.Stores.{set_length}
+use Rattle.suffix_streams.proofs.Growth.{merge_grows, merge_ends}
+use Rattle.suffix_streams.proofs.Firsts.{lefts_at, known_within}
+use Rattle.suffix_streams.proofs.Entries.{lefts_of}
+use Rattle.suffix_streams.proofs.Kept.{AreHeld, held_itself, stream_stays, product_stays}
+use Rattle.suffix_streams.proofs.Changes.{lists_same, lists_other}
+
+module _ {R : Type 0} (d : ℕ) (key : R → KeyOf d 16) (t : List (NodeData R)) (es es' : List (Linked (Found R))) (nodes : List (NodeLists R)) (h : IsStreams d key t es nodes) (held : AreHeld es es') (q g : ℕ)
+    (l : q < length t) (in_group : g < group_count t q) (new : List (Entry R Source)) where
+  abbrev queued : List (NodeLists R)
+  queued = slice_set nodes q (with_queue (lists_of nodes q) g new)
+
+  queued_at : lists_of queued q ≡ with_queue (lists_of nodes q) g new
+  queued_at = lists_same nodes q (with_queue (lists_of nodes q) g new) (omega (arith, h.all_nodes))
+
+  pub queued_other : (w : ℕ) → w ≢ q → lists_of queued w ≡ lists_of nodes w
+  queued_other w n = lists_other nodes q w (with_queue (lists_of nodes q) g new) n
+
+  pub queued_products : (w : ℕ) → (lists_of queued w).products ≡ (lists_of nodes w).products
+  queued_products w = elim (cases_eq w q) [
+    | inl e ↦ subst (λ z. (lists_of queued z).products ≡ (lists_of nodes z).products) (sym e) (ap (λ n. n.products) queued_at)
+    | inr n ↦ ap (λ z. z.products) (queued_other w n)
+  ]
+
+  pub queued_children : (w : ℕ) → (lists_of queued w).children ≡ (lists_of nodes w).children
+  queued_children w = elim (cases_eq w q) [
+    | inl e ↦ subst (λ z. (lists_of queued z).children ≡ (lists_of nodes z).children) (sym e) (ap (λ n. n.children) queued_at)
+    | inr n ↦ ap (λ z. z.children) (queued_other w n)
+  ]
+
+  pub queued_streams : (w : ℕ) → length (lists_of queued w).streams ≡ length (lists_of nodes w).streams
+  queued_streams w = elim (cases_eq w q) [
+    | inl e ↦ subst (λ z. length (lists_of queued z).streams ≡ length (lists_of nodes z).streams) (sym e) (ap (λ n. length n.streams) queued_at ∙ set_length (lists_of nodes q).streams g (record (stream_of nodes q g) { queue = new }))
+    | inr n ↦ ap (λ z. length z.streams) (queued_other w n)
+  ]
+
+  queued_known : (w r k : ℕ) → part_known queued w r k ≡ part_known nodes w r k
+  queued_known w r zero = refl
+  queued_known w r (suc k) = ap (λ (ps : List (List (ProductData R))). length (get_or (get_or ps r []) k (record { found = []; frontier = []; room = 0; frontier_room = 0 })).found) (queued_products w)
+
+  pub queued_row : (w r : ℕ) → row_known queued w r ≡ row_known nodes w r
+  queued_row w r = queued_known w r (length (products_of queued w r)) ∙ ap (λ z. part_known nodes w r (length (get_or z r []))) (queued_products w)
+
+  pub queued_stream : stream_of queued q g ≡ record (stream_of nodes q g) { queue = new }
+  queued_stream = ap (λ n. stream_at n g) queued_at ∙ get_or-set_same (lists_of nodes q).streams g (record (stream_of nodes q g) { queue = new }) (record { head = 0; queue = [] }) (omega (arith, h.all_streams q l))
+
+  pub other_stream : (w k : ℕ) → ((w ≢ q) ⊎ (k ≢ g)) → stream_of queued w k ≡ stream_of nodes w k
+  other_stream w k (inl n) = ap (λ z. stream_at z k) (queued_other w n)
+  other_stream w k (inr n) = elim (cases_eq w q) [
+    | inl e ↦
+        subst (λ z. stream_of queued z k ≡ stream_of nodes z k) (sym e)
+        (ap (λ z. stream_at z k) queued_at ∙ get_or-set_other (lists_of nodes q).streams g k (record (stream_of nodes q g) { queue = new }) (record { head = 0; queue = [] }) n)
+    | inr m ↦ ap (λ z. stream_at z k) (queued_other w m)
+  ]
+
+  pub queue_set : ((i : ℕ) → i < length es' → (node_of es' i < length t) × (group_of es' i < group_count t (node_of es' i))) → IsLinked (node_list es') (group_list_of es') (next_list es')
+      → ((w k : ℕ) → ((w ≢ q) ⊎ (k ≢ g)) → stream es' w k ≡ stream es w k) → length new ≤ length (members t q g)
+      → All (λ (e : Entry R Source). e.tag.place < row_known nodes q (get_or (members t q g) e.tag.member 0)) new
+      → IsMerge d key run_of (length (members t q g)) (λ i. part_list d key t q (get_or (members t q g) i 0) (child_count t q)) (group_list d key t q g) (stream es' q g) new
+      → IsStreams d key t es' queued
+  queue_set owners linked same few known merge = record {
+    tree = h.tree;
+    all_nodes = set_length nodes q (with_queue (lists_of nodes q) g new) ∙ h.all_nodes;
+    all_children = λ w a. ap length (queued_children w) ∙ h.all_children w a;
+    children = λ w k a b. ap (λ z. get_or z k 0) (queued_children w) ∙ h.children w k a b;
+    all_streams = λ w a. queued_streams w ∙ h.all_streams w a;
+    all_rows = λ w a. ap length (queued_products w) ∙ h.all_rows w a;
+    whole_rows = λ w r a b some. ap (λ z. length (get_or z r [])) (queued_products w) ∙ h.whole_rows w r a b (omega (arith, some, ap (λ z. length (get_or z r [])) (queued_products w)));
+    owners = owners;
+    linked = linked;
+    streams = λ w k a b. each w k a b;
+    products = λ w r k a b x.
+        product_stays d key t es es' nodes queued held w r k (ap (λ (ps : List (List (ProductData R))). (get_or (get_or ps r []) k (record { found = []; frontier = []; room = 0; frontier_room = 0 })).found) (queued_products w))
+        (ap (λ (ps : List (List (ProductData R))). (get_or (get_or ps r []) k (record { found = []; frontier = []; room = 0; frontier_room = 0 })).frontier) (queued_products w)) (omega (arith, queued_known w r k))
+        (h.products w r k a b (omega (arith, x, ap (λ z. length (get_or z r [])) (queued_products w))));
+  }
+    where
+      old : IsStreamOf d key t es nodes q g
+      old = h.streams q g l in_group
+
+      own : IsStreamOf d key t es' queued q g
+      own = record {
+        head_in = omega (arith, ap (λ z. z.head) queued_stream, (h.streams q g l in_group).head_in, held.longer);
+        head_node = ap (λ z. node_of es' z.head) queued_stream ∙ held.nodes (stream_of nodes q g).head (h.streams q g l in_group).head_in ∙ (h.streams q g l in_group).head_node;
+        head_group = ap (λ z. group_of es' z.head) queued_stream ∙ held.groups (stream_of nodes q g).head (h.streams q g l in_group).head_in ∙ (h.streams q g l in_group).head_group;
+        head_place = ap (λ z. place_of es' z.head) queued_stream ∙ held.places (stream_of nodes q g).head (h.streams q g l in_group).head_in ∙ (h.streams q g l in_group).head_place;
+        few = omega (arith, few, ap (λ z. length z.queue) queued_stream);
+        known = subst (λ (z : StreamData R). All (λ (e : Entry R Source). e.tag.place < row_known queued q (get_or (members t q g) e.tag.member 0)) z.queue) (sym queued_stream)
+            (All-weaker (λ (e : Entry R Source). e.tag.place < row_known nodes q (get_or (members t q g) e.tag.member 0)) (λ (e : Entry R Source). e.tag.place < row_known queued q (get_or (members t q g) e.tag.member 0))
+            (λ e k. omega (arith, k, queued_row q (get_or (members t q g) e.tag.member 0))) new known);
+        merge = subst (λ (z : StreamData R). IsMerge d key run_of (length (members t q g)) (λ i. part_list d key t q (get_or (members t q g) i 0) (child_count t q)) (group_list d key t q g) (stream es' q g) z.queue) (sym queued_stream) merge;
+      }
+
+      apart : (w k : ℕ) → w < length t → k < group_count t w → ((w ≢ q) ⊎ (k ≢ g)) → IsStreamOf d key t es' queued w k
+      apart w k a b n = stream_stays d key t es es' nodes queued held w k (other_stream w k n) (same w k n) (λ r. omega (arith, queued_row w r)) (h.streams w k a b)
+
+      each : (w k : ℕ) → w < length t → k < group_count t w → IsStreamOf d key t es' queued w k
+      each w k a b = elim (cases_eq w q) [
+        | inr n ↦ apart w k a b (inl n)
+        | inl e ↦ elim (cases_eq k g) [
+          | inr n ↦ apart w k a b (inr n)
+          | inl f ↦ subst (λ z. IsStreamOf d key t es' queued z k) (sym e) (subst (λ z. IsStreamOf d key t es' queued q z) (sym f) own)
+        ]
+      ]
+
+module _ {R : Type 0} (d : ℕ) (key : R → KeyOf d 16) (t : List (NodeData R)) (es : List (Linked (Found R))) (nodes : List (NodeLists R)) (h : IsStreams d key t es nodes) (q g : ℕ)
+    (l : q < length t) (in_group : g < group_count t q) (new : List (Entry R Source)) where
+  abbrev later : List (NodeLists R)
+  later = slice_set nodes q (with_queue (lists_of nodes q) g new)
+
+  head_same : (w k : ℕ) → (stream_of later w k).head ≡ (stream_of nodes w k).head
+  head_same w k = elim (cases_eq w q) [
+    | inr n ↦ ap (λ z. (stream_at z k).head) (queued_other d key t es es nodes h (held_itself es) q g l in_group new w n)
+    | inl e ↦ elim (cases_eq k g) [
+      | inr n ↦ ap (λ z. z.head) (other_stream d key t es es nodes h (held_itself es) q g l in_group new w k (inr n))
+      | inl f ↦ subst (λ z. (stream_of later z k).head ≡ (stream_of nodes z k).head) (sym e) (subst (λ z. (stream_of later q z).head ≡ (stream_of nodes q z).head) (sym f) (ap (λ z. z.head) (queued_stream d key t es es nodes h (held_itself es) q g l in_group new)))
+    ]
+  ]
+
+  lefts_same : (r c : ℕ) → AreLefts d key t nodes q r c → AreLefts d key t later q r c
+  lefts_same r zero a = tt
+  lefts_same r (suc c) a =
+      subst (λ (ps : List (List (ProductData R))). IsPrefix d key (get_or (get_or ps r []) c (record { found = []; frontier = []; room = 0; frontier_room = 0 })).found (part_list d key t q r (suc c))) (sym (queued_products d key t es es nodes h (held_itself es) q g l in_group new q)) a
+
+  -- what is read of a row after the queue has changed
+  pub row_after : (r : ℕ) → HasRow d key t es nodes q r → HasRow d key t es later q r
+  row_after r a = record {
+    row = omega (arith, a.row, ap length (queued_products d key t es es nodes h (held_itself es) q g l in_group new q));
+    headed = record {
+      all_nodes = set_length nodes q (with_queue (lists_of nodes q) g new) ∙ a.headed.all_nodes;
+      all_children = ap length (queued_children d key t es es nodes h (held_itself es) q g l in_group new q) ∙ a.headed.all_children;
+      children = λ c k. ap (λ z. get_or z c 0) (queued_children d key t es es nodes h (held_itself es) q g l in_group new q) ∙ a.headed.children c k;
+      streams = λ c k. omega (arith, a.headed.streams c k, queued_streams d key t es es nodes h (held_itself es) q g l in_group new (child t q c));
+      heads = λ c k. omega (arith, a.headed.heads c k, head_same (child t q c) (group_named t q r c));
+      keys = λ c k. subst (λ i. HasKey d key es i (get_or (group_list d key t (child t q c) (group_named t q r c)) 0 (key_none d 16))) (sym (head_same (child t q c) (group_named t q r c))) (a.headed.keys c k);
+    };
+    whole = λ some. ap (λ z. length (get_or z r [])) (queued_products d key t es es nodes h (held_itself es) q g l in_group new q)
+        ∙ a.whole (omega (arith, some, ap (λ z. length (get_or z r [])) (queued_products d key t es es nodes h (held_itself es) q g l in_group new q)));
+    last = subst (λ c. AreLefts d key t later q r c) (sym (ap (λ z. length (get_or z r [])) (queued_products d key t es es nodes h (held_itself es) q g l in_group new q))) (lefts_same r (length (products_of nodes q r)) a.last);
+  }
+
+-- what is offered for the member whose solution was passed last: its next one, or there is none
+pub record IsNextOffer {R : Type 0} (n : NodeLists R) (r : ℕ) (next : Source) (offer : Option (Entry R Source)) : Type 0 where
+  pub none : offer ≡ None → known_of n r (length (get_or n.products r [])) ≤ next.place
+  pub tag : (e : Entry R Source) → offer ≡ Some e → e.tag ≡ next
+  pub known : (e : Entry R Source) → offer ≡ Some e → next.place < known_of n r (length (get_or n.products r []))
+  pub rank : (e : Entry R Source) → offer ≡ Some e → (c : ℕ) (x : Answer R) → length (get_or n.products r []) ≡ c + 1 → e.rank ≡ (get_or (get_or (get_or n.products r []) c (record { found = []; frontier = []; room = 0; frontier_room = 0 })).found next.place x).rank
+
+module _ {R : Type 0} (d : ℕ) (key : R → KeyOf d 16) (t : List (NodeData R)) (es : List (Linked (Found R))) (nodes : List (NodeLists R)) (h : IsStreams d key t es nodes) (q g : ℕ)
+    (l : q < length t) (in_group : g < group_count t q) (r : ℕ) (source : Source) (offer : Option (Entry R Source)) (top : Entry R Source) (new : List (Entry R Source))
+    (some : 0 < length (stream_of nodes q g).queue) (is_top : top ≡ get_or (stream_of nodes q g).queue 0 top) (is_source : top.tag ≡ source) (is_row : r ≡ get_or (members t q g) source.member 0)
+    (whole : length (products_of nodes q r) ≡ child_count t q) (reached : IsReached d key t nodes q r (child_count t q) (source.place + 1))
+    (next : IsNextOffer (lists_of nodes q) r (record { member = source.member; place = source.place + 1 }) offer)
+    (moved : IsPermutation (offers offer None (stream_of nodes q g).queue) (top ∷ new)) (least : IsLeast d key top (stream_of nodes q g).queue) where
+  abbrev n : ℕ
+  n = length (members t q g)
+
+  abbrev lists : ℕ → List (KeyOf d 16)
+  lists i = part_list d key t q (get_or (members t q g) i 0) (child_count t q)
+
+  abbrev queue : List (Entry R Source)
+  queue = (stream_of nodes q g).queue
+
+  abbrev Held : Entry R Source → Type 0
+  Held = IsHeld d key (run_key (key_none d 16) lists) (InRuns d n lists) run_of
+
+  abbrev Known : Entry R Source → Type 0
+  Known e = e.tag.place < row_known nodes q (get_or (members t q g) e.tag.member 0)
+
+  own : IsStreamOf d key t es nodes q g
+  own = h.streams q g l in_group
+
+  top_held : Held top
+  top_held = subst Held (sym is_top) (All-get_or Held queue 0 top some own.merge.held)
+
+  member_in : source.member < n
+  member_in = subst (λ z. z.member < n) is_source top_held.0.0
+
+  row_in : r < rows t q
+  row_in = subst (λ z. z < rows t q) (sym is_row) (member_is_row d key t h.tree q g source.member l member_in)
+
+  the_list : lists source.member ≡ part_list d key t q r (child_count t q)
+  the_list = ap (λ z. part_list d key t q z (child_count t q)) (sym is_row)
+
+  offer_facts : (o : Option (Entry R Source)) → offer ≡ o → MaybeHolds Held o × MaybeHolds Known o × IsNext d key n lists run_of (run_of top.tag) o
+  offer_facts None e = (
+    tt,
+    tt,
+    subst (λ (s : Source). length (lists s.member) ≤ s.place + 1) (sym is_source) (elim reached [
+      | inl k ↦ absurd (omega (arith, k, next.none e, ap (λ z. part_known nodes q r z) whole))
+      | inr k ↦ omega (arith, k, ap length the_list)
+    ]),
+  )
+  offer_facts (Some e) s =
+      let k : source.place + 1 < known_of (lists_of nodes q) r (length (products_of nodes q r)) = next.known e s in
+      let inside : source.place + 1 < length (part_list d key t q r (length (products_of nodes q r))) = known_within d key t h.tree nodes q r (length (products_of nodes q r)) (source.place + 1) l (lefts_of d key t es nodes h q r (length (products_of nodes q r)) l row_in (omega arith)) k in
+      let within : source.place + 1 < length (lists source.member) = omega (arith, inside, ap (λ z. length (part_list d key t q r z)) whole, ap length the_list) in (
+        subst (λ (z : Source). InRuns d n lists (run_of z) × (key e.rank ≡ run_key (key_none d 16) lists (run_of z))) (sym (next.tag e s))
+            ((member_in, within), rank_is (length (products_of nodes q r)) refl k e s ∙ ap (λ z. get_or (part_list d key t q r z) (source.place + 1) (key_none d 16)) whole ∙ ap (λ z. get_or z (source.place + 1) (key_none d 16)) (sym the_list)),
+        subst (λ (z : Source). z.place < row_known nodes q (get_or (members t q g) z.member 0)) (sym (next.tag e s)) (subst (λ z. source.place + 1 < row_known nodes q z) is_row k),
+        ap run_of (next.tag e s) ∙ ap (λ (z : Source). (let p : Pair = record { left = z.member; right = z.place + 1 } in p)) (sym is_source),
+      )
+    where
+      rank_is : (c : ℕ) → length (products_of nodes q r) ≡ c → source.place + 1 < known_of (lists_of nodes q) r (length (products_of nodes q r)) → (e : Entry R Source) → offer ≡ Some e
+          → key e.rank ≡ get_or (part_list d key t q r (length (products_of nodes q r))) (source.place + 1) (key_none d 16)
+      rank_is zero at k e s = absurd (omega (arith, k, ap (λ z. known_of (lists_of nodes q) r z) at))
+      rank_is (suc c) at k e s =
+          let a : Answer R = record { rows = []; rank = e.rank } in
+          let f = lefts_at d key t nodes q r (length (products_of nodes q r)) c (source.place + 1) a at (lefts_of d key t es nodes h q r (length (products_of nodes q r)) l row_in (omega arith)) k in
+          ap key (next.rank e s c a (omega (arith, at))) ∙ f.1
+
+  all_facts : MaybeHolds Held offer × MaybeHolds Known offer × IsNext d key n lists run_of (run_of top.tag) offer
+  all_facts = offer_facts offer refl
+
+  offered_all : (P : Entry R Source → Type 0) (a : Option (Entry R Source)) (es : List (Entry R Source)) → MaybeHolds P a → All P es → All P (offers a None es)
+  offered_all P (Some x) es p r = All-cons P x es p r
+  offered_all P None es p r = r
+
+  offered_length : (a : Option (Entry R Source)) (es : List (Entry R Source)) → length (offers a None es) ≤ suc (length es)
+  offered_length (Some x) es = omega arith
+  offered_length None es = omega arith
+
+  pub queue_known : All Known new
+  queue_known = All-tail Known top new (All-permutation Known (offers offer None queue) (top ∷ new) moved (offered_all Known offer queue all_facts.1 own.known))
+
+  pub queue_held : All Held new
+  queue_held = held_moved d key (run_key (key_none d 16) lists) (InRuns d n lists) run_of offer None top queue new moved all_facts.0 tt own.merge.held
+
+  pub queue_few : length new ≤ n
+  queue_few = omega (arith, length_permutation (offers offer None queue) (top ∷ new) moved, offered_length offer queue, own.few)
+
+  pub group_ends : new ≡ [] → (length (stream es q g) ≡ length (group_list d key t q g)) × IsMerge d key run_of n lists (group_list d key t q g) (stream es q g) []
+  group_ends e =
+      merge_ends d key n lists (group_list d key t q g) (λ i k. part_ascends d key t q (get_or (members t q g) i 0) (child_count t q)) run_of (stream es q g) queue offer top own.merge some is_top least
+      (subst (λ z. IsPermutation (offers offer None queue) (top ∷ z)) e moved) all_facts.0 top_held.0 all_facts.2
+
+  pub group_grows : (after : Entry R Source) (answer : Answer R) → 0 < length new → after ≡ get_or new 0 after → IsLeast d key after new → key answer.rank ≡ run_key (key_none d 16) lists (run_of after.tag) → HasRows d key answer
+      → IsMerge d key run_of n lists (group_list d key t q g) (stream es q g ++ (answer ∷ [])) new
+  group_grows after answer more is_after after_least k rs =
+      let held : Held after = subst Held (sym is_after) (All-get_or Held new 0 after more queue_held) in
+      (merge_grows d key n lists (group_list d key t q g) (λ i k. part_ascends d key t q (get_or (members t q g) i 0) (child_count t q)) run_of (stream es q g) queue new offer top after answer own.merge some is_top least
+      moved all_facts.0 top_held.0 all_facts.2 more is_after after_least (k ∙ sym held.1) rs).1
+
+-- the offer that was made, as it is seen from the lists
+pub next_offer : {R : Type 0} (n m : NodeLists R) (r member place : ℕ) (next : Source) (offer : Option (Entry R Source)) → n ≡ m → next.member ≡ member → next.place ≡ place + 1
+    → IfNone offer (known_of m r (length (get_or m.products r [])) ≤ next.place) → IfSome offer (λ e. e.tag ≡ next) → IfSome offer (λ e. next.place < known_of m r (length (get_or m.products r [])))
+    → IfSome offer (λ e. (c : ℕ) (x : Answer R) → length (get_or m.products r []) ≡ c + 1 → e.rank ≡ (get_or (get_or (get_or m.products r []) c (record { found = []; frontier = []; room = 0; frontier_room = 0 })).found next.place x).rank)
+    → IsNextOffer n r (record { member = member; place = place + 1 }) offer
+next_offer {R} n m r member place next offer same em ep none tag known rank =
+    let e : next ≡ record { member = member; place = place + 1 } = ap (λ (z : ℕ). (let s : Source = record { member = z; place = next.place } in s)) em ∙ ap (λ (z : ℕ). (let s : Source = record { member = member; place = z } in s)) ep in
+    subst (λ z. IsNextOffer n r z offer) e (subst (λ z. IsNextOffer z r next offer) (sym same) (cases offer none tag known rank))
+  where
+    cases : (o : Option (Entry R Source)) → IfNone o (known_of m r (length (get_or m.products r [])) ≤ next.place) → IfSome o (λ e. e.tag ≡ next) → IfSome o (λ e. next.place < known_of m r (length (get_or m.products r [])))
+        → IfSome o (λ e. (c : ℕ) (x : Answer R) → length (get_or m.products r []) ≡ c + 1 → e.rank ≡ (get_or (get_or (get_or m.products r []) c (record { found = []; frontier = []; room = 0; frontier_room = 0 })).found next.place x).rank)
+        → IsNextOffer m r next o
+    cases None a b c f = record { none = λ e. a; tag = λ e s. absurd (clash e s); known = λ e s. absurd (clash e s); rank = λ e s. absurd (clash e s) }
+      where
+        clash : (e : Entry R Source) → None ≡ Some e → ⊥
+        clash e s = cc
+    cases (Some x) a b c f = record {
+      none = λ e. absurd (clash e);
+      tag = λ e s. subst (λ (z : Entry R Source). z.tag ≡ next) (same_of e s) b;
+      known = λ e s. c;
+      rank = λ e s k y l. subst (λ (z : Entry R Source). z.rank ≡ (get_or (get_or (get_or m.products r []) k (record { found = []; frontier = []; room = 0; frontier_room = 0 })).found next.place y).rank) (same_of e s) (f k y l);
+    }
+      where
+        clash : Some x ≡ None → ⊥
+        clash e = cc
+
+        same_of : (e : Entry R Source) → Some x ≡ Some e → x ≡ e
+        same_of e s = cc
+
+-- the members that a queue names are rows of the node
+pub top_row : {R : Type 0} (d : ℕ) (key : R → KeyOf d 16) (t : List (NodeData R)) (es : List (Linked (Found R))) (nodes : List (NodeLists R)) → IsStreams d key t es nodes → (q g : ℕ) → q < length t → g < group_count t q → (top : Entry R Source)
+    → 0 < length (stream_of nodes q g).queue → top ≡ get_or (stream_of nodes q g).queue 0 top → (top.tag.member < length (members t q g)) × (get_or (members t q g) top.tag.member 0 < rows t q)
+top_row {R} d key t es nodes h q g l k top some e =
+    let lists : ℕ → List (KeyOf d 16) = λ i. part_list d key t q (get_or (members t q g) i 0) (child_count t q) in
+    let held : IsHeld d key (run_key (key_none d 16) (λ i. part_list d key t q (get_or (members t q g) i 0) (child_count t q))) (InRuns d (length (members t q g)) (λ i. part_list d key t q (get_or (members t q g) i 0) (child_count t q))) run_of top =
+    subst (λ z. IsHeld d key (run_key (key_none d 16) (λ i. part_list d key t q (get_or (members t q g) i 0) (child_count t q))) (InRuns d (length (members t q g)) (λ i. part_list d key t q (get_or (members t q g) i 0) (child_count t q))) run_of z) (sym e)
+    (All-get_or (IsHeld d key (run_key (key_none d 16) (λ i. part_list d key t q (get_or (members t q g) i 0) (child_count t q))) (InRuns d (length (members t q g)) (λ i. part_list d key t q (get_or (members t q g) i 0) (child_count t q))) run_of) (stream_of nodes q g).queue 0 top some (h.streams q g l k).merge.held) in
+    (held.0.0, member_is_row d key t h.tree q g top.tag.member l held.0.0)

@@ -1,0 +1,119 @@
+-- The cells that a step of a product offers, and the two changes of the product as one.
+use Rattle.std.proofs.Common.{◌≡◌, ◌↔◌, ℕ, zero, suc, ◌+◌, ◌<◌, ◌≤◌, Option, Some, None, IsSome, is_some, true, false, MatchOption, IfSome, List, [], ◌∷◌, length, get_or, slice_set, refl, sym, ap, ◌∙◌, subst, arith}
+use Rattle.std.proofs.lemmas.List.{get_or-set_same, set-set}
+use Rattle.std.proofs.lemmas.List.Elements.{All-get_or}
+use Rattle.stream_store.specs.declared.entry.Linked.{Linked}
+use Rattle.std.specs.List.Sorted.{IsPermutation}
+use Rattle.std.proofs.lemmas.List.Sorted.{length_permutation}
+use Rattle.stream_model.specs.Offers.{offers}
+use Rattle.take2_heap.specs.declared.entry.Entry.{Entry}
+use Rattle.tdp_core.specs.TreeData.{NodeData, rows, group_named}
+use Rattle.tdp_model.specs.KeyTuple.{KeyOf}
+use Rattle.stream_model.specs.Links.{IsLinkedAt}
+use Rattle.suffix_streams.specs.declared.cell.Cell.{Cell}
+use Rattle.suffix_streams.specs.declared.stream.Found.{Found}
+use Rattle.suffix_streams.specs.ProductData.{ProductData}
+use Rattle.suffix_streams.specs.NodeLists.{NodeLists, product_at, with_product}
+use Rattle.suffix_streams.specs.Cells.{cell_down}
+use Rattle.suffix_streams.specs.Rankings.{child, part_list}
+use Rattle.suffix_streams.specs.Frontiers.{IsPrefix}
+use Rattle.suffix_streams.specs.StreamsData.{node_list, group_list_of, node_of, group_of, lists_of, products_of, product_of, stream_of, part_known, IsStreamOf, IsStreams, IsCell, HasParts, AreLefts}
+use Rattle.suffix_streams.specs.Growing.{IsAnswered}
+use Rattle.suffix_streams.proofs.Rankings.{kid}
+use Rattle.suffix_streams.proofs.Stores.{node_length, set_length}
+use Rattle.suffix_streams.proofs.Heads.{lists_at}
+use Rattle.suffix_streams.proofs.Entries.{child_in, named_stream, parts_of}
+use Rattle.suffix_streams.proofs.Changes.{product_row, changed_at, changed_count}
+
+-- the first of a list
+pub first_of : {A : Type 0} (xs : List A) → 0 < length xs → (x : A) × (x ≡ get_or xs 0 x)
+first_of [] l = absurd (omega arith)
+first_of (x ∷ xs) l = (x, refl)
+
+module _ {R : Type 0} (d : ℕ) (key : R → KeyOf d 16) (t : List (NodeData R)) (es : List (Linked (Found R))) (nodes : List (NodeLists R)) (h : IsStreams d key t es nodes) (v r c : ℕ)
+    (l : v < length t) (row : r < rows t v) (in_row : c < length (products_of nodes v r)) (cell : Cell) (some : 0 < length (product_of nodes v r c).frontier)
+    (is_cell : (x : Entry R Cell) → (get_or (product_of nodes v r c).frontier 0 x).tag ≡ cell) where
+  pub cell_known : IsCell d key t es nodes v r c cell
+  cell_known =
+      let x : (x : Entry R Cell) × (x ≡ get_or (product_of nodes v r c).frontier 0 x) = first_of (product_of nodes v r c).frontier some in
+      let k : (x.0.tag.left < part_known nodes v r c) × (x.0.tag.right < length es) × (node_of es x.0.tag.right ≡ child t v c) × (group_of es x.0.tag.right ≡ group_named t v r c) =
+      subst (λ (e : Entry R Cell). (e.tag.left < part_known nodes v r c) × (e.tag.right < length es) × (node_of es e.tag.right ≡ child t v c) × (group_of es e.tag.right ≡ group_named t v r c)) (sym x.1)
+      (All-get_or (λ (e : Entry R Cell). (e.tag.left < part_known nodes v r c) × (e.tag.right < length es) × (node_of es e.tag.right ≡ child t v c) × (group_of es e.tag.right ≡ group_named t v r c)) (product_of nodes v r c).frontier 0 x.0 some (h.products v r c l row in_row).known) in
+      let at : x.0.tag ≡ cell = ap (λ e. e.tag) x.1 ∙ is_cell x.0 in
+      subst (λ (z : Cell). IsCell d key t es nodes v r c z) at (record { left = k.0; right = k.1; node = k.2; group = k.3 })
+
+  pub down_cell_known : (b : Option ℕ) → IsAnswered d key t es cell.right b → IfSome (cell_down cell b) (IsCell d key t es nodes v r c)
+  down_cell_known None e = tt
+  down_cell_known (Some n) e =
+      let at : IsLinkedAt (node_list es) (group_list_of es) cell.right (Some n) =
+      subst (λ o. IsLinkedAt (node_list es) (group_list_of es) cell.right o) e (h.linked cell.right (omega (arith, cell_known.right, node_length es))) in
+      record { left = cell_known.left; right = omega (arith, at.0, node_length es); node = at.1 ∙ cell_known.node; group = at.2 ∙ cell_known.group }
+
+  pub beside_cell_known : (head : ℕ) → head ≡ (stream_of nodes (child t v c) (group_named t v r c)).head → (o : Option Cell)
+      → MatchOption o (cell.right ≡ head → part_known nodes v r c ≤ cell.left + 1) (λ x. (cell.right ≡ head) × (cell.left + 1 < part_known nodes v r c) × (x ≡ record { left = cell.left + 1; right = head }))
+      → IfSome o (IsCell d key t es nodes v r c)
+  beside_cell_known head e None m = tt
+  beside_cell_known head e (Some x) m =
+      let s : IsStreamOf d key t es nodes (child t v c) (group_named t v r c) =
+      h.streams (child t v c) (group_named t v r c) (kid d key t h.tree v c (child_in d key t es nodes h v r c l row in_row)).within (named_stream d key t es nodes h v r c l row (child_in d key t es nodes h v r c l row in_row)) in
+      subst (λ (z : Cell). IsCell d key t es nodes v r c z) (sym m.2)
+      (record { left = m.1; right = omega (arith, e, s.head_in); node = ap (λ z. node_of es z) e ∙ s.head_node; group = ap (λ z. group_of es z) e ∙ s.head_group })
+
+  -- what is read after the queue was passed
+  pub parts_after : (p : ProductData R) → (rises : length (product_of nodes v r c).found ≤ length p.found) → HasParts d key t es (slice_set nodes v (with_product (lists_of nodes v) r c p)) v r c
+  parts_after p rises =
+      let f : HasParts d key t es nodes v r c = parts_of d key t es nodes h v r c l row in_row in
+      record {
+        node = omega (arith, f.node, set_length nodes v (with_product (lists_of nodes v) r c p));
+        row = omega (arith, f.row, ap (λ n. length n.products) (changed_at d key t es nodes h v r c p l row in_row rises), set_length (lists_of nodes v).products r (slice_set (products_of nodes v r) c p));
+        count = omega (arith, f.count, changed_count d key t es nodes h v r c p l row in_row rises v r);
+        lefts = lefts c refl f.lefts;
+        rights = f.rights;
+        fits = f.fits;
+      }
+    where
+      lefts : (b : ℕ) → b ≡ c → AreLefts d key t nodes v r b → AreLefts d key t (slice_set nodes v (with_product (lists_of nodes v) r c p)) v r b
+      lefts zero e a = tt
+      lefts (suc b) e a =
+          let same : product_of (slice_set nodes v (with_product (lists_of nodes v) r c p)) v r b ≡ product_of nodes v r b =
+          ap (λ n. product_at n r b) (changed_at d key t es nodes h v r c p l row in_row rises) ∙ product_row (lists_of nodes v) r c p (omega (arith, h.all_rows v l)) in_row b (λ z. omega (arith, e, z)) in
+          subst (λ (z : ProductData R). IsPrefix d key z.found (part_list d key t v r (suc b))) (sym same) a
+
+module _ {R : Type 0} (nodes : List (NodeLists R)) (v r c : ℕ) (m n : NodeLists R) (in_nodes : v < length nodes) (at : m ≡ get_or nodes v m) (changed : n ≡ with_product m r c (product_at n r c)) where
+  -- a change of one product, as it is seen from the lists
+  pub one_change : slice_set nodes v n ≡ slice_set nodes v (with_product (lists_of nodes v) r c (product_at n r c))
+  one_change = ap (λ z. slice_set nodes v z) (changed ∙ ap (λ z. with_product z r c (product_at n r c)) (sym (lists_at nodes v m at in_nodes)))
+
+  module _ (m' n' : NodeLists R) (row : r < length (lists_of nodes v).products) (at' : m' ≡ get_or (slice_set nodes v n) v m') (changed' : n' ≡ with_product m' r c (product_at n' r c)) where
+    pub again : m' ≡ n
+    again = at' ∙ get_or-set_same nodes v n m' in_nodes
+
+    twice : with_product n r c (product_at n' r c) ≡ with_product (lists_of nodes v) r c (product_at n' r c)
+    twice =
+        ap (λ z. with_product z r c (product_at n' r c)) (changed ∙ ap (λ z. with_product z r c (product_at n r c)) (sym (lists_at nodes v m at in_nodes)))
+        ∙ ap (λ (ps : List (List (ProductData R))). (let x : NodeLists R = record (lists_of nodes v) { products = ps } in x))
+        (set-set (lists_of nodes v).products r (slice_set (products_of nodes v r) c (product_at n r c)) _ ∙ ap (λ z. slice_set (lists_of nodes v).products r z)
+        (ap (λ z. slice_set z c (product_at n' r c)) (get_or-set_same (lists_of nodes v).products r (slice_set (products_of nodes v r) c (product_at n r c)) [] row) ∙ set-set (products_of nodes v r) c (product_at n r c) (product_at n' r c)))
+
+    pub two_changes : slice_set (slice_set nodes v n) v n' ≡ slice_set nodes v (with_product (lists_of nodes v) r c (product_at n' r c))
+    two_changes = set-set nodes v n n' ∙ ap (λ z. slice_set nodes v z) (changed' ∙ ap (λ z. with_product z r c (product_at n' r c)) again ∙ twice)
+
+-- a queue that has no top is empty
+pub no_top : {A B : Type 0} (o : Option A) (xs : List B) → o ≡ None → (IsSome o ↔ (0 < length xs)) → xs ≡ []
+no_top o [] e v = refl
+no_top o (x ∷ xs) e v =
+    let a : is_some o ≡ true = v.1 (omega arith) in
+    let b : is_some o ≡ false = ap is_some e in
+    absurd (clash a b)
+  where
+    clash : is_some o ≡ true → is_some o ≡ false → ⊥
+    clash a b = cc
+
+longer_by_one : {E : Type 0} (a b : Option E) (es : List E) → length (offers a b es) ≤ length es + 2
+longer_by_one (Some x) (Some y) es = omega arith
+longer_by_one (Some x) None es = omega arith
+longer_by_one None (Some y) es = omega arith
+longer_by_one None None es = omega arith
+
+pub queue_longer : {E : Type 0} (a b : Option E) (top : E) (old new : List E) → IsPermutation (offers a b old) (top ∷ new) → length new ≤ length old + 1
+queue_longer a b top old new p = omega (arith, length_permutation (offers a b old) (top ∷ new) p, longer_by_one a b old)

@@ -1,0 +1,46 @@
+-- The streams of a tree at their start, as callers see them, and the steps that making them takes.
+use Rattle.std.proofs.Common.{◌≡◌, ℕ, zero, suc, ◌+◌, ◌-◌, ◌*◌, ◌<◌, ◌≤◌, List, length, ap, ◌∙◌, arith}
+use Rattle.stream_store.specs.declared.entry.Linked.{Linked}
+use Rattle.tdp_model.specs.KeyTuple.{KeyOf}
+use Rattle.tdp_model.specs.TreeProblem.{sum_from}
+use Rattle.tdp_core.specs.TreeData.{NodeData, rows, row_count}
+use Rattle.tdp_core.specs.WellFormed.{IsFormed, IsTieFreeTree}
+use Rattle.suffix_streams.specs.declared.stream.Found.{Found}
+use Rattle.suffix_streams.specs.NodeLists.{NodeLists}
+use Rattle.suffix_streams.specs.StreamsView.{IsStreamsView}
+use Rattle.suffix_streams.specs.Beginnings.{IsBegunFrom}
+use Rattle.suffix_streams.proofs.BeginBegun.{streams_begun, few_begun}
+use Rattle.suffix_streams.proofs.BeginNodes.{rows_from, rows_more}
+
+module _ {R : Type 0} (d : ℕ) (key : R → KeyOf d 16) (t : List (NodeData R)) where
+  pub start_view : IsFormed d key t → IsTieFreeTree t → (es : List (Linked (Found R))) (nodes : List (NodeLists R)) (v : ℕ) → v ≡ 0 → IsBegunFrom d key t es nodes v
+      → IsStreamsView d key (record { tree = t; entries = es; nodes = nodes; calls = 0 })
+  start_view formed free es nodes v e b = record {
+    formed = formed;
+    tie_free = free;
+    streams = streams_begun d key t formed free es nodes b.streams (λ q l. b.behind q (omega arith) l);
+    few = few_begun d key t formed free es nodes b.streams;
+  }
+
+  rows_falls : (v : ℕ) → v ≤ length t → rows_from d key t v ≤ rows_from d key t 0
+  rows_falls zero l = omega arith
+  rows_falls (suc v) l = omega (arith, rows_more d key t v (suc v) (omega arith) (omega arith), rows_falls v (omega arith))
+
+  pub rows_whole : rows_from d key t 0 ≡ row_count t
+  rows_whole = let all : length t - 0 ≡ length t = omega arith in ap (λ n. sum_from ◌+◌ 0 (rows t) n 0) all
+
+  pub rows_within : (v : ℕ) → v ≤ length t → rows_from d key t v ≤ row_count t
+  rows_within v l = omega (arith, rows_falls v l, rows_whole)
+
+  share : (m a n : ℕ) → a ≤ n → 8 * m * a ≤ 16 * m * (1 + n)
+  share m a n l = let x : m * a ≤ m * n = grind arith in omega (arith, x)
+
+  -- the steps of the nodes from v on
+  pub start_steps : (v : ℕ) → v ≤ length t → 8 * length t * rows_from d key t v ≤ 16 * length t * (1 + row_count t)
+  start_steps v l = share (length t) (rows_from d key t v) (row_count t) (rows_within v l)
+
+  pub steps_more : (v w : ℕ) → v < length t → w ≡ v + 1 → 8 * length t * rows_from d key t v ≡ 8 * length t * rows t v + 8 * length t * rows_from d key t w
+  steps_more v w l e = ap (λ z. 8 * length t * z) (rows_more d key t v w l e) ∙ apart (8 * length t) (rows t v) (rows_from d key t w)
+    where
+      apart : (a b c : ℕ) → a * (b + c) ≡ a * b + a * c
+      apart a b c = omega arith

@@ -1,0 +1,17 @@
+use Rattle.std.proofs.Common.{◌+◌, List, length, sym, ap, ◌∙◌, subst}
+use Rattle.suffix_streams.specs.NodeLists.{NodeLists}
+use Rattle.suffix_streams.specs.StreamsData.{lists_of}
+use Rattle.suffix_streams.specs.Beginnings.{IsEmptyNode}
+use Rattle.suffix_streams.proofs.BeginOwners.{length_behind}
+use Rattle.suffix_streams.proofs.BeginNodes.{empties_more}
+use Rattle.suffix_streams.proofs.beginning.empty_nodes.Goals as goal
+
+pub loop-node-preserved : goal.loop-node-preserved
+loop-node-preserved g c =
+    let t = c.args.tree.now in
+    let same = c.in_ok-push.ensures.items in
+    record {
+      count = ap length same ∙ length_behind c.loop-node.nodes.items c.in_ok-empty_node.field-0 ∙ ap (λ z. z + 1) c.loop-node.invariant.count;
+      empty = λ v l. subst (λ (ns : List (NodeLists g.row.R.Denot)). IsEmptyNode t v (lists_of ns v)) (sym same)
+          (empties_more g.R.Rank.KEYS g.R.Rank.key t c.loop-node.nodes.items c.in_ok-empty_node.field-0 c.loop-node.node c.loop-node.invariant.count c.loop-node.invariant.empty c.in_ok-empty_node.ensures v l);
+    }

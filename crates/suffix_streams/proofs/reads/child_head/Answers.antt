@@ -1,0 +1,26 @@
+use Rattle.std.proofs.Common.{length, arith}
+use Rattle.tdp_core.specs.TreeData.{parent}
+use Rattle.tdp_core.proofs.Children.{kids_below-most}
+use Rattle.suffix_streams.proofs.Heads.{kid_within, stream_within, head_is}
+use Rattle.suffix_streams.proofs.reads.child_head.Goals as goal
+
+pub overflow_cast-child : goal.overflow_cast-child
+overflow_cast-child g c =
+    let most = kids_below-most (parent c.args.tree.now) c.args.node (length c.args.tree.now) in
+    let few = c.requires.formed.shaped.few_nodes in
+    omega (arith, most, few)
+
+pub bounds-nodes-child_node : goal.bounds-nodes-child_node
+bounds-nodes-child_node g c =
+    kid_within g.R.Rank.KEYS g.R.Rank.key c.args.tree.now c.requires.formed c.args.entries.now.entries c.args.nodes.now c.args.node c.args.row c.args.child c.requires.headed c.requires.node c.requires.child
+    c.index-nodes-node.result c.index-nodes-node.is c.child-child_node.result c.child-child_node.ensures
+
+pub head-requires : goal.head-requires
+head-requires g c =
+    stream_within g.R.Rank.KEYS g.R.Rank.key c.args.tree.now c.requires.formed c.args.entries.now.entries c.args.nodes.now c.args.node c.args.row c.args.child c.requires.headed c.requires.node c.requires.child
+    c.index-nodes-node.result c.index-nodes-node.is c.child-child_node.result c.index-nodes-child_node.result c.group_of-group.result c.child-child_node.ensures c.index-nodes-child_node.is c.group_of-group.ensures.named
+
+pub returns-clause-head : goal.returns-clause-head
+returns-clause-head g c =
+    head_is g.R.Rank.KEYS g.R.Rank.key c.args.tree.now c.requires.formed c.args.entries.now.entries c.args.nodes.now c.args.node c.args.row c.args.child c.requires.headed c.requires.node c.requires.child
+    c.index-nodes-node.result c.index-nodes-node.is c.child-child_node.result c.index-nodes-child_node.result c.group_of-group.result c.head.result c.child-child_node.ensures c.index-nodes-child_node.is c.group_of-group.ensures.named c.head.ensures

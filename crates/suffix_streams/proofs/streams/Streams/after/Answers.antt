@@ -1,0 +1,60 @@
+use Rattle.std.proofs.Common.{◌≡◌, ◌+◌, ◌*◌, ◌<◌, ◌≤◌, Result, Ok, Err, IfOk, length, sym, ap, subst, arith}
+use Rattle.rank_key.specs.Bits.{bit_length}
+use Rattle.tdp_core.specs.TreeData.{parent, row_count}
+use Rattle.tdp_core.specs.WellFormed.{IsFormed, IsTieFreeTree}
+use Rattle.suffix_streams.specs.StreamsData.{node_of, group_of, node_size, IsStreams}
+use Rattle.suffix_streams.specs.Growing.{IsAnswered}
+use Rattle.suffix_streams.specs.StreamsView.{StreamsView, size_of_node}
+use Rattle.suffix_streams.proofs.ViewPrefixes.{all_prefixes}
+use Rattle.suffix_streams.proofs.ViewCalls.{few_kept, call_steps, some_row, follows_of, below_few}
+use Rattle.tdp_model.specs.Below.{is_below}
+use Rattle.suffix_streams.proofs.SearchCosts.{subtree_within_steps}
+use Rattle.suffix_streams.proofs.streams.Streams.after.Goals as goal
+
+on_ok : {A E : Type 0} {P Q : A → Type 0} (r : Result A E) → ((a : A) → P a → Q a) → IfOk r P → IfOk r Q
+on_ok (Ok a) f h = f a h
+on_ok (Err e) f h = h
+
+pub invariant_of-self : goal.invariant_of-self
+invariant_of-self g c =
+    let d = g.R.Rank.KEYS in
+    let s = c.self.inside.solutions in
+    let s' = c.after.new.self in
+    let grown = few_kept d g.R.Rank.key s.tree.now c.self.invariant.formed s.entries.entries s'.entries.entries s.nodes.items s'.nodes.items c.self.inside.calls (node_of s.entries.entries c.args.entry)
+    (subst (λ t. IsStreams d g.R.Rank.key t s'.entries.entries s'.nodes.items) c.after.ensures.tree c.after.ensures.formed) c.self.invariant.few c.after.ensures.queues in
+    record {
+      formed = subst (IsFormed d g.R.Rank.key) (sym c.after.ensures.tree) c.self.invariant.formed;
+      tie_free = subst IsTieFreeTree (sym c.after.ensures.tree) c.self.invariant.tie_free;
+      streams = c.after.ensures.formed;
+      few = λ v r k. omega (arith, grown v r k, c.saturating_add-self-inside.ensures);
+    }
+
+pub returns-clause-prefixes : goal.returns-clause-prefixes
+returns-clause-prefixes g c = all_prefixes g.R.Rank.KEYS g.R.Rank.key c.after.new.self.tree.now c.after.new.self.entries.entries c.after.new.self.nodes.items c.after.ensures.formed
+
+pub returns-clause-follows : goal.returns-clause-follows
+returns-clause-follows g c =
+    let s' = c.after.new.self in
+    let within : c.args.entry < length c.self.inside.solutions.entries.entries = subst (λ (s : StreamsView g.row.R.Denot). c.args.entry < length s.entries) (sym c.self.view_is) c.requires in
+    on_ok c.after.result
+    (λ o h. follows_of g.R.Rank.KEYS g.R.Rank.key (record { tree = s'.tree.now; entries = s'.entries.entries; nodes = s'.nodes.items; calls = c.saturating_add-self-inside.result }) c.args.entry o
+    c.after.ensures.formed (omega (arith, within, c.after.ensures.grown.store.longer)) h)
+    (subst (λ t. IfOk c.after.result (IsAnswered g.R.Rank.KEYS g.R.Rank.key t s'.entries.entries c.args.entry)) (sym c.after.ensures.tree) c.after.ensures.answer)
+
+pub returns-clause-growth : goal.returns-clause-growth
+returns-clause-growth g c q =
+    let s = c.self.inside.solutions in
+    let same : node_size s.entries.entries q ≡ size_of_node c.args.self.now q = ap (λ (v : StreamsView g.row.R.Denot). size_of_node v q) c.self.view_is in
+    omega (arith, c.after.ensures.grown.growth q, below_few (parent s.tree.now) (node_of s.entries.entries c.args.entry) q, same)
+
+pub returns-clause-cost : goal.returns-clause-cost
+returns-clause-cost g c =
+    let d = g.R.Rank.KEYS in
+    let s = c.self.inside.solutions in
+    let within : c.args.entry < length s.entries.entries = subst (λ (s : StreamsView g.row.R.Denot). c.args.entry < length s.entries) (sym c.self.view_is) c.requires in
+    let owner = c.self.invariant.streams.owners c.args.entry within in
+    let some = some_row d g.R.Rank.key s.tree.now c.self.invariant.formed (node_of s.entries.entries c.args.entry) (group_of s.entries.entries c.args.entry) owner.0 owner.1 in
+    subst (λ (v : StreamsView g.row.R.Denot). c.after.new.steps ≤ c.args.steps.now + 20 * length v.tree * (1 + bit_length (row_count v.tree + (v.calls + 1) * length v.tree))) c.self.view_is
+    (call_steps d g.R.Rank.key s.tree.now c.self.invariant.formed s.entries.entries c.after.new.self.entries.entries s.nodes.items c.after.new.self.nodes.items c.self.inside.calls c.args.entry c.args.steps.now c.after.new.steps
+    some c.self.invariant.few
+    (subtree_within_steps d g.R.Rank.key s.tree.now c.self.invariant.formed s.nodes.items (is_below (parent s.tree.now) (node_of s.entries.entries c.args.entry)) (node_of s.entries.entries c.args.entry) c.args.steps.now c.after.new.steps owner.0 c.after.ensures.cost))

@@ -1,0 +1,11 @@
+pub mod ProductData
+pub mod StreamData
+pub mod NodeLists
+pub mod Rankings
+pub mod Frontiers
+pub mod StreamsData
+pub mod Growing
+pub mod Cells
+pub mod StreamsView
+pub mod Beginnings
+pub mod Refusals

@@ -1,0 +1,33 @@
+-- What is kept of a node, to its callers.
+use Rattle.std.specs.Prelude.{ℕ, zero, suc, List, [], length, slice_set, slice_index_or}
+use Rattle.take2_heap.specs.declared.entry.Entry.{Entry}
+use Rattle.suffix_streams.specs.declared.stream.Source.{Source}
+use Rattle.suffix_streams.specs.ProductData.{ProductData}
+use Rattle.suffix_streams.specs.StreamData.{StreamData}
+
+-- a node: its children in ascending order, the streams of its groups, and for each row its products, none before a second
+-- solution of the row is asked for
+pub record NodeLists (R : Type 0) : Type 0 where
+  pub children : List ℕ
+  pub streams : List (StreamData R)
+  pub products : List (List (ProductData R))
+
+module _ {R : Type 0} (n : NodeLists R) where
+  abbrev pub product_at : ℕ → ℕ → ProductData R
+  product_at r c = slice_index_or (slice_index_or n.products r []) c (record { found = []; frontier = []; room = 0; frontier_room = 0 })
+
+  abbrev pub stream_at : ℕ → StreamData R
+  stream_at g = slice_index_or n.streams g (record { head = 0; queue = [] })
+
+  -- how many solutions of row r with its first c children are known
+  abbrev pub known_of : ℕ → ℕ → ℕ
+  known_of r zero = 1
+  known_of r (suc c) = length (product_at r c).found
+
+  -- the node with another product number c of row r
+  abbrev pub with_product : ℕ → ℕ → ProductData R → NodeLists R
+  with_product r c p = record n { products = slice_set n.products r (slice_set (slice_index_or n.products r []) c p) }
+
+  -- the node with another queue of group g
+  abbrev pub with_queue : ℕ → List (Entry R Source) → NodeLists R
+  with_queue g q = record n { streams = slice_set n.streams g (record (stream_at g) { queue = q }) }

@@ -1,0 +1,183 @@
+-- What the streams of a tree are to contracts: one store of entries, and what is kept for each node.
+use Rattle.std.specs.Prelude.{◌≡◌, ℕ, zero, suc, ◌+◌, ◌^◌, ◌<◌, ◌≤◌, Option, Some, None, cond, nat_eq, List, [], ◌∷◌, map, length, slice_index, slice_index_or}
+use Rattle.std.specs.List.{All}
+use Rattle.take2_heap.specs.declared.entry.Entry.{Entry}
+use Rattle.stream_store.specs.declared.entry.Linked.{Linked}
+use Rattle.tdp_core.specs.declared.ranked.Answer.{Answer}
+use Rattle.tdp_core.specs.TreeData.{NodeData, members, group_named, child_count, group_count, rows}
+use Rattle.tdp_core.specs.WellFormed.{IsFormed}
+use Rattle.rank_key.specs.Keys.{KeyFits}
+use Rattle.tdp_model.specs.KeyTuple.{KeyOf, key_add, key_none}
+use Rattle.tdp_model.specs.Product.{Pair, pair_key}
+use Rattle.stream_model.specs.Links.{place_in, IsLinked}
+use Rattle.suffix_streams.specs.declared.cell.Cell.{Cell}
+use Rattle.suffix_streams.specs.declared.stream.Source.{Source}
+use Rattle.suffix_streams.specs.declared.stream.Found.{Found}
+use Rattle.suffix_streams.specs.ProductData.{ProductData}
+use Rattle.suffix_streams.specs.StreamData.{StreamData}
+use Rattle.suffix_streams.specs.NodeLists.{NodeLists, product_at, stream_at, known_of}
+use Rattle.suffix_streams.specs.Rankings.{child, part_list, group_list}
+use Rattle.suffix_streams.specs.Frontiers.{HasRows, IsPrefix, IsFrontier, IsMerge}
+
+-- # The store
+
+module _ {R : Type 0} (es : List (Linked (Found R))) where
+  -- the owner of each entry
+  abbrev pub node_list : List ℕ
+  node_list = map (λ e. e.value.node) es
+
+  abbrev pub group_list_of : List ℕ
+  group_list_of = map (λ e. e.value.group) es
+
+  abbrev pub next_list : List (Option ℕ)
+  next_list = map (λ e. e.next) es
+
+  abbrev pub node_of : ℕ → ℕ
+  node_of i = slice_index node_list i
+
+  abbrev pub group_of : ℕ → ℕ
+  group_of i = slice_index group_list_of i
+
+  -- the place of entry i in its stream
+  abbrev pub place_of : ℕ → ℕ
+  place_of i = place_in node_list group_list_of i
+
+  -- the entry that follows entry i, where one was linked
+  abbrev pub next_of : ℕ → Option ℕ
+  next_of i = slice_index_or next_list i None
+
+-- the stream of group g of node q: its solutions, in the order in which they were found
+unfoldable pub stream : {R : Type 0} → List (Linked (Found R)) → ℕ → ℕ → List (Answer R)
+stream [] q g = []
+stream (e ∷ es) q g = cond (nat_eq e.value.node q) (cond (nat_eq e.value.group g) (e.value.answer ∷ stream es q g) (stream es q g)) (stream es q g)
+
+-- how many entries the streams of node q have
+unfoldable pub node_size : {R : Type 0} → List (Linked (Found R)) → ℕ → ℕ
+node_size [] q = 0
+node_size (e ∷ es) q = cond (nat_eq e.value.node q) 1 0 + node_size es q
+
+-- # What is kept for each node
+
+module _ {R : Type 0} (nodes : List (NodeLists R)) where
+  abbrev pub lists_of : ℕ → NodeLists R
+  lists_of v = slice_index_or nodes v (record { children = []; streams = []; products = [] })
+
+  abbrev pub products_of : ℕ → ℕ → List (ProductData R)
+  products_of v r = slice_index_or (lists_of v).products r []
+
+  abbrev pub product_of : ℕ → ℕ → ℕ → ProductData R
+  product_of v r c = product_at (lists_of v) r c
+
+  abbrev pub stream_of : ℕ → ℕ → StreamData R
+  stream_of q g = stream_at (lists_of q) g
+
+  -- how many solutions of row r of node v with its first c children are known
+  abbrev pub part_known : ℕ → ℕ → ℕ → ℕ
+  part_known v r c = known_of (lists_of v) r c
+
+  -- how many solutions of row r of node v are known: those of its last product, or the first alone
+  abbrev pub row_known : ℕ → ℕ → ℕ
+  row_known v r = part_known v r (length (products_of v r))
+
+-- the places that entries of queues stand for
+abbrev pub pair_of : {R : Type 0} → List (Linked (Found R)) → Cell → Pair
+pair_of es c = record { left = c.left; right = place_of es c.right }
+
+abbrev pub run_of : Source → Pair
+run_of s = record { left = s.member; right = s.place }
+
+-- the solutions of row r of node v with its first c children that are known stand in their product; with no child there is one
+abbrev pub AreLefts : {R : Type 0} (d : ℕ) (key : R → KeyOf d 16) → List (NodeData R) → List (NodeLists R) → ℕ → ℕ → ℕ → Type 0
+AreLefts d key t nodes v r zero = Unit {0}
+AreLefts d key t nodes v r (suc c) = IsPrefix d key (product_of nodes v r c).found (part_list d key t v r (suc c))
+
+-- the solution that entry i stands for has this key, and the key's slots as row numbers
+abbrev pub HasKey : {R : Type 0} (d : ℕ) → (R → KeyOf d 16) → List (Linked (Found R)) → ℕ → KeyOf d 16 → Type 0
+HasKey {R} d key es i k = (x : Linked (Found R)) → (key (slice_index_or es i x).value.answer.rank ≡ k) × HasRows d key (slice_index_or es i x).value.answer
+
+-- # The invariants
+
+module _ {R : Type 0} (d : ℕ) (key : R → KeyOf d 16) (t : List (NodeData R)) (es : List (Linked (Found R))) (nodes : List (NodeLists R)) where
+  -- the stream of group g of node q is the beginning of the group's ranking, and its queue has the rest
+  pub record IsStreamOf (q g : ℕ) : Type 0 where
+    pub head_in : (stream_of nodes q g).head < length es
+    pub head_node : node_of es (stream_of nodes q g).head ≡ q
+    pub head_group : group_of es (stream_of nodes q g).head ≡ g
+    pub head_place : place_of es (stream_of nodes q g).head ≡ 0
+    pub few : length (stream_of nodes q g).queue ≤ length (members t q g)
+    pub known : All (λ e. e.tag.place < row_known nodes q (slice_index (members t q g) e.tag.member)) (stream_of nodes q g).queue
+    pub merge : IsMerge d key run_of (length (members t q g)) (λ i. part_list d key t q (slice_index (members t q g) i) (child_count t q)) (group_list d key t q g) (stream es q g) (stream_of nodes q g).queue
+
+  -- product number c of row r of node v: sums of the row's solutions with its first c children, and of the next child's
+  pub record IsProductOf (v r c : ℕ) : Type 0 where
+    pub few : length (product_of nodes v r c).frontier < 2 ^ 64
+    pub known : All (λ e. (e.tag.left < part_known nodes v r c) × (e.tag.right < length es) × (node_of es e.tag.right ≡ child t v c) × (group_of es e.tag.right ≡ group_named t v r c)) (product_of nodes v r c).frontier
+    pub sums : IsFrontier d key (pair_of es) (part_list d key t v r c) (group_list d key t (child t v c) (group_named t v r c)) (part_list d key t v r (suc c)) (product_of nodes v r c).found (product_of nodes v r c).frontier
+
+  pub record IsStreams : Type 0 where
+    pub tree : IsFormed d key t
+    pub all_nodes : length nodes ≡ length t
+    pub all_children : (v : ℕ) → v < length t → length (lists_of nodes v).children ≡ child_count t v
+    pub children : (v c : ℕ) → v < length t → c < child_count t v → slice_index (lists_of nodes v).children c ≡ child t v c
+    pub all_streams : (v : ℕ) → v < length t → length (lists_of nodes v).streams ≡ group_count t v
+    pub all_rows : (v : ℕ) → v < length t → length (lists_of nodes v).products ≡ rows t v
+    pub whole_rows : (v r : ℕ) → v < length t → r < rows t v → 0 < length (products_of nodes v r) → length (products_of nodes v r) ≡ child_count t v
+    pub owners : (i : ℕ) → i < length es → (node_of es i < length t) × (group_of es i < group_count t (node_of es i))
+    pub linked : IsLinked (node_list es) (group_list_of es) (next_list es)
+    pub streams : (q g : ℕ) → q < length t → g < group_count t q → IsStreamOf q g
+    pub products : (v r c : ℕ) → v < length t → r < rows t v → c < length (products_of nodes v r) → IsProductOf v r c
+
+  -- # What is read while an object changes
+
+  -- the groups that row r of node v names have heads
+  pub record IsHeaded (v r : ℕ) : Type 0 where
+    pub all_nodes : length nodes ≡ length t
+    pub all_children : length (lists_of nodes v).children ≡ child_count t v
+    pub children : (c : ℕ) → c < child_count t v → slice_index (lists_of nodes v).children c ≡ child t v c
+    pub streams : (c : ℕ) → c < child_count t v → group_named t v r c < length (lists_of nodes (child t v c)).streams
+    pub heads : (c : ℕ) → c < child_count t v → (stream_of nodes (child t v c) (group_named t v r c)).head < length es
+    pub keys : (c : ℕ) → c < child_count t v → HasKey d key es (stream_of nodes (child t v c) (group_named t v r c)).head (slice_index_or (group_list d key t (child t v c) (group_named t v r c)) 0 (key_none d 16))
+
+  -- what the sums of product number c of row r of node v are formed of
+  pub record HasParts (v r c : ℕ) : Type 0 where
+    pub node : v < length nodes
+    pub row : r < length (lists_of nodes v).products
+    pub count : c ≤ length (products_of nodes v r)
+    pub lefts : AreLefts d key t nodes v r c
+    pub rights : (i : ℕ) → i < length es → node_of es i ≡ child t v c → group_of es i ≡ group_named t v r c
+        → (place_of es i < length (group_list d key t (child t v c) (group_named t v r c))) × HasKey d key es i (slice_index_or (group_list d key t (child t v c) (group_named t v r c)) (place_of es i) (key_none d 16))
+    pub fits : (i j : ℕ) → i < length (part_list d key t v r c) → j < length (group_list d key t (child t v c) (group_named t v r c))
+        → KeyFits d (key_add d 16 (slice_index_or (part_list d key t v r c) i (key_none d 16)) (slice_index_or (group_list d key t (child t v c) (group_named t v r c)) j (key_none d 16)))
+
+  -- the cell names a solution that is known and an entry of the child's stream
+  pub record IsCell (v r c : ℕ) (cell : Cell) : Type 0 where
+    pub left : cell.left < part_known nodes v r c
+    pub right : cell.right < length es
+    pub node : node_of es cell.right ≡ child t v c
+    pub group : group_of es cell.right ≡ group_named t v r c
+
+  -- what the known solutions of row r of node v are read from
+  pub record HasRow (v r : ℕ) : Type 0 where
+    pub row : r < length (lists_of nodes v).products
+    pub headed : IsHeaded v r
+    pub whole : 0 < length (products_of nodes v r) → length (products_of nodes v r) ≡ child_count t v
+    pub last : AreLefts d key t nodes v r (length (products_of nodes v r))
+
+-- the cell, where there is one, with the key of its sum
+abbrev pub IsOffer : {R : Type 0} (d : ℕ) (key : R → KeyOf d 16) → List (NodeData R) → List (Linked (Found R)) → ℕ → ℕ → ℕ → Option Cell → Option (Entry R Cell) → Type 0
+IsOffer d key t es v r c None None = Unit {0}
+IsOffer d key t es v r c None (Some e) = ⊥
+IsOffer d key t es v r c (Some x) None = ⊥
+IsOffer d key t es v r c (Some x) (Some e) =
+    (e.tag ≡ x) × (key e.rank ≡ pair_key (key_add d 16) (key_none d 16) (part_list d key t v r c) (group_list d key t (child t v c) (group_named t v r c)) (pair_of es x))
+
+-- the product begins with the first solution of row r of node v with its first c + 1 children
+abbrev pub IsFreshAt : {R : Type 0} (d : ℕ) (key : R → KeyOf d 16) → List (NodeData R) → List (NodeLists R) → ℕ → ℕ → ℕ → ProductData R → Type 0
+IsFreshAt {R} d key t nodes v r c p =
+    (a : Answer R) × (p.found ≡ a ∷ []) × (p.frontier ≡ record { rank = a.rank; tag = record { left = 0; right = (stream_of nodes (child t v c) (group_named t v r c)).head } } ∷ [])
+    × (key a.rank ≡ slice_index_or (part_list d key t v r (suc c)) 0 (key_none d 16)) × HasRows d key a
+
+-- n products that begin with the first solutions of row r of node v
+pub record AreFreshTo {R : Type 0} (d : ℕ) (key : R → KeyOf d 16) (t : List (NodeData R)) (nodes : List (NodeLists R)) (v r n : ℕ) (products : List (ProductData R)) : Type 0 where
+  pub count : length products ≡ n
+  pub first : (c : ℕ) (p : ProductData R) → c < n → IsFreshAt d key t nodes v r c (slice_index_or products c p)

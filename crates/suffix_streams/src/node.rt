@@ -1,0 +1,224 @@
+ghost use Rattle.std.specs.Prelude.{◌≡◌, ℕ, ◌+◌, ◌*◌, ◌^◌, ◌<◌, ◌≤◌, ◌↔◌, None, [], ◌∷◌, ◌++◌, length, slice_set, slice_index, slice_index_or, OnOk, IsSome, IfSome, IfNone};
+ghost use Rattle.std.specs.List.Sorted.{IsPermutation};
+ghost use Rattle.rank_key.specs.Bits.{bit_length};
+ghost use Rattle.take2_heap.specs.Order.{IsLeast};
+ghost use Rattle.take2_heap.specs.declared.entry.Entry.{Entry};
+ghost use Rattle.stream_model.specs.Offers.{offers};
+ghost use Rattle.tdp_core.specs.declared.ranked.Answer.{Answer};
+ghost use Rattle.suffix_streams.specs.declared.cell.Cell.{Cell};
+ghost use Rattle.suffix_streams.specs.declared.stream.Source.{Source};
+ghost use Rattle.suffix_streams.specs.NodeLists.{known_of, product_at, stream_at, with_product, with_queue};
+
+use crate::cell::Cell;
+use crate::product::Product;
+use crate::stream::{Source, Stream};
+use rank_key::Rank;
+use std::alloc::Allocator;
+use std::marker::Model;
+use std::sync::ledger::Ledger;
+use step_counter::{NoMemory, Steps};
+use stream_store::EntryId;
+use take2_heap::Entry;
+use tdp_core::Answer;
+
+/// What is kept for one node: its children, the stream of each of its groups, and the products of
+/// those of its rows of which a second solution was asked for.
+#[derive(Drop)]
+pub(crate) struct NodeStreams<R: Rank, A: Allocator> {
+    pub(crate) children: Vec<u32, A>,
+    pub(crate) streams: Vec<Stream<R, A>, A>,
+    pub(crate) products: Vec<Vec<Product<R, A>, A>, A>,
+}
+
+impl<R: Rank, A: Allocator> Model for NodeStreams<R, A> {
+    ghost use Rattle.std.specs.Prelude.{map};
+    ghost use Rattle.suffix_streams.specs.NodeLists.{NodeLists};
+
+    ghost Value = { NodeLists R };
+
+    ghost view = { λ n. record { children = n.children.items; streams = n.streams.items; products = map (λ p. p.items) n.products.items } };
+}
+
+impl<R: Rank, A: Allocator> NodeStreams<R, A> {
+    /// How many children the node has.
+    pub(crate) fn child_count(&self) -> usize
+        ensures { result ≡ length self.now.children }
+    {
+        self.children.len()
+    }
+
+    /// A child of the node, in ascending order.
+    pub(crate) fn child(&self, place: usize) -> u32
+        requires { place < length self.now.children }
+        ensures { result ≡ slice_index self.now.children place }
+    {
+        self.children[place]
+    }
+
+    /// The first entry of a group.
+    pub(crate) fn head(&self, group: u32) -> EntryId
+        requires { group < length self.now.streams }
+        ensures { result ≡ (stream_at self.now group).head }
+    {
+        let stream = &self.streams[group as usize];
+        stream.head
+    }
+
+    /// How many products a row has.
+    pub(crate) fn product_count(&self, row: u32) -> usize
+        requires { row < length self.now.products }
+        ensures { result ≡ length (slice_index_or self.now.products row []) }
+    {
+        self.products[row as usize].len()
+    }
+
+    /// A product of a row.
+    fn product(&self, row: u32, child: usize) -> &Product<R, A>
+        requires row { row < length self.now.products }
+        requires child { child < length (slice_index_or self.now.products row []) }
+        ensures { result.now ≡ product_at self.now row child }
+    {
+        &self.products[row as usize][child]
+    }
+
+    /// How many solutions of a row with its first `count` children are known.
+    pub(crate) fn known(&self, row: u32, count: usize) -> usize
+        requires row { row < length self.now.products }
+        requires count { count ≤ length (slice_index_or self.now.products row []) }
+        ensures { result ≡ known_of self.now row count }
+    {
+        if count == 0 {
+            1
+        } else {
+            self.product(row, count - 1).len()
+        }
+    }
+
+    /// A solution of a row with its first children up to number `child`, by its place.
+    pub(crate) fn answer(&self, row: u32, child: usize, place: usize) -> Answer<R>
+        requires row { row < length self.now.products }
+        requires child { child < length (slice_index_or self.now.products row []) }
+        requires place { place < length (product_at self.now row child).found }
+        ensures { (d : Answer R) → result ≡ slice_index_or (product_at self.now row child).found place d }
+    {
+        self.product(row, child).get(place)
+    }
+
+    /// The last sum that a product found, and None where no further one follows.
+    pub(crate) fn product_top(&self, row: u32, child: usize) -> Option<Entry<R, Cell>>
+        requires row { row < length self.now.products }
+        requires child { child < length (slice_index_or self.now.products row []) }
+        ensures variant { IsSome result ↔ (0 < length (product_at self.now row child).frontier) }
+        ensures top { IfSome result (λ e. (d : Entry R Cell) → e ≡ slice_index_or (product_at self.now row child).frontier 0 d) }
+        ensures least { IfSome result (λ e. IsLeast R.KEYS R.key e (product_at self.now row child).frontier) }
+        ensures limit { length (product_at self.now row child).frontier < 2 ^ 64 }
+    {
+        self.product(row, child).top()
+    }
+
+    /// The last solution that the stream of a group found, and None where no further one follows.
+    pub(crate) fn top(&self, group: u32) -> Option<Entry<R, Source>>
+        requires { group < length self.now.streams }
+        ensures variant { IsSome result ↔ (0 < length (stream_at self.now group).queue) }
+        ensures top { IfSome result (λ e. (d : Entry R Source) → e ≡ slice_index_or (stream_at self.now group).queue 0 d) }
+        ensures least { IfSome result (λ e. IsLeast R.KEYS R.key e (stream_at self.now group).queue) }
+    {
+        self.streams[group as usize].top()
+    }
+
+    /// The solution of a row that `next` tells the place of, where it is known.
+    pub(crate) fn offered(&self, row: u32, next: Source) -> Option<Entry<R, Source>>
+        requires row { row < length self.now.products }
+        requires place { 0 < next.place }
+        ensures none { IfNone result (known_of self.now row (length (slice_index_or self.now.products row [])) ≤ next.place) }
+        ensures tag { IfSome result (λ e. e.tag ≡ next) }
+        ensures known { IfSome result (λ e. next.place < known_of self.now row (length (slice_index_or self.now.products row []))) }
+        ensures rank { IfSome result (λ e. (c : ℕ) (d : Answer R) → length (slice_index_or self.now.products row []) ≡ c + 1 → e.rank ≡ (slice_index_or (product_at self.now row c).found next.place d).rank) }
+    {
+        let count = self.product_count(row);
+        if count == 0 || self.known(row, count) <= next.place {
+            return None;
+        }
+        let answer = self.answer(row, count - 1, next.place);
+        Some(Entry {
+            rank: answer.rank,
+            tag: next,
+        })
+    }
+
+    /// Makes room for one more solution in a product.
+    pub(crate) fn reserve_product(&mut self, row: u32, child: usize) -> Result<(), NoMemory>
+        requires row { row < length self.old.products }
+        requires child { child < length (slice_index_or self.old.products row []) }
+        ensures changed { self.new ≡ with_product self.old row child (product_at self.new row child) }
+        ensures found { (product_at self.new row child).found ≡ (product_at self.old row child).found }
+        ensures frontier { (product_at self.new row child).frontier ≡ (product_at self.old row child).frontier }
+        ensures room { OnOk result (0 < (product_at self.new row child).room) }
+        ensures frontier_room { OnOk result (0 < (product_at self.new row child).frontier_room) }
+    {
+        let products = &mut self.products[row as usize];
+        products[child].reserve()
+    }
+
+    /// Passes the last solution of a product: what follows it stands in its place.
+    pub(crate) fn pass_product<L: Ledger>(
+        &mut self,
+        row: u32,
+        child: usize,
+        down: Option<Entry<R, Cell>>,
+        across: Option<Entry<R, Cell>>,
+        steps: &mut Steps<L>,
+    )
+        requires row { row < length self.old.products }
+        requires child { child < length (slice_index_or self.old.products row []) }
+        requires top { 0 < length (product_at self.old row child).frontier }
+        requires room { 0 < (product_at self.old row child).frontier_room }
+        ensures changed { self.new ≡ with_product self.old row child (product_at self.new row child) }
+        ensures found { (product_at self.new row child).found ≡ (product_at self.old row child).found }
+        ensures moved { (d : Entry R Cell) → IsPermutation (offers down across (product_at self.old row child).frontier) (slice_index_or (product_at self.old row child).frontier 0 d ∷ (product_at self.new row child).frontier) }
+        ensures least { (d : Entry R Cell) → IsLeast R.KEYS R.key (slice_index_or (product_at self.old row child).frontier 0 d) (product_at self.old row child).frontier }
+        ensures found_room { (product_at self.new row child).room ≡ (product_at self.old row child).room }
+        ensures cost { steps.new ≤ steps.old + 2 * bit_length (length (product_at self.old row child).frontier) + bit_length (length (product_at self.old row child).frontier + 1) }
+    {
+        let products = &mut self.products[row as usize];
+        products[child].pass(down, across, steps);
+    }
+
+    /// Keeps one more solution of a product, in room that was made for it.
+    pub(crate) fn keep(&mut self, row: u32, child: usize, answer: Answer<R>)
+        requires row { row < length self.old.products }
+        requires child { child < length (slice_index_or self.old.products row []) }
+        requires room { 0 < (product_at self.old row child).room }
+        ensures changed { self.new ≡ with_product self.old row child (product_at self.new row child) }
+        ensures found { (product_at self.new row child).found ≡ (product_at self.old row child).found ++ answer ∷ [] }
+        ensures frontier { (product_at self.new row child).frontier ≡ (product_at self.old row child).frontier }
+    {
+        let products = &mut self.products[row as usize];
+        products[child].keep(answer);
+    }
+
+    /// Passes the last solution of a group: the next one of its row stands in its place, or none.
+    pub(crate) fn pass<L: Ledger>(
+        &mut self,
+        group: u32,
+        next: Option<Entry<R, Source>>,
+        steps: &mut Steps<L>,
+    )
+        requires group { group < length self.old.streams }
+        requires top { 0 < length (stream_at self.old group).queue }
+        ensures changed { self.new ≡ with_queue self.old group (stream_at self.new group).queue }
+        ensures moved { (d : Entry R Source) → IsPermutation (offers next None (stream_at self.old group).queue) (slice_index_or (stream_at self.old group).queue 0 d ∷ (stream_at self.new group).queue) }
+        ensures least { (d : Entry R Source) → IsLeast R.KEYS R.key (slice_index_or (stream_at self.old group).queue 0 d) (stream_at self.old group).queue }
+        ensures cost { steps.new ≤ steps.old + 2 * bit_length (length (stream_at self.old group).queue) }
+    {
+        self.streams[group as usize].pass(next, steps);
+    }
+
+    /// Sets the products of a row.
+    pub(crate) fn set_products(&mut self, row: u32, products: Vec<Product<R, A>, A>)
+        requires { row < length self.old.products }
+        ensures { self.new ≡ record self.old { products = slice_set self.old.products row products.items } }
+    {
+        self.products[row as usize] = products;
+    }
+}

@@ -1,0 +1,128 @@
+ghost use Rattle.std.specs.Prelude.{◌≡◌, ℕ, ◌+◌, ◌*◌, ◌^◌, ◌<◌, ◌≤◌, ◌↔◌, [], ◌∷◌, ◌++◌, length, slice_index_or, IfOk, OnOk, OnErr, IsSome, IfSome};
+ghost use Rattle.std.specs.List.Sorted.{IsPermutation};
+ghost use Rattle.rank_key.specs.Bits.{bit_length};
+ghost use Rattle.take2_heap.specs.Order.{IsMinHeap, IsLeast};
+ghost use Rattle.take2_heap.specs.declared.entry.Entry.{Entry};
+ghost use Rattle.stream_model.specs.Offers.{offers};
+ghost use Rattle.tdp_core.specs.declared.ranked.Answer.{Answer};
+ghost use Rattle.suffix_streams.specs.declared.cell.Cell.{Cell};
+
+use crate::cell::Cell;
+use rank_key::Rank;
+use std::alloc::Allocator;
+use std::marker::Model;
+use std::sync::ledger::Ledger;
+use step_counter::{NoMemory, Steps};
+use stream_model::pass_top;
+use stream_store::EntryId;
+use take2_heap::{Entry, HeapOf};
+use tdp_core::Answer;
+
+/// The solutions of a row with its first children, as sums of those with one child less and of the
+/// solutions of the last child's group. The frontier's top is the last one found, until its successor is
+/// asked for.
+#[derive(Drop)]
+pub(crate) struct Product<R: Rank, A: Allocator> {
+    found: Vec<Answer<R>, A>,
+    frontier: HeapOf<R, Cell, A>,
+}
+
+impl<R: Rank, A: Allocator> Model for Product<R, A> {
+    ghost use Rattle.std.specs.Prelude.{◌-◌};
+    ghost use Rattle.std.specs.Vec.{vec_len, vec_capacity};
+    ghost use Rattle.suffix_streams.specs.ProductData.{ProductData};
+
+    ghost Value = { ProductData R };
+
+    ghost view = { λ p. record { found = p.found.items; frontier = p.frontier.entries; room = vec_capacity p.found - vec_len p.found; frontier_room = p.frontier.spare } };
+}
+
+impl<R: Rank, A: Allocator + Clone> Product<R, A> {
+    /// The product whose first solution is known.
+    pub(crate) fn new(
+        alloc: &A,
+        first: Answer<R>,
+        right: EntryId,
+    ) -> Result<Product<R, A>, NoMemory>
+        ensures found { IfOk result (λ p. p.found ≡ first ∷ []) }
+        ensures frontier { IfOk result (λ p. p.frontier ≡ record { rank = first.rank; tag = record { left = 0; right = right } } ∷ []) }
+    {
+        let mut found = Vec::new(alloc.clone()?);
+        found.push(first)?;
+        let mut frontier = Vec::new(alloc.clone()?);
+        frontier.push(Entry {
+            rank: first.rank,
+            tag: Cell { left: 0, right },
+        })?;
+        Ok(Product {
+            found,
+            frontier: HeapOf::from_heap(frontier),
+        })
+    }
+}
+
+impl<R: Rank, A: Allocator> Product<R, A> {
+    /// How many solutions were found.
+    pub(crate) fn len(&self) -> usize
+        ensures { result ≡ length self.now.found }
+    {
+        self.found.len()
+    }
+
+    /// The solution at a place.
+    pub(crate) fn get(&self, place: usize) -> Answer<R>
+        requires { place < length self.now.found }
+        ensures { (d : Answer R) → result ≡ slice_index_or self.now.found place d }
+    {
+        self.found[place]
+    }
+
+    /// The last solution found, as a sum, and none where no further one follows.
+    pub(crate) fn top(&self) -> Option<Entry<R, Cell>>
+        ensures variant { IsSome result ↔ (0 < length self.now.frontier) }
+        ensures top { IfSome result (λ e. (d : Entry R Cell) → e ≡ slice_index_or self.now.frontier 0 d) }
+        ensures least { IfSome result (λ e. IsLeast R.KEYS R.key e self.now.frontier) }
+        ensures limit { length self.now.frontier < 2 ^ 64 }
+    {
+        let top = self.frontier.peek()?;
+        Some(*top)
+    }
+
+    /// Makes room for one more solution.
+    pub(crate) fn reserve(&mut self) -> Result<(), NoMemory>
+        ensures found { self.new.found ≡ self.old.found }
+        ensures frontier { self.new.frontier ≡ self.old.frontier }
+        ensures room { OnOk result (0 < self.new.room) }
+        ensures frontier_room { OnOk result (0 < self.new.frontier_room) }
+    {
+        self.found.reserve(1)?;
+        self.frontier.reserve(1)
+    }
+
+    /// Passes the last solution found: what follows it stands in its place.
+    pub(crate) fn pass<L: Ledger>(
+        &mut self,
+        down: Option<Entry<R, Cell>>,
+        across: Option<Entry<R, Cell>>,
+        steps: &mut Steps<L>,
+    )
+        requires top { 0 < length self.old.frontier }
+        requires room { 0 < self.old.frontier_room }
+        ensures found { self.new.found ≡ self.old.found }
+        ensures moved { (d : Entry R Cell) → IsPermutation (offers down across self.old.frontier) (slice_index_or self.old.frontier 0 d ∷ self.new.frontier) }
+        ensures least { (d : Entry R Cell) → IsLeast R.KEYS R.key (slice_index_or self.old.frontier 0 d) self.old.frontier }
+        ensures found_room { self.new.room ≡ self.old.room }
+        ensures cost { steps.new ≤ steps.old + 2 * bit_length (length self.old.frontier) + bit_length (length self.old.frontier + 1) }
+    {
+        pass_top(&mut self.frontier, down, across, steps);
+    }
+
+    /// Keeps one more solution, in room that was made for it.
+    pub(crate) fn keep(&mut self, answer: Answer<R>)
+        requires { 0 < self.old.room }
+        ensures found { self.new.found ≡ self.old.found ++ answer ∷ [] }
+        ensures frontier { self.new.frontier ≡ self.old.frontier }
+    {
+        self.found.push_reserved(answer);
+    }
+}

@@ -1,0 +1,341 @@
+ghost use Rattle.std.specs.Prelude.{◌≡◌, ◌≢◌, ℕ, ◌+◌, ◌*◌, ◌<◌, ◌≤◌, Option, None, cond, nat_eq, length, slice_index, slice_index_or, IfOk, OnOk, OnErr, IsOk, IsSome};
+ghost use Rattle.take2_heap.specs.declared.entry.Entry.{Entry};
+ghost use Rattle.tdp_core.specs.TreeData.{parent, rows, child_count, group_named, members};
+ghost use Rattle.tdp_core.specs.WellFormed.{IsTieFreeTree};
+ghost use Rattle.tdp_model.specs.Below.{is_below};
+ghost use Rattle.rank_key.specs.Bits.{bit_length};
+ghost use Rattle.suffix_streams.specs.Rankings.{child as child_node};
+ghost use Rattle.suffix_streams.specs.declared.cell.Cell.{Cell};
+ghost use Rattle.suffix_streams.specs.declared.stream.Source.{Source};
+ghost use Rattle.suffix_streams.specs.StreamsData.{IsStreams, node_of, group_of, next_of, node_size, lists_of, stream_of, product_of, products_of, part_known};
+ghost use Rattle.suffix_streams.specs.Refusals.{AreUnstepped};
+ghost use Rattle.suffix_streams.specs.Growing.{IsStoreGrown, IsGrown, IsExtended, IsReached, IsAnswered, HasOtherProduct, AreQueuesGrown, IsWithinSteps, below_kids, kids_size};
+
+use crate::cell::{Cell, across_cell, down_cell};
+use crate::node::NodeStreams;
+use crate::reads::{cell_answer, child_head, made_products, offered, row_answer};
+use crate::stream::{Found, Source};
+use rank_key::Rank;
+use std::alloc::Allocator;
+use std::sync::ledger::Ledger;
+use step_counter::{NoMemory, Steps};
+use stream_store::{EntryId, Store};
+use tdp_core::Tree;
+
+/// The subtree solutions found so far.
+#[derive(Drop)]
+pub(crate) struct Solutions<'t, R: Rank, A: Allocator + Clone> {
+    pub(crate) tree: &'t Tree<R>,
+    pub(crate) alloc: A,
+    pub(crate) entries: Store<Found<R>, A>,
+    pub(crate) nodes: Vec<NodeStreams<R, A>, A>,
+}
+
+impl<'t, R: Rank, A: Allocator + Clone> Solutions<'t, R, A> {
+    /// The entry after `entry`, and None where it is the last of its group.
+    #[cycle(growth)]
+    pub(crate) fn after<L: Ledger>(
+        &mut self,
+        entry: EntryId,
+        steps: &mut Steps<L>,
+    ) -> Result<Option<EntryId>, NoMemory>
+        requires formed { IsStreams R.KEYS R.key self.old.tree.now self.old.entries.entries self.old.nodes.items }
+        requires tie_free { IsTieFreeTree self.old.tree.now }
+        requires entry { entry < length self.old.entries.entries }
+        ensures formed { IsStreams R.KEYS R.key self.new.tree.now self.new.entries.entries self.new.nodes.items }
+        ensures tree { self.new.tree.now ≡ self.old.tree.now }
+        ensures grown { IsGrown (parent self.old.tree.now) (node_of self.old.entries.entries entry) self.old.entries.entries self.old.nodes.items self.new.entries.entries self.new.nodes.items }
+        ensures answer { IfOk result (IsAnswered R.KEYS R.key self.old.tree.now self.new.entries.entries entry) }
+        ensures known { IsSome (next_of self.old.entries.entries entry) → (IsOk result) × (self.new ≡ self.old) × (steps.new ≤ steps.old + 4) }
+        ensures queues { AreQueuesGrown (is_below (parent self.old.tree.now) (node_of self.old.entries.entries entry)) self.old.nodes.items self.new.nodes.items }
+        ensures cost { IsWithinSteps self.old.tree.now self.old.nodes.items (is_below (parent self.old.tree.now) (node_of self.old.entries.entries entry)) (λ b. 8 + 2 * b + 20 * kids_size self.old.tree.now (node_of self.old.entries.entries entry) (child_count self.old.tree.now (node_of self.old.entries.entries entry)) * (1 + b)) steps.old steps.new }
+    {
+        if let Some(next) = self.entries.next_of(entry, steps) {
+            return Ok(Some(next));
+        }
+        let found = *self.entries.get(entry, steps);
+        let Some(top) = self.nodes[found.node as usize].top(found.group) else {
+            return Ok(None);
+        };
+        let source = top.tag;
+        let row = self
+            .tree
+            .member(found.node, found.group, source.member, steps);
+        self.open_row(found.node, row, steps)?;
+        let count = self.nodes[found.node as usize].product_count(row);
+        let next = following(&source, self.nodes[found.node as usize].known(row, count));
+        self.extend(found.node, row, count, next.place, steps)?;
+        Ok(self.advance(entry, found.node, found.group, row, next, steps))
+    }
+
+    /// Finds the solution at `place` of a row with its first `count` children, unless it is known or there is none, and makes
+    /// room for one more entry. All that can be refused comes before the first change of a product of the node.
+    #[cycle(growth)]
+    fn extend<L: Ledger>(
+        &mut self,
+        node: u32,
+        row: u32,
+        count: usize,
+        place: usize,
+        steps: &mut Steps<L>,
+    ) -> Result<(), NoMemory>
+        requires formed { IsStreams R.KEYS R.key self.old.tree.now self.old.entries.entries self.old.nodes.items }
+        requires tie_free { IsTieFreeTree self.old.tree.now }
+        requires node { node < length self.old.tree.now }
+        requires row { row < rows self.old.tree.now node }
+        requires count { count ≤ length (products_of self.old.nodes.items node row) }
+        requires place { place ≤ part_known self.old.nodes.items node row count }
+        ensures formed { IsStreams R.KEYS R.key self.new.tree.now self.new.entries.entries self.new.nodes.items }
+        ensures tree { self.new.tree.now ≡ self.old.tree.now }
+        ensures extended { IsExtended self.old.tree.now node row count self.old.entries.entries self.old.nodes.items self.new.entries.entries self.new.nodes.items }
+        ensures reached { OnOk result (IsReached R.KEYS R.key self.old.tree.now self.new.nodes.items node row count place) }
+        ensures room { OnOk result (0 < self.new.entries.spare) }
+        ensures refused { OnErr result (AreUnstepped node self.old.nodes.items self.new.nodes.items) }
+        ensures queues { AreQueuesGrown (λ v. below_kids self.old.tree.now node count v + cond (nat_eq v node) 1 0) self.old.nodes.items self.new.nodes.items }
+        ensures cost { IsWithinSteps self.old.tree.now self.old.nodes.items (λ v. below_kids self.old.tree.now node count v + cond (nat_eq v node) 1 0) (λ b. 20 * kids_size self.old.tree.now node count * (1 + b)) steps.old (steps.new + 6 * count) }
+    {
+        if place < self.nodes[node as usize].known(row, count) || count == 0 {
+            return self.entries.reserve(1);
+        }
+        let child = count - 1;
+        let Some(top) = self.nodes[node as usize].product_top(row, child) else {
+            return self.entries.reserve(1);
+        };
+        let cell = top.tag;
+        make_room(&mut self.nodes, node, row, child)?;
+        let below = self.after(cell.right, steps)?;
+        let head = child_head(
+            self.tree,
+            self.nodes.as_slice(),
+            &self.entries,
+            node,
+            row,
+            child,
+            steps,
+        );
+        let known = self.nodes[node as usize].known(row, child);
+        let (earlier, next) = left_search(&cell, head, child, known);
+        self.extend(node, row, earlier, next, steps)?;
+        self.step(node, row, child, &cell, below, head, steps);
+        Ok(())
+    }
+}
+
+impl<'t, R: Rank, A: Allocator + Clone> Solutions<'t, R, A> {
+    /// Makes the products of a row, if they are not there yet.
+    fn open_row<L: Ledger>(
+        &mut self,
+        node: u32,
+        row: u32,
+        steps: &mut Steps<L>,
+    ) -> Result<(), NoMemory>
+        requires formed { IsStreams R.KEYS R.key self.old.tree.now self.old.entries.entries self.old.nodes.items }
+        requires tie_free { IsTieFreeTree self.old.tree.now }
+        requires node { node < length self.old.tree.now }
+        requires row { row < rows self.old.tree.now node }
+        ensures formed { IsStreams R.KEYS R.key self.new.tree.now self.new.entries.entries self.new.nodes.items }
+        ensures tree { self.new.tree.now ≡ self.old.tree.now }
+        ensures entries { self.new.entries ≡ self.old.entries }
+        ensures above { (v : ℕ) → v ≢ node → lists_of self.new.nodes.items v ≡ lists_of self.old.nodes.items v }
+        ensures streams { (lists_of self.new.nodes.items node).streams ≡ (lists_of self.old.nodes.items node).streams }
+        ensures count { OnOk result (length (products_of self.new.nodes.items node row) ≡ child_count self.old.tree.now node) }
+        ensures queues { AreQueuesGrown (λ _. 0) self.old.nodes.items self.new.nodes.items }
+        ensures cost { steps.new ≤ steps.old + 1 + 3 * child_count self.old.tree.now node }
+    {
+        if self.nodes[node as usize].product_count(row) == 0 {
+            let products = made_products(
+                &self.alloc,
+                self.tree,
+                self.nodes.as_slice(),
+                &self.entries,
+                node,
+                row,
+                steps,
+            )?;
+            self.nodes[node as usize].set_products(row, products);
+        }
+        Ok(())
+    }
+
+    /// Finds one more solution of a product, where there is one: `cell` is the last one found, `below` follows its right part,
+    /// and `head` is the first entry of the child's stream.
+    fn step<L: Ledger>(
+        &mut self,
+        node: u32,
+        row: u32,
+        child: usize,
+        cell: &Cell,
+        below: Option<EntryId>,
+        head: EntryId,
+        steps: &mut Steps<L>,
+    )
+        requires formed { IsStreams R.KEYS R.key self.old.tree.now self.old.entries.entries self.old.nodes.items }
+        requires tie_free { IsTieFreeTree self.old.tree.now }
+        requires node { node < length self.old.tree.now }
+        requires row { row < rows self.old.tree.now node }
+        requires child { child < length (products_of self.old.nodes.items node row) }
+        requires top { 0 < length (product_of self.old.nodes.items node row child).frontier }
+        requires cell { (d : Entry R Cell) → (slice_index_or (product_of self.old.nodes.items node row child).frontier 0 d).tag ≡ cell.now }
+        requires head { head ≡ (stream_of self.old.nodes.items (child_node self.old.tree.now node child) (group_named self.old.tree.now node row child)).head }
+        requires below { IsAnswered R.KEYS R.key self.old.tree.now self.old.entries.entries cell.now.right below }
+        requires across { cell.now.right ≡ head → IsReached R.KEYS R.key self.old.tree.now self.old.nodes.items node row child (cell.now.left + 1) }
+        requires room { 0 < (product_of self.old.nodes.items node row child).room }
+        requires frontier_room { 0 < (product_of self.old.nodes.items node row child).frontier_room }
+        ensures formed { IsStreams R.KEYS R.key self.new.tree.now self.new.entries.entries self.new.nodes.items }
+        ensures tree { self.new.tree.now ≡ self.old.tree.now }
+        ensures entries { self.new.entries ≡ self.old.entries }
+        ensures changed { HasOtherProduct self.old.nodes.items node row child self.new.nodes.items }
+        ensures reached { IsReached R.KEYS R.key self.old.tree.now self.new.nodes.items node row (child + 1) (part_known self.old.nodes.items node row (child + 1)) }
+        ensures queue { length (product_of self.new.nodes.items node row child).frontier ≤ length (product_of self.old.nodes.items node row child).frontier + 1 }
+        ensures cost { steps.new ≤ steps.old + 9 + 3 * bit_length (length (product_of self.old.nodes.items node row child).frontier + 1) }
+    {
+        let known = self.nodes[node as usize].known(row, child);
+        let down = down_cell(cell, below);
+        let down = offered(
+            self.tree,
+            self.nodes.as_slice(),
+            &self.entries,
+            node,
+            row,
+            child,
+            down,
+            steps,
+        );
+        let across = across_cell(cell, head, known);
+        let across = offered(
+            self.tree,
+            self.nodes.as_slice(),
+            &self.entries,
+            node,
+            row,
+            child,
+            across,
+            steps,
+        );
+        self.nodes[node as usize].pass_product(row, child, down, across, steps);
+        let Some(top) = self.nodes[node as usize].product_top(row, child) else {
+            return;
+        };
+        let answer = cell_answer(
+            self.tree,
+            self.nodes.as_slice(),
+            &self.entries,
+            node,
+            row,
+            child,
+            &top.tag,
+            steps,
+        );
+        self.nodes[node as usize].keep(row, child, answer);
+    }
+
+    /// Passes the last solution of a group, which `last` stands for, and links the one that follows, where there is one. `next`
+    /// tells the next solution of the row that the last one comes from.
+    fn advance<L: Ledger>(
+        &mut self,
+        last: EntryId,
+        node: u32,
+        group: u32,
+        row: u32,
+        next: Source,
+        steps: &mut Steps<L>,
+    ) -> Option<EntryId>
+        requires formed { IsStreams R.KEYS R.key self.old.tree.now self.old.entries.entries self.old.nodes.items }
+        requires tie_free { IsTieFreeTree self.old.tree.now }
+        requires last { last < length self.old.entries.entries }
+        requires node { node_of self.old.entries.entries last ≡ node }
+        requires group { group_of self.old.entries.entries last ≡ group }
+        requires none { next_of self.old.entries.entries last ≡ None }
+        requires top { 0 < length (stream_of self.old.nodes.items node group).queue }
+        requires member { (d : Entry R Source) → (slice_index_or (stream_of self.old.nodes.items node group).queue 0 d).tag.member ≡ next.member }
+        requires after { (d : Entry R Source) → (slice_index_or (stream_of self.old.nodes.items node group).queue 0 d).tag.place + 1 ≡ next.place }
+        requires row { row ≡ slice_index (members self.old.tree.now node group) next.member }
+        requires count { length (products_of self.old.nodes.items node row) ≡ child_count self.old.tree.now node }
+        requires place { IsReached R.KEYS R.key self.old.tree.now self.old.nodes.items node row (child_count self.old.tree.now node) next.place }
+        requires room { 0 < self.old.entries.spare }
+        ensures formed { IsStreams R.KEYS R.key self.new.tree.now self.new.entries.entries self.new.nodes.items }
+        ensures tree { self.new.tree.now ≡ self.old.tree.now }
+        ensures store { IsStoreGrown node self.old.entries.entries self.new.entries.entries }
+        ensures above { (v : ℕ) → v ≢ node → lists_of self.new.nodes.items v ≡ lists_of self.old.nodes.items v }
+        ensures products { (lists_of self.new.nodes.items node).products ≡ (lists_of self.old.nodes.items node).products }
+        ensures growth { (v : ℕ) → node_size self.new.entries.entries v ≤ node_size self.old.entries.entries v + cond (nat_eq v node) 1 0 }
+        ensures answer { IsAnswered R.KEYS R.key self.old.tree.now self.new.entries.entries last result }
+        ensures cost { steps.new ≤ steps.old + 4 + 3 * child_count self.old.tree.now node + 2 * bit_length (length (members self.old.tree.now node group) + 1) }
+    {
+        let offer = self.nodes[node as usize].offered(row, next);
+        self.nodes[node as usize].pass(group, offer, steps);
+        let top = self.nodes[node as usize].top(group)?;
+        let row = self.tree.member(node, group, top.tag.member, steps);
+        let answer = row_answer(
+            self.tree,
+            self.nodes.as_slice(),
+            &self.entries,
+            node,
+            row,
+            top.tag.place,
+            steps,
+        );
+        let next = self.entries.push_reserved(
+            Found {
+                node,
+                group,
+                answer,
+            },
+            steps,
+        );
+        self.entries.set_next(last, next, steps);
+        Some(next)
+    }
+}
+
+/// Makes room for one more solution in a product of a row.
+fn make_room<R: Rank, A: Allocator + Clone>(
+    nodes: &mut Vec<NodeStreams<R, A>, A>,
+    node: u32,
+    row: u32,
+    child: usize,
+) -> Result<(), NoMemory>
+    requires node { node < length nodes.old.items }
+    requires row { row < length (lists_of nodes.old.items node).products }
+    requires child { child < length (products_of nodes.old.items node row) }
+    ensures changed { HasOtherProduct nodes.old.items node row child nodes.new.items }
+    ensures found { (product_of nodes.new.items node row child).found ≡ (product_of nodes.old.items node row child).found }
+    ensures frontier { (product_of nodes.new.items node row child).frontier ≡ (product_of nodes.old.items node row child).frontier }
+    ensures room { OnOk result (0 < (product_of nodes.new.items node row child).room) }
+    ensures frontier_room { OnOk result (0 < (product_of nodes.new.items node row child).frontier_room) }
+{
+    nodes[node as usize].reserve_product(row, child)
+}
+
+/// The search in the product before that a step from `cell` needs, as a number of children and a place: for the next left part
+/// where the right part is the head, else for none. Of the left parts `known` are known.
+fn left_search(cell: &Cell, head: EntryId, child: usize, known: usize) -> (usize, usize)
+    requires { cell.now.left < known }
+    ensures beside { cell.now.right ≡ head → (result.0 ≡ child) × (result.1 ≡ cell.now.left + 1) }
+    ensures apart { cell.now.right ≢ head → (result.0 ≡ 0) × (result.1 ≡ 0) }
+{
+    if cell.right == head {
+        (child, next_place(cell.left, known))
+    } else {
+        (0, 0)
+    }
+}
+
+/// The next solution of the row that `source` comes from, of which `known` solutions are known.
+fn following(source: &Source, known: usize) -> Source
+    requires { source.now.place < known }
+    ensures { result ≡ record { member = source.now.member; place = source.now.place + 1 } }
+{
+    Source {
+        member: source.member,
+        place: next_place(source.place, known),
+    }
+}
+
+/// The place after one of `known` places.
+fn next_place(place: usize, known: usize) -> usize
+    requires { place < known }
+    ensures { result ≡ place + 1 }
+{
+    place + 1
+}

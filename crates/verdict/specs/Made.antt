@@ -1,0 +1,17 @@
+-- The files that a command looks at.
+use Rattle.std.specs.Prelude.{ℕ, List, ◌∷◌, map}
+use Rattle.std.specs.List.{zip}
+use Rattle.make_input.specs.Input.{files, load_query, query_file, table_files}
+use Rattle.outer_io.specs.Files.{Files}
+use Rattle.verdict.specs.Words.{Command, run, plan, session, load}
+
+-- the query over the four tables, and the tables that are made from the number
+abbrev pub made_files : ℕ → ℕ → Files
+made_files number rows = (query_file, load_query) ∷ zip (map (λ (t : List ℕ × List ℕ). t.1) table_files) (files number rows)
+
+-- `load` looks at the files that it makes, and the others at those that they are given
+abbrev pub files_of : Command → Files → Files
+files_of (run words) given = given
+files_of (plan words) given = given
+files_of (session script words) given = given
+files_of (load number rows) given = made_files number rows

@@ -1,0 +1,1 @@
+SELECT t.train FROM trains AS t ORDER BY t.train

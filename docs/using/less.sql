@@ -1,0 +1,2 @@
+SELECT t.train FROM trains AS t
+WHERE t.price < 200

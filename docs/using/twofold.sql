@@ -1,0 +1,1 @@
+SELECT number FROM large ORDER BY number + number
