@@ -607,6 +607,18 @@ def told(what, files, words, wanted, got):
             print(f"  {name} wanted: {one!r}\n  {name} got:    {other!r}")
 
 
+def failures(program, what, files, words, wanted, shown):
+    """How many of these calls come out otherwise; the first few of all are told."""
+    failed = 0
+    for each in words:
+        got = run(program, files, each)
+        if got != wanted:
+            failed += 1
+            if shown + failed <= 5:
+                told(what, files, each, wanted, got)
+    return failed
+
+
 def main():
     program = os.path.abspath(sys.argv[1] if len(sys.argv) > 1 else "./anyk")
     count = int(sys.argv[2]) if len(sys.argv) > 2 else 300
@@ -617,26 +629,11 @@ def main():
         wanted, found = case.expected()
         answers += found
         cycles += wanted[0] == 6
-        for each in (words, with_other_engine(words)):
-            got = run(program, files, each)
-            if got != wanted:
-                failed += 1
-                if failed <= 5:
-                    told(f"seed {seed}", files, each, wanted, got)
-        wanted, words = case.planned(), case.plan_words()
-        got = run(program, files, words)
-        if got != wanted:
-            failed += 1
-            if failed <= 5:
-                told(f"plan of seed {seed}", files, words, wanted, got)
+        failed += failures(program, f"seed {seed}", files, (words, with_other_engine(words)), wanted, failed)
+        failed += failures(program, f"plan of seed {seed}", files, (case.plan_words(),), case.planned(), failed)
         script, steps = case.script()
         files["s.txt"], wanted, words = script, case.told_by(steps), case.session_words()
-        for each in (words, with_other_engine(words)):
-            got = run(program, files, each)
-            if got != wanted:
-                failed += 1
-                if failed <= 5:
-                    told(f"session of seed {seed}", files, each, wanted, got)
+        failed += failures(program, f"session of seed {seed}", files, (words, with_other_engine(words)), wanted, failed)
     fixed = [(files, words, (0, text.encode(), b"")) for files, words, _, text in ANSWERS]
     fixed += [(files, words, (status, b"", f"anyk: {line}\n".encode())) for files, words, status, line in REFUSALS]
     answered = refused = 0
