@@ -3,11 +3,13 @@
 
 usage: bench/preparing.py [ROWS ..]
 
-Each ROWS is the number of rows of each of two tables, 10000 100000 1000000 where none is given. The query joins them on a column
-with ROWS / 4 values and asks for one answer; each column is that of the whole command less that of one which reads the same tables
-and prepares nothing (a query that no row passes). The time is the processor's, the least of several runs. Instructions are counted
-by `valgrind --tool=callgrind` and allocations by `valgrind --tool=memcheck`, where valgrind is there; the largest tables take some
-minutes. The program is what `./anyk` has built on its first use, or what ANYK names.
+Each ROWS is the number of rows of each of two tables, 10000 100000 1000000 where none is given. The query joins them on one column
+and asks for one answer. There are three pairs of tables: `sorted`, whose rows stand in the order of the join column's ROWS / 4 values;
+`few`, with 1,000 values at random; and `random`, with ROWS / 4 values at random, where each step from a row to its group goes to
+another place of memory. Each figure is that of the whole command less that of one which reads the same tables and prepares nothing
+(a query that no row passes). The time is the processor's, the least of several runs; `factor` is the time a row against that of the
+smallest tables. Instructions are counted by `valgrind --tool=callgrind` and allocations by `valgrind --tool=memcheck`, where valgrind
+is there and a table has at most COUNTED rows. The program is what `./anyk` has built on its first use, or what ANYK names.
 """
 import os
 import re
@@ -23,16 +25,31 @@ JOIN = "select R.a, S.c from R, S where R.b = S.b order by R.w + S.w limit 1"
 READ = "select R.a, S.c from R, S where R.b = S.b and R.a = '' and S.c = '' order by R.w + S.w limit 1"
 
 
-def write_tables(folder, rows):
-    x = 7
+COUNTED = 100000
+
+# the value of the join column in a row, by a number that is drawn for the row
+KEYS = {
+    "sorted": lambda rows, row, drawn: row // 4,
+    "few": lambda rows, row, drawn: drawn % 1000,
+    "random": lambda rows, row, drawn: drawn % max(1, rows // 4),
+}
+
+
+def draws(x):
+    while True:
+        x = (x * 16807) % 2147483647
+        yield x
+
+
+def write_tables(folder, rows, order):
+    draw = draws(7)
     for name, header in (("R", "a,b,w"), ("S", "b,c,w")):
         with open(os.path.join(folder, name + ".csv"), "w") as file:
             file.write(header + "\n")
             for row in range(rows):
-                x = (x * 16807) % 2147483647
-                key = x % max(1, rows // 4)
-                x = (x * 16807) % 2147483647
-                file.write("%s\n" % (("%d,%d,%d" if name == "R" else "%d,%d,%d") % ((row % 1000, key, x % 1000) if name == "R" else (key, row % 1000, x % 1000))))
+                key = KEYS[order](rows, row, next(draw))
+                weight = next(draw) % 1000
+                file.write("%d,%d,%d\n" % ((row % 1000, key, weight) if name == "R" else (key, row % 1000, weight)))
 
 
 def words(folder, query):
@@ -62,18 +79,27 @@ def difference(tool, pattern, folder):
     return told_by(tool, pattern, folder, JOIN) - told_by(tool, pattern, folder, READ)
 
 
+def counts(folder, rows):
+    """The instructions a row and the allocations, where they are counted."""
+    if rows > COUNTED or not shutil.which("valgrind"):
+        return "-", "-"
+    counted = difference("callgrind", r"Collected : (\d+)", folder) / (2 * rows)
+    return "%.0f" % counted, "%d" % difference("memcheck", r"total heap usage: ([\d,]+) allocs", folder)
+
+
 def main():
-    print("%10s %12s %12s %10s %20s %14s" % ("rows", "read, s", "whole, s", "ns a row", "instructions a row", "allocations"))
-    for rows in [int(it) for it in sys.argv[1:]] or [10000, 100000, 1000000]:
-        with tempfile.TemporaryDirectory() as folder:
-            write_tables(folder, rows)
-            runs = max(5, min(101, 2000000 // rows))
-            read, whole = seconds(folder, READ, runs), seconds(folder, JOIN, runs)
-            counted, taken = "-", "-"
-            if shutil.which("valgrind"):
-                counted = "%.0f" % (difference("callgrind", r"Collected : (\d+)", folder) / (2 * rows))
-                taken = "%d" % difference("memcheck", r"total heap usage: ([\d,]+) allocs", folder)
-            print("%10d %12.3f %12.3f %10.0f %20s %14s" % (rows, read, whole, (whole - read) / (2 * rows) * 1e9, counted, taken), flush=True)
+    sizes = [int(it) for it in sys.argv[1:]] or [10000, 100000, 1000000]
+    print("%-8s %10s %12s %12s %10s %8s %20s %14s" % ("order", "rows", "read, s", "whole, s", "ns a row", "factor", "instructions a row", "allocations"))
+    for order in KEYS:
+        first = None
+        for rows in sizes:
+            with tempfile.TemporaryDirectory() as folder:
+                write_tables(folder, rows, order)
+                runs = max(5, min(101, 2000000 // rows))
+                read, whole = seconds(folder, READ, runs), seconds(folder, JOIN, runs)
+                each = (whole - read) / (2 * rows) * 1e9
+                first = first or each
+                print("%-8s %10d %12.3f %12.3f %10.0f %8.2f %20s %14s" % (order, rows, read, whole, each, each / first, *counts(folder, rows)), flush=True)
 
 
 if __name__ == "__main__":

@@ -7,11 +7,13 @@ ROWS is the number of rows of each table, 10000 where it is not given. Three que
 of 7. Each join column has ROWS / 10 values, so that a row meets ten of the next table. For each query the first answer, the first
 1,000 and the first 100,000 are asked for, with both engines and with sqlite3 (tables in memory, indexes on the join columns, both
 made before the time starts; the answers' sums are compared). Seconds are those of the whole command; `read` is a run of the program
-with `limit 0`, so that what ranking takes is what stands above it. The program is what `./anyk` has built on its first use, or
+with `limit 0`, so that what ranking takes is what stands above it. `writing` is the processor time that the system took in the run
+with anyK-part, above that of `read`: each answer is written by one call as soon as it is known. The program is what `./anyk` has built on its first use, or
 what ANYK names. A sqlite3 run that takes longer than 100 seconds is given up.
 """
 import multiprocessing
 import os
+import resource
 import sqlite3
 import subprocess
 import sys
@@ -53,15 +55,18 @@ def run(folder, tables, query, engine):
     with open(os.path.join(folder, "query.sql"), "w") as file:
         file.write(query + "\n")
     words = [PROGRAM, "run", "--engine", engine, "query.sql"] + ["%s=%s.csv" % (it, it) for it, _ in tables]
-    best, sums = None, []
+    best, system, sums = None, None, []
     for _ in range(3):
+        before = resource.getrusage(resource.RUSAGE_CHILDREN).ru_stime
         start = time.perf_counter()
         done = subprocess.run(words, cwd=folder, capture_output=True, check=True)
         took = time.perf_counter() - start
+        calls = resource.getrusage(resource.RUSAGE_CHILDREN).ru_stime - before
         best = took if best is None else min(best, took)
+        system = calls if system is None else min(system, calls)
     for line in done.stdout.decode().splitlines()[1:]:
         sums.append(sum(int(it) for it in line.split(",")))
-    return best, sums
+    return best, system, sums
 
 
 def in_sqlite(contents, tables, equalities, query, answer):
@@ -93,7 +98,7 @@ def by_sqlite(*work):
 
 def main():
     print("%d rows a table; seconds\n" % ROWS)
-    print("%-10s %8s %8s %8s %8s %10s %10s" % ("query", "answers", "read", "part", "rec", "sqlite3", "rec/part"))
+    print("%-10s %8s %8s %8s %8s %8s %10s %10s" % ("query", "answers", "read", "part", "writing", "rec", "sqlite3", "rec/part"))
     for shape, (tables, equalities) in SHAPES.items():
         numbers = draws(20201)
         contents = [table(columns, lambda: next(numbers)) for _, columns in tables]
@@ -102,12 +107,12 @@ def main():
                 with open(os.path.join(folder, name + ".csv"), "w") as file:
                     file.write(",".join(columns) + ",w\n")
                     file.writelines(",".join(map(str, row)) + "\n" for row in rows)
-            read, _ = run(folder, tables, select(tables, equalities, 0), "part")
+            read, opening, _ = run(folder, tables, select(tables, equalities, 0), "part")
             slow = False
             for limit in (1, 1000, 100000):
                 query = select(tables, equalities, limit)
-                part, sums = run(folder, tables, query, "part")
-                rec, others = run(folder, tables, query, "rec")
+                part, calls, sums = run(folder, tables, query, "part")
+                rec, _, others = run(folder, tables, query, "rec")
                 assert sums == others and len(sums) == limit and sums == sorted(sums), shape
                 other = None if slow else by_sqlite(contents, tables, equalities, query)
                 if other is None:
@@ -115,7 +120,8 @@ def main():
                 else:
                     assert other[1] == sums, "%s: sqlite3 answers otherwise" % shape
                     told = "%.2f" % other[0]
-                print("%-10s %8d %8.2f %8.2f %8.2f %10s %10.2f" % (shape, limit, read, part, rec, told, rec / part), flush=True)
+                row = (shape, limit, read, part, max(0, calls - opening), rec, told, rec / part)
+                print("%-10s %8d %8.2f %8.2f %8.2f %8.2f %10s %10.2f" % row, flush=True)
 
 
 if __name__ == "__main__":

@@ -1,7 +1,7 @@
 //! The record of an answer.
-ghost use Rattle.std.specs.Prelude.{◌≡◌, ◌<◌, ◌++◌, [], if◌then◌else◌, length, map, string_bytes, take, IfOk, OnOk};
+ghost use Rattle.std.specs.Prelude.{◌≡◌, ◌<◌, ◌++◌, [], if◌then◌else◌, length, map, option_map, string_bytes, take, IfOk, OnOk};
 ghost use Rattle.std.specs.Fmt.{decimal, signed_decimal};
-ghost use Rattle.anyk_model.specs.Output.{line_text};
+ghost use Rattle.anyk_model.specs.Output.{line_text, optional_field};
 ghost use Rattle.anyk_model.specs.Query.{IsCombination, row_counts, sum_of, value_of};
 ghost use Rattle.query_bind.specs.Weighed.{Fits};
 ghost use Rattle.query_bind.specs.Weights.{key_at};
@@ -9,7 +9,7 @@ ghost use Rattle.answer_print.specs.Shown.{style_shown};
 
 use crate::fields::{push_optional, push_texts};
 use crate::style::Style;
-use csv_tables::Tables;
+use csv_tables::{RecordWriter, Tables};
 use query_bind::Query;
 use std::alloc::Global;
 use step_counter::NoMemory;
@@ -28,11 +28,47 @@ pub fn line(
     ensures { IfOk result (λ text. text.items ≡ line_text query.now.query tables.now (style_shown style.now) (take (length query.now.query.items) rows.now)) }
 {
     let numbers = numbers(alloc, query, tables, rows, style)?;
-    let mut fields = Vec::new(alloc);
-    push_optional(&mut fields, style.cursor)?;
-    push_values(&mut fields, query, tables, rows)?;
-    push_texts(&mut fields, numbers.as_slice())?;
+    let fields = collect_fields(alloc, query, tables, rows, style.cursor, numbers.as_slice())?;
     csv_tables::line(alloc, fields.as_slice())
+}
+
+/// Writes the record of the answer that has these rows, as `line` gives it, by a writer that is kept for many records.
+pub fn write_line(
+    alloc: Global,
+    records: &mut RecordWriter,
+    query: &Query,
+    tables: &Tables,
+    rows: &[u32; 16],
+    style: &Style<'_>,
+) -> Result<(), NoMemory>
+    requires fits { Fits query.now tables.now }
+    requires rows { IsCombination (row_counts query.now.query.items tables.now) (take (length query.now.query.items) rows.now) }
+    ensures { OnOk result (records.new ≡ line_text query.now.query tables.now (style_shown style.now) (take (length query.now.query.items) rows.now)) }
+{
+    let numbers = numbers(alloc, query, tables, rows, style)?;
+    let fields = collect_fields(alloc, query, tables, rows, style.cursor, numbers.as_slice())?;
+    records.write(fields.as_slice())
+}
+
+/// The fields of the record: the cursor's name where there is one, the selected columns of the rows, these numbers.
+fn collect_fields<'a>(
+    alloc: Global,
+    query: &Query,
+    tables: &'a Tables,
+    rows: &[u32; 16],
+    cursor: Option<&'a [u8]>,
+    numbers: &'a [String],
+) -> Result<Vec<&'a [u8]>, NoMemory>
+    requires fits { Fits query.now tables.now }
+    requires rows { IsCombination (row_counts query.now.query.items tables.now) (take (length query.now.query.items) rows.now) }
+    ensures { IfOk result (λ fields. map (λ f. f.now) fields.items ≡ optional_field (option_map (λ name. name.now) cursor.entry)
+        ++ (map (value_of query.now.query tables.now (take (length query.now.query.items) rows.now)) query.now.query.list ++ map string_bytes numbers.now)) }
+{
+    let mut fields = Vec::new(alloc);
+    push_optional(&mut fields, cursor)?;
+    push_values(&mut fields, query, tables, rows)?;
+    push_texts(&mut fields, numbers)?;
+    Ok(fields)
 }
 
 /// Puts the selected columns of the rows last.

@@ -6,7 +6,7 @@ mod fields;
 mod style;
 mod titles;
 
-pub use answer::{key_sum, line};
+pub use answer::{key_sum, line, write_line};
 pub use style::Style;
 pub use titles::header;
 

@@ -3,8 +3,8 @@ ghost use Rattle.std.specs.Prelude.{◌≡◌, IfOk, IfSome, IsTrue, length, tak
 ghost use Rattle.anyk_model.specs.Query.{IsCombination, row_counts};
 ghost use Rattle.query_bind.specs.Weighed.{Fits};
 
-use crate::{Style, header, line};
-use csv_tables::Tables;
+use crate::{Style, header, line, write_line};
+use csv_tables::{RecordWriter, Tables};
 use query_bind::{Query, bind};
 use query_parse::parse;
 use std::alloc::Global;
@@ -81,7 +81,13 @@ fn prints(alloc: Global, case: &Case) -> Result<bool, Fail> {
     };
     let head = header(alloc, &query, &tables, &style)?;
     let text = line(alloc, &query, &tables, &rows, &style)?;
-    Ok(head.as_slice() == case.header && text.as_slice() == case.line)
+    let mut records = RecordWriter::new(alloc);
+    write_line(alloc, &mut records, &query, &tables, &rows, &style)?;
+    Ok(
+        head.as_slice() == case.header
+            && text.as_slice() == case.line
+            && records.text() == case.line,
+    )
 }
 
 #[test]

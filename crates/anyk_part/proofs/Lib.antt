@@ -11,4 +11,3 @@ pub mod Sites
 pub mod Starts
 pub mod Steps
 pub mod WholeSolutions
-pub mod SmallTrees

@@ -14,6 +14,3 @@ mod part;
 mod paths;
 
 pub use part::Part;
-
-#[cfg(test)]
-mod tests;

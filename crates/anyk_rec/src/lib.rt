@@ -8,6 +8,3 @@
 mod rec;
 
 pub use rec::Rec;
-
-#[cfg(test)]
-mod tests;

@@ -9,3 +9,4 @@ pub mod Reader
 pub mod Rows
 pub mod Stands
 pub mod Weights
+pub mod Written

@@ -4,3 +4,4 @@ pub mod Stored
 pub mod Tables
 pub mod Texts
 pub mod Values
+pub mod Written

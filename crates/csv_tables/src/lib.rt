@@ -22,4 +22,4 @@ mod writing;
 
 pub use fault::TableFault;
 pub use tables::{Tables, numbers_tell};
-pub use writing::line;
+pub use writing::{RecordWriter, line};

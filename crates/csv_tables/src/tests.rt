@@ -2,7 +2,7 @@
 use crate::fault::TableFault;
 use crate::tables::Tables;
 use crate::weight::parse_weight;
-use crate::writing::line;
+use crate::writing::{RecordWriter, line};
 use std::test::Fail;
 
 /// Reads one more table; a test reads few and small ones.
@@ -164,5 +164,29 @@ fn weighs(rt: HostRuntime) -> Result<(), Fail> {
 fn writes_a_line(rt: HostRuntime) -> Result<(), Fail> {
     let text = line(rt.alloc(), &[b"1", b"p,q", b""])?;
     assert!(rt; text.as_slice() == b"1,\"p,q\",\n".as_slice());
+    Ok(())
+}
+
+#[test]
+fn writes_records_one_after_the_other(rt: HostRuntime) -> Result<(), Fail> {
+    let mut records = RecordWriter::new(rt.alloc());
+    assert!(rt; records.text().is_empty());
+    let cases: [(&[&[u8]], &[u8]); 5] = [
+        (&[b"1", b"p"], b"1,p\n"),
+        (&[b"p,q"], b"\"p,q\"\n"),
+        (&[b"a", b"b\"c", b""], b"a,\"b\"\"c\",\n"),
+        (&[b""], b"\"\"\n"),
+        (
+            &[b"first", b"second", b"third", b"-4"],
+            b"first,second,third,-4\n",
+        ),
+    ];
+    // Together more than a writer keeps of earlier records.
+    for _ in 0..600 {
+        for (fields, text) in cases {
+            records.write(fields)?;
+            assert!(rt; records.text() == text);
+        }
+    }
     Ok(())
 }

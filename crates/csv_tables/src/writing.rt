@@ -1,10 +1,98 @@
-//! The text of one record.
-ghost use Rattle.std.specs.Prelude.{◌≡◌, IfOk, map};
+//! The texts of records.
+ghost use Rattle.std.specs.Prelude.{◌≡◌, ◌++◌, [], IfOk, OnOk, map};
 ghost use Rattle.anyk_model.specs.Output.{record_text};
+ghost use Rattle.csv_tables.specs.Written.{IsBetween, bytes_under};
 
-use csv::WriterBuilder;
+use csv::{Writer, WriterBuilder};
 use std::alloc::Global;
+use std::marker::Model;
 use step_counter::NoMemory;
+
+/// The most bytes of earlier records that a writer keeps. Above them a fresh one takes its place.
+const MOST_KEPT: usize = 16_384;
+
+/// Writes records one after the other, as `csv` writes them by default, each with its line end. It is seen as the text of the record
+/// that was written last.
+#[derive(Drop)]
+pub struct RecordWriter {
+    writer: Writer<Vec<u8>>,
+    // Where the last record starts in what the writer has written.
+    start: usize,
+    alloc: Global,
+}
+
+impl Model for RecordWriter {
+    ghost use Rattle.std.specs.Prelude.{List, ℕ, drop, length, ◌≤◌};
+    ghost use Rattle.csv_tables.specs.Written.{IsBetween, bytes_under};
+
+    ghost Value = { List ℕ };
+
+    ghost view = { λ w. drop w.start (bytes_under w.writer) };
+
+    ghost invariant = { λ w. IsBetween w.writer × (w.start ≤ length (bytes_under w.writer)) };
+}
+
+impl RecordWriter {
+    /// No record yet. Takes no memory.
+    pub fn new(alloc: Global) -> RecordWriter
+        ensures { result ≡ [] }
+    {
+        RecordWriter {
+            writer: new_writer(alloc),
+            start: 0,
+            alloc,
+        }
+    }
+
+    /// Writes a record of these fields. The one before is given up. Where memory is refused, it is left open what is seen, and
+    /// further records can be written.
+    pub fn write(&mut self, fields: &[&[u8]]) -> Result<(), NoMemory>
+        ensures { OnOk result (self.new ≡ record_text (map (λ f. f.now) fields.now)) }
+    {
+        if self.writer.get_ref().len() > MOST_KEPT {
+            self.writer = new_writer(self.alloc);
+        }
+        self.start = self.writer.get_ref().len();
+        let written = append_record(&mut self.writer, fields);
+        if written.is_err() {
+            self.writer = new_writer(self.alloc);
+            self.start = 0;
+        }
+        written
+    }
+
+    /// The text of the record that was written last.
+    pub fn text(&self) -> &[u8]
+        ensures { result.now ≡ self.now }
+    {
+        &self.writer.get_ref()[self.start..]
+    }
+}
+
+// A writer of records of any length, which has written none.
+fn new_writer(alloc: Global) -> Writer<Vec<u8>>
+    ensures between { IsBetween result }
+    ensures empty { bytes_under result ≡ [] }
+{
+    WriterBuilder::new()
+        .flexible(true)
+        .from_writer(Vec::new(alloc))
+}
+
+// Writes a record of these fields behind the earlier ones. Nothing is known of the writer where memory is refused.
+fn append_record(writer: &mut Writer<Vec<u8>>, fields: &[&[u8]]) -> Result<(), NoMemory>
+    requires { IsBetween writer.old }
+    ensures between { OnOk result (IsBetween writer.new) }
+    ensures bytes { OnOk result (bytes_under writer.new ≡ bytes_under writer.old ++ record_text (map (λ f. f.now) fields.now)) }
+{
+    let Ok(()) = writer.write_fields(fields) else {
+        return Err(NoMemory);
+    };
+    let Ok(()) = writer.flush() else {
+        return Err(NoMemory);
+    };
+    Ok(())
+}
 
 /// A record of these fields as `csv` writes it by default, with its line end.
 pub fn line(alloc: Global, fields: &[&[u8]]) -> Result<Vec<u8>, NoMemory>

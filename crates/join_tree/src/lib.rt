@@ -18,6 +18,3 @@ pub use outcome::Ears;
 pub use removing::ears;
 pub use rerooting::reroot;
 pub use tree::{JoinTree, tree_of};
-
-#[cfg(test)]
-mod tests;

@@ -32,7 +32,7 @@ value-at : (tables : List Table) (table : Table) (row : ℕ) (columns : List ℕ
     → get_or (values_in tables table row columns) k 0 ≡ number_of tables (field_at table (row - 1) (get_or columns k 0))
 value-at tables table row columns k inside = get_or-map (λ (c : ℕ). number_of tables (field_at table (row - 1) c)) columns k 0 0 inside
 
-values-length : (tables : List Table) (table : Table) (row : ℕ) (columns : List ℕ) → length (values_in tables table row columns) ≡ length columns
+pub values-length : (tables : List Table) (table : Table) (row : ℕ) (columns : List ℕ) → length (values_in tables table row columns) ≡ length columns
 values-length tables table row columns = length-map columns (λ (c : ℕ). number_of tables (field_at table (row - 1) c))
 
 module _ (bound : BoundQuery) (tables : List Table) (fits : Fits bound tables) where

@@ -13,6 +13,7 @@ use Rattle.anyk_model.specs.Table.{Table}
 use Rattle.query_bind.specs.Weighed.{BoundQuery}
 use Rattle.node_build.specs.Filled.{AreFilled, HasOnlyMore}
 use Rattle.node_build.specs.Links.{AreMore, HasRowsOf, IsRowOf}
+use Rattle.node_build.proofs.Numbering.{link-kept}
 
 sum_set : {X : Type 0} (xss : List (List X)) (v : ℕ) (x : X) → v < length xss → sum_by length (set xss v (get_or xss v [] ++ x ∷ [])) ≡ sum_by length xss + 1
 sum_set [] v x l = absurd (omega arith)
@@ -57,8 +58,8 @@ module _ (bound : BoundQuery) (tables : List Table) (join : JoinTree) (own above
   row-kept old new v row x more h = record {
     number = h.number;
     rank = h.rank;
-    link = more.kept v x.own _ h.link;
-    children = λ q some l is. more.kept q _ _ (h.children q some l is);
+    link = link-kept old new v x.own _ more h.link;
+    children = λ q some l is. link-kept old new q _ _ more (h.children q some l is);
   }
 
   pub rows-kept : (old new : List (List (List ℕ))) (v n : ℕ) (rows : List ℕ) (xs : List (RawRowData R)) → AreMore old new

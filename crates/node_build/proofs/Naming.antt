@@ -9,10 +9,11 @@ use Rattle.anyk_model.specs.Table.{Table, table_at}
 use Rattle.query_bind.specs.Names.{item_at}
 use Rattle.query_bind.specs.Weighed.{BoundQuery, Fits}
 use Rattle.node_build.specs.Columns.{HaveColumns}
-use Rattle.node_build.specs.Links.{AreMore, IsNumbered, NamesLinks, values_at}
+use Rattle.node_build.specs.Links.{AreMore, IsLink, NamesLinks, values_at}
 use Rattle.node_build.specs.Nodes.{item_of, parent_of}
 use Rattle.node_build.specs.Rows.{lists_of}
 use Rattle.node_build.proofs.Agreement.{other-inside, own-inside}
+use Rattle.node_build.proofs.Numbering.{link-kept}
 
 -- ---- the children of a node
 
@@ -73,14 +74,14 @@ module _ (bound : BoundQuery) (tables : List Table) (join : JoinTree) (own above
 
   pub names-more : (old new : List (List (List ℕ))) (v row n : ℕ) (children now : List ℕ) (link : ℕ) → AreMore old new → 0 < n → parent_of join n ≡ v
       → length children ≡ kids_below (parent_of join) v n → now ≡ children ++ link ∷ [] → Names old v row n children
-      → IsNumbered new n link (values_at bound tables join own above v row (get_or above n [])) → Names new v row (n + 1) now
+      → IsLink new n link (values_at bound tables join own above v row (get_or above n [])) → Names new v row (n + 1) now
   names-more old new v row n children now link more past below count is so_far here q some l up = elim (cases_eq q n) [
     | inl same ↦
         let at : length children ≡ kids_below (parent_of join) v q = count ∙ ap (kids_below (parent_of join) v) (sym same) in
         let last : get_or now (kids_below (parent_of join) v q) 0 ≡ link =
         ap (λ (xs : List ℕ). get_or xs (kids_below (parent_of join) v q) 0) is ∙ get_or_push children link 0 (kids_below (parent_of join) v q) at in
-        subst (λ (k : ℕ). IsNumbered new q k (values_at bound tables join own above v row (get_or above q []))) (sym last)
-        (subst (λ (w : ℕ). IsNumbered new w link (values_at bound tables join own above v row (get_or above w []))) (sym same) here)
+        subst (λ (k : ℕ). IsLink new q k (values_at bound tables join own above v row (get_or above q []))) (sym last)
+        (subst (λ (w : ℕ). IsLink new w link (values_at bound tables join own above v row (get_or above w []))) (sym same) here)
     | inr differ ↦
         let before : q < n = omega (arith, l, differ) in
         let step = child_place_within (parent_of join) q (n - (q + 1)) some in
@@ -91,8 +92,8 @@ module _ (bound : BoundQuery) (tables : List Table) (join : JoinTree) (own above
         let inside : kids_below (parent_of join) v q < length children = omega (arith, step, e, at_v, at_n, count) in
         let kept : get_or now (kids_below (parent_of join) v q) 0 ≡ get_or children (kids_below (parent_of join) v q) 0 =
         ap (λ (xs : List ℕ). get_or xs (kids_below (parent_of join) v q) 0) is ∙ get_or_append_left children (link ∷ []) 0 (kids_below (parent_of join) v q) inside in
-        subst (λ (k : ℕ). IsNumbered new q k (values_at bound tables join own above v row (get_or above q []))) (sym kept)
-        (more.kept q _ _ (so_far q some before up))
+        subst (λ (k : ℕ). IsLink new q k (values_at bound tables join own above v row (get_or above q []))) (sym kept)
+        (link-kept old new q _ _ more (so_far q some before up))
   ]
 
 -- ---- the columns of a node

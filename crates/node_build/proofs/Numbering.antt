@@ -5,13 +5,13 @@ use Rattle.std.specs.Str.{bytes_eq}
 use Rattle.std.specs.HashSet.{HashSet}
 use Rattle.std.proofs.Math.ListN.{set}
 use Rattle.std.proofs.lemmas.Bool.{cases_eq, cases_lt, false≢true}
-use Rattle.std.proofs.lemmas.List.{get_or-map, get_or-set_other, get_or-set_same, get_or_append_left, get_or_push, length-set, map-set}
+use Rattle.std.proofs.lemmas.List.{get_or-map, get_or-set_other, get_or-set_same, get_or_append_left, get_or_push, length-set, map-set, ext_get_or}
 use Rattle.std.proofs.lemmas.Slice.Eq.{bytes_eq-Decides}
 use Rattle.smallvec.specs.SmallVec.{SmallVec}
 use Rattle.indexmap.specs.IndexSet.{insert_key}
 use Rattle.csv_tables.specs.Values.{with_text}
 use Rattle.csv_tables.proofs.Stands.{text_at-stored, texts-insert_key}
-use Rattle.node_build.specs.Links.{AreMore, AreNumbers, IsNumbered, lists_in, names_of}
+use Rattle.node_build.specs.Links.{AreMore, AreNumbers, IsLink, IsNumbered, lists_in, names_of}
 
 or-first : (a b : Bool) → (a || b) ≡ false → a ≡ false
 or-first true b e = e
@@ -150,11 +150,33 @@ module _ {S : Type 0} (sets : List (HashSet (SmallVec ℕ) S)) (q : ℕ) (old ne
       lists-length (x ∷ xs) = ap suc (lists-length xs)
 
 -- two numbers are the same exactly where the lists are
-pub link-iff : (names : List (List (List ℕ))) (q m n : ℕ) (x y : List ℕ) → AreNumbers names → IsNumbered names q m x → IsNumbered names q n y → (m ≡ n) ↔ (x ≡ y)
-link-iff names q m n x y one p r = (
+number-iff : (names : List (List (List ℕ))) (q m n : ℕ) (x y : List ℕ) → AreNumbers names → IsNumbered names q m x → IsNumbered names q n y → (m ≡ n) ↔ (x ≡ y)
+number-iff names q m n x y one p r = (
   λ e. sym p.is ∙ ap (λ (k : ℕ). get_or (get_or names q []) k []) e ∙ r.is,
   λ e. one q m n y (subst (IsNumbered names q m) e p) r,
 )
+
+-- lists of at most one value with the same first value are the same
+alone-same : (x y : List ℕ) → length x ≡ length y → length x ≤ 1 → get_or x 0 0 ≡ get_or y 0 0 → x ≡ y
+alone-same x y same short e = ext_get_or 0 x y same (λ k l.
+    let first : 0 ≡ k = omega (arith, l, short) in
+    subst (λ (i : ℕ). get_or x i 0 ≡ get_or y i 0) first e)
+
+-- two links of lists of one length are the same exactly where the lists are
+pub link-iff : (names : List (List (List ℕ))) (q m n : ℕ) (x y : List ℕ) → AreNumbers names → length x ≡ length y → IsLink names q m x → IsLink names q n y → (m ≡ n) ↔ (x ≡ y)
+link-iff names q m n x y one same p r = elim (cases_lt 1 (length x)) [
+  | inl l ↦ number-iff names q m n x y one (p.several l) (r.several (omega (arith, l, same)))
+  | inr g ↦
+      let first : m ≡ get_or x 0 0 = p.alone g in
+      let second : n ≡ get_or y 0 0 = r.alone (omega (arith, g, same)) in (
+        λ e. alone-same x y same g (sym first ∙ e ∙ second),
+        λ e. first ∙ ap (λ (l : List ℕ). get_or l 0 0) e ∙ sym second,
+      )
+]
+
+-- links are kept when more lists are numbered
+pub link-kept : (old new : List (List (List ℕ))) (q n : ℕ) (values : List ℕ) → AreMore old new → IsLink old q n values → IsLink new q n values
+link-kept old new q n values more h = record { alone = h.alone; several = λ l. more.kept q n values (h.several l) }
 
 -- more than more
 pub more-trans : (a b c : List (List (List ℕ))) → AreMore a b → AreMore b c → AreMore a c

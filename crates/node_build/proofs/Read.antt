@@ -14,13 +14,14 @@ use Rattle.join_tree.specs.declared.tree.JoinTree.{JoinTree}
 use Rattle.anyk_model.specs.Table.{Table}
 use Rattle.csv_tables.specs.Tables.{IsSound}
 use Rattle.query_bind.specs.Weighed.{BoundQuery, Fits}
+use Rattle.query_bind.specs.Weights.{table_in}
 use Rattle.node_build.specs.Filled.{IsFilledTree}
 use Rattle.node_build.specs.Links.{IsRowOf, values_at}
 use Rattle.node_build.specs.Nodes.{AreNodeRows, IsBuilt, IsJoinTreeOf, RowsAgree, RowsAlike, item_of, parent_of, row_parts}
 use Rattle.node_build.specs.Rows.{HaveRows}
 use Rattle.node_build.specs.Shapes.{AreShapesOf}
 use Rattle.query_bind.proofs.Lists.{member-index}
-use Rattle.node_build.proofs.Agreement.{IsRowIn, agree-iff, alike-iff}
+use Rattle.node_build.proofs.Agreement.{IsRowIn, agree-iff, alike-iff, values-length}
 use Rattle.node_build.proofs.Naming.{kids-ap}
 use Rattle.node_build.proofs.Numbering.{link-iff}
 use Rattle.node_build.proofs.Passing.{rises}
@@ -77,6 +78,10 @@ module _ {R : Type 0} (bound : BoundQuery) (tables : List Table) (fits : Fits bo
   abbrev values : ℕ → ℕ → List ℕ → List ℕ
   values v row columns = values_at bound tables join filled.own filled.above v row columns
 
+  -- as many values as columns
+  as-many : (v row : ℕ) (columns : List ℕ) → length (values v row columns) ≡ length columns
+  as-many v row columns = values-length tables (table_in tables bound.query.items (item_of join v)) row columns
+
   links-are : (q i r : ℕ) → 0 < q → q < join.count → i < raw_len tree q → r < raw_len tree (parent_of join q)
       → (own_link tree q i ≡ child_link tree (parent_of join q) r (shape_child_place tree.shapes q))
       ↔ RowsAgree bound tables (item_of join q) (item_of join (parent_of join q)) (raw_number tree q i) (raw_number tree (parent_of join q) r)
@@ -96,7 +101,8 @@ module _ {R : Type 0} (bound : BoundQuery) (tables : List Table) (fits : Fits bo
       ap (λ (cs : List ℕ). get_or cs (shape_child_place tree.shapes q) 0) children ∙ ap (λ (n : ℕ). get_or y.row.children n 0) place in
       let names = link-iff filled.names q x.row.own (get_or y.row.children (kids_below (parent_of join) p q) 0)
       (values q (get_or (get_or rows q []) i 0) (get_or filled.own q [])) (values p (get_or (get_or rows p []) r 0) (get_or filled.above q []))
-      filled.numbers x.of_row.link (y.of_row.children q some l refl) in
+      filled.numbers (as-many q (get_or (get_or rows q []) i 0) (get_or filled.own q []) ∙ (filled.columns.each q some l).same ∙ sym (as-many p (get_or (get_or rows p []) r 0) (get_or filled.above q [])))
+      x.of_row.link (y.of_row.children q some l refl) in
       let agree = agree-iff bound tables fits sound (item_of join q) (item_of join p) (get_or filled.own q []) (get_or filled.above q []) (filled.columns.each q some l)
       (raw_number tree q i) (raw_number tree p r) (row-in q i l h) in
       let left = ap (λ (n : ℕ). values q n (get_or filled.own q [])) x.number in
@@ -116,7 +122,8 @@ module _ {R : Type 0} (bound : BoundQuery) (tables : List Table) (fits : Fits bo
       let other : own_link tree q j ≡ y.row.own = field_read (λ (z : RawRowData R). z.own) (rows_at tree q) j y.row 0 y.at in
       let names = link-iff filled.names q x.row.own y.row.own
       (values q (get_or (get_or rows q []) i 0) (get_or filled.own q [])) (values q (get_or (get_or rows q []) j 0) (get_or filled.own q []))
-      filled.numbers x.of_row.link y.of_row.link in
+      filled.numbers (as-many q (get_or (get_or rows q []) i 0) (get_or filled.own q []) ∙ sym (as-many q (get_or (get_or rows q []) j 0) (get_or filled.own q [])))
+      x.of_row.link y.of_row.link in
       let alike = alike-iff bound tables fits sound (item_of join q) (item_of join p) (get_or filled.own q []) (get_or filled.above q []) (filled.columns.each q some l)
       (raw_number tree q i) (raw_number tree q j) (row-in q i l h) in
       let left = ap (λ (n : ℕ). values q n (get_or filled.own q [])) x.number in

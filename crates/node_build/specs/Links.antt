@@ -1,5 +1,5 @@
--- Links: the numbers of lists of values.
-use Rattle.std.specs.Prelude.{◌≡◌, ◌<◌, ◌-◌, ℕ, List, [], map, length, slice_index, slice_index_or, slice_get, Some}
+-- Links: one number for the values that a row has in some columns.
+use Rattle.std.specs.Prelude.{◌≡◌, ◌<◌, ◌≤◌, ◌-◌, ℕ, List, [], map, length, slice_index, slice_index_or, slice_get, Some}
 use Rattle.std.specs.HashSet.{HashSet}
 use Rattle.smallvec.specs.SmallVec.{SmallVec}
 use Rattle.rank_key.specs.Keys.{row_key}
@@ -34,6 +34,11 @@ pub record IsNumbered (names : List (List (List ℕ))) (q n : ℕ) (values : Lis
 abbrev pub AreNumbers : List (List (List ℕ)) → Type 0
 AreNumbers names = (q m n : ℕ) (values : List ℕ) → IsNumbered names q m values → IsNumbered names q n values → m ≡ n
 
+-- the link of a list of values at node q: a value alone is its own link, the link of an empty list is 0, and several values have their number
+pub record IsLink (names : List (List (List ℕ))) (q n : ℕ) (values : List ℕ) : Type 0 where
+  pub alone : length values ≤ 1 → n ≡ slice_index values 0
+  pub several : 1 < length values → IsNumbered names q n values
+
 -- lists keep their numbers when others are added
 pub record AreMore (old new : List (List (List ℕ))) : Type 0 where
   pub count : length new ≡ length old
@@ -49,13 +54,13 @@ module _ (bound : BoundQuery) (tables : List Table) (join : JoinTree) (own above
   abbrev pub NamesLinks : List (List (List ℕ)) → ℕ → ℕ → ℕ → List ℕ → Type 0
   NamesLinks names v row n children =
       (q : ℕ) → 0 < q → q < n → parent_of join q ≡ v
-      → IsNumbered names q (slice_index children (kids_below (parent_of join) v q)) (values_at v row (slice_index_or above q []))
+      → IsLink names q (slice_index children (kids_below (parent_of join) v q)) (values_at v row (slice_index_or above q []))
 
   -- the raw tree's row for a row of node v
   pub record IsRowOf {R : Type 0} (d : ℕ) (key : R → KeyOf d 16) (names : List (List (List ℕ))) (v row : ℕ) (x : RawRowData R) : Type 0 where
     pub number : x.row.row ≡ row
     pub rank : key x.row.rank ≡ row_key d (row_parts bound tables (item_of join v) row) (item_of join v) row
-    pub link : IsNumbered names v x.own (values_at v row (slice_index_or own v []))
+    pub link : IsLink names v x.own (values_at v row (slice_index_or own v []))
     pub children : NamesLinks names v row join.count x.children
 
   -- the rows of node v are the first n of a list

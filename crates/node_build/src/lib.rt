@@ -2,8 +2,9 @@
 //! node and of its parent belong together.
 //!
 //! This is the first step of the reduction of an acyclic join (Yannakakis, Algorithms for acyclic database schemes, 1981):
-//! two rows belong together where they agree on the variables that both items have. Here the values that they have there are
-//! numbered, list by list, so that a link is one number.
+//! two rows belong together where they agree on the variables that both items have. A link is one number for the values that a
+//! row has there. Each value is a number already, the same for two fields exactly where their bytes are, so one value is its own
+//! link. Several values are numbered, list by list.
 #![tactic(auto)]
 
 mod building;
@@ -17,6 +18,3 @@ mod shapes;
 
 pub use building::build;
 pub use built::{BuildFault, Built};
-
-#[cfg(test)]
-mod tests;

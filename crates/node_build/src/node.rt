@@ -13,7 +13,7 @@ ghost use Rattle.node_build.specs.Rows.{lists_of};
 ghost use Rattle.node_build.specs.Shapes.{AreShapesOf};
 
 use crate::columns::Columns;
-use crate::links::{Links, link_of, values_of};
+use crate::links::{Links, link};
 use crate::shapes::rank_of;
 use csv_tables::Tables;
 use join_tree::JoinTree;
@@ -56,8 +56,8 @@ fn child_links<L: Ledger>(
         if join.parent[child] != node {
             continue;
         }
-        let values = values_of(alloc, tables, table, row, columns.above[child].as_slice())?;
-        children.push(link_of(links, child, values, steps)?)?;
+        let above = columns.above[child].as_slice();
+        children.push(link(alloc, tables, table, row, above, links, child, steps)?)?;
     }
     Ok(children)
 }
@@ -92,17 +92,11 @@ fn add_row<R: Rank, L: Ledger>(
 {
     let item = join.atom[node as usize];
     let table = query.table_of(item);
-    let values = values_of(
-        alloc,
-        tables,
-        table,
-        row,
-        columns.own[node as usize].as_slice(),
-    )?;
-    let own = link_of(links, node as usize, values, steps)?;
+    let own = columns.own[node as usize].as_slice();
+    let own_link = link(alloc, tables, table, row, own, links, node as usize, steps)?;
     let children = child_links(alloc, query, tables, join, columns, node, row, links, steps)?;
     let rank = rank_of(query, tables, item, row);
-    tree.add_row(node, NodeRow { rank, row }, own, children.as_slice())
+    tree.add_row(node, NodeRow { rank, row }, own_link, children.as_slice())
 }
 
 /// Adds the rows of a node to the tree, with their links.

@@ -8,8 +8,6 @@
 
 mod fault;
 mod plan;
-#[cfg(test)]
-mod tests;
 
 pub use fault::PlanFault;
 pub use plan::{Plan, prepare};

@@ -29,6 +29,3 @@ pub use laws::{
     witnesses_pass_and_agree,
 };
 pub use query::Query;
-
-#[cfg(test)]
-mod tests;

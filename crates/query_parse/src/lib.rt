@@ -13,8 +13,6 @@ mod reader;
 mod scanner;
 pub mod select;
 pub mod sequence;
-#[cfg(test)]
-mod tests;
 mod token;
 mod writing;
 

@@ -9,8 +9,6 @@ mod load;
 mod plan;
 mod run;
 mod session;
-#[cfg(test)]
-mod tests;
 
 pub use load::run_load;
 pub use run::run_query;

@@ -11,6 +11,3 @@ mod shape;
 pub use fault::ShapeFault;
 pub use laws::one_shape;
 pub use shape::{MOST_NODE_ROWS, TreeShape, shape_of, tree_shape};
-
-#[cfg(test)]
-mod tests;

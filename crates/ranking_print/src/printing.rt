@@ -10,8 +10,8 @@ ghost use Rattle.witness_key.specs.WitnessKey.{answers_of_ranking};
 ghost use Rattle.step_bounds.specs.Steps.{Paced, calls_for, steps_for, whole_lines};
 ghost use Rattle.ranking_print.specs.Printed.{Printed};
 
-use answer_print::{Style, header, line};
-use csv_tables::Tables;
+use answer_print::{Style, header, write_line};
+use csv_tables::{RecordWriter, Tables};
 use outer_io::{Sink, write_all};
 use query_bind::Query;
 use refusal_lines::Refusal;
@@ -82,11 +82,12 @@ fn print_answers<'a, E: Ranked, S: Sink, L: Ledger>(
 {
     let _items = query.items();
     let most = query.limit().unwrap_or(u64::MAX);
+    let mut records = RecordWriter::new(alloc);
     for _given in 0..most {
         let Some(answer) = engine.next(steps)? else {
             return Ok(());
         };
-        print_answer(alloc, query, tables, style, &answer.rows, out)?;
+        print_answer(alloc, &mut records, query, tables, style, &answer.rows, out)?;
     }
     if query.limit().is_none() {
         return Err(Refusal::NoMemory);
@@ -94,9 +95,10 @@ fn print_answers<'a, E: Ranked, S: Sink, L: Ledger>(
     Ok(())
 }
 
-/// Prints the record of the answer that has these rows, one for each item, counted from 1.
+/// Prints the record of the answer that has these rows, one for each item, counted from 1. `records` writes it first.
 pub fn print_answer<'a, S: Sink>(
     alloc: Global,
+    records: &mut RecordWriter,
     query: &Query,
     tables: &Tables,
     style: &Style<'_>,
@@ -108,8 +110,8 @@ pub fn print_answer<'a, S: Sink>(
     ensures { Printed (S.written out.old) (S.written out.new) (S.faults out.old) (S.faults out.new)
         (line_text query.now.query tables.now (style_shown style.now) (take (length query.now.query.items) rows.now)) result }
 {
-    let text = line(alloc, query, tables, rows, style)?;
-    print(out, &text)
+    write_line(alloc, records, query, tables, rows, style)?;
+    print(out, records.text())
 }
 
 /// Prints a text by one call.

@@ -3,7 +3,7 @@ use Rattle.std.proofs.Common.{◌≡◌, ℕ, ◌<◌, inl, inr, nat_eq, List, l
 use Rattle.std.specs.List.{position_or_len}
 use Rattle.std.proofs.lemmas.Bool.{cases_lt}
 use Rattle.std.proofs.lemmas.List.Sums.{passes_at_first, fails_before_first}
-use Rattle.semi_join.proofs.Groups.{clash}
+use Rattle.semi_join.proofs.Numbering.{clash}
 use Rattle.semi_join.proofs.Meets.{Stands}
 
 pub found-at : (x : ℕ) (xs : List ℕ) → Stands x xs → (position_or_len (nat_eq x) xs < length xs) × (get_or xs (position_or_len (nat_eq x) xs) 0 ≡ x)

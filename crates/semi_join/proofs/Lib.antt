@@ -1,5 +1,6 @@
 pub mod FirstOnes
-pub mod Groups
+pub mod Numbering
+pub mod PlacesByNumber
 pub mod Kids
 pub mod Rows
 pub mod SoFar
@@ -20,4 +21,3 @@ pub mod NamedGroups
 pub mod KeptSolutions
 pub mod FormedParts
 pub mod WholeReduction
-pub mod ChainTree

@@ -1,7 +1,6 @@
 -- What the bottom-up reduction of a raw tree computes, node by node.
 use Rattle.std.specs.Prelude.{◌≡◌, ℕ, suc, ◌-◌, ◌<◌, ◌≤◌, Bool, cond, nat_eq, List, [], ◌∷◌, ◌++◌, map, length, slice_index, slice_index_or, Some, IsPermutation, All}
-use Rattle.std.specs.List.{filter, list_any, list_all, position_or_len, range_with_len, concat}
-use Rattle.std.specs.declared.vec.Vec.{Vec}
+use Rattle.std.specs.List.{Contains, filter, list_any, list_all, position_or_len, range_with_len, concat}
 use Rattle.indexmap.specs.IndexSet.{IndexSet, insert_all}
 use Rattle.tdp_core.specs.RawData.{RawData, shape_at, shape_parent, raw_len, raw_row_at, own_link, child_link}
 use Rattle.tdp_core.specs.TreeData.{NodeData}
@@ -27,14 +26,18 @@ pub record IsGrouping (owns links : List ℕ) (groups : List (List ℕ)) : Type 
   pub same : (g j : ℕ) → g < length groups → j < length (slice_index_or groups g []) → slice_index owns (slice_index (slice_index_or groups g []) j) ≡ slice_index links g
   pub few : length links ≤ length owns
 
--- what puts one more row with this link, at this place, after the rows that stand in groups
-abbrev pub GroupsOneMore : ℕ → ℕ → List ℕ → List (List ℕ) → List ℕ → List (List ℕ) → Type 0
-GroupsOneMore own place links groups new_links new_groups =
-    (owns : List ℕ) → length owns ≡ place → IsGrouping owns links groups → IsGrouping (owns ++ own ∷ []) new_links new_groups
+-- Each row has the place of its own link among the links, and each link is that of a row. `owns` has the own link of each row.
+pub record IsNumbering (owns links numbers : List ℕ) : Type 0 where
+  pub size : length numbers ≡ length owns
+  pub distinct : (i j : ℕ) → i < length links → j < length links → slice_index links i ≡ slice_index links j → i ≡ j
+  pub below : All (λ n. n < length links) numbers
+  pub named : (i : ℕ) → i < length numbers → slice_index links (slice_index numbers i) ≡ slice_index owns i
+  pub used : (n : ℕ) → n < length links → Contains numbers n
+  pub few : length links ≤ length owns
 
--- the members of each group
-abbrev pub members_of : {Z : Type 0} → List (Vec ℕ Z) → List (List ℕ)
-members_of groups = map (λ g. g.items) groups
+-- the numbers of some rows, and after them the place of this link among the links
+abbrev pub EndsInPlaceOf : ℕ → List ℕ → List ℕ → List ℕ → Type 0
+EndsInPlaceOf own links numbers more = (n : ℕ) × (n < length links) × (slice_index links n ≡ own) × (more ≡ numbers ++ n ∷ [])
 
 -- # The rows of one node
 

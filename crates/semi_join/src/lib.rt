@@ -9,6 +9,3 @@ mod node;
 mod reduction;
 
 pub use reduction::{Reduced, reduce};
-
-#[cfg(test)]
-mod tests;

@@ -1,8 +1,8 @@
-ghost use Rattle.std.specs.Prelude.{◌≡◌, ◌+◌, ◌*◌, ◌<◌, ◌≤◌, [], ◌∷◌, ◌++◌, true, false, map, length, IfOk, IfSome, IfNone, OnOk, vec_len, nat_eq};
+ghost use Rattle.std.specs.Prelude.{◌≡◌, ◌+◌, ◌*◌, ◌<◌, ◌≤◌, [], ◌∷◌, ◌++◌, true, false, map, length, IfOk, IfSome, IfNone, OnOk, Some, nat_eq};
 ghost use Rattle.indexmap.specs.IndexSet.{insert_key, index_set_len};
-ghost use Rattle.tdp_core.specs.RawData.{AreShapes, raw_len, row_total};
+ghost use Rattle.tdp_core.specs.RawData.{AreShapes, raw_len, raw_row_at, row_total};
 ghost use Rattle.tdp_core.specs.TreeData.{node_data};
-ghost use Rattle.semi_join.specs.Reduction.{AreFew, GroupsOneMore, IsReducedNode, child_nodes, group_link, group_links, groups_named, has_partners, links_of, members_of};
+ghost use Rattle.semi_join.specs.Reduction.{AreFew, EndsInPlaceOf, IsNumbering, IsReducedNode, child_nodes, group_link, group_links, groups_named, has_partners, kept_rows, links_of};
 
 use indexmap::IndexSet;
 use rank_key::Rank;
@@ -10,7 +10,7 @@ use smallvec::SmallVec;
 use std::alloc::{AllocError, Global};
 use std::sync::ledger::Ledger;
 use step_counter::{NoMemory, Steps};
-use tdp_core::{NodeParts, NodeRow, RawTree};
+use tdp_core::{Groups, NodeParts, NodeRow, RawTree};
 
 /// A node with its rows in groups.
 #[derive(Drop)]
@@ -18,6 +18,18 @@ pub(crate) struct GroupedNode<R> {
     pub parts: NodeParts<R>,
     /// The link of each group: the place of a link is the number of its group.
     pub links: IndexSet<u32>,
+}
+
+/// The rows of a node that stay, before they are put into groups.
+#[derive(Drop)]
+struct KeptRows<R> {
+    rows: Vec<NodeRow<R>>,
+    /// For each row the group of each child of the node.
+    to_child: Vec<SmallVec<u32, 4>>,
+    /// For each row the number of its own group.
+    numbers: Vec<u32>,
+    /// The link of each group.
+    links: IndexSet<u32>,
 }
 
 /// The node with the rows that stay. `later` has the links of the groups of each later node, in the
@@ -39,56 +51,78 @@ pub(crate) fn reduce_node<R: Rank, L: Ledger>(
     ensures few { IfOk result (λ r. length r.links.keys ≤ 4194304) }
     ensures cost { steps.new ≤ steps.old + raw_len raw.now node * length raw.now.shapes }
 {
+    let kept = keep_rows(alloc, raw, node, later, steps)?;
+    let groups = Groups::of_numbers(alloc, &kept.numbers, kept.links.len())?;
+    let parts = NodeParts {
+        shape: *raw.shape(node),
+        rows: kept.rows,
+        to_child: kept.to_child,
+        groups,
+        best: Vec::new(alloc),
+    };
+    Ok(GroupedNode {
+        parts,
+        links: kept.links,
+    })
+}
+
+/// The rows of a node that stay, each with the number of its group.
+fn keep_rows<R: Rank, L: Ledger>(
+    alloc: Global,
+    raw: &RawTree<R>,
+    node: u32,
+    later: &[IndexSet<u32>],
+    steps: &mut Steps<L>,
+) -> Result<KeptRows<R>, NoMemory>
+    requires node { node < length raw.now.shapes }
+    requires shaped { AreShapes raw.now.shapes }
+    requires few_rows { row_total raw.now ≤ 4194304 }
+    requires later { node + 1 + length later.now ≡ length raw.now.shapes }
+    requires few { AreFew (map links_of later.now) }
+    ensures rows { IfOk result (λ kept. map Some kept.rows.items ≡ map (raw_row_at raw.now node) (kept_rows raw.now node (map links_of later.now))) }
+    ensures to_child { IfOk result (λ kept. map (λ c. c.items) kept.to_child.items ≡ map (groups_named raw.now node (map links_of later.now)) (kept_rows raw.now node (map links_of later.now))) }
+    ensures links { IfOk result (λ kept. kept.links.keys ≡ group_links raw.now node (map links_of later.now)) }
+    ensures numbers { IfOk result (λ kept. IsNumbering (map (group_link raw.now node) (kept_rows raw.now node (map links_of later.now))) kept.links.keys kept.numbers.items) }
+    ensures few { IfOk result (λ kept. length kept.numbers.items ≤ 4194304) }
+    ensures cost { steps.new ≤ steps.old + raw_len raw.now node * length raw.now.shapes }
+{
     let children = children_of(alloc, raw, node)?;
-    let mut grouped = GroupedNode {
-        parts: NodeParts {
-            shape: *raw.shape(node),
-            rows: Vec::new(alloc),
-            to_child: Vec::new(alloc),
-            groups: Vec::new(alloc),
-            best: Vec::new(alloc),
-        },
+    let mut kept = KeptRows {
+        rows: Vec::new(alloc),
+        to_child: Vec::new(alloc),
+        numbers: Vec::new(alloc),
         links: IndexSet::new(alloc),
     };
     for i in 0..raw.len(node) {
-        if let Some(numbers) = child_groups(alloc, raw, node, i, &children, later, steps)? {
+        if let Some(named) = child_groups(alloc, raw, node, i, &children, later, steps)? {
             let own = group_link_of(raw, node, i);
-            keep_row(alloc, &mut grouped, raw.row(node, i), numbers, own, steps)?;
+            keep_row(&mut kept, raw.row(node, i), named, own, steps)?;
         }
     }
-    Ok(grouped)
+    Ok(kept)
 }
 
-/// Puts one more row after the others, and into the group of its link.
+/// Puts one more row after the others, with the number of the group of its link, which is made where there is none yet.
 fn keep_row<R: Rank, L: Ledger>(
-    alloc: Global,
-    node: &mut GroupedNode<R>,
+    kept: &mut KeptRows<R>,
     row: NodeRow<R>,
-    numbers: SmallVec<u32, 4>,
+    named: SmallVec<u32, 4>,
     own: u32,
     steps: &mut Steps<L>,
 ) -> Result<(), NoMemory>
-    requires few { vec_len node.old.parts.rows ≤ 4194304 }
-    requires size { vec_len node.old.parts.groups ≡ index_set_len node.old.links }
-    ensures shape { OnOk result (node.new.parts.shape ≡ node.old.parts.shape) }
-    ensures rows { OnOk result (node.new.parts.rows.items ≡ node.old.parts.rows.items ++ row ∷ []) }
-    ensures to_child { OnOk result (map (λ c. c.items) node.new.parts.to_child.items ≡ map (λ c. c.items) node.old.parts.to_child.items ++ numbers.items ∷ []) }
-    ensures links { OnOk result (node.new.links.keys ≡ insert_key nat_eq node.old.links.keys own) }
-    ensures grouping { OnOk result (GroupsOneMore own (length node.old.parts.rows.items) node.old.links.keys (members_of node.old.parts.groups.items) node.new.links.keys (members_of node.new.parts.groups.items)) }
-    ensures best { OnOk result (node.new.parts.best ≡ node.old.parts.best) }
+    requires few { index_set_len kept.old.links ≤ 4194304 }
+    ensures rows { OnOk result (kept.new.rows.items ≡ kept.old.rows.items ++ row ∷ []) }
+    ensures to_child { OnOk result (map (λ c. c.items) kept.new.to_child.items ≡ map (λ c. c.items) kept.old.to_child.items ++ named.items ∷ []) }
+    ensures links { OnOk result (kept.new.links.keys ≡ insert_key nat_eq kept.old.links.keys own) }
+    ensures number { OnOk result (EndsInPlaceOf own kept.new.links.keys kept.old.numbers.items kept.new.numbers.items) }
     ensures cost { steps.new ≤ steps.old + 1 }
 {
-    let place = node.parts.rows.len() as u32;
-    node.parts.rows.push(row)?;
-    node.parts.to_child.push(numbers)?;
-    add_to_group(
-        alloc,
-        &mut node.parts.groups,
-        &mut node.links,
-        own,
-        place,
-        steps,
-    )
+    steps.tick();
+    let (number, _) = kept.links.insert_full(own)?;
+    kept.numbers.push(number as u32)?;
+    kept.rows.push(row)?;
+    kept.to_child.push(named)?;
+    Ok(())
 }
 
 /// The children of a node, in ascending order.
@@ -146,27 +180,4 @@ fn child_groups<R: Rank, L: Ledger>(
         }
     }
     Ok(Some(numbers))
-}
-
-/// Puts the row at `place` into the group of its link, which is made where there is none yet.
-fn add_to_group<L: Ledger>(
-    alloc: Global,
-    groups: &mut Vec<Vec<u32>>,
-    links: &mut IndexSet<u32>,
-    own: u32,
-    place: u32,
-    steps: &mut Steps<L>,
-) -> Result<(), NoMemory>
-    requires { vec_len groups.old ≡ index_set_len links.old }
-    ensures links { OnOk result (links.new.keys ≡ insert_key nat_eq links.old.keys own) }
-    ensures grouping { OnOk result (GroupsOneMore own place links.old.keys (members_of groups.old.items) links.new.keys (members_of groups.new.items)) }
-    ensures cost { steps.new ≤ steps.old + 1 }
-{
-    steps.tick();
-    let (number, added) = links.insert_full(own)?;
-    if added {
-        groups.push(Vec::new(alloc))?;
-    }
-    groups[number].push(place)?;
-    Ok(())
 }

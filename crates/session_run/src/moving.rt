@@ -14,7 +14,7 @@ ghost use Rattle.session_run.specs.Spent.{Paid, calls_at};
 
 use crate::open_cursors::OpenCursor;
 use answer_print::Style;
-use csv_tables::Tables;
+use csv_tables::{RecordWriter, Tables};
 use cursor_set::{CursorId, Cursors};
 use outer_io::Sink;
 use query_bind::Query;
@@ -29,6 +29,7 @@ use tdp_core::{Answer, Ranked};
 /// list is the ranking that the set's answers stand for, cut to the limit.
 pub(crate) fn print_next<'a, E: Ranked, S: Sink, L: Ledger>(
     alloc: Global,
+    records: &mut RecordWriter,
     query: &Query,
     tables: &Tables,
     style: &Style<'_>,
@@ -64,7 +65,7 @@ pub(crate) fn print_next<'a, E: Ranked, S: Sink, L: Ledger>(
         let Some(answer) = next_member(set, id, cursor, query.limit(), steps)? else {
             return print_end(alloc, cursor.name, out);
         };
-        print_answer(alloc, query, tables, &named, &answer.rows, out)?;
+        print_answer(alloc, records, query, tables, &named, &answer.rows, out)?;
     }
     Ok(())
 }

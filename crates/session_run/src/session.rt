@@ -18,7 +18,7 @@ ghost use Rattle.session_run.specs.Spent.{IsWithin, Paid};
 use crate::moving::print_next;
 use crate::open_cursors::{OpenCursors, close, fork, number_of, open, rewind};
 use answer_print::Style;
-use csv_tables::Tables;
+use csv_tables::{RecordWriter, Tables};
 use cursor_set::{CursorId, Cursors, MOST_OPEN};
 use outer_io::Sink;
 use query_bind::Query;
@@ -84,9 +84,11 @@ fn print_steps<'a, E: Ranked, S: Sink, L: Ledger>(
         (calls_of_steps (ends_by_itself query.now.query.limit (ranking_of query.now.query tables.now)) (cut query.now.query.limit (ranking_of query.now.query tables.now)) no_cursors script.now) steps.old steps.new }
 {
     let mut cursors = [None; MOST_OPEN];
+    let mut records = RecordWriter::new(alloc);
     for step in script {
         take_step(
             alloc,
+            &mut records,
             query,
             tables,
             style,
@@ -102,6 +104,7 @@ fn print_steps<'a, E: Ranked, S: Sink, L: Ledger>(
 
 fn take_step<'a, 's, E: Ranked, S: Sink, L: Ledger>(
     alloc: Global,
+    records: &mut RecordWriter,
     query: &Query,
     tables: &Tables,
     style: &Style<'_>,
@@ -129,6 +132,7 @@ fn take_step<'a, 's, E: Ranked, S: Sink, L: Ledger>(
         Step::Open(name) => open(set, cursors, name.bytes()),
         Step::Next(name, count) => take_next(
             alloc,
+            records,
             query,
             tables,
             style,
@@ -148,6 +152,7 @@ fn take_step<'a, 's, E: Ranked, S: Sink, L: Ledger>(
 // The step `next` of the cursor of this name.
 fn take_next<'a, E: Ranked, S: Sink, L: Ledger>(
     alloc: Global,
+    records: &mut RecordWriter,
     query: &Query,
     tables: &Tables,
     style: &Style<'_>,
@@ -181,6 +186,7 @@ fn take_next<'a, E: Ranked, S: Sink, L: Ledger>(
     let id = CursorId { number };
     print_next(
         alloc,
+        records,
         query,
         tables,
         style,

@@ -35,4 +35,3 @@ pub mod SearchCosts
 pub mod SearchCalls
 pub mod SearchRoom
 pub mod SearchSteps
-pub mod SmallTies

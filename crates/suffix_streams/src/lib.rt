@@ -17,6 +17,3 @@ mod stream;
 mod streams;
 
 pub use streams::Streams;
-
-#[cfg(test)]
-mod tests;

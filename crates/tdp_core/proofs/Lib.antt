@@ -1,11 +1,14 @@
 pub mod Children
-pub mod Groups
+pub mod GroupMembers
+pub mod GroupsInOne
 pub mod KeyRanges
 pub mod LeastKeys
 pub mod NodeViews
+pub mod PlacesPut
 pub mod RawFacts
 pub mod RawReads
 pub mod RowKeys
+pub mod RowPlaces
 pub mod SeenFacts
 pub mod SmallTree
 pub mod TreeFacts

@@ -15,7 +15,7 @@ use Rattle.tdp_core.proofs.KeyRanges.{subtree_fits, part_fits, swap_fits}
 use Rattle.tdp_core.specs.TreeData.{NodeData, node_at, parent, item, cap, rows, number, child_place, group_count, members, group_named, group_number, group, rank, best}
 use Rattle.tdp_core.specs.Solutions.{IsLeastKey}
 use Rattle.tdp_core.specs.WellFormed.{IsFormed, RowFits, IsTieFreeTree}
-use Rattle.tdp_core.proofs.Groups.{group_within, groups_within, member_below, members_distinct}
+use Rattle.tdp_core.proofs.GroupMembers.{group_within, groups_within, member_below, members_distinct}
 
 pub term_within : (f : ℕ → ℕ) (n q v : ℕ) → q ≤ v → v < q + n → f v ≤ sum_from ◌+◌ 0 f n q
 unfolding sum_from

@@ -1,5 +1,6 @@
 pub mod RawData
 pub mod RisingShares
+pub mod RowGroups
 pub mod Seen
 pub mod Shares
 pub mod Solutions

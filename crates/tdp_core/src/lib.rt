@@ -5,12 +5,14 @@
 //! Enumeration of Answers to Full Conjunctive Queries", PVLDB 2020.
 #![tactic(auto)]
 
+mod groups;
 mod parts;
 mod ranked;
 mod raw_row;
 mod raw_tree;
 mod tree;
 
+pub use groups::Groups;
 pub use parts::{NodeParts, NodeRow, NodeShape};
 pub use ranked::{Answer, Ranked};
 pub use raw_tree::RawTree;

@@ -108,6 +108,14 @@ fn two<T: Drop>(alloc: Global, first: T, second: T) -> Result<Vec<T>, NoMemory>
     Ok(items)
 }
 
+fn one_group(alloc: Global, members: &[u32]) -> Result<Groups, NoMemory>
+    ensures { IfOk result (λ groups. groups ≡ members.now ∷ []) }
+{
+    let mut groups = Groups::new(alloc);
+    groups.push(members)?;
+    Ok(groups)
+}
+
 fn root_parts<R: Rank>(alloc: Global, top: R, whole: R) -> Result<NodeParts<R>, NoMemory>
     ensures { IfOk result (λ p. node_data p ≡ record { shape = record { parent = 0; item = 1; caps = (10 ∷ 10 ∷ 10 ∷ 10 ∷ 10 ∷ 10 ∷ 10 ∷ 10 ∷ []) }; rows = record { rank = top; row = 4 } ∷ []; to_child = (0 ∷ []) ∷ []; groups = (0 ∷ []) ∷ []; best = whole ∷ [] }) }
 {
@@ -119,7 +127,7 @@ fn root_parts<R: Rank>(alloc: Global, top: R, whole: R) -> Result<NodeParts<R>, 
         },
         rows: one(alloc, NodeRow { rank: top, row: 4 })?,
         to_child: one(alloc, SmallVec::from_slice(alloc, &[0])?)?,
-        groups: one(alloc, one(alloc, 0)?)?,
+        groups: one_group(alloc, &[0])?,
         best: one(alloc, whole)?,
     })
 }
@@ -145,7 +153,7 @@ fn leaf_parts<R: Rank>(alloc: Global, later: R, sooner: R) -> Result<NodeParts<R
             },
         )?,
         to_child: two(alloc, SmallVec::new(alloc), SmallVec::new(alloc))?,
-        groups: one(alloc, two(alloc, 1, 0)?)?,
+        groups: one_group(alloc, &[1, 0])?,
         best: two(alloc, later, sooner)?,
     })
 }
@@ -260,4 +268,20 @@ fn reads_the_small_tree<R: Rank, L: Ledger>(
 #[test]
 fn a_tree_of_two_nodes_is_read(rt: HostRuntime) -> Result<(), Fail> {
     reads_the_small_tree::<SumRank, Brand>(&rt, rt.alloc(), Blank::new(1))
+}
+
+#[test]
+fn groups_are_made_replaced_and_pushed(rt: HostRuntime) -> Result<(), Fail> {
+    let mut groups = Groups::of_numbers(rt.alloc(), &[2, 0, 2, 1], 4)?;
+    assert_eq!(rt; groups.len(), 4);
+    assert_eq!(rt; groups.group(0), [1].as_slice());
+    assert_eq!(rt; groups.group(1), [3].as_slice());
+    assert_eq!(rt; groups.group(2), [0, 2].as_slice());
+    assert!(rt; groups.group(3).is_empty());
+    groups.replace(2, &[2, 0]);
+    groups.push(&[5])?;
+    assert_eq!(rt; groups.group(2), [2, 0].as_slice());
+    assert_eq!(rt; groups.group(4), [5].as_slice());
+    assert!(rt; Groups::new(rt.alloc()).is_empty());
+    Ok(())
 }

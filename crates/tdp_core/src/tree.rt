@@ -92,7 +92,7 @@ impl<R: Rank> Tree<R> {
         requires group { group < group_count self.now node }
         ensures { result ≡ length (members self.now node group) }
     {
-        self.nodes[node as usize].groups[group as usize].len() as u32
+        self.nodes[node as usize].groups.group(group as usize).len() as u32
     }
 
     /// Whether the tree has a solution.
@@ -137,7 +137,7 @@ impl<R: Rank> Tree<R> {
         ensures counted { steps.new ≡ steps.old + 1 }
     {
         steps.tick();
-        self.nodes[node as usize].groups[group as usize][place as usize]
+        self.nodes[node as usize].groups.group(group as usize)[place as usize]
     }
 
     /// The rank of a row's least subtree solution. It takes one step.

@@ -6,11 +6,7 @@ use Rattle.tdp_model.specs.Remains.{AtMost}
 use Rattle.tdp_model.proofs.KeyNumbers.{not_less-at_most}
 use Rattle.take2_heap.specs.declared.entry.Entry.{Entry}
 use Rattle.take2_heap.specs.Order.{IsMinHeap}
-use Rattle.tree_dp.specs.Orders.{key_at, IsHeapOver}
-
--- the entry has the best key of the row that it names
-abbrev pub IsOf : {R : Type 0} → List R → Entry R ℕ → Type 0
-IsOf best e = (e.tag < length best) × (e.rank ≡ get_or best e.tag e.rank)
+use Rattle.tree_dp.specs.Orders.{key_at, IsEntryOf, IsHeapOver}
 
 abbrev pub tags : {R : Type 0} → List (Entry R ℕ) → List ℕ
 tags es = map (λ e. e.tag) es
@@ -29,7 +25,7 @@ some-rank : {R : Type 0} (es : List (Entry R ℕ)) (i : ℕ) → i < length es �
 some-rank [] i h = absurd (omega arith)
 some-rank (e ∷ es) i h = e.rank
 
-module _ {R : Type 0} (best : List R) (es : List (Entry R ℕ)) (each : All (IsOf best) es) where
+module _ {R : Type 0} (best : List R) (es : List (Entry R ℕ)) (each : All (IsEntryOf best) es) where
   -- the best key of a row is the rank of its entry
   rank-read : (i : ℕ) (d : R) → i < length es → get_or best (get_or (tags es) i 0) d ≡ (get_or es i (record { rank = d; tag = 0 })).rank
   rank-read i d h =

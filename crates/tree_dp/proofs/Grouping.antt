@@ -7,18 +7,13 @@ use Rattle.std.specs.Vec.{with_items}
 use Rattle.std.specs.declared.vec.Vec.{Vec}
 use Rattle.std.proofs.Math.Seq.{take-append_seam}
 use Rattle.std.proofs.lemmas.Bool.{cases_eq}
-use Rattle.std.proofs.lemmas.List.{get_or-set_same, get_or-set_other, map-set}
+use Rattle.std.proofs.lemmas.List.{get_or-set_same, get_or-set_other}
 use Rattle.std.proofs.lemmas.List.Sorted.{IsPermutation-refl}
-use Rattle.tree_dp.specs.Orders.{group_lists}
 
 -- a vector whose elements were written as a slice
 pub items-written : {X Z : Type 0} (v : Vec X Z) (new : List X) → length new ≡ length v.items → (with_items v new).items ≡ new
 items-written v new same =
     ap (λ n. take n (new ++ drop (length new) v.items)) (v.ok.0 ∙ sym same) ∙ take-append_seam new (drop (length new) v.items)
-
--- the groups with one of them written
-pub groups-written : {Z : Type 0} (groups : List (Vec ℕ Z)) (n : ℕ) (v : Vec ℕ Z) (new : List ℕ) → length new ≡ length v.items → group_lists (set groups n (with_items v new)) ≡ set (group_lists groups) n new
-groups-written groups n v new same = map-set (λ g. g.items) groups n (with_items v new) ∙ ap (set (group_lists groups) n) (items-written v new same)
 
 -- the members of all groups from number n on
 pub members-from : (gs : List (List ℕ)) (n : ℕ) → n < length gs → length (concat (drop n gs)) ≡ length (get_or gs n []) + length (concat (drop (n + 1) gs))

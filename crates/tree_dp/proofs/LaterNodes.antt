@@ -14,7 +14,7 @@ use Rattle.rank_key.specs.Keys.{KeyFits}
 use Rattle.tdp_core.specs.TreeData.{NodeData, node_at, parent, item, cap, rows, number, kids_below, child_place, group_count, members, group_named, group_number, group, rank, best}
 use Rattle.tdp_core.specs.WellFormed.{RowFits}
 use Rattle.tdp_core.proofs.Children.{kids_below-first, kids_below-other, child_place_within}
-use Rattle.tdp_core.proofs.Groups.{member_below}
+use Rattle.tdp_core.proofs.GroupMembers.{member_below}
 use Rattle.tdp_core.proofs.KeyRanges.{part_fits}
 use Rattle.tdp_core.proofs.LeastKeys.{least_had}
 use Rattle.tree_dp.specs.Progress.{IsLaidOut, IsSolvedFrom}

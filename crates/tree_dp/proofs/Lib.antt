@@ -10,4 +10,3 @@ pub mod NodeSolved
 pub mod RankingHead
 pub mod Reordered
 pub mod RowTotals
-pub mod SampleFacts

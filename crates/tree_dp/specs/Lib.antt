@@ -1,4 +1,3 @@
 pub mod Orders
 pub mod Progress
-pub mod SampleTrees
 pub mod Solved

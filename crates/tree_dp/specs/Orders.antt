@@ -1,12 +1,12 @@
--- Groups of rows and the keys of a node's rows.
-use Rattle.std.specs.Prelude.{ℕ, ◌-◌, ◌/◌, ◌<◌, List, map, length, slice_index, slice_index_or}
-use Rattle.std.specs.declared.vec.Vec.{Vec}
+-- The keys of a node's rows, and groups of rows in heap order by them.
+use Rattle.std.specs.Prelude.{◌≡◌, ℕ, ◌-◌, ◌/◌, ◌<◌, List, map, length, slice_index, slice_index_or}
 use Rattle.tdp_model.specs.KeyTuple.{KeyOf, key_below, key_none}
 use Rattle.tdp_model.specs.Remains.{AtMost}
+use Rattle.take2_heap.specs.declared.entry.Entry.{Entry}
 
--- the rows of each group
-abbrev pub group_lists : {Z : Type 0} → List (Vec ℕ Z) → List (List ℕ)
-group_lists groups = map (λ g. g.items) groups
+-- the entry has the best key of the row that it names
+abbrev pub IsEntryOf : {R : Type 0} → List R → Entry R ℕ → Type 0
+IsEntryOf best e = (e.tag < length best) × (e.rank ≡ slice_index_or best e.tag e.rank)
 
 module _ {R : Type 0} (d : ℕ) (key : R → KeyOf d 16) where
   -- the key of row r, where `best` has the rank of each row; the key of zeros past the last one

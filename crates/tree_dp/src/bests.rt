@@ -79,6 +79,6 @@ fn first_best<R: Rank>(nodes: &[NodeParts<R>], node: usize, group: usize) -> R
     requires row { slice_index (members (tree_data nodes.now) node group) 0 < length (node_at (tree_data nodes.now) node).best }
     ensures { R.key result ≡ best (tree_data nodes.now) R.KEYS R.key node (slice_index (members (tree_data nodes.now) node group) 0) }
 {
-    let row = nodes[node].groups[group][0];
+    let row = nodes[node].groups.group(group)[0];
     nodes[node].best[row as usize]
 }

@@ -13,6 +13,3 @@ mod solving;
 
 pub use first_answer::first;
 pub use solving::solve;
-
-#[cfg(test)]
-mod tests;

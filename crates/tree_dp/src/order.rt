@@ -1,54 +1,85 @@
-ghost use Rattle.std.specs.Prelude.{◌≡◌, ℕ, ◌+◌, ◌*◌, ◌<◌, ◌≤◌, [], All, OnOk, length, slice_index_or};
+ghost use Rattle.std.specs.Prelude.{◌≡◌, ℕ, ◌+◌, ◌*◌, ◌<◌, ◌≤◌, [], All, OnOk, length, map, slice_index_or};
 ghost use Rattle.std.specs.List.{concat};
 ghost use Rattle.std.specs.List.Sorted.{IsPermutation};
-ghost use Rattle.tree_dp.specs.Orders.{group_lists, IsHeapOver};
+ghost use Rattle.tree_dp.specs.Orders.{IsEntryOf, IsHeapOver};
 
 use rank_key::Rank;
-use std::alloc::Global;
+use std::alloc::{AllocError, Global};
 use std::sync::ledger::Ledger;
 use step_counter::{NoMemory, Steps};
 use take2_heap::{Entry, heapify};
+use tdp_core::Groups;
 
-/// Puts the rows of each group of a node into heap order by their best keys. It takes at most two steps for each row.
+/// Puts the rows of each group of a node into heap order by their best keys. It takes at most two steps for each row, and for
+/// all groups together the memory of the longest one.
 pub(crate) fn order_groups<R: Rank, L: Ledger>(
     alloc: Global,
-    groups: &mut [Vec<u32>],
+    groups: &mut Groups,
     best: &[R],
     steps: &mut Steps<L>,
 ) -> Result<(), NoMemory>
-    requires { (g : ℕ) → All (λ r. r < length best.now) (slice_index_or (group_lists groups.old) g []) }
-    ensures same_rows { OnOk result ((g : ℕ) → IsPermutation (slice_index_or (group_lists groups.old) g []) (slice_index_or (group_lists groups.new) g [])) }
-    ensures heaps { OnOk result ((g : ℕ) → IsHeapOver R.KEYS R.key best.now (slice_index_or (group_lists groups.new) g [])) }
-    ensures cost { steps.new ≤ steps.old + 2 * length (concat (group_lists groups.old)) }
+    requires { (g : ℕ) → All (λ r. r < length best.now) (slice_index_or groups.old g []) }
+    ensures group_count { OnOk result (length groups.new ≡ length groups.old) }
+    ensures same_rows { OnOk result ((g : ℕ) → IsPermutation (slice_index_or groups.old g []) (slice_index_or groups.new g [])) }
+    ensures heaps { OnOk result ((g : ℕ) → IsHeapOver R.KEYS R.key best.now (slice_index_or groups.new g [])) }
+    ensures cost { steps.new ≤ steps.old + 2 * length (concat groups.old) }
 {
+    let mut entries = Vec::new(alloc);
+    let mut rows = Vec::new(alloc);
     for number in 0..groups.len() {
-        order_group(alloc, groups[number].as_mut_slice(), best, steps)?;
+        order_group(groups.group(number), best, &mut entries, &mut rows, steps)?;
+        groups.replace(number, &rows);
     }
     Ok(())
 }
 
-/// Puts the rows of a group into heap order by their best keys. It takes at most two steps for each row.
+/// Leaves the rows of a group in `rows`, in heap order by their best keys. It takes at most two steps for each row. What was in
+/// `entries` and in `rows` goes.
 fn order_group<R: Rank, L: Ledger>(
-    alloc: Global,
-    group: &mut [u32],
+    group: &[u32],
     best: &[R],
+    entries: &mut Vec<Entry<R, u32>>,
+    rows: &mut Vec<u32>,
     steps: &mut Steps<L>,
 ) -> Result<(), NoMemory>
-    requires { All (λ r. r < length best.now) group.old }
-    ensures same_rows { OnOk result (IsPermutation group.old group.new) }
-    ensures heap { OnOk result (IsHeapOver R.KEYS R.key best.now group.new) }
-    ensures cost { steps.new ≤ steps.old + 2 * length group.old }
+    requires { All (λ r. r < length best.now) group.now }
+    ensures same_rows { OnOk result (IsPermutation group.now rows.new.items) }
+    ensures heap { OnOk result (IsHeapOver R.KEYS R.key best.now rows.new.items) }
+    ensures cost { steps.new ≤ steps.old + 2 * length group.now }
 {
-    let mut entries = Vec::new(alloc);
+    set_entries(entries, group, best)?;
+    heapify(entries, steps);
+    set_rows(rows, entries)?;
+    Ok(())
+}
+
+/// Puts the rows of a group, with their best keys, in place of the entries that were there.
+fn set_entries<R: Rank>(
+    entries: &mut Vec<Entry<R, u32>>,
+    group: &[u32],
+    best: &[R],
+) -> Result<(), AllocError>
+    requires { All (λ r. r < length best.now) group.now }
+    ensures rows { OnOk result (map (λ e. e.tag) entries.new.items ≡ group.now) }
+    ensures keys { OnOk result (All (IsEntryOf best.now) entries.new.items) }
+{
+    entries.clear();
     for row in group.iter() {
         entries.push(Entry {
             rank: best[*row as usize],
             tag: *row,
         })?;
     }
-    heapify(&mut entries, steps);
-    for (place, entry) in entries.iter().enumerate() {
-        group[place] = entry.tag;
+    Ok(())
+}
+
+/// Puts the rows of the entries in place of those that were there.
+fn set_rows<R: Rank>(rows: &mut Vec<u32>, entries: &[Entry<R, u32>]) -> Result<(), AllocError>
+    ensures { OnOk result (rows.new.items ≡ map (λ e. e.tag) entries.now) }
+{
+    rows.clear();
+    for entry in entries.iter() {
+        rows.push(entry.tag)?;
     }
     Ok(())
 }

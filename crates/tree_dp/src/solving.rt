@@ -63,7 +63,7 @@ fn solve_node<R: Rank, L: Ledger>(
 {
     let best = bests_of(alloc, nodes, node, steps)?;
     let parts = &mut nodes[node];
-    order_groups(alloc, parts.groups.as_mut_slice(), best.as_slice(), steps)?;
+    order_groups(alloc, &mut parts.groups, best.as_slice(), steps)?;
     parts.best = best;
     Ok(())
 }

@@ -10,6 +10,3 @@ mod enumeration;
 mod list;
 
 pub use list::WitnessList;
-
-#[cfg(test)]
-mod tests;

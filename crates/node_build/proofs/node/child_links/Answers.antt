@@ -6,7 +6,7 @@ use Rattle.node_build.specs.Nodes.{item_of, parent_of}
 use Rattle.node_build.specs.Rows.{lists_of}
 use Rattle.node_build.proofs.Naming.{above-there, kids-first, kids-rise, list-at, lists-length, names-more, names-none, names-skip}
 use Rattle.node_build.proofs.Numbering.{more-same, more-trans}
-use Rattle.node_build.specs.Links.{IsNumbered, names_of, values_at, values_in}
+use Rattle.node_build.specs.Links.{IsLink, names_of, values_at, values_in}
 use Rattle.node_build.proofs.node.child_links.Goals as goal
 
 pub loop-child-init : goal.loop-child-init
@@ -32,33 +32,28 @@ loop-child-preserved-then-join-child g c =
       cost = omega (arith, before.cost, same);
     }
 
-pub values_of-requires-clause-columns : goal.values_of-requires-clause-columns
-values_of-requires-clause-columns g c =
+pub link-requires-clause-columns : goal.link-requires-clause-columns
+link-requires-clause-columns g c =
     let vs = c.args.columns.now.above.items in
     let child = c.loop-child.child in
     let inside : child < length vs = omega (arith, c.requires.columns.above_count, lists-length vs, c.loop-child-test.true) in
-    let list : c.as_slice.result.now ≡ get_or (lists_of vs) child [] = c.as_slice.ensures.value ∙ sym (list-at vs child c.index.result.now inside c.index.ensures) in
+    let list : c.as_slice-above.result.now ≡ get_or (lists_of vs) child [] = c.as_slice-above.ensures.value ∙ sym (list-at vs child c.index.result.now inside c.index.ensures) in
     above-there c.args.query.now c.args.tables.now c.requires.fits c.args.join.now (lists_of c.args.columns.now.own.items) (lists_of vs) c.requires.columns
-    child c.args.node c.table_of-table.result c.as_slice.result.now (omega arith) (omega arith) c.if-join-child.false list c.table_of-table.ensures
+    child c.args.node c.table_of-table.result c.as_slice-above.result.now (omega arith) (omega arith) c.if-join-child.false list c.table_of-table.ensures
 
-pub returns-in_err-values-clause-cost : goal.returns-in_err-values-clause-cost
-returns-in_err-values-clause-cost g c =
-    let rise = kids-rise (parent_of c.args.join.now) c.args.node c.loop-child.child c.args.join.now.count (omega arith) in
-    omega (arith, rise, c.loop-child.invariant.cost)
-
-pub returns-in_err-link_of-clause-cost : goal.returns-in_err-link_of-clause-cost
-returns-in_err-link_of-clause-cost g c =
+pub returns-in_err-link-clause-cost : goal.returns-in_err-link-clause-cost
+returns-in_err-link-clause-cost g c =
     let below : parent_of c.args.join.now c.loop-child.child ≡ c.args.node = c.if-join-child.false in
     let one = kids_below-child (parent_of c.args.join.now) c.args.node c.loop-child.child (omega arith) below in
     let rise = kids-rise (parent_of c.args.join.now) c.args.node (c.loop-child.child + 1) c.args.join.now.count (omega arith) in
-    omega (arith, rise, one, c.loop-child.invariant.cost, c.in_err-link_of.ensures.cost)
+    omega (arith, rise, one, c.loop-child.invariant.cost, c.in_err-link.ensures.cost)
 
 pub returns-in_err-push-clause-cost : goal.returns-in_err-push-clause-cost
 returns-in_err-push-clause-cost g c =
     let below : parent_of c.args.join.now c.loop-child.child ≡ c.args.node = c.if-join-child.false in
     let one = kids_below-child (parent_of c.args.join.now) c.args.node c.loop-child.child (omega arith) below in
     let rise = kids-rise (parent_of c.args.join.now) c.args.node (c.loop-child.child + 1) c.args.join.now.count (omega arith) in
-    omega (arith, rise, one, c.loop-child.invariant.cost, c.in_ok-link_of.ensures.cost)
+    omega (arith, rise, one, c.loop-child.invariant.cost, c.in_ok-link.ensures.cost)
 
 pub loop-child-preserved : goal.loop-child-preserved
 loop-child-preserved g c =
@@ -72,16 +67,17 @@ loop-child-preserved g c =
     let below : parent_of join child ≡ c.args.node = c.if-join-child.false in
     let one = kids_below-child (parent_of join) c.args.node child (omega arith) below in
     let inside : child < length vs = omega (arith, c.requires.columns.above_count, lists-length vs, c.loop-child-test.true) in
-    let list : c.as_slice.result.now ≡ get_or (lists_of vs) child [] = c.as_slice.ensures.value ∙ sym (list-at vs child c.index.result.now inside c.index.ensures) in
-    let values : c.in_ok-values.values.items ≡ values_at query tables join own (lists_of vs) c.args.node c.args.row (get_or (lists_of vs) child []) =
-    c.in_ok-values.ensures ∙ ap (λ (t : ℕ). values_in tables (table_at tables t) c.args.row c.as_slice.result.now) c.table_of-table.ensures
+    let list : c.as_slice-above.result.now ≡ get_or (lists_of vs) child [] = c.as_slice-above.ensures.value ∙ sym (list-at vs child c.index.result.now inside c.index.ensures) in
+    let values : values_in tables (table_at tables c.table_of-table.result) c.args.row c.as_slice-above.result.now
+    ≡ values_at query tables join own (lists_of vs) c.args.node c.args.row (get_or (lists_of vs) child []) =
+    ap (λ (t : ℕ). values_in tables (table_at tables t) c.args.row c.as_slice-above.result.now) c.table_of-table.ensures
     ∙ ap (λ (l : List ℕ). values_in tables (table_in tables query.query.items (item_of join c.args.node)) c.args.row l) list in
-    let here = subst (λ (l : List ℕ). IsNumbered (names_of c.link_of.new.links.items) child c.in_ok-link_of.field-0 l) values c.in_ok-link_of.ensures.number in
+    let here = subst (λ (l : List ℕ). IsLink (names_of c.link.new.links.items) child c.in_ok-link.field-0 l) values c.in_ok-link.ensures.link in
     let pushed = c.in_ok-push.ensures.ok in
     record {
-      more = more-trans (names_of c.args.links.now.items) (names_of c.loop-child.links.items) (names_of c.link_of.new.links.items) before.more c.in_ok-link_of.ensures.more;
-      count = ap length pushed ∙ length-append c.loop-child.children.items (c.in_ok-link_of.field-0 ∷ []) ∙ ap (λ (n : ℕ). n + 1) before.count ∙ sym one;
-      names = names-more query tables join own (lists_of vs) (names_of c.loop-child.links.items) (names_of c.link_of.new.links.items) c.args.node c.args.row child c.loop-child.children.items c.push.new.self.items
-          c.in_ok-link_of.field-0 c.in_ok-link_of.ensures.more (omega arith) below before.count pushed before.names here;
-      cost = omega (arith, one, before.cost, c.in_ok-link_of.ensures.cost);
+      more = more-trans (names_of c.args.links.now.items) (names_of c.loop-child.links.items) (names_of c.link.new.links.items) before.more c.in_ok-link.ensures.more;
+      count = ap length pushed ∙ length-append c.loop-child.children.items (c.in_ok-link.field-0 ∷ []) ∙ ap (λ (n : ℕ). n + 1) before.count ∙ sym one;
+      names = names-more query tables join own (lists_of vs) (names_of c.loop-child.links.items) (names_of c.link.new.links.items) c.args.node c.args.row child c.loop-child.children.items c.push.new.self.items
+          c.in_ok-link.field-0 c.in_ok-link.ensures.more (omega arith) below before.count pushed before.names here;
+      cost = omega (arith, one, before.cost, c.in_ok-link.ensures.cost);
     }

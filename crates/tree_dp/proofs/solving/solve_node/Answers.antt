@@ -1,15 +1,12 @@
 use Rattle.std.proofs.Common.{◌≡◌, ℕ, ◌<◌, [], All, length, map, get_or, refl, sym, ap, subst, ◌∙◌, arith}
 use Rattle.std.proofs.Math.ListN.{set}
 use Rattle.std.specs.List.{concat}
-use Rattle.std.specs.List.Sorted.{IsPermutation}
-use Rattle.std.specs.Vec.{with_items}
 use Rattle.std.proofs.lemmas.List.{length-map, length-set}
 use Rattle.std.proofs.lemmas.List.Elements.{All-from_get_or}
 use Rattle.tdp_model.specs.KeyTuple.{key_none}
 use Rattle.tdp_core.specs.TreeData.{node_data, tree_data, node_at, rows, members}
-use Rattle.tree_dp.specs.Orders.{group_lists, IsHeapOver}
+use Rattle.tree_dp.specs.Orders.{IsHeapOver}
 use Rattle.tree_dp.specs.Solved.{IsReordered}
-use Rattle.tree_dp.proofs.Grouping.{items-written}
 use Rattle.tree_dp.proofs.LaterNodes.{member_row, members_total}
 use Rattle.tree_dp.proofs.NodeReads.{read_node, written_here, written_elsewhere, written_reordered}
 use Rattle.tree_dp.proofs.NodeSolved.{solved-next}
@@ -21,9 +18,7 @@ order_groups-requires g c =
     let t = tree_data parts in
     let v = c.args.node in
     let inside : v < length t = omega (arith, c.requires.node, length-map parts node_data) in
-    let groups : (node_at t v).groups ≡ group_lists c.as_mut_slice.result.now =
-    ap (λ n. n.groups) (read_node parts v c.index-nodes-node.result c.requires.node) ∙ ap group_lists (sym c.as_mut_slice.ensures.value)
-    in
+    let groups : (node_at t v).groups ≡ (get_or parts v c.index-nodes-node.result).groups = ap (λ n. n.groups) (read_node parts v c.index-nodes-node.result c.requires.node) in
     let count : rows t v ≡ length c.as_slice.result.now = sym c.in_ok-best.ensures.count ∙ ap length (sym c.as_slice.ensures.value) in
     λ n. subst (λ gs. All (λ r. r < length c.as_slice.result.now) (get_or gs n [])) groups
     (All-from_get_or (λ r. r < length c.as_slice.result.now) (members t v n) 0
@@ -35,9 +30,7 @@ returns-in_err-order_groups-clause-cost g c =
     let t = tree_data parts in
     let v = c.args.node in
     let inside : v < length t = omega (arith, c.requires.node, length-map parts node_data) in
-    let groups : (node_at t v).groups ≡ group_lists c.as_mut_slice.result.now =
-    ap (λ n. n.groups) (read_node parts v c.index-nodes-node.result c.requires.node) ∙ ap group_lists (sym c.as_mut_slice.ensures.value)
-    in
+    let groups : (node_at t v).groups ≡ (get_or parts v c.index-nodes-node.result).groups = ap (λ n. n.groups) (read_node parts v c.index-nodes-node.result c.requires.node) in
     omega (arith, c.order_groups.ensures.cost, c.bests_of.ensures.cost, ap (λ gs. length (concat gs)) groups, members_total g.R.Rank.KEYS g.R.Rank.key t c.requires.laid_out v inside)
 
 pub returns-clause-cost : goal.returns-clause-cost
@@ -46,9 +39,7 @@ returns-clause-cost g c =
     let t = tree_data parts in
     let v = c.args.node in
     let inside : v < length t = omega (arith, c.requires.node, length-map parts node_data) in
-    let groups : (node_at t v).groups ≡ group_lists c.as_mut_slice.result.now =
-    ap (λ n. n.groups) (read_node parts v c.index-nodes-node.result c.requires.node) ∙ ap group_lists (sym c.as_mut_slice.ensures.value)
-    in
+    let groups : (node_at t v).groups ≡ (get_or parts v c.index-nodes-node.result).groups = ap (λ n. n.groups) (read_node parts v c.index-nodes-node.result c.requires.node) in
     omega (arith, c.order_groups.ensures.cost, c.bests_of.ensures.cost, ap (λ gs. length (concat gs)) groups, members_total g.R.Rank.KEYS g.R.Rank.key t c.requires.laid_out v inside)
 
 pub returns-clause-reordered : goal.returns-clause-reordered
@@ -56,17 +47,15 @@ returns-clause-reordered g c =
     let parts = c.args.nodes.now in
     let v = c.args.node in
     let old = get_or parts v c.index-nodes-node.result in
-    let groups = with_items old.groups c.order_groups.new.groups in
-    let items : groups.items ≡ c.order_groups.new.groups = items-written old.groups c.order_groups.new.groups (c.order_groups.auto.groups ∙ ap length c.as_mut_slice.ensures.value) in
-    let same : IsReordered (node_data old) (node_data (record old { groups = groups; best = c.in_ok-best.best })) = record {
+    let new = record old { groups = c.order_groups.new.groups; best = c.in_ok-best.best } in
+    let same : IsReordered (node_data old) (node_data new) = record {
       shape = refl;
       rows = refl;
       to_child = refl;
-      group_count = length-map groups.items (λ x. x.items) ∙ ap length items ∙ c.order_groups.auto.groups ∙ ap length c.as_mut_slice.ensures.value ∙ sym (length-map old.groups.items (λ x. x.items));
-      groups = λ n. subst (λ gs. IsPermutation (get_or (group_lists old.groups.items) n []) (get_or (group_lists gs) n [])) (sym items)
-          (subst (λ gs. IsPermutation (get_or (group_lists gs) n []) (get_or (group_lists c.order_groups.new.groups) n [])) c.as_mut_slice.ensures.value (c.in_ok-order_groups.ensures.same_rows n));
+      group_count = c.in_ok-order_groups.ensures.group_count;
+      groups = c.in_ok-order_groups.ensures.same_rows;
     } in
-    written_reordered parts v (record old { groups = groups; best = c.in_ok-best.best }) c.index-nodes-node.result c.requires.node same
+    written_reordered parts v new c.index-nodes-node.result c.requires.node same
 
 pub returns-clause-solved : goal.returns-clause-solved
 returns-clause-solved g c =
@@ -76,16 +65,14 @@ returns-clause-solved g c =
     let t = tree_data parts in
     let v = c.args.node in
     let old = get_or parts v c.index-nodes-node.result in
-    let groups = with_items old.groups c.order_groups.new.groups in
+    let groups = c.order_groups.new.groups in
     let best = c.in_ok-best.best in
     let new = record old { groups = groups; best = best } in
     let u = tree_data (set parts v new) in
-    let items : groups.items ≡ c.order_groups.new.groups = items-written old.groups c.order_groups.new.groups (c.order_groups.auto.groups ∙ ap length c.as_mut_slice.ensures.value) in
     let here : node_at u v ≡ node_data new = written_here parts v new c.requires.node in
     let count : length u ≡ length t = length-map (set parts v new) node_data ∙ length-set parts v new ∙ sym (length-map parts node_data) in
-    let heaps : (n : ℕ) → IsHeapOver d key best.items (get_or (group_lists groups.items) n []) =
-    λ n. subst (λ gs. IsHeapOver d key best.items (get_or (group_lists gs) n [])) (sym items)
-    (subst (λ bs. IsHeapOver d key bs (get_or (group_lists c.order_groups.new.groups) n [])) c.as_slice.ensures.value (c.in_ok-order_groups.ensures.heaps n))
+    let heaps : (n : ℕ) → IsHeapOver d key best.items (get_or groups n []) =
+    λ n. subst (λ bs. IsHeapOver d key bs (get_or groups n [])) c.as_slice.ensures.value (c.in_ok-order_groups.ensures.heaps n)
     in
     solved-next d key t u v count (returns-clause-reordered g c) (written_elsewhere parts v new) c.requires.solved
     (ap (λ n. length n.best) here ∙ c.in_ok-best.ensures.count)

@@ -1,0 +1,2 @@
+pub mod SmallTies
+pub mod SmallTrees

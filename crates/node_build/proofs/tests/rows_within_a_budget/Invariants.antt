@@ -1,4 +1,0 @@
-use Rattle.node_build.proofs.tests.rows_within_a_budget.Given as goal
-
-abbrev pub ghosts-counts : goal.ghosts-counts
-ghosts-counts g a = record { name = a.blank.name; parts = a.blank.parts }

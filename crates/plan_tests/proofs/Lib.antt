@@ -1,0 +1,2 @@
+pub mod ChainTree
+pub mod SampleFacts

@@ -1,0 +1,4 @@
+use Rattle.plan_tests.proofs.plans.plans_two_tables.Given as goal
+
+abbrev pub ghosts-planned : goal.ghosts-planned
+ghosts-planned g a = record { name = a.blank.name; parts = a.blank.parts }

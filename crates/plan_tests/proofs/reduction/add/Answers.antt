@@ -1,0 +1,21 @@
+use Rattle.std.proofs.Common.{◌≡◌, ◌<◌, [], ap, sym, subst, ◌∙◌, arith}
+use Rattle.rank_key.specs.Keys.{row_key}
+use Rattle.tdp_core.specs.declared.parts.NodeShape.{NodeShape}
+use Rattle.tdp_core.specs.RawData.{shape_item, shape_cap}
+use Rattle.tdp_core.specs.WellFormed.{RowFits}
+use Rattle.tdp_core.proofs.RowKeys.{row_key-fits}
+use Rattle.plan_tests.proofs.reduction.add.Goals as goal
+
+pub add_row-requires-clause-fits : goal.add_row-requires-clause-fits
+add_row-requires-clause-fits g c =
+    let d = g.R.Rank.KEYS in
+    let key = g.R.Rank.key in
+    let shapes = c.args.tree.now.shapes in
+    let v = c.args.node in
+    let item : c.shape.result.now.item ≡ shape_item shapes v = ap (λ (s : NodeShape). s.item) c.shape.ensures in
+    let below : shape_item shapes v < 16 = c.nodes-count.ensures.formed.shaped.items v c.requires.node in
+    let fits : RowFits d (shape_item shapes v) (shape_cap shapes v) c.args.number (key c.of_row-rank.result) =
+    subst (RowFits d (shape_item shapes v) (shape_cap shapes v) c.args.number) (sym (c.of_row-rank.ensures ∙ ap (λ i. row_key d [] i c.args.number) item))
+    (row_key-fits d [] (shape_item shapes v) c.args.number (shape_cap shapes v) below (omega arith) (λ i h. omega arith))
+    in
+    (fits, c.requires.children)

@@ -1,0 +1,183 @@
+ghost use Rattle.std.specs.Prelude.{◌≡◌, ℕ, ◌+◌, ◌<◌, ◌≤◌, length, unsigned_abs, IfOk, OnOk};
+ghost use Rattle.tdp_core.specs.RawData.{row_total};
+ghost use Rattle.tdp_core.specs.WellFormed.{IsTieFreeTree};
+ghost use Rattle.plan_tests.specs.SampleTrees.{IsSample, sample_children};
+
+use rank_key::{Rank, SumRank};
+use semi_join::reduce;
+use std::alloc::Global;
+use std::marker::Brand;
+use std::process::Abort;
+use std::sync::ledger::{Blank, Ledger};
+use std::test::Fail;
+use step_counter::{NoMemory, Steps};
+use tdp_core::{NodeRow, NodeShape, RawTree, Tree};
+use tree_dp::{first, solve};
+
+/// A root with two children, without rows.
+fn branching<R: Rank>(alloc: Global) -> Result<RawTree<R>, NoMemory>
+    ensures sample { IfOk result IsSample }
+    ensures empty { IfOk result (λ t. row_total t ≡ 0) }
+{
+    let caps = [100; 8];
+    let root = NodeShape {
+        parent: 0,
+        item: 0,
+        caps,
+    };
+    let left = NodeShape {
+        parent: 0,
+        item: 1,
+        caps,
+    };
+    let right = NodeShape {
+        parent: 0,
+        item: 2,
+        caps,
+    };
+    RawTree::new(alloc, &[root, left, right])
+}
+
+/// Appends a row with one sum, whose number is its place at the node.
+fn add<R: Rank>(
+    tree: &mut RawTree<R>,
+    node: u32,
+    sum: i128,
+    own: u32,
+    children: &[u32],
+) -> Result<(), NoMemory>
+    requires keys { 1 ≤ R.KEYS }
+    requires sample { IsSample tree.old }
+    requires node { node < 3 }
+    requires sum { unsigned_abs sum ≤ 100 }
+    requires children { length children.now ≡ sample_children node }
+    requires room { row_total tree.old < 100 }
+    ensures sample { OnOk result (IsSample tree.new) }
+    ensures room { OnOk result (row_total tree.new ≤ row_total tree.old + 1) }
+{
+    let number = tree.len(node);
+    let rank = R::of_row(&[sum], tree.shape(node).item, number);
+    tree.add_row(node, NodeRow { rank, row: number }, own, children)
+}
+
+/// The solutions have the sums 5 + 4 + 3, 5 + 2 + 3 and 1 + 9 + 3, each twice.
+fn six_solutions<R: Rank>(alloc: Global) -> Result<RawTree<R>, NoMemory>
+    requires { 1 ≤ R.KEYS }
+    ensures { IfOk result IsSample }
+{
+    let mut tree = branching(alloc)?;
+    add(&mut tree, 0, 5, 0, &[1, 1])?;
+    add(&mut tree, 0, 1, 0, &[2, 1])?;
+    add(&mut tree, 1, 9, 2, &[])?;
+    add(&mut tree, 1, 4, 1, &[])?;
+    add(&mut tree, 1, 2, 1, &[])?;
+    add(&mut tree, 2, 3, 1, &[])?;
+    add(&mut tree, 2, 3, 1, &[])?;
+    Ok(tree)
+}
+
+/// The root's row names a link that no row of the right child has.
+fn no_solution<R: Rank>(alloc: Global) -> Result<RawTree<R>, NoMemory>
+    requires { 1 ≤ R.KEYS }
+    ensures { IfOk result IsSample }
+{
+    let mut tree = branching(alloc)?;
+    add(&mut tree, 0, 5, 0, &[1, 2])?;
+    add(&mut tree, 1, 4, 1, &[])?;
+    add(&mut tree, 2, 3, 1, &[])?;
+    Ok(tree)
+}
+
+/// The tree that a raw one is reduced to and solved as.
+fn tree_of<R: Rank, L: Ledger>(
+    alloc: Global,
+    raw: RawTree<R>,
+    steps: &mut Steps<L>,
+) -> Result<Tree<R>, NoMemory>
+    requires { IsSample raw }
+    ensures tie_free { IfOk result IsTieFreeTree }
+    ensures nodes { IfOk result (λ t. length t ≡ 3) }
+{
+    let reduced = reduce(alloc, raw, steps)?;
+    solve(alloc, reduced, steps)
+}
+
+/// Whether the two ranks are the same.
+fn same<R: Rank, L: Ledger>(a: &R, b: &R, steps: &mut Steps<L>) -> bool {
+    !R::less(a, b, steps) && !R::less(b, a, steps)
+}
+
+fn bests_are_least<R: Rank, L: Ledger>(
+    rt: &impl Abort,
+    alloc: Global,
+    blank: Blank,
+) -> Result<(), Fail>
+    requires keys { 1 ≤ R.KEYS }
+    requires name { blank.name ≡ L.name }
+    requires parts { blank.parts ≡ L.parts }
+    requires share { 0 < L.parts }
+{
+    let mut steps: Steps<L> = Steps::new(blank);
+    let raw: RawTree<R> = six_solutions(alloc)?;
+    let tree = tree_of(alloc, raw, &mut steps)?;
+    assert_eq!(rt; tree.len(0), 2);
+    let best = tree.best(0, 0, &mut steps);
+    let ten = R::of_row(&[10], 1, 2);
+    assert!(rt; same(&best, &ten, &mut steps));
+    let best = tree.best(0, 1, &mut steps);
+    let thirteen = R::of_row(&[13], 0, 1);
+    assert!(rt; same(&best, &thirteen, &mut steps));
+    Ok(())
+}
+
+#[test]
+fn the_best_of_a_row_is_its_least_solution(rt: HostRuntime) -> Result<(), Fail> {
+    bests_are_least::<SumRank, Brand>(&rt, rt.alloc(), Blank::new(1))
+}
+
+fn least_comes_first<R: Rank, L: Ledger>(
+    rt: &impl Abort,
+    alloc: Global,
+    blank: Blank,
+) -> Result<(), Fail>
+    requires keys { 1 ≤ R.KEYS }
+    requires name { blank.name ≡ L.name }
+    requires parts { blank.parts ≡ L.parts }
+    requires share { 0 < L.parts }
+{
+    let mut steps: Steps<L> = Steps::new(blank);
+    let raw: RawTree<R> = six_solutions(alloc)?;
+    let tree = tree_of(alloc, raw, &mut steps)?;
+    let answer = first(&tree, &mut steps).ok_or("no answer")?;
+    assert_eq!(rt;
+        answer.rows,
+        [0, 2, 0, 0, 0, 0, 0, 0, 0, 0, 0, 0, 0, 0, 0, 0]
+    );
+    let ten = R::of_row(&[10], 1, 2);
+    assert!(rt; same(&answer.rank, &ten, &mut steps));
+    Ok(())
+}
+
+#[test]
+fn the_first_answer_has_the_least_sum(rt: HostRuntime) -> Result<(), Fail> {
+    least_comes_first::<SumRank, Brand>(&rt, rt.alloc(), Blank::new(1))
+}
+
+fn none_comes<R: Rank, L: Ledger>(rt: &impl Abort, alloc: Global, blank: Blank) -> Result<(), Fail>
+    requires keys { 1 ≤ R.KEYS }
+    requires name { blank.name ≡ L.name }
+    requires parts { blank.parts ≡ L.parts }
+    requires share { 0 < L.parts }
+{
+    let mut steps: Steps<L> = Steps::new(blank);
+    let raw: RawTree<R> = no_solution(alloc)?;
+    let tree = tree_of(alloc, raw, &mut steps)?;
+    assert!(rt; !tree.live());
+    assert!(rt; first(&tree, &mut steps).is_none());
+    Ok(())
+}
+
+#[test]
+fn a_tree_without_solution_has_no_answer(rt: HostRuntime) -> Result<(), Fail> {
+    none_comes::<SumRank, Brand>(&rt, rt.alloc(), Blank::new(1))
+}

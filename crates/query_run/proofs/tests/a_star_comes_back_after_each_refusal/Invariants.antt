@@ -1,4 +1,0 @@
-use Rattle.query_run.proofs.tests.a_star_comes_back_after_each_refusal.Given as goal
-
-abbrev pub ghosts-refusals_in_all : goal.ghosts-refusals_in_all
-ghosts-refusals_in_all g a = record { name = a.blank.name; parts = a.blank.parts }

@@ -1,0 +1,79 @@
+use Rattle.std.proofs.Common.{◌≡◌, ◌<◌, ◌+◌, ◌≤◌, ◌++◌, ◌∷◌, [], map, length, sym, ap, subst, ◌∙◌, arith, true, nat_eq, IfSome}
+use Rattle.tdp_core.specs.RawData.{raw_len}
+use Rattle.tdp_core.proofs.RawReads.{length_within}
+use Rattle.semi_join.specs.Reduction.{links_of, child_nodes, has_partners, group_link, groups_named, EndsInPlaceOf, IsNumbering}
+use Rattle.indexmap.specs.IndexSet.{insert_key}
+use Rattle.semi_join.proofs.FirstOnes.{kept_first}
+use Rattle.semi_join.proofs.SoFar.{IsSoFar, room, room-all, kids-below, few-links, few-numbers, missing-row, drop-row, keep-row}
+use Rattle.semi_join.proofs.node.keep_rows.Goals as goal
+use Rattle.semi_join.proofs.node.keep_rows.Goals.{in-Some+in_ok-keep_row, in_default}
+
+pub returns-in_err-named-clause-cost : goal.returns-in_err-named-clause-cost
+returns-in_err-named-clause-cost g c =
+    let all = ap length (c.deref.ensures.value ∙ c.in_ok-children.ensures) in
+    let within : c.loop-i.i < raw_len c.args.raw.now c.args.node = omega (arith, c.len-i-end.ensures) in
+    let steps = room c.loop-i.i (length (child_nodes c.args.raw.now c.args.node)) (raw_len c.args.raw.now c.args.node) (length c.args.raw.now.shapes) within (kids-below c.args.raw.now c.args.node [] c.requires.node) in
+    omega (arith, all, steps, c.child_groups.ensures.cost, c.loop-i.invariant.counted)
+
+pub keep_row-requires : goal.keep_row-requires
+keep_row-requires g c =
+    let now = c.loop-i.kept in
+    let few = few-links c.args.raw.now c.args.node (map links_of c.args.later.now) c.loop-i.i now.rows.items (map (λ v. v.items) now.to_child.items) now.links.keys now.numbers.items c.loop-i.invariant.so_far in
+    let most = length_within c.args.raw.now.rows c.args.node in
+    omega (arith, few, most, c.requires.few_rows, c.len-i-end.ensures)
+
+pub returns-in_err-keep_row-clause-cost : goal.returns-in_err-keep_row-clause-cost
+returns-in_err-keep_row-clause-cost g c =
+    let all = ap length (c.deref.ensures.value ∙ c.in_ok-children.ensures) in
+    let within : c.loop-i.i < raw_len c.args.raw.now c.args.node = omega (arith, c.len-i-end.ensures) in
+    let steps = room c.loop-i.i (length (child_nodes c.args.raw.now c.args.node)) (raw_len c.args.raw.now c.args.node) (length c.args.raw.now.shapes) within (kids-below c.args.raw.now c.args.node [] c.requires.node) in
+    omega (arith, all, steps, c.child_groups.ensures.cost, c.keep_row.ensures.cost, c.loop-i.invariant.counted)
+
+pub loop-i-preserved : goal.loop-i-preserved
+loop-i-preserved g c =
+    let all = ap length (c.deref.ensures.value ∙ c.in_ok-children.ensures) in
+    let raw = c.args.raw.now in
+    let node = c.args.node in
+    let later = map links_of c.args.later.now in
+    let i = c.loop-i.i in
+    let old = c.loop-i.kept in
+    let children = map (λ v. v.items) old.to_child.items in
+    elim c.match-branch-3.branch [
+      | in-Some+in_ok-keep_row w ↦
+          let new = w.keep_row.new.kept in
+          let found = subst (λ o. IfSome o (λ n. has_partners raw node later i ≡ true)) w.in-Some.is c.in_ok-named.ensures.found in
+          let named = subst (λ o. IfSome o (λ n. n.items ≡ groups_named raw node later i)) w.in-Some.is c.in_ok-named.ensures.named in
+          let own = w.group_link_of-own.ensures in
+          let kept = keep-row raw node later i old.rows.items new.rows.items children (map (λ v. v.items) new.to_child.items) old.links.keys new.links.keys old.numbers.items new.numbers.items w.row.result
+          c.loop-i.invariant.so_far found w.row.ensures.row w.in_ok-keep_row.ensures.rows (w.in_ok-keep_row.ensures.to_child ∙ ap (λ n. children ++ (n ∷ [])) named)
+          (w.in_ok-keep_row.ensures.links ∙ ap (insert_key nat_eq old.links.keys) own) (subst (λ o. EndsInPlaceOf o new.links.keys old.numbers.items new.numbers.items) own w.in_ok-keep_row.ensures.number) in
+          record {
+            so_far = subst (λ k. IsSoFar raw node later (i + 1) k.rows.items (map (λ v. v.items) k.to_child.items) k.links.keys k.numbers.items) (sym w.kept-is) kept;
+            counted = omega (arith, all, c.child_groups.ensures.cost, w.keep_row.ensures.cost, c.loop-i.invariant.counted, w.steps-is);
+          }
+      | in_default w ↦
+          let gone = drop-row raw node later i old.rows.items children old.links.keys old.numbers.items c.loop-i.invariant.so_far (missing-row raw node later c.in_ok-named.field-0 i w.in_default.is c.in_ok-named.ensures.missing) in
+          record {
+            so_far = subst (λ k. IsSoFar raw node later (i + 1) k.rows.items (map (λ v. v.items) k.to_child.items) k.links.keys k.numbers.items) (sym w.kept-is) gone;
+            counted = omega (arith, all, c.child_groups.ensures.cost, c.loop-i.invariant.counted, w.steps-is);
+          }
+    ]
+
+pub returns-clause-few : goal.returns-clause-few
+returns-clause-few g c =
+    let now = c.loop-i.kept in
+    let few = few-numbers c.args.raw.now c.args.node (map links_of c.args.later.now) c.loop-i.i now.rows.items (map (λ v. v.items) now.to_child.items) now.links.keys now.numbers.items c.loop-i.invariant.so_far in
+    let most = length_within c.args.raw.now.rows c.args.node in
+    omega (arith, few, most, c.requires.few_rows, c.len-i-end.ensures)
+
+pub returns-clause-cost : goal.returns-clause-cost
+returns-clause-cost g c =
+    let within : c.loop-i.i ≤ raw_len c.args.raw.now c.args.node = omega (arith, c.len-i-end.ensures) in
+    let steps = room-all c.loop-i.i (length (child_nodes c.args.raw.now c.args.node)) (raw_len c.args.raw.now c.args.node) (length c.args.raw.now.shapes) within (kids-below c.args.raw.now c.args.node [] c.requires.node) in
+    omega (arith, steps, c.loop-i.invariant.counted)
+
+pub returns-clause-numbers : goal.returns-clause-numbers
+returns-clause-numbers g c =
+    let now = c.loop-i.kept in
+    let all : c.loop-i.i ≡ raw_len c.args.raw.now c.args.node = omega (arith, c.len-i-end.ensures) in
+    subst (λ n. IsNumbering (map (group_link c.args.raw.now c.args.node) (kept_first c.args.raw.now c.args.node (map links_of c.args.later.now) n)) now.links.keys now.numbers.items) all c.loop-i.invariant.so_far.numbering

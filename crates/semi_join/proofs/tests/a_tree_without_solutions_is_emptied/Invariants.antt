@@ -1,4 +1,0 @@
-use Rattle.semi_join.proofs.tests.a_tree_without_solutions_is_emptied.Given as goal
-
-abbrev pub ghosts-reduced_by : goal.ghosts-reduced_by
-ghosts-reduced_by g a = record { name = a.blank.name; parts = a.blank.parts }

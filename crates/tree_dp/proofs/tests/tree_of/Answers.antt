@@ -1,6 +1,0 @@
-use Rattle.tdp_core.specs.WellFormed.{IsTieFreeTree}
-use Rattle.tree_dp.proofs.SampleFacts.{sample-tie_free, on_ok}
-use Rattle.tree_dp.proofs.tests.tree_of.Goals as goal
-
-pub returns-clause-tie_free : goal.returns-clause-tie_free
-returns-clause-tie_free g c = on_ok IsTieFreeTree _ (λ t s. s.tie_free (c.in_ok-reduced.ensures.reduced.tie_free (sample-tie_free c.args.raw c.requires))) c.solve.result c.solve.ensures.solved

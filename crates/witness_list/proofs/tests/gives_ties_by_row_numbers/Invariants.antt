@@ -1,4 +1,0 @@
-use Rattle.witness_list.proofs.tests.gives_ties_by_row_numbers.Given as goal
-
-abbrev pub ghosts-rows_of_answers : goal.ghosts-rows_of_answers
-ghosts-rows_of_answers g a = record { name = a.blank.name; parts = a.blank.parts }
