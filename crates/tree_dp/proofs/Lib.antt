@@ -5,6 +5,7 @@ pub mod FirstWalk
 pub mod Forms
 pub mod Grouping
 pub mod LaterNodes
+pub mod Leasts
 pub mod NodeReads
 pub mod NodeSolved
 pub mod RankingHead

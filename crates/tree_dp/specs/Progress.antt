@@ -1,5 +1,5 @@
 -- What holds of the parts of a tree while their least keys are found, from the last node to the root.
-use Rattle.std.specs.Prelude.{◌≡◌, ℕ, ◌-◌, ◌/◌, ◌<◌, ◌≤◌, List, [], length, slice_index, slice_index_or}
+use Rattle.std.specs.Prelude.{◌≡◌, ℕ, ◌+◌, ◌-◌, ◌/◌, ◌<◌, ◌≤◌, List, [], length, slice_index, slice_index_or}
 use Rattle.std.specs.List.{concat, range_with_len}
 use Rattle.std.specs.List.Sorted.{IsPermutation}
 use Rattle.tdp_model.specs.Remains.{AtMost}
@@ -7,6 +7,7 @@ use Rattle.tdp_model.specs.KeyTuple.{KeyOf, key_below, key_add, key_none}
 use Rattle.tdp_model.specs.TreeProblem.{best_by_kids}
 use Rattle.tdp_core.specs.TreeData.{NodeData, node_at, parent, item, cap, rows, row_count, number, child_count, child_place, group_count, members, group_named, group, rank, best}
 use Rattle.tdp_core.specs.WellFormed.{IsShaped, RowFits}
+use Rattle.tree_dp.specs.Orders.{key_at}
 
 -- the parts of a well-formed tree, but for the least keys and the order in the groups
 pub record IsLaidOut {R : Type 0} (d : ℕ) (key : R → KeyOf d 16) (t : List (NodeData R)) : Type 0 where
@@ -30,3 +31,9 @@ pub record IsSolvedFrom {R : Type 0} (d : ℕ) (key : R → KeyOf d 16) (t : Lis
   pub bests : (v r : ℕ) → from_node ≤ v → v < length t → r < rows t v → best t d key v r ≡ by_children d key t v r
   pub heaps : (v g i : ℕ) → from_node ≤ v → v < length t → 0 < i → i < length (members t v g)
       → AtMost (key_below d 16) (best t d key v (slice_index (members t v g) ((i - 1) / 2))) (best t d key v (slice_index (members t v g) i))
+
+-- for each node from `from_node` on a list with the key of the first row of each of its groups
+pub record AreLeastsFrom {R : Type 0} (d : ℕ) (key : R → KeyOf d 16) (t : List (NodeData R)) (from_node : ℕ) (leasts : List (List R)) : Type 0 where
+  pub node_count : from_node + length leasts ≡ length t
+  pub one_each : (v : ℕ) → from_node ≤ v → v < length t → length (slice_index_or leasts (v - from_node) []) ≡ group_count t v
+  pub firsts : (v g : ℕ) → from_node ≤ v → v < length t → g < group_count t v → key_at d key (slice_index_or leasts (v - from_node) []) g ≡ best t d key v (slice_index (members t v g) 0)

@@ -1,7 +1,7 @@
-ghost use Rattle.std.specs.Prelude.{◌≡◌, ℕ, ◌+◌, ◌*◌, ◌<◌, ◌≤◌, [], length, slice_index, slice_index_or, IfOk};
-ghost use Rattle.tdp_core.specs.TreeData.{tree_data, node_at, rows, members, group_count, group_named, best};
-ghost use Rattle.tree_dp.specs.Orders.{key_at};
-ghost use Rattle.tree_dp.specs.Progress.{IsLaidOut, IsSolvedFrom, by_children};
+ghost use Rattle.std.specs.Prelude.{◌≡◌, ℕ, ◌+◌, ◌*◌, ◌<◌, ◌≤◌, [], length, slice_index_or, IfOk};
+ghost use Rattle.tdp_core.specs.TreeData.{tree_data, node_at, rows, group_named};
+ghost use Rattle.tree_dp.specs.Orders.{key_at, lists_of};
+ghost use Rattle.tree_dp.specs.Progress.{AreLeastsFrom, IsLaidOut, IsSolvedFrom, by_children};
 
 use rank_key::Rank;
 use std::alloc::Global;
@@ -9,41 +9,45 @@ use std::sync::ledger::Ledger;
 use step_counter::{NoMemory, Steps};
 use tdp_core::NodeParts;
 
-/// The rank of the least subtree solution of each row of a node, where the later nodes are solved. It takes at most one step
-/// for each row and each node.
+/// The rank of the least subtree solution of each row of a node, where the later nodes are solved and `leasts` has the least rank of
+/// each of their groups. It takes at most one step for each row and each node.
 pub(crate) fn bests_of<R: Rank, L: Ledger>(
     alloc: Global,
     nodes: &[NodeParts<R>],
     node: usize,
+    leasts: &[Vec<R>],
     steps: &mut Steps<L>,
 ) -> Result<Vec<R>, NoMemory>
     requires node { node < length nodes.now }
     requires laid_out { IsLaidOut R.KEYS R.key (tree_data nodes.now) }
     requires solved { IsSolvedFrom R.KEYS R.key (tree_data nodes.now) (node + 1) }
+    requires leasts { AreLeastsFrom R.KEYS R.key (tree_data nodes.now) (node + 1) (lists_of leasts.now) }
     ensures count { IfOk result (λ bests. length bests.items ≡ rows (tree_data nodes.now) node) }
     ensures bests { IfOk result (λ bests. (r : ℕ) → r < rows (tree_data nodes.now) node → key_at R.KEYS R.key bests.items r ≡ by_children R.KEYS R.key (tree_data nodes.now) node r) }
     ensures cost { steps.new ≤ steps.old + rows (tree_data nodes.now) node * length nodes.now }
 {
     let mut bests = Vec::new(alloc);
     for row in 0..nodes[node].rows.len() {
-        let best = row_best(nodes, node, row, steps);
+        let best = row_best(nodes, node, row, leasts, steps);
         bests.push(best)?;
     }
     Ok(bests)
 }
 
-/// The rank of the least subtree solution of a row of a node, where the later nodes are solved. It takes at most one step for
-/// each node.
+/// The rank of the least subtree solution of a row of a node, where the later nodes are solved and `leasts` has the least rank of each
+/// of their groups. It takes at most one step for each node.
 fn row_best<R: Rank, L: Ledger>(
     nodes: &[NodeParts<R>],
     node: usize,
     row: usize,
+    leasts: &[Vec<R>],
     steps: &mut Steps<L>,
 ) -> R
     requires node { node < length nodes.now }
     requires row { row < rows (tree_data nodes.now) node }
     requires laid_out { IsLaidOut R.KEYS R.key (tree_data nodes.now) }
     requires solved { IsSolvedFrom R.KEYS R.key (tree_data nodes.now) (node + 1) }
+    requires leasts { AreLeastsFrom R.KEYS R.key (tree_data nodes.now) (node + 1) (lists_of leasts.now) }
     ensures best { R.key result ≡ by_children R.KEYS R.key (tree_data nodes.now) node row }
     ensures cost { steps.new ≤ steps.old + length nodes.now }
 {
@@ -52,7 +56,7 @@ fn row_best<R: Rank, L: Ledger>(
     for child in node + 1..nodes.len() {
         if nodes[child].shape.parent as usize == node {
             let group = named_group(nodes, node, row, place);
-            let least = first_best(nodes, child, group);
+            let least = least_of(leasts, child - (node + 1), group);
             best = R::join(best, least, steps);
             place += 1;
         }
@@ -71,14 +75,11 @@ fn named_group<R: Rank>(nodes: &[NodeParts<R>], node: usize, row: usize, child: 
     nodes[node].to_child[row][child] as usize
 }
 
-/// The best of the row at place 0 of a group.
-fn first_best<R: Rank>(nodes: &[NodeParts<R>], node: usize, group: usize) -> R
-    requires node { node < length nodes.now }
-    requires group { group < group_count (tree_data nodes.now) node }
-    requires inhabited { 0 < length (members (tree_data nodes.now) node group) }
-    requires row { slice_index (members (tree_data nodes.now) node group) 0 < length (node_at (tree_data nodes.now) node).best }
-    ensures { R.key result ≡ best (tree_data nodes.now) R.KEYS R.key node (slice_index (members (tree_data nodes.now) node group) 0) }
+/// The least rank of a group of a later node.
+fn least_of<R: Rank>(leasts: &[Vec<R>], place: usize, group: usize) -> R
+    requires place { place < length leasts.now }
+    requires group { group < length (slice_index_or (lists_of leasts.now) place []) }
+    ensures { R.key result ≡ key_at R.KEYS R.key (slice_index_or (lists_of leasts.now) place []) group }
 {
-    let row = nodes[node].groups.group(group)[0];
-    nodes[node].best[row as usize]
+    leasts[place][group]
 }

@@ -1,7 +1,7 @@
-ghost use Rattle.std.specs.Prelude.{◌≡◌, ℕ, ◌+◌, ◌*◌, ◌<◌, ◌≤◌, [], All, OnOk, length, map, slice_index_or};
+ghost use Rattle.std.specs.Prelude.{◌≡◌, ℕ, ◌+◌, ◌*◌, ◌<◌, ◌≤◌, [], All, IfOk, OnOk, length, map, slice_index, slice_index_or};
 ghost use Rattle.std.specs.List.{concat};
 ghost use Rattle.std.specs.List.Sorted.{IsPermutation};
-ghost use Rattle.tree_dp.specs.Orders.{IsEntryOf, IsHeapOver};
+ghost use Rattle.tree_dp.specs.Orders.{IsEntryOf, IsHeapOver, key_at};
 
 use rank_key::Rank;
 use std::alloc::{AllocError, Global};
@@ -31,6 +31,25 @@ pub(crate) fn order_groups<R: Rank, L: Ledger>(
         groups.replace(number, &rows);
     }
     Ok(())
+}
+
+/// For each group the best key of the row at its place 0.
+pub(crate) fn leasts_of<R: Rank>(
+    alloc: Global,
+    groups: &Groups,
+    best: &[R],
+) -> Result<Vec<R>, AllocError>
+    requires inhabited { (g : ℕ) → g < length groups.now → 0 < length (slice_index_or groups.now g []) }
+    requires rows { (g : ℕ) → All (λ r. r < length best.now) (slice_index_or groups.now g []) }
+    ensures count { IfOk result (λ leasts. length leasts.items ≡ length groups.now) }
+    ensures firsts { IfOk result (λ leasts. (g : ℕ) → g < length groups.now → key_at R.KEYS R.key leasts.items g ≡ key_at R.KEYS R.key best.now (slice_index (slice_index_or groups.now g []) 0)) }
+{
+    let mut leasts = Vec::with_capacity(alloc, groups.len())?;
+    for group in 0..groups.len() {
+        let first = groups.group(group)[0];
+        leasts.push(best[first as usize])?;
+    }
+    Ok(leasts)
 }
 
 /// Leaves the rows of a group in `rows`, in heap order by their best keys. It takes at most two steps for each row. What was in
