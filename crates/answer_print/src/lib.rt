@@ -9,6 +9,3 @@ mod titles;
 pub use answer::{key_sum, line, write_line};
 pub use style::Style;
 pub use titles::header;
-
-#[cfg(test)]
-mod tests;

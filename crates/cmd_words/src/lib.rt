@@ -10,8 +10,6 @@ mod fault;
 mod pairs;
 mod parse;
 mod reading;
-#[cfg(test)]
-mod tests;
 mod texts;
 
 pub use command::{Command, Engine, Words};

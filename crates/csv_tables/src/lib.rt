@@ -14,8 +14,6 @@ mod reading;
 mod records;
 mod stored;
 mod tables;
-#[cfg(test)]
-mod tests;
 mod texts;
 mod weight;
 mod writing;

@@ -10,6 +10,3 @@ pub mod laws;
 
 pub use cursor_id::{CursorFault, CursorId};
 pub use cursors::{Cursors, MOST_OPEN};
-
-#[cfg(test)]
-mod tests;

@@ -1,2 +1,3 @@
 pub mod SmallTies
+pub mod SmallTree
 pub mod SmallTrees

@@ -1,7 +1,7 @@
 -- A small tree without ties.
 use Rattle.std.proofs.Common.{zero, suc, refl, arith}
 use Rattle.tdp_core.specs.WellFormed.{IsTieFreeTree}
-use Rattle.tdp_core.proofs.SmallTree.{small_nodes}
+use Rattle.engine_tests.proofs.SmallTree.{small_nodes}
 
 module _ {R : Type 0} (top later sooner whole : R) where
   pub small_tie_free : IsTieFreeTree (small_nodes top later sooner whole)

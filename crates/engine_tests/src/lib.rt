@@ -1,7 +1,9 @@
-//! Tests of the engines of ranked enumeration, over small trees: anyK-part, and anyK-rec with the streams below it. They are worked
-//! examples over the public calls of those crates, in a crate of their own so that none of those is proved twice for its tests.
+//! Tests of tree problems and of what gives their answers: the trees themselves, anyK-part, anyK-rec with the streams below it, and
+//! cursors over an engine. They are worked examples over the public calls of those crates, in a crate of their own so that none of those is proved twice for its tests.
 #![tactic(auto)]
 
+#[cfg(test)]
+mod cursors;
 #[cfg(test)]
 mod recursion;
 #[cfg(test)]
@@ -10,3 +12,5 @@ mod regions;
 mod small_tree;
 #[cfg(test)]
 mod streams;
+#[cfg(test)]
+mod trees;

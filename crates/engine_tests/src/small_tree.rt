@@ -1,6 +1,6 @@
 //! A small tree.
 ghost use Rattle.std.specs.Prelude.{◌≡◌, ◌<◌, [], ◌∷◌, length, IfOk};
-ghost use Rattle.tdp_core.specs.TreeData.{node_data, group_count};
+ghost use Rattle.tdp_core.specs.TreeData.{node_data, child_count, group_count};
 ghost use Rattle.tdp_core.specs.WellFormed.{IsTieFreeTree};
 
 use rank_key::Rank;
@@ -82,7 +82,8 @@ pub(crate) fn small_tree<R: Rank, L: Ledger>(
     steps: &mut Steps<L>,
 ) -> Result<Tree<R>, NoMemory>
     ensures tie_free { IfOk result IsTieFreeTree }
-    ensures root { IfOk result (λ t. 0 < length t) }
+    ensures nodes { IfOk result (λ t. length t ≡ 2) }
+    ensures child { IfOk result (λ t. child_count t 0 ≡ 1) }
     ensures group { IfOk result (λ t. 0 < group_count t 0) }
 {
     let top = R::of_row(&[], 1, 4);

@@ -14,8 +14,6 @@ mod reading;
 mod shelf;
 mod sink;
 mod system;
-#[cfg(test)]
-mod tests;
 mod writing;
 
 pub use held::{MemFile, have_distinct_names};

@@ -4,6 +4,3 @@
 mod lines;
 
 pub use lines::report;
-
-#[cfg(test)]
-mod tests;

@@ -8,6 +8,3 @@ mod refusal;
 
 pub use line::write_line;
 pub use refusal::Refusal;
-
-#[cfg(test)]
-mod tests;

@@ -10,8 +10,6 @@ mod name;
 mod open_names;
 mod script;
 mod step;
-#[cfg(test)]
-mod tests;
 mod words;
 
 pub use fault::ScriptFault;

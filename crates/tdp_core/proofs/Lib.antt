@@ -10,5 +10,4 @@ pub mod RawReads
 pub mod RowKeys
 pub mod RowPlaces
 pub mod SeenFacts
-pub mod SmallTree
 pub mod TreeFacts

@@ -17,6 +17,3 @@ pub use parts::{NodeParts, NodeRow, NodeShape};
 pub use ranked::{Answer, Ranked};
 pub use raw_tree::RawTree;
 pub use tree::Tree;
-
-#[cfg(test)]
-mod tests;

@@ -1,16 +1,17 @@
+//! Raw trees, trees and groups, as they are read back.
 ghost use Rattle.std.specs.Prelude.{◌≡◌, ℕ, ◌+◌, ◌<◌, ◌≤◌, [], ◌∷◌, length, IfOk, OnOk};
 ghost use Rattle.tdp_core.specs.RawData.{row_total, shape_children};
 ghost use Rattle.tdp_core.specs.TreeData.{node_data, child_count};
 
-use super::*;
+use crate::small_tree::small_tree;
 use rank_key::{Rank, SumRank};
-use smallvec::SmallVec;
 use std::alloc::Global;
 use std::marker::Brand;
 use std::process::Abort;
 use std::sync::ledger::{Blank, Ledger};
 use std::test::Fail;
 use step_counter::{NoMemory, Steps};
+use tdp_core::{Groups, NodeRow, NodeShape, RawTree, Tree};
 
 /// Appends a row whose sums are 0.
 fn add<R: Rank>(
@@ -90,86 +91,6 @@ fn rows_of_a_raw_tree_are_read_back(rt: HostRuntime) -> Result<(), Fail> {
     );
     assert_eq!(rt; links_of(rt.alloc(), &tree, 0)?.as_slice(), [7].as_slice());
     Ok(())
-}
-
-fn one<T: Drop>(alloc: Global, first: T) -> Result<Vec<T>, NoMemory>
-    ensures { IfOk result (λ v. v.items ≡ first ∷ []) }
-{
-    let mut items = Vec::new(alloc);
-    items.push(first)?;
-    Ok(items)
-}
-
-fn two<T: Drop>(alloc: Global, first: T, second: T) -> Result<Vec<T>, NoMemory>
-    ensures { IfOk result (λ v. v.items ≡ first ∷ second ∷ []) }
-{
-    let mut items = one(alloc, first)?;
-    items.push(second)?;
-    Ok(items)
-}
-
-fn one_group(alloc: Global, members: &[u32]) -> Result<Groups, NoMemory>
-    ensures { IfOk result (λ groups. groups ≡ members.now ∷ []) }
-{
-    let mut groups = Groups::new(alloc);
-    groups.push(members)?;
-    Ok(groups)
-}
-
-fn root_parts<R: Rank>(alloc: Global, top: R, whole: R) -> Result<NodeParts<R>, NoMemory>
-    ensures { IfOk result (λ p. node_data p ≡ record { shape = record { parent = 0; item = 1; caps = (10 ∷ 10 ∷ 10 ∷ 10 ∷ 10 ∷ 10 ∷ 10 ∷ 10 ∷ []) }; rows = record { rank = top; row = 4 } ∷ []; to_child = (0 ∷ []) ∷ []; groups = (0 ∷ []) ∷ []; best = whole ∷ [] }) }
-{
-    Ok(NodeParts {
-        shape: NodeShape {
-            parent: 0,
-            item: 1,
-            caps: [10; 8],
-        },
-        rows: one(alloc, NodeRow { rank: top, row: 4 })?,
-        to_child: one(alloc, SmallVec::from_slice(alloc, &[0])?)?,
-        groups: one_group(alloc, &[0])?,
-        best: one(alloc, whole)?,
-    })
-}
-
-fn leaf_parts<R: Rank>(alloc: Global, later: R, sooner: R) -> Result<NodeParts<R>, NoMemory>
-    ensures { IfOk result (λ p. node_data p ≡ record { shape = record { parent = 0; item = 0; caps = (10 ∷ 10 ∷ 10 ∷ 10 ∷ 10 ∷ 10 ∷ 10 ∷ 10 ∷ []) }; rows = record { rank = later; row = 3 } ∷ record { rank = sooner; row = 1 } ∷ []; to_child = [] ∷ [] ∷ []; groups = (1 ∷ 0 ∷ []) ∷ []; best = later ∷ sooner ∷ [] }) }
-{
-    Ok(NodeParts {
-        shape: NodeShape {
-            parent: 0,
-            item: 0,
-            caps: [10; 8],
-        },
-        rows: two(
-            alloc,
-            NodeRow {
-                rank: later,
-                row: 3,
-            },
-            NodeRow {
-                rank: sooner,
-                row: 1,
-            },
-        )?,
-        to_child: two(alloc, SmallVec::new(alloc), SmallVec::new(alloc))?,
-        groups: one_group(alloc, &[1, 0])?,
-        best: two(alloc, later, sooner)?,
-    })
-}
-
-/// A root with one row, above a child with two rows, of which the second is the lesser.
-fn small_tree<R: Rank, L: Ledger>(alloc: Global, steps: &mut Steps<L>) -> Result<Tree<R>, NoMemory>
-    ensures nodes { IfOk result (λ t. length t ≡ 2) }
-    ensures child { IfOk result (λ t. child_count t 0 ≡ 1) }
-{
-    let top = R::of_row(&[], 1, 4);
-    let later = R::of_row(&[], 0, 3);
-    let sooner = R::of_row(&[], 0, 1);
-    let whole = R::join(top, sooner, steps);
-    let root = root_parts(alloc, top, whole)?;
-    let leaf = leaf_parts(alloc, later, sooner)?;
-    Ok(Tree::from_parts(two(alloc, root, leaf)?))
 }
 
 /// The numbers of the rows of each group of a node, as the groups have them.

@@ -1,9 +1,10 @@
+//! Cursors over answers in memory.
 ghost use Rattle.std.specs.Prelude.{◌≡◌, ℕ, ◌<◌, [], map, drop};
 ghost use Rattle.std.proofs.Common.{rules};
 ghost use Rattle.tdp_model.specs.KeyNumbers.{numbers};
 
-use super::laws::{Driven, drive};
-use super::*;
+use cursor_set::laws::{Driven, drive};
+use cursor_set::{CursorFault, CursorId, Cursors, MOST_OPEN};
 use rank_key::{Rank, SumRank};
 use std::alloc::Global;
 use std::marker::Brand;

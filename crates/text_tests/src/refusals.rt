@@ -1,6 +1,6 @@
 //! The lines, as text.
-use crate::{Refusal, write_line};
 use outer_io::{MemSink, Unwritten};
+use refusal_lines::{Refusal, write_line};
 use std::alloc::Global;
 use std::test::Fail;
 

@@ -3,7 +3,7 @@ ghost use Rattle.std.specs.Prelude.{◌≡◌, IfOk, IfSome, IsTrue, length, tak
 ghost use Rattle.anyk_model.specs.Query.{IsCombination, row_counts};
 ghost use Rattle.query_bind.specs.Weighed.{Fits};
 
-use crate::{Style, header, line, write_line};
+use answer_print::{Style, header, line, write_line};
 use csv_tables::{RecordWriter, Tables};
 use query_bind::{Query, bind};
 use query_parse::parse;

@@ -1,4 +1,4 @@
-use Rattle.cursor_set.proofs.tests.cursors_move_apart.Given as goal
+use Rattle.engine_tests.proofs.cursors.cursors_move_apart.Given as goal
 
 abbrev pub ghosts-moves_cursors : goal.ghosts-moves_cursors
 ghosts-moves_cursors g a = record { name = a.blank.name; parts = a.blank.parts }

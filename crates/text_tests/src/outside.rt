@@ -1,4 +1,5 @@
-use crate::{
+//! Files that are read, and sinks that take bytes.
+use outer_io::{
     FileFault, FileShelf, MemFile, MemShelf, MemSink, PureShelf, ReadFailed, Shelf, ShelfFault,
     Sink, StdSink, Unwritten, WriteFailed, have_distinct_names, read_file, write_all,
 };

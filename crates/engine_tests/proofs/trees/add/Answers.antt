@@ -4,7 +4,7 @@ use Rattle.tdp_core.specs.declared.parts.NodeShape.{NodeShape}
 use Rattle.tdp_core.specs.RawData.{shape_item, shape_cap}
 use Rattle.tdp_core.specs.WellFormed.{RowFits}
 use Rattle.tdp_core.proofs.RowKeys.{row_key-fits}
-use Rattle.tdp_core.proofs.tests.add.Goals as goal
+use Rattle.engine_tests.proofs.trees.add.Goals as goal
 
 pub add_row-requires-clause-fits : goal.add_row-requires-clause-fits
 add_row-requires-clause-fits g c =

@@ -1,6 +1,6 @@
 use Rattle.std.proofs.Common.{sym, arith}
-use Rattle.tdp_core.proofs.SmallTree.{small_shaped, root_children, leaf_children}
-use Rattle.tdp_core.proofs.tests.rows_of_a_raw_tree_are_read_back.Goals as goal
+use Rattle.engine_tests.proofs.SmallTree.{small_shaped, root_children, leaf_children}
+use Rattle.engine_tests.proofs.trees.rows_of_a_raw_tree_are_read_back.Goals as goal
 
 pub new-requires : goal.new-requires
 new-requires g c = small_shaped

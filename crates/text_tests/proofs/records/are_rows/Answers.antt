@@ -2,7 +2,7 @@ use Rattle.std.proofs.Common.{◌<◌, ◌≤◌, ℕ, suc, List, [], ◌∷◌,
 use Rattle.anyk_model.specs.Table.{Table}
 use Rattle.anyk_model.specs.Query.{IsCombination, Item, row_counts}
 use Rattle.query_bind.specs.Weights.{table_in}
-use Rattle.answer_print.proofs.tests.are_rows.Goals as goal
+use Rattle.text_tests.proofs.records.are_rows.Goals as goal
 
 -- rows that are there, one for each item, are a combination
 combination-of : (tables : List Table) (items : List Item) (rows : List ℕ) → length items ≤ length rows

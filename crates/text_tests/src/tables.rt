@@ -1,8 +1,5 @@
 //! Tests of what no clause says: worked files, and that each call succeeds with ample memory.
-use crate::fault::TableFault;
-use crate::tables::Tables;
-use crate::weight::parse_weight;
-use crate::writing::{RecordWriter, line};
+use csv_tables::{RecordWriter, TableFault, Tables, line};
 use std::test::Fail;
 
 /// Reads one more table; a test reads few and small ones.
@@ -135,28 +132,20 @@ fn a_refusal_adds_no_value(rt: HostRuntime) -> Result<(), Fail> {
 
 #[test]
 fn weighs(rt: HostRuntime) -> Result<(), Fail> {
-    assert_eq!(rt; parse_weight(b"-0"), Some(0));
-    assert_eq!(rt; parse_weight(b"+7"), Some(7));
-    assert_eq!(rt; parse_weight(b""), None);
-    assert_eq!(rt; parse_weight(b"-"), None);
-    assert_eq!(rt; parse_weight(b"12x"), None);
-    assert_eq!(rt;
-        parse_weight(b"170141183460469231731687303715884105728"),
-        None
-    );
-    assert_eq!(rt;
-        parse_weight(b"-170141183460469231731687303715884105728"),
-        Some(i128::MIN)
-    );
+    let mut tables = Tables::new(rt.alloc());
+    let fields =
+        b"w\n-0\n+7\n\"\"\n-\n12x\n170141183460469231731687303715884105728\n-170141183460469231731687303715884105728\n";
+    assert_eq!(rt; read(&mut tables, fields), Ok(0));
+    let weights = [Some(0), Some(7), None, None, None, None, Some(i128::MIN)];
+    for i in 0..weights.len() {
+        assert_eq!(rt; weight(&tables, 0, i as u32 + 1, 0), weights[i]);
+    }
     // 39 digits are a weight, and 40 are none.
-    assert_eq!(rt;
-        parse_weight(b"000000000000000000000000000000000000005"),
-        Some(5)
-    );
-    assert_eq!(rt;
-        parse_weight(b"0000000000000000000000000000000000000005"),
-        None
-    );
+    let digits =
+        b"w\n000000000000000000000000000000000000005\n0000000000000000000000000000000000000005\n";
+    assert_eq!(rt; read(&mut tables, digits), Ok(1));
+    assert_eq!(rt; weight(&tables, 1, 1, 0), Some(5));
+    assert_eq!(rt; weight(&tables, 1, 2, 0), None);
     Ok(())
 }
 

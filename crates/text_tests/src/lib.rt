@@ -1,0 +1,19 @@
+//! Tests of what is read and of what is written: files and sinks, the words of the command line, scripts, tables, the records and
+//! reports of the output, and the lines of refusals. They are worked examples over the public calls of those crates, in a crate of
+//! their own so that none of those is proved twice for its tests.
+#![tactic(auto)]
+
+#[cfg(test)]
+mod outside;
+#[cfg(test)]
+mod records;
+#[cfg(test)]
+mod refusals;
+#[cfg(test)]
+mod reports;
+#[cfg(test)]
+mod scripts;
+#[cfg(test)]
+mod tables;
+#[cfg(test)]
+mod words;
