@@ -58,15 +58,17 @@ def words(folder, query):
     return [PROGRAM, "run", "query.sql", "R=R.csv", "S=S.csv"]
 
 
-def seconds(folder, query, runs):
-    best = None
+def seconds(folder, runs):
+    """The least processor time of a run that only reads, and of one that prepares too. The two take turns."""
+    least = {READ: None, JOIN: None}
     for _ in range(runs):
-        before = resource.getrusage(resource.RUSAGE_CHILDREN)
-        subprocess.run(words(folder, query), cwd=folder, capture_output=True, check=True)
-        after = resource.getrusage(resource.RUSAGE_CHILDREN)
-        took = after.ru_utime + after.ru_stime - before.ru_utime - before.ru_stime
-        best = took if best is None else min(best, took)
-    return best
+        for query in least:
+            before = resource.getrusage(resource.RUSAGE_CHILDREN)
+            subprocess.run(words(folder, query), cwd=folder, capture_output=True, check=True)
+            after = resource.getrusage(resource.RUSAGE_CHILDREN)
+            took = after.ru_utime + after.ru_stime - before.ru_utime - before.ru_stime
+            least[query] = took if least[query] is None else min(least[query], took)
+    return least[READ], least[JOIN]
 
 
 def told_by(tool, pattern, folder, query):
@@ -95,8 +97,7 @@ def main():
         for rows in sizes:
             with tempfile.TemporaryDirectory() as folder:
                 write_tables(folder, rows, order)
-                runs = max(5, min(101, 2000000 // rows))
-                read, whole = seconds(folder, READ, runs), seconds(folder, JOIN, runs)
+                read, whole = seconds(folder, max(11, min(101, 2000000 // rows)))
                 each = (whole - read) / (2 * rows) * 1e9
                 first = first or each
                 print("%-8s %10d %12.3f %12.3f %10.0f %8.2f %20s %14s" % (order, rows, read, whole, each, each / first, *counts(folder, rows)), flush=True)
