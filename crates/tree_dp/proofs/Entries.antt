@@ -52,3 +52,7 @@ module _ {R : Type 0} (best : List R) (es : List (Entry R ℕ)) (each : All (IsE
         subst (λ k. AtMost (key_below keys 16) k (key_at keys key best (get_or (tags es) i 0))) (sym (key-read ((i - 1) / 2) d above))
         (subst (λ k. AtMost (key_below keys 16) (key parent.rank) k) (sym (key-read i d here))
         (not_less-at_most keys 16 (key child.rank) (key parent.rank) (heap i (record { rank = d; tag = 0 }) some here)))
+
+    -- a rank that is read from the entries
+    pub entry-read : (i : ℕ) (e : Entry R ℕ) → i < length es → e ≡ get_or es i e → key e.rank ≡ key_at keys key best (get_or (tags es) i 0)
+    entry-read i e h is = ap (λ x. key x.rank) (is ∙ get_or_default es i e (record { rank = e.rank; tag = 0 }) h) ∙ sym (key-read i e.rank h)

@@ -2,12 +2,7 @@
 use Rattle.std.specs.Prelude.{◌≡◌, ℕ, ◌-◌, ◌/◌, ◌<◌, List, map, length, slice_index, slice_index_or}
 use Rattle.tdp_model.specs.KeyTuple.{KeyOf, key_below, key_none}
 use Rattle.tdp_model.specs.Remains.{AtMost}
-use Rattle.std.specs.declared.vec.Vec.{Vec}
 use Rattle.take2_heap.specs.declared.entry.Entry.{Entry}
-
--- vectors as lists
-abbrev pub lists_of : {X Z : Type 0} → List (Vec X Z) → List (List X)
-lists_of vs = map (λ v. v.items) vs
 
 -- the entry has the best key of the row that it names
 abbrev pub IsEntryOf : {R : Type 0} → List R → Entry R ℕ → Type 0

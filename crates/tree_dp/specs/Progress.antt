@@ -32,8 +32,9 @@ pub record IsSolvedFrom {R : Type 0} (d : ℕ) (key : R → KeyOf d 16) (t : Lis
   pub heaps : (v g i : ℕ) → from_node ≤ v → v < length t → 0 < i → i < length (members t v g)
       → AtMost (key_below d 16) (best t d key v (slice_index (members t v g) ((i - 1) / 2))) (best t d key v (slice_index (members t v g) i))
 
--- for each node from `from_node` on a list with the key of the first row of each of its groups
+-- the least rank of each group of each node from `from_node` on, in the order of the nodes and of their groups
 pub record AreLeastsFrom {R : Type 0} (d : ℕ) (key : R → KeyOf d 16) (t : List (NodeData R)) (from_node : ℕ) (leasts : List (List R)) : Type 0 where
-  pub node_count : from_node + length leasts ≡ length t
-  pub one_each : (v : ℕ) → from_node ≤ v → v < length t → length (slice_index_or leasts (v - from_node) []) ≡ group_count t v
-  pub firsts : (v g : ℕ) → from_node ≤ v → v < length t → g < group_count t v → key_at d key (slice_index_or leasts (v - from_node) []) g ≡ best t d key v (slice_index (members t v g) 0)
+  pub all_nodes : length leasts + from_node ≡ length t
+  pub all_groups : (v : ℕ) → from_node ≤ v → v < length t → length (slice_index_or leasts (v - from_node) []) ≡ group_count t v
+  pub firsts : (v g : ℕ) → from_node ≤ v → v < length t → g < group_count t v
+      → key_at d key (slice_index_or leasts (v - from_node) []) g ≡ best t d key v (slice_index (members t v g) 0)

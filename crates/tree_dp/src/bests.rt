@@ -1,7 +1,7 @@
-ghost use Rattle.std.specs.Prelude.{◌≡◌, ℕ, ◌+◌, ◌*◌, ◌<◌, ◌≤◌, [], length, slice_index_or, IfOk};
+ghost use Rattle.std.specs.Prelude.{◌≡◌, ℕ, ◌+◌, ◌*◌, ◌<◌, ◌≤◌, [], length, map, slice_index_or, IfOk};
 ghost use Rattle.tdp_core.specs.TreeData.{tree_data, node_at, rows, group_named};
-ghost use Rattle.tree_dp.specs.Orders.{key_at, lists_of};
-ghost use Rattle.tree_dp.specs.Progress.{AreLeastsFrom, IsLaidOut, IsSolvedFrom, by_children};
+ghost use Rattle.tree_dp.specs.Orders.{key_at};
+ghost use Rattle.tree_dp.specs.Progress.{IsLaidOut, IsSolvedFrom, AreLeastsFrom, by_children};
 
 use rank_key::Rank;
 use std::alloc::Global;
@@ -9,8 +9,8 @@ use std::sync::ledger::Ledger;
 use step_counter::{NoMemory, Steps};
 use tdp_core::NodeParts;
 
-/// The rank of the least subtree solution of each row of a node, where the later nodes are solved and `leasts` has the least rank of
-/// each of their groups. It takes at most one step for each row and each node.
+/// The rank of the least subtree solution of each row of a node, where the later nodes are solved and `leasts` has the least
+/// rank of each of their groups. It takes at most one step for each row and each node.
 pub(crate) fn bests_of<R: Rank, L: Ledger>(
     alloc: Global,
     nodes: &[NodeParts<R>],
@@ -21,7 +21,7 @@ pub(crate) fn bests_of<R: Rank, L: Ledger>(
     requires node { node < length nodes.now }
     requires laid_out { IsLaidOut R.KEYS R.key (tree_data nodes.now) }
     requires solved { IsSolvedFrom R.KEYS R.key (tree_data nodes.now) (node + 1) }
-    requires leasts { AreLeastsFrom R.KEYS R.key (tree_data nodes.now) (node + 1) (lists_of leasts.now) }
+    requires leasts { AreLeastsFrom R.KEYS R.key (tree_data nodes.now) (node + 1) (map (λ ls. ls.items) leasts.now) }
     ensures count { IfOk result (λ bests. length bests.items ≡ rows (tree_data nodes.now) node) }
     ensures bests { IfOk result (λ bests. (r : ℕ) → r < rows (tree_data nodes.now) node → key_at R.KEYS R.key bests.items r ≡ by_children R.KEYS R.key (tree_data nodes.now) node r) }
     ensures cost { steps.new ≤ steps.old + rows (tree_data nodes.now) node * length nodes.now }
@@ -34,8 +34,8 @@ pub(crate) fn bests_of<R: Rank, L: Ledger>(
     Ok(bests)
 }
 
-/// The rank of the least subtree solution of a row of a node, where the later nodes are solved and `leasts` has the least rank of each
-/// of their groups. It takes at most one step for each node.
+/// The rank of the least subtree solution of a row of a node, where the later nodes are solved and `leasts` has the least rank
+/// of each of their groups. It takes at most one step for each node.
 fn row_best<R: Rank, L: Ledger>(
     nodes: &[NodeParts<R>],
     node: usize,
@@ -47,7 +47,7 @@ fn row_best<R: Rank, L: Ledger>(
     requires row { row < rows (tree_data nodes.now) node }
     requires laid_out { IsLaidOut R.KEYS R.key (tree_data nodes.now) }
     requires solved { IsSolvedFrom R.KEYS R.key (tree_data nodes.now) (node + 1) }
-    requires leasts { AreLeastsFrom R.KEYS R.key (tree_data nodes.now) (node + 1) (lists_of leasts.now) }
+    requires leasts { AreLeastsFrom R.KEYS R.key (tree_data nodes.now) (node + 1) (map (λ ls. ls.items) leasts.now) }
     ensures best { R.key result ≡ by_children R.KEYS R.key (tree_data nodes.now) node row }
     ensures cost { steps.new ≤ steps.old + length nodes.now }
 {
@@ -56,8 +56,7 @@ fn row_best<R: Rank, L: Ledger>(
     for child in node + 1..nodes.len() {
         if nodes[child].shape.parent as usize == node {
             let group = named_group(nodes, node, row, place);
-            let least = least_of(leasts, child - (node + 1), group);
-            best = R::join(best, least, steps);
+            best = R::join(best, leasts[child - node - 1][group], steps);
             place += 1;
         }
     }
@@ -73,13 +72,4 @@ fn named_group<R: Rank>(nodes: &[NodeParts<R>], node: usize, row: usize, child: 
     ensures { result ≡ group_named (tree_data nodes.now) node row child }
 {
     nodes[node].to_child[row][child] as usize
-}
-
-/// The least rank of a group of a later node.
-fn least_of<R: Rank>(leasts: &[Vec<R>], place: usize, group: usize) -> R
-    requires place { place < length leasts.now }
-    requires group { group < length (slice_index_or (lists_of leasts.now) place []) }
-    ensures { R.key result ≡ key_at R.KEYS R.key (slice_index_or (lists_of leasts.now) place []) group }
-{
-    leasts[place][group]
 }

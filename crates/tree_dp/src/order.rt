@@ -1,7 +1,7 @@
 ghost use Rattle.std.specs.Prelude.{◌≡◌, ℕ, ◌+◌, ◌*◌, ◌<◌, ◌≤◌, [], All, IfOk, OnOk, length, map, slice_index, slice_index_or};
 ghost use Rattle.std.specs.List.{concat};
 ghost use Rattle.std.specs.List.Sorted.{IsPermutation};
-ghost use Rattle.tree_dp.specs.Orders.{IsEntryOf, IsHeapOver, key_at};
+ghost use Rattle.tree_dp.specs.Orders.{key_at, IsEntryOf, IsHeapOver};
 
 use rank_key::Rank;
 use std::alloc::{AllocError, Global};
@@ -10,66 +10,55 @@ use step_counter::{NoMemory, Steps};
 use take2_heap::{Entry, heapify};
 use tdp_core::Groups;
 
-/// Puts the rows of each group of a node into heap order by their best keys. It takes at most two steps for each row, and for
-/// all groups together the memory of the longest one.
+/// Puts the rows of each group of a node into heap order by their best keys, and gives the least of these keys in each group,
+/// in the order of the groups. It takes at most two steps for each row, and beside the result for all groups together the
+/// memory of the longest one.
 pub(crate) fn order_groups<R: Rank, L: Ledger>(
     alloc: Global,
     groups: &mut Groups,
     best: &[R],
     steps: &mut Steps<L>,
-) -> Result<(), NoMemory>
-    requires { (g : ℕ) → All (λ r. r < length best.now) (slice_index_or groups.old g []) }
+) -> Result<Vec<R>, NoMemory>
+    requires rows { (g : ℕ) → All (λ r. r < length best.now) (slice_index_or groups.old g []) }
+    requires inhabited { (g : ℕ) → g < length groups.old → 0 < length (slice_index_or groups.old g []) }
     ensures group_count { OnOk result (length groups.new ≡ length groups.old) }
     ensures same_rows { OnOk result ((g : ℕ) → IsPermutation (slice_index_or groups.old g []) (slice_index_or groups.new g [])) }
     ensures heaps { OnOk result ((g : ℕ) → IsHeapOver R.KEYS R.key best.now (slice_index_or groups.new g [])) }
+    ensures least_count { IfOk result (λ leasts. length leasts.items ≡ length groups.old) }
+    ensures leasts { IfOk result (λ leasts. (g : ℕ) → g < length groups.old → key_at R.KEYS R.key leasts.items g ≡ key_at R.KEYS R.key best.now (slice_index (slice_index_or groups.new g []) 0)) }
     ensures cost { steps.new ≤ steps.old + 2 * length (concat groups.old) }
 {
+    let mut leasts = Vec::with_capacity(alloc, groups.len())?;
     let mut entries = Vec::new(alloc);
     let mut rows = Vec::new(alloc);
     for number in 0..groups.len() {
-        order_group(groups.group(number), best, &mut entries, &mut rows, steps)?;
+        let least = order_group(groups.group(number), best, &mut entries, &mut rows, steps)?;
         groups.replace(number, &rows);
-    }
-    Ok(())
-}
-
-/// For each group the best key of the row at its place 0.
-pub(crate) fn leasts_of<R: Rank>(
-    alloc: Global,
-    groups: &Groups,
-    best: &[R],
-) -> Result<Vec<R>, AllocError>
-    requires inhabited { (g : ℕ) → g < length groups.now → 0 < length (slice_index_or groups.now g []) }
-    requires rows { (g : ℕ) → All (λ r. r < length best.now) (slice_index_or groups.now g []) }
-    ensures count { IfOk result (λ leasts. length leasts.items ≡ length groups.now) }
-    ensures firsts { IfOk result (λ leasts. (g : ℕ) → g < length groups.now → key_at R.KEYS R.key leasts.items g ≡ key_at R.KEYS R.key best.now (slice_index (slice_index_or groups.now g []) 0)) }
-{
-    let mut leasts = Vec::with_capacity(alloc, groups.len())?;
-    for group in 0..groups.len() {
-        let first = groups.group(group)[0];
-        leasts.push(best[first as usize])?;
+        leasts.push(least)?;
     }
     Ok(leasts)
 }
 
-/// Leaves the rows of a group in `rows`, in heap order by their best keys. It takes at most two steps for each row. What was in
-/// `entries` and in `rows` goes.
+/// Leaves the rows of a group in `rows`, in heap order by their best keys, and gives the least of these keys. It takes at most
+/// two steps for each row. What was in `entries` and in `rows` goes.
 fn order_group<R: Rank, L: Ledger>(
     group: &[u32],
     best: &[R],
     entries: &mut Vec<Entry<R, u32>>,
     rows: &mut Vec<u32>,
     steps: &mut Steps<L>,
-) -> Result<(), NoMemory>
-    requires { All (λ r. r < length best.now) group.now }
+) -> Result<R, NoMemory>
+    requires rows { All (λ r. r < length best.now) group.now }
+    requires inhabited { 0 < length group.now }
     ensures same_rows { OnOk result (IsPermutation group.now rows.new.items) }
     ensures heap { OnOk result (IsHeapOver R.KEYS R.key best.now rows.new.items) }
+    ensures least { IfOk result (λ least. R.key least ≡ key_at R.KEYS R.key best.now (slice_index rows.new.items 0)) }
     ensures cost { steps.new ≤ steps.old + 2 * length group.now }
 {
     set_entries(entries, group, best)?;
     heapify(entries, steps);
     set_rows(rows, entries)?;
-    Ok(())
+    Ok(entries[0].rank)
 }
 
 /// Puts the rows of a group, with their best keys, in place of the entries that were there.

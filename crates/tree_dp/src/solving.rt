@@ -1,12 +1,11 @@
-ghost use Rattle.std.specs.Prelude.{◌≡◌, ℕ, ◌+◌, ◌*◌, ◌<◌, ◌≤◌, ◌∷◌, length, OnOk, IfOk};
+ghost use Rattle.std.specs.Prelude.{◌≡◌, ℕ, ◌+◌, ◌*◌, ◌<◌, ◌≤◌, ◌∷◌, length, map, OnOk, IfOk};
 ghost use Rattle.tdp_core.specs.TreeData.{tree_data, node_at, rows, row_count};
 ghost use Rattle.semi_join.specs.Grouped.{IsGrouped};
-ghost use Rattle.tree_dp.specs.Orders.{lists_of};
-ghost use Rattle.tree_dp.specs.Progress.{AreLeastsFrom, IsLaidOut, IsSolvedFrom};
+ghost use Rattle.tree_dp.specs.Progress.{IsLaidOut, IsSolvedFrom, AreLeastsFrom};
 ghost use Rattle.tree_dp.specs.Solved.{IsReordered, IsSolved};
 
 use crate::bests::bests_of;
-use crate::order::{leasts_of, order_groups};
+use crate::order::order_groups;
 use rank_key::Rank;
 use semi_join::Reduced;
 use std::alloc::Global;
@@ -44,14 +43,14 @@ fn solve_nodes<R: Rank, L: Ledger>(
 {
     let mut leasts: Vec<Vec<R>> = Vec::new(alloc);
     for node in (0..nodes.len()).rev() {
-        let of_node = solve_node(alloc, nodes, node, &leasts, steps)?;
-        leasts.insert(0, of_node)?;
+        let own = solve_node(alloc, nodes, node, &leasts, steps)?;
+        leasts.insert(0, own)?;
     }
     Ok(())
 }
 
-/// Finds the best of each row of a node and orders its groups, where the later nodes are solved and `leasts` has the least rank of each
-/// of their groups. It gives the least rank of each group of the node.
+/// Finds the best of each row of a node and orders its groups, where the later nodes are solved, and gives the least rank of
+/// each of its groups. `leasts` has the least rank of each group of each later node, in the order of the nodes.
 fn solve_node<R: Rank, L: Ledger>(
     alloc: Global,
     nodes: &mut [NodeParts<R>],
@@ -62,16 +61,15 @@ fn solve_node<R: Rank, L: Ledger>(
     requires node { node < length nodes.old }
     requires laid_out { IsLaidOut R.KEYS R.key (tree_data nodes.old) }
     requires solved { IsSolvedFrom R.KEYS R.key (tree_data nodes.old) (node + 1) }
-    requires leasts { AreLeastsFrom R.KEYS R.key (tree_data nodes.old) (node + 1) (lists_of leasts.now) }
+    requires leasts { AreLeastsFrom R.KEYS R.key (tree_data nodes.old) (node + 1) (map (λ ls. ls.items) leasts.now) }
     ensures reordered { OnOk result ((v : ℕ) → IsReordered (node_at (tree_data nodes.old) v) (node_at (tree_data nodes.new) v)) }
     ensures solved { OnOk result (IsSolvedFrom R.KEYS R.key (tree_data nodes.new) node) }
-    ensures leasts { IfOk result (λ of_node. AreLeastsFrom R.KEYS R.key (tree_data nodes.new) node (of_node.items ∷ lists_of leasts.now)) }
+    ensures leasts { IfOk result (λ own. AreLeastsFrom R.KEYS R.key (tree_data nodes.new) node (own.items ∷ map (λ ls. ls.items) leasts.now)) }
     ensures cost { steps.new ≤ steps.old + rows (tree_data nodes.old) node * (length nodes.old + 2) }
 {
     let best = bests_of(alloc, nodes, node, leasts, steps)?;
     let parts = &mut nodes[node];
-    order_groups(alloc, &mut parts.groups, best.as_slice(), steps)?;
-    let of_node = leasts_of(alloc, &parts.groups, best.as_slice())?;
+    let own = order_groups(alloc, &mut parts.groups, best.as_slice(), steps)?;
     parts.best = best;
-    Ok(of_node)
+    Ok(own)
 }

@@ -3,11 +3,12 @@ use Rattle.std.proofs.lemmas.List.{length-map, get_or-map}
 use Rattle.tdp_model.specs.KeyTuple.{key_below, key_add, key_none}
 use Rattle.tdp_model.proofs.KeyTuples.{tuple_keys}
 use Rattle.rank_key.specs.Keys.{KeyFits}
-use Rattle.tdp_core.specs.TreeData.{node_data, tree_data, node_at, parent, kids_below, members, group_count, group_named, group, rank, best}
+use Rattle.tdp_core.specs.TreeData.{node_data, tree_data, node_at, parent, members, group_count, group_named, group, rank, best}
 use Rattle.tdp_core.proofs.Children.{kids_below-child, kids_below-other, kids_below-most}
 use Rattle.tree_dp.specs.Progress.{IsSolvedFrom}
 use Rattle.tree_dp.proofs.FirstParts.{first_part, first_part-none, first_part-child, first_part-other}
 use Rattle.tree_dp.proofs.LaterNodes.{no_kids_yet, child_within, group-is, group_within, first_part-fits}
+use Rattle.tree_dp.proofs.Leasts.{group-within, least-read}
 use Rattle.tree_dp.proofs.NodeReads.{read_node}
 use Rattle.tree_dp.proofs.bests.row_best.Goals.{then-nodes-child, else-nodes-child}
 use Rattle.tree_dp.proofs.bests.row_best.Goals as goal
@@ -62,21 +63,26 @@ named_group-group-requires-clause-few g c =
       c.requires.laid_out.shaped.few_nodes,
     )
 
-pub least_of-least-requires-clause-place : goal.least_of-least-requires-clause-place
-least_of-least-requires-clause-place g c =
-    omega (arith, c.requires.leasts.node_count, length-map c.args.leasts.now (λ v. v.items), c.loop-child-test.true, length-map c.args.nodes.now node_data)
-
-pub least_of-least-requires-clause-group : goal.least_of-least-requires-clause-group
-least_of-least-requires-clause-group g c =
+pub index-requires-then-nodes-child : goal.index-requires-then-nodes-child
+index-requires-then-nodes-child g c =
+    let d = g.R.Rank.KEYS in
+    let key = g.R.Rank.key in
     let parts = c.args.nodes.now in
     let t = tree_data parts in
+    let v = c.args.node in
+    let r = c.args.row in
     let q = c.loop-child.child in
     let inside : q < length t = omega (arith, c.loop-child-test.true, length-map parts node_data) in
-    let is : parent t q ≡ c.args.node = ap (λ n. n.shape.parent) (read_node parts q c.index-nodes-child.result c.loop-child-test.true) ∙ c.if-nodes-child.true in
+    let is : parent t q ≡ v = ap (λ n. n.shape.parent) (read_node parts q c.index-nodes-child.result c.loop-child-test.true) ∙ c.if-nodes-child.true in
     let some : 0 < q = omega arith in
-    let within = group_within g.R.Rank.KEYS g.R.Rank.key t c.requires.laid_out c.args.node c.args.row q some inside is c.requires.row in
-    let named = subst (λ x. x < group_count t q) (sym (c.named_group-group.ensures ∙ ap (group_named t c.args.node c.args.row) c.loop-child.invariant.placed)) within in
-    omega (arith, named, c.requires.leasts.one_each q (omega arith) inside)
+    let named = sym (c.named_group-group.ensures ∙ ap (group_named t v r) c.loop-child.invariant.placed) in
+    let within = subst (λ x. x < group_count t q) named (group_within d key t c.requires.laid_out v r q some inside is c.requires.row) in
+    let after : v < q = omega arith in
+    omega (
+      arith,
+      c.index-leasts-child.result.ok.0,
+      group-within d key t v c.args.leasts.now c.requires.leasts q after inside c.index-leasts-child.result c.index-leasts-child.is c.named_group-group.result within,
+    )
 
 pub join-best-requires : goal.join-best-requires
 join-best-requires g c =
@@ -92,11 +98,12 @@ join-best-requires g c =
     let is : parent t q ≡ v = ap (λ n. n.shape.parent) (read_node parts q c.index-nodes-child.result c.loop-child-test.true) ∙ c.if-nodes-child.true in
     let some : 0 < q = omega arith in
     let so_far = first_part (key_below d 16) (key_add d 16) (key_none d 16) (tuple_keys d 16) (length t) (parent t) (rank t d key) (group t) (best t d key) v r in
-    let within = group_within d key t c.requires.laid_out v r q some inside is c.requires.row in
-    let named : c.named_group-group.result ≡ group_named t v r (kids_below (parent t) v q) = c.named_group-group.ensures ∙ ap (group_named t v r) c.loop-child.invariant.placed in
-    let least : key c.least_of-least.result ≡ best t d key q (get_or (group t q r) 0 0) =
-    c.least_of-least.ensures
-    ∙ c.requires.leasts.firsts q c.named_group-group.result (omega arith) inside (subst (λ x. x < group_count t q) (sym named) within)
+    let after : v < q = omega arith in
+    let named = c.named_group-group.ensures ∙ ap (group_named t v r) c.loop-child.invariant.placed in
+    let within = subst (λ x. x < group_count t q) (sym named) (group_within d key t c.requires.laid_out v r q some inside is c.requires.row) in
+    let least : key c.index-then-nodes-child.result.now ≡ best t d key q (get_or (group t q r) 0 0) =
+    least-read d key t v c.args.leasts.now c.requires.leasts q after inside c.index-leasts-child.result c.index-leasts-child.is c.named_group-group.result c.index-then-nodes-child.result.now within
+    c.index-then-nodes-child.ensures
     ∙ ap (λ x. best t d key q (get_or (members t q x) 0 0)) named
     ∙ ap (λ l. best t d key q (get_or l 0 0)) (sym (group-is d key t c.requires.laid_out v r q some is))
     in
@@ -105,7 +112,7 @@ join-best-requires g c =
     first_part-child (key_below d 16) (key_add d 16) (key_none d 16) (tuple_keys d 16) (length t) (parent t) (rank t d key) (group t) (best t d key) v r n q (omega arith) is
     in
     let solved = subst (IsSolvedFrom d key t) (let e : v + 1 ≡ suc v = omega arith in e) c.requires.solved in
-    subst (λ k. KeyFits d (key_add d 16 k (key c.least_of-least.result))) (sym c.loop-child.invariant.added)
+    subst (λ k. KeyFits d (key_add d 16 k (key c.index-then-nodes-child.result.now))) (sym c.loop-child.invariant.added)
     (subst (λ k. KeyFits d (key_add d 16 (so_far n) k)) (sym least)
     (subst (KeyFits d) next (first_part-fits d key t c.requires.laid_out v solved r (suc n) up (omega arith) c.requires.row)))
 
@@ -130,9 +137,10 @@ loop-child-preserved g c =
     let v = c.args.node in
     let r = c.args.row in
     let q = c.loop-child.child in
+    let inside : q < length t = omega (arith, c.loop-child-test.true, length-map parts node_data) in
+    let later : v < q = omega arith in
     let at : parent t q ≡ (get_or parts q c.index-nodes-child.result).shape.parent = ap (λ n. n.shape.parent) (read_node parts q c.index-nodes-child.result c.loop-child-test.true) in
     let some : 0 < q = omega arith in
-    let inside : q < length t = omega (arith, c.loop-child-test.true, length-map parts node_data) in
     let so_far = first_part (key_below d 16) (key_add d 16) (key_none d 16) (tuple_keys d 16) (length t) (parent t) (rank t d key) (group t) (best t d key) v r in
     let n = q - suc v in
     let after : q ≡ suc v + n = omega arith in
@@ -140,17 +148,17 @@ loop-child-preserved g c =
     elim c.if-nodes-child.branch [
       | then-nodes-child w ↦
           let is : parent t q ≡ v = at ∙ w.if-nodes-child.true in
-          let within = group_within d key t c.requires.laid_out v r q some inside is c.requires.row in
-          let named : w.named_group-group.result ≡ group_named t v r (kids_below (parent t) v q) = w.named_group-group.ensures ∙ ap (group_named t v r) c.loop-child.invariant.placed in
-          let least : key w.least_of-least.result ≡ best t d key q (get_or (group t q r) 0 0) =
-          w.least_of-least.ensures
-          ∙ c.requires.leasts.firsts q w.named_group-group.result (omega arith) inside (subst (λ x. x < group_count t q) (sym named) within)
+          let named = w.named_group-group.ensures ∙ ap (group_named t v r) c.loop-child.invariant.placed in
+          let within = subst (λ x. x < group_count t q) (sym named) (group_within d key t c.requires.laid_out v r q some inside is c.requires.row) in
+          let least : key w.index-then-nodes-child.result.now ≡ best t d key q (get_or (group t q r) 0 0) =
+          least-read d key t v c.args.leasts.now c.requires.leasts q later inside w.index-leasts-child.result w.index-leasts-child.is w.named_group-group.result w.index-then-nodes-child.result.now within
+          w.index-then-nodes-child.ensures
           ∙ ap (λ x. best t d key q (get_or (members t q x) 0 0)) named
           ∙ ap (λ l. best t d key q (get_or l 0 0)) (sym (group-is d key t c.requires.laid_out v r q some is))
           in
           record {
             placed = w.place-is ∙ ap (λ z. z + 1) c.loop-child.invariant.placed ∙ sym (kids_below-child (parent t) v q some is);
-            added = ap key w.best-is ∙ w.join-best.ensures.sum ∙ ap (λ k. key_add d 16 k (key w.least_of-least.result)) c.loop-child.invariant.added ∙ ap (key_add d 16 (so_far n)) least
+            added = ap key w.best-is ∙ w.join-best.ensures.sum ∙ ap (λ k. key_add d 16 k (key w.index-then-nodes-child.result.now)) c.loop-child.invariant.added ∙ ap (key_add d 16 (so_far n)) least
                 ∙ sym (first_part-child (key_below d 16) (key_add d 16) (key_none d 16) (tuple_keys d 16) (length t) (parent t) (rank t d key) (group t) (best t d key) v r n q after is)
                 ∙ ap so_far (sym more);
             counted = omega (arith, w.steps-is, w.join-best.ensures.counted, c.loop-child.invariant.counted);

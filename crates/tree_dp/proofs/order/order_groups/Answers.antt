@@ -1,27 +1,40 @@
-use Rattle.std.proofs.Common.{◌≡◌, ◌<◌, [], All, length, get_or, inl, inr, sym, ap, subst, ◌∙◌, arith}
+use Rattle.std.proofs.Common.{◌≡◌, ◌+◌, ◌<◌, [], ◌∷◌, All, length, length-append, get_or, inl, inr, sym, ap, subst, ◌∙◌, arith}
 use Rattle.std.proofs.Math.ListN.{set}
 use Rattle.std.specs.List.Sorted.{IsPermutation}
 use Rattle.std.proofs.lemmas.Bool.{cases_lt}
 use Rattle.std.proofs.lemmas.List.{length-set, get_or_past}
 use Rattle.std.proofs.lemmas.List.Sorted.{IsPermutation-trans, All-permutation, length_permutation}
-use Rattle.tree_dp.specs.Orders.{IsHeapOver}
+use Rattle.tree_dp.specs.Orders.{key_at, IsHeapOver}
 use Rattle.tree_dp.proofs.Grouping.{members-from, same-members, below-next}
+use Rattle.tree_dp.proofs.Leasts.{leasts-pushed}
 use Rattle.tree_dp.proofs.order.order_groups.Goals as goal
 
-pub order_group-requires : goal.order_group-requires
-order_group-requires g c =
+pub order_group-requires-clause-rows : goal.order_group-requires-clause-rows
+order_group-requires-clause-rows g c =
     let n = c.loop-number.number in
-    subst (All (λ r. r < length c.args.best.now)) (sym c.group.ensures) (All-permutation (λ r. r < length c.args.best.now) _ _ (c.loop-number.invariant.same_rows n) (c.requires n))
+    subst (All (λ r. r < length c.args.best.now)) (sym c.group.ensures) (All-permutation (λ r. r < length c.args.best.now) _ _ (c.loop-number.invariant.same_rows n) (c.requires.rows n))
 
-pub returns-in_err-order_group-clause-cost : goal.returns-in_err-order_group-clause-cost
-returns-in_err-order_group-clause-cost g c =
+pub order_group-requires-clause-inhabited : goal.order_group-requires-clause-inhabited
+order_group-requires-clause-inhabited g c =
+    let n = c.loop-number.number in
+    omega (arith, ap length c.group.ensures, length_permutation _ _ (c.loop-number.invariant.same_rows n), c.requires.inhabited n (omega (arith, c.loop-number-test.true, c.len-number-end.ensures)))
+
+pub returns-in_err-least-clause-cost : goal.returns-in_err-least-clause-cost
+returns-in_err-least-clause-cost g c =
+    let first = c.args.groups.now in
+    let n = c.loop-number.number in
+    let long : length c.group.result.now ≡ length (get_or first n []) = ap length c.group.ensures ∙ length_permutation _ _ (c.loop-number.invariant.same_rows n) in
+    omega (arith, long, c.order_group.ensures.cost, c.loop-number.invariant.counted, members-from first n (omega (arith, c.loop-number-test.true, c.len-number-end.ensures)))
+
+pub returns-in_err-push-clause-cost : goal.returns-in_err-push-clause-cost
+returns-in_err-push-clause-cost g c =
     let first = c.args.groups.now in
     let n = c.loop-number.number in
     let long : length c.group.result.now ≡ length (get_or first n []) = ap length c.group.ensures ∙ length_permutation _ _ (c.loop-number.invariant.same_rows n) in
     omega (arith, long, c.order_group.ensures.cost, c.loop-number.invariant.counted, members-from first n (omega (arith, c.loop-number-test.true, c.len-number-end.ensures)))
 
 pub replace-requires-clause-size : goal.replace-requires-clause-size
-replace-requires-clause-size g c = ap length c.deref.ensures.value ∙ length_permutation _ _ c.in_ok-order_group.ensures.same_rows ∙ ap length c.group.ensures
+replace-requires-clause-size g c = ap length c.deref.ensures.value ∙ length_permutation _ _ c.in_ok-least.ensures.same_rows ∙ ap length c.group.ensures
 
 pub loop-number-preserved : goal.loop-number-preserved
 loop-number-preserved g c =
@@ -31,14 +44,19 @@ loop-number-preserved g c =
     let new = c.order_group.new.rows.items in
     let in_first : n < length first = omega (arith, c.loop-number-test.true, c.len-number-end.ensures) in
     let within : n < length groups = omega (arith, in_first, c.loop-number.invariant.group_count) in
-    let moved : IsPermutation (get_or groups n []) new = subst (λ xs. IsPermutation xs new) c.group.ensures c.in_ok-order_group.ensures.same_rows in
+    let moved : IsPermutation (get_or groups n []) new = subst (λ xs. IsPermutation xs new) c.group.ensures c.in_ok-least.ensures.same_rows in
     let written : c.replace.new.self ≡ set groups n new = c.replace.ensures ∙ ap (set groups n) c.deref.ensures.value in
     let long : length c.group.result.now ≡ length (get_or first n []) = ap length c.group.ensures ∙ length_permutation _ _ (c.loop-number.invariant.same_rows n) in
     record {
       group_count = ap length written ∙ length-set groups n new ∙ c.loop-number.invariant.group_count;
       same_rows = λ m. subst (λ xs. IsPermutation (get_or first m []) (get_or xs m [])) (sym written) (IsPermutation-trans _ _ _ (c.loop-number.invariant.same_rows m) (same-members groups n new within moved m));
       heaps = λ m l. subst (λ xs. IsHeapOver g.R.Rank.KEYS g.R.Rank.key c.args.best.now (get_or xs m [])) (sym written)
-          (below-next (IsHeapOver g.R.Rank.KEYS g.R.Rank.key c.args.best.now) groups n new within c.loop-number.invariant.heaps c.in_ok-order_group.ensures.heap m l);
+          (below-next (IsHeapOver g.R.Rank.KEYS g.R.Rank.key c.args.best.now) groups n new within c.loop-number.invariant.heaps c.in_ok-least.ensures.heap m l);
+      least_count = ap length c.in_ok-push.ensures.items ∙ length-append c.loop-number.leasts.items (c.in_ok-least.least ∷ []) ∙ ap (λ k. k + 1) c.loop-number.invariant.least_count;
+      leasts = λ m l. ap (λ xs. key_at g.R.Rank.KEYS g.R.Rank.key xs m) c.in_ok-push.ensures.items
+          ∙ leasts-pushed g.R.Rank.KEYS g.R.Rank.key c.args.best.now c.loop-number.leasts.items c.in_ok-least.least groups n new within c.loop-number.invariant.least_count c.loop-number.invariant.leasts
+          c.in_ok-least.ensures.least m l
+          ∙ ap (λ xs. key_at g.R.Rank.KEYS g.R.Rank.key c.args.best.now (get_or (get_or xs m []) 0 0)) (sym written);
       counted = omega (arith, long, c.order_group.ensures.cost, c.loop-number.invariant.counted, members-from first n in_first);
     }
 

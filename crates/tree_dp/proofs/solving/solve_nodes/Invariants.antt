@@ -1,8 +1,7 @@
-use Rattle.std.proofs.Common.{ℕ, ◌+◌, ◌-◌, ◌*◌, ◌≤◌, length}
+use Rattle.std.proofs.Common.{ℕ, ◌+◌, ◌-◌, ◌*◌, ◌≤◌, length, map}
 use Rattle.tdp_model.specs.TreeProblem.{sum_from}
 use Rattle.tdp_core.specs.TreeData.{tree_data, node_at, rows}
-use Rattle.tree_dp.specs.Orders.{lists_of}
-use Rattle.tree_dp.specs.Progress.{AreLeastsFrom, IsSolvedFrom}
+use Rattle.tree_dp.specs.Progress.{IsSolvedFrom, AreLeastsFrom}
 use Rattle.tree_dp.specs.Solved.{IsReordered}
 use Rattle.tree_dp.proofs.solving.solve_nodes.Given as goal
 
@@ -12,6 +11,6 @@ invariant-loop-node g l =
     record {
       reordered : (v : ℕ) → IsReordered (node_at before v) (node_at (tree_data l.nodes) v);
       solved : IsSolvedFrom g.R.Rank.KEYS g.R.Rank.key (tree_data l.nodes) l.node;
-      leasts : AreLeastsFrom g.R.Rank.KEYS g.R.Rank.key (tree_data l.nodes) l.node (lists_of l.leasts.items);
+      leasts : AreLeastsFrom g.R.Rank.KEYS g.R.Rank.key (tree_data l.nodes) l.node (map (λ ls. ls.items) l.leasts.items);
       counted : l.steps ≤ l.initial.steps + sum_from ◌+◌ 0 (rows before) (length before - l.node) l.node * (length l.initial.nodes + 2);
     }
