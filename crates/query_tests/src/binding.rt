@@ -1,202 +1,266 @@
-//! The worked examples.
-ghost use Rattle.std.specs.Prelude.{◌≡◌, ◌<◌, ◌≤◌, length, IfOk};
+//! What queries are bound to, and why some are not.
+ghost use Rattle.std.specs.Prelude.{◌≡◌, ◌<◌, ◌≤◌, length};
 ghost use Rattle.std.specs.List.{AllByRecursion};
 ghost use Rattle.query_bind.specs.Weighed.{Fits};
 
+use crate::fixtures::{R, S, parse_small, read_two};
 use csv_tables::Tables;
 use query_bind::{BindFault, Query, bind};
-use query_parse::parse;
 use query_parse::select::Select;
 use std::alloc::Global;
 use std::test::Fail;
 
-const R: &[u8] = b"a,b,w\n1,x,3\n2,y,1\n3,x,1\n";
+const PAIRS: &[u8] = b"p,q\n1,1\n1,2\n";
 
-const S: &[u8] = b"b,c,w\nx,p,5\ny,q,2\nx,q,4\n";
+const FLAWED: &[u8] = b"a,b,w\n1,x,3\n2,y,12x\n";
 
 const GREATEST: &[u8] = b"a,b,w\n1,x,170141183460469231731687303715884105727\n";
 
 const LEAST: &[u8] = b"a,b,w\n1,x,-170141183460469231731687303715884105728\n";
 
-// Two tables, and a query that is bound to them.
-#[derive(Drop)]
+const SUM: &[u8] = b"select R.a from R, S where R.b = S.b order by R.w + S.w";
+
+// What a bound query tells.
+#[derive(Clone, Copy)]
 struct Bound {
-    query: Query,
-    tables: Tables,
+    // How many items, keys and variables there are.
+    counts: [u32; 3],
+    limit: Option<u64>,
+    // The first selected columns, each with its item.
+    columns: [Option<(u32, u32)>; 7],
+    // The first two variables of each of three items, each with its column.
+    variables: [[Option<(u32, u32)>; 2]; 3],
+    // The items of each of three variables, as bits.
+    graph: [u16; 3],
+    // Whether the first two rows of each of three items pass.
+    passes: [[bool; 2]; 3],
+    // What the last row of each of two items adds to each of three keys.
+    parts: [[i128; 3]; 2],
+    // The most that a row of each of two items adds to each of three keys.
+    caps: [[u128; 3]; 2],
 }
 
-// Two small tables.
-fn read_two(alloc: Global, files: (&[u8], &[u8])) -> Result<Tables, Fail>
-    ensures two { IfOk result (λ made. length made ≡ 2) }
-{
-    if files.0.len() > 1000 || files.1.len() > 1000 {
-        return Err("not a small table".into());
+fn columns(query: &Query) -> [Option<(u32, u32)>; 7] {
+    let columns = query.columns();
+    let mut first = [None; 7];
+    for place in 0..7usize {
+        first[place] = columns.get(place).copied();
     }
-    let mut tables = Tables::new(alloc);
-    tables.read(files.0)?;
-    tables.read(files.1)?;
-    Ok(tables)
+    first
 }
 
-// A select of a size that can be bound.
-fn parse_small(alloc: Global, text: &[u8]) -> Result<Select, Fail>
-    ensures items { IfOk result (λ made. length made.items ≤ 16) }
-    ensures keys { IfOk result (λ made. length made.keys ≤ 8) }
+fn variables(query: &Query, _tables: &Tables, item: u32) -> [Option<(u32, u32)>; 2]
+    requires { Fits query.now _tables.now }
 {
-    let select = parse(alloc, text)?;
-    if select.items.as_slice().len() > 16 || select.keys.as_slice().len() > 8 {
-        return Err("not a small query".into());
+    if item >= query.items() {
+        return [None; 2];
     }
-    Ok(select)
+    let variables = query.variables_of(item);
+    [variables.get(0).copied(), variables.get(1).copied()]
 }
 
-fn bind_texts(
+fn graph(alloc: Global, query: &Query, _tables: &Tables) -> [u16; 3]
+    requires { Fits query.now _tables.now }
+{
+    if query.items() == 0 {
+        return [0; 3];
+    }
+    let Ok(graph) = query.graph(alloc) else {
+        return [0; 3];
+    };
+    let mut first = [0; 3];
+    for variable in 0..3usize {
+        first[variable] = graph.vars().get(variable).copied().unwrap_or(0);
+    }
+    first
+}
+
+// Whether there is such a row, and it passes.
+fn passes(query: &Query, tables: &Tables, item: u32, row: u32) -> bool
+    requires { Fits query.now tables.now }
+{
+    if item >= query.items() || row == 0 {
+        return false;
+    }
+    let table = query.table_of(item);
+    table < tables.count() && row <= tables.len(table) && query.passes(tables, item, row)
+}
+
+// What the last row of an item adds to a key, or 0 where there is none.
+fn part(query: &Query, tables: &Tables, item: u32, key: u32) -> i128
+    requires { Fits query.now tables.now }
+{
+    if item >= query.items() || key >= query.keys() {
+        return 0;
+    }
+    let table = query.table_of(item);
+    if table >= tables.count() || tables.len(table) == 0 {
+        return 0;
+    }
+    query.part(tables, item, tables.len(table), key)
+}
+
+// The most that a row of an item adds to a key, or 0 where there is no such item or key.
+fn cap(query: &Query, _tables: &Tables, item: u32, key: u32) -> u128
+    requires { Fits query.now _tables.now }
+{
+    if item >= query.items() || key >= query.keys() {
+        return 0;
+    }
+    query.cap(item, key)
+}
+
+fn parts(query: &Query, tables: &Tables, item: u32) -> [i128; 3]
+    requires { Fits query.now tables.now }
+{
+    [
+        part(query, tables, item, 0),
+        part(query, tables, item, 1),
+        part(query, tables, item, 2),
+    ]
+}
+
+fn caps(query: &Query, tables: &Tables, item: u32) -> [u128; 3]
+    requires { Fits query.now tables.now }
+{
+    [
+        cap(query, tables, item, 0),
+        cap(query, tables, item, 1),
+        cap(query, tables, item, 2),
+    ]
+}
+
+fn tell(alloc: Global, query: &Query, tables: &Tables) -> Bound
+    requires { Fits query.now tables.now }
+{
+    let mut variables_of = [[None; 2]; 3];
+    let mut passing = [[false; 2]; 3];
+    for item in 0..3u32 {
+        variables_of[item as usize] = variables(query, tables, item);
+        passing[item as usize] = [
+            passes(query, tables, item, 1),
+            passes(query, tables, item, 2),
+        ];
+    }
+    Bound {
+        counts: [query.items(), query.keys(), query.variables()],
+        limit: query.limit(),
+        columns: columns(query),
+        variables: variables_of,
+        graph: graph(alloc, query, tables),
+        passes: passing,
+        parts: [parts(query, tables, 0), parts(query, tables, 1)],
+        caps: [caps(query, tables, 0), caps(query, tables, 1)],
+    }
+}
+
+// What a query tells that is bound to these tables, or why it is refused.
+fn told_of(
+    alloc: Global,
+    select: &Select,
+    tables: &Tables,
+    which: &[u32],
+) -> Result<Bound, BindFault>
+    requires items { length select.now.items ≤ 16 }
+    requires keys { length select.now.keys ≤ 8 }
+    requires tables { length which.now ≡ length select.now.items }
+    requires known { AllByRecursion (λ t. t < length tables.now) which.now }
+{
+    let query = bind(alloc, select, tables, which)?;
+    Ok(tell(alloc, &query, tables))
+}
+
+fn told_over(
+    alloc: Global,
+    tables: &Tables,
+    text: &[u8],
+    which: &[u32],
+) -> Result<Result<Bound, BindFault>, Fail>
+    requires two { length tables.now ≡ 2 }
+    requires few { length which.now ≤ 16 }
+    requires known { AllByRecursion (λ t. t < 2) which.now }
+{
+    let select = parse_small(alloc, text, which.len())?;
+    Ok(told_of(alloc, &select, tables, which))
+}
+
+// The same over the tables of two files.
+fn told(
     alloc: Global,
     files: (&[u8], &[u8]),
     text: &[u8],
     which: &[u32],
 ) -> Result<Result<Bound, BindFault>, Fail>
+    requires few { length which.now ≤ 16 }
     requires known { AllByRecursion (λ t. t < 2) which.now }
-    ensures fits { IfOk result (λ made. IfOk made (λ b. Fits b.query b.tables)) }
 {
     let tables = read_two(alloc, files)?;
-    let select = parse_small(alloc, text)?;
-    if which.len() != select.items.as_slice().len() {
-        return Err("not a table for each item".into());
-    }
-    match bind(alloc, &select, &tables, which) {
-        Ok(query) => Ok(Ok(Bound { query, tables })),
-        Err(fault) => Ok(Err(fault)),
-    }
-}
-
-// The query of a text that must be bound.
-fn query_of(alloc: Global, files: (&[u8], &[u8]), text: &[u8], which: &[u32]) -> Result<Bound, Fail>
-    requires known { AllByRecursion (λ t. t < 2) which.now }
-    ensures fits { IfOk result (λ b. Fits b.query b.tables) }
-{
-    match bind_texts(alloc, files, text, which)? {
-        Ok(made) => Ok(made),
-        Err(_) => Err("the query is refused".into()),
-    }
-}
-
-fn fault_of(
-    alloc: Global,
-    files: (&[u8], &[u8]),
-    text: &[u8],
-    which: &[u32],
-) -> Result<Option<BindFault>, Fail>
-    requires known { AllByRecursion (λ t. t < 2) which.now }
-{
-    match bind_texts(alloc, files, text, which)? {
-        Ok(_) => Ok(None),
-        Err(fault) => Ok(Some(fault)),
-    }
-}
-
-fn passes(made: &Bound, item: u32, row: u32) -> Option<bool>
-    requires fits { Fits made.now.query made.now.tables }
-{
-    if item >= made.query.items() || row == 0 {
-        return None;
-    }
-    let table = made.query.table_of(item);
-    if table >= made.tables.count() || row > made.tables.len(table) {
-        return None;
-    }
-    Some(made.query.passes(&made.tables, item, row))
-}
-
-fn part(made: &Bound, item: u32, row: u32, key: u32) -> Option<i128>
-    requires fits { Fits made.now.query made.now.tables }
-{
-    if item >= made.query.items() || row == 0 || key >= made.query.keys() {
-        return None;
-    }
-    let table = made.query.table_of(item);
-    if table >= made.tables.count() || row > made.tables.len(table) {
-        return None;
-    }
-    Some(made.query.part(&made.tables, item, row, key))
-}
-
-fn cap(made: &Bound, item: u32, key: u32) -> Option<u128>
-    requires fits { Fits made.now.query made.now.tables }
-{
-    if item >= made.query.items() || key >= made.query.keys() {
-        return None;
-    }
-    Some(made.query.cap(item, key))
-}
-
-fn has_variables(made: &Bound, item: u32, expected: &[(u32, u32)]) -> bool
-    requires fits { Fits made.now.query made.now.tables }
-{
-    item < made.query.items() && made.query.variables_of(item) == expected
-}
-
-fn has_graph(alloc: Global, made: &Bound, expected: &[u16]) -> Result<bool, Fail>
-    requires fits { Fits made.now.query made.now.tables }
-{
-    if made.query.items() == 0 {
-        return Ok(false);
-    }
-    let graph = made.query.graph(alloc)?;
-    Ok(graph.vars() == expected)
+    told_over(alloc, &tables, text, which)
 }
 
 #[test]
 fn binds_two_tables(rt: HostRuntime) -> Result<(), Fail> {
     let text =
         b"select R.a, S.c from R, S where R.b = S.b order by R.w desc, S.w, R.w + R.w limit 3";
-    let b = query_of(rt.alloc(), (R, S), text, &[0, 1])?;
-    assert!(rt; b.query.items() == 2 && b.query.keys() == 3 && b.query.limit() == Some(3));
-    assert!(rt; b.query.columns() == [(0, 0), (1, 1)].as_slice());
-    // An item's rows add nothing to a key that has no column of the item.
-    assert!(rt; part(&b, 0, 1, 0) == Some(-3) && part(&b, 1, 3, 1) == Some(4));
-    assert!(rt; part(&b, 1, 3, 0) == Some(0));
-    assert!(rt; cap(&b, 0, 0) == Some(3) && cap(&b, 1, 1) == Some(5));
-    // A column that is named twice counts twice.
-    assert!(rt; part(&b, 0, 2, 2) == Some(2) && cap(&b, 0, 2) == Some(6));
-    assert!(rt; b.query.variables() == 1);
-    assert!(rt; has_variables(&b, 0, &[(0, 1)]) && has_variables(&b, 1, &[(0, 0)]));
-    assert!(rt; passes(&b, 0, 2) == Some(true));
-    assert!(rt; has_graph(rt.alloc(), &b, &[3])?);
-    let b = query_of(
-        rt.alloc(),
-        (R, S),
-        b"select * from R a, R b where a.b = b.b",
-        &[0, 0],
-    )?;
-    let columns = [(0, 0), (0, 1), (0, 2), (1, 0), (1, 1), (1, 2)];
-    assert!(rt; b.query.columns() == columns.as_slice());
-    assert!(rt; has_variables(&b, 1, &[(0, 1)]));
+    let told = told(rt.alloc(), (R, S), text, &[0, 1])??;
+    assert!(rt; told.counts == [2, 3, 1] && told.limit == Some(3));
+    let columns = [Some((0, 0)), Some((1, 1)), None, None, None, None, None];
+    assert!(rt; told.columns == columns);
+    assert!(rt; told.variables == [[Some((0, 1)), None], [Some((0, 0)), None], [None; 2]]);
+    assert!(rt; told.graph == [3, 0, 0] && told.passes[0] == [true, true]);
+    // An item's rows add nothing to a key that has no column of the item, and a column that is named twice counts twice.
+    assert!(rt; told.parts == [[-1, 0, 2], [0, 4, 0]]);
+    assert!(rt; told.caps == [[3, 0, 6], [0, 5, 0]]);
     Ok(())
 }
 
 #[test]
-fn closes_equalities(rt: HostRuntime) -> Result<(), Fail> {
-    let files = (b"p,q\n1,1\n1,2\n".as_slice(), S);
-    // A triangle has three variables.
+fn selects_all_columns(rt: HostRuntime) -> Result<(), Fail> {
+    let text = b"select * from R a, R b where a.b = b.b";
+    let told = told(rt.alloc(), (R, S), text, &[0, 0])??;
+    let columns = [
+        Some((0, 0)),
+        Some((0, 1)),
+        Some((0, 2)),
+        Some((1, 0)),
+        Some((1, 1)),
+        Some((1, 2)),
+        None,
+    ];
+    assert!(rt; told.columns == columns);
+    assert!(rt; told.variables[1] == [Some((0, 1)), None]);
+    Ok(())
+}
+
+#[test]
+fn a_triangle_has_three_variables(rt: HostRuntime) -> Result<(), Fail> {
     let text = b"select A.p from T A, T B, T C where A.q = B.p and B.q = C.p and C.q = A.p";
-    let b = query_of(rt.alloc(), files, text, &[0, 0, 0])?;
-    assert!(rt; b.query.variables() == 3 && has_variables(&b, 2, &[(0, 1), (2, 0)]));
-    assert!(rt; has_graph(rt.alloc(), &b, &[5, 3, 6])?);
-    // Equalities that meet late make one class, and each item shows its first column of it.
+    let triangle = told(rt.alloc(), (PAIRS, S), text, &[0, 0, 0])??;
+    assert!(rt; triangle.counts[2] == 3 && triangle.graph == [5, 3, 6]);
+    assert!(rt; triangle.variables[2] == [Some((0, 1)), Some((2, 0))]);
+    Ok(())
+}
+
+#[test]
+fn equalities_that_meet_late_make_one_class(rt: HostRuntime) -> Result<(), Fail> {
     let text = b"select A.p from T A, T B, T C where C.q = B.q and A.q = C.p and B.q = A.q";
-    let b = query_of(rt.alloc(), files, text, &[0, 0, 0])?;
-    assert!(rt; b.query.variables() == 1);
-    assert!(rt; has_variables(&b, 0, &[(0, 1)]) && has_variables(&b, 1, &[(0, 1)]));
-    assert!(rt; has_variables(&b, 2, &[(0, 0)]));
-    // The last item has two columns of the class.
-    assert!(rt; passes(&b, 1, 2) == Some(true) && passes(&b, 2, 1) == Some(true));
-    assert!(rt; passes(&b, 2, 2) == Some(false));
-    // A class within one item is no variable.
-    let b = query_of(rt.alloc(), files, b"select p from T where p = q", &[0])?;
-    assert!(rt; b.query.variables() == 0);
-    assert!(rt; passes(&b, 0, 1) == Some(true) && passes(&b, 0, 2) == Some(false));
-    assert!(rt; has_graph(rt.alloc(), &b, &[])?);
+    let late = told(rt.alloc(), (PAIRS, S), text, &[0, 0, 0])??;
+    assert!(rt; late.counts[2] == 1 && late.graph == [7, 0, 0]);
+    // Each item shows its first column of the class, and the last item has two.
+    let shown = [
+        [Some((0, 1)), None],
+        [Some((0, 1)), None],
+        [Some((0, 0)), None],
+    ];
+    assert!(rt; late.variables == shown);
+    assert!(rt; late.passes == [[true, true], [true, true], [true, false]]);
+    Ok(())
+}
+
+#[test]
+fn a_class_within_one_item_is_no_variable(rt: HostRuntime) -> Result<(), Fail> {
+    let one = told(rt.alloc(), (PAIRS, S), b"select p from T where p = q", &[0])??;
+    assert!(rt; one.counts[2] == 0 && one.graph == [0; 3] && one.passes[0] == [true, false]);
     Ok(())
 }
 
@@ -204,96 +268,87 @@ fn closes_equalities(rt: HostRuntime) -> Result<(), Fail> {
 fn takes_constants_as_filters(rt: HostRuntime) -> Result<(), Fail> {
     // The constant holds in both items, and their class is no variable.
     let text = b"select R.a from R, S where R.b = S.b and S.b = 'x'";
-    let b = query_of(rt.alloc(), (R, S), text, &[0, 1])?;
-    assert!(rt; b.query.variables() == 0);
-    assert!(rt; passes(&b, 0, 1) == Some(true) && passes(&b, 0, 2) == Some(false));
-    assert!(rt; passes(&b, 1, 1) == Some(true) && passes(&b, 1, 2) == Some(false));
+    let both = told(rt.alloc(), (R, S), text, &[0, 1])??;
+    assert!(rt; both.counts[2] == 0);
+    assert!(rt; both.passes == [[true, false], [true, false], [false, false]]);
     // Two different constants leave no row, and are no fault.
     let text = b"select R.a from R where R.b = 'x' and R.b = 'y'";
-    let b = query_of(rt.alloc(), (R, S), text, &[0])?;
-    assert!(rt; passes(&b, 0, 1) == Some(false) && passes(&b, 0, 2) == Some(false));
+    let none = told(rt.alloc(), (R, S), text, &[0])??;
+    assert!(rt; none.passes[0] == [false, false]);
     Ok(())
+}
+
+fn fault_of(alloc: Global, files: (&[u8], &[u8]), text: &[u8]) -> Result<Option<BindFault>, Fail> {
+    Ok(told(alloc, files, text, &[0, 1])?.err())
 }
 
 #[test]
 fn refuses_names(rt: HostRuntime) -> Result<(), Fail> {
-    let fault = fault_of(rt.alloc(), (R, S), b"select w from R, S", &[0, 1])?;
-    assert!(rt; fault == Some(BindFault::Ambiguous(7)));
-    let fault = fault_of(rt.alloc(), (R, S), b"select R.a, T.b from R, S", &[0, 1])?;
-    assert!(rt; fault == Some(BindFault::UnknownAlias(12)));
-    let fault = fault_of(
-        rt.alloc(),
-        (R, S),
-        b"select R.c from R, S where d = a",
-        &[0, 1],
-    )?;
-    assert!(rt; fault == Some(BindFault::UnknownColumn(7)));
-    let fault = fault_of(rt.alloc(), (R, S), b"select R.a from R, R", &[0, 0])?;
-    assert!(rt; fault == Some(BindFault::DuplicateAlias(2)));
+    for (text, fault) in [
+        ("select w from R, S", BindFault::Ambiguous(7)),
+        ("select R.a, T.b from R, S", BindFault::UnknownAlias(12)),
+        (
+            "select R.c from R, S where d = a",
+            BindFault::UnknownColumn(7),
+        ),
+        ("select R.a from R, R", BindFault::DuplicateAlias(2)),
+    ] {
+        assert!(rt;
+            fault_of(rt.alloc(), (R, S), text.as_bytes())? == Some(fault),
+            "{text}"
+        );
+    }
     Ok(())
 }
 
-const SUM: &[u8] = b"select R.a from R, S where R.b = S.b order by R.w + S.w";
-
 #[test]
-fn refuses_weights(rt: HostRuntime) -> Result<(), Fail> {
-    let flawed = b"a,b,w\n1,x,3\n2,y,12x\n".as_slice();
-    let fault = fault_of(rt.alloc(), (flawed, S), SUM, &[0, 1])?;
-    let expected = BindFault::BadWeight {
+fn refuses_weights_and_their_sums(rt: HostRuntime) -> Result<(), Fail> {
+    let fault = BindFault::BadWeight {
         item: 1,
         row: 2,
         col: 3,
     };
-    assert!(rt; fault == Some(expected));
-    // A column that no key names need not hold weights.
-    let text = b"select R.a from R, S where R.b = S.b order by S.w";
-    let b = query_of(rt.alloc(), (flawed, S), text, &[0, 1])?;
-    assert!(rt; cap(&b, 1, 0) == Some(5));
-    // A table without rows adds nothing.
-    let b = query_of(rt.alloc(), (GREATEST, b"b,w\n"), SUM, &[0, 1])?;
-    assert!(rt; cap(&b, 1, 0) == Some(0));
-    Ok(())
-}
-
-#[test]
-fn refuses_sums_past_the_range(rt: HostRuntime) -> Result<(), Fail> {
-    let fault = fault_of(rt.alloc(), (GREATEST, b"b,w\nx,1\n"), SUM, &[0, 1])?;
+    assert!(rt; fault_of(rt.alloc(), (FLAWED, S), SUM)? == Some(fault));
+    let fault = fault_of(rt.alloc(), (GREATEST, b"b,w\nx,1\n"), SUM)?;
     assert!(rt; fault == Some(BindFault::RankRange(1)));
-    let fault = fault_of(rt.alloc(), (LEAST, S), b"select b from R order by w", &[0])?;
+    let text = b"select a from R, S order by R.w";
+    let fault = fault_of(rt.alloc(), (LEAST, S), text)?;
     assert!(rt; fault == Some(BindFault::RankRange(1)));
     // Twice the greatest weight is past the range.
-    let text = b"select a from R order by w desc, w + w";
-    let fault = fault_of(rt.alloc(), (GREATEST, S), text, &[0])?;
+    let text = b"select a from R, S order by R.w desc, R.w + R.w";
+    let fault = fault_of(rt.alloc(), (GREATEST, S), text)?;
     assert!(rt; fault == Some(BindFault::RankRange(2)));
     Ok(())
 }
 
-// The first item's only part and its cap for the first key.
-fn first_part(
+// What the last row of each of two items adds to the first key, and the most that a row adds.
+fn weights(
     alloc: Global,
     files: (&[u8], &[u8]),
     text: &[u8],
-    which: &[u32],
-) -> Result<Option<(i128, u128)>, Fail>
-    requires known { AllByRecursion (λ t. t < 2) which.now }
-{
-    let b = query_of(alloc, files, text, which)?;
-    let Some(added) = part(&b, 0, 1, 0) else {
-        return Ok(None);
-    };
-    let Some(most) = cap(&b, 0, 0) else {
-        return Ok(None);
-    };
-    Ok(Some((added, most)))
+) -> Result<([i128; 2], [u128; 2]), Fail> {
+    let told = told(alloc, files, text, &[0, 1])??;
+    Ok((
+        [told.parts[0][0], told.parts[1][0]],
+        [told.caps[0][0], told.caps[1][0]],
+    ))
 }
 
 #[test]
 fn takes_the_greatest_sums(rt: HostRuntime) -> Result<(), Fail> {
     let greatest = 170141183460469231731687303715884105727;
-    let told = first_part(rt.alloc(), (GREATEST, b"b,w\nx,0\n"), SUM, &[0, 1])?;
-    assert!(rt; told == Some((greatest, 170141183460469231731687303715884105727)));
-    let text = b"select a from R order by w desc";
-    let told = first_part(rt.alloc(), (GREATEST, S), text, &[0])?;
-    assert!(rt; told == Some((-greatest, 170141183460469231731687303715884105727)));
+    let most = 170141183460469231731687303715884105727;
+    let told = weights(rt.alloc(), (GREATEST, b"b,w\nx,0\n"), SUM)?;
+    assert!(rt; told == ([greatest, 0], [most, 0]));
+    let text = b"select a from R, S order by R.w desc";
+    let told = weights(rt.alloc(), (GREATEST, S), text)?;
+    assert!(rt; told == ([-greatest, 0], [most, 0]));
+    // A table without rows adds nothing.
+    let told = weights(rt.alloc(), (GREATEST, b"b,w\n"), SUM)?;
+    assert!(rt; told == ([greatest, 0], [most, 0]));
+    // A column that no key names need not hold weights.
+    let text = b"select R.a from R, S where R.b = S.b order by S.w";
+    let told = weights(rt.alloc(), (FLAWED, S), text)?;
+    assert!(rt; told == ([0, 4], [0, 5]));
     Ok(())
 }

@@ -1,8 +1,16 @@
+//! The faults of texts, and the texts of queries.
 use query_parse::{ParseFault, Select, SelectList, Side, name_text, parse, text};
+use std::alloc::Global;
 use std::test::Fail;
 
-fn is(bytes: &[u8], text: &str) -> bool {
-    bytes == text.as_bytes()
+fn fault_of(alloc: Global, query: &[u8]) -> Option<ParseFault> {
+    parse(alloc, query).err()
+}
+
+// The fault of a text of so many spaces.
+fn fault_of_spaces(alloc: Global, count: usize) -> Result<Option<ParseFault>, Fail> {
+    let spaces = vec![in alloc; b' '; count]?;
+    Ok(fault_of(alloc, &spaces))
 }
 
 #[test]
@@ -36,67 +44,70 @@ fn faults_have_their_places(rt: HostRuntime) -> Result<(), Fail> {
             ParseFault::LimitRange(24),
         ),
     ] {
-        let found = parse(alloc, query.as_bytes()).err();
-        assert!(rt; found == Some(fault), "{query}");
+        assert!(rt; fault_of(alloc, query.as_bytes()) == Some(fault), "{query}");
     }
-    let long = vec![in alloc; b' '; 65_537]?;
-    assert!(rt; parse(alloc, &long).err() == Some(ParseFault::TooLong));
-    assert!(rt; parse(alloc, &long[1..]).err() == Some(ParseFault::Syntax(65_536)));
+    assert!(rt; fault_of_spaces(alloc, 65_537)? == Some(ParseFault::TooLong));
+    assert!(rt; fault_of_spaces(alloc, 65_536)? == Some(ParseFault::Syntax(65_536)));
     Ok(())
 }
 
-#[test]
-fn a_query_is_read(rt: HostRuntime) -> Result<(), Fail> {
-    let query =
-        b"SeLeCt a.dst, \"b\".\"d st\" FROM flights AS a INNER JOIN flights b ON a.dst = b.src\n\twhere 'O''slo' = a.src oRDER by -a.price + b.price dESC, x aSc LIMIT 007;";
-    let Select {
-        list,
-        items,
-        equalities,
-        keys,
-        limit,
-    } = parse(rt.alloc(), query)?;
-    let SelectList::Columns(list) = list else {
-        assert!(rt; false);
-        return Ok(());
+// Where the selected columns and the items begin, where there are two of each.
+fn places(select: &Select) -> Option<[u32; 4]> {
+    let SelectList::Columns(list) = &select.list else {
+        return None;
     };
     let [first, second] = list.as_slice() else {
-        assert!(rt; false);
-        return Ok(());
+        return None;
     };
-    assert!(rt; first.at == 7 && is(first.column.bytes(), "dst"));
-    assert!(rt; second.at == 14 && is(second.column.bytes(), "d st"));
-    let [left, right] = items.as_slice() else {
-        assert!(rt; false);
-        return Ok(());
+    let [left, right] = select.items.as_slice() else {
+        return None;
     };
-    assert!(rt; is(left.table.bytes(), "flights") && is(left.alias.bytes(), "a") && left.at == 30);
-    assert!(rt; is(right.alias.bytes(), "b") && right.at == 54);
-    let [join, filter] = equalities.as_slice() else {
-        assert!(rt; false);
-        return Ok(());
+    Some([first.at, second.at, left.at, right.at])
+}
+
+// Whether the first item of a query is this table, and its last equality is with this constant.
+fn names(select: &Select, table: &[u8], constant: &[u8]) -> bool {
+    let [first, ..] = select.items.as_slice() else {
+        return false;
     };
-    assert!(rt; matches!(&join.right, Side::Column(column) if is(column.column.bytes(), "src")));
-    assert!(rt; is(filter.left.column.bytes(), "src"));
-    assert!(rt; matches!(&filter.right, Side::Constant(bytes) if is(bytes.bytes(), "O'slo")));
-    let [price, other] = keys.as_slice() else {
-        assert!(rt; false);
-        return Ok(());
+    let [.., last] = select.equalities.as_slice() else {
+        return false;
     };
-    assert!(rt; price.descending && !other.descending);
-    let [minus, plus] = price.terms.as_slice() else {
-        assert!(rt; false);
-        return Ok(());
-    };
-    assert!(rt; minus.minus && !plus.minus);
-    assert!(rt; limit == Some(7));
+    match &last.right {
+        Side::Constant(bytes) => first.table.bytes() == table && bytes.bytes() == constant,
+        Side::Column(_) => false,
+    }
+}
+
+const FLIGHTS: &str =
+    "SeLeCt a.dst, \"b\".\"d st\" FROM flights AS a INNER JOIN flights b ON a.dst = b.src\n\twhere 'O''slo' = a.src oRDER by -a.price + b.price dESC, x aSc LIMIT 007;";
+
+#[test]
+fn a_query_is_read(rt: HostRuntime) -> Result<(), Fail> {
+    let select = parse(rt.alloc(), FLIGHTS.as_bytes())?;
+    assert!(rt; places(&select) == Some([7, 14, 30, 54]));
+    assert!(rt; names(&select, b"flights", b"O'slo"));
     Ok(())
+}
+
+// Whether this text is what is written of the query.
+fn is_written_as(alloc: Global, query: &[u8], wanted: &[u8]) -> Result<bool, Fail> {
+    let select = parse(alloc, query)?;
+    Ok(text(alloc, &select)?.as_slice() == wanted)
+}
+
+fn is_name_written_as(alloc: Global, name: &[u8], wanted: &[u8]) -> Result<bool, Fail> {
+    Ok(name_text(alloc, name)?.as_slice() == wanted)
 }
 
 #[test]
 fn a_query_is_written(rt: HostRuntime) -> Result<(), Fail> {
     let alloc = rt.alloc();
     for (query, wanted) in [
+        (
+            FLIGHTS,
+            "select a.dst, b.\"d st\" from flights as a, flights as b where a.dst = b.src and a.src = 'O''slo' order by - a.price + b.price desc, x limit 7",
+        ),
         (
             "select R.a, S.c from R, S where R.b = S.b order by R.w + S.w limit 3",
             "select R.a, S.c from R as R, S as S where R.b = S.b order by R.w + S.w limit 3",
@@ -110,15 +121,20 @@ fn a_query_is_written(rt: HostRuntime) -> Result<(), Fail> {
             "select a from R as R where a = 'it''s' and a = '12' order by a - b + c limit 18446744073709551615",
         ),
     ] {
-        let select = parse(alloc, query.as_bytes())?;
-        let written = text(alloc, &select)?;
-        assert!(rt; written.as_slice() == wanted.as_bytes(), "{query}");
-        let again = parse(alloc, &written)?;
         assert!(rt;
-            text(alloc, &again)?.as_slice() == wanted.as_bytes(),
+            is_written_as(alloc, query.as_bytes(), wanted.as_bytes())?,
+            "{query}"
+        );
+        assert!(rt;
+            is_written_as(alloc, wanted.as_bytes(), wanted.as_bytes())?,
             "{query}"
         );
     }
+    Ok(())
+}
+
+#[test]
+fn a_name_is_written(rt: HostRuntime) -> Result<(), Fail> {
     for (name, wanted) in [
         ("R_1", "R_1"),
         ("order", "\"order\""),
@@ -127,8 +143,10 @@ fn a_query_is_written(rt: HostRuntime) -> Result<(), Fail> {
         ("1a", "\"1a\""),
         ("", "\"\""),
     ] {
-        let written = name_text(alloc, name.as_bytes())?;
-        assert!(rt; written.as_slice() == wanted.as_bytes(), "{name}");
+        assert!(rt;
+            is_name_written_as(rt.alloc(), name.as_bytes(), wanted.as_bytes())?,
+            "{name}"
+        );
     }
     Ok(())
 }
