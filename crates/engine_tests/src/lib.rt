@@ -1,7 +1,10 @@
 //! Tests of tree problems and of what gives their answers: the trees themselves, anyK-part, anyK-rec with the streams below it, and
-//! cursors over an engine. They are worked examples over the public calls of those crates, in a crate of their own so that none of those is proved twice for its tests.
+//! cursors over an engine. They are worked examples over the public calls of those crates, in a crate of their own so that none of
+//! those is proved twice for its tests.
 #![tactic(auto)]
 
+#[cfg(test)]
+mod answers;
 #[cfg(test)]
 mod cursors;
 #[cfg(test)]

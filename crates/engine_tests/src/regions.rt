@@ -2,16 +2,16 @@ ghost use Rattle.std.specs.Prelude.{◌≡◌, ℕ, ◌<◌, ◌≤◌, [], ◌�
 ghost use Rattle.tdp_core.specs.TreeData.{node_data};
 ghost use Rattle.tdp_core.specs.WellFormed.{IsTieFreeTree};
 
+use crate::answers::gives_all;
 use anyk_part::Part;
 use rank_key::{Rank, SumRank};
 use smallvec::SmallVec;
 use std::alloc::Global;
 use std::marker::Brand;
-use std::process::Abort;
 use std::sync::ledger::{Blank, Ledger};
 use std::test::Fail;
 use step_counter::{NoMemory, Steps};
-use tdp_core::{Groups, NodeParts, NodeRow, NodeShape, Ranked, Tree};
+use tdp_core::{Groups, NodeParts, NodeRow, NodeShape, Tree};
 
 fn one<T: Drop>(alloc: Global, first: T) -> Result<Vec<T>, NoMemory>
     ensures { IfOk result (λ v. v.items ≡ first ∷ []) }
@@ -172,42 +172,22 @@ fn empty_tree<R: Rank>(alloc: Global) -> Result<Tree<R>, NoMemory>
     Ok(Tree::from_parts(one(alloc, root)?))
 }
 
-/// The row numbers of the next answer, of items 0 to 3.
-fn next_rows<E: Ranked, L: Ledger>(
-    engine: &mut E,
-    steps: &mut Steps<L>,
-) -> Result<Option<[u32; 4]>, NoMemory> {
-    match engine.next(steps)? {
-        Some(answer) => Ok(Some([
-            answer.rows[0],
-            answer.rows[1],
-            answer.rows[2],
-            answer.rows[3],
-        ])),
-        None => Ok(None),
-    }
-}
-
+/// Whether the answers have these rows, and candidates wait as long as there are answers.
 fn gives<R: Rank, L: Ledger>(
-    rt: &impl Abort,
     alloc: Global,
     tree: &Tree<R>,
     expected: &[[u32; 4]],
     steps: &mut Steps<L>,
-) -> Result<(), Fail>
+) -> Result<bool, NoMemory>
     requires { IsTieFreeTree tree.now }
 {
     let mut part = Part::new(alloc, tree, steps)?;
-    assert_eq!(rt; part.candidates() > 0, !expected.is_empty());
-    for rows in expected {
-        assert_eq!(rt; next_rows(&mut part, steps)?, Some(*rows));
-    }
-    assert_eq!(rt; next_rows(&mut part, steps)?, None);
-    assert_eq!(rt; part.candidates(), 0);
-    Ok(())
+    let waits = part.candidates() > 0;
+    let given = gives_all(&mut part, expected, steps)?;
+    Ok(given && waits != expected.is_empty() && part.candidates() == 0)
 }
 
-fn gives_all<R: Rank, L: Ledger>(rt: &impl Abort, alloc: Global, blank: Blank) -> Result<(), Fail>
+fn gives_eight<R: Rank, L: Ledger>(alloc: Global, blank: Blank) -> Result<bool, NoMemory>
     requires keys { 1 ≤ R.KEYS }
     requires name { blank.name ≡ L.name }
     requires parts { blank.parts ≡ L.parts }
@@ -226,25 +206,27 @@ fn gives_all<R: Rank, L: Ledger>(rt: &impl Abort, alloc: Global, blank: Blank) -
         [1, 1, 4, 2],
         [1, 1, 3, 2],
     ];
-    gives(rt, alloc, &tree, &expected, &mut steps)
+    gives(alloc, &tree, &expected, &mut steps)
 }
 
-fn gives_none<R: Rank, L: Ledger>(rt: &impl Abort, alloc: Global, blank: Blank) -> Result<(), Fail>
+fn gives_none<R: Rank, L: Ledger>(alloc: Global, blank: Blank) -> Result<bool, NoMemory>
     requires name { blank.name ≡ L.name }
     requires parts { blank.parts ≡ L.parts }
     requires share { 0 < L.parts }
 {
     let mut steps: Steps<L> = Steps::new(blank);
     let tree: Tree<R> = empty_tree(alloc)?;
-    gives(rt, alloc, &tree, &[], &mut steps)
+    gives(alloc, &tree, &[], &mut steps)
 }
 
 #[test]
 fn answers_come_in_order_of_rank(rt: HostRuntime) -> Result<(), Fail> {
-    gives_all::<SumRank, Brand>(&rt, rt.alloc(), Blank::new(1))
+    assert!(rt; gives_eight::<SumRank, Brand>(rt.alloc(), Blank::new(1))?);
+    Ok(())
 }
 
 #[test]
 fn a_tree_that_is_not_live_has_no_answer(rt: HostRuntime) -> Result<(), Fail> {
-    gives_none::<SumRank, Brand>(&rt, rt.alloc(), Blank::new(1))
+    assert!(rt; gives_none::<SumRank, Brand>(rt.alloc(), Blank::new(1))?);
+    Ok(())
 }
