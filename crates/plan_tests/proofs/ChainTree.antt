@@ -5,6 +5,7 @@ use Rattle.tdp_model.specs.TreeProblem.{sum_from}
 use Rattle.tdp_core.specs.declared.parts.NodeShape.{NodeShape}
 use Rattle.tdp_core.specs.RawData.{AreShapes, shape_item, shape_parent, shape_cap, shape_children}
 use Rattle.tdp_core.specs.TreeData.{kids_below}
+use Rattle.plan_tests.specs.ChainTrees.{IsChain, chain_children}
 
 abbrev pub no_caps : List ℕ
 no_caps = 0 ∷ 0 ∷ 0 ∷ 0 ∷ 0 ∷ 0 ∷ 0 ∷ 0 ∷ []
@@ -53,14 +54,12 @@ chain-shaped = record {
   caps_fit = caps-few;
 }
 
-pub first-children : shape_children chain_shapes 0 ≡ 1
+children-are : (v : ℕ) → v < 3 → shape_children chain_shapes v ≡ chain_children v
 unfolding kids_below
-first-children = refl
+children-are zero h = refl
+children-are (suc zero) h = refl
+children-are (suc (suc zero)) h = refl
+children-are (suc (suc (suc v))) h = absurd (omega arith)
 
-pub second-children : shape_children chain_shapes 1 ≡ 1
-unfolding kids_below
-second-children = refl
-
-pub third-children : shape_children chain_shapes 2 ≡ 0
-unfolding kids_below
-third-children = refl
+pub chain-is : IsChain chain_shapes
+chain-is = record { nodes = refl; children = children-are }

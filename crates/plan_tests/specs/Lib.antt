@@ -1,1 +1,2 @@
+pub mod ChainTrees
 pub mod SampleTrees

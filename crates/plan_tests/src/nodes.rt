@@ -1,14 +1,14 @@
 //! The raw trees of two tables, by the columns in which rows are to agree.
-ghost use Rattle.std.specs.Prelude.{◌≡◌, ◌<◌, ◌≤◌, IfOk, List, length};
+ghost use Rattle.std.specs.Prelude.{◌≡◌, ◌<◌, ◌≤◌, IfSome, List, length};
 ghost use Rattle.anyk_model.specs.Table.{Table};
 ghost use Rattle.query_bind.specs.Weighed.{Fits};
 ghost use Rattle.node_build.specs.Nodes.{IsJoinTreeOf};
 
+use crate::fixtures::{query_of, two_tables};
 use csv_tables::Tables;
 use join_tree::JoinTree;
-use node_build::{BuildFault, build};
-use query_bind::{Query, bind};
-use query_parse::parse;
+use node_build::{BuildFault, Built, build};
+use query_bind::Query;
 use query_shape::tree_shape;
 use rank_key::{LexRank, Rank};
 use std::alloc::Global;
@@ -18,90 +18,91 @@ use std::test::Fail;
 use step_counter::Steps;
 use tdp_core::RawTree;
 
-// The tables R and S.
-fn two_tables(alloc: Global) -> Result<Tables, Fail>
-    ensures { IfOk result (λ tables. length tables ≡ 2) }
-{
-    let mut tables = Tables::new(alloc);
-    tables.read(b"a,b,w\n1,x,3\n2,y,1\n3,x,1\n")?;
-    tables.read(b"b,c,w\nx,p,5\ny,q,2\nx,q,4\n")?;
-    Ok(tables)
-}
-
-// The query of this text over the two tables.
-fn bound(alloc: Global, tables: &Tables, text: &[u8]) -> Result<Query, Fail>
-    requires { length tables.now ≡ 2 }
-    ensures fits { IfOk result (λ query. Fits query tables.now) }
-    ensures some { IfOk result (λ query. 0 < length query.query.items) }
-    ensures keys { IfOk result (λ query. length query.query.order ≤ 2) }
-{
-    let select = parse(alloc, text)?;
-    if select.items.as_slice().len() != 2 || select.keys.as_slice().len() > 2 {
-        return Err("not a query of two items".into());
-    }
-    let query = bind(alloc, &select, tables, &[0, 1])?;
-    if query.items() == 0 || query.keys() > 2 {
-        return Err("not a query of two items".into());
-    }
-    Ok(query)
-}
-
 // The join tree of a query.
-fn tree_of_query(alloc: Global, query: &Query) -> Result<JoinTree, Fail>
+fn tree_of_query(alloc: Global, query: &Query) -> Option<JoinTree>
     requires fits { (tables : List Table) × Fits query.now tables }
-    requires some { 0 < length query.now.query.items }
-    ensures { IfOk result (λ tree. IsJoinTreeOf query.now.query tree) }
+    requires some { 1 ≤ length query.now.query.items }
+    ensures { IfSome result (λ tree. IsJoinTreeOf query.now.query tree) }
 {
-    let Ok(tree) = tree_shape(alloc, query) else {
-        return Err("no join tree".into());
-    };
-    Ok(tree)
+    tree_shape(alloc, query).ok()
 }
 
 // Whether the second and the third row of the second of two nodes have the first row's link.
-fn alike<R: Rank>(tree: &RawTree<R>) -> Result<(bool, bool), Fail> {
+fn alike<R: Rank>(tree: &RawTree<R>) -> Option<(bool, bool)> {
     if tree.nodes() != 2 || tree.len(1) != 3 {
-        return Err("not three rows of a second node".into());
+        return None;
     }
     let first = tree.own(1, 0);
-    Ok((tree.own(1, 1) == first, tree.own(1, 2) == first))
+    Some((tree.own(1, 1) == first, tree.own(1, 2) == first))
 }
 
-// How many rows each node has, how many these are together, and which rows of the second are alike.
-fn counts<R: Rank, L: Ledger>(
+// How many rows each of two nodes has, how many these are together, and which rows of the second are alike.
+fn counts<R: Rank>(built: &Built<R>) -> Option<(u64, u64, u64, (bool, bool))> {
+    let [first, second] = built.rows_of.as_slice() else {
+        return None;
+    };
+    Some((*first, *second, built.used, alike(&built.tree)?))
+}
+
+// These counts of a query within a budget.
+fn counts_of<R: Rank, L: Ledger>(
+    alloc: Global,
+    query: &Query,
+    tables: &Tables,
+    budget: u64,
+    steps: &mut Steps<L>,
+) -> Result<Option<(u64, u64, u64, (bool, bool))>, BuildFault>
+    requires fits { Fits query.now tables.now }
+    requires some { 1 ≤ length query.now.query.items }
+    requires keys { length query.now.query.order ≤ R.KEYS }
+    requires budget { budget < 100 }
+{
+    let Some(join) = tree_of_query(alloc, query) else {
+        return Ok(None);
+    };
+    let built = build::<R, L>(alloc, query, tables, &join, budget, steps)?;
+    Ok(counts(&built))
+}
+
+// The same of the query of this text over R and S.
+fn counts_of_text<R: Rank, L: Ledger>(
+    alloc: Global,
+    tables: &Tables,
+    text: &[u8],
+    budget: u64,
+    steps: &mut Steps<L>,
+) -> Result<Result<Option<(u64, u64, u64, (bool, bool))>, BuildFault>, Fail>
+    requires two { length tables.now ≡ 2 }
+    requires keys { 2 ≤ R.KEYS }
+    requires budget { budget < 100 }
+{
+    let query = query_of(alloc, tables, text, &[0, 1], 2)?;
+    Ok(counts_of::<R, L>(alloc, &query, tables, budget, steps))
+}
+
+fn built<R: Rank, L: Ledger>(
     alloc: Global,
     text: &[u8],
     budget: u64,
     blank: Blank,
-) -> Result<Result<(u64, u64, u64, (bool, bool)), BuildFault>, Fail>
+) -> Result<Result<Option<(u64, u64, u64, (bool, bool))>, BuildFault>, Fail>
     requires budget { budget < 100 }
     requires name { blank.name ≡ L.name }
     requires parts { blank.parts ≡ L.parts }
     requires some_part { 0 < blank.parts }
     requires keys { 2 ≤ R.KEYS }
 {
-    let tables = two_tables(alloc)?;
-    let query = bound(alloc, &tables, text)?;
-    let join = tree_of_query(alloc, &query)?;
     let mut steps = Steps::<L>::new(blank);
-    let built = match build::<R, L>(alloc, &query, &tables, &join, budget, &mut steps) {
-        Ok(built) => built,
-        Err(fault) => return Ok(Err(fault)),
-    };
-    let rows_of = built.rows_of.as_slice();
-    if rows_of.len() != 2 {
-        return Err("not two nodes".into());
-    }
-    let links = alike(&built.tree)?;
-    Ok(Ok((rows_of[0], rows_of[1], built.used, links)))
+    let tables = two_tables(alloc)?;
+    counts_of_text::<R, L>(alloc, &tables, text, budget, &mut steps)
 }
 
 #[test]
 fn rows_within_a_budget(rt: HostRuntime) -> Result<(), Fail> {
     let text = b"select R.a, S.c from R, S where R.b = S.b order by R.w + S.w";
-    let enough = counts::<LexRank, Brand>(rt.alloc(), text, 6, Blank::new(1))?;
-    assert!(rt; enough == Ok((3, 3, 6, (false, true))));
-    let few = counts::<LexRank, Brand>(rt.alloc(), text, 5, Blank::new(1))?;
+    let enough = built::<LexRank, Brand>(rt.alloc(), text, 6, Blank::new(1))?;
+    assert!(rt; enough == Ok(Some((3, 3, 6, (false, true)))));
+    let few = built::<LexRank, Brand>(rt.alloc(), text, 5, Blank::new(1))?;
     assert!(rt; few == Err(BuildFault::TooManyRows(5)));
     Ok(())
 }
@@ -109,10 +110,10 @@ fn rows_within_a_budget(rt: HostRuntime) -> Result<(), Fail> {
 #[test]
 fn links_by_two_variables_and_by_none(rt: HostRuntime) -> Result<(), Fail> {
     let text = b"select R.a, S.c from R, S where R.b = S.b and R.w = S.w";
-    let two = counts::<LexRank, Brand>(rt.alloc(), text, 6, Blank::new(1))?;
-    assert!(rt; two == Ok((3, 3, 6, (false, false))));
+    let two = built::<LexRank, Brand>(rt.alloc(), text, 6, Blank::new(1))?;
+    assert!(rt; two == Ok(Some((3, 3, 6, (false, false)))));
     let text = b"select R.a, S.c from R, S";
-    let none = counts::<LexRank, Brand>(rt.alloc(), text, 6, Blank::new(1))?;
-    assert!(rt; none == Ok((3, 3, 6, (true, true))));
+    let none = built::<LexRank, Brand>(rt.alloc(), text, 6, Blank::new(1))?;
+    assert!(rt; none == Ok(Some((3, 3, 6, (true, true)))));
     Ok(())
 }

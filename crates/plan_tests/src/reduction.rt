@@ -1,5 +1,6 @@
 ghost use Rattle.std.specs.Prelude.{◌≡◌, ℕ, ◌+◌, ◌<◌, ◌≤◌, length, IfOk, OnOk};
-ghost use Rattle.tdp_core.specs.RawData.{row_total, shape_children};
+ghost use Rattle.plan_tests.specs.ChainTrees.{IsChain, chain_children};
+ghost use Rattle.tdp_core.specs.RawData.{row_total};
 
 use rank_key::{Rank, SumRank};
 use semi_join::{Reduced, reduce};
@@ -12,10 +13,7 @@ use tdp_core::{NodeParts, NodeRow, NodeShape, RawTree};
 
 /// A tree without rows: three nodes, each below the one before.
 fn chain<R: Rank>(alloc: Global) -> Result<RawTree<R>, NoMemory>
-    ensures nodes { IfOk result (λ t. length t.shapes ≡ 3) }
-    ensures first { IfOk result (λ t. shape_children t.shapes 0 ≡ 1) }
-    ensures second { IfOk result (λ t. shape_children t.shapes 1 ≡ 1) }
-    ensures third { IfOk result (λ t. shape_children t.shapes 2 ≡ 0) }
+    ensures chain { IfOk result (λ t. IsChain t.shapes) }
     ensures empty { IfOk result (λ t. row_total t ≡ 0) }
 {
     let caps = [0; 8];
@@ -46,10 +44,11 @@ fn add<R: Rank>(
     own: u32,
     children: &[u32],
 ) -> Result<(), NoMemory>
-    requires node { node < length tree.old.shapes }
-    requires children { length children.now ≡ shape_children tree.old.shapes node }
+    requires chain { IsChain tree.old.shapes }
+    requires node { node < 3 }
+    requires children { length children.now ≡ chain_children node }
     requires room { row_total tree.old < 100 }
-    ensures shapes { OnOk result (tree.new.shapes ≡ tree.old.shapes) }
+    ensures chain { OnOk result (IsChain tree.new.shapes) }
     ensures room { OnOk result (row_total tree.new ≤ row_total tree.old + 1) }
 {
     let count = tree.nodes();
@@ -73,35 +72,43 @@ fn reduced_by<R: Rank, L: Ledger>(
     reduce(alloc, raw, &mut steps)
 }
 
-/// The numbers of a node's rows.
-fn numbers_of<R: Rank>(alloc: Global, parts: &NodeParts<R>) -> Result<Vec<u32>, NoMemory> {
-    let mut numbers = Vec::new(alloc);
-    for row in parts.rows.iter() {
-        numbers.push(row.row)?;
+/// Whether the rows of a node have these numbers.
+fn has_numbers<R: Rank>(parts: &NodeParts<R>, numbers: &[u32]) -> bool {
+    if parts.rows.len() != numbers.len() {
+        return false;
     }
-    Ok(numbers)
-}
-
-/// The rows of each group of a node, with the number of the group before each.
-fn members_of<R: Rank>(alloc: Global, parts: &NodeParts<R>) -> Result<Vec<(usize, u32)>, NoMemory> {
-    let mut members = Vec::new(alloc);
-    for number in 0..parts.groups.len() {
-        for row in parts.groups.group(number).iter() {
-            members.push((number, *row))?;
+    for place in 0..numbers.len() {
+        if parts.rows[place].row != numbers[place] {
+            return false;
         }
     }
-    Ok(members)
+    true
 }
 
-/// The groups that the rows of a node name, one row after the other.
-fn named_of<R: Rank>(alloc: Global, parts: &NodeParts<R>) -> Result<Vec<u32>, NoMemory> {
-    let mut named = Vec::new(alloc);
-    for groups in parts.to_child.iter() {
-        for group in groups.iter() {
-            named.push(*group)?;
+/// Whether these are the rows of each group of a node.
+fn has_members<R: Rank>(parts: &NodeParts<R>, members: &[&[u32]]) -> bool {
+    if parts.groups.len() != members.len() {
+        return false;
+    }
+    for number in 0..members.len() {
+        if parts.groups.group(number) != members[number] {
+            return false;
         }
     }
-    Ok(named)
+    true
+}
+
+/// Whether the rows of a node, which has one child, name these groups.
+fn has_named<R: Rank>(parts: &NodeParts<R>, named: &[u32]) -> bool {
+    if parts.to_child.len() != named.len() {
+        return false;
+    }
+    for row in 0..named.len() {
+        if parts.to_child[row].as_slice() != [named[row]].as_slice() {
+            return false;
+        }
+    }
+    true
 }
 
 /// A tree in which row 2 of the second node has no partner, so that row 6 of the root has none either.
@@ -118,29 +125,26 @@ fn partly_linked<R: Rank>(alloc: Global) -> Result<RawTree<R>, NoMemory> {
     Ok(tree)
 }
 
+/// What is left of that tree.
+fn is_partly_linked<R: Rank>(nodes: &[NodeParts<R>]) -> bool {
+    let [root, middle, last] = nodes else {
+        return false;
+    };
+    has_numbers(root, &[4, 7])
+        && has_named(root, &[0, 1])
+        && has_members(root, &[&[0, 1]])
+        && has_numbers(middle, &[1, 5])
+        && has_named(middle, &[0, 0])
+        && has_members(middle, &[&[0], &[1]])
+        && has_members(last, &[&[0, 1]])
+}
+
 #[test]
 fn rows_without_partner_go(rt: HostRuntime) -> Result<(), Fail> {
     let alloc = rt.alloc();
     let raw: RawTree<SumRank> = partly_linked(alloc)?;
     let reduced = reduced_by::<SumRank, Brand>(alloc, raw, Blank::new(1))?;
-    assert_eq!(rt; reduced.nodes.len(), 3);
-    let (root, middle, last) = (&reduced.nodes[0], &reduced.nodes[1], &reduced.nodes[2]);
-    assert_eq!(rt; numbers_of(alloc, root)?.as_slice(), [4, 7].as_slice());
-    assert_eq!(rt; named_of(alloc, root)?.as_slice(), [0, 1].as_slice());
-    assert_eq!(rt;
-        members_of(alloc, root)?.as_slice(),
-        [(0, 0), (0, 1)].as_slice()
-    );
-    assert_eq!(rt; numbers_of(alloc, middle)?.as_slice(), [1, 5].as_slice());
-    assert_eq!(rt; named_of(alloc, middle)?.as_slice(), [0, 0].as_slice());
-    assert_eq!(rt;
-        members_of(alloc, middle)?.as_slice(),
-        [(0, 0), (1, 1)].as_slice()
-    );
-    assert_eq!(rt;
-        members_of(alloc, last)?.as_slice(),
-        [(0, 0), (0, 1)].as_slice()
-    );
+    assert!(rt; is_partly_linked(reduced.nodes.as_slice()));
     Ok(())
 }
 
@@ -153,14 +157,19 @@ fn unlinked<R: Rank>(alloc: Global) -> Result<RawTree<R>, NoMemory> {
     Ok(tree)
 }
 
+/// Whether the first two of three nodes are left without rows, and the root without groups.
+fn is_emptied<R: Rank>(nodes: &[NodeParts<R>]) -> bool {
+    let [root, middle, _last] = nodes else {
+        return false;
+    };
+    root.rows.is_empty() && root.groups.is_empty() && middle.rows.is_empty()
+}
+
 #[test]
 fn a_tree_without_solutions_is_emptied(rt: HostRuntime) -> Result<(), Fail> {
     let alloc = rt.alloc();
     let raw: RawTree<SumRank> = unlinked(alloc)?;
     let reduced = reduced_by::<SumRank, Brand>(alloc, raw, Blank::new(1))?;
-    assert_eq!(rt; reduced.nodes.len(), 3);
-    assert!(rt; reduced.nodes[0].rows.is_empty());
-    assert!(rt; reduced.nodes[0].groups.is_empty());
-    assert!(rt; reduced.nodes[1].rows.is_empty());
+    assert!(rt; is_emptied(reduced.nodes.as_slice()));
     Ok(())
 }

@@ -1,15 +1,15 @@
 //! The second engine over an arena that refuses each allocation in turn.
-ghost use Rattle.std.specs.Prelude.{◌≡◌, ◌<◌, ◌≤◌, IfOk, length};
+ghost use Rattle.std.specs.Prelude.{◌≡◌, ◌<◌, ◌≤◌, length};
 ghost use Rattle.std.specs.List.{AllByRecursion};
 ghost use Rattle.query_bind.specs.Weighed.{Fits};
 ghost use Rattle.tdp_core.specs.WellFormed.{IsTieFreeTree};
 
+use crate::fixtures::{query_of, read_two, two_tables};
 use anyk_rec::Rec;
 use bumpalo::Bump;
 use csv_tables::Tables;
 use plan_build::prepare;
-use query_bind::{Query, bind};
-use query_parse::parse;
+use query_bind::Query;
 use rank_key::{Rank, SumRank};
 use std::alloc::Global;
 use std::marker::Brand;
@@ -23,27 +23,6 @@ const CHUNK: usize = 448;
 
 /// How often memory may be refused in one call before the test gives up.
 const TRIES: usize = 200;
-
-// The query of this text over the tables, which are those of its items in their order.
-fn bound(alloc: Global, tables: &Tables, text: &[u8], which: &[u32]) -> Result<Query, Fail>
-    requires known { AllByRecursion (λ t. t < length tables.now) which.now }
-    ensures fits { IfOk result (λ query. Fits query tables.now) }
-    ensures some { IfOk result (λ query. 1 ≤ length query.query.items) }
-    ensures keys { IfOk result (λ query. length query.query.order ≤ 1) }
-{
-    let select = parse(alloc, text)?;
-    if select.items.as_slice().len() > 16
-        || select.keys.as_slice().len() > 1
-        || which.len() != select.items.as_slice().len()
-    {
-        return Err("not a small query".into());
-    }
-    let query = bind(alloc, &select, tables, which)?;
-    if query.items() == 0 || query.keys() > 1 {
-        return Err("not a small query".into());
-    }
-    Ok(query)
-}
 
 // Lets the arena take more memory, the more it was refused: an engine that is not made leaves what it took to the arena.
 fn allow_more(arena: &Bump, refused: usize) {
@@ -95,6 +74,25 @@ fn has_rows<R: Rank>(answer: Option<Answer<R>>, rows: &[u32; 4]) -> bool {
 }
 
 // How often memory was refused while the engine gave all its answers, where these are the wanted rows of the first four items.
+fn refusals_of_engine<E: Ranked, L: Ledger>(
+    engine: &mut E,
+    arena: &Bump,
+    wanted: &[[u32; 4]],
+    steps: &mut Steps<L>,
+) -> Result<Option<usize>, NoMemory> {
+    let mut refusals: usize = 0;
+    for rows in wanted {
+        let (answer, refused) = next_in(engine, arena, steps)?;
+        refusals = refusals.saturating_add(refused);
+        if !has_rows(answer, rows) {
+            return Ok(None);
+        }
+    }
+    let (end, _) = next_in(engine, arena, steps)?;
+    Ok(if end.is_none() { Some(refusals) } else { None })
+}
+
+// The same of an engine over the tree.
 fn refusals_over<'t, 'a, R: Rank, L: Ledger>(
     arena: &'a Bump,
     tree: &'t Tree<R>,
@@ -104,16 +102,7 @@ fn refusals_over<'t, 'a, R: Rank, L: Ledger>(
     requires tie_free { IsTieFreeTree tree.now }
 {
     let mut engine = engine_in(arena, tree, steps)?;
-    let mut refusals: usize = 0;
-    for rows in wanted {
-        let (answer, refused) = next_in(&mut engine, arena, steps)?;
-        refusals = refusals.saturating_add(refused);
-        if !has_rows(answer, rows) {
-            return Ok(None);
-        }
-    }
-    let (end, _) = next_in(&mut engine, arena, steps)?;
-    Ok(if end.is_none() { Some(refusals) } else { None })
+    refusals_of_engine(&mut engine, arena, wanted, steps)
 }
 
 // The same over an arena of which so many bytes are taken.
@@ -136,38 +125,62 @@ fn refusals_in<R: Rank, L: Ledger>(
 // of the refusals.
 fn refusals_in_all<R: Rank, L: Ledger>(
     alloc: Global,
-    query: &Query,
-    tables: &Tables,
+    tree: &Tree<R>,
     wanted: &[[u32; 4]],
-    blank: Blank,
+    steps: &mut Steps<L>,
 ) -> Result<usize, Fail>
-    requires fits { Fits query.now tables.now }
-    requires keys { length query.now.query.order ≤ R.KEYS }
-    requires some { 1 ≤ length query.now.query.items }
-    requires name { blank.name ≡ L.name }
-    requires parts { blank.parts ≡ L.parts }
-    requires some_part { 0 < blank.parts }
+    requires tie_free { IsTieFreeTree tree.now }
 {
-    let mut steps = Steps::<L>::new(blank);
-    let Ok(plan) = prepare::<R, L>(alloc, query, tables, &mut steps) else {
-        return Err("no plan".into());
-    };
     let mut refusals: usize = 0;
     for eighth in 0..CHUNK / 8 {
-        let run = refusals_in(alloc, plan.tree(), 8 * eighth, wanted, &mut steps)?;
+        let run = refusals_in(alloc, tree, 8 * eighth, wanted, steps)?;
         refusals = refusals.saturating_add(run.ok_or("other answers")?);
     }
     Ok(refusals)
 }
 
+// The same over the plan of a query.
+fn refusals_of_query<R: Rank, L: Ledger>(
+    alloc: Global,
+    query: &Query,
+    tables: &Tables,
+    wanted: &[[u32; 4]],
+    steps: &mut Steps<L>,
+) -> Result<usize, Fail>
+    requires fits { Fits query.now tables.now }
+    requires keys { length query.now.query.order ≤ R.KEYS }
+    requires some { 1 ≤ length query.now.query.items }
+{
+    let Ok(plan) = prepare::<R, L>(alloc, query, tables, steps) else {
+        return Err("no plan".into());
+    };
+    refusals_in_all(alloc, plan.tree(), wanted, steps)
+}
+
+// The same over the query of this text over the tables, which are those of its items in their order.
+fn refusals_of_text<R: Rank, L: Ledger>(
+    alloc: Global,
+    tables: &Tables,
+    text: &[u8],
+    which: &[u32],
+    wanted: &[[u32; 4]],
+    blank: Blank,
+) -> Result<usize, Fail>
+    requires few { length which.now ≤ 16 }
+    requires known { AllByRecursion (λ t. t < length tables.now) which.now }
+    requires keys { 1 ≤ R.KEYS }
+    requires name { blank.name ≡ L.name }
+    requires parts { blank.parts ≡ L.parts }
+    requires some_part { 0 < blank.parts }
+{
+    let mut steps = Steps::<L>::new(blank);
+    let query = query_of(alloc, tables, text, which, 1)?;
+    refusals_of_query::<R, L>(alloc, &query, tables, wanted, &mut steps)
+}
+
 #[test]
 fn a_join_comes_back_after_each_refusal(rt: HostRuntime) -> Result<(), Fail> {
-    let alloc = rt.alloc();
-    let mut tables = Tables::new(alloc);
-    tables.read(b"a,b,w\n1,x,3\n2,y,1\n3,x,1\n")?;
-    tables.read(b"b,c,w\nx,p,5\ny,q,2\nx,q,4\n")?;
     let text = b"select R.a, S.c from R, S where R.b = S.b order by R.w + S.w";
-    let query = bound(alloc, &tables, text, &[0, 1])?;
     let wanted = [
         [2, 2, 0, 0],
         [3, 3, 0, 0],
@@ -175,36 +188,38 @@ fn a_join_comes_back_after_each_refusal(rt: HostRuntime) -> Result<(), Fail> {
         [1, 3, 0, 0],
         [1, 1, 0, 0],
     ];
-    let refusals = refusals_in_all::<SumRank, Brand>(
-        alloc,
-        &query,
+    let tables = two_tables(rt.alloc())?;
+    let refusals = refusals_of_text::<SumRank, Brand>(
+        rt.alloc(),
         &tables,
+        text,
+        &[0, 1],
         &wanted,
         Blank::new(1),
     )?;
-    assert!(rt; refusals > 50, "{refusals}");
+    assert!(rt; refusals > 50);
     Ok(())
 }
 
 #[test]
 fn a_star_comes_back_after_each_refusal(rt: HostRuntime) -> Result<(), Fail> {
-    let alloc = rt.alloc();
-    let mut tables = Tables::new(alloc);
-    tables.read(b"k\nz\n")?;
-    tables.read(b"k,v,w\nz,1,0\nz,2,0\n")?;
-    tables.read(b"k,v,w\nz,3,0\nz,4,0\n")?;
-    tables.read(b"k,v,w\nz,5,0\n")?;
+    // A row of C goes with each pair of two rows of L, and with the row of C itself.
+    let files = (
+        b"k,v,w\nz,5,0\n".as_slice(),
+        b"k,v,w\nz,1,0\nz,2,0\n".as_slice(),
+    );
     let text =
-        b"select L1.v, L2.v, L3.v from C, L1, L2, L3 where C.k = L1.k and C.k = L2.k and C.k = L3.k order by L1.w + L2.w + L3.w";
-    let query = bound(alloc, &tables, text, &[0, 1, 2, 3])?;
+        b"select L1.v, L2.v, L3.v from C, L L1, L L2, C L3 where C.k = L1.k and C.k = L2.k and C.k = L3.k order by L1.w + L2.w + L3.w";
     let wanted = [[1, 1, 1, 1], [1, 1, 2, 1], [1, 2, 1, 1], [1, 2, 2, 1]];
-    let refusals = refusals_in_all::<SumRank, Brand>(
-        alloc,
-        &query,
+    let tables = read_two(rt.alloc(), files)?;
+    let refusals = refusals_of_text::<SumRank, Brand>(
+        rt.alloc(),
         &tables,
+        text,
+        &[0, 1, 1, 0],
         &wanted,
         Blank::new(1),
     )?;
-    assert!(rt; refusals > 50, "{refusals}");
+    assert!(rt; refusals > 50);
     Ok(())
 }

@@ -7,7 +7,6 @@ use rank_key::{Rank, SumRank};
 use semi_join::reduce;
 use std::alloc::Global;
 use std::marker::Brand;
-use std::process::Abort;
 use std::sync::ledger::{Blank, Ledger};
 use std::test::Fail;
 use step_counter::{NoMemory, Steps};
@@ -107,39 +106,35 @@ fn same<R: Rank, L: Ledger>(a: &R, b: &R, steps: &mut Steps<L>) -> bool {
     !R::less(a, b, steps) && !R::less(b, a, steps)
 }
 
-fn bests_are_least<R: Rank, L: Ledger>(
-    rt: &impl Abort,
-    alloc: Global,
-    blank: Blank,
-) -> Result<(), Fail>
+/// Whether the least solutions of the root's two rows have the sums 10 and 13.
+fn has_bests<R: Rank, L: Ledger>(tree: &Tree<R>, steps: &mut Steps<L>) -> bool
     requires keys { 1 ≤ R.KEYS }
-    requires name { blank.name ≡ L.name }
-    requires parts { blank.parts ≡ L.parts }
-    requires share { 0 < L.parts }
+    requires nodes { length tree.now ≡ 3 }
 {
-    let mut steps: Steps<L> = Steps::new(blank);
-    let raw: RawTree<R> = six_solutions(alloc)?;
-    let tree = tree_of(alloc, raw, &mut steps)?;
-    assert_eq!(rt; tree.len(0), 2);
-    let best = tree.best(0, 0, &mut steps);
+    if tree.len(0) != 2 {
+        return false;
+    }
+    let first = tree.best(0, 0, steps);
+    let second = tree.best(0, 1, steps);
     let ten = R::of_row(&[10], 1, 2);
-    assert!(rt; same(&best, &ten, &mut steps));
-    let best = tree.best(0, 1, &mut steps);
     let thirteen = R::of_row(&[13], 0, 1);
-    assert!(rt; same(&best, &thirteen, &mut steps));
-    Ok(())
+    same(&first, &ten, steps) && same(&second, &thirteen, steps)
 }
 
-#[test]
-fn the_best_of_a_row_is_its_least_solution(rt: HostRuntime) -> Result<(), Fail> {
-    bests_are_least::<SumRank, Brand>(&rt, rt.alloc(), Blank::new(1))
+/// Whether the first answer has the sum 10, with row 2 of item 1.
+fn has_first<R: Rank, L: Ledger>(tree: &Tree<R>, steps: &mut Steps<L>) -> bool
+    requires keys { 1 ≤ R.KEYS }
+    requires tree { IsTieFreeTree tree.now }
+{
+    let Some(answer) = first(tree, steps) else {
+        return false;
+    };
+    let ten = R::of_row(&[10], 1, 2);
+    answer.rows == [0, 2, 0, 0, 0, 0, 0, 0, 0, 0, 0, 0, 0, 0, 0, 0]
+        && same(&answer.rank, &ten, steps)
 }
 
-fn least_comes_first<R: Rank, L: Ledger>(
-    rt: &impl Abort,
-    alloc: Global,
-    blank: Blank,
-) -> Result<(), Fail>
+fn six_are_solved<R: Rank, L: Ledger>(alloc: Global, blank: Blank) -> Result<(bool, bool), NoMemory>
     requires keys { 1 ≤ R.KEYS }
     requires name { blank.name ≡ L.name }
     requires parts { blank.parts ≡ L.parts }
@@ -148,22 +143,25 @@ fn least_comes_first<R: Rank, L: Ledger>(
     let mut steps: Steps<L> = Steps::new(blank);
     let raw: RawTree<R> = six_solutions(alloc)?;
     let tree = tree_of(alloc, raw, &mut steps)?;
-    let answer = first(&tree, &mut steps).ok_or("no answer")?;
-    assert_eq!(rt;
-        answer.rows,
-        [0, 2, 0, 0, 0, 0, 0, 0, 0, 0, 0, 0, 0, 0, 0, 0]
-    );
-    let ten = R::of_row(&[10], 1, 2);
-    assert!(rt; same(&answer.rank, &ten, &mut steps));
-    Ok(())
+    Ok((has_bests(&tree, &mut steps), has_first(&tree, &mut steps)))
 }
 
 #[test]
-fn the_first_answer_has_the_least_sum(rt: HostRuntime) -> Result<(), Fail> {
-    least_comes_first::<SumRank, Brand>(&rt, rt.alloc(), Blank::new(1))
+fn the_least_solution_is_the_best_of_its_row_and_comes_first(rt: HostRuntime) -> Result<(), Fail> {
+    let (bests, answer) = six_are_solved::<SumRank, Brand>(rt.alloc(), Blank::new(1))?;
+    assert!(rt; bests);
+    assert!(rt; answer);
+    Ok(())
 }
 
-fn none_comes<R: Rank, L: Ledger>(rt: &impl Abort, alloc: Global, blank: Blank) -> Result<(), Fail>
+/// Whether the tree has no solution, and no first answer.
+fn has_none<R: Rank, L: Ledger>(tree: &Tree<R>, steps: &mut Steps<L>) -> bool
+    requires { IsTieFreeTree tree.now }
+{
+    !tree.live() && first(tree, steps).is_none()
+}
+
+fn none_is_solved<R: Rank, L: Ledger>(alloc: Global, blank: Blank) -> Result<bool, NoMemory>
     requires keys { 1 ≤ R.KEYS }
     requires name { blank.name ≡ L.name }
     requires parts { blank.parts ≡ L.parts }
@@ -172,12 +170,11 @@ fn none_comes<R: Rank, L: Ledger>(rt: &impl Abort, alloc: Global, blank: Blank) 
     let mut steps: Steps<L> = Steps::new(blank);
     let raw: RawTree<R> = no_solution(alloc)?;
     let tree = tree_of(alloc, raw, &mut steps)?;
-    assert!(rt; !tree.live());
-    assert!(rt; first(&tree, &mut steps).is_none());
-    Ok(())
+    Ok(has_none(&tree, &mut steps))
 }
 
 #[test]
 fn a_tree_without_solution_has_no_answer(rt: HostRuntime) -> Result<(), Fail> {
-    none_comes::<SumRank, Brand>(&rt, rt.alloc(), Blank::new(1))
+    assert!(rt; none_is_solved::<SumRank, Brand>(rt.alloc(), Blank::new(1))?);
+    Ok(())
 }

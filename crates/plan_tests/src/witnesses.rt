@@ -1,90 +1,125 @@
 //! Answers of small queries, in their order.
-ghost use Rattle.std.specs.Prelude.{◌≡◌, ◌<◌};
+ghost use Rattle.std.specs.Prelude.{◌≡◌, ◌<◌, ◌≤◌, length};
 ghost use Rattle.std.specs.List.{AllByRecursion};
+ghost use Rattle.query_bind.specs.Weighed.{Fits};
 
+use crate::fixtures::{query_of, two_tables};
 use csv_tables::Tables;
-use query_bind::bind;
-use query_parse::parse;
+use query_bind::Query;
 use rank_key::{LexRank, Rank, SumRank};
 use std::alloc::Global;
 use std::marker::Brand;
 use std::sync::ledger::{Blank, Ledger};
 use std::test::Fail;
-use step_counter::Steps;
+use step_counter::{NoMemory, Steps};
 use tdp_core::Ranked;
 use witness_list::WitnessList;
 
-// The row numbers of the first two items, answer by answer.
-fn rows_of_answers<R: Rank, L: Ledger>(
+// The row numbers of the first two items in the next answer.
+fn next_rows<E: Ranked, L: Ledger>(
+    engine: &mut E,
+    steps: &mut Steps<L>,
+) -> Result<Option<(u32, u32)>, NoMemory> {
+    match engine.next(steps)? {
+        Some(answer) => Ok(Some((answer.rows[0], answer.rows[1]))),
+        None => Ok(None),
+    }
+}
+
+// Whether the rows of the answers are these, and no other comes.
+fn gives_all<E: Ranked, L: Ledger>(
+    engine: &mut E,
+    expected: &[(u32, u32)],
+    steps: &mut Steps<L>,
+) -> Result<bool, NoMemory> {
+    for rows in expected {
+        if next_rows(engine, steps)? != Some(*rows) {
+            return Ok(false);
+        }
+    }
+    Ok(next_rows(engine, steps)?.is_none())
+}
+
+// The same of the answers of a query.
+fn lists<R: Rank, L: Ledger>(
+    alloc: Global,
+    query: &Query,
+    tables: &Tables,
+    expected: &[(u32, u32)],
+    steps: &mut Steps<L>,
+) -> Result<bool, NoMemory>
+    requires fits { Fits query.now tables.now }
+    requires keys { length query.now.query.order ≤ R.KEYS }
+{
+    let mut list: WitnessList<R> = WitnessList::new(alloc, query, tables, steps)?;
+    gives_all(&mut list, expected, steps)
+}
+
+// The same of the query of a text.
+fn lists_text<R: Rank, L: Ledger>(
+    alloc: Global,
+    tables: &Tables,
+    text: &[u8],
+    which: &[u32],
+    expected: &[(u32, u32)],
+    steps: &mut Steps<L>,
+) -> Result<bool, Fail>
+    requires few { length which.now ≤ 16 }
+    requires known { AllByRecursion (λ t. t < length tables.now) which.now }
+{
+    let query = query_of(alloc, tables, text, which, R::KEYS)?;
+    Ok(lists::<R, L>(alloc, &query, tables, expected, steps)?)
+}
+
+// The same over R and S.
+fn gives<R: Rank, L: Ledger>(
     alloc: Global,
     text: &[u8],
     which: &[u32],
+    expected: &[(u32, u32)],
     blank: Blank,
-) -> Result<Vec<(u32, u32)>, Fail>
+) -> Result<bool, Fail>
+    requires few { length which.now ≤ 16 }
     requires known { AllByRecursion (λ t. t < 2) which.now }
     requires name { blank.name ≡ L.name }
     requires parts { blank.parts ≡ L.parts }
     requires share { 0 < L.parts }
 {
-    let mut tables = Tables::new(alloc);
-    tables.read(b"a,b,w\n1,x,3\n2,y,1\n3,x,1\n")?;
-    tables.read(b"b,c,w\nx,p,5\ny,q,2\nx,q,4\n")?;
-    let select = parse(alloc, text)?;
-    if select.items.as_slice().len() > 16
-        || select.keys.as_slice().len() > 8
-        || which.len() != select.items.as_slice().len()
-    {
-        return Err("not a small query".into());
-    }
-    let query = bind(alloc, &select, &tables, which)?;
-    if query.keys() as usize > R::KEYS {
-        return Err("too many order keys".into());
-    }
     let mut steps = Steps::<L>::new(blank);
-    let mut list: WitnessList<R> = WitnessList::new(alloc, &query, &tables, &mut steps)?;
-    let mut given = Vec::new(alloc);
-    for _ in 0..64 {
-        let Some(answer) = list.next(&mut steps)? else {
-            break;
-        };
-        given.push((answer.rows[0], answer.rows[1]))?;
-    }
-    Ok(given)
+    let tables = two_tables(alloc)?;
+    lists_text::<R, L>(alloc, &tables, text, which, expected, &mut steps)
 }
 
 #[test]
 fn gives_witnesses_by_their_sums(rt: HostRuntime) -> Result<(), Fail> {
+    let alloc = rt.alloc();
     let text = b"select R.a, S.c from R, S where R.b = S.b order by R.w + S.w";
-    let expected = [(2, 2), (3, 3), (3, 1), (1, 3), (1, 1)];
-    let given = rows_of_answers::<SumRank, Brand>(rt.alloc(), text, &[0, 1], Blank::new(1))?;
-    assert_eq!(rt; given.as_slice(), expected.as_slice());
-    let given = rows_of_answers::<LexRank, Brand>(rt.alloc(), text, &[0, 1], Blank::new(1))?;
-    assert_eq!(rt; given.as_slice(), expected.as_slice());
+    let rows = [(2, 2), (3, 3), (3, 1), (1, 3), (1, 1)];
+    assert!(rt; gives::<SumRank, Brand>(alloc, text, &[0, 1], &rows, Blank::new(1))?);
+    assert!(rt; gives::<LexRank, Brand>(alloc, text, &[0, 1], &rows, Blank::new(1))?);
     Ok(())
 }
 
 #[test]
 fn gives_witnesses_by_several_keys(rt: HostRuntime) -> Result<(), Fail> {
     let text = b"select R.a, S.c from R, S where R.b = S.b order by R.w desc, S.w";
-    let given = rows_of_answers::<LexRank, Brand>(rt.alloc(), text, &[0, 1], Blank::new(1))?;
-    assert_eq!(rt;
-        given.as_slice(),
-        [(1, 3), (1, 1), (2, 2), (3, 3), (3, 1)].as_slice()
-    );
+    let rows = [(1, 3), (1, 1), (2, 2), (3, 3), (3, 1)];
+    assert!(rt; gives::<LexRank, Brand>(rt.alloc(), text, &[0, 1], &rows, Blank::new(1))?);
     Ok(())
 }
 
 #[test]
 fn gives_ties_by_row_numbers(rt: HostRuntime) -> Result<(), Fail> {
     let text = b"select a.a, b.a from R a, R b where a.b = b.b";
-    let given = rows_of_answers::<SumRank, Brand>(rt.alloc(), text, &[0, 0], Blank::new(1))?;
-    assert_eq!(rt;
-        given.as_slice(),
-        [(1, 1), (1, 3), (2, 2), (3, 1), (3, 3)].as_slice()
-    );
+    let rows = [(1, 1), (1, 3), (2, 2), (3, 1), (3, 3)];
+    assert!(rt; gives::<SumRank, Brand>(rt.alloc(), text, &[0, 0], &rows, Blank::new(1))?);
+    Ok(())
+}
+
+#[test]
+fn gives_all_pairs_without_equalities(rt: HostRuntime) -> Result<(), Fail> {
     let text = b"select R.a, S.c from R, S";
-    let given = rows_of_answers::<SumRank, Brand>(rt.alloc(), text, &[0, 1], Blank::new(1))?;
-    let expected = [
+    let rows = [
         (1, 1),
         (1, 2),
         (1, 3),
@@ -95,17 +130,17 @@ fn gives_ties_by_row_numbers(rt: HostRuntime) -> Result<(), Fail> {
         (3, 2),
         (3, 3),
     ];
-    assert_eq!(rt; given.as_slice(), expected.as_slice());
+    assert!(rt; gives::<SumRank, Brand>(rt.alloc(), text, &[0, 1], &rows, Blank::new(1))?);
     Ok(())
 }
 
 #[test]
 fn gives_none_where_none_holds(rt: HostRuntime) -> Result<(), Fail> {
+    let alloc = rt.alloc();
     let text = b"select R.a from R where R.b = 'x' and R.b = 'y'";
-    let given = rows_of_answers::<SumRank, Brand>(rt.alloc(), text, &[0], Blank::new(1))?;
-    assert_eq!(rt; given.len(), 0);
+    assert!(rt; gives::<SumRank, Brand>(alloc, text, &[0], &[], Blank::new(1))?);
     let text = b"select R.a from R where R.b = 'x'";
-    let given = rows_of_answers::<SumRank, Brand>(rt.alloc(), text, &[0], Blank::new(1))?;
-    assert_eq!(rt; given.as_slice(), [(1, 0), (3, 0)].as_slice());
+    let rows = [(1, 0), (3, 0)];
+    assert!(rt; gives::<SumRank, Brand>(alloc, text, &[0], &rows, Blank::new(1))?);
     Ok(())
 }

@@ -1,4 +1,4 @@
 use Rattle.plan_tests.proofs.plans.tells_a_triangle.Given as goal
 
-abbrev pub ghosts-planned : goal.ghosts-planned
-ghosts-planned g a = record { name = a.blank.name; parts = a.blank.parts }
+abbrev pub ghosts-plan : goal.ghosts-plan
+ghosts-plan g a = record { name = a.blank.name; parts = a.blank.parts }
