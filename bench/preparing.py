@@ -8,8 +8,8 @@ and asks for one answer. There are three pairs of tables: `sorted`, whose rows s
 `few`, with 1,000 values at random; and `random`, with ROWS / 4 values at random, where each step from a row to its group goes to
 another place of memory. Each figure is that of the whole command less that of one which reads the same tables and prepares nothing
 (a query that no row passes). The time is the processor's, the least of several runs; `factor` is the time a row against that of the
-smallest tables. Instructions are counted by `valgrind --tool=callgrind` and allocations by `valgrind --tool=memcheck`, where valgrind
-is there and a table has at most COUNTED rows. The program is what `./anyk` has built on its first use, or what ANYK names.
+smallest tables. Instructions are counted by `valgrind --tool=callgrind` where valgrind is there, and allocations by
+`valgrind --tool=memcheck` where besides a table has at most COUNTED rows. The program is what `./anyk` has built on its first use, or what ANYK names.
 """
 import os
 import re
@@ -83,10 +83,12 @@ def difference(tool, pattern, folder):
 
 def counts(folder, rows):
     """The instructions a row and the allocations, where they are counted."""
-    if rows > COUNTED or not shutil.which("valgrind"):
+    if not shutil.which("valgrind"):
         return "-", "-"
-    counted = difference("callgrind", r"Collected : (\d+)", folder) / (2 * rows)
-    return "%.0f" % counted, "%d" % difference("memcheck", r"total heap usage: ([\d,]+) allocs", folder)
+    counted = "%.0f" % (difference("callgrind", r"Collected : (\d+)", folder) / (2 * rows))
+    if rows > COUNTED:
+        return counted, "-"
+    return counted, "%d" % difference("memcheck", r"total heap usage: ([\d,]+) allocs", folder)
 
 
 def main():
