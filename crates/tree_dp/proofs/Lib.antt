@@ -1,5 +1,5 @@
 pub mod Copies
-pub mod Entries
+pub mod RowHeaps
 pub mod FirstParts
 pub mod FirstWalk
 pub mod Forms

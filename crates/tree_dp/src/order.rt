@@ -1,13 +1,13 @@
-ghost use Rattle.std.specs.Prelude.{◌≡◌, ℕ, ◌+◌, ◌*◌, ◌<◌, ◌≤◌, [], All, IfOk, OnOk, length, map, slice_index, slice_index_or};
+ghost use Rattle.std.specs.Prelude.{◌≡◌, ℕ, ◌+◌, ◌*◌, ◌<◌, ◌≤◌, [], All, IfOk, OnOk, length, slice_index, slice_index_or};
 ghost use Rattle.std.specs.List.{concat};
 ghost use Rattle.std.specs.List.Sorted.{IsPermutation};
-ghost use Rattle.tree_dp.specs.Orders.{key_at, IsEntryOf, IsHeapOver};
+ghost use Rattle.tree_dp.specs.Orders.{key_at, IsHeapOver};
 
+use crate::row_heap::heapify_rows;
 use rank_key::Rank;
-use std::alloc::{AllocError, Global};
+use std::alloc::Global;
 use std::sync::ledger::Ledger;
 use step_counter::{NoMemory, Steps};
-use take2_heap::{Entry, heapify};
 use tdp_core::Groups;
 
 /// Puts the rows of each group of a node into heap order by their best keys, and gives the least of these keys in each group,
@@ -29,10 +29,9 @@ pub(crate) fn order_groups<R: Rank, L: Ledger>(
     ensures cost { steps.new ≤ steps.old + 2 * length (concat groups.old) }
 {
     let mut leasts = Vec::with_capacity(alloc, groups.len())?;
-    let mut entries = Vec::new(alloc);
     let mut rows = Vec::new(alloc);
     for number in 0..groups.len() {
-        let least = order_group(groups.group(number), best, &mut entries, &mut rows, steps)?;
+        let least = order_group(groups.group(number), best, &mut rows, steps)?;
         groups.replace(number, &rows);
         leasts.push(least)?;
     }
@@ -40,11 +39,10 @@ pub(crate) fn order_groups<R: Rank, L: Ledger>(
 }
 
 /// Leaves the rows of a group in `rows`, in heap order by their best keys, and gives the least of these keys. It takes at most
-/// two steps for each row. What was in `entries` and in `rows` goes.
+/// two steps for each row. What was in `rows` goes.
 fn order_group<R: Rank, L: Ledger>(
     group: &[u32],
     best: &[R],
-    entries: &mut Vec<Entry<R, u32>>,
     rows: &mut Vec<u32>,
     steps: &mut Steps<L>,
 ) -> Result<R, NoMemory>
@@ -55,39 +53,8 @@ fn order_group<R: Rank, L: Ledger>(
     ensures least { IfOk result (λ least. R.key least ≡ key_at R.KEYS R.key best.now (slice_index rows.new.items 0)) }
     ensures cost { steps.new ≤ steps.old + 2 * length group.now }
 {
-    set_entries(entries, group, best)?;
-    heapify(entries, steps);
-    set_rows(rows, entries)?;
-    Ok(entries[0].rank)
-}
-
-/// Puts the rows of a group, with their best keys, in place of the entries that were there.
-fn set_entries<R: Rank>(
-    entries: &mut Vec<Entry<R, u32>>,
-    group: &[u32],
-    best: &[R],
-) -> Result<(), AllocError>
-    requires { All (λ r. r < length best.now) group.now }
-    ensures rows { OnOk result (map (λ e. e.tag) entries.new.items ≡ group.now) }
-    ensures keys { OnOk result (All (IsEntryOf best.now) entries.new.items) }
-{
-    entries.clear();
-    for row in group.iter() {
-        entries.push(Entry {
-            rank: best[*row as usize],
-            tag: *row,
-        })?;
-    }
-    Ok(())
-}
-
-/// Puts the rows of the entries in place of those that were there.
-fn set_rows<R: Rank>(rows: &mut Vec<u32>, entries: &[Entry<R, u32>]) -> Result<(), AllocError>
-    ensures { OnOk result (rows.new.items ≡ map (λ e. e.tag) entries.now) }
-{
     rows.clear();
-    for entry in entries.iter() {
-        rows.push(entry.tag)?;
-    }
-    Ok(())
+    rows.extend_from_slice(group)?;
+    heapify_rows(rows, best, steps);
+    Ok(best[rows[0] as usize])
 }
