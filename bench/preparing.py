@@ -9,7 +9,8 @@ and asks for one answer. There are three pairs of tables: `sorted`, whose rows s
 another place of memory. Each figure is that of the whole command less that of one which reads the same tables and prepares nothing
 (a query that no row passes). The time is the processor's, the least of several runs; `factor` is the time a row against that of the
 smallest tables. Instructions are counted by `valgrind --tool=callgrind` where valgrind is there, and allocations by
-`valgrind --tool=memcheck` where besides a table has at most COUNTED rows. The program is what `./anyk` has built on its first use, or what ANYK names.
+`valgrind --tool=memcheck` where besides a table has at most COUNTED rows. The program is what `./anyk` has built on its first use, or
+what ANYK names, and its C library takes large blocks in huge pages, as `./anyk` asks it to, where GLIBC_TUNABLES says nothing else.
 """
 import os
 import re
@@ -23,8 +24,6 @@ TOP = os.path.dirname(os.path.dirname(os.path.abspath(__file__)))
 PROGRAM = os.environ.get("ANYK", os.path.join(TOP, "crates/anyk_cli/out/anyk_cli"))
 JOIN = "select R.a, S.c from R, S where R.b = S.b order by R.w + S.w limit 1"
 READ = "select R.a, S.c from R, S where R.b = S.b and R.a = '' and S.c = '' order by R.w + S.w limit 1"
-
-
 COUNTED = 100000
 
 # the value of the join column in a row, by a number that is drawn for the row
@@ -92,6 +91,7 @@ def counts(folder, rows):
 
 
 def main():
+    os.environ.setdefault("GLIBC_TUNABLES", "glibc.malloc.hugetlb=1")
     sizes = [int(it) for it in sys.argv[1:]] or [10000, 100000, 1000000]
     print("%-8s %10s %12s %12s %10s %8s %20s %14s" % ("order", "rows", "read, s", "whole, s", "ns a row", "factor", "instructions a row", "allocations"))
     for order in KEYS:
