@@ -9,7 +9,8 @@ of 7. Each join column has ROWS / 10 values, so that a row meets ten of the next
 made before the time starts; the answers' sums are compared). Seconds are those of the whole command; `read` is a run of the program
 with `limit 0`, so that what ranking takes is what stands above it. `writing` is the processor time that the system took in the run
 with anyK-part, above that of `read`: each answer is written by one call as soon as it is known. The program is what `./anyk` has built on its first use, or
-what ANYK names. A sqlite3 run that takes longer than 100 seconds is given up.
+what ANYK names, and its C library takes large blocks in huge pages, as `./anyk` asks it to, where GLIBC_TUNABLES says nothing else.
+A sqlite3 run that takes longer than 100 seconds is given up.
 """
 import multiprocessing
 import os
@@ -97,6 +98,7 @@ def by_sqlite(*work):
 
 
 def main():
+    os.environ.setdefault("GLIBC_TUNABLES", "glibc.malloc.hugetlb=1")
     print("%d rows a table; seconds\n" % ROWS)
     print("%-10s %8s %8s %8s %8s %8s %10s %10s" % ("query", "answers", "read", "part", "writing", "rec", "sqlite3", "rec/part"))
     for shape, (tables, equalities) in SHAPES.items():
