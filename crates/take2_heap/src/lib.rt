@@ -14,6 +14,3 @@ mod sift;
 pub use entry::Entry;
 pub use heap::HeapOf;
 pub use sift::heapify;
-
-#[cfg(test)]
-mod tests;
