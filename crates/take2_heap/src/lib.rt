@@ -9,11 +9,13 @@
 
 mod entry;
 mod heap;
+mod order;
 mod sift;
 
 pub use entry::Entry;
 pub use heap::HeapOf;
-pub use sift::heapify;
+pub use order::KeyOrder;
+pub use sift::{heapify, heapify_by};
 
 #[cfg(test)]
 mod tests;
