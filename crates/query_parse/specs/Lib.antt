@@ -7,5 +7,6 @@ pub mod Tokens
 pub mod Scanned
 pub mod Parse
 pub mod Text
+pub mod TokenForms
 pub mod Same
 pub mod TextOrder

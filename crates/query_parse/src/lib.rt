@@ -7,6 +7,7 @@
 #![tactic(auto)]
 
 pub mod fault;
+mod laws;
 pub mod name;
 mod parsing;
 mod reader;
@@ -17,6 +18,7 @@ mod token;
 mod writing;
 
 pub use fault::ParseFault;
+pub use laws::{scans_are_longest, tokens_are_longest};
 pub use name::{Bytes, Name};
 pub use parsing::{MAX_BYTES, MAX_ITEMS, MAX_KEYS, parse};
 pub use select::{ColumnRef, Equality, ItemRef, KeyRef, Select, SelectList, Side, Term};
