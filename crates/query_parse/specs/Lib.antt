@@ -9,4 +9,5 @@ pub mod Parse
 pub mod Text
 pub mod TokenForms
 pub mod Same
+pub mod SameLaws
 pub mod TextOrder

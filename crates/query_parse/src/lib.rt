@@ -6,6 +6,7 @@
 //! `text` writes a query in one canonical form, which `parse` reads as the same query.
 #![tactic(auto)]
 
+mod equality;
 pub mod fault;
 mod laws;
 pub mod name;
