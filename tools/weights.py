@@ -109,10 +109,12 @@ def records_of(content):
     csv.field_size_limit(len(content) + 1)
     reader = csv.reader(lines_of(content.decode("latin-1")), strict=True)
     while True:
+        first = reader.line_num + 1
         try:
             fields = next(reader, None)
         except csv.Error as error:
-            raise Fault(f"line {reader.line_num}: {error}") from None
+            is_open = "unexpected end" in str(error)
+            raise Fault(f"line {first}: " + ("a quote is never closed" if is_open else str(error))) from None
         if fields is None:
             return
         if fields:
@@ -153,7 +155,7 @@ class Table:
 
     def take_row(self, fields, width, place):
         if len(fields) != width:
-            raise Fault(f"{len(fields)} fields, where the header has {width}")
+            raise Fault(f"{len(fields)} field{'' if len(fields) == 1 else 's'}, where the header has {width}")
         weight = weight_of(fields[place], self.scale)
         if weight is not None:
             self.changed += weight != fields[place]
