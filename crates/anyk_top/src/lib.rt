@@ -12,8 +12,6 @@ mod plan;
 mod request;
 mod run;
 mod session;
-#[cfg(test)]
-mod tests;
 mod top;
 
 pub use top::{run_uncounted, run_words};

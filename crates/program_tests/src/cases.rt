@@ -1,5 +1,5 @@
 //! A call of the program over files in memory, and what is to come of it.
-use crate::run_uncounted;
+use anyk_top::run_uncounted;
 use outer_io::{MemFile, MemShelf, MemSink, have_distinct_names};
 use std::alloc::{AllocError, Global};
 use std::marker::Brand;
