@@ -5,6 +5,8 @@
 #[cfg(test)]
 mod binding;
 #[cfg(test)]
+mod equality;
+#[cfg(test)]
 mod fixtures;
 #[cfg(test)]
 mod graphs;

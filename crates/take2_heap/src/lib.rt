@@ -9,8 +9,10 @@
 
 mod entry;
 mod heap;
+mod order;
 mod sift;
 
 pub use entry::Entry;
 pub use heap::HeapOf;
-pub use sift::heapify;
+pub use order::KeyOrder;
+pub use sift::{heapify, heapify_by};
