@@ -92,7 +92,7 @@ fn join_tree_of(query: &Query) -> Result<JoinTree, PlanFault>
     match tree_shape(query) {
         Ok(tree) => Ok(tree),
         Err(ShapeFault::Cyclic(core)) => Err(PlanFault::Cyclic(core)),
-        Err(ShapeFault::TooManyRows) => Err(PlanFault::TooManyRows(MOST_NODE_ROWS as u64)),
+        Err(ShapeFault::TooManyRows) => unreachable!(),
         Err(ShapeFault::NoMemory) => Err(PlanFault::NoMemory),
     }
 }

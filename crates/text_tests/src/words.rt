@@ -95,7 +95,7 @@ fn is_refused(alloc: Global, texts: &[&str]) -> Result<bool, AllocError> {
 #[test]
 fn refuses_what_is_no_command(rt: HostRuntime) -> Result<(), AllocError> {
     let alloc = rt.alloc();
-    let refused: [&[&str]; 26] = [
+    let refused: [&[&str]; 32] = [
         &[],
         &["stop", "q.sql", "R=a"],
         &["Run", "q.sql", "R=a"],
