@@ -4,7 +4,7 @@ use Rattle.std.proofs.lemmas.Bool.{cases_lt, cases_eq}
 use Rattle.std.proofs.lemmas.Bool.Decides.{nat_tests}
 use Rattle.tdp_core.specs.TreeData.{NodeData, parent, child_count, child_place, kids_below}
 use Rattle.tdp_core.proofs.Children.{kids_below-first, kids_below-child, kids_below-other}
-use Rattle.suffix_streams.specs.Rankings.{child_among, child, part_end}
+use Rattle.suffix_streams.specs.Rankings.{child_among, child}
 
 kids_at : (parent : ℕ → ℕ) (v n : ℕ) → 0 < n → parent n ≡ v → kids_below parent v (suc n) ≡ kids_below parent v n + 1
 kids_at parent v n some e = let next : suc n ≡ n + 1 = omega arith in ap (kids_below parent v) next ∙ kids_below-child parent v n some e

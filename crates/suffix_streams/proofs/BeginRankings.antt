@@ -1,21 +1,19 @@
 -- The ranking of the root's group is the tree's.
-use Rattle.std.proofs.Common.{◌≡◌, ◌≢◌, ℕ, zero, suc, ◌+◌, ◌-◌, ◌*◌, ◌<◌, ◌≤◌, List, [], ◌∷◌, length, get_or, refl, sym, ap, subst, inl, inr, arith}
+use Rattle.std.proofs.Common.{◌≡◌, ℕ, zero, suc, ◌-◌, ◌*◌, ◌<◌, ◌≤◌, List, [], ◌∷◌, length, get_or, refl, sym, ap, subst, inl, inr, arith}
 use Rattle.std.proofs.lemmas.Bool.{cases_lt}
 use Rattle.std.proofs.lemmas.List.{get_or_past}
-use Rattle.rankings.specs.Order.{IsRanking, ranked}
+use Rattle.rankings.specs.Order.{ranked}
 use Rattle.tdp_model.specs.KeyTuple.{KeyOf, key_below, key_add, key_none, slot_of}
 use Rattle.tdp_model.specs.Regions.{completes, stands, place_of}
-use Rattle.tdp_model.specs.TreeProblem.{rows_after, GroupHas, PartHas, gather}
+use Rattle.tdp_model.specs.TreeProblem.{rows_after, GroupHas, gather}
 use Rattle.tdp_model.proofs.KeyTuples.{tuple_keys}
 use Rattle.tdp_model.proofs.Begin.{IsRanking-same, ranking_of_root}
 use Rattle.tdp_model.proofs.Bridge.{deeper, shallower}
-use Rattle.tdp_model.proofs.Parts.{part_skip, part_skipped, row_of_part, part_of_row}
-use Rattle.tdp_core.specs.TreeData.{NodeData, node_at, parent, item, number, rows, members, group, group_count, child_count, rank, best}
+use Rattle.tdp_core.specs.TreeData.{NodeData, node_at, parent, item, number, rows, members, group, group_count, rank, best}
 use Rattle.tdp_core.specs.WellFormed.{IsFormed, IsTieFreeTree}
 use Rattle.tdp_core.specs.Solutions.{IsTreeRanking}
 use Rattle.tdp_core.proofs.TreeFacts.{tree_of, tie_free_of}
-use Rattle.tdp_core.proofs.Children.{kids_below-child}
-use Rattle.suffix_streams.specs.Rankings.{RowSolution, GroupSolution, solution_keys, part_end, part_list, group_list}
+use Rattle.suffix_streams.specs.Rankings.{solution_keys, group_list}
 use Rattle.suffix_streams.proofs.Rankings.{group_is_ranking}
 
 module _ {R : Type 0} (d : ℕ) (key : R → KeyOf d 16) (t : List (NodeData R)) where

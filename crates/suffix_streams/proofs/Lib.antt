@@ -33,3 +33,7 @@ pub mod SearchCosts
 pub mod SearchCalls
 pub mod SearchRoom
 pub mod SearchSteps
+pub mod RowSearch
+pub mod NextCall
+pub mod QueuePass
+pub mod ProductPass
