@@ -132,6 +132,7 @@ impl<E: Ranked> Cursors<E> {
     /// Moves a cursor to place 0. `Unknown` where it is not open.
     pub fn rewind(&mut self, id: CursorId) -> Result<(), CursorFault>
         ensures rewound { IfOk result (λ _. IsSome (place_of self.old id.number) × (self.new ≡ with_place self.old id.number (Some 0))) }
+        ensures place { IfOk result (λ _. place_of self.new id.number ≡ Some 0) }
         ensures refused { IfErr result (λ e. (e ≡ CursorFault.Unknown id) × (place_of self.old id.number ≡ None) × (self.new ≡ self.old)) }
     {
         self.places[id.number].ok_or(CursorFault::Unknown(id))?;
