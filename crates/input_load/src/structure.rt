@@ -1,5 +1,5 @@
 //! The structure of the bound query.
-ghost use Rattle.std.specs.Prelude.{◌≡◌, ◌≤◌, IfOk, Ok, length};
+ghost use Rattle.std.specs.Prelude.{◌≡◌, IfOk, Ok};
 ghost use Rattle.plan_report.specs.Stored.{IsStored};
 ghost use Rattle.query_bind.specs.Weighed.{Fits};
 ghost use Rattle.query_shape.specs.Shape.{IsShape};
