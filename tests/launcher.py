@@ -1,11 +1,11 @@
 #!/usr/bin/env python3
 """Tries the launcher ./anyk, its hints and what it installs, over stand-ins for `rt` and for the program.
 
-usage: tests/launcher.py [PROGRAM]
+usage: tests/launcher.py [TEST ..]
 
-Each test has a small checkout of its own, with the launcher, tools/ and man/ of this one, a few crates, and on the PATH a
+All tests are run where none is named; other words are passed over. Each test has a small checkout of its own, with the launcher, tools/ and man/ of this one, a few crates, and on the PATH a
 script `rt` that writes what the real one writes. What only some machines allow, as a file system that is mounted noexec, is
-passed over elsewhere. Where PROGRAM is ./anyk, or is not given, and the real program is built, the hints are also tried with it.
+passed over elsewhere. Where the real program is built, the hints are also tried with it.
 """
 import importlib.util
 import os
@@ -26,7 +26,7 @@ REAL = f"{TOP}/crates/anyk_cli/out/anyk_cli"
 NOBODY = 65534
 SYSTEM = "/usr/bin:/bin"
 # What the launcher and the stand-in for the program call.
-NEEDED = ("bash", "env", "find", "readlink", "cat", "sh")
+NEEDED = ("bash", "env", "find", "perl", "readlink", "cat", "sh")
 CRATES = "# A small house.\nlow:\nmiddle: low\nanyk_cli: low middle std\nother_tests: low\n"
 
 RT = """#!/bin/sh
@@ -273,6 +273,8 @@ def test_what_is_current(house):
     house.source("low", "proofs/two/Proof.antt", "a new file\n")
     builds(True)
     shutil.rmtree(f"{house.top}/crates/low/proofs/two")
+    builds(True)
+    house.source("middle", "specs/Lib.antt", "a first spec\n")
     builds(True)
     house.source("other_tests", "src/lib.rt", "//! No part of the program.\n")
     builds(False)

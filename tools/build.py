@@ -7,6 +7,7 @@ It ends with status 0 where the program is built from the sources as they are, a
 One call at a time builds; another one waits for it. These files stand beside the program:
 
 - anyk_cli.sums: the checksums of the sources and of the program that was built from them;
+- anyk_cli.files: the names of the sources and of their folders, for tools/current.pl;
 - anyk_cli.unfinished: a build began and did not end well, so that the program, if there is one, is not to be run;
 - build.log: what `rt` said.
 
@@ -32,6 +33,7 @@ CRATE = f"{TOP}/crates/anyk_cli"
 OUT = f"{CRATE}/out"
 PROGRAM = f"{OUT}/anyk_cli"
 SUMS = f"{PROGRAM}.sums"
+FILES = f"{PROGRAM}.files"
 UNFINISHED = f"{PROGRAM}.unfinished"
 STAMP = f"{PROGRAM}.stamp"
 LOG = f"{OUT}/build.log"
@@ -87,22 +89,44 @@ def sum_of(file):
         return hashlib.sha256(it.read()).hexdigest()
 
 
-def sum_of_sources(crates):
-    """The checksum of all that the program is made from: the names and bytes of the crates' sources, and crates.txt."""
-    files = [f"{TOP}/crates.txt"]
+def sources_of(crates):
+    """All that the program is made from, in a fixed order: crates.txt, and the folders and files of the crates' sources."""
+    folders, files = [], [f"{TOP}/crates.txt"]
     for crate in crates:
+        folders.append(f"{TOP}/crates/{crate}")
         for part in PARTS:
-            for at, folders, names in os.walk(f"{TOP}/crates/{crate}/{part}"):
-                folders.sort()
+            for at, below, names in os.walk(f"{TOP}/crates/{crate}/{part}"):
+                below.sort()
+                folders.append(at)
                 files += [f"{at}/{name}" for name in sorted(names)]
+    return folders, files
+
+
+def sum_of_sources(crates):
+    """The checksum of the names and the bytes of the sources."""
     total = hashlib.sha256()
-    for file in files:
+    for file in sources_of(crates)[1]:
         total.update(f"{os.path.relpath(file, TOP)}\0{sum_of(file)}\n".encode(errors="surrogateescape"))
     return total.hexdigest()
 
 
+def write(file, text):
+    """Writes a file in one step, so that no other call meets half of it."""
+    with open(f"{file}.new", "w", encoding="utf-8", errors="surrogateescape") as it:
+        it.write(text)
+    os.replace(f"{file}.new", file)
+
+
+def mark(crates, began):
+    """Lets the next calls see that the program is that of the sources as they were at a time. Its own time is set to one shortly
+    before, so that what is written from then on is newer than it, by coarse clocks too."""
+    folders, files = sources_of(crates)
+    write(FILES, "".join(f"{os.path.relpath(it, TOP)}\n" for it in folders + files))
+    os.utime(PROGRAM, ns=(began - 100_000_000,) * 2)
+
+
 def is_same(crates):
-    """Whether the program is the one that was built from the sources as they are, and if so lets the next calls see it by its time."""
+    """Whether the program is the one that was built from the sources as they are, and if so marks it as that, where it can."""
     if os.path.exists(UNFINISHED):
         return False
     began = time.time_ns()
@@ -113,13 +137,8 @@ def is_same(crates):
     except OSError:
         return False
     with contextlib.suppress(OSError):
-        set_time(began)
+        mark(crates, began)
     return True
-
-
-def set_time(began):
-    """Gives the program a time shortly before, so that what is written from then on is newer than it, by coarse clocks too."""
-    os.utime(PROGRAM, ns=(began - 100_000_000,) * 2)
 
 
 def free_memory():
@@ -228,16 +247,18 @@ def why_not(text):
 
 def allow_as_sources():
     """Lets whoever may read the sources run the program, whatever the umask of this call is."""
-    for made, like in ((OUT, CRATE), (PROGRAM, f"{TOP}/anyk"), (SUMS, f"{TOP}/crates.txt")):
+    for made, like in ((OUT, CRATE), (PROGRAM, f"{TOP}/anyk"), (SUMS, f"{TOP}/crates.txt"), (FILES, f"{TOP}/crates.txt")):
         with contextlib.suppress(OSError):
             os.chmod(made, os.stat(made).st_mode & 0o7777 | os.stat(like).st_mode & 0o555)
 
 
 def build(crates, lock):
     """Has `rt` prove the crates side by side and build the program, and returns whether that went well."""
-    os.makedirs(OUT, exist_ok=True)
+    for crate in crates:
+        # Now, so that no folder of the sources changes in the build.
+        os.makedirs(f"{TOP}/crates/{crate}/out", exist_ok=True)
     open(UNFINISHED, "w").close()
-    for it in (SUMS, STAMP, PROGRAM):
+    for it in (SUMS, FILES, STAMP, PROGRAM):
         with contextlib.suppress(FileNotFoundError):
             os.remove(it)
     began, sources = time.time_ns(), sum_of_sources(crates)
@@ -260,11 +281,9 @@ def build(crates, lock):
     if sum_of_sources(crates) != sources:
         say("the program was not built, since a source was changed meanwhile: call again")
         return False
-    with open(f"{SUMS}.new", "w", encoding="utf-8") as it:
-        it.write(f"{sources}\n{sum_of(PROGRAM)}\n")
-    os.replace(f"{SUMS}.new", SUMS)
+    write(SUMS, f"{sources}\n{sum_of(PROGRAM)}\n")
+    mark(crates, began)
     allow_as_sources()
-    set_time(began)
     os.remove(UNFINISHED)
     if progress.is_shown:
         say(f"the program is proved and built, in {minutes(time.monotonic() - progress.began)}")
