@@ -3,9 +3,10 @@
 
 usage: tests/launcher.py [TEST ..]
 
-All tests are run where none is named; other words are passed over. Each test has a small checkout of its own, with the launcher, tools/ and man/ of this one, a few crates, and on the PATH a
-script `rt` that writes what the real one writes. What only some machines allow, as a file system that is mounted noexec, is
-passed over elsewhere. Where the real program is built, the hints are also tried with it.
+All tests are run where none is named; other words are passed over. Each test has a small checkout of its own, with the launcher,
+tools/ and man/ of this one, a few crates, and on the PATH a script `rt` that writes what the real one writes. What only some
+machines allow, as a file system that is mounted noexec, is passed over elsewhere. Where the real program is built, the hints are
+also tried with it.
 """
 import importlib.util
 import os
@@ -81,6 +82,7 @@ fi
 [ $# -gt 0 ] || { echo 'anyk: usage' >&2; exit 2; }
 [ "$1" != input ] || cat
 [ "$1" != signal ] || kill -TERM $$
+[ "$1" != wait ] || { echo waiting; sleep 30; }
 echo "VERSION in $(pwd) with ${GLIBC_TUNABLES-nothing}"
 printf '<%s>' "$@"
 echo
@@ -166,16 +168,18 @@ class House:
         how = self.how(more, **{"stdout": subprocess.PIPE, "stderr": subprocess.PIPE, "start_new_session": True, **how})
         return subprocess.Popen([f"{self.top}/anyk", *words], **how)
 
-    def on_terminal(self, *words, more=None, by=None, **how):
-        """The same, with a terminal for the error output."""
+    def on_terminal(self, *words, more=None, by=None, after=None, **how):
+        """The same, with a terminal for the error output. `after` is called with what was started."""
         master, slave = pty.openpty()
         mode = termios.tcgetattr(slave)
         mode[1] &= ~termios.OPOST
         termios.tcsetattr(slave, termios.TCSANOW, mode)
         how = self.how(more, **{"stdout": subprocess.PIPE, **how})
-        ran = subprocess.Popen([*(by or [f"{self.top}/anyk"]), *words], stderr=slave, **how)
+        ran = subprocess.Popen([*(by or [f"{self.top}/anyk"]), *words], stderr=slave, start_new_session=bool(after), **how)
         os.close(slave)
         said = b""
+        if after:
+            after(ran)
         while True:
             try:
                 piece = os.read(master, 65536)
@@ -406,7 +410,12 @@ def test_two_at_once(house):
     third = house.start("three", more={"ANYK_NO_BUILD": "1"})
     same(third.communicate(timeout=30)[0], b"")
     same(third.returncode, 1)
-    for ran_on, word, said in ((second, "two", b"anyk: another call builds the program: this one waits for it\n"), (first, "one", None)):
+    waits = b"anyk: another call builds the program: this one waits for it\n"
+    calls = [(second, "two", waits), (first, "one", None)]
+    if os.geteuid() == 0:
+        # One who could not build waits too.
+        calls.append((house.start("four", more=few_commands(house, *NEEDED, "python3"), **as_nobody(house)), "four", waits))
+    for ran_on, word, said in calls:
         output, error = ran_on.communicate(timeout=30)
         same((ran_on.returncode, output.decode()), (0, ran(1, house.top, [word])))
         check(said in (None, error), error)
@@ -523,7 +532,7 @@ def test_progress(house):
     write(f"{house.room}/pause", "1.3")
     status, output, error = house.on_terminal("x")
     same((status, output), (0, ran(1, house.top, ["x"])))
-    has(error, "the progress is in", "\ranyk: 0 of 3 crates, under a minute so far", "of 3 crates", "the program is proved and built")
+    has(error, "the progress is in", "\ranyk: 0 of 3 crates proved, under a minute so far", "of 3 crates", "the program is proved and built")
     os.remove(f"{house.room}/pause")
     # The time that is left is told where a table says what crates take.
     write(f"{house.top}/tools/gate_times.tsv", "crate\tproof seconds\nlow\t600\nmiddle\t1200.5\nanyk_cli\t30\n")
@@ -614,7 +623,7 @@ REFUSALS = [
     (["session", *WORDS], 2, "usage", ["--script is missing", "usage: anyk session"]),
     (["load", "--rows", "3"], 2, "usage", ["--number is missing", "usage: anyk load"]),
     (["plan", "--rows", *WORDS], 2, "usage", ["--rows is no option of plan"]),
-    (["run", "wrong.sql", "trains=t.csv"], 3, "syntax error at byte 43", ["line 3 of wrong.sql:", at("WHERE t.price < 200", 14)]),
+    (["run", "wrong.sql", "trains=t.csv"], 3, "syntax error at byte 43", ["line 3 of wrong.sql:", at("WHERE t.price < 200", 14), "there is no inequality"]),
     (["run", "end.sql", "trains=t.csv"], 3, "syntax error at byte 14", ["(the end of the query)", at("SELECT a FROM", 13)]),
     (["run", "long.sql", "trains=t.csv"], 3, "syntax error at byte 309", ["    ... aaaa", "? from trains\n"]),
     (["session", "--script", "s1.txt", *WORDS], 3, "script line 3: bad line", ["line 3 of s1.txt:\n", "    next  a 1\n", "rewind NAME", "a second space"]),
@@ -652,6 +661,7 @@ LARGE = [
     (["run", *WORDS], 8, "more than 4194304 node rows", ["use smaller tables"]),
     (["session", "--script", "s1.txt", *WORDS], 8, "script: more than 10000 lines", ["next takes many answers"]),
     (["session", "--script", "s1.txt", *WORDS], 8, "script line 1: more than 64 cursors", ["open a"]),
+    (["run", "union.sql", "bad=bad.csv"], 4, "byte 46: unknown column", [at(FILES["union.sql"], 46), "(bad.csv) has the columns city, a\\nb, n"]),
     (["run", "union.sql", "bad=bad.csv"], 5, "item 1: row 3: column 3: not a weight", ["Mend the field"]),
 ]
 
@@ -685,6 +695,9 @@ def test_hints(house):
     # Names of every kind go through as they are.
     for name in ("a: no header", "x\ny", "å", "\udcff", "", "%s", "-n"):
         same(house.on_terminal("run", more={"SAYS": f"file {name}: not found", "STATUS": "9"})[2][: len(name) + 23], f"anyk: file {name}: not found\n")
+    # An interrupt ends the call and the program.
+    for words in (["wait"], ["wait", "more"]):
+        same(house.on_terminal(*words, after=lambda it: (it.stdout.readline(), os.killpg(it.pid, signal.SIGINT))), (-signal.SIGINT, "", ""))
     # An accepted call is as without a terminal.
     same(house.on_terminal("x"), (0, ran(1, house.top, ["x"]), ""))
     same(house.on_terminal("signal")[0], 128 + signal.SIGTERM)

@@ -204,7 +204,7 @@ class Progress:
         self.read()
         passed = time.monotonic() - self.began
         left = seconds_left(self.crates, self.done, self.jobs, passed, self.times)
-        text = f"anyk: {len(self.done)} of {len(self.crates)} crates, {minutes(passed)} so far"
+        text = f"anyk: {len(self.done)} of {len(self.crates)} crates proved, {minutes(passed)} so far"
         if len(self.done) == len(self.crates):
             text += ", and now the program"
         elif left is not None:
@@ -317,35 +317,36 @@ def cannot_be_written(crates):
 
 def why_no_build(crates):
     """Why no build is begun, or None."""
-    if os.environ.get("ANYK_NO_BUILD"):
-        return "ANYK_NO_BUILD forbids to build it"
     if not shutil.which("rt"):
         return "rt, which builds it, is not found"
     folder = cannot_be_written(crates)
-    if folder:
-        return f"{folder} cannot be written"
-    return None
+    return f"{folder} cannot be written" if folder else None
+
+
+def refuse(why):
+    state = "is not built from the sources as they are" if os.path.lexists(PROGRAM) else "is not built yet"
+    say(f"the program {state}, and {why}")
+    return 1
 
 
 def main():
     crates = crates_below("anyk_cli", text_of(f"{TOP}/crates.txt"))
     if not crates:
-        say(f"the program is not built, and {TOP}/crates.txt does not name it")
-        return 1
+        return refuse(f"{TOP}/crates.txt does not name it")
     if is_same(crates):
         return 0
     if os.path.isfile(PROGRAM) and not os.access(PROGRAM, os.R_OK):
         say(f"the program is built, but this user may not run it ({PROGRAM})")
         return 1
+    if os.environ.get("ANYK_NO_BUILD"):
+        return refuse("ANYK_NO_BUILD forbids to build it")
+    lock = locked()
+    if is_same(crates):
+        return 0
     why = why_no_build(crates)
-    if not why:
-        lock = locked()
-        if is_same(crates):
-            return 0
-        return 0 if build(crates, lock) else 1
-    state = "is not built from the sources as they are" if os.path.lexists(PROGRAM) else "is not built yet"
-    say(f"the program {state}, and {why}")
-    return 1
+    if why:
+        return refuse(why)
+    return 0 if build(crates, lock) else 1
 
 
 def stop(*_):

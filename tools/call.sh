@@ -35,7 +35,8 @@ call() {
     # reads at random. Another value of the variable stays, also an empty one.
     export GLIBC_TUNABLES=${GLIBC_TUNABLES-glibc.malloc.hugetlb=1}
     if [ ! -x "$program" ]; then
-        echo "anyk: the program is built and stays, but it may not be run: its file system is mounted noexec, or its permissions forbid it ($program)" >&2
+        printf 'anyk: %s is built and stays, but it may not be run: %s\n' "$program" \
+            "its file system is mounted noexec, or its permissions forbid it" >&2
         exit 1
     fi
     if [ ! -t 2 ] || ! command -v python3 > /dev/null || ! { exec {output}>&1; } 2> /dev/null; then

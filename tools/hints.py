@@ -22,6 +22,17 @@ OPTIONS = {"run": ("--engine", "--ranks", "--rows"), "session": ("--engine", "--
            "load": ("--engine", "--number", "--rows")}
 KEYWORDS = {b"select", b"from", b"where", b"and", b"order", b"by", b"limit", b"asc", b"desc", b"as", b"join", b"inner", b"on",
             b"union", b"all"}
+# What other dialects have and this one has not, by the token where it shows.
+MISSING = {
+    **dict.fromkeys("<>!", "no inequality; a table of the pairs that are allowed can stand for one"),
+    **dict.fromkeys("()", "no function and no subquery"),
+    **dict.fromkeys(("left", "right", "full", "outer"), "no outer join"),
+    **{it: f"no {it.upper()}" for it in ("distinct", "like", "in", "between", "having", "offset")},
+    "or": "no OR: ask once for each side",
+    "group": "no GROUP BY",
+    "/": "no division and no comment",
+    "#": "no comment",
+}
 # The parts of a query: names, strings, numbers, signs.
 TOKEN = re.compile(rb"""\s+|[A-Za-z_][A-Za-z0-9_]*|"(?:[^"]|"")*"|'(?:[^']|'')*'|[0-9]+|.""", re.S)
 WIDTH = 72
@@ -35,6 +46,11 @@ def shown(text):
     return text if len(text) <= WIDTH else text[: WIDTH - 4] + " ..."
 
 
+def plain(part):
+    """A part of a line with one sign for each place, so that a caret below it stands right."""
+    return "".join(it if it.isprintable() else " " if it == "\t" else "?" for it in part.decode(errors="replace"))
+
+
 def listed(names):
     names = [shown(it) or "(empty)" for it in names]
     return ", ".join(names[:SHOWN]) + (f" and {len(names) - SHOWN} more" if len(names) > SHOWN else "")
@@ -43,12 +59,12 @@ def listed(names):
 def nearest(name, known):
     """The known name that is most like the name, or None."""
     same = [it for it in known if it.strip().lower() == name.strip().lower()]
-    like = same or difflib.get_close_matches(name, known, 1) or difflib.get_close_matches(name.lower(), [it for it in known if it.islower()], 1)
+    like = same or difflib.get_close_matches(name, known, 1)
     return like[0] if like else None
 
 
 def perhaps(name, known):
-    found = nearest(name, [it for it in known if it != name])
+    found = nearest(name, [it for it in known if it != name]) if name is not None else None
     return f"; perhaps {shown(repr(found) if found != found.strip() else found)} is meant" if found else ""
 
 
@@ -60,11 +76,12 @@ def is_file(name):
         return False
 
 
-def bytes_of(name):
+def bytes_of(name, most=LARGEST):
+    """The bytes of a file, or None where it cannot be read a second time."""
     if not is_file(name):
         return None
     with open(name, "rb") as file:
-        return file.read(LARGEST)
+        return file.read(most)
 
 
 def records(name):
@@ -134,7 +151,7 @@ class Query:
 
     def name_at(self, place):
         """The name that a token stands for, or None."""
-        if not 0 <= place < len(self.words) or self.words[place] in KEYWORDS:
+        if place is None or place >= len(self.words) or self.words[place] in KEYWORDS:
             return None
         token = self.words[place]
         if token[:1] == b'"':
@@ -146,17 +163,20 @@ class Query:
     def place_of(self, at):
         return next((place for place, (start, _) in enumerate(self.tokens) if start == at), None)
 
-    def items(self):
-        """The items: the offset of each, its table and its alias."""
-        found, place = [], self.words.index(b"from") + 1 if b"from" in self.words else len(self.words)
-        while self.name_at(place) is not None:
-            at, table = self.tokens[place][0], self.name_at(place)
+    def items(self, at=0):
+        """The items of the select that has this offset: the offset of each, its table and its alias."""
+        cuts = [place for place, word in enumerate(self.words) if word == b"union"]
+        first = max([place for place in cuts if self.tokens[place][0] < at], default=0)
+        last = min([place for place in cuts if place > first], default=len(self.words))
+        found, place = [], first + (self.words[first:last] + [b"from"]).index(b"from") + 1
+        while place < last and self.name_at(place) is not None:
+            start, table = self.tokens[place][0], self.name_at(place)
             place += 1
             place += self.words[place : place + 1] == [b"as"]
             alias = self.name_at(place)
             place += alias is not None
-            found.append((at, table, table if alias is None else alias))
-            while place < len(self.words) and self.words[place] not in (b",", b"join", b"where", b"order", b"limit", b"union", b";"):
+            found.append((start, table, table if alias is None else alias))
+            while place < last and self.words[place] not in (b",", b"join", b"where", b"order", b"limit", b";"):
                 place += 1
             if self.words[place : place + 1] not in ([b","], [b"join"]):
                 break
@@ -182,8 +202,7 @@ class Query:
         at = min(at, len(self.text.rstrip())) if is_end else at
         start = self.text.rfind(b"\n", 0, at) + 1
         end = (self.text.find(b"\n", at) + 1 or len(self.text) + 1) - 1
-        clean = lambda part: "".join(it if it.isprintable() else " " if it == "\t" else "?" for it in part.decode(errors="replace"))
-        before, after = clean(self.text[start:at]), clean(self.text[at:end].rstrip(b"\r"))
+        before, after = plain(self.text[start:at]), plain(self.text[at:end].rstrip(b"\r"))
         if len(before) > WIDTH - 20:
             before = "... " + before[-(WIDTH - 24) :]
         room = WIDTH - len(before)
@@ -206,10 +225,10 @@ def item_named(query, number):
 
 def kind_of(name):
     """What else than a table with commas a file seems to be, or None."""
-    head = (bytes_of(name) or b"")[:4096]
-    if head[:2] == b"\x1f\x8b":
+    head = bytes_of(name, 2) or b""
+    if head == b"\x1f\x8b":
         return "it is compressed: unpack it first, as by gzip -dc"
-    if head[:2] in (b"\xff\xfe", b"\xfe\xff"):
+    if head in (b"\xff\xfe", b"\xfe\xff"):
         return "it is UTF-16: convert it first, as by iconv -f utf16 -t utf8"
     header = header_of(name)
     for sign, called in ((";", "semicolons"), ("\t", "tabs"), ("|", "bars")):
@@ -219,7 +238,9 @@ def kind_of(name):
 
 
 def on_syntax(call, query, at):
-    return query.caret(at)
+    place, lines = query.place_of(at), query.caret(at)
+    token = query.tokens[place][1].lower().decode(errors="replace") if place is not None else ""
+    return lines + ([f"there is {MISSING[token]}"] if token in MISSING else [])
 
 
 def on_limit(call, query, at):
@@ -228,17 +249,20 @@ def on_limit(call, query, at):
 
 def on_unknown_table(call, query, at):
     name, known = query.name_at(query.place_of(at)), [it for it, _ in call.tables]
-    return [*query.caret(at), f"the words give {'the table ' if len(known) == 1 else 'the tables '}{listed(known)}{perhaps(name, known)}"]
+    tables = "table" if len(known) == 1 else "tables"
+    return [*query.caret(at), f"the words give the {tables} {listed(known)}{perhaps(name, known)}"]
 
 
 def on_alias_twice(call, query, number):
+    if not query.is_one:
+        return []
     at, _, alias = query.items()[number - 1]
     first = [it for _, _, it in query.items()].index(alias) + 1
-    return [*query.caret(at), f"item {first} has the alias {shown(alias)} too"] if query.is_one else []
+    return [*query.caret(at), f"item {first} has the alias {shown(alias)} too"]
 
 
 def on_unknown_alias(call, query, at):
-    name, items = query.name_at(query.place_of(at)), query.items()
+    name, items = query.name_at(query.place_of(at)), query.items(at)
     tables = [alias for _, table, alias in items if table == name]
     more = f"; the table {shown(name)} is called {listed(tables)} there" if tables else perhaps(name, [it for _, _, it in items])
     return [*query.caret(at), f"the items are {listed([it for _, _, it in items])}{more}"]
@@ -246,7 +270,9 @@ def on_unknown_alias(call, query, at):
 
 def on_unknown_column(call, query, at):
     place = query.place_of(at)
-    first, items, lines = query.name_at(place), query.items(), query.caret(at)
+    first, items, lines = query.name_at(place), query.items(at), query.caret(at)
+    if place is None:
+        return lines
     has_alias = query.words[place + 1 : place + 2] == [b"."]
     name = query.name_at(place + 2) if has_alias else first
     files = {}
@@ -265,14 +291,16 @@ def on_unknown_column(call, query, at):
 
 def on_ambiguous(call, query, at):
     name, lines = query.name_at(query.place_of(at)), query.caret(at)
-    having = [alias for _, table, alias in query.items() if name in header_of(call.file_of(table) or "")]
+    having = [alias for _, table, alias in query.items(at) if name in header_of(call.file_of(table) or "")]
     return lines + ([f"write {' or '.join(f'{shown(it)}.{shown(name)}' for it in having)}"] if having else [])
 
 
 def on_no_header(call, query, name):
     file = call.file_of(name)
-    size = len(bytes_of(file) or b"") if file and is_file(file) else None
-    return [f"the file is {shown(file)}" + ("" if size is None else ", which is empty" if size == 0 else ", which has empty lines alone")] if file else []
+    content = bytes_of(file)
+    if content is None:
+        return [f"the file is {shown(file)}"]
+    return [f"the file is {shown(file)}, which {'has empty lines alone' if content else 'is empty'}"]
 
 
 def on_name_twice(call, query, name, column):
@@ -487,7 +515,8 @@ TELLERS = {
 
 def refusals(page):
     """The refusals that the page lists: the form of the line, what it means and what to do."""
-    return [it.groups() for it in re.finditer(r"(?m)^\| (?:\d+ \| )?`([^`]+)` \| (.+?) \| (.+?) \|$", page.partition("\n## Refusals\n")[2])]
+    section = page.partition("\n## Refusals\n")[2].partition("\n## ")[0]
+    return re.findall(r"(?m)^\| (?:\d+ \| )?`([^`]+)` \| (.+?) \| (.+?) \|$", section)
 
 
 def pattern_of(form):
@@ -499,13 +528,13 @@ def pattern_of(form):
 
 
 def told(form, values, call):
-    """What can be told of a refusal beside the page's sentences."""
-    numbered = [it for value in values for it in (map(int, value.split()) if re.fullmatch("[0-9 ]+", value) and "{name}" not in form else [value])]
-    if "{name}" in form:
-        numbered = [values[0], *map(int, values[1:])]
+    """What can be told of a refusal beside the page's sentences. The values are the name in its line, if it has one, and numbers."""
+    names = values[:1] if "{name}" in form else ()
+    numbers = [int(it) for value in values[len(names) :] for it in value.split()]
     try:
-        return TELLERS[form](call, Query(call.query), *numbered) if form in TELLERS else []
+        return TELLERS[form](call, Query(call.query), *names, *numbers) if form in TELLERS else []
     except Exception:
+        # As where a file was changed meanwhile.
         return []
 
 
