@@ -5,8 +5,8 @@ usage: tests/launcher.py [TEST ..]
 
 All tests are run where none is named; other words are passed over. Each test has a small checkout of its own, with the launcher,
 tools/ and man/ of this one, a few crates, and on the PATH a script `rt` that writes what the real one writes. What only some
-machines allow, as a file system that is mounted noexec, is passed over elsewhere. Where the real program is built, the hints are
-also tried with it.
+machines allow, as a file system that is mounted noexec, is passed over elsewhere. Where the real program is built, or the variable
+ANYK names it, the hints are also tried with it.
 """
 import importlib.util
 import os
@@ -23,7 +23,7 @@ import time
 from concurrent.futures import ThreadPoolExecutor
 
 TOP = os.path.dirname(os.path.dirname(os.path.abspath(__file__)))
-REAL = f"{TOP}/crates/anyk_cli/out/anyk_cli"
+REAL = os.environ.get("ANYK", f"{TOP}/crates/anyk_cli/out/anyk_cli")
 NOBODY = 65534
 SYSTEM = "/usr/bin:/bin"
 # What the launcher and the stand-in for the program call.
@@ -38,7 +38,7 @@ case "$1 $2" in
 'all check')
     state=ok
     for crate in low middle anyk_cli; do
-        [ ! -f "$RT_ROOM/pause" ] || sleep "$(cat "$RT_ROOM/pause")"
+        while [ -f "$RT_ROOM/hold-$crate" ]; do sleep 0.05; done
         echo "== $crate"
         if [ $state != ok ]; then continue; fi
         if broken $crate; then
@@ -168,8 +168,18 @@ class House:
         how = self.how(more, **{"stdout": subprocess.PIPE, "stderr": subprocess.PIPE, "start_new_session": True, **how})
         return subprocess.Popen([f"{self.top}/anyk", *words], **how)
 
-    def on_terminal(self, *words, more=None, by=None, after=None, **how):
-        """The same, with a terminal for the error output. `after` is called with what was started."""
+    def hold(self, crate):
+        """Lets rt wait before a crate."""
+        write(f"{self.room}/hold-{crate}", "")
+
+    def go(self, crate):
+        """Lets rt go on with a crate that it waits before."""
+        if os.path.exists(f"{self.room}/hold-{crate}"):
+            os.remove(f"{self.room}/hold-{crate}")
+
+    def on_terminal(self, *words, more=None, by=None, after=None, watch=None, **how):
+        """The same, with a terminal for the error output. `after` is called with what was started, and `watch` with what was written
+        so far."""
         master, slave = pty.openpty()
         mode = termios.tcgetattr(slave)
         mode[1] &= ~termios.OPOST
@@ -188,6 +198,8 @@ class House:
             if not piece:
                 break
             said += piece
+            if watch:
+                watch(said.decode(errors="replace"))
         os.close(master)
         output = ran.communicate(timeout=50)[0] or b""
         return ran.returncode, output.decode(), said.decode(errors="surrogateescape")
@@ -219,7 +231,11 @@ def as_nobody(house):
     """What runs a command as a user who does not own the checkout."""
     if os.geteuid() != 0:
         raise Skipped("only root can call as another user")
-    return {"user": NOBODY, "group": NOBODY, "extra_groups": []}
+    other = {"user": NOBODY, "group": NOBODY, "extra_groups": []}
+    for tried in (["cat", f"{house.top}/anyk"], ["python3", "-ISc", ""]):
+        if subprocess.run(tried, **house.how(capture_output=True, **other)).returncode:
+            raise Skipped(f"another user cannot run {tried[0]} here")
+    return other
 
 
 def ran(version, where, words, tunables="glibc.malloc.hugetlb=1"):
@@ -380,15 +396,14 @@ def test_broken_off(house):
     house.built()
     for number, how in enumerate((signal.SIGINT, signal.SIGTERM, signal.SIGHUP, signal.SIGKILL), 2):
         house.version(number)
-        write(f"{house.room}/pause", "30")
-        ran_on = house.start("x")
+        house.hold("middle")
+        begun = house.start("x")
         until(lambda: os.path.exists(f"{house.room}/calls"))
-        os.killpg(ran_on.pid, how)
-        output, _ = ran_on.communicate(timeout=20)
-        same(output, b"")
-        check(ran_on.returncode in (1, -how), how, ran_on.returncode)
+        os.killpg(begun.pid, how)
+        same(begun.communicate(timeout=20)[0], b"")
+        check(begun.returncode in (1, -how), how, begun.returncode)
         house.calls()
-        os.remove(f"{house.room}/pause")
+        house.go("middle")
         same(house.call("x", more={"ANYK_NO_BUILD": "1"})[:2], (1, ""))
         same(house.call("x")[:2], (0, ran(number, house.top, ["x"])))
         same(len(house.calls()), 2)
@@ -403,37 +418,33 @@ def until(holds):
 
 
 def test_two_at_once(house):
-    write(f"{house.room}/pause", "0.4")
+    house.hold("low")
     first = house.start("one")
     until(lambda: os.path.exists(f"{house.room}/calls"))
-    second = house.start("two")
-    third = house.start("three", more={"ANYK_NO_BUILD": "1"})
-    same(third.communicate(timeout=30)[0], b"")
-    same(third.returncode, 1)
-    waits = b"anyk: another call builds the program: this one waits for it\n"
-    calls = [(second, "two", waits), (first, "one", None)]
+    others = {"two": house.start("two"), "three": house.start("three")}
     if os.geteuid() == 0:
         # One who could not build waits too.
-        calls.append((house.start("four", more=few_commands(house, *NEEDED, "python3"), **as_nobody(house)), "four", waits))
-    for ran_on, word, said in calls:
-        output, error = ran_on.communicate(timeout=30)
-        same((ran_on.returncode, output.decode()), (0, ran(1, house.top, [word])))
-        check(said in (None, error), error)
+        others["four"] = house.start("four", more=few_commands(house, *NEEDED, "python3"), **as_nobody(house))
+    for it in others.values():
+        same(it.stderr.readline(), b"anyk: another call builds the program: this one waits for it\n")
+    same(house.call("x", more={"ANYK_NO_BUILD": "1"})[:2], (1, ""))
+    house.go("low")
+    for word, begun in [("one", first), *others.items()]:
+        output, error = begun.communicate(timeout=40)
+        same((begun.returncode, output.decode(), error.count(b"\n")), (0, ran(1, house.top, [word]), int(word == "one")))
     same(len(house.calls()), 2)
     # Where the first one fails, the one that waits builds for itself, and fails too.
     house.source("low", "src/lib.rt", "BROKEN\n")
-    both = [house.start("x"), house.start("y")]
-    for ran_on in both:
-        same(ran_on.communicate(timeout=30)[0], b"")
-        same(ran_on.returncode, 1)
+    for begun in [house.start("x"), house.start("y")]:
+        same(begun.communicate(timeout=40)[0], b"")
+        same(begun.returncode, 1)
 
 
 def test_many_at_once(house):
-    write(f"{house.room}/pause", "0.1")
     many = [house.start(str(it)) for it in range(6)]
-    for number, ran_on in enumerate(many):
-        output, _ = ran_on.communicate(timeout=40)
-        same((ran_on.returncode, output.decode()), (0, ran(1, house.top, [str(number)])))
+    for number, begun in enumerate(many):
+        output, _ = begun.communicate(timeout=40)
+        same((begun.returncode, output.decode()), (0, ran(1, house.top, [str(number)])))
     same(len(house.calls()), 2)
 
 
@@ -496,7 +507,7 @@ def few_commands(house, *names):
     shutil.rmtree(folder, ignore_errors=True)
     os.makedirs(folder)
     for name in names:
-        os.symlink(shutil.which(name, path=SYSTEM) or shutil.which(name), f"{folder}/{name}")
+        os.symlink(shutil.which(name, path=SYSTEM) or sys.executable, f"{folder}/{name}")
     return {"PATH": folder}
 
 
@@ -511,6 +522,9 @@ def test_without_python(house):
     same((status, output), (1, ""))
     has(error, "python3, which building it needs, is not found")
     house.built()
+    # What was written in the second of the build is looked at once more, by python3.
+    time.sleep(1.1)
+    same(house.call("x")[0], 0)
     same(house.call("x", more=few), (0, ran(1, house.top, ["x"]), ""))
     refusal = {"SAYS": "out of memory", "STATUS": "12"}
     same(house.on_terminal("x", more={**few, **refusal}), (12, "", "anyk: out of memory\n"))
@@ -529,17 +543,25 @@ def test_no_build(house):
 
 
 def test_progress(house):
-    write(f"{house.room}/pause", "1.3")
-    status, output, error = house.on_terminal("x")
+    def watch(said):
+        for number, crate in enumerate(("low", "middle", "anyk_cli")):
+            if f"anyk: {number} of 3 crates proved" in said:
+                house.go(crate)
+
+    def progress():
+        for crate in ("low", "middle", "anyk_cli"):
+            house.hold(crate)
+        return house.on_terminal("x", watch=watch)
+
+    status, output, error = progress()
     same((status, output), (0, ran(1, house.top, ["x"])))
-    has(error, "the progress is in", "\ranyk: 0 of 3 crates proved, under a minute so far", "of 3 crates", "the program is proved and built")
-    os.remove(f"{house.room}/pause")
+    has(error, "the progress is in", "\ranyk: 0 of 3 crates proved, under a minute so far", "\ranyk: 2 of 3 crates proved")
+    has(error, "anyk: the program is proved and built, in under a minute\n")
     # The time that is left is told where a table says what crates take.
     write(f"{house.top}/tools/gate_times.tsv", "crate\tproof seconds\nlow\t600\nmiddle\t1200.5\nanyk_cli\t30\n")
-    write(f"{house.room}/pause", "1.3")
     house.version(2)
-    said = house.on_terminal("x")[2]
-    check(re.search("0 of 3 .*about 3[01] min left.*1 of 3 .*about 2[01] min left", said), said)
+    said = progress()[2]
+    check(re.search("0 of 3 .*about 3[01] min left.*1 of 3 .*about 4 min left", said), said)
 
 
 def module(name):
@@ -558,11 +580,15 @@ def test_estimate(house):
     times = build.times_of("crate\tseconds\nlow\t10\n\nmiddle\t20\textra\nanyk_cli\tnone\nanyk_cli\t5.5\nshort\n")
     same(times, {"low": 10.0, "middle": 20.0, "anyk_cli": 5.5})
     # One after another: each crate stands on the one before.
-    same(build.seconds_left(crates, set(), 4, 0, times), 35.5)
-    same(build.seconds_left(crates, {"low"}, 4, 9, times), 25.5)
-    same(build.seconds_left({"a": [], "b": [], "c": []}, set(), 2, 0, {"a": 10, "b": 20, "c": 30}), 30)
+    same(build.seconds_left(crates, set(), 4, 7, times), 35.5)
+    same(build.seconds_left(crates, {"low"}, 4, 20, times), 51)
+    same(build.seconds_left(crates, {"low", "middle"}, 4, 1, times), 5.5 * 0.2)
+    same(build.seconds_left(crates, {*crates}, 4, 40, times), 0)
+    # Side by side, and with one that the table lacks.
+    same(build.seconds_left({"a": [], "b": [], "c": [], "d": []}, set(), 2, 0, {"a": 10, "b": 20, "c": 30}), 40)
+    # Without a table.
     same(build.seconds_left(crates, {"low"}, 4, 9, {}), None)
-    same(build.seconds_left(dict.fromkeys("abcdef", []), set("abc"), 4, 60, {}), 60)
+    same(build.seconds_left(dict.fromkeys("abcdef", []), set("abc"), 4, 60, {"other": 3}), 60)
     gigabyte = 1_000_000_000
     same([build.at_once(*it) for it in ((4, None), (4, 22 * gigabyte), (4, 5 * gigabyte), (4, gigabyte), (1, 22 * gigabyte))], [4, 4, 2, 1, 1])
     same([build.minutes(it) for it in (5, 61, 150, 3600)], ["under a minute", "1 min", "2 min", "60 min"])
@@ -732,7 +758,7 @@ def test_each_refusal_has_a_sentence(house):
 def test_install(house):
     to = f"{house.room}/an empty folder"
     house.version(1)
-    same(house.call("install", to)[0:2], (0, f"anyk: installed as {to}/bin/anyk\n"))
+    same(house.call("install", to, umask=0o077)[0:2], (0, f"anyk: installed as {to}/bin/anyk\n"))
     same(len(house.calls()), 2)
     found = sorted(os.path.relpath(f"{at}/{it}", to) for at, _, files in os.walk(to) for it in files)
     wanted = ["bin/anyk", "libexec/anyk/anyk_cli", "share/anyk/call.sh", "share/anyk/hints.py", "share/bash-completion/completions/anyk",
@@ -741,10 +767,16 @@ def test_install(house):
     same(found, sorted(wanted))
     # A second time, over what is there, and by a folder that is named from where the call is.
     same(house.call("install", "../an empty folder")[0], 0)
+    others = [{}]
+    try:
+        others.append(as_nobody(house))
+    except Skipped:
+        pass
     os.rename(house.top, f"{house.room}/gone")
     files_in(house)
     by, cwd = [f"{to}/bin/anyk"], f"{house.room}/files"
-    same(house.call("a b", by=by, cwd=cwd), (0, ran(1, cwd, ["a b"]), ""))
+    for other in others:
+        same(house.call("a b", by=by, cwd=cwd, **other), (0, ran(1, cwd, ["a b"]), ""))
     same(house.call("x", by=by, cwd=cwd, more={"GLIBC_TUNABLES": ""})[1], ran(1, cwd, ["x"], ""))
     os.symlink(f"{to}/bin/anyk", f"{house.room}/bin/anyk")
     for call in (["anyk"], ["sh", f"{to}/bin/anyk"]):
@@ -753,8 +785,6 @@ def test_install(house):
     same(house.call("help", "run", by=by, cwd=cwd), (0, read(f"{TOP}/tools/help/run.txt"), ""))
     said = house.on_terminal("run", "circle.sql", by=by, cwd=cwd, more={"SAYS": "cyclic query: items 1 2 3", "STATUS": "6"})[2]
     has(said, "item 2 is b (table trains)", f"{to}/share/doc/anyk/USING.md")
-    if os.geteuid() == 0:
-        same(house.call("x", by=by, cwd=cwd, **as_nobody(house))[1], ran(1, cwd, ["x"]))
 
 
 def test_install_fails(house):

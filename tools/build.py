@@ -166,16 +166,29 @@ def times_of(text):
     return times
 
 
+def work_left(crates, done, jobs, times):
+    """The seconds that the crates which are left take by the table: all of them over the jobs, but at least the longest chain of
+    crates. One that the table lacks is taken for a usual one."""
+    known = [times[it] for it in crates if it in times]
+    usual = sum(known) / len(known)
+    chain, total = {}, 0
+    for crate in crates:
+        if crate not in done:
+            seconds = times.get(crate, usual)
+            total += seconds
+            chain[crate] = seconds + max([chain.get(it, 0) for it in crates[crate]], default=0)
+    return max(total / jobs, max(chain.values(), default=0))
+
+
 def seconds_left(crates, done, jobs, passed, times):
-    """An estimate of the seconds that are left, or None: by the table, the work that is left over the jobs, but at least that of
-    the longest chain of crates; without it, by the crates that are done."""
-    left = [it for it in crates if it not in done]
-    if all(it in times for it in crates):
-        chain = {}
-        for crate in left:
-            chain[crate] = times[crate] + max([chain.get(it, 0) for it in crates[crate]], default=0)
-        return max(sum(times[it] for it in left) / jobs, max(chain.values(), default=0))
-    return passed * len(left) / len(done) if len(done) >= 3 else None
+    """An estimate of the seconds that are left, or None: by the table, and by how fast this machine got on by it so far, or, where
+    there is no table, by the crates that are done."""
+    if not times.keys() & crates.keys():
+        return passed * (len(crates) - len(done)) / len(done) if len(done) >= 3 else None
+    whole, left = work_left(crates, set(), jobs, times), work_left(crates, done, jobs, times)
+    # A small part tells little, and crates that were proved before take no time.
+    pace = passed / (whole - left) if whole - left > whole / 10 else 1
+    return left * min(max(pace, 0.2), 10)
 
 
 def minutes(seconds):

@@ -36,7 +36,9 @@ MISSING = {
 # The parts of a query: names, strings, numbers, signs.
 TOKEN = re.compile(rb"""\s+|[A-Za-z_][A-Za-z0-9_]*|"(?:[^"]|"")*"|'(?:[^']|'')*'|[0-9]+|.""", re.S)
 WIDTH = 72
+# The most bytes that are read of a file, and of a query.
 LARGEST = 67_108_864
+LONGEST = 65_536
 SHOWN = 16
 
 
@@ -143,7 +145,7 @@ class Query:
     """The text of a query, and its items and order keys as far as they can be read."""
 
     def __init__(self, file):
-        self.file, self.text = file, (bytes_of(file) if file else None) or b""
+        self.file, self.text = file, (bytes_of(file, LONGEST) if file else None) or b""
         self.tokens = [(it.start(), it[0]) for it in TOKEN.finditer(self.text) if not it[0].isspace()]
         self.words = [it.lower() if it.lower() in KEYWORDS else it for _, it in self.tokens]
         # With several selects the numbers of items are those of one of them, and it is not known which.
@@ -280,11 +282,11 @@ def on_unknown_column(call, query, at):
         if not has_alias or alias == first:
             files[table] = call.file_of(table)
     known = {table: header_of(file) for table, file in files.items() if file}
+    kinds = {table: kind_of(files[table]) for table in known}
     for table, names in known.items():
         lines.append(f"the table {shown(table)} ({shown(files[table])}) has the columns {listed(names)}")
-        kind = kind_of(files[table])
-        lines += [f"{shown(files[table])}: {kind}"] if kind else []
-    every = list(dict.fromkeys(it for names in known.values() for it in names))
+        lines += [f"{shown(files[table])}: {kinds[table]}"] if kinds[table] else []
+    every = list(dict.fromkeys(it for table, names in known.items() if not kinds[table] for it in names))
     guess = perhaps(name, every)[2:]
     return lines + ([guess] if guess else [])
 
@@ -557,7 +559,7 @@ def main(status, line, *words):
             for it in told(form, found.groups(), Call(words)):
                 print(f"  {it}")
             print(f"  {sentence(meaning)} {sentence(remedy)}")
-            if "'" in remedy:
+            if re.search("'[A-Z][^']*'", remedy):
                 print(f"  (the section is one of {os.path.normpath(page)})")
             return
 

@@ -6,7 +6,7 @@ fi
 set +o posix -u
 
 self=${BASH_SOURCE[0]}
-[ ! -L "$self" ] || self=$(readlink -f -- "$self")
+[ ! -L "$self" ] || self=$(readlink -f -- "$self") || exit 1
 case $self in
     */*) bin=${self%/*} ;;
     *) bin=. ;;
