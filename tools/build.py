@@ -39,6 +39,8 @@ STAMP = f"{PROGRAM}.stamp"
 LOG = f"{OUT}/build.log"
 TIMES = f"{TOP}/tools/gate_times.tsv"
 PARTS = ("src", "specs", "proofs")
+# How the log names a crate whose check was killed, most likely for memory.
+KILLED = re.compile(r"^\S+: failed \(-9\)$", re.M)
 # The memory that the proof of one crate may take, in bytes.
 MEMORY = 2_200_000_000
 # How long the progress on a terminal stands before it is written anew, in seconds.
@@ -65,9 +67,9 @@ def crates_below(name, text):
     """The crates that the crate needs, itself the last, each with those of them that it names, by the text of crates.txt."""
     named = {}
     for row in text.split("\n"):
-        crate, colon, uses = row.partition("#")[0].partition(":")
-        if colon:
-            named[crate.split()[0]] = re.split(r"[\s,]+", uses.strip())
+        words, _, uses = row.partition("#")[0].partition(":")
+        if words.strip():
+            named[words.split()[0]] = re.split(r"[\s,]+", uses.strip())
     found = {}
 
     def visit(crate):
@@ -221,7 +223,7 @@ class Progress:
         if len(self.done) == len(self.crates):
             text += ", and now the program"
         elif left is not None:
-            text += f", about {minutes(left)} left"
+            text += f", {'about ' if left >= 60 else ''}{minutes(left)} left"
         print("\r" + text.ljust(self.width), end="", file=sys.stderr, flush=True)
         self.width = len(text)
 
@@ -249,10 +251,10 @@ def run(words, progress, lock):
 
 
 def why_not(text):
-    """The lines of the log that say why there is no program: of the first crate that failed, or else the last ones."""
+    """The lines of the log that say why there is no program: of the first crate that is not proved, or else the last ones."""
     before, _, summary = text.rpartition("== summary\n")
     failed = re.search(r"(?m)^(\S+): failed ", summary)
-    if failed:
+    if failed and not KILLED.search(summary):
         said = re.split(r"(?m)^== .*\n", before.partition(f"== {failed[1]}\n")[2])[0].splitlines()
         return [f"== {failed[1]}", *said[-20:]]
     return text.splitlines()[-20:]
@@ -281,8 +283,8 @@ def build(crates, lock):
     progress = Progress(crates, jobs)
     try:
         status = run(["all", "check", "--jobs", str(jobs)], progress, lock)
-        # A check that was killed, most likely for memory, is tried again by the next command, which does one at a time.
-        if status == 0 or re.search(r"(?m)^\S+: failed \(-9\)$", text_of(LOG)):
+        # A check that was killed is tried again by the next command, which does one at a time.
+        if status == 0 or KILLED.search(text_of(LOG)):
             # Without words the program says only its usage. `rt` writes the stamp once the program is proved and linked.
             run(["run", "--"], progress, lock)
     finally:
@@ -362,12 +364,23 @@ def main():
     return 0 if build(crates, lock) else 1
 
 
+def open_error():
+    """Where the error output of the call is closed, the shell leaves a file of its own there, which cannot be written."""
+    try:
+        is_open = fcntl.fcntl(2, fcntl.F_GETFL) & os.O_ACCMODE != os.O_RDONLY
+    except OSError:
+        is_open = False
+    if not is_open:
+        os.dup2(os.open(os.devnull, os.O_WRONLY), 2)
+
+
 def stop(*_):
     # What is running is ended on the way out.
     sys.exit(1)
 
 
 if __name__ == "__main__":
+    open_error()
     signal.signal(signal.SIGTERM, stop)
     signal.signal(signal.SIGHUP, stop)
     try:
