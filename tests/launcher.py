@@ -544,6 +544,15 @@ def test_without_python(house):
     same(house.on_terminal("x", more={**few, **refusal}), (12, "", "anyk: out of memory\n"))
 
 
+def test_without_perl(house):
+    few = few_commands(house, *[it for it in NEEDED if it != "perl"], "python3")
+    house.built()
+    same(house.call("x", more=few), (0, ran(1, house.top, ["x"]), ""))
+    house.source("low", "proofs/one/Proof.antt", "another proof\n")
+    same(house.call("x", more=few)[:2], (1, ""))
+    same(house.calls(), [])
+
+
 def test_no_build(house):
     forbidden = {"ANYK_NO_BUILD": "1"}
     same(house.call("x", more=forbidden), (1, "", "anyk: the program is not built yet, and ANYK_NO_BUILD forbids to build it\n"))

@@ -365,13 +365,14 @@ def main():
 
 
 def open_error():
-    """Where the error output of the call is closed, the shell leaves a file of its own there, which cannot be written."""
+    """Puts another error output in place of one that is closed, or where the shell has left a file of its own, only to be read."""
     try:
         is_open = fcntl.fcntl(2, fcntl.F_GETFL) & os.O_ACCMODE != os.O_RDONLY
     except OSError:
         is_open = False
     if not is_open:
         os.dup2(os.open(os.devnull, os.O_WRONLY), 2)
+        sys.stderr = open(2, "w", encoding="utf-8", closefd=False)
 
 
 def stop(*_):
