@@ -664,18 +664,18 @@ def at(text, column):
 # those that need no large file.
 REFUSALS = [
     (["run", "stay.sql"], 2, "usage", ["TABLE=FILE is missing", "usage: anyk run [--engine"]),
-    (["rnu", *WORDS], 2, "usage", ["rnu is no command; perhaps run is meant", "usage: anyk run", "anyk plan QUERYFILE"]),
-    (["run", "--rank", *WORDS], 2, "usage", ["--rank is no option of run; perhaps --ranks is meant"]),
-    (["run", "--ranks", "--ranks", *WORDS], 2, "usage", ["--ranks is there twice"]),
+    (["rnu", *WORDS], 2, "usage", ["rnu is not a command; perhaps run is meant", "usage: anyk run", "anyk plan QUERYFILE"]),
+    (["run", "--rank", *WORDS], 2, "usage", ["--rank is not an option of run; perhaps --ranks is meant"]),
+    (["run", "--ranks", "--ranks", *WORDS], 2, "usage", ["--ranks is given twice"]),
     (["run", "--engine", "best", *WORDS], 2, "usage", ["--engine takes part or rec"]),
-    (["run", *WORDS, "trains=h.csv", "x"], 2, "usage", ["the table trains is there twice", "x is not of the form TABLE=FILE"]),
+    (["run", *WORDS, "trains=h.csv", "x"], 2, "usage", ["the table trains is given twice", "x is not of the form TABLE=FILE"]),
     (["session", *WORDS], 2, "usage", ["--script is missing", "usage: anyk session"]),
     (["load", "--rows", "3"], 2, "usage", ["--number is missing", "usage: anyk load"]),
-    (["plan", "--rows", *WORDS], 2, "usage", ["--rows is no option of plan"]),
+    (["plan", "--rows", *WORDS], 2, "usage", ["--rows is not an option of plan"]),
     (["run", "wrong.sql", "trains=t.csv"], 3, "syntax error at byte 43", ["line 3 of wrong.sql:", at("WHERE t.price < 200", 14), "there is no inequality"]),
     (["run", "end.sql", "trains=t.csv"], 3, "syntax error at byte 14", ["(the end of the query)", at("SELECT a FROM", 13)]),
     (["run", "long.sql", "trains=t.csv"], 3, "syntax error at byte 309", ["    ... aaaa", "? from trains\n"]),
-    (["session", "--script", "s1.txt", *WORDS], 3, "script line 3: bad line", ["line 3 of s1.txt:\n", "    next  a 1\n", "rewind NAME", "a second space"]),
+    (["session", "--script", "s1.txt", *WORDS], 3, "script line 3: bad line", ["line 3 of s1.txt:\n", "    next  a 1\n", "rewind NAME"]),
     (["session", "--script=s2.txt", *WORDS], 3, "script line 4: unknown cursor", ["next frist 1", "open there: first; perhaps first is meant"]),
     (["session", *WORDS, "--script", "s3.txt"], 3, "script line 3: cursor exists", ["a was opened in line 2"]),
     (["run", "table.sql", "trains=t.csv"], 4, "byte 14: unknown table", [at("SELECT * FROM train", 14), "the table trains; perhaps trains is meant"]),
@@ -683,16 +683,16 @@ REFUSALS = [
     (["run", "named.sql", "trains=t.csv"], 4, "byte 7: unknown alias", [at("SELECT trains.train FROM trains t", 7), "the items are t; the table trains is called t there"]),
     (["run", "column.sql", "trains=t.csv"], 4, "byte 9: unknown column", ["line 2 of column.sql", at("  t.prise from trains t", 2), "(t.csv) has the columns train, origin, destination, price", "perhaps price is meant"]),
     (["run", "bare.sql", "trains=t.csv", "hotels=h.csv"], 4, "byte 7: unknown column", ["trains (t.csv)", "hotels (h.csv)", "perhaps price is meant"]),
-    (["run", "semi.sql", "semi=semi.csv"], 4, "byte 7: unknown column", ["parted by semicolons"]),
+    (["run", "semi.sql", "semi=semi.csv"], 4, "byte 7: unknown column", ["separated by semicolons"]),
     (["run", "both.sql", "trains=t.csv", "hotels=h.csv"], 4, "byte 7: ambiguous column", ["write trains.price or h.price"]),
     (["run", "one.sql", "x=none.csv"], 5, "table x: no header", ["the file is none.csv, which is empty"]),
     (["run", "one.sql", "x=twice.csv"], 5, "table x: column 3: name used twice", ["columns 1 and 3 of twice.csv have the name a"]),
     (["run", "one.sql", "x=cut.csv"], 5, "table x: row 2: wrong number of fields", ["line 4 of cut.csv, with 1 where the header has 2:\n", "    1\n"]),
     (["run", "weight.sql", "bad=bad.csv"], 5, "item 1: row 3: column 3: not a weight", ["item 1 is b (table bad), and column 3 is n", "line 6 of bad.csv has '12.5' there: a fraction"]),
-    (["run", "circle.sql", "trains=t.csv"], 6, "cyclic query: items 1 2 3", ["item 1 is a (table trains)", "item 3 is c (table trains)", "See 'Cyclic queries'", "docs/USING.md"]),
+    (["run", "circle.sql", "trains=t.csv"], 6, "cyclic query: items 1 2 3", ["item 1 is a (table trains)", "item 3 is c (table trains)", "docs/USING.md"]),
     (["run", "range.sql", "big=big.csv"], 7, "order key 2: rank may pass 128 bits", ["order key 2 is n - n desc\n"]),
     (["run", "many.sql", "t=t.csv"], 8, "more than 16 items", ["there are 17"]),
-    (["run", "limit.sql", "big=big.csv"], 8, "limit at byte 24 out of range", [at("select n from big limit 99999999999999999999", 24), "Leave the limit out"]),
+    (["run", "limit.sql", "big=big.csv"], 8, "limit at byte 24 out of range", [at("select n from big limit 99999999999999999999", 24)]),
     (["run", "stay.sql", "trains=tt.csv", "hotels=h.csv"], 9, "file tt.csv: not found", ["perhaps t.csv is meant"]),
     (["run", "stay.sql", "trains=~/t.csv", "hotels=h.csv"], 9, "file ~/t.csv: not found", ["write $HOME"]),
     (["run", "none/q.sql", "trains=t.csv"], 9, "file none/q.sql: not found", ["no folder none"]),
@@ -700,26 +700,32 @@ REFUSALS = [
 ]
 # Those that the stand-in alone says.
 LARGE = [
-    (["run", *WORDS], 11, "write failed", ["head", "Make room"]),
-    (["run", *WORDS], 12, "out of memory", ["LIMIT"]),
-    (["run", "stay.sql"], 8, "query longer than 65536 bytes", ["stay.sql has", "shorter names"]),
+    (["run", *WORDS], 11, "write failed", ["head"]),
+    (["run", *WORDS], 12, "out of memory", []),
+    (["run", "stay.sql"], 8, "query longer than 65536 bytes", ["stay.sql has"]),
     (["run", "range.sql", "big=big.csv"], 8, "more than 8 order keys", ["there are 2"]),
     (["run", *WORDS], 8, "file t.csv longer than 67108864 bytes", ["it has"]),
     (["run", *WORDS], 8, "table trains: more than 64 columns", ["the header of t.csv has 4"]),
-    (["run", *WORDS], 8, "table trains: more than 1048576 rows", ["split it"]),
-    (["run", *WORDS], 8, "more than 4194304 node rows", ["use smaller tables"]),
-    (["session", "--script", "s1.txt", *WORDS], 8, "script: more than 10000 lines", ["next takes many answers"]),
+    (["run", *WORDS], 8, "table trains: more than 1048576 rows", []),
+    (["run", *WORDS], 8, "more than 4194304 node rows", []),
+    (["session", "--script", "s1.txt", *WORDS], 8, "script: more than 10000 lines", []),
     (["session", "--script", "s1.txt", *WORDS], 8, "script line 1: more than 64 cursors", ["open a"]),
     (["run", "union.sql", "bad=bad.csv"], 4, "byte 46: unknown column", [at(FILES["union.sql"], 46), "(bad.csv) has the columns city, a\\nb, n"]),
-    (["run", "union.sql", "bad=bad.csv"], 5, "item 1: row 3: column 3: not a weight", ["Mend the field"]),
+    (["run", "union.sql", "bad=bad.csv"], 5, "item 1: row 3: column 3: not a weight", []),
 ]
+
+
+HINTS = module("hints")
+PAGE = HINTS.refusals(read(f"{TOP}/docs/USING.md"))
+# The form of each refusal in the page, and what the page says of it.
+SENTENCES = [(HINTS.pattern_of(form), f"  {HINTS.sentence(meaning)} {HINTS.sentence(remedy)}\n") for form, meaning, remedy in PAGE]
 
 
 def hinted(house, words, status, line, parts):
     got, output, said = house.on_terminal(*words, cwd=f"{house.room}/files", more={"SAYS": line, "STATUS": str(status)})
     same((words, got, output, said[: len(line) + 7]), (words, status, "", f"anyk: {line}\n"))
     hint = said[len(line) + 7 :]
-    has(hint, *parts)
+    has(hint, *parts, *(sentences for form, sentences in SENTENCES if form.fullmatch(line)))
     check(all(it.isprintable() for it in hint.splitlines()), repr(hint))
     check(hint.endswith(("\n")) and hint.splitlines()[0].startswith("  "), hint)
     # Where there is no terminal, nothing is added.
@@ -769,13 +775,12 @@ def test_hints_of_the_program(house):
 
 
 def test_each_refusal_has_a_sentence(house):
-    hints = module("hints")
-    rows = hints.refusals(read(f"{TOP}/docs/USING.md"))
-    forms = [form for form, _, _ in rows]
-    same([it for it in hints.TELLERS if it not in forms], [])
+    same([it for it in HINTS.TELLERS if it not in [form for form, _, _ in PAGE]], [])
     lines = [line for _, _, line, _ in REFUSALS + LARGE]
-    for form in forms:
-        check(any(hints.pattern_of(form).fullmatch(it) for it in lines), f"no line is tried of the form {form}")
+    for form, _ in SENTENCES:
+        check(any(form.fullmatch(it) for it in lines), f"no line is tried of the form {form.pattern}")
+    for line in lines:
+        same((line, sum(bool(form.fullmatch(line)) for form, _ in SENTENCES)), (line, 1))
 
 
 def test_install(house):

@@ -1,20 +1,20 @@
 #!/usr/bin/env python3
-"""Makes the program what the sources are, for ./anyk: it has `rt` prove and build it, where that is not done.
+"""Builds the program for ./anyk: it has `rt` prove and build it, if it is not built from the sources as they are.
 
 usage: tools/build.py
 
-It ends with status 0 where the program is built from the sources as they are, and else with status 1 and a line that says why.
-One call at a time builds; another one waits for it. These files stand beside the program:
+It ends with status 0 if the program is built from the sources as they are, and else with status 1 and a line that says why.
+One call at a time builds; another one waits for it. These files are beside the program:
 
 - anyk_cli.sums: the checksums of the sources and of the program that was built from them;
 - anyk_cli.files: the names of the sources and of their folders, for tools/current.pl;
 - anyk_cli.unfinished: a build began and did not end well, so that the program, if there is one, is not to be run;
 - build.log: what `rt` said.
 
-The sums and the program go before a build starts, so no older program is taken for the new one. The program's time is then
+The sums and the program are removed before a build starts, so no older program is taken for the new one. The program's time is then
 set to a time before its sources were read, and the sources are read again after the build, so no later edit is missed.
 
-Where the error output is a terminal, it tells how far the build is. The time that is left is estimated by the file
+If the error output is a terminal, it shows how far the build is. The time that is left is estimated from the file
 tools/gate_times.tsv, if it is there: a line for each crate, with its name, a tab and the seconds that its proof takes.
 """
 import contextlib
@@ -285,7 +285,7 @@ def build(crates, lock):
         status = run(["all", "check", "--jobs", str(jobs)], progress, lock)
         # A check that was killed is tried again by the next command, which does one at a time.
         if status == 0 or KILLED.search(text_of(LOG)):
-            # Without words the program says only its usage. `rt` writes the stamp once the program is proved and linked.
+            # Without arguments the program says only its usage. `rt` writes the stamp once the program is proved and linked.
             run(["run", "--"], progress, lock)
     finally:
         progress.end()
@@ -387,7 +387,7 @@ if __name__ == "__main__":
     try:
         sys.exit(main())
     except KeyboardInterrupt:
-        say("the build was broken off, and the next call begins it again")
+        say("the build was interrupted, and the next call begins it again")
         sys.exit(1)
     except OSError as error:
         say(f"the program was not built: {error.filename or 'a file'}: {error.strerror}")

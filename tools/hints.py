@@ -1,11 +1,11 @@
 #!/usr/bin/env python3
 """Tells a person what a refusal of the program means: where it is in the query, what the numbers in it name, and what to do.
 
-usage: tools/hints.py STATUS LINE WORD ..
+usage: tools/hints.py STATUS LINE ARGUMENT ..
 
-STATUS and LINE are what the program ended with and wrote, and the words are those of its call. What is told comes below the
-program's line, so it repeats nothing of it. The sentences are those of the tables in 'Refusals' of docs/USING.md, and stand
-there alone. What cannot be found, since a file changed or is no file, is left out.
+STATUS and LINE are what the program ended with and wrote, and the rest are the arguments of its call. A hint comes after the
+program's line, and repeats nothing of it. The sentences are those of the tables in 'Refusals' of docs/USING.md, and are only there.
+What cannot be found, for example since a file has changed, is left out.
 """
 import csv
 import difflib
@@ -24,7 +24,7 @@ KEYWORDS = {b"select", b"from", b"where", b"and", b"order", b"by", b"limit", b"a
             b"union", b"all"}
 # What other dialects have and this one has not, by the token where it shows.
 MISSING = {
-    **dict.fromkeys("<>!", "no inequality; a table of the pairs that are allowed can stand for one"),
+    **dict.fromkeys("<>!", "no inequality; a table of the allowed pairs can take its place"),
     **dict.fromkeys("()", "no function and no subquery"),
     **dict.fromkeys(("left", "right", "full", "outer"), "no outer join"),
     **{it: f"no {it.upper()}" for it in ("distinct", "like", "in", "between", "having", "offset")},
@@ -114,7 +114,7 @@ def header_of(name):
 
 
 class Call:
-    """The words of a call: what stands for the options is taken as the program takes it."""
+    """The arguments of a call, with its options read as the program reads them."""
 
     def __init__(self, words):
         self.command, self.options, self.plain = words[0] if words else "", [], []
@@ -233,9 +233,9 @@ def kind_of(name):
     if head in (b"\xff\xfe", b"\xfe\xff"):
         return "it is UTF-16: convert it first, as by iconv -f utf16 -t utf8"
     header = header_of(name)
-    for sign, called in ((";", "semicolons"), ("\t", "tabs"), ("|", "bars")):
+    for sign, called in ((";", "semicolons"), ("\t", "tabs"), ("|", "vertical bars")):
         if len(header) == 1 and sign in header[0]:
-            return f"its fields are parted by {called}, and commas are wanted"
+            return f"its fields are separated by {called}, and commas are needed"
     return None
 
 
@@ -252,7 +252,7 @@ def on_limit(call, query, at):
 def on_unknown_table(call, query, at):
     name, known = query.name_at(query.place_of(at)), [it for it, _ in call.tables]
     tables = "table" if len(known) == 1 else "tables"
-    return [*query.caret(at), f"the words give the {tables} {listed(known)}{perhaps(name, known)}"]
+    return [*query.caret(at), f"the arguments name the {tables} {listed(known)}{perhaps(name, known)}"]
 
 
 def on_alias_twice(call, query, number):
@@ -302,7 +302,7 @@ def on_no_header(call, query, name):
     content = bytes_of(file)
     if content is None:
         return [f"the file is {shown(file)}"]
-    return [f"the file is {shown(file)}, which {'has empty lines alone' if content else 'is empty'}"]
+    return [f"the file is {shown(file)}, which {'has only empty lines' if content else 'is empty'}"]
 
 
 def on_name_twice(call, query, name, column):
@@ -338,13 +338,13 @@ def on_no_weight(call, query, number, row, column):
 def why_no_weight(field):
     """What is wrong with a field that is no weight, where that is a usual thing."""
     if re.fullmatch(r"[+-]?[0-9]+", field):
-        return ", which is outside of 128 bits or has more than 39 digits"
+        return ", which is not within 128 bits or has more than 39 digits"
     if re.fullmatch(r"[+-]?[0-9]*\.[0-9]+", field):
-        return ": a fraction; write amounts in cents, say"
+        return ": a fraction; write amounts in cents, for example"
     if field.strip() != field and re.fullmatch(r"[+-]?[0-9]+", field.strip()):
-        return ": a blank beside the number"
+        return ": a space beside the number"
     if re.fullmatch(r"[+-]?[0-9]{1,3}([ ,.'_][0-9]{3})+", field):
-        return ": a sign between its digits"
+        return ": another character between its digits"
     if re.fullmatch(r"[+-]?[0-9.]+[eE][+-]?[0-9]+", field):
         return ": a number with an exponent"
     return ""
@@ -423,12 +423,12 @@ def on_many_cursors(call, query, number):
 
 def on_not_found(call, query, name):
     if name.startswith("~"):
-        return ["a shell puts the folder of ~ in place only at the start of a word: write $HOME in its place"]
+        return ["a shell expands ~ only at the start of an argument: write $HOME in its place"]
     folder, last = os.path.split(name)
     try:
         found = nearest(last, os.listdir(folder or "."))
     except OSError:
-        return [f"there is no folder {shown(folder)} either"]
+        return [f"there is no folder {shown(folder)}"]
     return [f"perhaps {shown(os.path.join(folder, found))} is meant"] if found else []
 
 
@@ -439,7 +439,7 @@ def on_read_failed(call, query, name):
 
 
 def on_write_failed(call, query):
-    return ["a reader such as head, which stops early, is no harm: what it read is right; LIMIT is the way to ask for fewer"]
+    return ["a reader that stops early, such as head, does no harm: what it read is right. LIMIT asks for fewer answers"]
 
 
 def on_usage(call, query):
@@ -454,33 +454,33 @@ def on_usage(call, query):
 
 
 def wrong_words(call):
-    """What is wrong with the words, as far as that is plain."""
+    """What is wrong with the arguments, as far as that is plain."""
     if call.command not in COMMANDS:
-        return [f"{shown(call.command) or 'an empty word'} is no command{perhaps(call.command, COMMANDS)}"]
+        return [f"{shown(call.command) or 'an empty argument'} is not a command{perhaps(call.command, COMMANDS)}"]
     known, lines, seen = OPTIONS[call.command], [], set()
     for name, value in call.options:
         if name not in known:
-            lines.append(f"{shown(name)} is no option of {call.command}{perhaps(name, known)}")
+            lines.append(f"{shown(name)} is not an option of {call.command}{perhaps(name, known)}")
         elif name in seen:
-            lines.append(f"{name} is there twice")
+            lines.append(f"{name} is given twice")
         elif name == "--engine" and value not in ("part", "rec"):
             lines.append("--engine takes part or rec")
         seen.add(name)
     wanted = {"session": ("--script",), "load": ("--number", "--rows")}.get(call.command, ())
     lines += [f"{it} is missing" for it in wanted if it not in seen]
-    lines += [f"{shown(it)} is no option" for it in call.plain if it.startswith("-") and len(it) > 1]
+    lines += [f"{shown(it)} is not an option" for it in call.plain if it.startswith("-") and len(it) > 1]
     if call.command == "load":
         return lines + ([f"{shown(call.plain[0])}: load reads no files"] if call.plain else [])
     if not call.plain:
         return [*lines, "QUERYFILE and TABLE=FILE are missing"]
     if len(call.plain) == 1:
-        lines.append("TABLE=FILE is missing: each table of the query wants such a word")
+        lines.append("TABLE=FILE is missing: each table of the query needs one")
     for word in call.plain[1:]:
         name, equals, file = word.partition("=")
         if not (name and equals and file):
-            lines.append(f"{shown(word) or 'an empty word'} is not of the form TABLE=FILE")
+            lines.append(f"{shown(word) or 'an empty argument'} is not of the form TABLE=FILE")
     names = [name for name, _ in call.tables]
-    lines += [f"the table {shown(it)} is there twice" for it in dict.fromkeys(names) if names.count(it) > 1]
+    lines += [f"the table {shown(it)} is given twice" for it in dict.fromkeys(names) if names.count(it) > 1]
     return lines
 
 

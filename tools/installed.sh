@@ -1,5 +1,5 @@
 #!/usr/bin/env bash
-# The installed command: runs the program that stands beside it with the words that follow, and ends with its status.
+# The installed command: runs the installed program with the arguments of the call, and ends with its status.
 if [ -z "${BASH_VERSION:-}" ]; then
     exec bash "$0" "$@"
 fi

@@ -6,6 +6,7 @@
 mod answering;
 mod asking;
 mod ending;
+mod engine;
 mod looking;
 mod plan;
 mod request;

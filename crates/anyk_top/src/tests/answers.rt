@@ -73,6 +73,13 @@ const OVER_OTHER_TABLES: &[Case<'static>] = &[
         out: "a,c\n",
         ..RUN
     },
+    // An empty weight counts 0.
+    Case {
+        words: "run --ranks q.sql R=R.csv S=S.csv",
+        files: &[("R.csv", LEFT), ("S.csv", "b,c,w\nx,p,")],
+        out: "a,c,rank1\n3,p,1\n1,p,3\n",
+        ..RUN
+    },
     // Rows with the same bytes are two rows.
     Case {
         words: "run --rows q.sql R=R.csv S=S.csv",

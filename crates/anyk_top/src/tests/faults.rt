@@ -60,7 +60,8 @@ fn failing_writes_end_a_run(rt: HostRuntime) -> Result<(), AllocError> {
     Ok(())
 }
 
-// What comes of a run over a table that is cut off behind so many of its bytes, from the first to the second number.
+// What comes of a run over a table that is cut off after so many of its bytes, from the first to the second number. A weight that
+// is cut off whole is an empty field, which counts 0.
 const CUT: &[(usize, usize, u8, &str, &str)] = &[
     (0, 0, 5, "", "anyk: table S: no header\n"),
     (1, 2, 4, "", "anyk: byte 12: unknown column\n"),
@@ -73,14 +74,7 @@ const CUT: &[(usize, usize, u8, &str, &str)] = &[
         "",
         "anyk: table S: row 1: wrong number of fields\n",
     ),
-    (
-        10,
-        10,
-        5,
-        "",
-        "anyk: item 2: row 1: column 3: not a weight\n",
-    ),
-    (11, 12, 0, "a,c\n3,p\n1,p\n", ""),
+    (10, 12, 0, "a,c\n3,p\n1,p\n", ""),
     (
         13,
         15,
@@ -88,14 +82,7 @@ const CUT: &[(usize, usize, u8, &str, &str)] = &[
         "",
         "anyk: table S: row 2: wrong number of fields\n",
     ),
-    (
-        16,
-        16,
-        5,
-        "",
-        "anyk: item 2: row 2: column 3: not a weight\n",
-    ),
-    (17, 18, 0, "a,c\n2,q\n3,p\n1,p\n", ""),
+    (16, 18, 0, "a,c\n2,q\n3,p\n1,p\n", ""),
     (
         19,
         21,
@@ -103,13 +90,7 @@ const CUT: &[(usize, usize, u8, &str, &str)] = &[
         "",
         "anyk: table S: row 3: wrong number of fields\n",
     ),
-    (
-        22,
-        22,
-        5,
-        "",
-        "anyk: item 2: row 3: column 3: not a weight\n",
-    ),
+    (22, 22, 0, "a,c\n3,q\n1,q\n2,q\n3,p\n1,p\n", ""),
     (23, 24, 0, FOUND, ""),
 ];
 

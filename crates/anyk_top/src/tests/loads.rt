@@ -14,10 +14,6 @@ const PAIRS: Case<'static> = Case {
 const OF_NUMBERS: &[Case<'static>] = &[
     PAIRS,
     Case {
-        words: "load --number 01 --rows=+2",
-        ..PAIRS
-    },
-    Case {
         words: "load --number 1 --rows 1",
         out: "rows 4\nanswers 1\nfirst 2319\nlast 2319\n",
         ..PAIRS
@@ -37,6 +33,20 @@ const OF_NUMBERS: &[Case<'static>] = &[
     },
     Case {
         words: "load --number 2147483648 --rows 1",
+        status: 2,
+        out: "",
+        err: "anyk: usage\n",
+        ..PAIRS
+    },
+    Case {
+        words: "load --number 01 --rows 2",
+        status: 2,
+        out: "",
+        err: "anyk: usage\n",
+        ..PAIRS
+    },
+    Case {
+        words: "load --number 1 --rows=+2",
         status: 2,
         out: "",
         err: "anyk: usage\n",

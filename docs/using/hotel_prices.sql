@@ -1,0 +1,1 @@
+SELECT hotel FROM hotels ORDER BY price

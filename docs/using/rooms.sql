@@ -1,0 +1,3 @@
+SELECT hotel FROM rooms
+WHERE city = 'Hamar'
+ORDER BY price + breakfast

@@ -1,0 +1,96 @@
+#!/usr/bin/env python3
+"""Merges the outputs of `./anyk run --ranks` for parts of a table into one, best first.
+
+usage: tools/merge.py [--limit N] [--descending K ..] FILE ..
+
+Each FILE is the output of the same query over other parts of its tables, with the columns rank1, rank2 and so on. K is the number of
+an order key that descends. The merged answers are written to the standard output, the first N of them where --limit says so. Equal
+ranks stay in the order of the files. Files are read as far as they are needed. Status 1 says that the files are no such outputs, and
+status 2 that the arguments are not as above.
+"""
+import argparse
+import csv
+import heapq
+import itertools
+import re
+import sys
+
+
+class Fault(Exception):
+    """What is wrong with the files, as a line for the user."""
+
+
+def record_of(fields):
+    """A record, with quotes only where a field needs them, or where it is the empty only one."""
+    if fields == [""]:
+        return '""\n'
+    return ",".join('"' + it.replace('"', '""') + '"' if re.search('[,"\r\n]', it) else it for it in fields) + "\n"
+
+
+def lines_of(file):
+    """The lines of a file with their ends, which are line feeds; what else ends a line stands between quotes in an output."""
+    return (it.decode("latin-1") for it in file)
+
+
+def places_of(header):
+    """The places of rank1, rank2 and so on, which stand side by side, the last of this name first to be found."""
+    starts = [it for it, name in enumerate(header) if name == "rank1"]
+    if not starts:
+        raise Fault("there is no column rank1: call anyk with --ranks")
+    count = next(it for it in itertools.count(1) if header[starts[-1] + it :][:1] != [f"rank{it + 1}"])
+    return range(starts[-1], starts[-1] + count)
+
+
+def ranked(name, records, places, descending):
+    """The records of a file, each behind its sums, those of descending keys negated."""
+    last = None
+    for number, fields in enumerate(records, 1):
+        try:
+            sums = [(-1 if it in descending else 1) * int(fields[place]) for it, place in enumerate(places, 1)]
+        except (IndexError, ValueError):
+            raise Fault(f"{name}: row {number} has no ranks") from None
+        if last is not None and sums < last:
+            raise Fault(f"{name}: row {number} comes too late; does an order key descend? see --descending")
+        last = sums
+        yield sums, fields
+
+
+def merged(names, files, descending):
+    """The header, and the records of all files, best first."""
+    csv.field_size_limit(2**31 - 1)
+    readers = [csv.reader(lines_of(it), strict=True) for it in files]
+    headers = [next(it, None) for it in readers]
+    for name, header in zip(names, headers):
+        if header is None or header != headers[0]:
+            raise Fault(f"{name}: its header is not that of {names[0]}" if header else f"{name}: there is no header")
+    places = places_of(headers[0])
+    lists = [ranked(name, records, places, descending) for name, records in zip(names, readers)]
+    return headers[0], (fields for _, fields in heapq.merge(*lists, key=lambda it: it[0]))
+
+
+def natural(text):
+    if not re.fullmatch("[0-9]{1,18}", text):
+        raise argparse.ArgumentTypeError(f"'{text}' is no number from 0 on")
+    return int(text)
+
+
+def main():
+    parser = argparse.ArgumentParser(prog="tools/merge.py", description="Merges the outputs of ./anyk run --ranks for parts of a table.")
+    parser.add_argument("files", metavar="FILE", nargs="+", help="an output of ./anyk run --ranks")
+    parser.add_argument("--limit", metavar="N", type=natural, help="write the first N answers")
+    parser.add_argument("--descending", metavar="K", type=natural, action="append", default=[], help="order key K descends")
+    given = parser.parse_args()
+    try:
+        files = [open(it, "rb") for it in given.files]
+        header, records = merged(given.files, files, set(given.descending))
+        for fields in itertools.chain([header], itertools.islice(records, given.limit)):
+            sys.stdout.buffer.write(record_of(fields).encode("latin-1"))
+        sys.stdout.buffer.flush()
+    except (Fault, csv.Error, OSError) as error:
+        print(f"merge: {error}", file=sys.stderr)
+        return 1
+    return 0
+
+
+if __name__ == "__main__":
+    sys.exit(main())
