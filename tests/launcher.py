@@ -868,7 +868,8 @@ def test_completion(house):
                                  "--engine --number --rows", "plan", ""])
     for shell, file in (("zsh", "_anyk"), ("fish", "anyk.fish"), ("bash", "anyk.bash")):
         if shutil.which(shell):
-            same((shell, subprocess.run([shell, "-n", f"{TOP}/tools/completions/{file}"], capture_output=True).stderr), (shell, b""))
+            tried_by = subprocess.run([shell, "-n", f"{TOP}/tools/completions/{file}"], **house.how(capture_output=True))
+            same((shell, tried_by.stderr), (shell, b""))
 
 
 def test_scripts_are_clean(house):
