@@ -1,11 +1,11 @@
 #!/usr/bin/env python3
 """Tells a person what a refusal of the program means: where it is in the query, what the numbers in it name, and what to do.
 
-usage: tools/hints.py STATUS LINE WORD ..
+usage: tools/hints.py STATUS LINE ARGUMENT ..
 
-STATUS and LINE are what the program ended with and wrote, and the words are those of its call. What is told comes below the
-program's line, so it repeats nothing of it. The sentences are those of the tables in 'Refusals' of docs/USING.md, and stand
-there alone. What cannot be found, since a file changed or is no file, is left out.
+STATUS and LINE are what the program ended with and wrote, and the rest are the arguments of its call. A hint comes after the
+program's line, and repeats nothing of it. The sentences are those of the tables in 'Refusals' of docs/USING.md, and are only there.
+What cannot be found, for example since a file has changed, is left out.
 """
 import csv
 import difflib
@@ -22,10 +22,23 @@ OPTIONS = {"run": ("--engine", "--ranks", "--rows"), "session": ("--engine", "--
            "load": ("--engine", "--number", "--rows")}
 KEYWORDS = {b"select", b"from", b"where", b"and", b"order", b"by", b"limit", b"asc", b"desc", b"as", b"join", b"inner", b"on",
             b"union", b"all"}
+# What other dialects have and this one has not, by the token where it shows.
+MISSING = {
+    **dict.fromkeys("<>!", "no inequality; a table of the allowed pairs can take its place"),
+    **dict.fromkeys("()", "no function and no subquery"),
+    **dict.fromkeys(("left", "right", "full", "outer"), "no outer join"),
+    **{it: f"no {it.upper()}" for it in ("distinct", "like", "in", "between", "having", "offset")},
+    "or": "no OR: ask once for each side",
+    "group": "no GROUP BY",
+    "/": "no division and no comment",
+    "#": "no comment",
+}
 # The parts of a query: names, strings, numbers, signs.
 TOKEN = re.compile(rb"""\s+|[A-Za-z_][A-Za-z0-9_]*|"(?:[^"]|"")*"|'(?:[^']|'')*'|[0-9]+|.""", re.S)
 WIDTH = 72
+# The most bytes that are read of a file, and of a query.
 LARGEST = 67_108_864
+LONGEST = 65_536
 SHOWN = 16
 
 
@@ -33,6 +46,11 @@ def shown(text):
     """A text as a terminal may show it: no sign that moves or colours, and not too long."""
     text = "".join(it if it.isprintable() else repr(it)[1:-1] for it in text)
     return text if len(text) <= WIDTH else text[: WIDTH - 4] + " ..."
+
+
+def plain(part):
+    """A part of a line with one sign for each place, so that a caret below it stands right."""
+    return "".join(it if it.isprintable() else " " if it == "\t" else "?" for it in part.decode(errors="replace"))
 
 
 def listed(names):
@@ -43,12 +61,12 @@ def listed(names):
 def nearest(name, known):
     """The known name that is most like the name, or None."""
     same = [it for it in known if it.strip().lower() == name.strip().lower()]
-    like = same or difflib.get_close_matches(name, known, 1) or difflib.get_close_matches(name.lower(), [it for it in known if it.islower()], 1)
+    like = same or difflib.get_close_matches(name, known, 1)
     return like[0] if like else None
 
 
 def perhaps(name, known):
-    found = nearest(name, [it for it in known if it != name])
+    found = nearest(name, [it for it in known if it != name]) if name is not None else None
     return f"; perhaps {shown(repr(found) if found != found.strip() else found)} is meant" if found else ""
 
 
@@ -60,11 +78,12 @@ def is_file(name):
         return False
 
 
-def bytes_of(name):
+def bytes_of(name, most=LARGEST):
+    """The bytes of a file, or None where it cannot be read a second time."""
     if not is_file(name):
         return None
     with open(name, "rb") as file:
-        return file.read(LARGEST)
+        return file.read(most)
 
 
 def records(name):
@@ -95,7 +114,7 @@ def header_of(name):
 
 
 class Call:
-    """The words of a call: what stands for the options is taken as the program takes it."""
+    """The arguments of a call, with its options read as the program reads them."""
 
     def __init__(self, words):
         self.command, self.options, self.plain = words[0] if words else "", [], []
@@ -126,7 +145,7 @@ class Query:
     """The text of a query, and its items and order keys as far as they can be read."""
 
     def __init__(self, file):
-        self.file, self.text = file, (bytes_of(file) if file else None) or b""
+        self.file, self.text = file, (bytes_of(file, LONGEST) if file else None) or b""
         self.tokens = [(it.start(), it[0]) for it in TOKEN.finditer(self.text) if not it[0].isspace()]
         self.words = [it.lower() if it.lower() in KEYWORDS else it for _, it in self.tokens]
         # With several selects the numbers of items are those of one of them, and it is not known which.
@@ -134,7 +153,7 @@ class Query:
 
     def name_at(self, place):
         """The name that a token stands for, or None."""
-        if not 0 <= place < len(self.words) or self.words[place] in KEYWORDS:
+        if place is None or place >= len(self.words) or self.words[place] in KEYWORDS:
             return None
         token = self.words[place]
         if token[:1] == b'"':
@@ -146,17 +165,20 @@ class Query:
     def place_of(self, at):
         return next((place for place, (start, _) in enumerate(self.tokens) if start == at), None)
 
-    def items(self):
-        """The items: the offset of each, its table and its alias."""
-        found, place = [], self.words.index(b"from") + 1 if b"from" in self.words else len(self.words)
-        while self.name_at(place) is not None:
-            at, table = self.tokens[place][0], self.name_at(place)
+    def items(self, at=0):
+        """The items of the select that has this offset: the offset of each, its table and its alias."""
+        cuts = [place for place, word in enumerate(self.words) if word == b"union"]
+        first = max([place for place in cuts if self.tokens[place][0] < at], default=0)
+        last = min([place for place in cuts if place > first], default=len(self.words))
+        found, place = [], first + (self.words[first:last] + [b"from"]).index(b"from") + 1
+        while place < last and self.name_at(place) is not None:
+            start, table = self.tokens[place][0], self.name_at(place)
             place += 1
             place += self.words[place : place + 1] == [b"as"]
             alias = self.name_at(place)
             place += alias is not None
-            found.append((at, table, table if alias is None else alias))
-            while place < len(self.words) and self.words[place] not in (b",", b"join", b"where", b"order", b"limit", b"union", b";"):
+            found.append((start, table, table if alias is None else alias))
+            while place < last and self.words[place] not in (b",", b"join", b"where", b"order", b"limit", b";"):
                 place += 1
             if self.words[place : place + 1] not in ([b","], [b"join"]):
                 break
@@ -182,8 +204,7 @@ class Query:
         at = min(at, len(self.text.rstrip())) if is_end else at
         start = self.text.rfind(b"\n", 0, at) + 1
         end = (self.text.find(b"\n", at) + 1 or len(self.text) + 1) - 1
-        clean = lambda part: "".join(it if it.isprintable() else " " if it == "\t" else "?" for it in part.decode(errors="replace"))
-        before, after = clean(self.text[start:at]), clean(self.text[at:end].rstrip(b"\r"))
+        before, after = plain(self.text[start:at]), plain(self.text[at:end].rstrip(b"\r"))
         if len(before) > WIDTH - 20:
             before = "... " + before[-(WIDTH - 24) :]
         room = WIDTH - len(before)
@@ -206,20 +227,22 @@ def item_named(query, number):
 
 def kind_of(name):
     """What else than a table with commas a file seems to be, or None."""
-    head = (bytes_of(name) or b"")[:4096]
-    if head[:2] == b"\x1f\x8b":
+    head = bytes_of(name, 2) or b""
+    if head == b"\x1f\x8b":
         return "it is compressed: unpack it first, as by gzip -dc"
-    if head[:2] in (b"\xff\xfe", b"\xfe\xff"):
+    if head in (b"\xff\xfe", b"\xfe\xff"):
         return "it is UTF-16: convert it first, as by iconv -f utf16 -t utf8"
     header = header_of(name)
-    for sign, called in ((";", "semicolons"), ("\t", "tabs"), ("|", "bars")):
+    for sign, called in ((";", "semicolons"), ("\t", "tabs"), ("|", "vertical bars")):
         if len(header) == 1 and sign in header[0]:
-            return f"its fields are parted by {called}, and commas are wanted"
+            return f"its fields are separated by {called}, and commas are needed"
     return None
 
 
 def on_syntax(call, query, at):
-    return query.caret(at)
+    place, lines = query.place_of(at), query.caret(at)
+    token = query.tokens[place][1].lower().decode(errors="replace") if place is not None else ""
+    return lines + ([f"there is {MISSING[token]}"] if token in MISSING else [])
 
 
 def on_limit(call, query, at):
@@ -228,17 +251,20 @@ def on_limit(call, query, at):
 
 def on_unknown_table(call, query, at):
     name, known = query.name_at(query.place_of(at)), [it for it, _ in call.tables]
-    return [*query.caret(at), f"the words give {'the table ' if len(known) == 1 else 'the tables '}{listed(known)}{perhaps(name, known)}"]
+    tables = "table" if len(known) == 1 else "tables"
+    return [*query.caret(at), f"the arguments name the {tables} {listed(known)}{perhaps(name, known)}"]
 
 
 def on_alias_twice(call, query, number):
+    if not query.is_one:
+        return []
     at, _, alias = query.items()[number - 1]
     first = [it for _, _, it in query.items()].index(alias) + 1
-    return [*query.caret(at), f"item {first} has the alias {shown(alias)} too"] if query.is_one else []
+    return [*query.caret(at), f"item {first} has the alias {shown(alias)} too"]
 
 
 def on_unknown_alias(call, query, at):
-    name, items = query.name_at(query.place_of(at)), query.items()
+    name, items = query.name_at(query.place_of(at)), query.items(at)
     tables = [alias for _, table, alias in items if table == name]
     more = f"; the table {shown(name)} is called {listed(tables)} there" if tables else perhaps(name, [it for _, _, it in items])
     return [*query.caret(at), f"the items are {listed([it for _, _, it in items])}{more}"]
@@ -246,7 +272,9 @@ def on_unknown_alias(call, query, at):
 
 def on_unknown_column(call, query, at):
     place = query.place_of(at)
-    first, items, lines = query.name_at(place), query.items(), query.caret(at)
+    first, items, lines = query.name_at(place), query.items(at), query.caret(at)
+    if place is None:
+        return lines
     has_alias = query.words[place + 1 : place + 2] == [b"."]
     name = query.name_at(place + 2) if has_alias else first
     files = {}
@@ -254,25 +282,27 @@ def on_unknown_column(call, query, at):
         if not has_alias or alias == first:
             files[table] = call.file_of(table)
     known = {table: header_of(file) for table, file in files.items() if file}
+    kinds = {table: kind_of(files[table]) for table in known}
     for table, names in known.items():
         lines.append(f"the table {shown(table)} ({shown(files[table])}) has the columns {listed(names)}")
-        kind = kind_of(files[table])
-        lines += [f"{shown(files[table])}: {kind}"] if kind else []
-    every = list(dict.fromkeys(it for names in known.values() for it in names))
+        lines += [f"{shown(files[table])}: {kinds[table]}"] if kinds[table] else []
+    every = list(dict.fromkeys(it for table, names in known.items() if not kinds[table] for it in names))
     guess = perhaps(name, every)[2:]
     return lines + ([guess] if guess else [])
 
 
 def on_ambiguous(call, query, at):
     name, lines = query.name_at(query.place_of(at)), query.caret(at)
-    having = [alias for _, table, alias in query.items() if name in header_of(call.file_of(table) or "")]
+    having = [alias for _, table, alias in query.items(at) if name in header_of(call.file_of(table) or "")]
     return lines + ([f"write {' or '.join(f'{shown(it)}.{shown(name)}' for it in having)}"] if having else [])
 
 
 def on_no_header(call, query, name):
     file = call.file_of(name)
-    size = len(bytes_of(file) or b"") if file and is_file(file) else None
-    return [f"the file is {shown(file)}" + ("" if size is None else ", which is empty" if size == 0 else ", which has empty lines alone")] if file else []
+    content = bytes_of(file)
+    if content is None:
+        return [f"the file is {shown(file)}"]
+    return [f"the file is {shown(file)}, which {'has only empty lines' if content else 'is empty'}"]
 
 
 def on_name_twice(call, query, name, column):
@@ -308,13 +338,13 @@ def on_no_weight(call, query, number, row, column):
 def why_no_weight(field):
     """What is wrong with a field that is no weight, where that is a usual thing."""
     if re.fullmatch(r"[+-]?[0-9]+", field):
-        return ", which is outside of 128 bits or has more than 39 digits"
+        return ", which is not within 128 bits or has more than 39 digits"
     if re.fullmatch(r"[+-]?[0-9]*\.[0-9]+", field):
-        return ": a fraction; write amounts in cents, say"
+        return ": a fraction; write amounts in cents, for example"
     if field.strip() != field and re.fullmatch(r"[+-]?[0-9]+", field.strip()):
-        return ": a blank beside the number"
+        return ": a space beside the number"
     if re.fullmatch(r"[+-]?[0-9]{1,3}([ ,.'_][0-9]{3})+", field):
-        return ": a sign between its digits"
+        return ": another character between its digits"
     if re.fullmatch(r"[+-]?[0-9.]+[eE][+-]?[0-9]+", field):
         return ": a number with an exponent"
     return ""
@@ -393,12 +423,12 @@ def on_many_cursors(call, query, number):
 
 def on_not_found(call, query, name):
     if name.startswith("~"):
-        return ["a shell puts the folder of ~ in place only at the start of a word: write $HOME in its place"]
+        return ["a shell expands ~ only at the start of an argument: write $HOME in its place"]
     folder, last = os.path.split(name)
     try:
         found = nearest(last, os.listdir(folder or "."))
     except OSError:
-        return [f"there is no folder {shown(folder)} either"]
+        return [f"there is no folder {shown(folder)}"]
     return [f"perhaps {shown(os.path.join(folder, found))} is meant"] if found else []
 
 
@@ -409,7 +439,7 @@ def on_read_failed(call, query, name):
 
 
 def on_write_failed(call, query):
-    return ["a reader such as head, which stops early, is no harm: what it read is right; LIMIT is the way to ask for fewer"]
+    return ["a reader that stops early, such as head, does no harm: what it read is right. LIMIT asks for fewer answers"]
 
 
 def on_usage(call, query):
@@ -424,33 +454,33 @@ def on_usage(call, query):
 
 
 def wrong_words(call):
-    """What is wrong with the words, as far as that is plain."""
+    """What is wrong with the arguments, as far as that is plain."""
     if call.command not in COMMANDS:
-        return [f"{shown(call.command) or 'an empty word'} is no command{perhaps(call.command, COMMANDS)}"]
+        return [f"{shown(call.command) or 'an empty argument'} is not a command{perhaps(call.command, COMMANDS)}"]
     known, lines, seen = OPTIONS[call.command], [], set()
     for name, value in call.options:
         if name not in known:
-            lines.append(f"{shown(name)} is no option of {call.command}{perhaps(name, known)}")
+            lines.append(f"{shown(name)} is not an option of {call.command}{perhaps(name, known)}")
         elif name in seen:
-            lines.append(f"{name} is there twice")
+            lines.append(f"{name} is given twice")
         elif name == "--engine" and value not in ("part", "rec"):
             lines.append("--engine takes part or rec")
         seen.add(name)
     wanted = {"session": ("--script",), "load": ("--number", "--rows")}.get(call.command, ())
     lines += [f"{it} is missing" for it in wanted if it not in seen]
-    lines += [f"{shown(it)} is no option" for it in call.plain if it.startswith("-") and len(it) > 1]
+    lines += [f"{shown(it)} is not an option" for it in call.plain if it.startswith("-") and len(it) > 1]
     if call.command == "load":
         return lines + ([f"{shown(call.plain[0])}: load reads no files"] if call.plain else [])
     if not call.plain:
         return [*lines, "QUERYFILE and TABLE=FILE are missing"]
     if len(call.plain) == 1:
-        lines.append("TABLE=FILE is missing: each table of the query wants such a word")
+        lines.append("TABLE=FILE is missing: each table of the query needs one")
     for word in call.plain[1:]:
         name, equals, file = word.partition("=")
         if not (name and equals and file):
-            lines.append(f"{shown(word) or 'an empty word'} is not of the form TABLE=FILE")
+            lines.append(f"{shown(word) or 'an empty argument'} is not of the form TABLE=FILE")
     names = [name for name, _ in call.tables]
-    lines += [f"the table {shown(it)} is there twice" for it in dict.fromkeys(names) if names.count(it) > 1]
+    lines += [f"the table {shown(it)} is given twice" for it in dict.fromkeys(names) if names.count(it) > 1]
     return lines
 
 
@@ -487,7 +517,8 @@ TELLERS = {
 
 def refusals(page):
     """The refusals that the page lists: the form of the line, what it means and what to do."""
-    return [it.groups() for it in re.finditer(r"(?m)^\| (?:\d+ \| )?`([^`]+)` \| (.+?) \| (.+?) \|$", page.partition("\n## Refusals\n")[2])]
+    section = page.partition("\n## Refusals\n")[2].partition("\n## ")[0]
+    return re.findall(r"(?m)^\| (?:\d+ \| )?`([^`]+)` \| (.+?) \| (.+?) \|$", section)
 
 
 def pattern_of(form):
@@ -499,13 +530,13 @@ def pattern_of(form):
 
 
 def told(form, values, call):
-    """What can be told of a refusal beside the page's sentences."""
-    numbered = [it for value in values for it in (map(int, value.split()) if re.fullmatch("[0-9 ]+", value) and "{name}" not in form else [value])]
-    if "{name}" in form:
-        numbered = [values[0], *map(int, values[1:])]
+    """What can be told of a refusal beside the page's sentences. The values are the name in its line, if it has one, and numbers."""
+    names = values[:1] if "{name}" in form else ()
+    numbers = [int(it) for value in values[len(names) :] for it in value.split()]
     try:
-        return TELLERS[form](call, Query(call.query), *numbered) if form in TELLERS else []
+        return TELLERS[form](call, Query(call.query), *names, *numbers) if form in TELLERS else []
     except Exception:
+        # As where a file was changed meanwhile.
         return []
 
 
@@ -528,7 +559,7 @@ def main(status, line, *words):
             for it in told(form, found.groups(), Call(words)):
                 print(f"  {it}")
             print(f"  {sentence(meaning)} {sentence(remedy)}")
-            if "'" in remedy:
+            if re.search("'[A-Z][^']*'", remedy):
                 print(f"  (the section is one of {os.path.normpath(page)})")
             return
 

@@ -3,6 +3,8 @@
 
 # install_under TOP PROGRAM FOLDER: returns status 1, below the line of what failed, where a file cannot be put there.
 install_under() {
+    # Whoever may come to the folder may use what is there.
+    umask 022
     if put_all "$@"; then
         echo "anyk: installed as $3/bin/anyk"
     else

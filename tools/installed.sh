@@ -1,12 +1,12 @@
 #!/usr/bin/env bash
-# The installed command: runs the program that stands beside it with the words that follow, and ends with its status.
+# The installed command: runs the installed program with the arguments of the call, and ends with its status.
 if [ -z "${BASH_VERSION:-}" ]; then
     exec bash "$0" "$@"
 fi
 set +o posix -u
 
 self=${BASH_SOURCE[0]}
-[ ! -L "$self" ] || self=$(readlink -f -- "$self")
+[ ! -L "$self" ] || self=$(readlink -f -- "$self") || exit 1
 case $self in
     */*) bin=${self%/*} ;;
     *) bin=. ;;
