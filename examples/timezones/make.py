@@ -43,7 +43,11 @@ def main():
     for country, _, zone, *_ in sorted(lines, key=lambda it: it[0]):
         zones.setdefault((country, times_in(zone)[0].utcoffset()), zone)
     kept = sorted(set(zones.values()))
-    hours = [(zone, f"{hour:02}:00", f"{it:%H:%M}", outside(60 * it.hour + it.minute) ** 2) for zone in kept for hour, it in enumerate(times_in(zone))]
+    hours = [
+        (zone, f"{hour:02}:00", f"{it:%H:%M}", outside(60 * it.hour + it.minute) ** 2)
+        for zone in kept
+        for hour, it in enumerate(times_in(zone))
+    ]
     write("zones.csv", [("country", "zone"), *((country, zone) for (country, _), zone in zones.items())])
     write("hours.csv", [("zone", "utc", "local", "strain"), *hours])
 

@@ -38,7 +38,8 @@ def main():
         found = re.findall("[a-z]+", definition.lower())
         postings += [(word, fields[0], times * (1000 // len(found))) for word, times in sorted(collections.Counter(found).items())]
         pointers = fields[5 + 2 * count :]
-        kinds += [(fields[0], pointers[it + 1]) for it in range(0, 4 * int(fields[4 + 2 * count]), 4) if pointers[it] in ("@", "@i") and pointers[it + 2] == "n"]
+        starts = range(0, 4 * int(fields[4 + 2 * count]), 4)
+        kinds += [(fields[0], pointers[it + 1]) for it in starts if pointers[it] in ("@", "@i") and pointers[it + 2] == "n"]
     write("meanings.csv", meanings)
     write("postings.csv", postings)
     write("kinds.csv", kinds)
