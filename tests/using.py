@@ -23,7 +23,7 @@ import tempfile
 
 TOP = os.path.dirname(os.path.dirname(os.path.abspath(__file__)))
 PAGE = "docs/USING.md"
-OPTIONAL = ("gzip", "iconv", "mlr")
+OPTIONAL = ("awk", "gzip", "iconv", "mlr")
 
 
 def commands(lines):

@@ -6,7 +6,6 @@ usage: tests/weights.py
 A word that follows, such as the program's name, plays no part.
 """
 import decimal
-import fractions
 import importlib.util
 import os
 import random
@@ -83,11 +82,11 @@ def as_read(text):
 
 def of_fields(weights):
     for field, scale, wanted in FIELDS:
-        got = weights.weight_of(as_read(field), fractions.Fraction(scale))
+        got = weights.weight_of(as_read(field), weights.number_of(str(scale)))
         yield f"field {field[:50]!r} times {scale}", wanted, got
     for field, scale, wanted in FAULTS:
         try:
-            got = weights.weight_of(as_read(field), fractions.Fraction(scale))
+            got = weights.weight_of(as_read(field), weights.number_of(str(scale)))
         except weights.Fault as fault:
             got = str(fault)
         yield f"field {field[:50]!r} times {scale}", wanted, wanted if got and wanted in got else got
@@ -98,10 +97,12 @@ def of_decimals(weights):
     rng = random.Random(1)
     decimal.getcontext().prec = 60
     for _ in range(2000):
-        whole, places = rng.randint(-(10 ** rng.randint(1, 36)), 10 ** rng.randint(1, 36)), rng.randint(0, 6)
+        whole, places = rng.randint(-(10 ** rng.randint(1, 30)), 10 ** rng.randint(1, 30)), rng.randint(0, 6)
         number = decimal.Decimal(whole).scaleb(-places)
         text = rng.choice([f"{number:f}", f"{number:,f}", f"{number:E}"])
-        yield f"decimal {text}", str(whole), weights.weight_of(text, fractions.Fraction(10**places)) if places else str(weights.number_of(text))
+        other = rng.randint(-(10**5), 10**5)
+        yield f"decimal {text}", str(whole), weights.weight_of(text, (10**places, 0)).lstrip("+")
+        yield f"decimal {text} times {other}", str(whole * other), weights.weight_of(text, weights.number_of(f"{other}e{places}"))
 
 
 def of_calls():

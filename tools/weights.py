@@ -18,7 +18,6 @@ arguments are not; nothing is written to the output then.
 """
 import argparse
 import csv
-import fractions
 import os
 import re
 import sys
@@ -31,6 +30,7 @@ NUMBER = re.compile(
 )
 CURRENCY = "$€£¥"
 LONGEST = 1000
+ONE = (1, 0)
 
 
 class Fault(Exception):
@@ -46,7 +46,7 @@ def text_of(field):
 
 
 def number_of(field):
-    """The number that a field writes, or None where it writes none."""
+    """The number that a field writes, as a whole number and the power of ten that it is multiplied by; None where it writes none."""
     if len(field) > LONGEST:
         return None
     text = text_of(field).replace("\u2212", "-").strip()
@@ -55,25 +55,35 @@ def number_of(field):
     found = NUMBER.fullmatch(sign + bare) or (None if sign else NUMBER.fullmatch(bare))
     if found is None:
         return None
-    digits, fraction, exponent = found["digits"].replace(",", ""), found["fraction"] or "", found["exponent"] or ""
-    return fractions.Fraction(found["sign"] + digits + fraction.rstrip(".") + exponent)
+    sign, digits, fraction, exponent = found.groups("")
+    digits, fraction, exponent = digits.replace(",", ""), fraction[1:], int(exponent[1:] or "0")
+    return int(sign + digits + fraction), exponent - len(fraction)
+
+
+def scaled_by(number, scale):
+    """The product of a number and a scale, which is another, or None where it is not whole."""
+    whole, power = number[0] * scale[0], number[1] + scale[1]
+    if power >= 0:
+        return whole * 10**power
+    quotient, rest = divmod(whole, 10**-power)
+    return quotient if rest == 0 else None
 
 
 def weight_of(field, scale):
     """The field as a weight, or None where it writes no number. An empty field stays empty."""
     if field == "":
         return field
-    if scale == 1 and READY.fullmatch(field) and LEAST <= int(field) <= GREATEST:
+    if scale == ONE and READY.fullmatch(field) and LEAST <= int(field) <= GREATEST:
         return field
     number = number_of(field)
     if number is None:
         return None
-    scaled = number * scale
-    if scaled.denominator != 1:
-        raise Fault(f"'{text_of(field)}' is no whole number" + ("; scale it by 10, 100 or more" if scale == 1 else " after the scaling"))
+    scaled = scaled_by(number, scale)
+    if scaled is None:
+        raise Fault(f"'{text_of(field)}' is no whole number" + ("; scale it by 10, 100 or more" if scale == ONE else " after the scaling"))
     if not LEAST <= scaled <= GREATEST:
         raise Fault(f"'{text_of(field)}' is not within 128 bits")
-    return str(scaled.numerator)
+    return str(scaled)
 
 
 def record_of(fields):
@@ -188,7 +198,7 @@ def arguments():
     parser = argparse.ArgumentParser(prog="tools/weights.py", description="Makes a column of a CSV table ready as a weight of an order key.")
     parser.add_argument("file", metavar="FILE", help="a CSV file, or /dev/stdin")
     parser.add_argument("column", metavar="COLUMN", help="a name in its header")
-    parser.add_argument("--scale", metavar="N", type=scale_argument, default=fractions.Fraction(1), help="multiply each number by N")
+    parser.add_argument("--scale", metavar="N", type=scale_argument, default=ONE, help="multiply each number by N")
     others = parser.add_mutually_exclusive_group()
     others.add_argument("--drop", action="store_true", help="leave out rows whose field is no number")
     others.add_argument("--fill", metavar="N", type=fill_argument, help="write N, not scaled, where a field is no number")

@@ -1,0 +1,168 @@
+#!/usr/bin/env python3
+"""Draws the plots in bench/plots from the tables in bench/RESULTS.md.
+
+usage: bench/plots.py
+
+- ranking.svg: seconds until the first k answers are written, against k, beside sqlite3; both axes are logarithmic. A figure such as
+  `over 100` is drawn as a triangle at its number.
+- preparing.svg: nanoseconds of preparation for each row, against the rows of each table, for each order of the rows.
+
+The tables are found by the heading they stand under and by the names of their columns. After a change of the tables the plots are drawn
+again by the same call.
+"""
+import math
+import os
+import re
+import sys
+
+HERE = os.path.dirname(os.path.abspath(__file__))
+INK, FAINT, GRID = "#222222", "#666666", "#dddddd"
+FONT = "font-family='system-ui, -apple-system, Segoe UI, Helvetica, Arial, sans-serif'"
+# Colours that differ for eyes that see few; each with its own mark and dashes.
+STYLES = [("#0072b2", "circle", ""), ("#d55e00", "square", "7 4"), ("#009e73", "diamond", "2 4")]
+
+
+# ---- tables
+
+def tables_of(text):
+    """Each table as its heading, the names of its columns, and its rows as dictionaries."""
+    heading, block = None, []
+    for line in [*text.split("\n"), ""]:
+        if line.startswith("|"):
+            block.append([it.strip().strip("`") for it in line.strip("|").split("|")])
+            continue
+        if len(block) > 2:
+            yield heading, block[0], [dict(zip(block[0], row)) for row in block[2:]]
+        block = []
+        heading = line[3:] if line.startswith("## ") else heading
+
+
+def table_of(text, heading, column):
+    """The first table under a heading that has a column."""
+    for found, names, rows in tables_of(text):
+        if found == heading and column in names:
+            return names, rows
+    sys.exit(f"plots: RESULTS.md has no table under '{heading}' with a column '{column}'")
+
+
+def number(text):
+    """The number of a figure, and whether it is a bound that was passed."""
+    return float(text.removeprefix("over ").replace(",", "")), text.startswith("over ")
+
+
+# ---- drawing
+
+def escaped(text):
+    return text.replace("&", "&amp;").replace("<", "&lt;")
+
+
+def text_at(x, y, text, size=12, anchor="middle", fill=INK, weight="normal", turn=""):
+    turned = f" transform='rotate({turn} {x:.1f} {y:.1f})'" if turn else ""
+    return f"<text x='{x:.1f}' y='{y:.1f}' font-size='{size}' text-anchor='{anchor}' fill='{fill}' font-weight='{weight}'{turned}>{escaped(text)}</text>"
+
+
+def mark_at(x, y, shape, colour):
+    if shape == "circle":
+        return f"<circle cx='{x:.1f}' cy='{y:.1f}' r='4' fill='{colour}'/>"
+    corners = {"square": ((-4, -4), (4, -4), (4, 4), (-4, 4)), "diamond": ((0, -5), (5, 0), (0, 5), (-5, 0)), "above": ((-6, 5), (0, -6), (6, 5))}[shape]
+    points = " ".join(f"{x + dx:.1f},{y + dy:.1f}" for dx, dy in corners)
+    return f"<polygon points='{points}' fill='{colour}'/>"
+
+
+class Panel:
+    """A pair of axes at a place of the picture."""
+
+    def __init__(self, left, top, width, height, across, up, up_log):
+        self.left, self.top, self.width, self.height = left, top, width, height
+        self.across, self.up, self.up_log = across, up, up_log
+
+    def x(self, value):
+        first, last = self.across[0][0], self.across[-1][0]
+        return self.left + self.width * math.log(value / first) / math.log(last / first)
+
+    def y(self, value):
+        first, last = self.up[0][0], self.up[-1][0]
+        part = math.log(value / first) / math.log(last / first) if self.up_log else (value - first) / (last - first)
+        return self.top + self.height * (1 - part)
+
+    def axes(self, title, below, beside):
+        right, bottom = self.left + self.width, self.top + self.height
+        drawn = [text_at(self.left + self.width / 2, self.top - 14, title, 14, weight="600")] if title else []
+        for value, name in self.up:
+            drawn.append(f"<line x1='{self.left:.1f}' y1='{self.y(value):.1f}' x2='{right:.1f}' y2='{self.y(value):.1f}' stroke='{GRID}'/>")
+            drawn += [text_at(self.left - 7, self.y(value) + 4, name, anchor="end", fill=FAINT)] if beside is not None else []
+        for value, name in self.across:
+            drawn.append(f"<line x1='{self.x(value):.1f}' y1='{bottom:.1f}' x2='{self.x(value):.1f}' y2='{bottom + 5:.1f}' stroke='{FAINT}'/>")
+            drawn.append(text_at(self.x(value), bottom + 19, name, fill=FAINT))
+        drawn.append(f"<line x1='{self.left:.1f}' y1='{bottom:.1f}' x2='{right:.1f}' y2='{bottom:.1f}' stroke='{FAINT}'/>")
+        drawn.append(text_at(self.left + self.width / 2, bottom + 39, below))
+        if beside:
+            drawn.append(text_at(self.left - 46, self.top + self.height / 2, beside, turn="-90"))
+        return drawn
+
+    def line(self, points, style):
+        """A line through points, each with whether it is a bound that was passed."""
+        colour, shape, dashes = style
+        path = " ".join(f"{self.x(x):.1f},{self.y(y):.1f}" for x, y, _ in points)
+        drawn = [f"<polyline points='{path}' fill='none' stroke='{colour}' stroke-width='2.5' stroke-dasharray='{dashes}'/>"]
+        return drawn + [mark_at(self.x(x), self.y(y), "above" if passed else shape, colour) for x, y, passed in points]
+
+
+def legend(left, top, names):
+    drawn = []
+    for (colour, shape, dashes), (name, room) in zip(STYLES, names):
+        drawn.append(f"<line x1='{left}' y1='{top}' x2='{left + 34}' y2='{top}' stroke='{colour}' stroke-width='2.5' stroke-dasharray='{dashes}'/>")
+        drawn += [mark_at(left + 17, top, shape, colour), text_at(left + 42, top + 4, name, 13, "start")]
+        left += room
+    return drawn
+
+
+def write(name, width, height, title, drawn):
+    head = f"<svg xmlns='http://www.w3.org/2000/svg' viewBox='0 0 {width} {height}' width='{width}' height='{height}' role='img' {FONT}>"
+    lines = [head, f"<title>{escaped(title)}</title>", f"<rect width='{width}' height='{height}' fill='#ffffff'/>", *drawn, "</svg>"]
+    with open(f"{HERE}/plots/{name}", "w", encoding="utf-8") as file:
+        file.write("\n".join(lines) + "\n")
+
+
+# ---- the plots
+
+def draw_ranking(text):
+    _, rows = table_of(text, "Ranking", "sqlite3")
+    shapes = list(dict.fromkeys(it["query"] for it in rows))
+    ways = [("--engine part", "anyk, --engine part", 190), ("--engine rec", "anyk, --engine rec", 185), ("sqlite3", "sqlite3 (▲: given up)", 180)]
+    across = [(1, "1"), (10, "10"), (100, "100"), (1000, "1,000"), (10000, ""), (100000, "100,000")]
+    up = [(0.01, "0.01"), (0.1, "0.1"), (1, "1"), (10, "10"), (100, "100")]
+    width, gap, left = 235, 58, 72
+    drawn = legend(left, 24, [(name, room) for _, name, room in ways])
+    for at, shape in enumerate(shapes):
+        panel = Panel(left + at * (width + gap), 82, width, 230, across, up, True)
+        drawn += panel.axes(shape, "k, the answers asked for", "seconds" if at == 0 else None)
+        for (column, _, _), style in reversed(list(zip(ways, STYLES))):
+            points = [(number(it["answers asked for"])[0], *number(it[column])) for it in rows if it["query"] == shape]
+            drawn += panel.line(points, style)
+    write("ranking.svg", left + len(shapes) * (width + gap) - 10, 366, "Seconds until the first k answers are written, against k", drawn)
+
+
+def draw_preparing(text):
+    names, rows = table_of(text, "Preparing", "factor")
+    sizes = [(int(it.removesuffix(" rows").replace(",", "")), it) for it in names if re.fullmatch("[0-9,]+ rows", it)]
+    most = max(number(row[name])[0] for row in rows for _, name in sizes)
+    up = [(it, f"{it}") for it in range(0, 100 * math.ceil(most / 100) + 1, 100)]
+    panel = Panel(82, 66, 430, 230, [(size, name.removesuffix(" rows")) for size, name in sizes], up, False)
+    drawn = legend(82, 24, [(row["order"], 130) for row in rows])
+    drawn += panel.axes("", "rows of each table", "nanoseconds for each row")
+    for row, style in zip(rows, STYLES):
+        drawn += panel.line([(size, *number(row[name])) for size, name in sizes], style)
+    write("preparing.svg", 560, 350, "Nanoseconds of preparation for each row, against the rows of each table", drawn)
+
+
+def main():
+    with open(f"{HERE}/RESULTS.md", encoding="utf-8") as file:
+        text = file.read()
+    os.makedirs(f"{HERE}/plots", exist_ok=True)
+    draw_ranking(text)
+    draw_preparing(text)
+
+
+if __name__ == "__main__":
+    main()
