@@ -1,8 +1,10 @@
 //! Tests of what is made of a query over tables before its answers are printed: nodes, reduction, least keys, the plan, the answers
-//! of both engines, and the second engine in an arena that refuses memory. They are worked examples over the public calls of those crates, in a
-//! crate of their own so that none of those is proved twice for its tests.
+//! of both engines, a cursor that is driven over each, and the second engine in an arena that refuses memory. They are worked examples
+//! over the public calls of those crates, in a crate of their own so that none of those is proved twice for its tests.
 #![tactic(auto)]
 
+#[cfg(test)]
+mod driving;
 #[cfg(test)]
 mod fixtures;
 #[cfg(test)]
