@@ -3,7 +3,8 @@ use query_parse::{Select, parse};
 use std::alloc::Global;
 use std::test::Fail;
 
-const QUERY: &str = "select R.a, S.c from R, S as T where R.b = T.b and T.c = 'x' order by R.w - T.w desc, R.a limit 3";
+const QUERY: &str =
+    "select R.a, S.c from R, S as T where R.b = T.b and T.c = 'x' order by R.w - T.w desc, R.a limit 3";
 
 fn read(alloc: Global, text: &str) -> Result<Select, Fail> {
     Ok(parse(alloc, text.as_bytes())?)
