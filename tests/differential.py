@@ -25,7 +25,7 @@ ALIASES = ["a", "b", "c", "x1", "Q", "left side", "from", "_"]
 COLUMN_NAMES = ["a", "b", "c", "k", "A", "two words", "limit", "søk", "x,y", ""]
 WEIGHT_NAMES = ["w", "v", "price", "W", "by"]
 TEXTS = ["x", "y", "x", "z", "", "1", "01", "-1", "a,b", 'q"q', "it's", "two\nlines", "é", "x "]
-WEIGHTS = ["0", "1", "2", "2", "3", "-1", "-3", "+2", "007", "-0", "10" + "0" * 36, "-1" + "0" * 36]
+WEIGHTS = ["0", "1", "2", "2", "3", "-1", "-3", "+2", "007", "-0", "", "10" + "0" * 36, "-1" + "0" * 36]
 
 
 # ---- csv
@@ -43,6 +43,11 @@ def output_record(fields):
     if fields == [""]:
         return '""\n'
     return ",".join(quoted(it) if needs_quotes(it) else it for it in fields) + "\n"
+
+
+def weight(field):
+    """The weight that a field of an order key writes: an empty one counts 0."""
+    return int(field) if field else 0
 
 
 def table_file(rng, names, rows):
@@ -419,7 +424,7 @@ class Case:
         found = []
         for rows in itertools.product(*[range(1, len(it) + 1) for it in lists]):
             if all(side(rows, left) == side(rows, right) for left, right in equalities):
-                sums = [sum(sign * int(value(rows, column)) for sign, column in terms) for terms, _ in self.keys]
+                sums = [sum(sign * weight(value(rows, column)) for sign, column in terms) for terms, _ in self.keys]
                 compared = [-it if descending else it for it, (_, descending) in zip(sums, self.keys)]
                 found.append((compared, rows, sums))
         found.sort()
@@ -528,7 +533,7 @@ REFUSALS = [
     over(JOIN, 5, "table S: column 3: name used twice", S="b,c,b\n"),
     over(JOIN, 5, "table R: row 2: wrong number of fields", R="a,b,w\n1,x,3\n2,y\n"),
     over(JOIN, 5, "item 1: row 2: column 3: not a weight", R="a,b,w\n1,x,3\n2,y,12x\n"),
-    over(JOIN, 5, "item 2: row 1: column 3: not a weight", S="b,c,w\nx,p,\n"),
+    over(JOIN, 0, "a,c\n3,p\n1,p\n", S="b,c,w\nx,p,\n"),
     over(JOIN, 5, "item 1: row 1: column 3: not a weight", R=f"a,b,w\n1,x,{GREATEST + 1}\n"),
     edges(f"select A.a from E A, E B, E C where {TRIANGLE}", 6, cyclic(1, 2, 3)),
     edges("select A.a from E A join E B on A.b = B.a join E C on C.b = A.a and B.b = C.a order by A.w + B.w limit 0", 6,

@@ -7,23 +7,8 @@ use Rattle.std.proofs.lemmas.Slice.Eq.{bytes_eq-Decides}
 use Rattle.anyk_model.specs.Table.{Table}
 use Rattle.anyk_model.specs.Query.{Equality, Holds, IsCombination, IsWitness, Query, key_of, rank_of, row_counts, side_value, value_of}
 use Rattle.rankings.specs.Order.{BelowAll, IsAscending, IsMember}
+use Rattle.rankings.proofs.Members.{member-left, member-right, member-either}
 use Rattle.anyk_model.specs.Ranking.{IsBefore, IsRanking, combinations, holds, insert_by, is_before, ranking_of, sort_by, witnesses}
-
--- ---- members
-
-member-left : {A : Type 0} (x : A) (xs ys : List A) → IsMember x xs → IsMember x (xs ++ ys)
-member-left x [] ys m = absurd m
-member-left x (y ∷ xs) ys (inl e) = inl e
-member-left x (y ∷ xs) ys (inr m) = inr (member-left x xs ys m)
-
-member-right : {A : Type 0} (x : A) (xs ys : List A) → IsMember x ys → IsMember x (xs ++ ys)
-member-right x [] ys m = m
-member-right x (y ∷ xs) ys m = inr (member-right x xs ys m)
-
-member-append : {A : Type 0} (x : A) (xs ys : List A) → IsMember x (xs ++ ys) → IsMember x xs ⊎ IsMember x ys
-member-append x [] ys m = inr m
-member-append x (y ∷ xs) ys (inl e) = inl (inl e)
-member-append x (y ∷ xs) ys (inr m) = elim (member-append x xs ys m) [ inl a ↦ inl (inr a) | inr b ↦ inr b ]
 
 -- ---- combinations
 
@@ -60,7 +45,7 @@ flat-member f x y (z ∷ xs) (inr m) n = member-right y (f z) (flat_map f xs) (f
 flat-parts : {A B : Type 0} (f : A → List B) (y : B) (xs : List A) → IsMember y (flat_map f xs) → (x : A) × IsMember x xs × IsMember y (f x)
 flat-parts f y [] m = absurd m
 flat-parts f y (z ∷ xs) m =
-    elim (member-append y (f z) (flat_map f xs) m) [
+    elim (member-either y (f z) (flat_map f xs) m) [
       | inl here ↦ (z, inl refl, here)
       | inr later ↦ let p = flat-parts f y xs later in (p.0, inr p.1, p.2)
     ]

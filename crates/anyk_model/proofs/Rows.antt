@@ -235,5 +235,15 @@ first_flaw = refl
 no_digits : weight_of (codes "-") ≡ None
 no_digits = refl
 
-no_text : weight_of [] ≡ None
+no_sign_alone : weight_of (codes "+") ≡ None
+no_sign_alone = refl
+
+no_text : weight_of [] ≡ Some (pos 0)
 no_text = refl
+
+-- an empty field in a column that an order key names counts 0
+empty_weight : output_of by_sum (table r_csv ∷ table (codes "b,c,w\nx,p,") ∷ []) with_ranks
+    (ranking_of by_sum (table r_csv ∷ table (codes "b,c,w\nx,p,") ∷ []))
+    ≡ codes "a,c,rank1\n3,p,1\n1,p,3\n"
+unfolding next_record records_from strip_bom fields_text is_blank escaped digits
+empty_weight = refl

@@ -2,50 +2,16 @@
 use Rattle.std.proofs.Common.{◌≡◌, ℕ, zero, suc, ◌*◌, ◌-◌, ◌/◌, ◌<◌, ◌≤◌, ◌⊎◌, Bool, true, false, cond, nat_eq, List, [], ◌∷◌, ◌++◌, map, length, get_or, refl, sym, ap, ◌∙◌, subst, inl, inr, arith}
 use Rattle.std.proofs.lemmas.Bool.{cases_lt, eq-eqb, eqb-true, cond-true}
 use Rattle.rankings.specs.Order.{IsOrder, IsMember, ranked}
+use Rattle.rankings.proofs.Members.{member-left, member-right, member-either, member-map, member-unmap}
 use Rattle.tdp_model.specs.Remains.{Remains}
 use Rattle.tdp_model.specs.Heap.{under, climbs}
 use Rattle.tdp_model.specs.Regions.{past, is_empty, completes, held, stands, place_of, Region, in_region, in_regions}
 use Rattle.tdp_model.specs.TreeProblem.{gather}
 use Rattle.tdp_model.proofs.Division.{get_place, place_le, stands_yes, stands_place, past_found, past_at, empty_found, append_nil, times_pos}
+use Rattle.tdp_model.proofs.Enumeration.{gather_member, member_gather}
 use Rattle.tdp_model.proofs.Sorting.{ranked_is_ranking}
 use Rattle.rankings.proofs.Unique.{ranking_unique}
 use Rattle.anyk_part.specs.Rest.{completions, region_solutions, held_solutions, ranking_of}
-
-member_left : {X : Type 0} (x : X) (xs ys : List X) → IsMember x xs → IsMember x (xs ++ ys)
-member_left x [] ys m = absurd m
-member_left x (y ∷ xs) ys (inl e) = inl e
-member_left x (y ∷ xs) ys (inr m) = inr (member_left x xs ys m)
-
-member_right : {X : Type 0} (x : X) (xs ys : List X) → IsMember x ys → IsMember x (xs ++ ys)
-member_right x [] ys m = m
-member_right x (y ∷ xs) ys m = inr (member_right x xs ys m)
-
-member_join : {X : Type 0} (x : X) (xs ys : List X) → IsMember x (xs ++ ys) → IsMember x xs ⊎ IsMember x ys
-member_join x [] ys m = inr m
-member_join x (y ∷ xs) ys (inl e) = inl (inl e)
-member_join x (y ∷ xs) ys (inr m) = elim (member_join x xs ys m) [ inl n ↦ inl (inr n) | inr n ↦ inr n ]
-
-map_member : {X K : Type 0} (f : X → K) (y : X) (ys : List X) → IsMember y ys → IsMember (f y) (map f ys)
-map_member f y [] m = absurd m
-map_member f y (z ∷ ys) (inl e) = inl (ap f e)
-map_member f y (z ∷ ys) (inr m) = inr (map_member f y ys m)
-
-member_map : {X K : Type 0} (f : X → K) (k : K) (ys : List X) → IsMember k (map f ys) → (y : X) × IsMember y ys × (k ≡ f y)
-member_map f k [] m = absurd m
-member_map f k (z ∷ ys) (inl e) = (z, inl refl, e)
-member_map {X = X} f k (z ∷ ys) (inr m) = let r : (y : X) × IsMember y ys × (k ≡ f y) = member_map f k ys m in (r.0, inr r.1, r.2)
-
-gather_member : {K : Type 0} (f : ℕ → List K) (k : K) (rs : List ℕ) (i : ℕ) → i < length rs → IsMember k (f (get_or rs i 0)) → IsMember k (gather f rs)
-gather_member f k [] i l m = absurd (omega arith)
-gather_member f k (r ∷ rs) zero l m = member_left k (f r) (gather f rs) m
-gather_member f k (r ∷ rs) (suc i) l m = member_right k (f r) (gather f rs) (gather_member f k rs i (omega arith) m)
-
-member_gather : {K : Type 0} (f : ℕ → List K) (k : K) (rs : List ℕ) → IsMember k (gather f rs) → (i : ℕ) × (i < length rs) × IsMember k (f (get_or rs i 0))
-member_gather f k [] m = absurd m
-member_gather f k (r ∷ rs) m = elim (member_join k (f r) (gather f rs) m) [
-  | inl n ↦ (0, omega arith, n)
-  | inr n ↦ let s : (i : ℕ) × (i < length rs) × IsMember k (f (get_or rs i 0)) = member_gather f k rs n in (suc s.0, omega arith, s.2)
-]
 
 joined : (pre : List ℕ) (r : ℕ) (t : List ℕ) → (pre ++ (r ∷ [])) ++ t ≡ pre ++ (r ∷ t)
 joined [] r t = refl
@@ -140,14 +106,14 @@ module _ (members : List ℕ → List ℕ) where
   unfolding in_regions held_solutions
   all_listed [] s h = absurd (omega arith)
   all_listed (r ∷ rs) s h = elim (cases_lt 0 (in_region members r s)) [
-    | inl p ↦ member_left s (region_solutions members r) (held_solutions members rs) (region_listed r s p)
-    | inr z ↦ member_right s (region_solutions members r) (held_solutions members rs) (all_listed rs s (omega arith))
+    | inl p ↦ member-left s (region_solutions members r) (held_solutions members rs) (region_listed r s p)
+    | inr z ↦ member-right s (region_solutions members r) (held_solutions members rs) (all_listed rs s (omega arith))
   ]
 
   pub all_counted : (rs : List Region) (s : List ℕ) → IsMember s (held_solutions members rs) → 0 < in_regions members rs s
   unfolding in_regions held_solutions
   all_counted [] s m = absurd m
-  all_counted (r ∷ rs) s m = elim (member_join s (region_solutions members r) (held_solutions members rs) m) [
+  all_counted (r ∷ rs) s m = elim (member-either s (region_solutions members r) (held_solutions members rs) m) [
     | inl n ↦ omega (arith, region_counted r s n)
     | inr n ↦ omega (arith, all_counted rs s n)
   ]
@@ -162,9 +128,9 @@ module _ (members : List ℕ → List ℕ) where
           ascending = h.ascending;
           sound = λ k m.
               let s : (x : List ℕ) × (0 < in_regions members rs x) × (bound x ≡ k) = h.sound k m in
-              subst (λ z. IsMember z keys) s.2 (map_member bound s.0 (held_solutions members rs) (all_listed rs s.0 s.1));
+              subst (λ z. IsMember z keys) s.2 (member-map bound s.0 (held_solutions members rs) (all_listed rs s.0 s.1));
           complete = λ k m.
-              let s : (x : List ℕ) × IsMember x (held_solutions members rs) × (k ≡ bound x) = member_map bound k (held_solutions members rs) m in
+              let s : (x : List ℕ) × IsMember x (held_solutions members rs) × (k ≡ bound x) = member-unmap bound k (held_solutions members rs) m in
               subst (λ z. IsMember z ks) (sym s.2) (h.complete s.0 (all_counted rs s.0 s.1));
         })
         (ranked_is_ranking Below o keys)

@@ -14,6 +14,7 @@ ghost use Rattle.verdict.specs.Words.{built};
 ghost use Rattle.ranking_print.specs.Printed.{Printed};
 ghost use Rattle.anyk_top.specs.Requests.{command_of};
 
+use crate::engine::kind_of;
 use crate::looking::look_at;
 use crate::plan::print_report;
 use crate::request::Request;
@@ -82,7 +83,7 @@ fn print_output<'a, S: Sink, L: Ledger>(
         ),
         Request::Load(engine, _) => run_load(
             alloc,
-            *engine,
+            kind_of(*engine),
             &input.query,
             &input.tables,
             out,

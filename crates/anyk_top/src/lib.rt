@@ -6,13 +6,12 @@
 mod answering;
 mod asking;
 mod ending;
+mod engine;
 mod looking;
 mod plan;
 mod request;
 mod run;
 mod session;
-#[cfg(test)]
-mod tests;
 mod top;
 
 pub use top::{run_uncounted, run_words};

@@ -10,6 +10,7 @@ ghost use Rattle.verdict.specs.Output.{style_of};
 ghost use Rattle.anyk_top.specs.Asked.{words_of};
 ghost use Rattle.ranking_print.specs.Printed.{Printed};
 
+use crate::engine::kind_of;
 use answer_print::Style;
 use cmd_words::Words;
 use csv_tables::Tables;
@@ -43,5 +44,13 @@ pub(crate) fn print_run<'a, S: Sink, L: Ledger>(
         rows: words.rows,
         cursor: None,
     };
-    run_query(alloc, words.engine, query, tables, &style, out, steps)
+    run_query(
+        alloc,
+        kind_of(words.engine),
+        query,
+        tables,
+        &style,
+        out,
+        steps,
+    )
 }

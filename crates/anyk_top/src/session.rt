@@ -12,6 +12,7 @@ ghost use Rattle.verdict.specs.Output.{style_of};
 ghost use Rattle.verdict.specs.Session.{session_text};
 ghost use Rattle.anyk_top.specs.Asked.{words_of};
 
+use crate::engine::kind_of;
 use answer_print::Style;
 use cmd_words::Words;
 use csv_tables::Tables;
@@ -49,7 +50,7 @@ pub(crate) fn print_script<'a, S: Sink, L: Ledger>(
     };
     run_session(
         alloc,
-        words.engine,
+        kind_of(words.engine),
         query,
         tables,
         &style,

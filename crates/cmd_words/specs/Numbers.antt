@@ -1,11 +1,17 @@
 -- Whole numbers in an option.
-use Rattle.std.specs.Prelude.{◌≤◌, ℕ, List, Option, Some, None, if◌then◌else◌}
-use Rattle.std.specs.Str.Parse.{digits_value, without_leading_plus}
-use Rattle.clap.specs.ValueTests.{is_unsigned_in}
+use Rattle.std.specs.Prelude.{◌≤◌, ◌==◌, ◌&&◌, ◌||◌, ℕ, Bool, not, nat_le, List, length, slice_index, Option, Some, None, if◌then◌else◌}
+use Rattle.std.specs.Str.Parse.{digits_value}
+use Rattle.clap.specs.ValueTests.{is_numeral}
 
--- the number that a text is, where it lies from `low` to `high`: decimal digits, with leading zeros and one `+` before them allowed
+-- no `+` stands first, and no `0` before another digit
+abbrev pub begins_plainly : List ℕ → Bool
+begins_plainly text = not (slice_index text 0 == 43) && (not (slice_index text 0 == 48) || nat_le (length text) 1)
+
+-- the number that a text is, where it lies from `low` to `high`: decimal digits, without a sign or a needless zero before them
 abbrev pub number_in : ℕ → ℕ → List ℕ → Option ℕ
-number_in low high text = if is_unsigned_in low high text then Some (digits_value 10 (without_leading_plus text)) else None
+number_in low high text =
+    let n = digits_value 10 text in
+    if is_numeral text && (begins_plainly text && (nat_le low n && nat_le n high)) then Some n else None
 
 -- where `load` wants its number and its rows
 pub record IsInRange (number rows : ℕ) : Type 0 where

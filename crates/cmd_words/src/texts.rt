@@ -5,7 +5,7 @@ ghost use Rattle.std.specs.String.{string_bytes};
 ghost use Rattle.clap.specs.Matches.{found_of};
 ghost use Rattle.clap.specs.Walk.{rows_of};
 ghost use Rattle.cmd_words.specs.NamedPairs.{named_pair};
-ghost use Rattle.cmd_words.specs.Numbers.{IsInRange, number_in};
+ghost use Rattle.cmd_words.specs.Numbers.{IsInRange, begins_plainly, number_in};
 ghost use Rattle.cmd_words.specs.Said.{engine_of, is_set, load_by, load_by_texts, said_by, session_by, seen_texts, seen_words, tables_of, texts_of};
 
 use crate::WordsFault;
@@ -161,14 +161,24 @@ fn read_number(text: Option<&str>, low: u32, high: u32) -> Option<u32>
     }
 }
 
-// Decimal digits are a number, with leading zeros and one `+` before them allowed.
+// Decimal digits without a sign or a needless zero before them are a number.
 fn number_in(text: &str, low: u32, high: u32) -> Option<u32>
     ensures value { result ≡ number_in low high text.now }
     ensures low { IfSome result (λ number. low ≤ number) }
     ensures high { IfSome result (λ number. number ≤ high) }
 {
+    if !begins_plainly(text) {
+        return None;
+    }
     match text.parse::<u32>() {
         Ok(number) if low <= number && number <= high => Some(number),
         _ => None,
     }
+}
+
+// Whether no `+` stands first, and no `0` before another digit.
+fn begins_plainly(text: &str) -> bool
+    ensures { result ≡ begins_plainly text.now }
+{
+    !matches!(text.as_bytes(), [b'+', ..] | [b'0', _, ..])
 }

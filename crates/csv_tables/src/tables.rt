@@ -138,8 +138,8 @@ impl Tables {
         self.texts.get(self.value(table, row, column))
     }
 
-    /// The weight that a field writes: an optional `+` or `-` and 1 to 39 digits, where that fits an `i128`. Else `None`. Tables and
-    /// columns count from 0, and rows from 1.
+    /// The weight that a field writes: 0 where it is empty, else an optional `+` or `-` and 1 to 39 digits, where that fits an `i128`.
+    /// Any other field gives `None`. Tables and columns count from 0, and rows from 1.
     pub fn weight(&self, table: u32, row: u32, column: u32) -> Option<i128>
         requires table { table < length self.now }
         requires first { 1 ≤ row }

@@ -1,5 +1,5 @@
 -- How far a cursor has been driven.
-use Rattle.std.proofs.Common.{◌≡◌, ℕ, zero, suc, ◌+◌, ◌<◌, ◌≤◌, false, Option, Some, None, unwrap_or, List, [], ◌∷◌, length, get_or, refl, sym, ap, ◌∙◌, add-zero, arith}
+use Rattle.std.proofs.Common.{◌≡◌, ℕ, zero, suc, ◌+◌, ◌-◌, ◌^◌, ◌<◌, ◌≤◌, false, min, Option, Some, None, unwrap_or, List, [], ◌∷◌, length, get_or, refl, sym, ap, ◌∙◌, add-zero, arith}
 use Rattle.std.proofs.Math.ListN.{set}
 use Rattle.std.proofs.lemmas.List.{get_or-set_same, set-set, set-get_or}
 use Rattle.cursor_set.specs.declared.cursor_id.CursorFault.{CursorFault}
@@ -67,3 +67,7 @@ pub refused_at : (s : CursorSet) (number place : ℕ) (e : CursorFault) → Refu
 refused_at s number place (Unknown id) h at = let never : ⊥ = cc in absurd never
 refused_at s number place TooMany h at = absurd h
 refused_at s number place NoMemory h at = rw at at h
+
+-- the count of refused calls, at the start
+pub counted-none : (n : ℕ) → n < 2 ^ 64 → n ≡ min (n + 0) (2 ^ 64 - 1)
+counted-none n h = omega arith

@@ -12,6 +12,8 @@ pub record CursorSet : Type 0 where
   pub ended : Bool
   -- the place of each open cursor
   pub places : List (Option ℕ)
+  -- how many calls were refused memory, at most 2 ^ 64 - 1
+  pub refused : ℕ
   -- how often the engine was called, and the most steps of its coming call
   pub calls : ℕ
   pub due : ℕ

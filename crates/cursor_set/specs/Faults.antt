@@ -1,5 +1,6 @@
 -- Why calls on a set of cursors are refused.
-use Rattle.std.specs.Prelude.{◌≡◌, ℕ, ◌≤◌, false, None, IsSome, IsSomeAnd}
+use Rattle.std.specs.Prelude.{◌≡◌, ℕ, ◌≤◌, false, None, Result, Ok, Err, IsSome, IsSomeAnd}
+use Rattle.tdp_core.specs.Seen.{counted}
 use Rattle.cursor_set.specs.declared.cursor_id.CursorFault.{CursorFault}
 use Rattle.cursor_set.specs.declared.cursor_id.CursorFault.TheVariants.{Unknown, TooMany, NoMemory}
 use Rattle.cursor_set.specs.CursorSet.{CursorSet, place_of, first_free}
@@ -15,3 +16,10 @@ abbrev pub RefusesFork : CursorSet → ℕ → CursorFault → Type 0
 RefusesFork s number (Unknown id) = (id.number ≡ number) × (place_of s number ≡ None)
 RefusesFork s number TooMany = IsSome (place_of s number) × (first_free s ≡ None)
 RefusesFork s number NoMemory = ⊥
+
+-- how many calls were refused memory, after one more call with this result
+abbrev pub refused_after : {A : Type 0} → Result A CursorFault → ℕ → ℕ
+refused_after (Ok _) n = n
+refused_after (Err (Unknown _)) n = n
+refused_after (Err TooMany) n = n
+refused_after (Err NoMemory) n = counted n

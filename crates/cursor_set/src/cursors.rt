@@ -1,7 +1,7 @@
 ghost use Rattle.std.specs.Prelude.{◌≡◌, ℕ, ◌+◌, ◌≤◌, ◌<◌, Some, None, Ok, Err, false, true, replicate, IfOk, IfErr, IfSome, IfNone, OnErr, slice_get, length, position, is_none, IsSome, IsSomeAnd};
 ghost use Rattle.tdp_model.specs.KeyNumbers.{numbers};
 ghost use Rattle.cursor_set.specs.CursorSet.{CursorSet, Keeps, IsKnownAt, ArePlacesKnown, place_of, first_free, seen_of, with_place};
-ghost use Rattle.cursor_set.specs.Faults.{RefusesNext, RefusesFork};
+ghost use Rattle.cursor_set.specs.Faults.{RefusesNext, RefusesFork, refused_after};
 
 use crate::cursor_id::{CursorFault, CursorId};
 use crate::fetch::fetch;
@@ -15,13 +15,15 @@ use tdp_core::{Answer, Ranked};
 pub const MOST_OPEN: usize = 64;
 
 /// Cursors over the answers of one engine, which is asked for each answer once. A cursor is a place in
-/// the list of all answers, from 0.
+/// the list of all answers, from 0. The set counts its calls that were refused memory, up to the last
+/// value of 64 bits.
 #[derive(Drop)]
 pub struct Cursors<E: Ranked> {
     engine: E,
     found: Vec<Answer<E::Key>>,
     ended: bool,
     places: [Option<usize>; MOST_OPEN],
+    refused: u64,
 }
 
 impl<E: Ranked> Model for Cursors<E> {
@@ -31,7 +33,7 @@ impl<E: Ranked> Model for Cursors<E> {
 
     ghost Value = { CursorSet };
 
-    ghost view = { λ s. record { answers = map (λ a. record { rows = a.rows; key = numbers E.Key.KEYS 16 (E.Key.key a.rank) }) s.found.items ++ E.rest s.engine; known = vec_len s.found; ended = s.ended; places = s.places; calls = E.calls s.engine; due = E.due s.engine; size = E.size s.engine } };
+    ghost view = { λ s. record { answers = map (λ a. record { rows = a.rows; key = numbers E.Key.KEYS 16 (E.Key.key a.rank) }) s.found.items ++ E.rest s.engine; known = vec_len s.found; ended = s.ended; places = s.places; refused = s.refused; calls = E.calls s.engine; due = E.due s.engine; size = E.size s.engine } };
 
     ghost invariant = { λ s. (s.ended ≡ true → E.rest s.engine ≡ []) × All (λ p. IfSome p (λ n. n ≤ vec_len s.found)) s.places };
 }
@@ -39,14 +41,22 @@ impl<E: Ranked> Model for Cursors<E> {
 impl<E: Ranked> Cursors<E> {
     /// A set over the answers that `engine` has left, with no open cursor.
     pub fn new(alloc: Global, engine: E) -> Cursors<E>
-        ensures set { result ≡ record { answers = E.rest engine; known = 0; ended = false; places = replicate 64 None; calls = E.calls engine; due = E.due engine; size = E.size engine } }
+        ensures set { result ≡ record { answers = E.rest engine; known = 0; ended = false; places = replicate 64 None; refused = 0; calls = E.calls engine; due = E.due engine; size = E.size engine } }
     {
         Cursors {
             engine,
             found: Vec::new(alloc),
             ended: false,
             places: [None; MOST_OPEN],
+            refused: 0,
         }
+    }
+
+    /// How many calls on this set were refused memory. It stays at the last value of 64 bits.
+    pub fn refused(&self) -> u64
+        ensures count { result ≡ self.now.refused }
+    {
+        self.refused
     }
 
     /// Opens the least number that is not open, at place 0. `TooMany` where all are open.
@@ -73,6 +83,7 @@ impl<E: Ranked> Cursors<E> {
             × (self.new.places ≡ (with_place self.old id.number (Some (place + 1))).places) × (place + 1 ≤ self.new.known)))) }
         ensures end { IfOk result (λ o. IfNone o ((place_of self.old id.number ≡ Some (length self.old.answers)) × (self.new.places ≡ self.old.places) × (self.new.ended ≡ true))) }
         ensures refused { IfErr result (λ e. RefusesNext self.old id.number e × (self.new.places ≡ self.old.places)) }
+        ensures counted { self.new.refused ≡ refused_after result self.old.refused }
         ensures kept { Keeps self.old self.new }
         ensures within { ArePlacesKnown self.new }
         ensures known { IsKnownAt self.old id.number → (self.new ≡ record self.old { places = self.new.places }) × (steps.new ≤ steps.old + 4) }
@@ -98,7 +109,10 @@ impl<E: Ranked> Cursors<E> {
                 self.ended = true;
                 Ok(None)
             }
-            Err(_) => Err(CursorFault::NoMemory),
+            Err(_) => {
+                self.refused = self.refused.saturating_add(1);
+                Err(CursorFault::NoMemory)
+            }
         }
     }
 
@@ -118,6 +132,7 @@ impl<E: Ranked> Cursors<E> {
     /// Moves a cursor to place 0. `Unknown` where it is not open.
     pub fn rewind(&mut self, id: CursorId) -> Result<(), CursorFault>
         ensures rewound { IfOk result (λ _. IsSome (place_of self.old id.number) × (self.new ≡ with_place self.old id.number (Some 0))) }
+        ensures place { IfOk result (λ _. place_of self.new id.number ≡ Some 0) }
         ensures refused { IfErr result (λ e. (e ≡ CursorFault.Unknown id) × (place_of self.old id.number ≡ None) × (self.new ≡ self.old)) }
     {
         self.places[id.number].ok_or(CursorFault::Unknown(id))?;

@@ -9,10 +9,10 @@ ghost use Rattle.tdp_core.specs.TreeData.{row_count};
 ghost use Rattle.tdp_core.specs.WellFormed.{IsTieFreeTree};
 ghost use Rattle.engine_choice.specs.Chosen.{calls_of, rest_of, tree_of};
 
+use crate::kind::EngineKind;
 use anyk_part::Part;
 use anyk_rec::Rec;
 use bumpalo::Bump;
-use cmd_words::Engine;
 use rank_key::Rank;
 use std::alloc::Global;
 use std::sync::ledger::Ledger;
@@ -26,11 +26,11 @@ pub enum ChosenEngine<'t, R: Rank> {
     Rec(Rec<'t, R, &'t Bump>),
 }
 
-/// The engine of this name over the tree, of which no answer was taken yet. It takes at most 16 * m * (1 + N) steps over m nodes that
+/// The engine of this kind over the tree, of which no answer was taken yet. It takes at most 16 * m * (1 + N) steps over m nodes that
 /// have N rows in all, and gives `NoMemory` where memory is refused.
 pub fn choose_engine<'t, R: Rank, L: Ledger>(
     alloc: Global,
-    engine: Engine,
+    kind: EngineKind,
     tree: &'t Tree<R>,
     arena: &'t Bump,
     steps: &mut Steps<L>,
@@ -41,12 +41,12 @@ pub fn choose_engine<'t, R: Rank, L: Ledger>(
     ensures ranking { IfOk result (λ e. (ks : List (KeyOf R.KEYS 16)) × IsTreeRanking tree.now R.KEYS R.key ks × (rest_of R.KEYS R.key e ≡ answers_of R.KEYS ks)) }
     ensures cost { steps.new ≤ steps.old + 16 * (length tree.now * (1 + row_count tree.now)) }
 {
-    match engine {
-        Engine::Part => {
+    match kind {
+        EngineKind::Part => {
             let part = Part::new(alloc, tree, steps)?;
             Ok(ChosenEngine::Part(part))
         }
-        Engine::Rec => {
+        EngineKind::Rec => {
             let rec = Rec::new(arena, tree, steps)?;
             Ok(ChosenEngine::Rec(rec))
         }

@@ -3,5 +3,7 @@
 #![tactic(auto)]
 
 mod engine;
+mod kind;
 
 pub use engine::{ChosenEngine, choose_engine};
+pub use kind::EngineKind;

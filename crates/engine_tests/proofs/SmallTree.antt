@@ -198,15 +198,17 @@ module _ {R : Type 0} (top later sooner whole : R) where
 
     pub small_formed : IsFormed d key small_nodes
     small_formed = record {
-      shaped = two_shaped (parent small_nodes) (item small_nodes) (cap small_nodes) refl refl refl refl (λ i. capped i (get_or small_caps i 0) (ten i)) (λ i. capped i (get_or small_caps i 0) (ten i));
-      few_rows = few;
-      rows_fit = rows_fit;
-      all_name = all_name;
-      name_all = name_all;
-      named = named;
-      grouped = grouped;
-      inhabited = inhabited;
-      one_root = omega arith;
+      laid_out = record {
+        shaped = two_shaped (parent small_nodes) (item small_nodes) (cap small_nodes) refl refl refl refl (λ i. capped i (get_or small_caps i 0) (ten i)) (λ i. capped i (get_or small_caps i 0) (ten i));
+        few_rows = few;
+        rows_fit = rows_fit;
+        all_name = all_name;
+        name_all = name_all;
+        named = named;
+        grouped = grouped;
+        inhabited = inhabited;
+        one_root = omega arith;
+      };
       all_best = all_best;
       bests = bests;
       heaps = heaps;

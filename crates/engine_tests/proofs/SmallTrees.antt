@@ -303,15 +303,17 @@ module _ {R : Type 0} (top middle later sooner second first fourth third below w
 
     pub four_formed : IsFormed d key four_nodes
     four_formed = record {
-      shaped = shaped;
-      few_rows = few;
-      rows_fit = rows_fit;
-      all_name = λ v l. each_below 4 (λ v. length (node_at t v).to_child ≡ rows t v) ((((tt, refl), refl), refl), refl) v l;
-      name_all = name_all;
-      named = named;
-      grouped = grouped;
-      inhabited = inhabited;
-      one_root = omega arith;
+      laid_out = record {
+        shaped = shaped;
+        few_rows = few;
+        rows_fit = rows_fit;
+        all_name = λ v l. each_below 4 (λ v. length (node_at t v).to_child ≡ rows t v) ((((tt, refl), refl), refl), refl) v l;
+        name_all = name_all;
+        named = named;
+        grouped = grouped;
+        inhabited = inhabited;
+        one_root = omega arith;
+      };
       all_best = λ v l. each_below 4 (λ v. length (node_at t v).best ≡ rows t v) ((((tt, refl), refl), refl), refl) v l;
       bests = bests;
       heaps = heaps;
@@ -376,15 +378,17 @@ module _ {R : Type 0} (d : ℕ) (key : R → KeyOf d 16) where
 
   pub empty_formed : IsFormed d key empty_nodes
   empty_formed = record {
-    shaped = empty_shaped;
-    few_rows = nothing;
-    rows_fit = λ v r l h. absurd (no_rows v r l h);
-    all_name = λ v l. each_below 1 (λ v. length (node_at e v).to_child ≡ rows e v) (tt, refl) v l;
-    name_all = λ v r l h. absurd (no_rows v r l h);
-    named = λ q r some l h. absurd (omega arith);
-    grouped = λ v l. each_below 1 (λ v. IsPermutation (range_with_len 0 (rows e v)) (concat (node_at e v).groups)) (tt, IsPermutation-refl []) v l;
-    inhabited = λ v g l h. absurd (omega (arith, h, each_below 1 (λ v. group_count e v ≡ 0) (tt, refl) v l));
-    one_root = omega arith;
+    laid_out = record {
+      shaped = empty_shaped;
+      few_rows = nothing;
+      rows_fit = λ v r l h. absurd (no_rows v r l h);
+      all_name = λ v l. each_below 1 (λ v. length (node_at e v).to_child ≡ rows e v) (tt, refl) v l;
+      name_all = λ v r l h. absurd (no_rows v r l h);
+      named = λ q r some l h. absurd (omega arith);
+      grouped = λ v l. each_below 1 (λ v. IsPermutation (range_with_len 0 (rows e v)) (concat (node_at e v).groups)) (tt, IsPermutation-refl []) v l;
+      inhabited = λ v g l h. absurd (omega (arith, h, each_below 1 (λ v. group_count e v ≡ 0) (tt, refl) v l));
+      one_root = omega arith;
+    };
     all_best = λ v l. each_below 1 (λ v. length (node_at e v).best ≡ rows e v) (tt, refl) v l;
     bests = λ v r l h. absurd (no_rows v r l h);
     heaps = λ v g i l p h. absurd (empty_heap v g i l h);

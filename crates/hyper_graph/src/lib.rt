@@ -11,6 +11,3 @@ mod graph;
 
 pub use atom_set::{all_below, contains, least, without};
 pub use graph::Graph;
-
-#[cfg(test)]
-mod tests;

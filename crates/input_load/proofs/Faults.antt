@@ -26,7 +26,7 @@ use Rattle.query_shape.specs.Shape.{IsShape, Shape, cyclic, too_many_rows as too
 use Rattle.query_shape.specs.Shown.{TellsFlaw}
 use Rattle.query_shape.specs.declared.fault.ShapeFault.{ShapeFault}
 use Rattle.query_shape.specs.declared.fault.ShapeFault.TheVariants as shape_fault
-use Rattle.refusal_lines.specs.Core.{items_of}
+use Rattle.hyper_graph.specs.Items.{items_of}
 use Rattle.query_parse.specs.Grammar.{IsItems, IsQuery, items, query}
 use Rattle.query_parse.specs.Reading.{Clauses}
 use Rattle.query_parse.specs.Tokens.{tokens_of}

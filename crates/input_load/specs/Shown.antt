@@ -10,7 +10,7 @@ use Rattle.anyk_model.specs.Table.{Table}
 use Rattle.query_parse.specs.declared.select.Select.{Select}
 use Rattle.query_shape.specs.declared.fault.ShapeFault.{ShapeFault}
 use Rattle.query_shape.specs.declared.fault.ShapeFault.TheVariants as shape
-use Rattle.refusal_lines.specs.Core.{items_of}
+use Rattle.hyper_graph.specs.Items.{items_of}
 use Rattle.refusal_lines.specs.declared.refusal.Refusal.{Refusal}
 use Rattle.refusal_lines.specs.Answer as answer
 use Rattle.refusal_lines.specs.Answer.{Answer}

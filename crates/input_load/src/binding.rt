@@ -34,6 +34,7 @@ pub(crate) fn bind_query<'a>(
     tables: &Tables,
     which: &[u32],
 ) -> Result<Query, Refusal<'a>>
+    requires some { 1 ≤ length select.now.items }
     requires items { length select.now.items ≤ 16 }
     requires keys { length select.now.keys ≤ 8 }
     requires numbers { which.now ≡ table_numbers select.now.items }

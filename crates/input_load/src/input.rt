@@ -148,7 +148,7 @@ fn bound_input<'a, F: Shelf>(
     let which = table_numbers(alloc, entries, &firsts)?;
     let tables = read_tables(alloc, &firsts, shelf)?;
     let query = bind_query(alloc, select, &tables, &which)?;
-    let shape = find_shape(alloc, &query, &tables)?;
+    let shape = find_shape(&query, &tables)?;
     let steps = Vec::new(alloc);
     Ok(Input {
         query,

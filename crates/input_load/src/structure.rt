@@ -1,5 +1,5 @@
 //! The structure of the bound query.
-ghost use Rattle.std.specs.Prelude.{◌≡◌, ◌≤◌, IfOk, Ok, length};
+ghost use Rattle.std.specs.Prelude.{◌≡◌, IfOk, Ok};
 ghost use Rattle.plan_report.specs.Stored.{IsStored};
 ghost use Rattle.query_bind.specs.Weighed.{Fits};
 ghost use Rattle.query_shape.specs.Shape.{IsShape};
@@ -14,22 +14,16 @@ use csv_tables::Tables;
 use query_bind::Query;
 use query_shape::{ShapeFault, TreeShape, shape_of};
 use refusal_lines::Refusal;
-use std::alloc::Global;
 
 /// The join tree of the query, with node rows within their limit: `Cyclic` where no join tree exists, and `TooManyNodeRows`
 /// where the rows of all its nodes pass the limit.
-pub(crate) fn find_shape<'a>(
-    alloc: Global,
-    query: &Query,
-    tables: &Tables,
-) -> Result<TreeShape, Refusal<'a>>
+pub(crate) fn find_shape<'a>(query: &Query, tables: &Tables) -> Result<TreeShape, Refusal<'a>>
     requires fits { Fits query.now tables.now }
-    requires some { 1 ≤ length query.now.query.items }
     ensures shaped { Pure (IsShaped (bound_of query.now tables.now)) (shown_shape (bound_of query.now tables.now) result) }
     ensures stored { IfOk result (λ shape. IsStored query.now.query shape) }
     ensures shape { IfOk result (λ shape. IsShape query.now.query tables.now (Ok (shape_shown shape))) }
 {
-    match shape_of(alloc, query, tables) {
+    match shape_of(query, tables) {
         Ok(shape) => Ok(shape),
         Err(fault) => Err(shape_refusal(fault)),
     }

@@ -5,7 +5,5 @@
 #![tactic(auto)]
 
 mod input;
-#[cfg(test)]
-mod tests;
 
 pub use input::{LOAD_QUERY, query_of, tables_of};

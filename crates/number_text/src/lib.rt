@@ -1,9 +1,6 @@
 //! A number in decimal digits, without memory: repeated division by ten, from the last digit to the first.
 #![tactic(auto)]
 
-#[cfg(test)]
-mod tests;
-
 ghost use Rattle.std.specs.Prelude.{◌≡◌, ◌≤◌, ◌%◌, decimal, drop, false};
 ghost use Rattle.std.specs.Fmt.{digit_glyph};
 

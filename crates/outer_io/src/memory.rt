@@ -5,7 +5,7 @@ ghost use Rattle.std.specs.Io.KnownBytes.{ReadConsumes};
 ghost use Rattle.outer_io.specs.Counts.{last_count, saturating, Rose, RoseBy};
 ghost use Rattle.outer_io.specs.Files.{HasFile, LacksFile};
 ghost use Rattle.outer_io.specs.Entries.{are_distinct, entry_of};
-ghost use Rattle.outer_io.specs.Fakes.{after_open, after_read, fails_next, has_number};
+ghost use Rattle.outer_io.specs.Fakes.{after_open, after_read, fails_next, has_number, opened, read_on};
 ghost use Rattle.outer_io.specs.Holding.{Holding};
 
 use crate::held::{Held, MemFile};
@@ -169,7 +169,17 @@ impl Shelf for PureShelf {
 
     ghost taken = { λ s. s.taken };
 
-    fn open(&mut self, name: &str) -> Result<(), ShelfFault> {
+    fn open(&mut self, name: &str) -> Result<(), ShelfFault>
+        ensures files { self.new.files ≡ self.old.files }
+        ensures opened { OnOk result (HasFile (Some self.old.files) name.now (Some self.new.rest)) }
+        ensures closed { OnErr result (self.new.rest ≡ []) }
+        ensures lacks { IsErrOf result ShelfFault.Missing → LacksFile (Some self.old.files) name.now }
+        ensures missing { IsErrOf result ShelfFault.Missing → Rose self.old.misses self.new.misses }
+        ensures failed { IsErrOf result ShelfFault.Failed → ⊥ }
+        ensures misses { self.old.misses ≤ self.new.misses }
+        ensures taken { self.new.taken ≡ self.old.taken }
+        ensures after { self.new ≡ opened self.old name.now }
+    {
         if self.held.open(name) {
             Ok(())
         } else {
@@ -177,7 +187,18 @@ impl Shelf for PureShelf {
         }
     }
 
-    fn read(&mut self, buf: &mut [u8]) -> Result<usize, ReadFailed> {
+    fn read(&mut self, buf: &mut [u8]) -> Result<usize, ReadFailed>
+        ensures files { self.new.files ≡ self.old.files }
+        ensures within { IfOk result (λ n. n ≤ length buf.new) }
+        ensures bytes { ReadConsumes (Some self.old.rest) (Some self.new.rest) result buf.new }
+        ensures failed { OnErr result ⊥ }
+        ensures misses { self.new.misses ≡ self.old.misses }
+        ensures taken { self.old.taken ≤ self.new.taken }
+        ensures taken_by { IfOk result (λ n. RoseBy n self.old.taken self.new.taken) }
+        ensures taken_fits { OnOk result (self.new.taken ≤ last_count) }
+        ensures count { IfOk result (λ n. n ≡ min (length buf.old) (length self.old.rest)) }
+        ensures after { self.new ≡ read_on self.old (min (length buf.old) (length self.old.rest)) }
+    {
         Ok(self.held.read(buf))
     }
 }

@@ -14,7 +14,7 @@ use Rattle.query_bind.specs.Weighed.{BoundQuery}
 use Rattle.query_shape.specs.Shape.{IsShape, Shape, cyclic, too_many_rows}
 use Rattle.node_build.specs.Nodes.{RowsAgree, RowsAlike}
 use Rattle.semi_join.specs.Reduced.{ShareGroup}
-use Rattle.refusal_lines.specs.Core.{items_of}
+use Rattle.hyper_graph.specs.Items.{items_of}
 use Rattle.step_bounds.specs.Bounded.{total_of}
 use Rattle.witness_key.specs.WitnessKey.{witness_key}
 use Rattle.plan_build.specs.declared.fault.PlanFault.{PlanFault}

@@ -1,7 +1,5 @@
 //! Why a query has no plan.
 
-use node_build::BuildFault;
-use query_shape::ShapeFault;
 use step_counter::NoMemory;
 
 /// Why a query has no plan.

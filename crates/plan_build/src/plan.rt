@@ -68,13 +68,12 @@ pub fn prepare<R: Rank, L: Ledger>(
 ) -> Result<Plan<R>, PlanFault>
     requires fits { Fits query.now tables.now }
     requires keys { length query.now.query.order ≤ R.KEYS }
-    requires some { 1 ≤ length query.now.query.items }
     ensures plan { IfOk result (IsPlan R.KEYS R.key query.now tables.now) }
     ensures refusal { IfErr result (TellsFlaw query.now.query tables.now) }
     ensures cost { steps.new ≤ steps.old
         + 16 * (length query.now.query.items * length query.now.query.items * (1 + sum_of_all (row_counts query.now.query.items tables.now))) }
 {
-    let join = join_tree_of(alloc, query)?;
+    let join = join_tree_of(query)?;
     let built = nodes_of(alloc, query, tables, &join, steps)?;
     let total = rows_of_tables(query, tables) + built.used;
     let reduced = reduce(alloc, built.tree, steps)?;
@@ -84,17 +83,16 @@ pub fn prepare<R: Rank, L: Ledger>(
 }
 
 // The join tree of a query.
-fn join_tree_of(alloc: Global, query: &Query) -> Result<JoinTree, PlanFault>
+fn join_tree_of(query: &Query) -> Result<JoinTree, PlanFault>
     requires fits { (tables : List Table) × Fits query.now tables }
-    requires some { 1 ≤ length query.now.query.items }
     ensures tree { IfOk result (HasStoredTree query.now.query) }
     ensures count { IfOk result (λ tree. tree.count ≡ length query.now.query.items) }
     ensures refusal { IfErr result (λ fault. (tables : List Table) → TellsFlaw query.now.query tables fault) }
 {
-    match tree_shape(alloc, query) {
+    match tree_shape(query) {
         Ok(tree) => Ok(tree),
         Err(ShapeFault::Cyclic(core)) => Err(PlanFault::Cyclic(core)),
-        Err(ShapeFault::TooManyRows) => Err(PlanFault::TooManyRows(MOST_NODE_ROWS as u64)),
+        Err(ShapeFault::TooManyRows) => unreachable!(),
         Err(ShapeFault::NoMemory) => Err(PlanFault::NoMemory),
     }
 }

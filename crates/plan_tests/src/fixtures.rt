@@ -35,14 +35,15 @@ pub(crate) fn two_tables(alloc: Global) -> Result<Tables, Fail>
     )
 }
 
-// A query of so many items that can be bound.
+// A query of so many items, and at least one, that can be bound.
 fn parse_small(alloc: Global, text: &[u8], items: usize) -> Result<Select, Fail>
     requires few { items ≤ 16 }
+    ensures some { IfOk result (λ made. 1 ≤ length made.items) }
     ensures items { IfOk result (λ made. length made.items ≡ items) }
     ensures keys { IfOk result (λ made. length made.keys ≤ 8) }
 {
     let select = parse(alloc, text)?;
-    if select.items.as_slice().len() != items || select.keys.as_slice().len() > 8 {
+    if items == 0 || select.items.as_slice().len() != items || select.keys.as_slice().len() > 8 {
         return Err("not a small query".into());
     }
     Ok(select)
@@ -58,7 +59,7 @@ fn bind_small(alloc: Global, tables: &Tables, text: &[u8], which: &[u32]) -> Res
     Ok(bind(alloc, &select, tables, which)?)
 }
 
-/// The same query, where it has at least one item and at most so many keys.
+/// The same query, where it has at most so many keys.
 pub(crate) fn query_of(
     alloc: Global,
     tables: &Tables,
@@ -69,11 +70,10 @@ pub(crate) fn query_of(
     requires few { length which.now ≤ 16 }
     requires known { AllByRecursion (λ t. t < length tables.now) which.now }
     ensures fits { IfOk result (λ query. Fits query tables.now) }
-    ensures some { IfOk result (λ query. 1 ≤ length query.query.items) }
     ensures keys { IfOk result (λ query. length query.query.order ≤ keys) }
 {
     let query = bind_small(alloc, tables, text, which)?;
-    if query.items() == 0 || query.keys() as usize > keys {
+    if query.keys() as usize > keys {
         return Err("not a small query".into());
     }
     Ok(query)

@@ -1,5 +1,5 @@
-//! Tests of what is made of a query over tables before its answers are printed: nodes, reduction, least keys, the plan, the list of
-//! witnesses, and the engine in an arena that refuses memory. They are worked examples over the public calls of those crates, in a
+//! Tests of what is made of a query over tables before its answers are printed: nodes, reduction, least keys, the plan, the answers
+//! of both engines, and the second engine in an arena that refuses memory. They are worked examples over the public calls of those crates, in a
 //! crate of their own so that none of those is proved twice for its tests.
 #![tactic(auto)]
 

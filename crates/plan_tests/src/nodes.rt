@@ -19,12 +19,11 @@ use step_counter::Steps;
 use tdp_core::RawTree;
 
 // The join tree of a query.
-fn tree_of_query(alloc: Global, query: &Query) -> Option<JoinTree>
+fn tree_of_query(query: &Query) -> Option<JoinTree>
     requires fits { (tables : List Table) × Fits query.now tables }
-    requires some { 1 ≤ length query.now.query.items }
     ensures { IfSome result (λ tree. IsJoinTreeOf query.now.query tree) }
 {
-    tree_shape(alloc, query).ok()
+    tree_shape(query).ok()
 }
 
 // Whether the second and the third row of the second of two nodes have the first row's link.
@@ -53,11 +52,10 @@ fn counts_of<R: Rank, L: Ledger>(
     steps: &mut Steps<L>,
 ) -> Result<Option<(u64, u64, u64, (bool, bool))>, BuildFault>
     requires fits { Fits query.now tables.now }
-    requires some { 1 ≤ length query.now.query.items }
     requires keys { length query.now.query.order ≤ R.KEYS }
     requires budget { budget < 100 }
 {
-    let Some(join) = tree_of_query(alloc, query) else {
+    let Some(join) = tree_of_query(query) else {
         return Ok(None);
     };
     let built = build::<R, L>(alloc, query, tables, &join, budget, steps)?;

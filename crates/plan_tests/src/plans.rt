@@ -38,7 +38,6 @@ fn planned<R: Rank, L: Ledger>(
     steps: &mut Steps<L>,
 ) -> Result<(u64, Option<(u32, u32, bool)>), PlanFault>
     requires fits { Fits query.now tables.now }
-    requires some { 1 ≤ length query.now.query.items }
     requires order { length query.now.query.order ≤ 1 }
     requires keys { 1 ≤ R.KEYS }
 {

@@ -149,7 +149,6 @@ fn refusals_of_query<R: Rank, L: Ledger>(
 ) -> Result<usize, Fail>
     requires fits { Fits query.now tables.now }
     requires keys { length query.now.query.order ≤ R.KEYS }
-    requires some { 1 ≤ length query.now.query.items }
 {
     let Ok(plan) = prepare::<R, L>(alloc, query, tables, steps) else {
         return Err("no plan".into());

@@ -1,10 +1,15 @@
-//! Answers of small queries, in their order.
+//! Answers of small queries, in their order, by both engines.
 ghost use Rattle.std.specs.Prelude.{◌≡◌, ◌<◌, ◌≤◌, length};
 ghost use Rattle.std.specs.List.{AllByRecursion};
 ghost use Rattle.query_bind.specs.Weighed.{Fits};
+ghost use Rattle.tdp_core.specs.WellFormed.{IsTieFreeTree};
 
 use crate::fixtures::{query_of, two_tables};
+use anyk_part::Part;
+use anyk_rec::Rec;
+use bumpalo::Bump;
 use csv_tables::Tables;
+use plan_build::prepare;
 use query_bind::Query;
 use rank_key::{LexRank, Rank, SumRank};
 use std::alloc::Global;
@@ -12,8 +17,7 @@ use std::marker::Brand;
 use std::sync::ledger::{Blank, Ledger};
 use std::test::Fail;
 use step_counter::{NoMemory, Steps};
-use tdp_core::Ranked;
-use witness_list::WitnessList;
+use tdp_core::{Ranked, Tree};
 
 // The row numbers of the first two items in the next answer.
 fn next_rows<E: Ranked, L: Ledger>(
@@ -40,23 +44,55 @@ fn gives_all<E: Ranked, L: Ledger>(
     Ok(next_rows(engine, steps)?.is_none())
 }
 
-// The same of the answers of a query.
-fn lists<R: Rank, L: Ledger>(
+// The same of the first engine over a tree.
+fn part_gives<R: Rank, L: Ledger>(
+    alloc: Global,
+    tree: &Tree<R>,
+    expected: &[(u32, u32)],
+    steps: &mut Steps<L>,
+) -> Result<bool, NoMemory>
+    requires tie_free { IsTieFreeTree tree.now }
+{
+    let mut engine = Part::new(alloc, tree, steps)?;
+    gives_all(&mut engine, expected, steps)
+}
+
+// The same of the second engine.
+fn rec_gives<R: Rank, L: Ledger>(
+    arena: &Bump,
+    tree: &Tree<R>,
+    expected: &[(u32, u32)],
+    steps: &mut Steps<L>,
+) -> Result<bool, NoMemory>
+    requires tie_free { IsTieFreeTree tree.now }
+{
+    let mut engine = Rec::new(arena, tree, steps)?;
+    gives_all(&mut engine, expected, steps)
+}
+
+// The same of both engines over the plan of a query.
+fn both_give<R: Rank, L: Ledger>(
     alloc: Global,
     query: &Query,
     tables: &Tables,
     expected: &[(u32, u32)],
     steps: &mut Steps<L>,
-) -> Result<bool, NoMemory>
+) -> Result<bool, Fail>
     requires fits { Fits query.now tables.now }
     requires keys { length query.now.query.order ≤ R.KEYS }
+    requires some { 1 ≤ length query.now.query.items }
 {
-    let mut list: WitnessList<R> = WitnessList::new(alloc, query, tables, steps)?;
-    gives_all(&mut list, expected, steps)
+    let Ok(plan) = prepare::<R, L>(alloc, query, tables, steps) else {
+        return Err("no plan".into());
+    };
+    let arena = Bump::new(alloc);
+    let by_part = part_gives(alloc, plan.tree(), expected, steps)?;
+    let by_rec = rec_gives(&arena, plan.tree(), expected, steps)?;
+    Ok(by_part && by_rec)
 }
 
 // The same of the query of a text.
-fn lists_text<R: Rank, L: Ledger>(
+fn both_give_of_text<R: Rank, L: Ledger>(
     alloc: Global,
     tables: &Tables,
     text: &[u8],
@@ -68,7 +104,7 @@ fn lists_text<R: Rank, L: Ledger>(
     requires known { AllByRecursion (λ t. t < length tables.now) which.now }
 {
     let query = query_of(alloc, tables, text, which, R::KEYS)?;
-    Ok(lists::<R, L>(alloc, &query, tables, expected, steps)?)
+    both_give::<R, L>(alloc, &query, tables, expected, steps)
 }
 
 // The same over R and S.
@@ -87,7 +123,7 @@ fn gives<R: Rank, L: Ledger>(
 {
     let mut steps = Steps::<L>::new(blank);
     let tables = two_tables(alloc)?;
-    lists_text::<R, L>(alloc, &tables, text, which, expected, &mut steps)
+    both_give_of_text::<R, L>(alloc, &tables, text, which, expected, &mut steps)
 }
 
 #[test]

@@ -15,6 +15,7 @@ pub mod Looking
 pub mod Measuring
 pub mod Order
 pub mod Parts
+pub mod Range
 pub mod Readers
 pub mod Search
 pub mod TextOrder

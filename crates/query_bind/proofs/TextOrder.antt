@@ -1,13 +1,20 @@
 -- The first fault in the order of a select's parts is the first in the order of the text.
-use Rattle.std.proofs.Common.{◌≡◌, ◌<◌, List, [], ◌∷◌, Option, Some, None, refl, ap, ◌∙◌, inl, inr, arith}
+use Rattle.std.proofs.Common.{◌≡◌, ◌⊎◌, ◌<◌, ◌+◌, ℕ, List, [], ◌∷◌, map, Option, Some, None, option_map, refl, ap, subst, ◌∙◌, inl, inr, arith}
 use Rattle.query_parse.specs.declared.select.ColumnRef.{ColumnRef}
+use Rattle.query_parse.specs.declared.select.Select.{Select}
+use Rattle.query_parse.specs.TextOrder.{AreInTextOrder, columns_of}
 use Rattle.anyk_model.specs.Table.{Table}
-use Rattle.anyk_model.specs.Query.{Item}
+use Rattle.anyk_model.specs.Query.{Item, OrderKey, Term}
 use Rattle.rankings.specs.Order.{IsMember}
 use Rattle.rankings.proofs.Members.{all-member}
 use Rattle.query_bind.specs.declared.fault.BindFault.{BindFault}
-use Rattle.query_bind.specs.Names.{first_of, or_else, ref_fault}
-use Rattle.query_bind.specs.TextOrder.{AreInTextOrder, IsFirstFailing}
+use Rattle.query_bind.specs.declared.fault.BindFault.TheVariants as fault
+use Rattle.query_bind.specs.Answers.{Tells}
+use Rattle.query_bind.specs.Bind.{bind_fault}
+use Rattle.query_bind.specs.Binding.{bound_key}
+use Rattle.query_bind.specs.Names.{alias_fault, first_of, items_of, names_fault, or_else, ref_fault}
+use Rattle.query_bind.specs.TextOrder.{IsFirstFailing, IsReferenceFault}
+use Rattle.query_bind.specs.Weights.{key_fault, range_fault, weight_fault, weights_fault}
 
 module _ (tables : List Table) (items : List Item) (e : BindFault) where
   head-first : (x : ColumnRef) (xs : List ColumnRef) → AreInTextOrder (x ∷ xs) → ref_fault tables items x ≡ Some e → IsFirstFailing tables items (x ∷ xs) e
@@ -42,3 +49,59 @@ module _ (tables : List Table) (items : List Item) (e : BindFault) where
           → (first_of (ref_fault tables items) xs ≡ Some e → IsFirstFailing tables items xs e) → IsFirstFailing tables items (x ∷ xs) e
       by_fault None is g rest = tail-first x xs is (rest g)
       by_fault (Some f) is g rest = head-first x xs order (is ∙ g)
+
+-- ---- which of the faults of binding are those of references
+
+either-fault : (a b : Option BindFault) (e : BindFault) → or_else a b ≡ Some e → (a ≡ Some e) ⊎ (b ≡ Some e)
+either-fault (Some f) b e h = inl h
+either-fault None b e h = inr h
+
+abbrev IsNoReference : BindFault → Type 0
+IsNoReference e = IsReferenceFault e → ⊥
+
+mapped-other : (f : ℕ → BindFault) → ((n : ℕ) → IsNoReference (f n)) → (o : Option ℕ) (e : BindFault) → option_map f o ≡ Some e → IsNoReference e
+mapped-other f other None e h = cc
+mapped-other f other (Some n) e h = let same : f n ≡ e = cc in subst IsNoReference same (other n)
+
+first-other : {A : Type 0} (fault_at : A → Option BindFault) → ((x : A) (e : BindFault) → fault_at x ≡ Some e → IsNoReference e)
+    → (xs : List A) (e : BindFault) → first_of fault_at xs ≡ Some e → IsNoReference e
+first-other fault_at each [] e h = cc
+first-other fault_at each (x ∷ xs) e h = elim (either-fault (fault_at x) (first_of fault_at xs) e h) [
+  | inl here ↦ each x e here
+  | inr later ↦ first-other fault_at each xs e later
+]
+
+alias-other : (items : List Item) (e : BindFault) → alias_fault items ≡ Some e → IsNoReference e
+alias-other items e h = mapped-other (λ n. fault.DuplicateAlias n) (λ n r. r) _ e h
+
+module _ (tables : List Table) (items : List Item) (order : List OrderKey) (e : BindFault) where
+  weight-other : (t : Term) (f : BindFault) → weight_fault tables items t ≡ Some f → IsNoReference f
+  weight-other t f h = mapped-other (λ n. fault.BadWeight (t.column.item + 1) (n + 1) (t.column.place + 1)) (λ n r. r) _ f h
+
+  weights-other : weights_fault tables items order ≡ Some e → IsNoReference e
+  weights-other h =
+      first-other (key_fault tables items) (λ (k : OrderKey) f g. first-other (weight_fault tables items) weight-other k.terms f g) order e h
+
+  range-other : range_fault tables items order ≡ Some e → IsNoReference e
+  range-other h = mapped-other (λ n. fault.RankRange n) (λ n r. r) _ e h
+
+  later-other : or_else (weights_fault tables items order) (range_fault tables items order) ≡ Some e → IsNoReference e
+  later-other h = elim (either-fault (weights_fault tables items order) (range_fault tables items order) e h) [
+    | inl w ↦ weights-other w
+    | inr r ↦ range-other r
+  ]
+
+-- a fault of a reference is that of the first one in the text that fails
+pub earliest : (select : Select) (tables : List Table) (which : List ℕ) (e : BindFault) → Tells (bind_fault select tables which) e
+    → IsReferenceFault e → AreInTextOrder (columns_of select) → IsFirstFailing tables (items_of select.items which) (columns_of select) e
+earliest select tables which e (inl memory) kind order = absurd (subst IsReferenceFault memory kind)
+earliest select tables which e (inr h) kind order =
+    let items = items_of select.items which in
+    let keys = map (bound_key tables items) select.keys in
+    elim (either-fault (names_fault tables items select) (or_else (weights_fault tables items keys) (range_fault tables items keys)) e h) [
+      | inl name ↦ elim (either-fault (alias_fault items) (first_of (ref_fault tables items) (columns_of select)) e name) [
+        | inl alias ↦ absurd (alias-other items e alias kind)
+        | inr ref ↦ first-in-text tables items e (columns_of select) order ref
+      ]
+      | inr later ↦ absurd (later-other tables items keys e later kind)
+    ]

@@ -3,13 +3,20 @@ use Rattle.std.specs.Prelude.{◌≡◌, ◌<◌, List, Some, None}
 use Rattle.query_parse.specs.declared.select.ColumnRef.{ColumnRef}
 use Rattle.anyk_model.specs.Table.{Table}
 use Rattle.anyk_model.specs.Query.{Item}
-use Rattle.rankings.specs.Order.{IsAscending, IsMember}
+use Rattle.rankings.specs.Order.{IsMember}
 use Rattle.query_bind.specs.declared.fault.BindFault.{BindFault}
+use Rattle.query_bind.specs.declared.fault.BindFault.TheVariants as fault
 use Rattle.query_bind.specs.Names.{ref_fault}
 
--- the offsets of references ascend, as they do where a text was parsed
-abbrev pub AreInTextOrder : List ColumnRef → Type 0
-AreInTextOrder refs = IsAscending (λ (a b : ColumnRef). a.at < b.at) refs
+-- a fault that tells where a column reference stands
+abbrev pub IsReferenceFault : BindFault → Type 0
+IsReferenceFault (fault.UnknownAlias at) = Unit {0}
+IsReferenceFault (fault.UnknownColumn at) = Unit {0}
+IsReferenceFault (fault.Ambiguous at) = Unit {0}
+IsReferenceFault (fault.DuplicateAlias item) = ⊥
+IsReferenceFault (fault.BadWeight item row col) = ⊥
+IsReferenceFault (fault.RankRange key) = ⊥
+IsReferenceFault fault.NoMemory = ⊥
 
 -- the fault is that of a reference, and none that stands before it in the text has one
 pub record IsFirstFailing (tables : List Table) (items : List Item) (refs : List ColumnRef) (e : BindFault) : Type 0 where

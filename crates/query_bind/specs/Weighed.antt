@@ -36,8 +36,9 @@ key_weights tables items key = record {
   parts = map (row_parts tables items key) (numbers_of items);
 }
 
--- the query was bound to these tables
+-- the query was bound to these tables, and has an item
 pub record Fits (bound : BoundQuery) (tables : List Table) : Type 0 where
+  pub some : 1 ≤ length bound.query.items
   pub within : IsWithin bound.query tables
   pub weights : weights_fault tables bound.query.items bound.query.order ≡ None
   pub range : range_fault tables bound.query.items bound.query.order ≡ None

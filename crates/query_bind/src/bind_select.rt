@@ -1,6 +1,7 @@
 //! Binding a select to tables.
 ghost use Rattle.std.specs.Prelude.{◌≡◌, ◌<◌, ◌≤◌, length, map, IfOk, OnOk, IfErr, None};
 ghost use Rattle.std.specs.List.{AllByRecursion};
+ghost use Rattle.query_parse.specs.TextOrder.{AreInTextOrder, columns_of};
 ghost use Rattle.query_bind.specs.Answers.{Tells};
 ghost use Rattle.query_bind.specs.Bind.{bind_fault};
 ghost use Rattle.query_bind.specs.Binding.{bound_query};
@@ -9,6 +10,7 @@ ghost use Rattle.query_bind.specs.Names.{items_of, names_fault, or_else};
 ghost use Rattle.query_bind.specs.FilterViews.{HasFilters, filter_shown};
 ghost use Rattle.query_bind.specs.Labels.{IsLabelling, least_in};
 ghost use Rattle.query_bind.specs.Stored.{column_shown};
+ghost use Rattle.query_bind.specs.TextOrder.{IsFirstFailing, IsReferenceFault};
 ghost use Rattle.query_bind.specs.Variables.{HasVariables, lists_shown};
 ghost use Rattle.query_bind.specs.Weighed.{Fits, key_weights};
 ghost use Rattle.query_bind.specs.WeighedView.{weighed_shown};
@@ -34,11 +36,13 @@ fn bind_names(
     tables: &Tables,
     which: &[u32],
 ) -> Result<Selection, BindFault>
+    requires some { 1 ≤ length select.now.items }
     requires items { length select.now.items ≤ 16 }
     requires keys { length select.now.keys ≤ 8 }
     requires tables { length which.now ≡ length select.now.items }
     requires known { AllByRecursion (λ t. t < length tables.now) which.now }
     ensures query { IfOk result (λ q. q ≡ bound_query select.now tables.now which.now) }
+    ensures some { IfOk result (λ q. 1 ≤ length q.items) }
     ensures within { IfOk result (λ q. IsWithin q tables.now) }
     ensures sound { OnOk result (names_fault tables.now (items_of select.now.items which.now) select.now ≡ None) }
     ensures fault { IfErr result (Tells (names_fault tables.now (items_of select.now.items which.now) select.now)) }
@@ -120,13 +124,14 @@ fn find_filters(
     filters_of(alloc, classes, equalities, items, tables)
 }
 
-/// The query that a select means over tables, of which `which` has one for each item.
-pub fn bind(
+// The query, or the first fault in the order of the select's parts.
+fn bind_by_parts(
     alloc: Global,
     select: &Select,
     tables: &Tables,
     which: &[u32],
 ) -> Result<Query, BindFault>
+    requires some { 1 ≤ length select.now.items }
     requires items { length select.now.items ≤ 16 }
     requires keys { length select.now.keys ≤ 8 }
     requires tables { length which.now ≡ length select.now.items }
@@ -146,5 +151,30 @@ pub fn bind(
         weighed,
         variables,
         filters,
+        alloc,
     })
+}
+
+/// The query that a select of 1 to 16 items means over tables, of which `which` has one for each item. A fault is the first in
+/// the order of the select's parts, of its weights and of their range. Where the select is in the order of its text, a fault of
+/// a column reference is that of the first one in the text that fails. `NoMemory` may come at any time.
+pub fn bind(
+    alloc: Global,
+    select: &Select,
+    tables: &Tables,
+    which: &[u32],
+) -> Result<Query, BindFault>
+    requires some { 1 ≤ length select.now.items }
+    requires items { length select.now.items ≤ 16 }
+    requires keys { length select.now.keys ≤ 8 }
+    requires tables { length which.now ≡ length select.now.items }
+    requires known { AllByRecursion (λ t. t < length tables.now) which.now }
+    ensures query { IfOk result (λ q. q.query ≡ bound_query select.now tables.now which.now) }
+    ensures fits { IfOk result (λ q. Fits q tables.now) }
+    ensures sound { OnOk result (bind_fault select.now tables.now which.now ≡ None) }
+    ensures fault { IfErr result (Tells (bind_fault select.now tables.now which.now)) }
+    ensures earliest { IfErr result (λ fault. IsReferenceFault fault → AreInTextOrder (columns_of select.now)
+        → IsFirstFailing tables.now (items_of select.now.items which.now) (columns_of select.now) fault) }
+{
+    bind_by_parts(alloc, select, tables, which)
 }

@@ -3,7 +3,8 @@ ghost use Rattle.std.specs.Prelude.{◌≡◌, ◌<◌, ◌≤◌, ◌++◌, len
 ghost use Rattle.std.specs.List.{AllByRecursion};
 ghost use Rattle.query_bind.specs.Answers.{Tells, equality_fault, key_names_fault, term_fault};
 ghost use Rattle.query_bind.specs.Binding.{bound_column, bound_equality, bound_key, bound_list, bound_side, bound_term, columns_from, item_columns};
-ghost use Rattle.query_bind.specs.Names.{alias_fault, first_of, items_of, list_refs, ref_fault, side_refs};
+ghost use Rattle.query_bind.specs.Names.{alias_fault, first_of, items_of, ref_fault};
+ghost use Rattle.query_parse.specs.TextOrder.{list_columns, side_columns};
 ghost use Rattle.query_bind.specs.Stored.{column_shown, equality_shown, items_shown, key_shown, side_shown, term_shown};
 ghost use Rattle.query_bind.specs.declared.bound.BoundItem.{BoundItem};
 
@@ -99,8 +100,8 @@ pub(crate) fn bind_list(
     requires few { length items.now ≤ 16 }
     requires known { AllByRecursion (λ (i : BoundItem). i.table < length tables.now) items.now }
     ensures values { IfOk result (λ v. map column_shown v.items ≡ bound_list tables.now (items_shown items.now) list.now) }
-    ensures sound { OnOk result (first_of (ref_fault tables.now (items_shown items.now)) (list_refs list.now) ≡ None) }
-    ensures fault { IfErr result (Tells (first_of (ref_fault tables.now (items_shown items.now)) (list_refs list.now))) }
+    ensures sound { OnOk result (first_of (ref_fault tables.now (items_shown items.now)) (list_columns list.now) ≡ None) }
+    ensures fault { IfErr result (Tells (first_of (ref_fault tables.now (items_shown items.now)) (list_columns list.now))) }
 {
     match list {
         SelectList::Star => {
@@ -121,8 +122,8 @@ fn bind_side(
     requires few { length items.now ≤ 16 }
     requires known { AllByRecursion (λ (i : BoundItem). i.table < length tables.now) items.now }
     ensures value { IfOk result (λ s. side_shown s ≡ bound_side tables.now (items_shown items.now) side.now) }
-    ensures sound { OnOk result (first_of (ref_fault tables.now (items_shown items.now)) (side_refs side.now) ≡ None) }
-    ensures fault { IfErr result (Tells (first_of (ref_fault tables.now (items_shown items.now)) (side_refs side.now))) }
+    ensures sound { OnOk result (first_of (ref_fault tables.now (items_shown items.now)) (side_columns side.now) ≡ None) }
+    ensures fault { IfErr result (Tells (first_of (ref_fault tables.now (items_shown items.now)) (side_columns side.now))) }
 {
     match side {
         Side::Column(reference) => {

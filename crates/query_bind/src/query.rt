@@ -26,6 +26,7 @@ pub struct Query {
     pub(crate) weighed: Vec<Weighed>,
     pub(crate) variables: Variables,
     pub(crate) filters: Vec<Filter>,
+    pub(crate) alloc: Global,
 }
 
 impl Model for Query {
@@ -153,15 +154,14 @@ impl Query {
         self.variables.of_items[item as usize].as_slice()
     }
 
-    /// The hypergraph: an atom for each item, and for each variable the items that have it. The query fits some tables, and has an item.
-    pub fn graph(&self, alloc: Global) -> Result<Graph, NoMemory>
+    /// The hypergraph: an atom for each item, and for each variable the items that have it. The query fits some tables.
+    pub fn graph(&self) -> Result<Graph, NoMemory>
         requires fits { (tables : List Table) × Fits self.now tables }
-        requires some { 1 ≤ length self.now.query.items }
         ensures { IfOk result (λ g. IsGraphOf self.now.query g) }
     {
         let atoms = self.items();
         let count = self.variables();
-        let sets = item_sets(alloc, self.variables.of_items.as_slice(), count)?;
-        Graph::new(alloc, atoms, sets.as_slice())
+        let sets = item_sets(self.alloc, self.variables.of_items.as_slice(), count)?;
+        Graph::new(self.alloc, atoms, sets.as_slice())
     }
 }

@@ -6,6 +6,7 @@ pub mod Again
 pub mod Stuck
 pub mod Loops
 pub mod Stepping
+pub mod Strings
 pub mod ScanLength
 pub mod Examples
 pub mod Decimal
@@ -19,3 +20,5 @@ pub mod Spelled
 pub mod PlainNames
 pub mod RoundTrip
 pub mod InOrder
+pub mod Longest
+pub mod LongestTokens

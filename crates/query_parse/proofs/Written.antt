@@ -67,7 +67,7 @@ front_is p [] [] all stops = refl
 front_is p [] (c ∷ rest) all stops = rw stops refl
 front_is p (b ∷ bs) rest all stops = let h = both_true (p b) (list_all p bs) all in rw (h.0, front_is p bs rest h.1 stops) (omega arith)
 
-word_scans : (b : ℕ) (bs rest : List ℕ) → is_letter b ≡ true → list_all is_word_byte bs ≡ true → Stops is_word_byte rest
+pub word_scans : (b : ℕ) (bs rest : List ℕ) → is_letter b ≡ true → list_all is_word_byte bs ≡ true → Stops is_word_byte rest
     → scan_of ((b ∷ bs) ++ rest) ≡ record { kind = kind_of_word (b ∷ bs); body = b ∷ bs; len = length (b ∷ bs) }
 unfolding scan_of
 word_scans b bs rest letter all stops =
@@ -130,7 +130,7 @@ digit_is_no_letter b h =
     let other = differs is_ascii_digit b 95 h refl (eqb b 95) refl in
     rw (upper, lower, other) refl
 
-digits_scan_as : (b : ℕ) (bs rest : List ℕ) → list_all is_ascii_digit (b ∷ bs) ≡ true → Stops is_ascii_digit rest → scan_of ((b ∷ bs) ++ rest) ≡ record { kind = kind.Digits; body = b ∷ bs; len = length (b ∷ bs) }
+pub digits_scan_as : (b : ℕ) (bs rest : List ℕ) → list_all is_ascii_digit (b ∷ bs) ≡ true → Stops is_ascii_digit rest → scan_of ((b ∷ bs) ++ rest) ≡ record { kind = kind.Digits; body = b ∷ bs; len = length (b ∷ bs) }
 unfolding scan_of
 digits_scan_as b bs rest all stops =
     let h = both_true (is_ascii_digit b) (list_all is_ascii_digit bs) all in

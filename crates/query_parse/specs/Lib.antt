@@ -7,5 +7,7 @@ pub mod Tokens
 pub mod Scanned
 pub mod Parse
 pub mod Text
+pub mod TokenForms
 pub mod Same
+pub mod SameLaws
 pub mod TextOrder

@@ -1,10 +1,11 @@
--- The column references of a query, in the order of its text.
-use Rattle.std.specs.Prelude.{◌<◌, List, [], ◌∷◌, ◌++◌, map}
+-- The references of a query in the order of its text.
+use Rattle.std.specs.Prelude.{ℕ, ◌<◌, List, [], ◌∷◌, ◌++◌, map}
 use Rattle.std.specs.List.{flat_map}
 use Rattle.rankings.specs.Order.{IsAscending}
 use Rattle.query_parse.specs.declared.select.ColumnRef.{ColumnRef}
 use Rattle.query_parse.specs.declared.select.SelectList.{SelectList}
 use Rattle.query_parse.specs.declared.select.SelectList.TheVariants.{Star, Columns}
+use Rattle.query_parse.specs.declared.select.ItemRef.{ItemRef}
 use Rattle.query_parse.specs.declared.select.Side.{Side}
 use Rattle.query_parse.specs.declared.select.Side.TheVariants.{Column, Constant}
 use Rattle.query_parse.specs.declared.select.Equality.{Equality}
@@ -31,5 +32,11 @@ abbrev pub columns_of : Select → List ColumnRef
 columns_of select = list_columns select.list ++ (flat_map equality_columns select.equalities ++ flat_map key_columns select.keys)
 
 -- each begins before all the later ones
+abbrev pub Ascend : {R : Type 0} → (R → ℕ) → List R → Type 0
+Ascend {R} place refs = IsAscending (λ (a b : R). place a < place b) refs
+
 abbrev pub AreInTextOrder : List ColumnRef → Type 0
-AreInTextOrder columns = IsAscending (λ (a b : ColumnRef). a.at < b.at) columns
+AreInTextOrder columns = Ascend (λ (c : ColumnRef). c.at) columns
+
+abbrev pub ItemsAreInTextOrder : List ItemRef → Type 0
+ItemsAreInTextOrder items = Ascend (λ (i : ItemRef). i.at) items

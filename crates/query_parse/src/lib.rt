@@ -6,7 +6,9 @@
 //! `text` writes a query in one canonical form, which `parse` reads as the same query.
 #![tactic(auto)]
 
+mod equality;
 pub mod fault;
+mod laws;
 pub mod name;
 mod parsing;
 mod reader;
@@ -17,6 +19,7 @@ mod token;
 mod writing;
 
 pub use fault::ParseFault;
+pub use laws::{scans_are_longest, tokens_are_longest};
 pub use name::{Bytes, Name};
 pub use parsing::{MAX_BYTES, MAX_ITEMS, MAX_KEYS, parse};
 pub use select::{ColumnRef, Equality, ItemRef, KeyRef, Select, SelectList, Side, Term};

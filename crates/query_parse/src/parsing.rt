@@ -4,7 +4,7 @@ ghost use Rattle.std.specs.Prelude.{◌≡◌, ◌<◌, ◌^◌, IfOk, Result};
 ghost use Rattle.std.specs.Option.{SomeIff};
 ghost use Rattle.query_parse.specs.Parse.{decimal, Agree, Limits, Parses};
 ghost use Rattle.query_parse.specs.Reading.{some_lexeme};
-ghost use Rattle.query_parse.specs.TextOrder.{columns_of, AreInTextOrder};
+ghost use Rattle.query_parse.specs.TextOrder.{columns_of, AreInTextOrder, ItemsAreInTextOrder};
 ghost use Rattle.query_parse.specs.declared.fault.ParseFault.{ParseFault};
 ghost use Rattle.query_parse.specs.declared.select.Select.{Select};
 
@@ -63,6 +63,8 @@ pub fn parse(alloc: Global, bytes: &[u8]) -> Result<Select, ParseFault>
     ensures exact { (other : Result Select ParseFault) → Parses bytes.now other → Agree other result }
     // The column references stand in the order of the text.
     ensures ordered { IfOk result (λ select. AreInTextOrder (columns_of select)) }
+    // So do the from-items.
+    ensures items_ordered { IfOk result (λ select. ItemsAreInTextOrder select.items) }
 {
     if bytes.len() > MAX_BYTES {
         return Err(ParseFault::TooLong);

@@ -1,9 +1,9 @@
 //! The grammar, read token by token.
 
-ghost use Rattle.std.specs.Prelude.{◌≡◌, length, ◌≤◌, ◌++◌, ◌∷◌, [], MatchOption, Some, None, IfOk, OnOk, option_copied, Option, Bool, List};
+ghost use Rattle.std.specs.Prelude.{◌≡◌, length, ◌≤◌, ◌++◌, ◌∷◌, [], MatchOption, Some, None, IfOk, OnOk, option_copied, Option, Bool, List, ℕ};
 ghost use Rattle.std.specs.Option.{option_map};
 ghost use Rattle.query_parse.specs.Lexeme.{Lexeme, lexeme, lexemes};
-ghost use Rattle.query_parse.specs.Reading.{Gives, expect_at, optional_at, place_of, same, column_at, next_column_at, columns_at, list_at, undoubled, side_at, condition_at, next_condition_at, conditions_at, alias_at, item_at, plain_item_at, joined_item_at, inner_item_at, next_item_at, items_at, where_at, sign_at, term_at, next_term_at, direction_at, terms_at, key_at, next_key_at, keys_at, order_at, limit_at, finish_at, query_at, some_lexeme};
+ghost use Rattle.query_parse.specs.Reading.{Gives, expect_at, optional_at, place_of, same, column_at, next_column_at, columns_at, list_at, undoubled, undoubled_from, side_at, condition_at, next_condition_at, conditions_at, alias_at, item_at, plain_item_at, joined_item_at, inner_item_at, next_item_at, items_at, where_at, sign_at, term_at, next_term_at, direction_at, terms_at, key_at, next_key_at, keys_at, order_at, limit_at, finish_at, query_at, some_lexeme};
 
 use crate::fault::ParseFault;
 use crate::name::{Bytes, Name};
@@ -130,6 +130,19 @@ fn list<'a, 't>(
     Ok((SelectList::Columns(columns), rest))
 }
 
+/// Copies a byte of a string, but for the second quote of two; whether the byte is the first of two quotes.
+#[tactic(auto, unfolding(crate::specs::Reading::undoubled_from))]
+fn push_undoubled(bytes: &mut Vec<u8>, byte: u8, second: bool) -> Result<bool, AllocError>
+    ensures { IfOk result (λ next. (rest : List ℕ) → bytes.new.items ++ undoubled_from next rest ≡ bytes.old.items ++ undoubled_from second (byte ∷ rest)) }
+{
+    let is_quote = byte == b'\'';
+    if is_quote && second {
+        return Ok(false);
+    }
+    bytes.push(byte)?;
+    Ok(is_quote)
+}
+
 #[tactic(auto, unfolding(crate::specs::Reading::undoubled_from))]
 fn undoubled_text(alloc: Global, body: &[u8]) -> Result<Vec<u8>, AllocError>
     ensures { IfOk result (λ v. v.items ≡ undoubled body.now) }
@@ -137,12 +150,7 @@ fn undoubled_text(alloc: Global, body: &[u8]) -> Result<Vec<u8>, AllocError>
     let mut bytes = Vec::new(alloc);
     let mut second = false;
     for byte in body {
-        if *byte == b'\'' && second {
-            second = false;
-        } else {
-            bytes.push(*byte)?;
-            second = *byte == b'\'';
-        }
+        second = push_undoubled(&mut bytes, *byte, second)?;
     }
     Ok(bytes)
 }

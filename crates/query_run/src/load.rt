@@ -10,9 +10,8 @@ ghost use Rattle.verdict.specs.Summary.{summary_text};
 
 use crate::plan::plan_of;
 use bumpalo::Bump;
-use cmd_words::Engine;
 use csv_tables::Tables;
-use engine_choice::choose_engine;
+use engine_choice::{EngineKind, choose_engine};
 use outer_io::Sink;
 use query_bind::Query;
 use rank_key::{LexRank, Rank, SumRank};
@@ -26,7 +25,7 @@ use summary_print::print_summary;
 /// memory is refused, and `WriteFault` where the write failed. The query has a join tree, and its node rows are within their limit.
 pub fn run_load<'a, S: Sink, L: Ledger>(
     alloc: Global,
-    engine: Engine,
+    engine: EngineKind,
     query: &Query,
     tables: &Tables,
     out: &mut S,
@@ -49,7 +48,7 @@ pub fn run_load<'a, S: Sink, L: Ledger>(
 // Runs by ranks that have room for the query's order keys.
 fn load_by<'a, R: Rank, S: Sink, L: Ledger>(
     alloc: Global,
-    engine: Engine,
+    engine: EngineKind,
     query: &Query,
     tables: &Tables,
     out: &mut S,

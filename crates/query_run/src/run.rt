@@ -11,9 +11,8 @@ ghost use Rattle.step_bounds.specs.Bounded.{KeepsBound, KeepsPace};
 use crate::plan::plan_of;
 use answer_print::Style;
 use bumpalo::Bump;
-use cmd_words::Engine;
 use csv_tables::Tables;
-use engine_choice::choose_engine;
+use engine_choice::{EngineKind, choose_engine};
 use outer_io::Sink;
 use query_bind::Query;
 use rank_key::{LexRank, Rank, SumRank};
@@ -28,7 +27,7 @@ use step_counter::Steps;
 /// within their limit.
 pub fn run_query<'a, S: Sink, L: Ledger>(
     alloc: Global,
-    engine: Engine,
+    engine: EngineKind,
     query: &Query,
     tables: &Tables,
     style: &Style<'_>,
@@ -53,7 +52,7 @@ pub fn run_query<'a, S: Sink, L: Ledger>(
 // Runs by ranks that have room for the query's order keys.
 fn run_by<'a, R: Rank, S: Sink, L: Ledger>(
     alloc: Global,
-    engine: Engine,
+    engine: EngineKind,
     query: &Query,
     tables: &Tables,
     style: &Style<'_>,

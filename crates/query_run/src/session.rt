@@ -13,9 +13,8 @@ ghost use Rattle.ranking_print.specs.Printed.{Printed};
 use crate::plan::plan_of;
 use answer_print::Style;
 use bumpalo::Bump;
-use cmd_words::Engine;
 use csv_tables::Tables;
-use engine_choice::choose_engine;
+use engine_choice::{EngineKind, choose_engine};
 use outer_io::Sink;
 use query_bind::Query;
 use rank_key::{LexRank, Rank, SumRank};
@@ -31,7 +30,7 @@ use step_counter::Steps;
 /// and its node rows are within their limit.
 pub fn run_session<'a, S: Sink, L: Ledger>(
     alloc: Global,
-    engine: Engine,
+    engine: EngineKind,
     query: &Query,
     tables: &Tables,
     style: &Style<'_>,
@@ -57,7 +56,7 @@ pub fn run_session<'a, S: Sink, L: Ledger>(
 // Runs by ranks that have room for the query's order keys.
 fn session_by<'a, R: Rank, S: Sink, L: Ledger>(
     alloc: Global,
-    engine: Engine,
+    engine: EngineKind,
     query: &Query,
     tables: &Tables,
     style: &Style<'_>,

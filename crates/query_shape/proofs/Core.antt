@@ -3,8 +3,9 @@ use Rattle.std.proofs.Common.{◌≡◌, ◌↔◌, ◌+◌, ◌<◌, ◌≤◌,
 use Rattle.std.specs.List.{range_with_len}
 use Rattle.std.proofs.lemmas.Bool.{cases_lt}
 use Rattle.hyper_graph.proofs.Bits.{in_below}
+use Rattle.hyper_graph.specs.Graph.{is_in}
+use Rattle.hyper_graph.specs.Items.{items_below, items_of}
 use Rattle.rankings.specs.Order.{IsMember, IsAscending}
-use Rattle.refusal_lines.specs.Core.{has_item, items_below, items_of}
 use Rattle.query_bind.proofs.Lists.{ascending-filter, below-all, below-each, kept-member, member-kept, member-map, member-unmap}
 use Rattle.query_shape.specs.Shape.{IsInCore}
 
@@ -38,20 +39,20 @@ next-ascending (x ∷ xs) h = (
 
 pub items-ascending : (core : ℕ) → IsAscending (λ a b. a < b) (items_of core)
 unfolding items_below
-items-ascending core = next-ascending (filter (has_item core) (range_with_len 0 16)) (ascending-filter (λ x y. x < y) (has_item core) (range_with_len 0 16) (range-ascending 0 16))
+items-ascending core = next-ascending (filter (is_in core) (range_with_len 0 16)) (ascending-filter (λ x y. x < y) (is_in core) (range_with_len 0 16) (range-ascending 0 16))
 
 pub items-members : (core item : ℕ) → core < 2 ^ 16 → IsMember item (items_of core) ↔ IsInCore core item
 unfolding items_below
 items-members core item fits = (to, from)
   where
-    to : IsMember item (map (λ p. p + 1) (filter (has_item core) (range_with_len 0 16))) → IsInCore core item
-    to m = let (a, n, e) = member-unmap (λ (p : ℕ). p + 1) item (filter (has_item core) (range_with_len 0 16)) m in
-        (a, omega (arith, e), (kept-member (has_item core) a (range_with_len 0 16) n).1)
+    to : IsMember item (map (λ p. p + 1) (filter (is_in core) (range_with_len 0 16))) → IsInCore core item
+    to m = let (a, n, e) = member-unmap (λ (p : ℕ). p + 1) item (filter (is_in core) (range_with_len 0 16)) m in
+        (a, omega (arith, e), (kept-member (is_in core) a (range_with_len 0 16) n).1)
 
-    from : IsInCore core item → IsMember item (map (λ p. p + 1) (filter (has_item core) (range_with_len 0 16)))
+    from : IsInCore core item → IsMember item (map (λ p. p + 1) (filter (is_in core) (range_with_len 0 16)))
     from (a, e, h) =
         let below : a < 16 = in_below core a fits h in
         let next : a + 1 ≡ item = omega (arith, e) in
-        subst (λ (k : ℕ). IsMember k (map (λ p. p + 1) (filter (has_item core) (range_with_len 0 16)))) next
-        (member-map (λ (p : ℕ). p + 1) a (filter (has_item core) (range_with_len 0 16))
-        (member-kept (has_item core) a (range_with_len 0 16) (range-member 0 16 a (omega arith) (omega arith)) h))
+        subst (λ (k : ℕ). IsMember k (map (λ p. p + 1) (filter (is_in core) (range_with_len 0 16)))) next
+        (member-map (λ (p : ℕ). p + 1) a (filter (is_in core) (range_with_len 0 16))
+        (member-kept (is_in core) a (range_with_len 0 16) (range-member 0 16 a (omega arith) (omega arith)) h))

@@ -3,7 +3,7 @@ use Rattle.std.specs.Prelude.{◌≡◌, ℕ, ◌<◌, List, length, slice_index
 use Rattle.anyk_model.specs.Table.{Table}
 use Rattle.anyk_model.specs.Query.{Query}
 use Rattle.join_tree.specs.declared.tree.JoinTree.{JoinTree}
-use Rattle.refusal_lines.specs.Core.{items_of}
+use Rattle.hyper_graph.specs.Items.{items_of}
 use Rattle.query_bind.specs.Parts.{sum_of_all}
 use Rattle.query_shape.specs.Shape.{Shape, HasNodeRows, HasTree, IsCyclic, IsShape, cyclic, too_many_rows}
 use Rattle.query_shape.specs.declared.fault.ShapeFault.{ShapeFault}

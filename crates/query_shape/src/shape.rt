@@ -11,7 +11,6 @@ use crate::fault::ShapeFault;
 use csv_tables::Tables;
 use join_tree::{JoinTree, ears, tree_of};
 use query_bind::Query;
-use std::alloc::Global;
 
 /// The most rows that the nodes of a join tree may have, all together.
 pub const MOST_NODE_ROWS: u32 = 4_194_304;
@@ -28,16 +27,15 @@ pub struct TreeShape {
 }
 
 /// The join tree of a query by ear removal. The query is cyclic exactly where there is none. The other error is that memory is refused.
-pub fn tree_shape(alloc: Global, query: &Query) -> Result<JoinTree, ShapeFault>
+pub fn tree_shape(query: &Query) -> Result<JoinTree, ShapeFault>
     requires fits { (tables : List Table) × Fits query.now tables }
-    requires some { 1 ≤ length query.now.query.items }
     ensures tree { IfOk result (λ tree. HasStoredTree query.now.query tree) }
     ensures ordered { IfOk result (λ tree. IsTree tree.count tree.atom tree.parent) }
     ensures count { IfOk result (λ tree. tree.count ≡ length query.now.query.items) }
     ensures items { IfOk result (λ tree. HasItems tree.count tree.atom (length query.now.query.items)) }
     ensures refusal { IfErr result (TellsCycle query.now.query) }
 {
-    let graph = query.graph(alloc)?;
+    let graph = query.graph()?;
     let ears = ears(&graph);
     match tree_of(&ears) {
         Some(tree) => Ok(tree),
@@ -48,9 +46,8 @@ pub fn tree_shape(alloc: Global, query: &Query) -> Result<JoinTree, ShapeFault>
 /// The shape of a query: its join tree by ear removal, and for each node how many rows pass. The query is cyclic exactly where
 /// there is no join tree. There are too many rows exactly where the nodes of the tree have more than `MOST_NODE_ROWS`. The
 /// other error is that memory is refused.
-pub fn shape_of(alloc: Global, query: &Query, tables: &Tables) -> Result<TreeShape, ShapeFault>
+pub fn shape_of(query: &Query, tables: &Tables) -> Result<TreeShape, ShapeFault>
     requires fits { Fits query.now tables.now }
-    requires some { 1 ≤ length query.now.query.items }
     ensures shape { IfOk result (λ found. IsShape query.now.query tables.now (Ok (shape_shown found))) }
     ensures ordered { IfOk result (λ found. IsTree found.tree.count found.tree.atom found.tree.parent) }
     ensures count { IfOk result (λ found. found.tree.count ≡ length query.now.query.items) }
@@ -58,7 +55,7 @@ pub fn shape_of(alloc: Global, query: &Query, tables: &Tables) -> Result<TreeSha
     ensures total { IfOk result (λ found. found.total ≡ sum_of_all (take found.tree.count found.node_rows)) }
     ensures refusal { IfErr result (TellsFlaw query.now.query tables.now) }
 {
-    let tree = tree_shape(alloc, query)?;
+    let tree = tree_shape(query)?;
     let shape = counted(query, tables, tree);
     if shape.total > MOST_NODE_ROWS {
         return Err(ShapeFault::TooManyRows);

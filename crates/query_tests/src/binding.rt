@@ -59,13 +59,10 @@ fn variables(query: &Query, _tables: &Tables, item: u32) -> [Option<(u32, u32)>;
     [variables.get(0).copied(), variables.get(1).copied()]
 }
 
-fn graph(alloc: Global, query: &Query, _tables: &Tables) -> [u16; 3]
+fn graph(query: &Query, _tables: &Tables) -> [u16; 3]
     requires { Fits query.now _tables.now }
 {
-    if query.items() == 0 {
-        return [0; 3];
-    }
-    let Ok(graph) = query.graph(alloc) else {
+    let Ok(graph) = query.graph() else {
         return [0; 3];
     };
     let mut first = [0; 3];
@@ -147,7 +144,7 @@ fn tell(alloc: Global, query: &Query, tables: &Tables) -> Bound
         limit: query.limit(),
         columns: columns(query),
         variables: variables_of,
-        graph: graph(alloc, query, tables),
+        graph: graph(query, tables),
         passes: passing,
         parts: [parts(query, tables, 0), parts(query, tables, 1)],
         caps: [caps(query, tables, 0), caps(query, tables, 1)],
@@ -161,6 +158,7 @@ fn told_of(
     tables: &Tables,
     which: &[u32],
 ) -> Result<Bound, BindFault>
+    requires some { 1 ≤ length select.now.items }
     requires items { length select.now.items ≤ 16 }
     requires keys { length select.now.keys ≤ 8 }
     requires tables { length which.now ≡ length select.now.items }
@@ -332,6 +330,13 @@ fn weights(
         [told.parts[0][0], told.parts[1][0]],
         [told.caps[0][0], told.caps[1][0]],
     ))
+}
+
+#[test]
+fn an_empty_weight_counts_zero(rt: HostRuntime) -> Result<(), Fail> {
+    let told = weights(rt.alloc(), (b"a,b,w\n1,x,-3\n2,y,\n", S), SUM)?;
+    assert!(rt; told == ([0, 4], [3, 5]));
+    Ok(())
 }
 
 #[test]

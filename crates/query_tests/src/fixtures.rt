@@ -24,14 +24,15 @@ pub(crate) fn read_two(alloc: Global, files: (&[u8], &[u8])) -> Result<Tables, F
     Ok(tables)
 }
 
-/// A query of so many items that can be bound.
+/// A query of so many items, and at least one, that can be bound.
 pub(crate) fn parse_small(alloc: Global, text: &[u8], items: usize) -> Result<Select, Fail>
     requires few { items ≤ 16 }
+    ensures some { IfOk result (λ made. 1 ≤ length made.items) }
     ensures items { IfOk result (λ made. length made.items ≡ items) }
     ensures keys { IfOk result (λ made. length made.keys ≤ 8) }
 {
     let select = parse(alloc, text)?;
-    if select.items.as_slice().len() != items || select.keys.as_slice().len() > 8 {
+    if items == 0 || select.items.as_slice().len() != items || select.keys.as_slice().len() > 8 {
         return Err("not a small query".into());
     }
     Ok(select)

@@ -29,6 +29,7 @@ fn shape_of_select(
     select: &Select,
     which: &[u32],
 ) -> Option<Result<[u32; 6], ShapeFault>>
+    requires some { 1 ≤ length select.now.items }
     requires items { length select.now.items ≤ 16 }
     requires keys { length select.now.keys ≤ 8 }
     requires tables { length which.now ≡ length select.now.items }
@@ -37,10 +38,7 @@ fn shape_of_select(
     let Ok(query) = bind(alloc, select, tables, which) else {
         return None;
     };
-    if query.items() == 0 {
-        return None;
-    }
-    match shape_of(alloc, &query, tables) {
+    match shape_of(&query, tables) {
         Ok(shape) => Some(Ok(told(&shape))),
         Err(fault) => Some(Err(fault)),
     }

@@ -14,6 +14,3 @@ mod rank;
 pub use binary_digits::bits;
 pub use fixed_rank::{FixedRank, LexRank, SumRank};
 pub use rank::{Rank, SLOTS};
-
-#[cfg(test)]
-mod tests;

@@ -5,8 +5,10 @@ use Rattle.std.specs.List.{range_with_len}
 use Rattle.std.proofs.KnownBytes.{Appends-trans}
 use Rattle.std.proofs.lemmas.Grind.{flat_map-append}
 use Rattle.std.proofs.lemmas.List.FromFn.{get_or-range_with_len, length-range_with_len, map-range_with_len_more, take-map-range_with_len}
+use Rattle.hyper_graph.specs.Graph.{is_in}
+use Rattle.hyper_graph.specs.Items.{items_below}
 use Rattle.refusal_lines.specs.Answer.{spaced}
-use Rattle.refusal_lines.specs.Core.{has_item, item_text, items_below}
+use Rattle.refusal_lines.specs.Core.{item_text}
 use Rattle.refusal_lines.specs.Sent.{Sent}
 use Rattle.refusal_lines.proofs.Pieces.{Sent-cut}
 
@@ -16,10 +18,10 @@ place-text : (b : Bool) (place : ℕ) (places : List ℕ)
 place-text true place places = refl
 place-text false place places = refl
 
-kept-text : (core : ℕ) (places : List ℕ) → flat_map (item_text core) places ≡ spaced (map (λ p. p + 1) (filter (has_item core) places))
+kept-text : (core : ℕ) (places : List ℕ) → flat_map (item_text core) places ≡ spaced (map (λ p. p + 1) (filter (is_in core) places))
 kept-text core [] = refl
 kept-text core (place ∷ places) =
-    ap (λ l. item_text core place ++ l) (kept-text core places) ∙ place-text (has_item core place) place (filter (has_item core) places)
+    ap (λ l. item_text core place ++ l) (kept-text core places) ∙ place-text (is_in core place) place (filter (is_in core) places)
 
 -- the texts of all places are the items with their spaces
 core-text : (core n : ℕ) → flat_map (item_text core) (range_with_len 0 n) ≡ spaced (items_below core n)

@@ -1,7 +1,9 @@
 //! The line that tells why a run ended.
 ghost use Rattle.std.specs.Prelude.{◌≡◌, ◌<◌, ◌+◌, ◌++◌, codes, decimal};
 ghost use Rattle.refusal_lines.specs.Answer.{BadWeight, DuplicateName, RankRange, Ragged, line_of, on_byte, on_file, on_line, on_table, spaced, text_of};
-ghost use Rattle.refusal_lines.specs.Core.{has_item, item_text, items_of};
+ghost use Rattle.hyper_graph.specs.Graph.{is_in};
+ghost use Rattle.hyper_graph.specs.Items.{items_of};
+ghost use Rattle.refusal_lines.specs.Core.{item_text};
 ghost use Rattle.refusal_lines.specs.Refused.{answer_of};
 ghost use Rattle.refusal_lines.specs.Sent.{Sent};
 
@@ -203,16 +205,16 @@ fn write_item<E: Sink>(err: &mut E, core: u16, place: u32) -> Result<(), Unwritt
     requires { place < 16 }
     ensures { Sent (E.written err.old) (E.written err.new) (E.faults err.old) (E.faults err.new) (item_text core place) result }
 {
-    if has_item(core, place) {
+    if is_in(core, place) {
         write_numbered(err, b" ", place + 1, b"")
     } else {
         Ok(())
     }
 }
 
-fn has_item(core: u16, place: u32) -> bool
+fn is_in(core: u16, place: u32) -> bool
     requires { place < 16 }
-    ensures { result ≡ has_item core place }
+    ensures { result ≡ is_in core place }
 {
     (core >> place) & 1 == 1
 }

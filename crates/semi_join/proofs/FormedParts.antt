@@ -74,18 +74,20 @@ module _ {R : Type 0} (d : ℕ) (key : R → KeyOf d 16) (raw : RawData R) (form
 
   pub formed-parts : IsGrouped d key parts
   formed-parts = record {
-    shaped = shaped-same raw.shapes parts (all-shapes raw parts last) formed.shaped;
-    few_rows = few-rows;
-    rows_fit = fits;
-    all_name = λ v h.
-        let within = inside v h in
-        ap length (node-of raw parts last v within).to_child ∙ length-map (kept_at raw v) (groups_named raw v (later_of raw v)) ∙ sym (row-count raw parts last v within);
-    name_all = names-all;
-    named = names-one;
-    grouped = λ v h.
-        let within = inside v h in
-        subst (λ n. IsPermutation (range_with_len 0 n) (concat (node_at parts v).groups)) (owns-count raw v ∙ sym (row-count raw parts last v within)) (node-of raw parts last v within).grouping.spread;
-    inhabited = λ v g h l. (node-of raw parts last v (inside v h)).grouping.inhabited g l;
-    one_root = one-root raw parts last formed.shaped.some_node;
+    laid_out = record {
+      shaped = shaped-same raw.shapes parts (all-shapes raw parts last) formed.shaped;
+      few_rows = few-rows;
+      rows_fit = fits;
+      all_name = λ v h.
+          let within = inside v h in
+          ap length (node-of raw parts last v within).to_child ∙ length-map (kept_at raw v) (groups_named raw v (later_of raw v)) ∙ sym (row-count raw parts last v within);
+      name_all = names-all;
+      named = names-one;
+      grouped = λ v h.
+          let within = inside v h in
+          subst (λ n. IsPermutation (range_with_len 0 n) (concat (node_at parts v).groups)) (owns-count raw v ∙ sym (row-count raw parts last v within)) (node-of raw parts last v within).grouping.spread;
+      inhabited = λ v g h l. (node-of raw parts last v (inside v h)).grouping.inhabited g l;
+      one_root = one-root raw parts last formed.shaped.some_node;
+    };
     no_best = λ v h. (node-of raw parts last v (inside v h)).best;
   }

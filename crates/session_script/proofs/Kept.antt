@@ -104,7 +104,7 @@ turn_by_said : (line : ℕ) (names : List (List ℕ)) (o : Option Step) (step : 
 turn_by_said line names None step h = absurd cc
 turn_by_said line names (Some s) step h = let u = unless_ok (fault_of line names s) s step h in ap (λ (x : Step). Some x) u.1
 
-turn_said : (line : ℕ) (names : List (List ℕ)) (text : List ℕ) (step : Step) → turn line names text ≡ Ok step → Says text step
+pub turn_said : (line : ℕ) (names : List (List ℕ)) (text : List ℕ) (step : Step) → turn line names text ≡ Ok step → Says text step
 unfolding turn
 turn_said line names text step h = sound text step (turn_by_said line names (step_of text) step h)
 

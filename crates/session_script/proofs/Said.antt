@@ -137,7 +137,7 @@ parts_said (w ∷ a ∷ b ∷ c ∷ more) step e = absurd cc
 pub sound : (line : List ℕ) (step : Step) → step_of line ≡ Some step → Says line step
 sound line step e = subst (λ (l : List ℕ). Says l step) (join_with_byte-slice_split 32 line) (parts_said (parts line) step e)
 
-said_by : (line : List ℕ) (o : Option Step) → step_of line ≡ o → IsSaid line o
+pub said_by : (line : List ℕ) (o : Option Step) → step_of line ≡ o → IsSaid line o
 said_by line None e = λ step h. absurd (let f = complete line step h in cc)
 said_by line (Some step) e = sound line step e
 

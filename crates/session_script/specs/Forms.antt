@@ -1,7 +1,9 @@
 -- The forms of a line that says a step.
-use Rattle.std.specs.Prelude.{ℕ, List, ◌∷◌, ◌++◌, Option, Some, None, IsTrue, codes, [], not, filter}
+use Rattle.std.specs.Prelude.{◌≡◌, ℕ, ◌+◌, List, ◌∷◌, ◌++◌, length, Option, Some, None, IsTrue, false, codes, [], not, filter}
 use Rattle.session_script.specs.declared.step.Step.{Step}
 use Rattle.session_script.specs.declared.step.Step.TheVariants.{Open, Next, Fork, Rewind, Close}
+use Rattle.session_script.specs.declared.fault.ScriptFault.{ScriptFault}
+use Rattle.session_script.specs.declared.fault.ScriptFault.TheVariants.{TooManyLines, BadLine, UnknownCursor, CursorExists, TooManyOpen, NoMemory}
 use Rattle.session_script.specs.Names.{is_name}
 use Rattle.session_script.specs.Words.{is_skipped, is_count, decimal_value}
 
@@ -28,3 +30,24 @@ SayEach (line ∷ lines) [] = ⊥
 -- the lines that are neither empty nor comments
 abbrev pub said_lines : List (List ℕ) → List (List ℕ)
 said_lines lines = filter (λ line. not (is_skipped line)) lines
+
+-- The line of this number, from 1, says no step, and each line before it says one, but for empty lines and comments.
+pub record IsBadLine (lines : List (List ℕ)) (number : ℕ) : Type 0 where
+  pub before : List (List ℕ)
+  pub line : List ℕ
+  pub after : List (List ℕ)
+  pub parts : lines ≡ before ++ line ∷ after
+  pub place : number ≡ length before + 1
+  pub is_read : is_skipped line ≡ false
+  pub says_none : IsSaid line None
+  pub steps : List Step
+  pub others_say : SayEach (said_lines before) steps
+
+-- a fault that names a bad line names the first one
+abbrev pub NamesBadLine : List (List ℕ) → ScriptFault → Type 0
+NamesBadLine lines (BadLine number) = IsBadLine lines number
+NamesBadLine lines TooManyLines = Unit {0}
+NamesBadLine lines (UnknownCursor number) = Unit {0}
+NamesBadLine lines (CursorExists number) = Unit {0}
+NamesBadLine lines (TooManyOpen number) = Unit {0}
+NamesBadLine lines NoMemory = Unit {0}

@@ -1,8 +1,8 @@
 //! From bytes to steps.
 
-ghost use Rattle.std.specs.Prelude.{◌≡◌, ◌≤◌, [], length, IfOk, MatchResult, Ok};
+ghost use Rattle.std.specs.Prelude.{◌≡◌, ◌≤◌, [], length, IfErr, IfOk, MatchResult, Ok};
 ghost use Rattle.std.specs.Str.Lines.{lines};
-ghost use Rattle.session_script.specs.Forms.{SayEach, said_lines};
+ghost use Rattle.session_script.specs.Forms.{SayEach, said_lines, NamesBadLine};
 ghost use Rattle.session_script.specs.Script.{turn, steps_from, steps_of, names_after, Fails, KeepsRules};
 
 use crate::fault::ScriptFault;
@@ -59,6 +59,8 @@ pub fn read_script(alloc: Global, bytes: &[u8]) -> Result<Vec<Step>, ScriptFault
     ensures value { MatchResult result (λ v. steps_of bytes.now ≡ Ok v.items) (λ e. Fails (steps_of bytes.now) e) }
     // Each line says its step, but for those that are empty or comments.
     ensures says { IfOk result (λ v. SayEach (said_lines (lines bytes.now)) v.items) }
+    // A bad line is one that no form of a step fits, and all lines before it say steps.
+    ensures bad_line { IfErr result (λ e. NamesBadLine (lines bytes.now) e) }
     // Each name is open where it is used, and never more than 64 are.
     ensures keeps_rules { IfOk result (λ v. KeepsRules [] v.items) }
 {

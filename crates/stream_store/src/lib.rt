@@ -11,6 +11,3 @@ mod store;
 
 pub use entry::{EntryId, Linked};
 pub use store::Store;
-
-#[cfg(test)]
-mod tests;

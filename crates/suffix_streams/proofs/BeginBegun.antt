@@ -23,7 +23,7 @@ use Rattle.suffix_streams.specs.Frontiers.{HasRows, IsPrefix}
 use Rattle.suffix_streams.specs.StreamsData.{node_list, group_list_of, node_of, group_of, stream, lists_of, stream_of, product_of, row_known, run_of, IsStreamOf, IsStreams}
 use Rattle.suffix_streams.specs.Beginnings.{AreHeads, IsBegun}
 use Rattle.suffix_streams.proofs.BeginFirsts.{group_head}
-use Rattle.suffix_streams.proofs.BeginRankings.{group_ranks, row_ranks}
+use Rattle.suffix_streams.proofs.Rankings.{group_is_ranking, row_is_ranking}
 use Rattle.suffix_streams.proofs.BeginHeads.{heads_ahead}
 use Rattle.suffix_streams.proofs.BeginOwners.{owned_within, only_one}
 use Rattle.suffix_streams.proofs.ViewEntries.{stream-length, stream-at}
@@ -57,7 +57,7 @@ module _ {R : Type 0} (d : ℕ) (key : R → KeyOf d 16) (t : List (NodeData R))
   -- the first solution begins the ranking
   prefix_one : (q h : ℕ) (a : Answer R) → q < length t → h < group_count t q → key a.rank ≡ get_or (group_list d key t q h) 0 (key_none d 16) → HasRows d key a → IsPrefix d key (a ∷ []) (group_list d key t q h)
   prefix_one q h a l lh k rows =
-      let s = group_head d key t formed q h (group_list d key t q h) l (formed.inhabited q h l lh) (group_ranks d key t q h l) in
+      let s = group_head d key t formed q h (group_list d key t q h) l (formed.inhabited q h l lh) (group_is_ranking d key t q h l) in
       (omega arith, s.0, one_taken (group_list d key t q h) (key a.rank) (key_none d 16) s.0 (sym k), All-cons (HasRows d key) a [] rows (All-nil (HasRows d key)))
 
   row_one : (q r : ℕ) → row_known nodes q r ≡ 1
@@ -77,7 +77,7 @@ module _ {R : Type 0} (d : ℕ) (key : R → KeyOf d 16) (t : List (NodeData R))
       let a : Answer R = (get_or es (stream_of nodes q h).head e).value.answer in
       let whole : stream es q h ≡ a ∷ [] = stream_is q h a l lh e refl in
       let ahead = heads_ahead d key t formed free run_of q h (stream_of nodes q h).queue (group_list d key t q h) (λ i. part_list d key t q (get_or (members t q h) i 0) (child_count t q)) l (formed.inhabited q h l lg) x.heads.0 x.heads.1
-      (group_ranks d key t q h l) (λ i li. row_ranks d key t formed q (get_or (members t q h) i 0) l) in
+      (group_is_ranking d key t q h l) (λ i li. row_is_ranking d key t formed q (get_or (members t q h) i 0) l) in
       record {
         head_in = x.head_in;
         head_node = x.node;

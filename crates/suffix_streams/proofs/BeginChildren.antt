@@ -4,17 +4,7 @@ use Rattle.std.proofs.lemmas.Bool.{cases_lt, cases_eq}
 use Rattle.std.proofs.lemmas.Bool.Decides.{nat_tests}
 use Rattle.tdp_core.specs.TreeData.{NodeData, parent, child_count, child_place, kids_below}
 use Rattle.tdp_core.proofs.Children.{kids_below-first, kids_below-child, kids_below-other}
-use Rattle.suffix_streams.specs.Rankings.{child_among, child, part_end}
-
-pub kids_below-later : (parent : ℕ → ℕ) (v n k : ℕ) → kids_below parent v n ≤ kids_below parent v (n + k)
-unfolding kids_below
-kids_below-later parent v n zero = let same : n + 0 ≡ n = omega arith in omega (arith, ap (kids_below parent v) same)
-kids_below-later parent v n (suc k) =
-    let next : n + suc k ≡ suc (n + k) = omega arith in
-    omega (arith, ap (kids_below parent v) next, kids_below-later parent v n k)
-
-pub kids_below-rises : (parent : ℕ → ℕ) (v n k : ℕ) → n ≤ k → kids_below parent v n ≤ kids_below parent v k
-kids_below-rises parent v n k l = let far : n + (k - n) ≡ k = omega arith in omega (arith, kids_below-later parent v n (k - n), ap (kids_below parent v) far)
+use Rattle.suffix_streams.specs.Rankings.{child_among, child}
 
 kids_at : (parent : ℕ → ℕ) (v n : ℕ) → 0 < n → parent n ≡ v → kids_below parent v (suc n) ≡ kids_below parent v n + 1
 kids_at parent v n some e = let next : suc n ≡ n + 1 = omega arith in ap (kids_below parent v) next ∙ kids_below-child parent v n some e
@@ -116,17 +106,3 @@ module _ {R : Type 0} (t : List (NodeData R)) where
             let before : c < kids_below (parent t) v n = omega (arith, l, kids_below-other (parent t) v n other) in
             each c before ∙ sym (ap (child_among (parent t) v c) next ∙ among_before (parent t) v c n before)),
       )
-
-  -- the first c children are among the nodes up to the last of them, and no other child is
-  pub part_end_is : ((q : ℕ) → 0 < q → q < length t → parent t q < q) → (v c : ℕ) → v < length t → c ≤ child_count t v
-      → (suc v + part_end t v c ≤ length t) × (kids_below (parent t) v (suc v + part_end t v c) ≡ c)
-  part_end_is first v zero l few = (omega arith, no_kids_before (parent t) (length t) v (suc v + 0) first (omega arith) (omega arith))
-  part_end_is first v (suc c) l few =
-      let r = child_is v c (omega arith) in
-      let above : v < child t v c = omega (arith, first (child t v c) r.0 r.1, r.2) in
-      let next : suc v + (child t v c - v) ≡ suc (child t v c) = omega (arith, above) in
-      let place : kids_below (parent t) v (child t v c) ≡ c = (among_is (parent t) v c (length t) (omega arith)).3 in
-      (omega (arith, next, r.1), ap (kids_below (parent t) v) next ∙ kids_at (parent t) v (child t v c) r.0 r.2 ∙ plus_one place)
-    where
-      plus_one : {x c : ℕ} → x ≡ c → x + 1 ≡ suc c
-      plus_one e = omega arith

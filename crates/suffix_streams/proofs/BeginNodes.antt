@@ -19,7 +19,7 @@ use Rattle.suffix_streams.specs.Frontiers.{HasRows}
 use Rattle.suffix_streams.specs.StreamsData.{lists_of, IsHeaded}
 use Rattle.suffix_streams.specs.Beginnings.{HasHeads, IsEmptyNode, IsBegunFrom, IsBegunIn}
 use Rattle.suffix_streams.proofs.BeginFirsts.{group_head, row_head}
-use Rattle.suffix_streams.proofs.BeginRankings.{group_ranks, row_ranks}
+use Rattle.suffix_streams.proofs.Rankings.{group_is_ranking, row_is_ranking}
 use Rattle.suffix_streams.proofs.BeginChildren.{child_is}
 use Rattle.suffix_streams.proofs.BeginOwners.{get_before, get_behind, get_default}
 use Rattle.suffix_streams.proofs.BeginMade.{with_stream, begun_none, begun_more}
@@ -30,8 +30,8 @@ module _ {R : Type 0} (d : ℕ) (key : R → KeyOf d 16) (t : List (NodeData R))
       → get_or (part_list d key t q (get_or (members t q g) 0 0) (child_count t q)) 0 (key_none d 16) ≡ get_or (group_list d key t q g) 0 (key_none d 16)
   first_member q g l lg =
       let some = formed.inhabited q g l lg in
-      (row_head d key t formed q (get_or (members t q g) 0 0) _ l (member_is_row d key t formed q g 0 l some) (row_ranks d key t formed q (get_or (members t q g) 0 0) l)).1
-      ∙ sym (group_head d key t formed q g _ l some (group_ranks d key t q g l)).1
+      (row_head d key t formed q (get_or (members t q g) 0 0) _ l (member_is_row d key t formed q g 0 l some) (row_is_ranking d key t formed q (get_or (members t q g) 0 0) l)).1
+      ∙ sym (group_head d key t formed q g _ l some (group_is_ranking d key t q g l)).1
 
 module _ {R : Type 0} (d : ℕ) (key : R → KeyOf d 16) (t : List (NodeData R)) where
   pub from_none : (nodes : List (NodeLists R)) → length nodes ≡ length t → ((v : ℕ) → v < length t → IsEmptyNode t v (lists_of nodes v)) → IsBegunFrom d key t [] nodes (length t)

@@ -1,4 +1,3 @@
-pub mod Listing
 pub mod Children
 pub mod Rankings
 pub mod State
@@ -12,7 +11,6 @@ pub mod Kept
 pub mod Changes
 pub mod Entries
 pub mod Stepping
-pub mod BeginListed
 pub mod BeginFirsts
 pub mod BeginChildren
 pub mod BeginRankings
@@ -35,3 +33,7 @@ pub mod SearchCosts
 pub mod SearchCalls
 pub mod SearchRoom
 pub mod SearchSteps
+pub mod RowSearch
+pub mod NextCall
+pub mod QueuePass
+pub mod ProductPass

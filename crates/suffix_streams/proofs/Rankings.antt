@@ -11,6 +11,7 @@ use Rattle.tdp_model.proofs.KeyTuples.{tuple_keys}
 use Rattle.tdp_model.proofs.Keys.{get_member}
 use Rattle.tdp_model.proofs.Begin.{IsRanking-same}
 use Rattle.tdp_model.proofs.Sorting.{ranked_is_ranking}
+use Rattle.tdp_model.proofs.Enumeration.{part_listed, listed_part, row_listed, listed_row, gather_member, member_gather}
 use Rattle.tdp_model.proofs.Bridge.{deeper, shallower}
 use Rattle.tdp_model.proofs.Parts.{part_first, part_first_only, part_skip, part_skipped, part_join, row_of_part, part_of_row}
 use Rattle.tdp_model.proofs.RowStreams.{product_begins}
@@ -18,7 +19,6 @@ use Rattle.tdp_core.specs.TreeData.{NodeData, kids_below, parent, item, number, 
 use Rattle.tdp_core.specs.WellFormed.{IsFormed, IsTieFreeTree}
 use Rattle.tdp_core.proofs.TreeFacts.{tie_free_of, part_key_fits, best_had, member_is_row}
 use Rattle.suffix_streams.specs.Rankings.{child, part_end, RowSolution, PartSolution, GroupSolution, solution_keys, part_list, group_list}
-use Rattle.suffix_streams.proofs.Listing.{part_listed, listed_part, row_listed, listed_row, gather_member, member_gather}
 use Rattle.suffix_streams.proofs.Children.{IsChild, child_is, none_between, none_between_two, none_after, none_at_all, later_child}
 
 pub some_member : {K : Type 0} (k : K) (ks : List K) → IsMember k ks → 0 < length ks

@@ -17,7 +17,7 @@ use Rattle.suffix_streams.specs.Rankings.{GroupSolution, group_list}
 use Rattle.suffix_streams.specs.Frontiers.{HasRows, IsPrefix}
 use Rattle.suffix_streams.specs.StreamsData.{node_list, group_list_of, node_of, group_of, place_of, next_of, stream, IsStreams}
 use Rattle.suffix_streams.proofs.BeginOwners.{owned_within}
-use Rattle.suffix_streams.proofs.BeginRankings.{group_ranks}
+use Rattle.suffix_streams.proofs.Rankings.{group_is_ranking}
 use Rattle.suffix_streams.proofs.ViewEntries.{stream-length, entry-at}
 
 module _ {R : Type 0} (d : ℕ) (key : R → KeyOf d 16) where
@@ -45,7 +45,7 @@ module _ {R : Type 0} (d : ℕ) (key : R → KeyOf d 16) where
     -- each stream is a prefix of any ranking of its group
     pub all_prefixes : (q g : ℕ) (ks : List (KeyOf d 16)) → q < length t → g < group_count t q → IsRanking (KeyOf d 16) (key_below d 16) (GroupSolution d key t q g) ks → IsPrefix d key (stream es q g) ks
     all_prefixes q g ks l lg r =
-        subst (λ z. IsPrefix d key (stream es q g) z) (ranking_unique (key_below d 16) (tuple_keys d 16).order (GroupSolution d key t q g) (group_list d key t q g) ks (group_ranks d key t q g l) r)
+        subst (λ z. IsPrefix d key (stream es q g) z) (ranking_unique (key_below d 16) (tuple_keys d 16).order (GroupSolution d key t q g) (group_list d key t q g) ks (group_is_ranking d key t q g l) r)
         (s.streams q g l lg).merge.prefix
 
     -- an entry stands in its stream

@@ -9,11 +9,10 @@
 
 mod entry;
 mod heap;
+mod order;
 mod sift;
 
 pub use entry::Entry;
 pub use heap::HeapOf;
-pub use sift::heapify;
-
-#[cfg(test)]
-mod tests;
+pub use order::KeyOrder;
+pub use sift::{heapify, heapify_by};

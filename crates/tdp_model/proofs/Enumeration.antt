@@ -1,6 +1,7 @@
 -- The subtree solutions of a group are finitely many, so that their ranking exists.
 use Rattle.std.proofs.Common.{◌≡◌, ℕ, zero, suc, ◌+◌, ◌-◌, ◌<◌, ◌⊎◌, List, [], ◌∷◌, ◌++◌, map, length, get_or, refl, sym, ap, subst, inl, inr, arith}
 use Rattle.rankings.specs.Order.{IsMember, IsRanking, ranked}
+use Rattle.rankings.proofs.Members.{member-left, member-right, member-either, member-map, member-unmap}
 use Rattle.tdp_model.specs.KeyLaws.{IsKeys}
 use Rattle.tdp_model.specs.TreeProblem.{RowHas, GroupHas, PartHas, all_sums, gather, part_keys, row_keys}
 use Rattle.tdp_model.proofs.Subtrees.{cases_eq}
@@ -8,57 +9,33 @@ use Rattle.tdp_model.proofs.Sorting.{ranked_is_ranking}
 use Rattle.tdp_model.proofs.Begin.{IsRanking-same}
 use Rattle.tdp_model.proofs.Parts.{pick_at, pick_off, part_first, part_first_only, part_skip, part_skipped, part_split, part_join, row_of_part, part_of_row}
 
-member_left : {X : Type 0} (x : X) (xs ys : List X) → IsMember x xs → IsMember x (xs ++ ys)
-member_left x [] ys m = absurd m
-member_left x (y ∷ xs) ys (inl e) = inl e
-member_left x (y ∷ xs) ys (inr m) = inr (member_left x xs ys m)
-
-member_right : {X : Type 0} (x : X) (xs ys : List X) → IsMember x ys → IsMember x (xs ++ ys)
-member_right x [] ys m = m
-member_right x (y ∷ xs) ys m = inr (member_right x xs ys m)
-
-member_join : {X : Type 0} (x : X) (xs ys : List X) → IsMember x (xs ++ ys) → IsMember x xs ⊎ IsMember x ys
-member_join x [] ys m = inr m
-member_join x (y ∷ xs) ys (inl e) = inl (inl e)
-member_join x (y ∷ xs) ys (inr m) = elim (member_join x xs ys m) [ inl n ↦ inl (inr n) | inr n ↦ inr n ]
-
-map_member : {K : Type 0} (f : K → K) (y : K) (ys : List K) → IsMember y ys → IsMember (f y) (map f ys)
-map_member f y [] m = absurd m
-map_member f y (z ∷ ys) (inl e) = inl (ap f e)
-map_member f y (z ∷ ys) (inr m) = inr (map_member f y ys m)
-
-member_map : {K : Type 0} (f : K → K) (k : K) (ys : List K) → IsMember k (map f ys) → (y : K) × IsMember y ys × (k ≡ f y)
-member_map f k [] m = absurd m
-member_map f k (z ∷ ys) (inl e) = (z, inl refl, e)
-member_map {K} f k (z ∷ ys) (inr m) = let r : (y : K) × IsMember y ys × (k ≡ f y) = member_map f k ys m in (r.0, inr r.1, r.2)
-
 sums_member : {K : Type 0} (add : K → K → K) (a b : K) (xs ys : List K) → IsMember a xs → IsMember b ys → IsMember (add a b) (all_sums add xs ys)
 sums_member add a b [] ys m n = absurd m
-sums_member add a b (x ∷ xs) ys (inl e) n = member_left (add a b) (map (λ y. add x y) ys) (all_sums add xs ys) (subst (λ z. IsMember (add z b) (map (λ y. add x y) ys)) (sym e) (map_member (λ y. add x y) b ys n))
-sums_member add a b (x ∷ xs) ys (inr m) n = member_right (add a b) (map (λ y. add x y) ys) (all_sums add xs ys) (sums_member add a b xs ys m n)
+sums_member add a b (x ∷ xs) ys (inl e) n = member-left (add a b) (map (λ y. add x y) ys) (all_sums add xs ys) (subst (λ z. IsMember (add z b) (map (λ y. add x y) ys)) (sym e) (member-map (λ y. add x y) b ys n))
+sums_member add a b (x ∷ xs) ys (inr m) n = member-right (add a b) (map (λ y. add x y) ys) (all_sums add xs ys) (sums_member add a b xs ys m n)
 
 member_sums : {K : Type 0} (add : K → K → K) (k : K) (xs ys : List K) → IsMember k (all_sums add xs ys) → (a : K) × (b : K) × IsMember a xs × IsMember b ys × (k ≡ add a b)
 member_sums add k [] ys m = absurd m
-member_sums {K} add k (x ∷ xs) ys m = elim (member_join k (map (λ y. add x y) ys) (all_sums add xs ys) m) [
-  | inl n ↦ let r : (y : K) × IsMember y ys × (k ≡ add x y) = member_map (λ y. add x y) k ys n in (x, r.0, inl refl, r.1, r.2)
+member_sums {K} add k (x ∷ xs) ys m = elim (member-either k (map (λ y. add x y) ys) (all_sums add xs ys) m) [
+  | inl n ↦ let r : (y : K) × IsMember y ys × (k ≡ add x y) = member-unmap (λ y. add x y) k ys n in (x, r.0, inl refl, r.1, r.2)
   | inr n ↦ let r : (a : K) × (b : K) × IsMember a xs × IsMember b ys × (k ≡ add a b) = member_sums add k xs ys n in (r.0, r.1, inr r.2, r.3, r.4)
 ]
 
-gather_member : {K : Type 0} (f : ℕ → List K) (k : K) (rs : List ℕ) (i : ℕ) → i < length rs → IsMember k (f (get_or rs i 0)) → IsMember k (gather f rs)
+pub gather_member : {K : Type 0} (f : ℕ → List K) (k : K) (rs : List ℕ) (i : ℕ) → i < length rs → IsMember k (f (get_or rs i 0)) → IsMember k (gather f rs)
 gather_member f k [] i l m = absurd (omega arith)
-gather_member f k (r ∷ rs) zero l m = member_left k (f r) (gather f rs) m
-gather_member f k (r ∷ rs) (suc i) l m = member_right k (f r) (gather f rs) (gather_member f k rs i (omega arith) m)
+gather_member f k (r ∷ rs) zero l m = member-left k (f r) (gather f rs) m
+gather_member f k (r ∷ rs) (suc i) l m = member-right k (f r) (gather f rs) (gather_member f k rs i (omega arith) m)
 
-member_gather : {K : Type 0} (f : ℕ → List K) (k : K) (rs : List ℕ) → IsMember k (gather f rs) → (i : ℕ) × (i < length rs) × IsMember k (f (get_or rs i 0))
+pub member_gather : {K : Type 0} (f : ℕ → List K) (k : K) (rs : List ℕ) → IsMember k (gather f rs) → (i : ℕ) × (i < length rs) × IsMember k (f (get_or rs i 0))
 member_gather f k [] m = absurd m
-member_gather f k (r ∷ rs) m = elim (member_join k (f r) (gather f rs) m) [
+member_gather f k (r ∷ rs) m = elim (member-either k (f r) (gather f rs) m) [
   | inl n ↦ (0, omega arith, n)
   | inr n ↦ let s : (i : ℕ) × (i < length rs) × IsMember k (f (get_or rs i 0)) = member_gather f k rs n in (suc s.0, omega arith, s.2)
 ]
 
 module _ {K : Type 0} (Below : K → K → Type 0) (add : K → K → K) (none : K) (keys : IsKeys K Below add none)
     (m : ℕ) (parent : ℕ → ℕ) (rank : ℕ → ℕ → K) (group : ℕ → ℕ → List ℕ) where
-  part_listed : (d v r n : ℕ) (kids : ℕ → List K) (k : K) → ((q : ℕ) (x : K) → v < q → q < suc v + n → GroupHas add none m parent rank group d q r x → IsMember x (kids q))
+  pub part_listed : (d v r n : ℕ) (kids : ℕ → List K) (k : K) → ((q : ℕ) (x : K) → v < q → q < suc v + n → GroupHas add none m parent rank group d q r x → IsMember x (kids q))
       → PartHas add none m parent rank group d v r n k → IsMember k (part_keys add parent v (rank v r) kids n)
   unfolding part_keys
   part_listed d v r zero kids k g h = inl (part_first_only Below add none keys m parent rank group d v r k h)
@@ -74,7 +51,7 @@ module _ {K : Type 0} (Below : K → K → Type 0) (add : K → K → K) (none :
         (part_listed d v r n kids k (λ q x a b. g q x a (omega arith)) (part_skipped Below add none keys m parent rank group d v r n (suc v + n) k refl e h))
   ]
 
-  listed_part : (d v r n : ℕ) (kids : ℕ → List K) (k : K) → ((q : ℕ) (x : K) → v < q → q < suc v + n → IsMember x (kids q) → GroupHas add none m parent rank group d q r x)
+  pub listed_part : (d v r n : ℕ) (kids : ℕ → List K) (k : K) → ((q : ℕ) (x : K) → v < q → q < suc v + n → IsMember x (kids q) → GroupHas add none m parent rank group d q r x)
       → IsMember k (part_keys add parent v (rank v r) kids n) → PartHas add none m parent rank group d v r n k
   unfolding part_keys
   listed_part d v r zero kids k g (inl e) = part_first Below add none keys m parent rank group d v r k e
@@ -93,7 +70,7 @@ module _ {K : Type 0} (Below : K → K → Type 0) (add : K → K → K) (none :
   abbrev pub group_keys : ℕ → ℕ → ℕ → List K
   group_keys d q r = gather (λ i. row_keys add m parent rank group d q i) (group q r)
 
-  row_listed : (d v r : ℕ) (k : K) → v < m → RowHas add none m parent rank group d v r k → IsMember k (row_keys add m parent rank group d v r)
+  pub row_listed : (d v r : ℕ) (k : K) → v < m → RowHas add none m parent rank group d v r k → IsMember k (row_keys add m parent rank group d v r)
   unfolding row_keys
   row_listed zero v r k l h = absurd h
   row_listed (suc d) v r k l h =
@@ -101,7 +78,7 @@ module _ {K : Type 0} (Below : K → K → Type 0) (add : K → K → K) (none :
       (λ q x a b g. gather_member (λ i. row_keys add m parent rank group d q i) x (group q r) g.0 g.1 (row_listed d q (get_or (group q r) g.0 0) x (omega arith) g.2))
       (part_of_row Below add none keys m parent rank group d v r (m - suc v) k refl l h)
 
-  listed_row : (d v r : ℕ) (k : K) → v < m → IsMember k (row_keys add m parent rank group d v r) → RowHas add none m parent rank group d v r k
+  pub listed_row : (d v r : ℕ) (k : K) → v < m → IsMember k (row_keys add m parent rank group d v r) → RowHas add none m parent rank group d v r k
   unfolding row_keys
   listed_row zero v r k l h = absurd h
   listed_row (suc d) v r k l h =

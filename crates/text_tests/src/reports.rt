@@ -17,10 +17,8 @@ fn query_of(alloc: Global, text: &[u8], tables: &Tables, which: &[u32]) -> Resul
     ensures fits { IfOk result (λ query. Fits query tables.now) }
 {
     let select = parse(alloc, text)?;
-    if select.items.as_slice().len() > 16
-        || select.keys.as_slice().len() > 8
-        || which.len() != select.items.as_slice().len()
-    {
+    let items = select.items.as_slice().len();
+    if items == 0 || items > 16 || which.len() != items || select.keys.as_slice().len() > 8 {
         return Err("not a small query".into());
     }
     Ok(bind(alloc, &select, tables, which)?)
@@ -37,10 +35,7 @@ fn is_reported(
     requires known { AllByRecursion (λ t. t < length tables.now) which.now }
 {
     let query = query_of(alloc, text, tables, which)?;
-    if query.items() == 0 {
-        return Ok(false);
-    }
-    let Ok(shape) = shape_of(alloc, &query, tables) else {
+    let Ok(shape) = shape_of(&query, tables) else {
         return Ok(false);
     };
     Ok(report(alloc, &query, tables, &shape)?.as_slice() == expected)

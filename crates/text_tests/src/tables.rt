@@ -136,7 +136,7 @@ fn weighs(rt: HostRuntime) -> Result<(), Fail> {
     let fields =
         b"w\n-0\n+7\n\"\"\n-\n12x\n170141183460469231731687303715884105728\n-170141183460469231731687303715884105728\n";
     assert_eq!(rt; read(&mut tables, fields), Ok(0));
-    let weights = [Some(0), Some(7), None, None, None, None, Some(i128::MIN)];
+    let weights = [Some(0), Some(7), Some(0), None, None, None, Some(i128::MIN)];
     for i in 0..weights.len() {
         assert_eq!(rt; weight(&tables, 0, i as u32 + 1, 0), weights[i]);
     }

@@ -95,7 +95,7 @@ fn is_refused(alloc: Global, texts: &[&str]) -> Result<bool, AllocError> {
 #[test]
 fn refuses_what_is_no_command(rt: HostRuntime) -> Result<(), AllocError> {
     let alloc = rt.alloc();
-    let refused: [&[&str]; 26] = [
+    let refused: [&[&str]; 32] = [
         &[],
         &["stop", "q.sql", "R=a"],
         &["Run", "q.sql", "R=a"],
@@ -122,11 +122,17 @@ fn refuses_what_is_no_command(rt: HostRuntime) -> Result<(), AllocError> {
         &["load", "--number", "5", "--rows", "0"],
         &["load", "--number", "5", "--rows", "100001"],
         &["load", "--number", "5", "--rows", "five"],
+        &["load", "--number", "01", "--rows", "5"],
+        &["load", "--number", "00", "--rows", "5"],
+        &["load", "--number", "+5", "--rows", "5"],
+        &["load", "--number", "5", "--rows", "0001"],
+        &["load", "--number", "5", "--rows", "+1"],
+        &["load", "--number", "5", "--rows", ""],
     ];
     for texts in refused {
         assert!(rt; is_refused(alloc, texts)?);
     }
     assert!(rt; !is_refused(alloc, &["run", "--", "--q", "R=a"])?);
-    assert!(rt; !is_refused(alloc, &["load", "--number", "+0", "--rows", "0001"])?);
+    assert!(rt; !is_refused(alloc, &["load", "--number", "0", "--rows", "1"])?);
     Ok(())
 }

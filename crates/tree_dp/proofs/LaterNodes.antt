@@ -17,7 +17,8 @@ use Rattle.tdp_core.proofs.Children.{kids_below-first, kids_below-other, child_p
 use Rattle.tdp_core.proofs.GroupMembers.{member_below}
 use Rattle.tdp_core.proofs.KeyRanges.{part_fits}
 use Rattle.tdp_core.proofs.LeastKeys.{least_had}
-use Rattle.tree_dp.specs.Progress.{IsLaidOut, IsSolvedFrom}
+use Rattle.tdp_core.specs.WellFormed.{IsLaidOut}
+use Rattle.tree_dp.specs.Progress.{IsSolvedFrom}
 use Rattle.tree_dp.proofs.FirstParts.{first_part}
 
 -- no node up to v is a child of v

@@ -2,7 +2,6 @@ pub mod Copies
 pub mod RowHeaps
 pub mod FirstParts
 pub mod FirstWalk
-pub mod Forms
 pub mod Grouping
 pub mod LaterNodes
 pub mod Leasts

@@ -9,9 +9,8 @@ use Rattle.std.proofs.lemmas.List.Sorted.{IsPermutation-refl, IsPermutation-sym,
 use Rattle.tdp_model.specs.KeyTuple.{KeyOf, key_add, key_none}
 use Rattle.tdp_model.specs.TreeProblem.{sum_from}
 use Rattle.tdp_core.specs.TreeData.{NodeData, node_at, parent, item, cap, cap_of, rows, number, kids_below, child_place, group_count, members, group_named, group_number, group, rank}
-use Rattle.tdp_core.specs.WellFormed.{IsShaped, RowFits, IsTieFreeTree}
+use Rattle.tdp_core.specs.WellFormed.{IsShaped, RowFits, IsLaidOut, IsTieFreeTree}
 use Rattle.tdp_core.specs.Solutions.{IsTreeSolution}
-use Rattle.tree_dp.specs.Progress.{IsLaidOut}
 use Rattle.tree_dp.specs.Solved.{IsReordered, IsSolved}
 
 pub reordered-refl : {R : Type 0} (n : NodeData R) → IsReordered n n

@@ -1,25 +1,10 @@
 -- What holds of the parts of a tree while their least keys are found, from the last node to the root.
 use Rattle.std.specs.Prelude.{◌≡◌, ℕ, ◌+◌, ◌-◌, ◌/◌, ◌<◌, ◌≤◌, List, [], length, slice_index, slice_index_or}
-use Rattle.std.specs.List.{concat, range_with_len}
-use Rattle.std.specs.List.Sorted.{IsPermutation}
 use Rattle.tdp_model.specs.Remains.{AtMost}
 use Rattle.tdp_model.specs.KeyTuple.{KeyOf, key_below, key_add, key_none}
 use Rattle.tdp_model.specs.TreeProblem.{best_by_kids}
-use Rattle.tdp_core.specs.TreeData.{NodeData, node_at, parent, item, cap, rows, row_count, number, child_count, child_place, group_count, members, group_named, group, rank, best}
-use Rattle.tdp_core.specs.WellFormed.{IsShaped, RowFits}
+use Rattle.tdp_core.specs.TreeData.{NodeData, node_at, parent, rows, group_count, members, group, rank, best}
 use Rattle.tree_dp.specs.Orders.{key_at}
-
--- the parts of a well-formed tree, but for the least keys and the order in the groups
-pub record IsLaidOut {R : Type 0} (d : ℕ) (key : R → KeyOf d 16) (t : List (NodeData R)) : Type 0 where
-  pub shaped : IsShaped (length t) (parent t) (item t) (cap t)
-  pub few_rows : row_count t ≤ 4194304
-  pub rows_fit : (v r : ℕ) → v < length t → r < rows t v → RowFits d (item t v) (cap t v) (number t v r) (rank t d key v r)
-  pub all_name : (v : ℕ) → v < length t → length (node_at t v).to_child ≡ rows t v
-  pub name_all : (v r : ℕ) → v < length t → r < rows t v → length (slice_index_or (node_at t v).to_child r []) ≡ child_count t v
-  pub named : (q r : ℕ) → 0 < q → q < length t → r < rows t (parent t q) → group_named t (parent t q) r (child_place t q) < group_count t q
-  pub grouped : (v : ℕ) → v < length t → IsPermutation (range_with_len 0 (rows t v)) (concat (node_at t v).groups)
-  pub inhabited : (v g : ℕ) → v < length t → g < group_count t v → 0 < length (members t v g)
-  pub one_root : group_count t 0 ≤ 1
 
 -- the least key of a subtree solution of row r of node v, by the first members of its children's groups
 abbrev pub by_children : {R : Type 0} (d : ℕ) (key : R → KeyOf d 16) → List (NodeData R) → ℕ → ℕ → KeyOf d 16

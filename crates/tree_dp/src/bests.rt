@@ -1,7 +1,8 @@
 ghost use Rattle.std.specs.Prelude.{◌≡◌, ℕ, ◌+◌, ◌*◌, ◌<◌, ◌≤◌, [], length, map, slice_index_or, IfOk};
 ghost use Rattle.tdp_core.specs.TreeData.{tree_data, node_at, rows, group_named};
 ghost use Rattle.tree_dp.specs.Orders.{key_at};
-ghost use Rattle.tree_dp.specs.Progress.{IsLaidOut, IsSolvedFrom, AreLeastsFrom, by_children};
+ghost use Rattle.tdp_core.specs.WellFormed.{IsLaidOut};
+ghost use Rattle.tree_dp.specs.Progress.{IsSolvedFrom, AreLeastsFrom, by_children};
 
 use rank_key::Rank;
 use std::alloc::Global;

@@ -10,7 +10,7 @@
 mod bests;
 mod first_answer;
 mod order;
-mod row_heap;
+mod row_order;
 mod solving;
 
 pub use first_answer::first;

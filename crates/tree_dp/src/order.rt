@@ -3,11 +3,12 @@ ghost use Rattle.std.specs.List.{concat};
 ghost use Rattle.std.specs.List.Sorted.{IsPermutation};
 ghost use Rattle.tree_dp.specs.Orders.{key_at, IsHeapOver};
 
-use crate::row_heap::heapify_rows;
+use crate::row_order::RowOrder;
 use rank_key::Rank;
 use std::alloc::Global;
 use std::sync::ledger::Ledger;
 use step_counter::{NoMemory, Steps};
+use take2_heap::heapify_by;
 use tdp_core::Groups;
 
 /// Puts the rows of each group of a node into heap order by their best keys, and gives the least of these keys in each group,
@@ -55,6 +56,6 @@ fn order_group<R: Rank, L: Ledger>(
 {
     rows.clear();
     rows.extend_from_slice(group)?;
-    heapify_rows(rows, best, steps);
+    heapify_by(rows, &RowOrder { best }, steps);
     Ok(best[rows[0] as usize])
 }

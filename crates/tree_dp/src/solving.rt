@@ -1,7 +1,8 @@
 ghost use Rattle.std.specs.Prelude.{◌≡◌, ℕ, ◌+◌, ◌*◌, ◌<◌, ◌≤◌, ◌∷◌, length, map, OnOk, IfOk};
 ghost use Rattle.tdp_core.specs.TreeData.{tree_data, node_at, rows, row_count};
+ghost use Rattle.tdp_core.specs.WellFormed.{IsLaidOut};
 ghost use Rattle.semi_join.specs.Grouped.{IsGrouped};
-ghost use Rattle.tree_dp.specs.Progress.{IsLaidOut, IsSolvedFrom, AreLeastsFrom};
+ghost use Rattle.tree_dp.specs.Progress.{IsSolvedFrom, AreLeastsFrom};
 ghost use Rattle.tree_dp.specs.Solved.{IsReordered, IsSolved};
 
 use crate::bests::bests_of;

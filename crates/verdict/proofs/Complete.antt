@@ -6,7 +6,7 @@ use Rattle.refusal_lines.specs.Answer as answer
 use Rattle.refusal_lines.specs.Answer.{Answer, status_of}
 use Rattle.verdict.specs.Words.{Command, Asked, no_command, built}
 use Rattle.verdict.specs.Found.{Found}
-use Rattle.verdict.specs.Outcome.{Outside, Ended, IsComplete, IsAnswer, IsCaused, IsDoneWhereAccepted, IsRefusedWhereRefused}
+use Rattle.verdict.specs.Outcome.{Outside, Ended, GotAccepted, GotNothing, IsComplete, IsAnswer, IsCaused, IsCut, IsDoneWhereAccepted, IsRefusedWhereRefused, IsUnwrittenWhereRefused}
 use Rattle.verdict.specs.Verdict.{IsVerdict}
 use Rattle.verdict.proofs.One.{one_verdict}
 
@@ -66,3 +66,31 @@ pub refused_only : (asked : Asked) (told : Option Files) (old new : Outside) (a 
     → Ended asked told old new a → IsRefusedWhereRefused asked told old new (status_of a)
 refused_only asked None old new a h = tt
 refused_only asked (Some files) old new a h = refused_by asked files old new a h.fits h.caused
+
+-- where the output got a part of what an accepted input gives, no refusal is the verdict
+accepted_alone : {A : Type 0} (asked : Asked) (files : Files) (old new : Outside) → GotAccepted asked (Some files) old new
+    → (refusal : Answer) → IsVerdict asked files (Err refusal) → A
+accepted_alone no_command files old new h refusal refused = absurd h
+accepted_alone (built command) files old new (found, accepted, got) refusal refused =
+    no_both (one_verdict (built command) files _ _ accepted refused)
+
+-- a complete output comes only where no refusal is the verdict
+pub complete_unrefused : (asked : Asked) (told : Option Files) (old new : Outside)
+    → IsComplete asked told old new → IsUnwrittenWhereRefused asked told old new
+complete_unrefused asked None old new h = tt
+complete_unrefused no_command (Some files) old new h = absurd h
+complete_unrefused (built command) (Some files) old new (found, accepted, written) =
+    λ refusal refused. no_both (one_verdict (built command) files _ _ accepted refused)
+
+unwritten_by : (asked : Asked) (files : Files) (old new : Outside) (a : Answer) → IsCut asked (Some files) old new a
+    → (refusal : Answer) → IsVerdict asked files (Err refusal) → GotNothing old new
+unwritten_by asked files old new answer.WriteFault cut refusal refused = accepted_alone asked files old new cut refusal refused
+unwritten_by asked files old new answer.NoMemory (inl nothing) refusal refused = nothing
+unwritten_by asked files old new answer.NoMemory (inr accepted) refusal refused = accepted_alone asked files old new accepted refusal refused
+unwritten_by asked files old new a cut refusal refused = cut
+
+-- where the input is refused, a call that ended with an answer has written nothing
+pub unwritten_only : (asked : Asked) (told : Option Files) (old new : Outside) (a : Answer)
+    → Ended asked told old new a → IsUnwrittenWhereRefused asked told old new
+unwritten_only asked None old new a h = tt
+unwritten_only asked (Some files) old new a h = unwritten_by asked files old new a h.cut

@@ -7,7 +7,7 @@ use Rattle.refusal_lines.specs.Answer as answer
 use Rattle.refusal_lines.specs.Answer.{Answer, status_of}
 use Rattle.verdict.specs.Words.{Command, Asked, no_command, built}
 use Rattle.verdict.specs.Outcome.{Outside, Outcome, Ended, IsAnswer, IsComplete, IsDoneWhereAccepted, statuses}
-use Rattle.verdict.proofs.Complete.{complete_only, done_only, refused_only}
+use Rattle.verdict.proofs.Complete.{complete_only, complete_unrefused, done_only, refused_only, unwritten_only}
 
 known_status : (asked : Asked) (told : Option Files) (a : Answer) → IsAnswer asked told a → list_any (λ s. s == status_of a) statuses ≡ true
 known_status asked told answer.NoMemory fits = refl
@@ -28,6 +28,7 @@ ended_outcome asked told old new a h usage = record {
   usage = usage;
   accepted = done_only asked told old new a h;
   exact = refused_only asked told old new a h;
+  unwritten = unwritten_only asked told old new a h;
 }
 
 abbrev Same : Asked → Asked → Type 0
@@ -55,4 +56,5 @@ done_outcome asked told old new h quiet = record {
   usage = λ e. complete_command asked told old new h e;
   accepted = zero_accepted asked told old new;
   exact = complete_only asked told old new h;
+  unwritten = complete_unrefused asked told old new h;
 }

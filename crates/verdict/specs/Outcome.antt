@@ -110,6 +110,11 @@ abbrev pub IsRefusedWhereRefused : Asked → Option Files → Outside → Outsid
 IsRefusedWhereRefused asked told old new status = IfSome told (λ files. (refusal : Answer) → IsVerdict asked files (Err refusal)
     → (Rose old.read_faults new.read_faults → ⊥) → (status ≡ status_of refusal) ⊎ (status ≡ 12))
 
+-- where the input is refused, the output got nothing, whatever the status is
+abbrev pub IsUnwrittenWhereRefused : Asked → Option Files → Outside → Outside → Type 0
+IsUnwrittenWhereRefused asked told old new =
+    IfSome told (λ files. (refusal : Answer) → IsVerdict asked files (Err refusal) → GotNothing old new)
+
 -- ---- the whole
 
 abbrev pub statuses : List ℕ
@@ -124,3 +129,4 @@ pub record Outcome (asked : Asked) (told : Option Files) (old new : Outside) (st
   pub usage : asked ≡ no_command → (status ≡ 2) ⊎ (status ≡ 12)
   pub accepted : IsDoneWhereAccepted asked told old new status
   pub exact : IsRefusedWhereRefused asked told old new status
+  pub unwritten : IsUnwrittenWhereRefused asked told old new

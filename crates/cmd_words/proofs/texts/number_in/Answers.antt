@@ -1,4 +1,4 @@
-use Rattle.std.proofs.Common.{◌<◌, ◌^◌, arith}
+use Rattle.std.proofs.Common.{◌<◌, ◌^◌, sym, arith}
 use Rattle.std.specs.Str.Parse.{digits_value, without_leading_plus}
 use Rattle.cmd_words.proofs.Digits.{number_taken, number_refused}
 use Rattle.cmd_words.proofs.texts.number_in.Goals as goal
@@ -6,9 +6,9 @@ use Rattle.cmd_words.proofs.texts.number_in.Goals as goal
 pub returns-in-Ok-clause-value : goal.returns-in-Ok-clause-value
 returns-in-Ok-clause-value c =
     let read = c.in-Ok.ensures.value.0 in
-    number_taken c.args.low c.args.high c.in-Ok.number c.args.text.now read.0.0 read.1 (omega (arith, read.1, read.0.1)) c.if-low-number.true c.if-number-high.true
+    number_taken c.args.low c.args.high c.in-Ok.number c.args.text.now (sym c.if-not-begins_plainly.ensures) read.0.0 read.1 c.if-low-number.true c.if-number-high.true
 
 pub returns-in_default-3-clause-value : goal.returns-in_default-3-clause-value
-returns-in_default-3-clause-value c = number_refused c.args.low c.args.high c.args.text.now (λ is.
-    let fits : digits_value 10 (without_leading_plus c.args.text.now) < 2 ^ 32 = omega (arith, is.3, c.ranges.high.fits) in
-    c.in_default.ensures.value.0 (is.0, fits))
+returns-in_default-3-clause-value c = number_refused c.args.low c.args.high c.args.text.now (λ plain numeral above below.
+    let fits : digits_value 10 (without_leading_plus c.args.text.now) < 2 ^ 32 = omega (arith, below, c.ranges.high.fits) in
+    c.in_default.ensures.value.0 (numeral, fits))

@@ -1,5 +1,5 @@
-use Rattle.std.proofs.Common.{◌+◌, refl, arith}
-use Rattle.cursor_set.proofs.Driving.{start_of, IsDriven-none, IsDriven-place, IsDriven-more}
+use Rattle.std.proofs.Common.{◌+◌, refl, ◌∙◌, arith}
+use Rattle.cursor_set.proofs.Driving.{start_of, IsDriven-none, IsDriven-place, IsDriven-more, counted-none}
 use Rattle.cursor_set.proofs.laws.drive.Goals as goal
 
 pub loop-given-init : goal.loop-given-init
@@ -8,6 +8,7 @@ loop-given-init g c = record {
   refused = omega arith;
   room = omega arith;
   driven = IsDriven-none c.args.cursors.now c.args.id.number c.requires.0 c.requires.1;
+  counted = counted-none c.args.cursors.now.refused (omega arith);
   covered = λ _. refl;
   after_end = λ _. refl;
 }
@@ -22,6 +23,7 @@ loop-given-preserved-in-Ok-Some g c =
       refused = before.refused;
       room = before.room;
       driven = IsDriven-more c.args.cursors.now c.loop-given.cursors c.next.new.self c.args.id.number c.loop-given.given (start_of c.args.cursors.now c.args.id.number + c.loop-given.given) before.driven here some.1 c.in-Ok-Some.ensures.kept;
+      counted = c.in-Ok-Some.ensures.counted ∙ before.counted;
       covered = before.covered;
       after_end = before.after_end;
     }

@@ -16,7 +16,7 @@ pub returns-in_err-reduced-clause-cost : goal.returns-in_err-reduced-clause-cost
 returns-in_err-reduced-clause-cost g c =
     let built = c.in_ok-built.ensures in
     let nodes : length c.in_ok-built.built.tree.shapes ≡ length c.args.query.now.query.items = built.built.nodes ∙ c.in_ok-join.ensures.count in
-    steps-of-reduction _ _ _ _ _ _ (row_total c.in_ok-built.built.tree) c.requires.some (omega (arith, built.used, built.fewer)) nodes built.cost c.reduce.ensures.cost
+    steps-of-reduction _ _ _ _ _ _ (row_total c.in_ok-built.built.tree) c.requires.fits.some (omega (arith, built.used, built.fewer)) nodes built.cost c.reduce.ensures.cost
 
 pub returns-in_err-tree-clause-cost : goal.returns-in_err-tree-clause-cost
 returns-in_err-tree-clause-cost g c =
@@ -28,7 +28,7 @@ returns-in_err-tree-clause-cost g c =
     let long : length parts ≡ length raw.shapes = sym (length-map parts (λ n. n.shape)) ∙ ap length reduced.shapes in
     let alike : length c.in_ok-reduced.reduced.nodes.items ≡ length c.args.query.now.query.items = sym (length-map c.in_ok-reduced.reduced.nodes.items node_data) ∙ long ∙ nodes in
     let kept = kept-in-all g.R.Rank.KEYS g.R.Rank.key raw parts reduced built.formed.each_node in
-    steps-of-plan _ _ _ _ _ _ _ (row_total raw) _ (row_count parts) c.requires.some (omega (arith, built.used, built.fewer)) (rw long kept) nodes alike built.cost c.in_ok-reduced.ensures.cost c.solve.ensures.cost
+    steps-of-plan _ _ _ _ _ _ _ (row_total raw) _ (row_count parts) c.requires.fits.some (omega (arith, built.used, built.fewer)) (rw long kept) nodes alike built.cost c.in_ok-reduced.ensures.cost c.solve.ensures.cost
 
 pub returns-clause-plan : goal.returns-clause-plan
 returns-clause-plan g c =
@@ -50,4 +50,4 @@ returns-clause-cost g c =
     let long : length parts ≡ length raw.shapes = sym (length-map parts (λ n. n.shape)) ∙ ap length reduced.shapes in
     let alike : length c.in_ok-reduced.reduced.nodes.items ≡ length c.args.query.now.query.items = sym (length-map c.in_ok-reduced.reduced.nodes.items node_data) ∙ long ∙ nodes in
     let kept = kept-in-all g.R.Rank.KEYS g.R.Rank.key raw parts reduced built.formed.each_node in
-    steps-of-plan _ _ _ _ _ _ _ (row_total raw) _ (row_count parts) c.requires.some (omega (arith, built.used, built.fewer)) (rw long kept) nodes alike built.cost c.in_ok-reduced.ensures.cost c.solve.ensures.cost
+    steps-of-plan _ _ _ _ _ _ _ (row_total raw) _ (row_count parts) c.requires.fits.some (omega (arith, built.used, built.fewer)) (rw long kept) nodes alike built.cost c.in_ok-reduced.ensures.cost c.solve.ensures.cost

@@ -1,5 +1,5 @@
 use Rattle.std.proofs.Common.{◌≡◌, Err}
-use Rattle.refusal_lines.specs.Core.{items_of}
+use Rattle.hyper_graph.specs.Items.{items_of}
 use Rattle.query_shape.specs.Shape.{cyclic, too_many_rows}
 use Rattle.query_run.proofs.Bounds.{has-no-flaw}
 use Rattle.query_run.proofs.plan.plan_of.Goals as goal

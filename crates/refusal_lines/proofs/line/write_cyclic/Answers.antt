@@ -1,6 +1,6 @@
 use Rattle.std.proofs.Common.{◌≡◌, Err, rules, codes}
 use Rattle.refusal_lines.specs.Answer.{spaced}
-use Rattle.refusal_lines.specs.Core.{items_of}
+use Rattle.hyper_graph.specs.Items.{items_of}
 use Rattle.refusal_lines.proofs.Sending.{Sent-stopped, Sent-then}
 use Rattle.refusal_lines.proofs.line.write_cyclic.Goals as goal
 

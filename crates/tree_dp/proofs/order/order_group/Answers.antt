@@ -3,17 +3,17 @@ use Rattle.std.specs.List.Sorted.{IsPermutation}
 use Rattle.std.proofs.lemmas.List.{get_or_default}
 use Rattle.std.proofs.lemmas.List.Sorted.{length_permutation}
 use Rattle.tree_dp.specs.Orders.{key_at, IsHeapOver}
-use Rattle.tree_dp.proofs.RowHeaps.{key-read}
+use Rattle.tree_dp.proofs.RowHeaps.{key-read, heap-over}
 use Rattle.tree_dp.proofs.Copies.{after-slice, first-of}
 use Rattle.tree_dp.proofs.order.order_group.Goals as goal
 
 pub bounds-best-index : goal.bounds-best-index
 bounds-best-index g c =
     let copy = c.extend_from_slice.new.self in
-    let heap = c.heapify_rows.new.rows in
-    let after = after-slice copy.items c.deref_mut.result.now heap _ copy.len copy.ok.0 c.deref_mut.ensures.value c.heapify_rows.ensures.same_rows refl in
+    let heap = c.heapify_by.new.items in
+    let after = after-slice copy.items c.deref_mut.result.now heap _ copy.len copy.ok.0 c.deref_mut.ensures.value c.heapify_by.ensures.permutation refl in
     let copied = c.deref_mut.ensures.value ∙ c.in_ok-extend_from_slice.ensures.items ∙ ap (λ xs. xs ++ c.args.group.now) c.clear.ensures.items in
-    let moved = subst (λ xs. IsPermutation xs heap) copied c.heapify_rows.ensures.same_rows in
+    let moved = subst (λ xs. IsPermutation xs heap) copied c.heapify_by.ensures.permutation in
     first-of (λ r. r < length c.args.best.now) c.args.group.now heap _ c.index.result.now c.requires.rows moved after c.requires.inhabited c.index.ensures
 
 pub offset_bounds-best-index : goal.offset_bounds-best-index
@@ -22,19 +22,20 @@ offset_bounds-best-index g c = omega (arith, bounds-best-index g c)
 pub returns-clause-heap : goal.returns-clause-heap
 returns-clause-heap g c =
     let copy = c.extend_from_slice.new.self in
-    let heap = c.heapify_rows.new.rows in
-    let after = after-slice copy.items c.deref_mut.result.now heap _ copy.len copy.ok.0 c.deref_mut.ensures.value c.heapify_rows.ensures.same_rows refl in
-    subst (IsHeapOver g.R.Rank.KEYS g.R.Rank.key c.args.best.now) (sym after) c.heapify_rows.ensures.heap
+    let heap = c.heapify_by.new.items in
+    let after = after-slice copy.items c.deref_mut.result.now heap _ copy.len copy.ok.0 c.deref_mut.ensures.value c.heapify_by.ensures.permutation refl in
+    subst (IsHeapOver g.R.Rank.KEYS g.R.Rank.key c.args.best.now) (sym after)
+    (heap-over g.R.Rank.KEYS g.R.Rank.key c.args.best.now heap c.heapify_by.ensures.heap_order)
 
 pub returns-clause-least : goal.returns-clause-least
 returns-clause-least g c =
     let copy = c.extend_from_slice.new.self in
-    let heap = c.heapify_rows.new.rows in
+    let heap = c.heapify_by.new.items in
     let whole = take copy.len (heap ++ drop (length heap) copy.items) in
-    let after = after-slice copy.items c.deref_mut.result.now heap whole copy.len copy.ok.0 c.deref_mut.ensures.value c.heapify_rows.ensures.same_rows refl in
+    let after = after-slice copy.items c.deref_mut.result.now heap whole copy.len copy.ok.0 c.deref_mut.ensures.value c.heapify_by.ensures.permutation refl in
     let row = c.index.result.now in
     let copied = c.deref_mut.ensures.value ∙ c.in_ok-extend_from_slice.ensures.items ∙ ap (λ xs. xs ++ c.args.group.now) c.clear.ensures.items in
-    let moved = subst (λ xs. IsPermutation xs heap) copied c.heapify_rows.ensures.same_rows in
+    let moved = subst (λ xs. IsPermutation xs heap) copied c.heapify_by.ensures.permutation in
     let below = first-of (λ r. r < length c.args.best.now) c.args.group.now heap whole row c.requires.rows moved after c.requires.inhabited c.index.ensures in
     let some : 0 < length whole = omega (arith, c.requires.inhabited, ap length after, length_permutation _ _ moved) in
     key-read g.R.Rank.KEYS g.R.Rank.key c.args.best.now row c.index-best-index.result below c.index-best-index.is

@@ -1,10 +1,8 @@
-use Rattle.std.proofs.Common.{◌≡◌, ℕ, length, sym, ap, ◌∙◌, subst}
+use Rattle.std.proofs.Common.{◌≡◌, ℕ, length, sym, ap, ◌∙◌, subst, arith}
 use Rattle.std.proofs.lemmas.List.{length-map}
 use Rattle.tdp_core.specs.TreeData.{node_data, tree_data, node_at}
-use Rattle.tdp_core.specs.WellFormed.{IsFormed}
-use Rattle.tree_dp.specs.Progress.{IsLaidOut}
+use Rattle.tdp_core.specs.WellFormed.{IsLaidOut, IsFormed}
 use Rattle.tree_dp.specs.Solved.{IsReordered, IsSolved}
-use Rattle.tree_dp.proofs.Forms.{laid_out, formed}
 use Rattle.tree_dp.proofs.Grouping.{items-written}
 use Rattle.tree_dp.proofs.Reordered.{layout-kept, solved-of}
 use Rattle.tree_dp.proofs.solving.solve.Goals as goal
@@ -12,7 +10,7 @@ use Rattle.tree_dp.proofs.solving.solve.Goals as goal
 pub solve_nodes-requires : goal.solve_nodes-requires
 solve_nodes-requires g c =
     subst (λ ns. IsLaidOut g.R.Rank.KEYS g.R.Rank.key (tree_data ns)) (sym c.as_mut_slice.ensures.value)
-    (laid_out g.R.Rank.KEYS g.R.Rank.key (tree_data c.args.reduced.nodes.items) c.requires)
+    c.requires.laid_out
 
 pub from_parts-requires : goal.from_parts-requires
 from_parts-requires g c =
@@ -25,8 +23,14 @@ from_parts-requires g c =
     let nodes : (v : ℕ) → IsReordered (node_at (tree_data items) v) (node_at (tree_data new) v) =
     subst (λ ns. (v : ℕ) → IsReordered (node_at (tree_data ns) v) (node_at (tree_data new) v)) c.as_mut_slice.ensures.value c.in_ok-solve_nodes.ensures.reordered
     in
-    subst (λ ns. IsFormed d key (tree_data ns)) (sym (items-written c.args.reduced.nodes new long))
-    (formed d key (tree_data new) (layout-kept (tree_data items) (tree_data new) nodes d key count (laid_out d key (tree_data items) c.requires)) c.in_ok-solve_nodes.ensures.solved)
+    let solved = c.in_ok-solve_nodes.ensures.solved in
+    let built : IsFormed d key (tree_data new) = record {
+      laid_out = layout-kept (tree_data items) (tree_data new) nodes d key count c.requires.laid_out;
+      all_best = λ v l. solved.all_best v (omega arith) l;
+      bests = λ v r l h. solved.bests v r (omega arith) l h;
+      heaps = λ v n i l some h. solved.heaps v n i (omega arith) l some h;
+    } in
+    subst (λ ns. IsFormed d key (tree_data ns)) (sym (items-written c.args.reduced.nodes new long)) built
 
 pub returns-clause-solved : goal.returns-clause-solved
 returns-clause-solved g c =

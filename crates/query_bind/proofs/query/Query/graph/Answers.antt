@@ -41,7 +41,7 @@ returns c =
     sym (length-map c.as_slice.result.now (λ (v : Vec (ℕ × ℕ) Global). v.items)) ∙ ap length shown ∙ c.requires.fits.1.listed ∙ sym c.items-atoms.ensures.items in
     let known = same-sets (lists_shown c.as_slice.result.now) now.lists (length c.as_slice.result.now) c.items-atoms.result c.variables-count.result (length now.variables)
     c.in_ok-sets.sets.items c.as_slice-2.result.now shown count c.variables-count.ensures.count (sym c.as_slice-2.ensures.value) c.in_ok-sets.ensures in
-    let some : 1 ≤ c.items-atoms.result = omega (arith, c.requires.some, c.items-atoms.ensures.items) in
+    let some : 1 ≤ c.items-atoms.result = omega (arith, c.requires.fits.1.some, c.items-atoms.ensures.items) in
     let graph : IsGraphOf now.query (record { atoms = c.items-atoms.result; vars = c.as_slice-2.result.now }) =
     graph-of now c.requires.fits.0 c.requires.fits.1 c.items-atoms.result c.as_slice-2.result.now c.items-atoms.ensures.items some c.items-atoms.ensures.limit known in
     IfOk-weaker c.new.result (λ (g : Hypergraph). g ≡ record { atoms = c.items-atoms.result; vars = c.as_slice-2.result.now }) (λ (g : Hypergraph). IsGraphOf now.query g)

@@ -1,4 +1,0 @@
-use Rattle.anyk_top.proofs.tests.cases.holds_with.Given as goal
-
-abbrev pub ghosts-run_uncounted : goal.ghosts-run_uncounted
-ghosts-run_uncounted a = record { name = a.blank.name; parts = a.blank.parts }

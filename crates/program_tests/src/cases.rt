@@ -1,0 +1,197 @@
+//! A call of the program over files in memory, and what is to come of it.
+use anyk_top::run_uncounted;
+use outer_io::{MemFile, MemShelf, MemSink, have_distinct_names};
+use std::alloc::{AllocError, Global};
+use std::marker::Brand;
+use std::sync::ledger::Blank;
+
+pub(super) const LEFT: &str = "a,b,w\n1,x,3\n2,y,1\n3,x,1\n";
+
+pub(super) const RIGHT: &str = "b,c,w\nx,p,5\ny,q,2\nx,q,4\n";
+
+const JOIN: &str = "select R.a, S.c from R, S where R.b = S.b order by R.w + S.w";
+
+pub(super) const FOUND: &str = "a,c\n2,q\n3,q\n3,p\n1,q\n1,p\n";
+
+/// The two tables that share a column.
+const TWO: &[(&str, &str)] = &[("R.csv", LEFT), ("S.csv", RIGHT)];
+
+/// A run of the join of the two tables.
+pub(super) const RUN: Case<'static> = Case {
+    words: "run q.sql R=R.csv S=S.csv",
+    query: JOIN,
+    files: TWO,
+    status: 0,
+    out: "",
+    err: "",
+};
+
+/// The words of a call, the text of the query's file, the other files, and what is to come of them.
+#[derive(Clone, Copy)]
+pub(super) struct Case<'a> {
+    pub(super) words: &'a str,
+    pub(super) query: &'a str,
+    pub(super) files: &'a [(&'a str, &'a str)],
+    pub(super) status: u8,
+    pub(super) out: &'a str,
+    pub(super) err: &'a str,
+}
+
+/// The calls that fail, by their numbers from 1: of the shelf, of the output, and of the errors; the write of the output that takes
+/// nothing; and how many bytes a write of the output takes at most.
+#[derive(Clone, Copy)]
+pub(super) struct Failing {
+    pub(super) read: u64,
+    pub(super) write: u64,
+    pub(super) stuck: u64,
+    pub(super) line: u64,
+    pub(super) most: usize,
+}
+
+pub(super) const NEVER: Failing = Failing {
+    read: 0,
+    write: 0,
+    stuck: 0,
+    line: 0,
+    most: 1000,
+};
+
+const ROOM: usize = 50000;
+
+fn file(alloc: Global, name: &str, text: &str) -> Result<MemFile, AllocError> {
+    Ok(MemFile {
+        name: String::from_str(alloc, name)?,
+        bytes: Vec::from_slice(alloc, text.as_bytes())?,
+    })
+}
+
+// The words, the first of them followed by these options.
+fn words_of(alloc: Global, text: &str, options: &[&str]) -> Result<Vec<String>, AllocError> {
+    let mut words = Vec::new(alloc);
+    for word in text.split(' ') {
+        words.push(String::from_str(alloc, word)?)?;
+        if words.len() == 1 {
+            for option in options {
+                words.push(String::from_str(alloc, option)?)?;
+            }
+        }
+    }
+    Ok(words)
+}
+
+fn one(alloc: Global, number: u64) -> Result<Vec<u64>, AllocError> {
+    Ok(vec![in alloc; number]?)
+}
+
+fn shelf_of(alloc: Global, case: &Case<'_>, read: u64) -> Result<Option<MemShelf>, AllocError> {
+    let mut files = Vec::new(alloc);
+    files.push(file(alloc, "q.sql", case.query)?)?;
+    for (name, text) in case.files {
+        files.push(file(alloc, name, text)?)?;
+    }
+    if !have_distinct_names(&files) {
+        return Ok(None);
+    }
+    Ok(Some(MemShelf::new(files, one(alloc, read)?)))
+}
+
+// Whether the case comes out as it says, with these options, over these failing calls.
+fn holds_with(
+    alloc: Global,
+    case: &Case<'_>,
+    options: &[&str],
+    failing: Failing,
+) -> Result<bool, AllocError> {
+    let words = words_of(alloc, case.words, options)?;
+    let Some(mut shelf) = shelf_of(alloc, case, failing.read)? else {
+        return Ok(false);
+    };
+    let stuck = one(alloc, failing.stuck)?;
+    let out = MemSink::new(alloc, ROOM, failing.most, one(alloc, failing.write)?, stuck);
+    let none = Vec::new(alloc);
+    let err = MemSink::new(alloc, ROOM, 3, one(alloc, failing.line)?, none);
+    let (Ok(mut out), Ok(mut err)) = (out, err) else {
+        return Ok(false);
+    };
+    let status = run_uncounted::<MemShelf, MemSink, MemSink, Brand>(
+        alloc,
+        &words,
+        &mut shelf,
+        &mut out,
+        &mut err,
+        Blank::new(1),
+    );
+    Ok(
+        status == case.status
+            && out.bytes() == case.out.as_bytes()
+            && err.bytes() == case.err.as_bytes(),
+    )
+}
+
+// Whether the command has engines to choose from, and the words name none.
+fn leaves_engine_open(words: &str) -> bool {
+    !words.starts_with("plan ") && !words.contains("--engine")
+}
+
+/// Whether the case comes out as it says over these failing calls, with each engine.
+pub(super) fn holds(alloc: Global, case: &Case<'_>, failing: Failing) -> Result<bool, AllocError> {
+    if !holds_with(alloc, case, &[], failing)? {
+        return Ok(false);
+    }
+    if !leaves_engine_open(case.words) {
+        return Ok(true);
+    }
+    holds_with(alloc, case, &["--engine=rec"], failing)
+}
+
+/// The place of the first case that comes out otherwise, with one engine or the other.
+pub(super) fn first_failing(
+    alloc: Global,
+    cases: &[Case<'_>],
+) -> Result<Option<usize>, AllocError> {
+    for (i, case) in cases.iter().enumerate() {
+        if !holds(alloc, case, NEVER)? {
+            return Ok(Some(i));
+        }
+    }
+    Ok(None)
+}
+
+/// A file by its name.
+pub(super) fn named<'a>(name: &'a str, text: &'a str) -> (&'a str, &'a str) {
+    (name, text)
+}
+
+/// A call over these files, of which one may be made in a test, with the query that joins the two tables.
+pub(super) fn over<'a>(
+    words: &'a str,
+    files: &'a [(&'a str, &'a str)],
+    status: u8,
+    out: &'a str,
+    err: &'a str,
+) -> Case<'a> {
+    Case {
+        words,
+        query: JOIN,
+        files,
+        status,
+        out,
+        err,
+    }
+}
+
+/// So many times a text, between two others.
+pub(super) fn repeated(
+    alloc: Global,
+    before: &str,
+    text: &str,
+    count: u32,
+    after: &str,
+) -> Result<String, AllocError> {
+    let mut whole = String::from_str(alloc, before)?;
+    for _ in 0..count {
+        whole.push_str(text)?;
+    }
+    whole.push_str(after)?;
+    Ok(whole)
+}

@@ -1,0 +1,113 @@
+//! Files that cannot be read, output that cannot be written, and files that were cut off.
+use super::cases::{Case, FOUND, Failing, LEFT, NEVER, RIGHT, RUN, first_failing, holds};
+use std::alloc::{AllocError, Global};
+
+const ANSWERED: Case<'static> = Case { out: FOUND, ..RUN };
+
+#[test]
+fn failing_reads_end_a_run(rt: HostRuntime) -> Result<(), AllocError> {
+    // The first calls open the query's file, read it and find its end; then those of each table.
+    for read in 1..10 {
+        let err = match read {
+            1..4 => "anyk: file q.sql: read failed\n",
+            4..7 => "anyk: file R.csv: read failed\n",
+            _ => "anyk: file S.csv: read failed\n",
+        };
+        let failing = Failing { read, ..NEVER };
+        let unread = Case {
+            status: 10,
+            err,
+            ..RUN
+        };
+        assert!(rt; holds(rt.alloc(), &unread, failing)?, "call {read}");
+    }
+    let late = Failing { read: 10, ..NEVER };
+    assert!(rt; holds(rt.alloc(), &ANSWERED, late)?);
+    Ok(())
+}
+
+// Whether a run that cannot write its record of this number, from 1 for the header, ends there.
+fn ends_at(alloc: Global, write: u64, whole: usize) -> Result<bool, AllocError> {
+    let unwritten = Case {
+        status: 11,
+        out: FOUND.get(..whole).unwrap_or(""),
+        err: "anyk: write failed\n",
+        ..RUN
+    };
+    let failing = Failing { write, ..NEVER };
+    let stuck = Failing {
+        stuck: write,
+        ..NEVER
+    };
+    Ok(holds(alloc, &unwritten, failing)? && holds(alloc, &unwritten, stuck)?)
+}
+
+#[test]
+fn failing_writes_end_a_run(rt: HostRuntime) -> Result<(), AllocError> {
+    let alloc = rt.alloc();
+    for (write, whole) in [(1, 0), (2, 4), (3, 8), (4, 12), (5, 16), (6, 20)] {
+        assert!(rt; ends_at(alloc, write, whole)?, "call {write}");
+    }
+    let bytewise = Failing { most: 1, ..NEVER };
+    assert!(rt; holds(alloc, &ANSWERED, bytewise)?);
+    let silent = Failing { line: 1, ..NEVER };
+    let refused = Case {
+        query: "select",
+        status: 3,
+        ..RUN
+    };
+    assert!(rt; holds(alloc, &refused, silent)?);
+    Ok(())
+}
+
+// What comes of a run over a table that is cut off after so many of its bytes, from the first to the second number. A weight that
+// is cut off whole is an empty field, which counts 0.
+const CUT: &[(usize, usize, u8, &str, &str)] = &[
+    (0, 0, 5, "", "anyk: table S: no header\n"),
+    (1, 2, 4, "", "anyk: byte 12: unknown column\n"),
+    (3, 4, 4, "", "anyk: byte 57: unknown column\n"),
+    (5, 6, 0, "a,c\n", ""),
+    (
+        7,
+        9,
+        5,
+        "",
+        "anyk: table S: row 1: wrong number of fields\n",
+    ),
+    (10, 12, 0, "a,c\n3,p\n1,p\n", ""),
+    (
+        13,
+        15,
+        5,
+        "",
+        "anyk: table S: row 2: wrong number of fields\n",
+    ),
+    (16, 18, 0, "a,c\n2,q\n3,p\n1,p\n", ""),
+    (
+        19,
+        21,
+        5,
+        "",
+        "anyk: table S: row 3: wrong number of fields\n",
+    ),
+    (22, 22, 0, "a,c\n3,q\n1,q\n2,q\n3,p\n1,p\n", ""),
+    (23, 24, 0, FOUND, ""),
+];
+
+#[test]
+fn cut_tables_are_told(rt: HostRuntime) -> Result<(), AllocError> {
+    for (first, last, status, out, err) in CUT {
+        for length in *first..*last + 1 {
+            let cut = RIGHT.get(..length).unwrap_or("");
+            let case = Case {
+                files: &[("R.csv", LEFT), ("S.csv", cut)],
+                status: *status,
+                out,
+                err,
+                ..RUN
+            };
+            assert_eq!(rt; first_failing(rt.alloc(), &[case])?, None, "{length} bytes");
+        }
+    }
+    Ok(())
+}

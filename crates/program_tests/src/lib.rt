@@ -1,0 +1,20 @@
+//! Tests of whole calls of the program, over files in memory and sinks that fail at given calls. What is to come of each was worked
+//! out by hand. They are in a crate of their own, so that the top call is not proved twice for its tests.
+#![tactic(auto)]
+
+#[cfg(test)]
+mod answers;
+#[cfg(test)]
+mod cases;
+#[cfg(test)]
+mod faults;
+#[cfg(test)]
+mod loads;
+#[cfg(test)]
+mod plans;
+#[cfg(test)]
+mod refusals;
+#[cfg(test)]
+mod sessions;
+#[cfg(test)]
+mod stars;

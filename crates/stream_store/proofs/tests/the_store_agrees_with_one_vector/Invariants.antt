@@ -1,4 +1,0 @@
-use Rattle.stream_store.proofs.tests.the_store_agrees_with_one_vector.Given as goal
-
-abbrev pub ghosts-agrees_with_a_vector : goal.ghosts-agrees_with_a_vector
-ghosts-agrees_with_a_vector g a = record { name = a.blank.name; parts = a.blank.parts }

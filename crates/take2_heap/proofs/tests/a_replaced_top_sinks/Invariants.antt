@@ -1,4 +1,0 @@
-use Rattle.take2_heap.proofs.tests.a_replaced_top_sinks.Given as goal
-
-abbrev pub ghosts-replaced : goal.ghosts-replaced
-ghosts-replaced g a = record { name = a.blank.name; parts = a.blank.parts }

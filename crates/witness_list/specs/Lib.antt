@@ -1,3 +1,0 @@
-pub mod Combinations
-pub mod Listed
-pub mod Entries

@@ -1,0 +1,909 @@
+#!/usr/bin/env python3
+"""Tries the launcher ./anyk, its hints and what it installs, over stand-ins for `rt` and for the program.
+
+usage: tests/launcher.py [TEST ..]
+
+All tests are run where none is named; other words are passed over. Each test has a small checkout of its own, with the launcher,
+tools/ and man/ of this one, a few crates, and on the PATH a script `rt` that writes what the real one writes. What only some
+machines allow, as a file system that is mounted noexec, is passed over elsewhere. Where the real program is built, or the variable
+ANYK names it, the hints are also tried with it.
+"""
+import importlib.util
+import os
+import pty
+import re
+import shutil
+import signal
+import stat
+import subprocess
+import sys
+import tempfile
+import termios
+import time
+from concurrent.futures import ThreadPoolExecutor
+
+TOP = os.path.dirname(os.path.dirname(os.path.abspath(__file__)))
+REAL = os.environ.get("ANYK", f"{TOP}/crates/anyk_cli/out/anyk_cli")
+NOBODY = 65534
+SYSTEM = "/usr/bin:/bin"
+# What the launcher and the stand-in for the program call.
+NEEDED = ("bash", "env", "find", "perl", "readlink", "cat", "sh")
+CRATES = "# A small house.\nlow:\nmiddle: low\nanyk_cli: low middle std\nother_tests: low\n"
+
+RT = """#!/bin/sh
+# Stands in for rt: proves nothing, and builds a script.
+echo "$*" >> "$RT_ROOM/calls"
+broken() { grep -q BROKEN ../"$1"/src/*.rt; }
+case "$1 $2" in
+'all check')
+    state=ok
+    for crate in low middle anyk_cli; do
+        while [ -f "$RT_ROOM/hold-$crate" ]; do sleep 0.05; done
+        echo "== $crate"
+        if [ "$state" != ok ]; then continue; fi
+        if broken $crate; then
+            echo 'src/lib.rt:3:5: error[E]: what is broken'; state="failed (1)"; at=$crate
+        elif [ -f "$RT_ROOM/killed" ]; then
+            echo '17 of 48 functions'; state="failed (-9)"; at=$crate
+        else
+            echo '48 of 48 functions'; echo 'logic=proved functions=48'
+        fi
+    done
+    echo '== summary'
+    if [ "$state" = ok ]; then printf '%s: ok\\n' low middle anyk_cli; echo '3 of 3 crates ok'; exit 0; fi
+    echo "$at: $state"; echo 'anyk_cli: not run, since one failed'; echo '0 of 3 crates ok'
+    exit 1 ;;
+'run --')
+    for crate in low middle anyk_cli; do
+        if broken $crate; then
+            # The stamp of an earlier build stays, as rt leaves it.
+            echo "rt: the library $crate did not build, so nothing above it was checked"; exit 1
+        fi
+    done
+    mkdir -p out
+    rm -f out/anyk_cli.stamp
+    [ ! -f "$RT_ROOM/linkless" ] || { echo 'error: linking failed'; exit 1; }
+    sed "s/VERSION/$(sed -n 's/version //p' src/main.rt)/" "$RT_ROOM/program" > out/anyk_cli
+    chmod +x out/anyk_cli
+    [ ! -f "$RT_ROOM/edits" ] || echo 'version 99' > src/main.rt
+    echo stamp > out/anyk_cli.stamp
+    out/anyk_cli
+    exit 2 ;;
+*) echo 'rt: what is this?'; exit 2 ;;
+esac
+"""
+
+PROGRAM = """#!/bin/sh
+# Stands in for the program: VERSION.
+if [ -n "${SAYS-}" ]; then
+    printf 'anyk: %s\\n' "$SAYS" >&2
+    exit "$STATUS"
+fi
+[ $# -gt 0 ] || { echo 'anyk: usage' >&2; exit 2; }
+[ "$1" != input ] || cat
+[ "$1" != signal ] || kill -TERM $$
+[ "$1" != wait ] || { echo waiting; sleep 30; }
+echo "VERSION in $(pwd) with ${GLIBC_TUNABLES-nothing}"
+printf '<%s>' "$@"
+echo
+"""
+
+
+class Failed(Exception):
+    pass
+
+
+class Skipped(Exception):
+    pass
+
+
+def check(holds, *said):
+    if not holds:
+        raise Failed(" ".join(map(str, said)) or "it does not hold")
+
+
+def same(got, wanted):
+    check(got == wanted, f"\n  got:    {got!r}\n  wanted: {wanted!r}")
+
+
+def has(text, *parts):
+    for part in parts:
+        check(part in text, f"\n  {part!r}\n  is not in\n{text}")
+
+
+def write(file, text):
+    os.makedirs(os.path.dirname(file), exist_ok=True)
+    with open(file, "w", encoding="utf-8", errors="surrogateescape") as it:
+        it.write(text)
+
+
+def read(file):
+    with open(file, encoding="utf-8") as it:
+        return it.read()
+
+
+class House:
+    """A checkout with a stand-in for rt."""
+
+    def __init__(self):
+        self.room = tempfile.mkdtemp(prefix="anyk-launcher-")
+        os.chmod(self.room, 0o755)
+        self.top = f"{self.room}/a house"
+        os.makedirs(f"{self.top}/docs")
+        shutil.copy(f"{TOP}/anyk", f"{self.top}/anyk")
+        shutil.copy(f"{TOP}/docs/USING.md", f"{self.top}/docs/USING.md")
+        for it in ("tools", "man"):
+            shutil.copytree(f"{TOP}/{it}", f"{self.top}/{it}")
+        write(f"{self.top}/crates.txt", CRATES)
+        for crate in ("low", "middle", "other_tests"):
+            self.source(crate, "src/lib.rt", "//! A crate.\n")
+            self.source(crate, "proofs/one/Proof.antt", "proof\n")
+        self.source("low", "specs/Lib.antt", "spec\n")
+        self.source("anyk_cli", "src/main.rt", "version 1\n")
+        write(f"{self.room}/bin/rt", RT)
+        os.chmod(f"{self.room}/bin/rt", 0o755)
+        write(f"{self.room}/program", PROGRAM)
+        self.out = f"{self.top}/crates/anyk_cli/out"
+        self.program = f"{self.out}/anyk_cli"
+        path = SYSTEM if shutil.which("python3", path=SYSTEM) else os.environ["PATH"]
+        self.env = {"PATH": f"{self.room}/bin:{path}", "RT_ROOM": self.room, "HOME": self.room, "TERM": "dumb"}
+
+    def source(self, crate, file, text):
+        write(f"{self.top}/crates/{crate}/{file}", text)
+
+    def version(self, number):
+        self.source("anyk_cli", "src/main.rt", f"version {number}\n")
+
+    def how(self, more=None, **how):
+        env = {it: value for it, value in {**self.env, **(more or {})}.items() if value is not None}
+        return {"cwd": self.top, "env": env, "stdin": subprocess.DEVNULL, **how}
+
+    def call(self, *words, more=None, by=None, **how):
+        """The status, the output and the error output of a call of the launcher, none of them a terminal."""
+        how = self.how(more, **{"stdout": subprocess.PIPE, "stderr": subprocess.PIPE, "timeout": 50, **how})
+        ran = subprocess.run([*(by or [f"{self.top}/anyk"]), *words], **how)
+        return ran.returncode, (ran.stdout or b"").decode(errors="surrogateescape"), (ran.stderr or b"").decode(errors="surrogateescape")
+
+    def start(self, *words, more=None, **how):
+        how = self.how(more, **{"stdout": subprocess.PIPE, "stderr": subprocess.PIPE, "start_new_session": True, **how})
+        return subprocess.Popen([f"{self.top}/anyk", *words], **how)
+
+    def hold(self, crate):
+        """Lets rt wait before a crate."""
+        write(f"{self.room}/hold-{crate}", "")
+
+    def go(self, crate):
+        """Lets rt go on with a crate that it waits before."""
+        if os.path.exists(f"{self.room}/hold-{crate}"):
+            os.remove(f"{self.room}/hold-{crate}")
+
+    def on_terminal(self, *words, more=None, by=None, after=None, watch=None, **how):
+        """The same, with a terminal for the error output. `after` is called with what was started, and `watch` with what was written
+        so far."""
+        master, slave = pty.openpty()
+        mode = termios.tcgetattr(slave)
+        mode[1] &= ~termios.OPOST
+        termios.tcsetattr(slave, termios.TCSANOW, mode)
+        how = self.how(more, **{"stdout": subprocess.PIPE, **how})
+        ran = subprocess.Popen([*(by or [f"{self.top}/anyk"]), *words], stderr=slave, start_new_session=bool(after), **how)
+        os.close(slave)
+        said = b""
+        if after:
+            after(ran)
+        while True:
+            try:
+                piece = os.read(master, 65536)
+            except OSError:
+                piece = b""
+            if not piece:
+                break
+            said += piece
+            if watch:
+                watch(said.decode(errors="replace"))
+        os.close(master)
+        output = ran.communicate(timeout=50)[0] or b""
+        return ran.returncode, output.decode(), said.decode(errors="surrogateescape")
+
+    def calls(self):
+        """What rt was called with since the last time."""
+        file = f"{self.room}/calls"
+        if not os.path.exists(file):
+            return []
+        calls = read(file).splitlines()
+        os.remove(file)
+        return calls
+
+    def built(self, version=1):
+        """Builds a version, by a first call."""
+        self.version(version)
+        time.sleep(0.1)
+        same(self.call("word")[0], 0)
+        check(self.calls(), "rt was not called")
+        return self
+
+    def end(self):
+        # What a failed test started may go on for a moment.
+        for _ in range(20):
+            shutil.rmtree(self.room, ignore_errors=True)
+            if not os.path.exists(self.room):
+                return
+            time.sleep(0.1)
+
+
+def as_nobody(house):
+    """What runs a command as a user who does not own the checkout."""
+    if os.geteuid() != 0:
+        raise Skipped("only root can call as another user")
+    other = {"user": NOBODY, "group": NOBODY, "extra_groups": []}
+    for tried in (["cat", f"{house.top}/anyk"], ["python3", "-ISc", ""]):
+        if subprocess.run(tried, **house.how(capture_output=True, **other)).returncode:
+            raise Skipped(f"another user cannot run {tried[0]} here")
+    return other
+
+
+def ran(version, where, words, tunables="glibc.malloc.hugetlb=1"):
+    """What the stand-in for the program prints."""
+    return f"{version} in {where} with {tunables}\n{''.join(f'<{it}>' for it in words)}\n"
+
+
+def test_first_call(house):
+    status, output, error = house.call("one", "two")
+    same((status, output), (0, ran(1, house.top, ["one", "two"])))
+    same(error, f"anyk: the program is proved and built first, which takes a while (the progress is in {house.out}/build.log)\n")
+    first, second = house.calls()
+    check(re.fullmatch("all check --jobs [1-9][0-9]*", first), first)
+    same(second, "run --")
+    check(int(first.split()[-1]) <= len(os.sched_getaffinity(0)), first)
+    same(house.call("one")[1:], (ran(1, house.top, ["one"]), ""))
+    same(house.calls(), [])
+
+
+def test_closed_streams(house):
+    for closed, output in (("2>&-", ran(1, house.top, ["x"])), (">&-", ""), ("<&-", ran(1, house.top, ["x"])), (">&- 2>&- <&-", "")):
+        house.version(1 if output else 2)
+        by = ["sh", "-c", f'exec "$0" "$@" {closed}', f"{house.top}/anyk"]
+        same((closed, house.call("x", by=by)[1]), (closed, output))
+        same(len(house.calls()), 2)
+
+
+def test_words_and_input(house):
+    house.built()
+    words = ["", "a b", "*", "'", '"', "$HOME", "\\", "--", "-n", "line\nend", "å"]
+    same(house.call(*words), (0, ran(1, house.top, words), ""))
+    same(house.call("input", stdin=None, input=b"given\n")[1], "given\n" + ran(1, house.top, ["input"]))
+    same(house.call("x", cwd="/")[1], ran(1, "/", ["x"]))
+    same(house.call("signal")[0], -signal.SIGTERM)
+    same(house.call(more={"SAYS": "out of memory", "STATUS": "12"}, *["x"]), (12, "", "anyk: out of memory\n"))
+    same(house.call("x", more={"SAYS": "", "STATUS": ""})[0], 0)
+
+
+def test_ways_of_calling(house):
+    house.built()
+    os.symlink(f"{house.top}/anyk", f"{house.room}/bin/by link")
+    os.symlink("by link", f"{house.room}/bin/anyk")
+    wanted = (0, ran(1, house.room, ["x"]), "")
+    for by in ([f"{house.room}/bin/anyk"], ["bin/by link"], ["anyk"], ["env", "anyk"], ["a house/anyk"], ["sh", "a house/anyk"],
+               ["bash", "a house/anyk"], ["bash", "--posix", "a house/anyk"], ["sh", "bin/anyk"], ["a house/../a house//anyk"]):
+        same((by, house.call("x", by=by, cwd=house.room)), (by, wanted))
+    for by in (["sh", "anyk"], ["bash", "anyk"], ["./anyk"]):
+        same((by, house.call("x", by=by)), (by, (0, ran(1, house.top, ["x"]), "")))
+    same(house.calls(), [])
+
+
+def test_what_is_current(house):
+    house.built()
+
+    def builds(expected, version=1):
+        same(house.call("x"), (0, ran(version, house.top, ["x"]), house.call("x")[2] if not expected else ANY))
+        same(bool(house.calls()), expected)
+
+    os.utime(f"{house.top}/crates/low/src/lib.rt")
+    builds(False)
+    house.source("low", "proofs/one/Proof.antt", "another proof\n")
+    builds(True)
+    house.source("low", "proofs/two/Proof.antt", "a new file\n")
+    builds(True)
+    shutil.rmtree(f"{house.top}/crates/low/proofs/two")
+    builds(True)
+    house.source("middle", "specs/Lib.antt", "a first spec\n")
+    builds(True)
+    house.source("other_tests", "src/lib.rt", "//! No part of the program.\n")
+    builds(False)
+    write(f"{house.top}/crates.txt", CRATES + "# More.\n")
+    builds(True)
+    # A file that is put in place with an old time is a change too.
+    house.version(2)
+    os.utime(f"{house.top}/crates/anyk_cli/src/main.rt", (1e9, 1e9))
+    builds(True, 2)
+    # The program of another build is not taken for that of these sources, if these change.
+    write(house.program, PROGRAM.replace("VERSION", "another"))
+    time.sleep(0.1)
+    os.utime(f"{house.top}/crates/low/src/lib.rt", (4e9, 4e9))
+    builds(True, 2)
+    # A program that rt ci built later than all sources is taken as it is.
+    write(f"{house.program}.new", PROGRAM.replace("VERSION", "gate"))
+    os.chmod(f"{house.program}.new", 0o755)
+    shutil.rmtree(house.out.replace("/out", "/kept"), ignore_errors=True)
+    os.rename(house.out, house.out.replace("/out", "/kept"))
+    os.makedirs(house.out)
+    time.sleep(0.05)
+    shutil.copyfile(house.out.replace("/out", "/kept/anyk_cli.new"), house.program)
+    os.chmod(house.program, 0o755)
+    builds(False, "gate")
+
+
+class Any:
+    def __eq__(self, other):
+        return True
+
+
+ANY = Any()
+
+
+def test_copied_checkout(house):
+    house.built()
+    copied = f"{house.room}/copy"
+    subprocess.run(["cp", "-a", house.top, copied], check=True)
+    same(house.call("x", by=[f"{copied}/anyk"], more=few_commands(house, *NEEDED, "python3"))[0:2], (0, ran(1, house.top, ["x"])))
+    same(house.calls(), [])
+
+
+def refuses_old(house, *parts):
+    """A call that does not build runs nothing, and so does one after it without rt."""
+    status, output, error = house.call("x")
+    same((status, output), (1, ""))
+    has(error, *parts)
+    check(house.calls(), "rt was not called")
+    same(house.call("x", more=few_commands(house, *NEEDED, "python3"))[:2], (1, ""))
+    same(house.call("x", more={"ANYK_NO_BUILD": "1"})[:2], (1, ""))
+    return error
+
+
+def test_failed_proof(house):
+    house.built()
+    good = read(f"{house.top}/crates/low/src/lib.rt")
+    house.source("low", "src/lib.rt", "BROKEN\n")
+    for _ in range(2):
+        error = refuses_old(house, "== low\nsrc/lib.rt:3:5: error[E]: what is broken\n", "anyk: the program was not built")
+        check("48 of 48" not in error, error)
+    # With its time set back to where it was, too, and where an older stamp and program are put in place.
+    os.utime(f"{house.top}/crates/low/src/lib.rt", (1e9, 1e9))
+    write(f"{house.program}.stamp", "stamp")
+    write(house.program, PROGRAM.replace("VERSION", "old"))
+    os.chmod(house.program, 0o755)
+    refuses_old(house, "anyk: the program was not built")
+    house.source("low", "src/lib.rt", good)
+    house.version(3)
+    same(house.call("x")[:2], (0, ran(3, house.top, ["x"])))
+    same(len(house.calls()), 2)
+
+
+def test_failed_link(house):
+    house.built()
+    house.version(2)
+    write(f"{house.room}/linkless", "")
+    refuses_old(house, "error: linking failed", "anyk: the program was not built")
+    os.remove(f"{house.room}/linkless")
+    same(house.call("x")[:2], (0, ran(2, house.top, ["x"])))
+
+
+def test_killed_check(house):
+    # Where a check was killed, as for memory, the next command tries again.
+    write(f"{house.room}/killed", "")
+    same(house.call("x")[:2], (0, ran(1, house.top, ["x"])))
+    same(len(house.calls()), 2)
+    house.version(2)
+    write(f"{house.room}/linkless", "")
+    refuses_old(house, "error: linking failed", "anyk: the program was not built")
+
+
+def test_edit_in_a_build(house):
+    house.built()
+    house.version(2)
+    write(f"{house.room}/edits", "")
+    refuses_old(house, "a source was changed meanwhile")
+    os.remove(f"{house.room}/edits")
+    same(house.call("x")[:2], (0, ran(99, house.top, ["x"])))
+
+
+def test_broken_off(house):
+    house.built()
+    for number, how in enumerate((signal.SIGINT, signal.SIGTERM, signal.SIGHUP, signal.SIGKILL), 2):
+        house.version(number)
+        house.hold("middle")
+        begun = house.start("x")
+        until(lambda: os.path.exists(f"{house.room}/calls"))
+        os.killpg(begun.pid, how)
+        same(begun.communicate(timeout=20)[0], b"")
+        check(begun.returncode in (1, -how), how, begun.returncode)
+        house.calls()
+        house.go("middle")
+        same(house.call("x", more={"ANYK_NO_BUILD": "1"})[:2], (1, ""))
+        same(house.call("x")[:2], (0, ran(number, house.top, ["x"])))
+        same(len(house.calls()), 2)
+
+
+def until(holds):
+    for _ in range(400):
+        if holds():
+            return
+        time.sleep(0.05)
+    raise Failed("it took too long")
+
+
+def test_two_at_once(house):
+    house.hold("low")
+    first = house.start("one")
+    until(lambda: os.path.exists(f"{house.room}/calls"))
+    others = {"two": house.start("two"), "three": house.start("three")}
+    if os.geteuid() == 0:
+        # One who could not build waits too.
+        others["four"] = house.start("four", more=few_commands(house, *NEEDED, "python3"), **as_nobody(house))
+    for it in others.values():
+        same(it.stderr.readline(), b"anyk: another call builds the program: this one waits for it\n")
+    same(house.call("x", more={"ANYK_NO_BUILD": "1"})[:2], (1, ""))
+    house.go("low")
+    for word, begun in [("one", first), *others.items()]:
+        output, error = begun.communicate(timeout=40)
+        same((begun.returncode, output.decode(), error.count(b"\n")), (0, ran(1, house.top, [word]), int(word == "one")))
+    same(len(house.calls()), 2)
+    # Where the first one fails, the one that waits builds for itself, and fails too.
+    house.source("low", "src/lib.rt", "BROKEN\n")
+    for begun in [house.start("x"), house.start("y")]:
+        same(begun.communicate(timeout=40)[0], b"")
+        same(begun.returncode, 1)
+
+
+def test_many_at_once(house):
+    many = [house.start(str(it)) for it in range(6)]
+    for number, begun in enumerate(many):
+        output, _ = begun.communicate(timeout=40)
+        same((begun.returncode, output.decode()), (0, ran(1, house.top, [str(number)])))
+    same(len(house.calls()), 2)
+
+
+def test_read_only(house):
+    other = as_nobody(house)
+    status, output, error = house.call("x", **other)
+    same((status, output, error.count("\n")), (1, "", 1))
+    has(error, "anyk: the program is not built yet, and ", "cannot be written")
+    same(house.calls(), [])
+    house.built()
+    same(house.call("x", **other), (0, ran(1, house.top, ["x"]), ""))
+    # What was only touched is seen to be the same, though nothing can be written.
+    os.utime(f"{house.top}/crates/low/src/lib.rt")
+    for _ in range(2):
+        same(house.call("x", **other), (0, ran(1, house.top, ["x"]), ""))
+    house.version(2)
+    same(house.call("x", **other)[:2], (1, ""))
+    same(house.calls(), [])
+
+
+def test_umask(house):
+    same(house.call("word", umask=0o077)[0], 0)
+    for it, mode in ((house.out, 0o755), (house.program, 0o755), (f"{house.program}.sums", 0o644)):
+        same((it, stat.S_IMODE(os.stat(it).st_mode) & 0o055), (it, mode & 0o055))
+    same(house.call("x", **as_nobody(house)), (0, ran(1, house.top, ["x"]), ""))
+
+
+def test_private_checkout(house):
+    house.built()
+    os.chmod(house.program, 0o700)
+    status, output, error = house.call("x", **as_nobody(house))
+    same((status, output, error.count("\n")), (1, "", 1))
+    has(error, "may not ")
+
+
+def test_noexec(house):
+    script = f"mount -t tmpfs -o noexec,mode=755 tmpfs \"$0\" && shift 0 && for i in 1 2; do \"$1\" x; echo \"status $?\"; done; ls \"$0\""
+    os.makedirs(house.out)
+    by = ["unshare", "-m"] if os.geteuid() == 0 else ["unshare", "-rm"]
+    tried = subprocess.run([*by, "mount", "-t", "tmpfs", "-o", "noexec", "tmpfs", house.out], capture_output=True)
+    if tried.returncode:
+        raise Skipped("no file system can be mounted noexec here")
+    status, output, error = house.call(by=[*by, "sh", "-c", script, house.out, f"{house.top}/anyk"])
+    same(status, 0)
+    same(re.findall("status .*", output), ["status 1"] * 2)
+    has(output, "anyk_cli\n", "anyk_cli.sums")
+    same(len(house.calls()), 2)
+    same(error.count("it may not be run: its file system is mounted noexec"), 2)
+
+
+def test_tunables(house):
+    house.built()
+    for value in ("", "glibc.malloc.hugetlb=0", "glibc.malloc.check=1:glibc.malloc.hugetlb=2"):
+        same(house.call("x", more={"GLIBC_TUNABLES": value})[1], ran(1, house.top, ["x"], value))
+
+
+def few_commands(house, *names):
+    """A folder for the PATH with these commands alone."""
+    folder = f"{house.room}/few"
+    shutil.rmtree(folder, ignore_errors=True)
+    os.makedirs(folder)
+    for name in names:
+        os.symlink(shutil.which(name, path=SYSTEM) or sys.executable, f"{folder}/{name}")
+    return {"PATH": folder}
+
+
+def test_without_rt(house):
+    status, output, error = house.call("x", more=few_commands(house, *NEEDED, "python3"))
+    same((status, output, error), (1, "", "anyk: the program is not built yet, and rt, which builds it, is not found\n"))
+
+
+def test_without_python(house):
+    few = few_commands(house, *NEEDED)
+    status, output, error = house.call("x", more=few)
+    same((status, output), (1, ""))
+    has(error, "python3, which building it needs, is not found")
+    house.built()
+    # What was written in the second of the build is looked at once more, by python3.
+    time.sleep(1.1)
+    same(house.call("x")[0], 0)
+    same(house.call("x", more=few), (0, ran(1, house.top, ["x"]), ""))
+    refusal = {"SAYS": "out of memory", "STATUS": "12"}
+    same(house.on_terminal("x", more={**few, **refusal}), (12, "", "anyk: out of memory\n"))
+
+
+def test_without_perl(house):
+    few = few_commands(house, *[it for it in NEEDED if it != "perl"], "python3")
+    house.built()
+    same(house.call("x", more=few), (0, ran(1, house.top, ["x"]), ""))
+    house.source("low", "proofs/one/Proof.antt", "another proof\n")
+    same(house.call("x", more=few)[:2], (1, ""))
+    same(house.calls(), [])
+
+
+def test_no_build(house):
+    forbidden = {"ANYK_NO_BUILD": "1"}
+    same(house.call("x", more=forbidden), (1, "", "anyk: the program is not built yet, and ANYK_NO_BUILD forbids to build it\n"))
+    house.built()
+    same(house.call("x", more=forbidden), (0, ran(1, house.top, ["x"]), ""))
+    house.version(2)
+    status, output, error = house.call("x", more=forbidden)
+    same((status, output), (1, ""))
+    same(error, "anyk: the program is not built from the sources as they are, and ANYK_NO_BUILD forbids to build it\n")
+    same(house.calls(), [])
+
+
+def test_progress(house):
+    def watch(said):
+        for number, crate in enumerate(("low", "middle", "anyk_cli")):
+            if f"anyk: {number} of 3 crates proved" in said:
+                house.go(crate)
+
+    def progress():
+        for crate in ("low", "middle", "anyk_cli"):
+            house.hold(crate)
+        return house.on_terminal("x", watch=watch)
+
+    status, output, error = progress()
+    same((status, output), (0, ran(1, house.top, ["x"])))
+    has(error, "the progress is in", "\ranyk: 0 of 3 crates proved, under a minute so far", "\ranyk: 2 of 3 crates proved")
+    has(error, "anyk: the program is proved and built, in under a minute\n")
+    # The time that is left is told where a table says what crates take.
+    write(f"{house.top}/tools/gate_times.tsv", "crate\tproof seconds\nlow\t600\nmiddle\t1200.5\nanyk_cli\t30\n")
+    house.version(2)
+    said = progress()[2]
+    check(re.search("0 of 3 .*about 3[01] min left.*1 of 3 .*about 4 min left", said), said)
+
+
+def module(name):
+    spec = importlib.util.spec_from_file_location(name, f"{TOP}/tools/{name}.py")
+    made = importlib.util.module_from_spec(spec)
+    sys.dont_write_bytecode = True
+    spec.loader.exec_module(made)
+    return made
+
+
+def test_estimate(house):
+    build = module("build")
+    crates = build.crates_below("anyk_cli", CRATES)
+    same(crates, {"low": [], "middle": ["low"], "anyk_cli": ["low", "middle"]})
+    same(build.crates_below("other", CRATES), {})
+    times = build.times_of("crate\tseconds\nlow\t10\n\nmiddle\t20\textra\nanyk_cli\tnone\nanyk_cli\t5.5\nshort\n")
+    same(times, {"low": 10.0, "middle": 20.0, "anyk_cli": 5.5})
+    # One after another: each crate stands on the one before.
+    same(build.seconds_left(crates, set(), 4, 7, times), 35.5)
+    same(build.seconds_left(crates, {"low"}, 4, 20, times), 51)
+    same(build.seconds_left(crates, {"low", "middle"}, 4, 1, times), 5.5 * 0.2)
+    same(build.seconds_left(crates, {*crates}, 4, 40, times), 0)
+    # Side by side, and with one that the table lacks.
+    same(build.seconds_left({"a": [], "b": [], "c": [], "d": []}, set(), 2, 0, {"a": 10, "b": 20, "c": 30}), 40)
+    # Without a table.
+    same(build.seconds_left(crates, {"low"}, 4, 9, {}), None)
+    same(build.seconds_left(dict.fromkeys("abcdef", []), set("abc"), 4, 60, {"other": 3}), 60)
+    gigabyte = 1_000_000_000
+    same([build.at_once(*it) for it in ((4, None), (4, 22 * gigabyte), (4, 5 * gigabyte), (4, gigabyte), (1, 22 * gigabyte))], [4, 4, 2, 1, 1])
+    same([build.minutes(it) for it in (5, 61, 150, 3600)], ["under a minute", "1 min", "2 min", "60 min"])
+
+
+def test_help(house):
+    for words in (["help"], ["--help"], ["-h"], ["help", "run"], ["help", "plan"], ["help", "session"], ["help", "load"], ["help", "install"]):
+        status, output, error = house.call(*words)
+        same((words, status, error), (words, 0, ""))
+        page = words[1] if len(words) > 1 else "anyk"
+        same(output, read(f"{TOP}/tools/help/{page}.txt"))
+        check(output.startswith(f"usage: anyk {page if len(words) > 1 else 'run'}"), output)
+        check(all(len(it) <= 80 for it in output.splitlines() if not re.match("(usage:|      ) anyk ", it)), words)
+        same(house.on_terminal(*words), (0, output, ""))
+    same(house.call(), (2, "", "anyk: usage\n"))
+    same(house.on_terminal(), (2, "", "anyk: usage\n" + read(f"{TOP}/tools/help/anyk.txt")))
+    for words in (["install"], ["install", ""], ["install", "a", "b"]):
+        same(house.call(*words), (2, "", "anyk: usage\n"))
+    same(house.calls(), [])
+    # Other words are the program's.
+    house.built()
+    for words in (["help", "what"], ["run", "--help"], ["--help", "run"], ["", ""], ["-hx"], [":install:", "x"]):
+        same(house.call(*words)[1], ran(1, house.top, words))
+
+
+TRAINS = read(f"{TOP}/docs/using/trains.csv")
+HOTELS = read(f"{TOP}/docs/using/hotels.csv")
+FILES = {
+    "t.csv": TRAINS, "h.csv": HOTELS, "none.csv": "", "blank.csv": "\n\n", "twice.csv": "a,b,a\n1,2,3\n", "cut.csv": "a,b\n1,2\n\n1\n",
+    "bad.csv": 'city,"a\nb",n\nx,y,1\n"x\nx",y,2\nx,\x1b[31my,12.5\n', "semi.csv": "city;price\nOslo;3\n", "big.csv": f"n\n{2**127 - 1}\n",
+    "stay.sql": "SELECT t.train, h.hotel\nFROM trains AS t, hotels AS h\nWHERE t.destination = h.city\n\tAND t.origin = 'Oslo'\nORDER BY t.price + h.price\n",
+    "wrong.sql": "SELECT t.train\nFROM trains t\nWHERE t.price < 200\n", "end.sql": "SELECT a FROM\n", "table.sql": "SELECT * FROM train",
+    "alias.sql": "SELECT * FROM trains t, trains t", "named.sql": "SELECT trains.train FROM trains t",
+    "column.sql": "select\n  t.prise from trains t", "bare.sql": "select prise from trains, hotels", "both.sql": "SELECT price FROM trains, hotels h",
+    "weight.sql": 'select n from "bad" b order by n', "circle.sql": read(f"{TOP}/docs/using/circle.sql"),
+    "range.sql": "select n from big order by n ,\n n - n desc limit 3;", "limit.sql": "select n from big limit 99999999999999999999",
+    "semi.sql": "select price from semi", "one.sql": "select * from x", "many.sql": "select * from " + ", ".join(f"t a{it}" for it in range(17)),
+    "long.sql": "select " + "a" * 300 + ", ? from trains", "union.sql": "select n from bad order by n union all select n from bad",
+    "s1.txt": "open a\nnext a 1\nnext  a 1\n", "s2.txt": "open first\nopen second\nclose second\nnext frist 1\n", "s3.txt": "# one\nopen a\nopen a\n",
+}
+WORDS = ["stay.sql", "trains=t.csv", "hotels=h.csv"]
+
+
+def at(text, column):
+    """How a hint shows a line of the query, with a caret below a column, from 0."""
+    return f"\n      {text}\n{' ' * (6 + column)}^\n"
+
+
+# The words of a call, what the program says of it, its status, and what the hint has to hold. The real program says the same of
+# those that need no large file.
+REFUSALS = [
+    (["run", "stay.sql"], 2, "usage", ["TABLE=FILE is missing", "usage: anyk run [--engine"]),
+    (["rnu", *WORDS], 2, "usage", ["rnu is not a command; perhaps run is meant", "usage: anyk run", "anyk plan QUERYFILE"]),
+    (["run", "--rank", *WORDS], 2, "usage", ["--rank is not an option of run; perhaps --ranks is meant"]),
+    (["run", "--ranks", "--ranks", *WORDS], 2, "usage", ["--ranks is given twice"]),
+    (["run", "--engine", "best", *WORDS], 2, "usage", ["--engine takes part or rec"]),
+    (["run", *WORDS, "trains=h.csv", "x"], 2, "usage", ["the table trains is given twice", "x is not of the form TABLE=FILE"]),
+    (["session", *WORDS], 2, "usage", ["--script is missing", "usage: anyk session"]),
+    (["load", "--rows", "3"], 2, "usage", ["--number is missing", "usage: anyk load"]),
+    (["plan", "--rows", *WORDS], 2, "usage", ["--rows is not an option of plan"]),
+    (["run", "wrong.sql", "trains=t.csv"], 3, "syntax error at byte 43", ["line 3 of wrong.sql:", at("WHERE t.price < 200", 14), "there is no inequality"]),
+    (["run", "end.sql", "trains=t.csv"], 3, "syntax error at byte 14", ["(the end of the query)", at("SELECT a FROM", 13)]),
+    (["run", "long.sql", "trains=t.csv"], 3, "syntax error at byte 309", ["    ... aaaa", "? from trains\n"]),
+    (["session", "--script", "s1.txt", *WORDS], 3, "script line 3: bad line", ["line 3 of s1.txt:\n", "    next  a 1\n", "rewind NAME"]),
+    (["session", "--script=s2.txt", *WORDS], 3, "script line 4: unknown cursor", ["next frist 1", "open there: first; perhaps first is meant"]),
+    (["session", *WORDS, "--script", "s3.txt"], 3, "script line 3: cursor exists", ["a was opened in line 2"]),
+    (["run", "table.sql", "trains=t.csv"], 4, "byte 14: unknown table", [at("SELECT * FROM train", 14), "the table trains; perhaps trains is meant"]),
+    (["run", "alias.sql", "trains=t.csv"], 4, "item 2: alias used twice", [at("SELECT * FROM trains t, trains t", 24), "item 1 has the alias t too"]),
+    (["run", "named.sql", "trains=t.csv"], 4, "byte 7: unknown alias", [at("SELECT trains.train FROM trains t", 7), "the items are t; the table trains is called t there"]),
+    (["run", "column.sql", "trains=t.csv"], 4, "byte 9: unknown column", ["line 2 of column.sql", at("  t.prise from trains t", 2), "(t.csv) has the columns train, origin, destination, price", "perhaps price is meant"]),
+    (["run", "bare.sql", "trains=t.csv", "hotels=h.csv"], 4, "byte 7: unknown column", ["trains (t.csv)", "hotels (h.csv)", "perhaps price is meant"]),
+    (["run", "semi.sql", "semi=semi.csv"], 4, "byte 7: unknown column", ["separated by semicolons"]),
+    (["run", "both.sql", "trains=t.csv", "hotels=h.csv"], 4, "byte 7: ambiguous column", ["write trains.price or h.price"]),
+    (["run", "one.sql", "x=none.csv"], 5, "table x: no header", ["the file is none.csv, which is empty"]),
+    (["run", "one.sql", "x=twice.csv"], 5, "table x: column 3: name used twice", ["columns 1 and 3 of twice.csv have the name a"]),
+    (["run", "one.sql", "x=cut.csv"], 5, "table x: row 2: wrong number of fields", ["line 4 of cut.csv, with 1 where the header has 2:\n", "    1\n"]),
+    (["run", "weight.sql", "bad=bad.csv"], 5, "item 1: row 3: column 3: not a weight", ["item 1 is b (table bad), and column 3 is n", "line 6 of bad.csv has '12.5' there: a fraction"]),
+    (["run", "circle.sql", "trains=t.csv"], 6, "cyclic query: items 1 2 3", ["item 1 is a (table trains)", "item 3 is c (table trains)", "docs/USING.md"]),
+    (["run", "range.sql", "big=big.csv"], 7, "order key 2: rank may pass 128 bits", ["order key 2 is n - n desc\n"]),
+    (["run", "many.sql", "t=t.csv"], 8, "more than 16 items", ["there are 17"]),
+    (["run", "limit.sql", "big=big.csv"], 8, "limit at byte 24 out of range", [at("select n from big limit 99999999999999999999", 24)]),
+    (["run", "stay.sql", "trains=tt.csv", "hotels=h.csv"], 9, "file tt.csv: not found", ["perhaps t.csv is meant"]),
+    (["run", "stay.sql", "trains=~/t.csv", "hotels=h.csv"], 9, "file ~/t.csv: not found", ["write $HOME"]),
+    (["run", "none/q.sql", "trains=t.csv"], 9, "file none/q.sql: not found", ["no folder none"]),
+    (["run", "stay.sql", "trains=.", "hotels=h.csv"], 10, "file .: read failed", ["it is a folder"]),
+]
+# Those that the stand-in alone says.
+LARGE = [
+    (["run", *WORDS], 11, "write failed", ["head"]),
+    (["run", *WORDS], 12, "out of memory", []),
+    (["run", "stay.sql"], 8, "query longer than 65536 bytes", ["stay.sql has"]),
+    (["run", "range.sql", "big=big.csv"], 8, "more than 8 order keys", ["there are 2"]),
+    (["run", *WORDS], 8, "file t.csv longer than 67108864 bytes", ["it has"]),
+    (["run", *WORDS], 8, "table trains: more than 64 columns", ["the header of t.csv has 4"]),
+    (["run", *WORDS], 8, "table trains: more than 1048576 rows", []),
+    (["run", *WORDS], 8, "more than 4194304 node rows", []),
+    (["session", "--script", "s1.txt", *WORDS], 8, "script: more than 10000 lines", []),
+    (["session", "--script", "s1.txt", *WORDS], 8, "script line 1: more than 64 cursors", ["open a"]),
+    (["run", "union.sql", "bad=bad.csv"], 4, "byte 46: unknown column", [at(FILES["union.sql"], 46), "(bad.csv) has the columns city, a\\nb, n"]),
+    (["run", "union.sql", "bad=bad.csv"], 5, "item 1: row 3: column 3: not a weight", []),
+]
+
+
+HINTS = module("hints")
+PAGE = HINTS.refusals(read(f"{TOP}/docs/USING.md"))
+# The form of each refusal in the page, and what the page says of it.
+SENTENCES = [(HINTS.pattern_of(form), f"  {HINTS.sentence(meaning)} {HINTS.sentence(remedy)}\n") for form, meaning, remedy in PAGE]
+
+
+def hinted(house, words, status, line, parts):
+    got, output, said = house.on_terminal(*words, cwd=f"{house.room}/files", more={"SAYS": line, "STATUS": str(status)})
+    same((words, got, output, said[: len(line) + 7]), (words, status, "", f"anyk: {line}\n"))
+    hint = said[len(line) + 7 :]
+    has(hint, *parts, *(sentences for form, sentences in SENTENCES if form.fullmatch(line)))
+    check(all(it.isprintable() for it in hint.splitlines()), repr(hint))
+    check(hint.endswith(("\n")) and hint.splitlines()[0].startswith("  "), hint)
+    # Where there is no terminal, nothing is added.
+    same(house.call(*words, cwd=f"{house.room}/files", more={"SAYS": line, "STATUS": str(status)}), (status, "", f"anyk: {line}\n"))
+
+
+def files_in(house):
+    for name, text in FILES.items():
+        write(f"{house.room}/files/{name}", text)
+
+
+def test_hints(house):
+    house.built()
+    files_in(house)
+    for it in REFUSALS + LARGE:
+        hinted(house, *it)
+    # What the files do not hold is left out, and the sentences stay.
+    for line, status in (("byte 99999: unknown column", 4), ("item 9: row 99: column 99: not a weight", 5), ("script line 77: bad line", 3), ("table q: no header", 5)):
+        hinted(house, ["run", *WORDS], status, line, ["."])
+    for line in ("a line that no page has", "byte x: unknown table"):
+        same(house.on_terminal("run", more={"SAYS": line, "STATUS": "4"}), (4, "", f"anyk: {line}\n"))
+    # Names of every kind go through as they are.
+    for name in ("a: no header", "x\ny", "å", "\udcff", "", "%s", "-n"):
+        same(house.on_terminal("run", more={"SAYS": f"file {name}: not found", "STATUS": "9"})[2][: len(name) + 23], f"anyk: file {name}: not found\n")
+    # An interrupt ends the call and the program.
+    for words in (["wait"], ["wait", "more"]):
+        same(house.on_terminal(*words, after=lambda it: (it.stdout.readline(), os.killpg(it.pid, signal.SIGINT))), (-signal.SIGINT, "", ""))
+    # An accepted call is as without a terminal.
+    same(house.on_terminal("x"), (0, ran(1, house.top, ["x"]), ""))
+    same(house.on_terminal("signal")[0], 128 + signal.SIGTERM)
+    closed = house.on_terminal("x", by=["sh", "-c", 'exec "$0" "$@" >&-', f"{house.top}/anyk"])
+    same(closed[:2], (house.call("x", by=["sh", "-c", 'exec "$0" "$@" >&-', f"{house.top}/anyk"])[0], ""))
+
+
+def test_hints_of_the_program(house):
+    if not os.access(REAL, os.X_OK):
+        raise Skipped("the program is not built")
+    house.built()
+    files_in(house)
+    shutil.copy(REAL, f"{house.room}/real")
+    os.chmod(f"{house.room}/real", 0o755)
+    os.replace(f"{house.room}/real", house.program)
+    now = time.time() + 1
+    os.utime(house.program, (now, now))
+    for it in REFUSALS:
+        hinted(house, *it)
+
+
+def test_each_refusal_has_a_sentence(house):
+    same([it for it in HINTS.TELLERS if it not in [form for form, _, _ in PAGE]], [])
+    lines = [line for _, _, line, _ in REFUSALS + LARGE]
+    for form, _ in SENTENCES:
+        check(any(form.fullmatch(it) for it in lines), f"no line is tried of the form {form.pattern}")
+    for line in lines:
+        same((line, sum(bool(form.fullmatch(line)) for form, _ in SENTENCES)), (line, 1))
+
+
+def test_install(house):
+    to = f"{house.room}/an empty folder"
+    house.version(1)
+    same(house.call("install", to, umask=0o077)[0:2], (0, f"anyk: installed as {to}/bin/anyk\n"))
+    same(len(house.calls()), 2)
+    found = sorted(os.path.relpath(f"{at}/{it}", to) for at, _, files in os.walk(to) for it in files)
+    wanted = ["bin/anyk", "libexec/anyk/anyk_cli", "share/anyk/call.sh", "share/anyk/hints.py", "share/bash-completion/completions/anyk",
+              "share/doc/anyk/USING.md", "share/fish/vendor_completions.d/anyk.fish", "share/man/man1/anyk.1", "share/zsh/site-functions/_anyk"]
+    wanted += [f"share/anyk/help/{it}" for it in os.listdir(f"{TOP}/tools/help")]
+    same(found, sorted(wanted))
+    # A second time, over what is there, and by a folder that is named from where the call is.
+    same(house.call("install", "../an empty folder")[0], 0)
+    others = [{}]
+    try:
+        others.append(as_nobody(house))
+    except Skipped:
+        pass
+    os.rename(house.top, f"{house.room}/gone")
+    files_in(house)
+    by, cwd = [f"{to}/bin/anyk"], f"{house.room}/files"
+    for other in others:
+        same(house.call("a b", by=by, cwd=cwd, **other), (0, ran(1, cwd, ["a b"]), ""))
+    same(house.call("x", by=by, cwd=cwd, more={"GLIBC_TUNABLES": ""})[1], ran(1, cwd, ["x"], ""))
+    os.symlink(f"{to}/bin/anyk", f"{house.room}/bin/anyk")
+    for call in (["anyk"], ["sh", f"{to}/bin/anyk"]):
+        same(house.call("x", by=call, cwd=cwd)[1], ran(1, cwd, ["x"]))
+    same(house.call("x", by=["bash", "anyk"], cwd=f"{to}/bin")[1], ran(1, f"{to}/bin", ["x"]))
+    same(house.call("help", "run", by=by, cwd=cwd), (0, read(f"{TOP}/tools/help/run.txt"), ""))
+    said = house.on_terminal("run", "circle.sql", by=by, cwd=cwd, more={"SAYS": "cyclic query: items 1 2 3", "STATUS": "6"})[2]
+    has(said, "item 2 is b (table trains)", f"{to}/share/doc/anyk/USING.md")
+
+
+def test_install_fails(house):
+    house.built()
+    write(f"{house.room}/file", "")
+    status, output, error = house.call("install", f"{house.room}/file")
+    same((status, output), (1, ""))
+    has(error, f"anyk: not all of it could be put under {house.room}/file\n")
+    status, output, error = house.call("install", f"{house.room}/x", more={"ANYK_NO_BUILD": "1"})
+    same(status, 0)
+    house.source("low", "src/lib.rt", "BROKEN\n")
+    status, output, _ = house.call("install", f"{house.room}/y")
+    same((status, output, os.path.exists(f"{house.room}/y")), (1, "", False))
+
+
+def test_manual(house):
+    house.built()
+    same(house.call("install", f"{house.room}/to")[0], 0)
+    if not shutil.which("man"):
+        raise Skipped("there is no man here")
+    how = house.how({"MANPATH": f"{house.room}/to/share/man", "PATH": os.environ["PATH"], "MANPAGER": "cat"}, capture_output=True, text=True)
+    shown = subprocess.run(["man", "anyk"], **how)
+    if shown.returncode and "minimized" in shown.stdout + shown.stderr:
+        raise Skipped("man shows nothing here")
+    same(shown.returncode, 0)
+    has(re.sub(r".\x08", "", shown.stdout), "give the answers of a join of csv tables", "EXIT STATUS", "--script FILE")
+    warned = subprocess.run(["man", "--warnings", "-l", f"{house.room}/to/share/man/man1/anyk.1"], **how)
+    same(warned.stderr, "")
+
+
+def test_completion(house):
+    script = f"""
+        . '{TOP}/tools/completions/anyk.bash'
+        complete_at() {{ COMP_WORDS=("$@"); COMP_CWORD=$(($# - 1)); _anyk; printf '%s\\n' "${{COMPREPLY[*]}}"; }}
+        cd '{TOP}/docs/using'
+        complete_at anyk r
+        complete_at anyk run --
+        complete_at anyk session --s
+        complete_at anyk run --engine ''
+        complete_at anyk run --engine = r
+        complete_at anyk run stay
+        complete_at anyk run stay.sql trains = tra
+        complete_at anyk run stay.sql trains =
+        complete_at anyk load ''
+        complete_at anyk help p
+        complete_at anyk plan --
+    """
+    ran_by = subprocess.run(["bash", "-c", script], capture_output=True, text=True)
+    lines = ran_by.stdout.splitlines()
+    same((ran_by.returncode, ran_by.stderr), (0, ""))
+    check("stay.sql" in lines[7] and "trains.csv" in lines[7], lines[7])
+    same(lines[:7] + lines[8:], ["run", "--engine --ranks --rows", "--script", "part rec", "rec", "stay.sql", "trains.csv",
+                                 "--engine --number --rows", "plan", ""])
+    for shell, file in (("zsh", "_anyk"), ("fish", "anyk.fish"), ("bash", "anyk.bash")):
+        if shutil.which(shell):
+            tried_by = subprocess.run([shell, "-n", f"{TOP}/tools/completions/{file}"], **house.how(capture_output=True))
+            same((shell, tried_by.stderr), (shell, b""))
+
+
+def test_scripts_are_clean(house):
+    if not shutil.which("shellcheck"):
+        raise Skipped("there is no shellcheck here")
+    scripts = ["anyk", "tools/call.sh", "tools/install.sh", "tools/installed.sh", "tools/completions/anyk.bash"]
+    same(subprocess.run(["shellcheck", *scripts], cwd=TOP, capture_output=True, text=True).stdout, "")
+
+
+def tried(name):
+    """How a test ends, in a checkout of its own: what is to be said of it, and whether it failed."""
+    house = House()
+    try:
+        globals()[name](house)
+        return "", False
+    except Skipped as why:
+        return f"launcher: {name}: SKIPPED, {why}\n", False
+    except Exception as why:
+        return f"launcher: {name}: FAILED, {type(why).__name__}: {why}\n", True
+    finally:
+        house.end()
+
+
+def main():
+    tests = [it for it in globals() if it.startswith("test_")]
+    tests = [it for it in sys.argv[1:] if it in tests] or tests
+    # Most of them wait for others.
+    with ThreadPoolExecutor(8) as pool:
+        results = list(pool.map(tried, tests))
+    print(*(said for said, _ in results), sep="", end="")
+    failed = sum(is_failed for _, is_failed in results)
+    print(f"launcher: {len(tests)} tests: " + (f"FAILED: {failed}" if failed else "passed"))
+    return 1 if failed else 0
+
+
+if __name__ == "__main__":
+    sys.exit(main())

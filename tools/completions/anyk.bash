@@ -1,0 +1,49 @@
+# shellcheck shell=bash
+# Completion of anyk for bash.
+_anyk() {
+    local word=${COMP_WORDS[COMP_CWORD]} before=${COMP_WORDS[COMP_CWORD - 1]} command=${COMP_WORDS[1]-} options=
+    COMPREPLY=()
+    compopt -o filenames 2> /dev/null
+    if [ "$COMP_CWORD" -eq 1 ]; then
+        mapfile -t COMPREPLY < <(compgen -W 'run session plan load help install' -- "$word")
+        return
+    fi
+    # A word with = in it comes in up to three parts.
+    if [ "$word" = '=' ]; then
+        before='=' word=
+    fi
+    case $before in
+        --engine)
+            mapfile -t COMPREPLY < <(compgen -W 'part rec' -- "$word")
+            return
+            ;;
+        --script | '=')
+            if [ "${COMP_WORDS[COMP_CWORD - 2]-}" = --engine ]; then
+                mapfile -t COMPREPLY < <(compgen -W 'part rec' -- "$word")
+            else
+                mapfile -t COMPREPLY < <(compgen -f -- "$word")
+            fi
+            return
+            ;;
+        --number) return ;;
+    esac
+    case $command in
+        run) options='--engine --ranks --rows' ;;
+        session) options='--engine --ranks --rows --script' ;;
+        load) options='--engine --number --rows' ;;
+        help)
+            mapfile -t COMPREPLY < <(compgen -W 'run session plan load install' -- "$word")
+            return
+            ;;
+        install)
+            mapfile -t COMPREPLY < <(compgen -d -- "$word")
+            return
+            ;;
+    esac
+    case $command:$word in
+        *:-*) mapfile -t COMPREPLY < <(compgen -W "$options" -- "$word") ;;
+        run:* | session:* | plan:*) mapfile -t COMPREPLY < <(compgen -f -- "$word") ;;
+        load:*) mapfile -t COMPREPLY < <(compgen -W "$options" -- "$word") ;;
+    esac
+}
+complete -F _anyk anyk ./anyk

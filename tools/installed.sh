@@ -1,0 +1,19 @@
+#!/usr/bin/env bash
+# The installed command: runs the installed program with the arguments of the call, and ends with its status.
+if [ -z "${BASH_VERSION:-}" ]; then
+    exec bash "$0" "$@"
+fi
+set +o posix -u
+
+self=${BASH_SOURCE[0]}
+[ ! -L "$self" ] || self=$(readlink -f -- "$self") || exit 1
+case $self in
+    */*) bin=${self%/*} ;;
+    *) bin=. ;;
+esac
+top=${bin:-}/..
+
+# shellcheck source=/dev/null
+. "$top/share/anyk/call.sh" || exit 1
+answer_help "$top/share/anyk/help" "$@"
+call "$top/libexec/anyk/anyk_cli" "$top/share/anyk" "$@"
