@@ -29,7 +29,8 @@ FIELDS = [
     ("NA", 1, None), ("-", 1, None), (" ", 1, None), ("$", 1, None), (".", 1, None), ("n/a", 1, None), ("nan", 1, None), ("inf", 1, None),
     ("1_000", 1, None), ("0x10", 1, None), ("1/2", 2, None), ("1e", 1, None), ("1e5.5", 1, None), ("2026-03-14", 1, None),
     ("12:30", 1, None), ("\u0661", 1, None), ("1e99999", 1, None), ("9" * 2000, 1, None),
-    (str(GREATEST), 1, str(GREATEST)), (str(-GREATEST - 1), 1, str(-GREATEST - 1)), ("0" * 38 + "7", 1, "0" * 38 + "7"), ("0" * 39 + "7", 1, "7"),
+    (str(GREATEST), 1, str(GREATEST)), (f" {-GREATEST - 1}", 1, str(-GREATEST - 1)), (f"{GREATEST}.0", 1, str(GREATEST)),
+    (str(-GREATEST - 1), 1, str(-GREATEST - 1)), ("0" * 38 + "7", 1, "0" * 38 + "7"), ("0" * 39 + "7", 1, "7"),
 ]
 
 # a field, the scale, and what the fault says
