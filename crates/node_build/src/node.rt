@@ -95,7 +95,7 @@ fn add_row<R: Rank, L: Ledger>(
     let own = columns.own[node as usize].as_slice();
     let own_link = link(alloc, tables, table, row, own, links, node as usize, steps)?;
     let children = child_links(alloc, query, tables, join, columns, node, row, links, steps)?;
-    let rank = rank_of(query, tables, item, row);
+    let rank = rank_of(query, tables, join, node, row);
     tree.add_row(node, NodeRow { rank, row }, own_link, children.as_slice())
 }
 

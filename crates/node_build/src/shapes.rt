@@ -4,7 +4,7 @@ ghost use Rattle.anyk_model.specs.Table.{Table};
 ghost use Rattle.rank_key.specs.Keys.{row_key};
 ghost use Rattle.query_bind.specs.Weighed.{Fits};
 ghost use Rattle.query_bind.specs.Weights.{table_in};
-ghost use Rattle.node_build.specs.Nodes.{IsJoinTreeOf, cap_at, row_parts};
+ghost use Rattle.node_build.specs.Nodes.{IsJoinTreeOf, item_of, cap_at, row_parts};
 ghost use Rattle.node_build.specs.Shapes.{AreShapesOf};
 
 use csv_tables::Tables;
@@ -68,16 +68,25 @@ fn parts_of(query: &Query, tables: &Tables, item: u32, row: u32) -> [i128; MOST_
     parts
 }
 
-/// The rank of a row: its parts, and its number in the slot of its item.
-pub(crate) fn rank_of<R: Rank>(query: &Query, tables: &Tables, item: u32, row: u32) -> R
+/// The rank of a row of a node: its parts, and its number in the slot of the node's item.
+pub(crate) fn rank_of<R: Rank>(
+    query: &Query,
+    tables: &Tables,
+    join: &JoinTree,
+    node: u32,
+    row: u32,
+) -> R
     requires fits { Fits query.now tables.now }
     requires keys { length query.now.query.order ≤ R.KEYS }
-    requires item { item < length query.now.query.items }
+    requires tree { IsJoinTreeOf query.now.query join.now }
+    requires node { node < join.now.count }
     requires first { 1 ≤ row }
-    requires row { row ≤ length (table_in tables.now query.now.query.items item).rows }
-    ensures { R.key result ≡ row_key R.KEYS (row_parts query.now tables.now item row) item row }
+    requires row { row ≤ length (table_in tables.now query.now.query.items (item_of join.now node)).rows }
+    ensures { R.key result ≡ row_key R.KEYS (row_parts query.now tables.now (item_of join.now node) row) (item_of join.now node) row }
 {
+    // there are at most 16 items
     let _items = query.items();
+    let item = join.atom[node as usize];
     let parts = parts_of(query, tables, item, row);
     R::of_row(&parts[..query.keys() as usize], item, row)
 }
