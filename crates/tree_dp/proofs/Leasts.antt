@@ -21,6 +21,14 @@ module _ {R : Type 0} (d : ℕ) (key : R → KeyOf d 16) where
       ∙ ap (λ k. get_or (map key xs ++ key x ∷ []) k (key_none d 16)) (sym long ∙ sym (length-map xs key))
       ∙ get_or-append_seam (map key xs) (key x) [] (key_none d 16)
 
+  -- one more rank is put last
+  pub keys-pushed : (f : ℕ → KeyOf d 16) (ranks : List R) (rank : R) (n : ℕ) → length ranks ≡ n → ((m : ℕ) → m < n → key_at d key ranks m ≡ f m) → key rank ≡ f n
+      → (m : ℕ) → m < n + 1 → key_at d key (ranks ++ rank ∷ []) m ≡ f m
+  keys-pushed f ranks rank n long earlier here m h = elim (cases_eq m n) [
+    | inl e ↦ subst (λ k. key_at d key (ranks ++ rank ∷ []) k ≡ f k) (sym e) (key_at-last ranks rank n long ∙ here)
+    | inr ne ↦ key_at-front ranks rank m (omega arith) ∙ earlier m (omega arith)
+  ]
+
   -- one more group gets its order, and its least rank is put last
   pub leasts-pushed : (best leasts : List R) (least : R) (gs : List (List ℕ)) (n : ℕ) (new : List ℕ) → n < length gs → length leasts ≡ n
       → ((m : ℕ) → m < n → key_at d key leasts m ≡ key_at d key best (get_or (get_or gs m []) 0 0)) → key least ≡ key_at d key best (get_or new 0 0)
