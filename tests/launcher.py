@@ -649,6 +649,7 @@ FILES = {
     "weight.sql": 'select n from "bad" b order by n', "circle.sql": read(f"{TOP}/docs/using/circle.sql"),
     "range.sql": "select n from big order by n ,\n n - n desc limit 3;", "limit.sql": "select n from big limit 99999999999999999999",
     "semi.sql": "select price from semi", "one.sql": "select * from x", "many.sql": "select * from " + ", ".join(f"t a{it}" for it in range(17)),
+    "beside.sql": 'SELECT trains.train FROM "trains""t"',
     "long.sql": "select " + "a" * 300 + ", ? from trains", "union.sql": "select n from bad order by n union all select n from bad",
     "s1.txt": "open a\nnext a 1\nnext  a 1\n", "s2.txt": "open first\nopen second\nclose second\nnext frist 1\n", "s3.txt": "# one\nopen a\nopen a\n",
 }
@@ -672,6 +673,7 @@ REFUSALS = [
     (["session", *WORDS], 2, "usage", ["--script is missing", "usage: anyk session"]),
     (["load", "--rows", "3"], 2, "usage", ["--number is missing", "usage: anyk load"]),
     (["plan", "--rows", *WORDS], 2, "usage", ["--rows is not an option of plan"]),
+    (["run", "beside.sql", "trains=t.csv"], 4, "byte 7: unknown alias", ["the items are t; the table trains is called t there"]),
     (["run", "wrong.sql", "trains=t.csv"], 3, "syntax error at byte 43", ["line 3 of wrong.sql:", at("WHERE t.price < 200", 14), "there is no inequality"]),
     (["run", "end.sql", "trains=t.csv"], 3, "syntax error at byte 14", ["(the end of the query)", at("SELECT a FROM", 13)]),
     (["run", "long.sql", "trains=t.csv"], 3, "syntax error at byte 309", ["    ... aaaa", "? from trains\n"]),

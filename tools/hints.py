@@ -34,7 +34,7 @@ MISSING = {
     "#": "no comment",
 }
 # The parts of a query: names, strings, numbers, signs.
-TOKEN = re.compile(rb"""\s+|[A-Za-z_][A-Za-z0-9_]*|"(?:[^"]|"")*"|'(?:[^']|'')*'|[0-9]+|.""", re.S)
+TOKEN = re.compile(rb"""\s+|[A-Za-z_][A-Za-z0-9_]*|"[^"]*"|'(?:[^']|'')*'|[0-9]+|.""", re.S)
 WIDTH = 72
 # The most bytes that are read of a file, and of a query.
 LARGEST = 67_108_864
@@ -157,7 +157,7 @@ class Query:
             return None
         token = self.words[place]
         if token[:1] == b'"':
-            token = token[1:-1].replace(b'""', b'"')
+            token = token[1:-1]
         elif not re.fullmatch(rb"[A-Za-z_][A-Za-z0-9_]*", token):
             return None
         return token.decode(errors="surrogateescape")
