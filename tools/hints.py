@@ -17,9 +17,9 @@ import sys
 HERE = os.path.dirname(os.path.realpath(__file__))
 # Beside the sources, and where the program is installed.
 PAGES = (f"{HERE}/../docs/USING.md", f"{HERE}/../doc/anyk/USING.md")
-COMMANDS = ("run", "session", "plan", "load")
+COMMANDS = ("run", "session", "plan", "picture", "load")
 OPTIONS = {"run": ("--engine", "--ranks", "--rows"), "session": ("--engine", "--ranks", "--rows", "--script"), "plan": (),
-           "load": ("--engine", "--number", "--rows")}
+           "picture": ("--dot",), "load": ("--engine", "--number", "--rows")}
 KEYWORDS = {b"select", b"from", b"where", b"and", b"order", b"by", b"limit", b"asc", b"desc", b"as", b"join", b"inner", b"on",
             b"union", b"all"}
 # What other dialects have and this one has not, by the token where it shows.
