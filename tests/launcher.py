@@ -997,7 +997,8 @@ def test_completion(house):
 def test_scripts_are_clean(house):
     if not shutil.which("shellcheck"):
         raise Skipped("there is no shellcheck here")
-    scripts = ["anyk", "tools/call.sh", "tools/install.sh", "tools/installed.sh", "tools/completions/anyk.bash"]
+    scripts = [f"{folder}/{it}" for folder in ("tools", "bench") for it in sorted(os.listdir(f"{TOP}/{folder}")) if it.endswith(".sh")]
+    scripts += ["anyk", ".ci/run", "tools/completions/anyk.bash"]
     same(subprocess.run(["shellcheck", *scripts], cwd=TOP, capture_output=True, text=True).stdout, "")
 
 
