@@ -1,5 +1,5 @@
 #!/usr/bin/env python3
-"""Tries the launcher ./anyk, its hints and what it installs, over stand-ins for `rt` and for the program.
+"""Tries the launcher ./anyk, its hints, its pictures and what it installs, over stand-ins for `rt` and for the program.
 
 usage: tests/launcher.py [TEST ..]
 
@@ -894,9 +894,14 @@ def test_picture_refused(house):
     same(house.call("x")[0], 0)
     same(house.call("picture", "q.sql", more=few), (1, "", "anyk: python3, which picture needs, is not found\n"))
     # An interrupt ends the call and the program.
-    write(f"{house.room}/program", PROGRAM.replace("[ $# -gt 0 ]", '[ "$1" != plan ] || { echo begun >&2; sleep 30; }\n[ $# -gt 0 ]'))
+    write(f"{house.room}/program", PROGRAM.replace("[ $# -gt 0 ]", '[ "$1" != plan ] || { touch "$RT_ROOM/begun"; sleep 30; }\n[ $# -gt 0 ]'))
     house.built(2)
-    same(house.on_terminal("picture", "q.sql", "a=b", after=lambda it: (time.sleep(1), os.killpg(it.pid, signal.SIGINT)))[:2], (-signal.SIGINT, ""))
+
+    def interrupt(begun):
+        until(lambda: os.path.exists(f"{house.room}/begun"))
+        os.killpg(begun.pid, signal.SIGINT)
+
+    same(house.on_terminal("picture", "q.sql", "a=b", after=interrupt)[:2], (-signal.SIGINT, ""))
 
 
 def test_install(house):
