@@ -32,7 +32,7 @@ rustc -O -o split "$here/split.rs"
 measure() {
     name=$1
     shift
-    for run in 1 2 3; do
+    for _ in 1 2 3; do
         /usr/bin/time -a -o "$name" -f '%e %M' "$@" > /dev/null 2> errors || { cat errors >&2; exit 1; }
     done
     sort -n "$name" | head -n 1

@@ -1,5 +1,5 @@
 #!/usr/bin/env python3
-"""Tries the launcher ./anyk, its hints and what it installs, over stand-ins for `rt` and for the program.
+"""Tries the launcher ./anyk, its hints, its pictures and what it installs, over stand-ins for `rt` and for the program.
 
 usage: tests/launcher.py [TEST ..]
 
@@ -80,6 +80,11 @@ if [ -n "${SAYS-}" ]; then
     exit "$STATUS"
 fi
 [ $# -gt 0 ] || { echo 'anyk: usage' >&2; exit 2; }
+if [ -n "${REPORT-}" ]; then
+    printf '<%s>' "$@" > "$RT_ROOM/words"
+    cat "$REPORT"
+    exit
+fi
 [ "$1" != input ] || cat
 [ "$1" != signal ] || kill -TERM $$
 [ "$1" != wait ] || { echo waiting; sleep 30; }
@@ -618,7 +623,7 @@ def test_estimate(house):
 
 
 def test_help(house):
-    for words in (["help"], ["--help"], ["-h"], ["help", "run"], ["help", "plan"], ["help", "session"], ["help", "load"], ["help", "install"]):
+    for words in (["help"], ["--help"], ["-h"], ["help", "run"], ["help", "plan"], ["help", "picture"], ["help", "session"], ["help", "load"], ["help", "install"]):
         status, output, error = house.call(*words)
         same((words, status, error), (words, 0, ""))
         page = words[1] if len(words) > 1 else "anyk"
@@ -649,6 +654,7 @@ FILES = {
     "weight.sql": 'select n from "bad" b order by n', "circle.sql": read(f"{TOP}/docs/using/circle.sql"),
     "range.sql": "select n from big order by n ,\n n - n desc limit 3;", "limit.sql": "select n from big limit 99999999999999999999",
     "semi.sql": "select price from semi", "one.sql": "select * from x", "many.sql": "select * from " + ", ".join(f"t a{it}" for it in range(17)),
+    "beside.sql": 'SELECT trains.train FROM "trains""t"',
     "long.sql": "select " + "a" * 300 + ", ? from trains", "union.sql": "select n from bad order by n union all select n from bad",
     "s1.txt": "open a\nnext a 1\nnext  a 1\n", "s2.txt": "open first\nopen second\nclose second\nnext frist 1\n", "s3.txt": "# one\nopen a\nopen a\n",
 }
@@ -672,6 +678,11 @@ REFUSALS = [
     (["session", *WORDS], 2, "usage", ["--script is missing", "usage: anyk session"]),
     (["load", "--rows", "3"], 2, "usage", ["--number is missing", "usage: anyk load"]),
     (["plan", "--rows", *WORDS], 2, "usage", ["--rows is not an option of plan"]),
+    (["picture", "--dots", *WORDS], 2, "usage", ["--dots is not an option of picture; perhaps --dot is meant", "usage: anyk picture"]),
+    (["picture", "--dot", *WORDS, "--dot"], 2, "usage", ["--dot is given twice"]),
+    (["picture", "circle.sql", "trains=t.csv"], 6, "cyclic query: items 1 2 3", ["item 1 is a (table trains)", "docs/USING.md"]),
+    (["picture", "--dot", *WORDS[:2]], 4, "byte 42: unknown table", ["the arguments name the table trains"]),
+    (["run", "beside.sql", "trains=t.csv"], 4, "byte 7: unknown alias", ["the items are t; the table trains is called t there"]),
     (["run", "wrong.sql", "trains=t.csv"], 3, "syntax error at byte 43", ["line 3 of wrong.sql:", at("WHERE t.price < 200", 14), "there is no inequality"]),
     (["run", "end.sql", "trains=t.csv"], 3, "syntax error at byte 14", ["(the end of the query)", at("SELECT a FROM", 13)]),
     (["run", "long.sql", "trains=t.csv"], 3, "syntax error at byte 309", ["    ... aaaa", "? from trains\n"]),
@@ -783,13 +794,123 @@ def test_each_refusal_has_a_sentence(house):
         same((line, sum(bool(form.fullmatch(line)) for form, _ in SENTENCES)), (line, 1))
 
 
+# A report of `plan`, with the query that it is of.
+QUERY = """select "two words".name, a.n, x.name from airports as a, legs l, legs "two words",
+  "left
+side" inner join y x on x.n = a.n, "order"
+where a.n = l.n and "two words".n = l.n order by a.n"""
+REPORT = """node 1 parent 0 rows 263 item a
+node 2 parent 1 rows 9730 item l
+node 3 parent 1 rows 1 item x
+node 4 parent 2 rows 0 item "two words"
+node 5 parent 1 rows 12 item "order"
+node 6 parent 2 rows 3 item "left
+side"
+total 21234
+"""
+TREE = """a (airports): 263 rows
+├── l (legs): 9730 rows
+│   ├── "two words" (legs): 0 rows
+│   └── "left\\nside" ("left\\nside"): 3 rows
+├── x (y): 1 row
+└── "order" ("order"): 12 rows
+"""
+DOT = """graph plan {
+    node [shape=box];
+    1 [label="a (airports)\\n263 rows"];
+    2 [label="l (legs)\\n9730 rows"];
+    3 [label="x (y)\\n1 row"];
+    4 [label="\\"two words\\" (legs)\\n0 rows"];
+    5 [label="\\"order\\" (\\"order\\")\\n12 rows"];
+    6 [label="\\"left\\\\nside\\" (\\"left\\\\nside\\")\\n3 rows"];
+    1 -- 2;
+    1 -- 3;
+    1 -- 5;
+    2 -- 4;
+    2 -- 6;
+}
+"""
+
+
+def pictured(house, report, *words, query=QUERY, **how):
+    """A call of picture where `plan` reports this."""
+    write(f"{house.room}/report", report)
+    write(f"{house.room}/files/airports.sql", query)
+    return house.call("picture", *words, **{"cwd": f"{house.room}/files", "more": {"REPORT": f"{house.room}/report"}, **how})
+
+
+def test_picture(house):
+    house.built()
+    for words in (["airports.sql", "a=b"], ["airports.sql", "a=b", "c d=e"]):
+        same(pictured(house, REPORT, *words), (0, TREE, ""))
+        same(read(f"{house.room}/words"), "".join(f"<{it}>" for it in ["plan", *words]))
+    # --dot is left out once, and not where it is no option.
+    for words, rest in ((["--dot", "airports.sql", "a=b"], ["airports.sql", "a=b"]), (["airports.sql", "--dot"], ["airports.sql"]),
+                        (["--dot", "airports.sql", "--dot"], ["airports.sql", "--dot"])):
+        same(pictured(house, REPORT, *words), (0, DOT, ""))
+        same(read(f"{house.room}/words"), "".join(f"<{it}>" for it in ["plan", *rest]))
+    same(pictured(house, REPORT, "--", "airports.sql", "--dot"), (0, TREE, ""))
+    same(read(f"{house.room}/words"), "<plan><--><airports.sql><--dot>")
+    # One item, and names that a picture has to change. The query has bytes that are not text.
+    one = 'node 1 parent 0 rows 1 item {}\ntotal 2\n'
+    for name, text, dot in (("from", '"from"', '\\"from\\"'), ("", '""', '\\"\\"'), ("a b", '"a b"', '\\"a b\\"'), ("\udcff&\\", '"\\xff&\\"', '\\"\\\\xff&amp;\\\\\\"'),
+                            ("\x1b[31m", '"\\x1b[31m"', '\\"\\\\x1b[31m\\"'), ("søk", '"søk"', '\\"søk\\"'), ("node 2 parent 1 rows 3 item x\n", '"node 2 parent 1 rows 3 item x\\n"', None)):
+        quoted = f'"{name}"'
+        report, query = one.format(quoted), f"select * from {quoted} limit 3"
+        same(pictured(house, report, "airports.sql", query=query), (0, f"{text} ({text}): 1 row\n", ""))
+        if dot is not None:
+            has(pictured(house, report, "airports.sql", "--dot", query=query)[1], f'    1 [label="{dot} ({dot})\\n1 row"];\n}}\n')
+    for query in ("select * from t_2, other", "SELECT*FROM\tother o JOIN t_2 ON a=b", "select a from t_2 as t_2;", 'select * from "t_2""t_2"'):
+        same(pictured(house, one.format("t_2"), "airports.sql", query=query), (0, "t_2 (t_2): 1 row\n", ""))
+    # A query that cannot be read again.
+    for words in (["/dev/stdin", "a=b"], ["gone.sql"], ["."], []):
+        same(pictured(house, one.format("t_2"), *words), (0, "t_2: 1 row\n", ""))
+    # On a terminal too.
+    same(house.on_terminal("picture", "airports.sql", "a=b", cwd=f"{house.room}/files", more={"REPORT": f"{house.room}/report"}), (0, "t_2: 1 row\n", ""))
+    if shutil.which("dot"):
+        drawn = subprocess.run(["dot", "-Tplain"], input=DOT, capture_output=True, text=True)
+        same((drawn.returncode, drawn.stderr, drawn.stdout.count("\nnode "), drawn.stdout.count("\nedge ")), (0, "", 6, 5))
+
+
+def test_picture_refused(house):
+    house.built()
+    for line, status in (("usage", 2), ("cyclic query: items 1 2 3", 6), ("file q.sql: not found", 9), ("out of memory", 12)):
+        same(house.call("picture", "q.sql", "a=b", more={"SAYS": line, "STATUS": str(status)}), (status, "", f"anyk: {line}\n"))
+    same(house.call("picture", "x", more={"SAYS": "", "REPORT": "/dev/null"}), (0, "", ""))
+    # The hint is that of plan.
+    files_in(house)
+    said = [house.on_terminal(it, "circle.sql", "trains=t.csv", cwd=f"{house.room}/files", more={"SAYS": "cyclic query: items 1 2 3", "STATUS": "6"})
+            for it in ("plan", "picture")]
+    same(said[0], said[1])
+    # A report of another form, and one that was cut off.
+    for report in (ran(1, house.top, ["plan"]), REPORT[:-1], REPORT + "x", "total 3\n", REPORT.replace("node 3", "node 4"), REPORT.replace("parent 2", "parent 7")):
+        same(pictured(house, report, "airports.sql"), (1, "", "anyk: the report of plan has another form than picture can read\n"))
+    # An output that cannot be written.
+    for to in (">&-", "> /dev/full"):
+        by = ["sh", "-c", f'exec "$0" "$@" {to}', f"{house.top}/anyk"]
+        same(pictured(house, REPORT, "airports.sql", by=by), (11, "", "anyk: write failed\n"))
+    few = few_commands(house, *NEEDED)
+    time.sleep(1.1)
+    same(house.call("x")[0], 0)
+    same(house.call("picture", "q.sql", more=few), (1, "", "anyk: python3, which picture needs, is not found\n"))
+    # An interrupt ends the call and the program.
+    write(f"{house.room}/program", PROGRAM.replace("[ $# -gt 0 ]", '[ "$1" != plan ] || { touch "$RT_ROOM/begun"; sleep 30; }\n[ $# -gt 0 ]'))
+    house.built(2)
+
+    def interrupt(begun):
+        until(lambda: os.path.exists(f"{house.room}/begun"))
+        os.killpg(begun.pid, signal.SIGINT)
+
+    same(house.on_terminal("picture", "q.sql", "a=b", after=interrupt)[:2], (-signal.SIGINT, ""))
+
+
 def test_install(house):
     to = f"{house.room}/an empty folder"
     house.version(1)
     same(house.call("install", to, umask=0o077)[0:2], (0, f"anyk: installed as {to}/bin/anyk\n"))
     same(len(house.calls()), 2)
     found = sorted(os.path.relpath(f"{at}/{it}", to) for at, _, files in os.walk(to) for it in files)
-    wanted = ["bin/anyk", "libexec/anyk/anyk_cli", "share/anyk/call.sh", "share/anyk/hints.py", "share/bash-completion/completions/anyk",
+    wanted = ["bin/anyk", "libexec/anyk/anyk_cli", "share/anyk/call.sh", "share/anyk/hints.py", "share/anyk/picture.py", "share/bash-completion/completions/anyk",
               "share/doc/anyk/USING.md", "share/fish/vendor_completions.d/anyk.fish", "share/man/man1/anyk.1", "share/zsh/site-functions/_anyk"]
     wanted += [f"share/anyk/help/{it}" for it in os.listdir(f"{TOP}/tools/help")]
     same(found, sorted(wanted))
@@ -813,6 +934,7 @@ def test_install(house):
     same(house.call("help", "run", by=by, cwd=cwd), (0, read(f"{TOP}/tools/help/run.txt"), ""))
     said = house.on_terminal("run", "circle.sql", by=by, cwd=cwd, more={"SAYS": "cyclic query: items 1 2 3", "STATUS": "6"})[2]
     has(said, "item 2 is b (table trains)", f"{to}/share/doc/anyk/USING.md")
+    same(pictured(house, REPORT, "airports.sql", by=by, cwd=cwd), (0, TREE, ""))
 
 
 def test_install_fails(house):
@@ -859,13 +981,18 @@ def test_completion(house):
         complete_at anyk load ''
         complete_at anyk help p
         complete_at anyk plan --
+        complete_at anyk picture -
+        complete_at anyk picture stay
+        complete_at anyk picture stay.sql trains = tra
+        complete_at anyk pic
     """
     ran_by = subprocess.run(["bash", "-c", script], capture_output=True, text=True)
     lines = ran_by.stdout.splitlines()
     same((ran_by.returncode, ran_by.stderr), (0, ""))
     check("stay.sql" in lines[7] and "trains.csv" in lines[7], lines[7])
     same(lines[:7] + lines[8:], ["run", "--engine --ranks --rows", "--script", "part rec", "rec", "stay.sql", "trains.csv",
-                                 "--engine --number --rows", "plan", ""])
+                                 "--engine --number --rows", "plan picture", "", "--dot", "stay.sql", "trains.csv",
+                                 "picture"])
     for shell, file in (("zsh", "_anyk"), ("fish", "anyk.fish"), ("bash", "anyk.bash")):
         if shutil.which(shell):
             tried_by = subprocess.run([shell, "-n", f"{TOP}/tools/completions/{file}"], **house.how(capture_output=True))
@@ -875,7 +1002,8 @@ def test_completion(house):
 def test_scripts_are_clean(house):
     if not shutil.which("shellcheck"):
         raise Skipped("there is no shellcheck here")
-    scripts = ["anyk", "tools/call.sh", "tools/install.sh", "tools/installed.sh", "tools/completions/anyk.bash"]
+    scripts = [f"{folder}/{it}" for folder in ("tools", "bench") for it in sorted(os.listdir(f"{TOP}/{folder}")) if it.endswith(".sh")]
+    scripts += ["anyk", ".ci/run", "tools/completions/anyk.bash"]
     same(subprocess.run(["shellcheck", *scripts], cwd=TOP, capture_output=True, text=True).stdout, "")
 
 

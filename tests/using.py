@@ -1,18 +1,21 @@
 #!/usr/bin/env python3
-"""Runs every command that the user's page docs/USING.md shows, and compares what it prints with what the page shows.
+"""Runs every command that a page shows together with what it prints, and compares what it prints with what the page shows.
 
-usage: tests/using.py [PROGRAM]
+usage: tests/using.py [PROGRAM [PAGE ..]]
 
-PROGRAM is ./anyk where it is not given. Commands stand in blocks that begin with a line ```console, each behind `$ `, with what
-they print below them. A line that begins with `> ` goes on with the command above it.
+PROGRAM is ./anyk if it is not given. It has to be built, and to be a launcher, since it is also called as `picture`. The pages are
+those of PAGES if none is given: the user's page docs/USING.md above all, README.md, and those of the examples. Commands stand in
+blocks that begin with a line ```console, each after `$ `, with what they print below them. A line that begins with `> ` goes on with
+the command above it. Commands that a page names elsewhere are those of tests/documents.py.
 
 - A command is run by bash, and what it prints is its output and then its error output.
-- `echo $?` behind it shows its status. Where that is left out, the status has to be 0.
+- `echo $?` after it shows its status. If that is left out, the status has to be 0.
 
-The commands run in a folder of their own, which has all that the top folder has and takes the files that they write; `./anyk` is
-PROGRAM there. A block that names a tool of OPTIONAL which is not installed is skipped with a line that says so, and so is a block
-that reads a file which a skipped block would have written.
+The commands of a page run in a folder of their own, which has all that the top folder has and takes the files that they write;
+`./anyk` is PROGRAM there. A block that names a tool of OPTIONAL which is not installed is skipped with a line that says so, and so is a
+block that reads a file which a skipped block would have written.
 """
+import glob
 import os
 import re
 import shlex
@@ -22,14 +25,24 @@ import sys
 import tempfile
 
 TOP = os.path.dirname(os.path.dirname(os.path.abspath(__file__)))
-PAGE = "docs/USING.md"
+PAGES = ("README.md", "CONTRIBUTING.md", "docs/*.md", "bench/*.md", "examples/*.md", "examples/*/*.md")
 OPTIONAL = ("awk", "gzip", "iconv", "mlr")
 
 
-def commands(lines):
+def pages():
+    """All pages, by their names from the top folder."""
+    return [os.path.relpath(it, TOP) for pattern in PAGES for it in sorted(glob.glob(f"{TOP}/{pattern}"))]
+
+
+def lines_of(page):
+    with open(f"{TOP}/{page}", encoding="utf-8") as file:
+        return file.read().split("\n")
+
+
+def commands(page):
     """The commands of each block of the page: the number of the line, the command, and the lines below it."""
     block = None
-    for number, line in enumerate(lines, 1):
+    for number, line in enumerate(lines_of(page), 1):
         if block is None:
             block = [] if line == "```console" else None
         elif line == "```":
@@ -42,9 +55,9 @@ def commands(lines):
         elif block:
             block[-1][2].append(line)
         else:
-            sys.exit(f"using: {PAGE}:{number}: a block begins with no command")
+            sys.exit(f"using: {page}:{number}: a block begins with no command")
     if block is not None:
-        sys.exit(f"using: {PAGE}: a block has no end")
+        sys.exit(f"using: {page}: a block has no end")
 
 
 def folder_of_calls(room, program):
@@ -53,7 +66,7 @@ def folder_of_calls(room, program):
         if name != "anyk" and not name.startswith("."):
             os.symlink(f"{TOP}/{name}", f"{room}/{name}")
     with open(f"{room}/anyk", "w", encoding="utf-8") as file:
-        file.write(f'#!/bin/sh\nexec {shlex.quote(program)} "$@"\n')
+        file.write(f'#!/bin/sh\nANYK_NO_BUILD=1 exec {shlex.quote(program)} "$@"\n')
     os.chmod(f"{room}/anyk", 0o755)
 
 
@@ -77,7 +90,7 @@ def printed(command, room, status):
     return (ran.stdout + ran.stderr).decode("utf-8", "backslashreplace"), ran.returncode
 
 
-def run_block(block, room):
+def run_block(page, block, room):
     """How many commands of a block print something else, or end with a status that the page does not show; and how many ran."""
     status, failed, runs = None, 0, 0
     for place, (number, command, below) in enumerate(block):
@@ -87,32 +100,37 @@ def run_block(block, room):
         told = [it[1] for it in block[place + 1 : place + 2]] == ["echo $?"]
         if got != shown or (status not in (None, 0) and not told):
             failed += 1
-            print(f"using: {PAGE}:{number}: FAILED\n  {command}\n  shown: {shown!r}\n  got:   {got!r}, status {status}")
+            print(f"using: {page}:{number}: FAILED\n  {command}\n  shown: {shown!r}\n  got:   {got!r}, status {status}")
     return failed, runs
 
 
-def main():
-    program = os.path.abspath(sys.argv[1] if len(sys.argv) > 1 else f"{TOP}/anyk")
-    with open(f"{TOP}/{PAGE}", encoding="utf-8") as page:
-        blocks = list(commands(page.read().split("\n")))
+def run_page(page, program):
+    """How many commands of a page failed, how many ran, and how many of its blocks were skipped."""
     runs = failed = skipped = 0
     unwritten = set()
     with tempfile.TemporaryDirectory(prefix="anyk-using-") as room:
         folder_of_calls(room, program)
-        for block in blocks:
+        for block in commands(page):
             missing = missing_of(block, unwritten)
             if missing:
                 skipped += 1
                 unwritten.update(written_by(block))
-                print(f"using: {PAGE}:{block[0][0]}: SKIPPED, there is no {' and no '.join(sorted(missing))} here")
+                print(f"using: {page}:{block[0][0]}: SKIPPED, there is no {' and no '.join(sorted(missing))} here")
                 continue
             unwritten.difference_update(written_by(block))
-            more, ran = run_block(block, room)
+            more, ran = run_block(page, block, room)
             failed, runs = failed + more, runs + ran
+    return failed, runs, skipped
+
+
+def main():
+    program = os.path.abspath(sys.argv[1] if len(sys.argv) > 1 else f"{TOP}/anyk")
+    results = [run_page(page, program) for page in sys.argv[2:] or pages()]
+    failed, runs, skipped = (sum(it) for it in zip(*results))
     if runs == 0:
-        sys.exit(f"using: {PAGE} shows no command")
+        sys.exit("using: no page shows a command")
     of_skipped = f", {skipped} blocks skipped" if skipped else ""
-    print(f"using: {runs} commands that the page shows{of_skipped}: " + (f"FAILED: {failed}" if failed else "passed"))
+    print(f"using: {runs} commands that the pages show{of_skipped}: " + (f"FAILED: {failed}" if failed else "passed"))
     return 1 if failed else 0
 
 

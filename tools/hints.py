@@ -17,9 +17,9 @@ import sys
 HERE = os.path.dirname(os.path.realpath(__file__))
 # Beside the sources, and where the program is installed.
 PAGES = (f"{HERE}/../docs/USING.md", f"{HERE}/../doc/anyk/USING.md")
-COMMANDS = ("run", "session", "plan", "load")
+COMMANDS = ("run", "session", "plan", "picture", "load")
 OPTIONS = {"run": ("--engine", "--ranks", "--rows"), "session": ("--engine", "--ranks", "--rows", "--script"), "plan": (),
-           "load": ("--engine", "--number", "--rows")}
+           "picture": ("--dot",), "load": ("--engine", "--number", "--rows")}
 KEYWORDS = {b"select", b"from", b"where", b"and", b"order", b"by", b"limit", b"asc", b"desc", b"as", b"join", b"inner", b"on",
             b"union", b"all"}
 # What other dialects have and this one has not, by the token where it shows.
@@ -34,7 +34,7 @@ MISSING = {
     "#": "no comment",
 }
 # The parts of a query: names, strings, numbers, signs.
-TOKEN = re.compile(rb"""\s+|[A-Za-z_][A-Za-z0-9_]*|"(?:[^"]|"")*"|'(?:[^']|'')*'|[0-9]+|.""", re.S)
+TOKEN = re.compile(rb"""\s+|[A-Za-z_][A-Za-z0-9_]*|"[^"]*"|'(?:[^']|'')*'|[0-9]+|.""", re.S)
 WIDTH = 72
 # The most bytes that are read of a file, and of a query.
 LARGEST = 67_108_864
@@ -157,7 +157,7 @@ class Query:
             return None
         token = self.words[place]
         if token[:1] == b'"':
-            token = token[1:-1].replace(b'""', b'"')
+            token = token[1:-1]
         elif not re.fullmatch(rb"[A-Za-z_][A-Za-z0-9_]*", token):
             return None
         return token.decode(errors="surrogateescape")

@@ -19,6 +19,7 @@ put_all() {
     put 755 "$2" "$to/libexec/anyk/anyk_cli" &&
         put 644 "$tools/call.sh" "$to/share/anyk/call.sh" &&
         put 644 "$tools/hints.py" "$to/share/anyk/hints.py" &&
+        put 644 "$tools/picture.py" "$to/share/anyk/picture.py" &&
         put_pages "$tools/help" "$to/share/anyk/help" &&
         put 644 "$top/docs/USING.md" "$to/share/doc/anyk/USING.md" &&
         put 644 "$top/man/anyk.1" "$to/share/man/man1/anyk.1" &&

@@ -5,7 +5,7 @@ _anyk() {
     COMPREPLY=()
     compopt -o filenames 2> /dev/null
     if [ "$COMP_CWORD" -eq 1 ]; then
-        mapfile -t COMPREPLY < <(compgen -W 'run session plan load help install' -- "$word")
+        mapfile -t COMPREPLY < <(compgen -W 'run session plan picture load help install' -- "$word")
         return
     fi
     # A word with = in it comes in up to three parts.
@@ -30,9 +30,10 @@ _anyk() {
     case $command in
         run) options='--engine --ranks --rows' ;;
         session) options='--engine --ranks --rows --script' ;;
+        picture) options='--dot' ;;
         load) options='--engine --number --rows' ;;
         help)
-            mapfile -t COMPREPLY < <(compgen -W 'run session plan load install' -- "$word")
+            mapfile -t COMPREPLY < <(compgen -W 'run session plan picture load install' -- "$word")
             return
             ;;
         install)
@@ -42,7 +43,7 @@ _anyk() {
     esac
     case $command:$word in
         *:-*) mapfile -t COMPREPLY < <(compgen -W "$options" -- "$word") ;;
-        run:* | session:* | plan:*) mapfile -t COMPREPLY < <(compgen -f -- "$word") ;;
+        run:* | session:* | plan:* | picture:*) mapfile -t COMPREPLY < <(compgen -f -- "$word") ;;
         load:*) mapfile -t COMPREPLY < <(compgen -W "$options" -- "$word") ;;
     esac
 }
