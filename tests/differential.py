@@ -494,6 +494,8 @@ ANSWERS = [
           "b,b,b\n2,1,1\n2,1,2\n"),
     # (no row of the first item, so there is no combination)
     over(NODES, 0, "a\n", NODE_WORDS, N="a\n", M=MANY, L="a\nx\ny\nx\ny\n"),
+    # (an empty weight counts 0)
+    over(JOIN, 0, "a,c\n3,p\n1,p\n", S="b,c,w\nx,p,\n"),
 ]
 
 
@@ -533,7 +535,7 @@ REFUSALS = [
     over(JOIN, 5, "table S: column 3: name used twice", S="b,c,b\n"),
     over(JOIN, 5, "table R: row 2: wrong number of fields", R="a,b,w\n1,x,3\n2,y\n"),
     over(JOIN, 5, "item 1: row 2: column 3: not a weight", R="a,b,w\n1,x,3\n2,y,12x\n"),
-    over(JOIN, 0, "a,c\n3,p\n1,p\n", S="b,c,w\nx,p,\n"),
+    over(JOIN, 5, "item 2: row 1: column 3: not a weight", S="b,c,w\nx,p,+\n"),
     over(JOIN, 5, "item 1: row 1: column 3: not a weight", R=f"a,b,w\n1,x,{GREATEST + 1}\n"),
     edges(f"select A.a from E A, E B, E C where {TRIANGLE}", 6, cyclic(1, 2, 3)),
     edges("select A.a from E A join E B on A.b = B.a join E C on C.b = A.a and B.b = C.a order by A.w + B.w limit 0", 6,
