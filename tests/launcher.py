@@ -901,7 +901,13 @@ def test_picture_refused(house):
         until(lambda: os.path.exists(f"{house.room}/begun"))
         os.killpg(begun.pid, signal.SIGINT)
 
-    same(house.on_terminal("picture", "q.sql", "a=b", after=interrupt)[:2], (-signal.SIGINT, ""))
+    def interrupted():
+        if os.path.exists(f"{house.room}/begun"):
+            os.remove(f"{house.room}/begun")
+        return house.on_terminal("picture", "q.sql", "a=b", after=interrupt)[:2]
+
+    # (On a loaded machine the signal may meet the program while it is being started, so there are three tries.)
+    same((-signal.SIGINT, "") in (interrupted() for _ in range(3)), True)
 
 
 def test_install(house):
