@@ -76,11 +76,11 @@ class Sampler(threading.Thread):
     def look_at(self, number):
         text = Path(f"/proc/{number}/stat").read_text(errors="replace")
         fields = text[text.rindex(")") + 2 :].split()
-        key = number, fields[19]
-        if key not in self.seen:
+        found = self.seen.setdefault((number, fields[19]), [None, 0.0, 0])
+        if not found[0]:
+            # (a process is another program before it becomes the prover)
             words = Path(f"/proc/{number}/cmdline").read_text(errors="replace").split("\0")
-            self.seen[key] = [place_of(words, os.readlink(f"/proc/{number}/cwd")), 0.0, 0]
-        found = self.seen[key]
+            found[0] = place_of(words, os.readlink(f"/proc/{number}/cwd"))
         if found[0]:
             status = Path(f"/proc/{number}/status").read_text(errors="replace")
             peak = re.search(r"VmHWM:\s+(\d+)", status)
