@@ -4,26 +4,18 @@ use Rattle.std.specs.List.{AllByRecursion}
 use Rattle.std.proofs.lemmas.List.{map-append}
 use Rattle.std.proofs.Math.Seq.{take-append_seam}
 use Rattle.anyk_model.specs.Table.{Fields, Table, flaw_of, table_of}
-use Rattle.csv_tables.specs.Stored.{IsStored, cut_rows, shown}
+use Rattle.csv_tables.specs.Stored.{IsStored, shown}
 use Rattle.csv_tables.specs.Tables.{IsSound, KeepsTables, all_shown}
-use Rattle.csv_tables.specs.Values.{Extends, lists_of, with_rows, with_tables}
+use Rattle.csv_tables.specs.Values.{Extends, with_rows, with_tables}
 use Rattle.csv_tables.specs.declared.stored.StoredTable.{StoredTable}
 use Rattle.csv_tables.proofs.Rows.{with_rows-extends}
-use Rattle.csv_tables.proofs.Stands.{all-more, all-push, same-texts}
+use Rattle.csv_tables.proofs.Stands.{all-push, stands-more}
 
--- more texts change no table
-same-shown : (texts more : List (List ℕ)) (stored : List StoredTable) → AllByRecursion (IsStored texts) stored
-    → all_shown (texts ++ more) stored ≡ all_shown texts stored
-same-shown texts more [] all = refl
-same-shown texts more (s ∷ stored) all =
-    let same = same-texts texts more s.rows.cells.items all.0.within in
-    λ i. record { names = lists_of s.names.items; rows = cut_rows (length s.names.items) s.rows.count (same i) } ∷ same-shown texts more stored all.1 i
-
-whole-more : (old new : List (List ℕ)) (stored : List StoredTable) → length old ≤ length new → AllByRecursion (IsStored old) stored → AllByRecursion (IsStored new) stored
-whole-more old new [] le all = tt
-whole-more old new (s ∷ stored) le all = (
-  record { within = all-more (length old) (length new) s.rows.cells.items le all.0.within; size = all.0.size },
-  whole-more old new stored le all.1,
+whole-more : (old new : List (List ℕ)) (stored : List StoredTable) → Extends old new → AllByRecursion (IsStored old) stored → AllByRecursion (IsStored new) stored
+whole-more old new [] more all = tt
+whole-more old new (s ∷ stored) more all = (
+  record { stand = stands-more old new s.rows.cells.items s.rows.fields more all.0.stand; size = all.0.size },
+  whole-more old new stored more all.1,
 )
 
 with_tables-push : (texts : List (List ℕ)) (tables : List Table) (table : Table) → with_tables texts (tables ++ table ∷ []) ≡ with_rows (with_tables texts tables) table.rows
@@ -35,29 +27,25 @@ sound-table [] e = cc
 sound-table (names ∷ rows) e = e
 
 module _ (old new : List (List ℕ)) (stored : List StoredTable) (table : StoredTable) (records : List Fields)
-    (kept : KeepsTables old stored) (new-is : new ≡ with_rows old (table_of records).rows) (shows : shown new table ≡ table_of records) where
+    (kept : KeepsTables old stored) (new-is : new ≡ with_rows old (table_of records).rows) (shows : shown table ≡ table_of records) where
   extends : Extends old new
   extends = let e = with_rows-extends old (table_of records).rows in (e.0, new-is ∙ e.1)
 
-  -- a table that was read stands behind the others
-  pub shown-push : all_shown new (stored ++ table ∷ []) ≡ all_shown old stored ++ table_of records ∷ []
-  shown-push =
-      map-append (shown new) stored (table ∷ [])
-      ∙ (λ i. (ap (λ t. all_shown t stored) extends.1 ∙ same-shown old extends.0 stored kept.whole) i ++ shows i ∷ [])
+  -- a table that was read stands after the others
+  pub shown-push : all_shown (stored ++ table ∷ []) ≡ all_shown stored ++ table_of records ∷ []
+  shown-push = map-append shown stored (table ∷ []) ∙ (λ i. all_shown stored ++ shows i ∷ [])
 
   pub keeps-push : IsStored new table → flaw_of records ≡ None → length stored + 1 ≤ 16 → KeepsTables new (stored ++ table ∷ [])
-  keeps-push whole sound few =
-      let longer : length old ≤ length new = omega (arith, length-append old extends.0, ap length extends.1) in
-      record {
-        whole = all-push (IsStored new) stored table (whole-more old new stored longer kept.whole) whole;
-        known = new-is ∙ ap (λ t. with_rows t (table_of records).rows) kept.known
-            ∙ sym (with_tables-push [] (all_shown old stored) (table_of records)) ∙ ap (with_tables []) (sym shown-push);
-        sound = subst (AllByRecursion IsSound) (sym shown-push)
-            (all-push IsSound (all_shown old stored) (table_of records) kept.sound (sound-table records sound));
-        few = omega (arith, length-append stored (table ∷ []));
-      }
+  keeps-push whole sound few = record {
+    whole = all-push (IsStored new) stored table (whole-more old new stored extends kept.whole) whole;
+    known = new-is ∙ ap (λ t. with_rows t (table_of records).rows) kept.known
+        ∙ sym (with_tables-push [] (all_shown stored) (table_of records)) ∙ ap (with_tables []) (sym shown-push);
+    sound = subst (AllByRecursion IsSound) (sym shown-push)
+        (all-push IsSound (all_shown stored) (table_of records) kept.sound (sound-table records sound));
+    few = omega (arith, few, length-append stored (table ∷ []));
+  }
 
--- the texts that were there, after others behind them are taken off
+-- the texts that were there, when others after them are taken off
 pub texts-back : (old new cut : List (List ℕ)) → Extends old new → cut ≡ take (length old) new → cut ≡ old
 texts-back old new cut more e = e ∙ ap (take (length old)) more.1 ∙ take-append_seam old more.0
 

@@ -1,8 +1,11 @@
 pub mod Cuts
+pub mod Digits
 pub mod Flaws
 pub mod Headers
 pub mod Kept
 pub mod Numbers
+pub mod Own
+pub mod Packed
 pub mod Places
 pub mod Progress
 pub mod Reader

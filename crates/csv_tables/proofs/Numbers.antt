@@ -1,5 +1,5 @@
--- The distinct fields are distinct, so the number of one tells it.
-use Rattle.std.proofs.Common.{◌≡◌, ◌≤◌, ◌<◌, ◌⊎◌, inl, inr, ℕ, zero, suc, Bool, true, false, ◌||◌, if◌then◌else◌, List, [], ◌∷◌, ◌++◌, length, get_or, refl, sym, ap, ◌∙◌, arith, length-append}
+-- The texts are distinct, so the number of a field tells it.
+use Rattle.std.proofs.Common.{◌≡◌, ◌≤◌, ◌<◌, ◌+◌, ◌⊎◌, inl, inr, ℕ, zero, suc, Bool, true, false, ◌||◌, if◌then◌else◌, List, [], ◌∷◌, ◌++◌, length, get_or, Option, Some, None, is_some, refl, sym, ap, subst, ◌∙◌, arith, length-append}
 use Rattle.std.specs.List.{list_any, position_or_len}
 use Rattle.std.specs.Str.{bytes_eq}
 use Rattle.std.proofs.lemmas.Bool.{cases_lt, false≢true}
@@ -7,9 +7,10 @@ use Rattle.std.proofs.lemmas.List.{get_or_append_left, get_or_push}
 use Rattle.std.proofs.lemmas.List.Sums.{passes_at_first, position_or_len_is}
 use Rattle.std.proofs.lemmas.Slice.Eq.{bytes_eq-Decides}
 use Rattle.anyk_model.specs.Table.{Fields, Table, field_at, table_at}
-use Rattle.csv_tables.specs.Values.{Extends, number_of, text_at, with_fields, with_rows, with_tables, with_text}
+use Rattle.csv_tables.specs.Values.{Extends, HasNumber, IsNumber, first_text, number_in, number_of, own_number, text_at, with_field, with_fields, with_rows, with_tables, with_text}
+use Rattle.csv_tables.proofs.Own.{number-own, number-text, own-is, own-tell}
 use Rattle.csv_tables.proofs.Rows.{with_rows-extends}
-use Rattle.csv_tables.proofs.Stands.{extends-same, extends-trans, with_fields-extends}
+use Rattle.csv_tables.proofs.Stands.{extends-same, extends-trans, with_field-text, with_fields-extends}
 
 -- no text stands at two places
 pub record AreDistinct (texts : List (List ℕ)) : Type 0 where
@@ -48,9 +49,16 @@ with_text-distinct texts text d = by (list_any (bytes_eq text) texts) refl
     by true e = d
     by false e = push-distinct texts text d e
 
+with_field-distinct : (texts : List (List ℕ)) (field : List ℕ) → AreDistinct texts → AreDistinct (with_field texts field)
+with_field-distinct texts field d = by (is_some (own_number field))
+  where
+    by : (b : Bool) → AreDistinct (if b then texts else with_text texts field)
+    by true = d
+    by false = with_text-distinct texts field d
+
 with_fields-distinct : (texts : List (List ℕ)) (fields : Fields) → AreDistinct texts → AreDistinct (with_fields texts fields)
 with_fields-distinct texts [] d = d
-with_fields-distinct texts (f ∷ fields) d = with_fields-distinct (with_text texts f) fields (with_text-distinct texts f d)
+with_fields-distinct texts (f ∷ fields) d = with_fields-distinct (with_field texts f) fields (with_field-distinct texts f d)
 
 with_rows-distinct : (texts : List (List ℕ)) (rows : List Fields) → AreDistinct texts → AreDistinct (with_rows texts rows)
 with_rows-distinct texts [] d = d
@@ -60,7 +68,7 @@ with_tables-distinct : (texts : List (List ℕ)) (tables : List Table) → AreDi
 with_tables-distinct texts [] d = d
 with_tables-distinct texts (t ∷ tables) d = with_tables-distinct (with_rows texts t.rows) tables (with_rows-distinct texts t.rows d)
 
--- the distinct fields of tables
+-- the texts of tables
 pub known-distinct : (tables : List Table) → AreDistinct (with_tables [] tables)
 known-distinct tables = with_tables-distinct [] tables (record { differ = λ j k below inside same. omega arith })
 
@@ -78,7 +86,18 @@ place-is texts n d inside =
     (λ k below. differ-eq (text_at texts n) (text_at texts k) (λ e. d.differ k n below inside (sym e)))
     (λ _. (bytes_eq-Decides (text_at texts n) (text_at texts n)).1 refl)
 
--- ---- each field stands among the distinct ones
+-- a number that stands for a field is the field's number
+pub number-is : (texts : List (List ℕ)) (field : List ℕ) (n : ℕ) → AreDistinct texts → IsNumber texts field n → n ≡ number_in texts field
+number-is texts field n d = by (own_number field) refl
+  where
+    by : (o : Option ℕ) → own_number field ≡ o → HasNumber texts o field n → n ≡ number_in texts field
+    by (Some own) e has = has ∙ sym (number-own texts field own e)
+    by None e has =
+        let first : position_or_len (bytes_eq field) texts ≡ has.place =
+        ap (λ (f : List ℕ). position_or_len (bytes_eq f) texts) (sym has.stands) ∙ place-is texts has.place d has.within in
+        has.number ∙ ap (λ (k : ℕ). first_text + k) (sym first) ∙ sym (number-text texts field e)
+
+-- ---- each field that is not its own number stands among the texts
 
 abbrev Stands : List ℕ → List (List ℕ) → Type 0
 Stands f texts = (n : ℕ) × (n < length texts) × (text_at texts n ≡ f)
@@ -105,18 +124,23 @@ with_text-stands texts f = by (list_any (bytes_eq f) texts) refl
     by true e = any-index f texts e
     by false e = (length texts, omega (arith, length-append texts (f ∷ [])), get_or_push texts f [] (length texts) refl)
 
-with_fields-stands : (texts : List (List ℕ)) (fields : Fields) (c : ℕ) → c < length fields → Stands (get_or fields c []) (with_fields texts fields)
-with_fields-stands texts [] c inside = absurd (omega arith)
-with_fields-stands texts (f ∷ fields) zero inside =
-    stands-extends f (with_text texts f) (with_fields (with_text texts f) fields) (with_fields-extends (with_text texts f) fields) (with_text-stands texts f)
-with_fields-stands texts (f ∷ fields) (suc c) inside = with_fields-stands (with_text texts f) fields c (omega arith)
+with_field-stands : (texts : List (List ℕ)) (f : List ℕ) → own_number f ≡ None → Stands f (with_field texts f)
+with_field-stands texts f none = subst (Stands f) (sym (with_field-text texts f none)) (with_text-stands texts f)
+
+with_fields-stands : (texts : List (List ℕ)) (fields : Fields) (c : ℕ) → c < length fields → own_number (get_or fields c []) ≡ None
+    → Stands (get_or fields c []) (with_fields texts fields)
+with_fields-stands texts [] c inside none = absurd (omega arith)
+with_fields-stands texts (f ∷ fields) zero inside none =
+    stands-extends f (with_field texts f) (with_fields (with_field texts f) fields) (with_fields-extends (with_field texts f) fields) (with_field-stands texts f none)
+with_fields-stands texts (f ∷ fields) (suc c) inside none = with_fields-stands (with_field texts f) fields c (omega arith) none
 
 with_rows-stands : (texts : List (List ℕ)) (rows : List Fields) (r c : ℕ) → r < length rows → c < length (get_or rows r [])
-    → Stands (get_or (get_or rows r []) c []) (with_rows texts rows)
-with_rows-stands texts [] r c inside there = absurd (omega arith)
-with_rows-stands texts (row ∷ rows) zero c inside there =
-    stands-extends (get_or row c []) (with_fields texts row) (with_rows (with_fields texts row) rows) (with_rows-extends (with_fields texts row) rows) (with_fields-stands texts row c there)
-with_rows-stands texts (row ∷ rows) (suc r) c inside there = with_rows-stands (with_fields texts row) rows r c (omega arith) there
+    → own_number (get_or (get_or rows r []) c []) ≡ None → Stands (get_or (get_or rows r []) c []) (with_rows texts rows)
+with_rows-stands texts [] r c inside there none = absurd (omega arith)
+with_rows-stands texts (row ∷ rows) zero c inside there none =
+    stands-extends (get_or row c []) (with_fields texts row) (with_rows (with_fields texts row) rows) (with_rows-extends (with_fields texts row) rows)
+    (with_fields-stands texts row c there none)
+with_rows-stands texts (row ∷ rows) (suc r) c inside there none = with_rows-stands (with_fields texts row) rows r c (omega arith) there none
 
 with_tables-extends : (texts : List (List ℕ)) (tables : List Table) → Extends texts (with_tables texts tables)
 with_tables-extends texts [] = extends-same texts
@@ -124,33 +148,38 @@ with_tables-extends texts (t ∷ tables) =
     extends-trans texts (with_rows texts t.rows) (with_tables (with_rows texts t.rows) tables) (with_rows-extends texts t.rows) (with_tables-extends (with_rows texts t.rows) tables)
 
 with_tables-stands : (texts : List (List ℕ)) (tables : List Table) (t r c : ℕ) → t < length tables → r < length (table_at tables t).rows
-    → c < length (get_or (table_at tables t).rows r []) → Stands (field_at (table_at tables t) r c) (with_tables texts tables)
-with_tables-stands texts [] t r c inside row there = absurd (omega arith)
-with_tables-stands texts (x ∷ tables) zero r c inside row there =
-    stands-extends (field_at x r c) (with_rows texts x.rows) (with_tables (with_rows texts x.rows) tables) (with_tables-extends (with_rows texts x.rows) tables) (with_rows-stands texts x.rows r c row there)
-with_tables-stands texts (x ∷ tables) (suc t) r c inside row there = with_tables-stands (with_rows texts x.rows) tables t r c (omega arith) row there
+    → c < length (get_or (table_at tables t).rows r []) → own_number (field_at (table_at tables t) r c) ≡ None
+    → Stands (field_at (table_at tables t) r c) (with_tables texts tables)
+with_tables-stands texts [] t r c inside row there none = absurd (omega arith)
+with_tables-stands texts (x ∷ tables) zero r c inside row there none =
+    stands-extends (field_at x r c) (with_rows texts x.rows) (with_tables (with_rows texts x.rows) tables) (with_tables-extends (with_rows texts x.rows) tables)
+    (with_rows-stands texts x.rows r c row there none)
+with_tables-stands texts (x ∷ tables) (suc t) r c inside row there none = with_tables-stands (with_rows texts x.rows) tables t r c (omega arith) row there none
 
--- the number of a field of the tables is that of its text
-pub number-stands : (tables : List Table) (t r c : ℕ) → t < length tables → r < length (table_at tables t).rows
-    → c < length (get_or (table_at tables t).rows r [])
-    → (number_of tables (field_at (table_at tables t) r c) < length (with_tables [] tables))
-    × (text_at (with_tables [] tables) (number_of tables (field_at (table_at tables t) r c)) ≡ field_at (table_at tables t) r c)
-number-stands tables t r c inside row there =
-    let texts = with_tables [] tables in
-    let s = with_tables-stands [] tables t r c inside row there in
-    let own : number_of tables (field_at (table_at tables t) r c) ≡ s.0 =
-    ap (λ (f : List ℕ). position_or_len (bytes_eq f) texts) (sym s.2) ∙ place-is texts s.0 (known-distinct tables) s.1 in
-    (omega (arith, own, s.1), ap (text_at texts) own ∙ s.2)
+-- a text that stands among texts has no other's place
+places-tell : (texts : List (List ℕ)) (a b : List ℕ) → AreDistinct texts → Stands a texts
+    → position_or_len (bytes_eq a) texts ≡ position_or_len (bytes_eq b) texts → a ≡ b
+places-tell texts a b d s e =
+    let own : position_or_len (bytes_eq a) texts ≡ s.0 = ap (λ (f : List ℕ). position_or_len (bytes_eq f) texts) (sym s.2) ∙ place-is texts s.0 d s.1 in
+    let at : position_or_len (bytes_eq b) texts ≡ s.0 = sym e ∙ own in
+    let hit = passes_at_first (bytes_eq b) texts [] (omega (arith, at, s.1)) in
+    sym ((bytes_eq-Decides b (text_at texts s.0)).0 (sym (ap (λ (n : ℕ). bytes_eq b (text_at texts n)) at) ∙ hit) ∙ s.2)
+
+-- the number of a field that is its own number, or stands among texts, is no other's
+tells : (texts : List (List ℕ)) (a b : List ℕ) → AreDistinct texts → (own_number a ≡ None → Stands a texts)
+    → number_in texts a ≡ number_in texts b → a ≡ b
+tells texts a b d stands e = by (own_number a) (own_number b) refl refl
+  where
+    by : (o p : Option ℕ) → own_number a ≡ o → own_number b ≡ p → a ≡ b
+    by (Some m) (Some n) own other = own-tell a b m n own other (sym (number-own texts a m own) ∙ e ∙ number-own texts b n other)
+    by (Some m) None own other = absurd (omega (arith, (own-is a m own).0, number-own texts a m own, e, number-text texts b other))
+    by None (Some n) own other = absurd (omega (arith, (own-is b n other).0, number-own texts b n other, e, number-text texts a own))
+    by None None own other =
+        places-tell texts a b d (stands own) (omega (arith, number-text texts a own, number-text texts b other, e))
 
 -- the number of a field of the tables is no other text's
 pub numbers-tell : (tables : List Table) (t r c : ℕ) (b : List ℕ) → t < length tables → r < length (table_at tables t).rows
     → c < length (get_or (table_at tables t).rows r [])
     → number_of tables (field_at (table_at tables t) r c) ≡ number_of tables b → field_at (table_at tables t) r c ≡ b
 numbers-tell tables t r c b inside row there e =
-    let texts = with_tables [] tables in
-    let s = with_tables-stands [] tables t r c inside row there in
-    let own : number_of tables (field_at (table_at tables t) r c) ≡ s.0 =
-    ap (λ (f : List ℕ). position_or_len (bytes_eq f) texts) (sym s.2) ∙ place-is texts s.0 (known-distinct tables) s.1 in
-    let at : number_of tables b ≡ s.0 = sym e ∙ own in
-    let hit = passes_at_first (bytes_eq b) texts [] (omega (arith, at, s.1)) in
-    sym ((bytes_eq-Decides b (text_at texts s.0)).0 (sym (ap (λ (n : ℕ). bytes_eq b (text_at texts n)) at) ∙ hit) ∙ s.2)
+    tells (with_tables [] tables) (field_at (table_at tables t) r c) b (known-distinct tables) (λ none. with_tables-stands [] tables t r c inside row there none) e

@@ -1,16 +1,16 @@
 -- What stands at a place of the tables, and how large they are.
-use Rattle.std.proofs.Common.{◌≡◌, ◌≤◌, ◌<◌, ◌+◌, ◌*◌, ℕ, zero, suc, nat_lt, None, List, [], ◌∷◌, map, length, get_or, sym, ap, subst, ◌∙◌, arith, Vec, Global}
+use Rattle.std.proofs.Common.{◌≡◌, ◌≤◌, ◌<◌, ◌+◌, ◌*◌, ℕ, zero, suc, nat_lt, None, List, [], ◌∷◌, length, get_or, sym, ap, subst, ◌∙◌, arith, Vec, Global}
 use Rattle.std.specs.List.{AllByRecursion}
 use Rattle.std.proofs.lemmas.Bool.{ltb-false}
 use Rattle.std.proofs.lemmas.List.{get_or-map, length-map}
 use Rattle.anyk_model.specs.Table.{Table, field_at, header_flaw, rows_flaw, table_at, too_many_columns}
 use Rattle.csv_tables.specs.Stored.{IsStored, shown}
-use Rattle.csv_tables.specs.Values.{number_of, text_at, with_tables}
+use Rattle.csv_tables.specs.Values.{IsNumber}
 use Rattle.csv_tables.specs.Tables.{IsSound, all_shown}
 use Rattle.csv_tables.specs.declared.stored.StoredTable.{StoredTable}
 use Rattle.csv_tables.proofs.Cuts.{cut_rows-cell, cut_rows-length}
 use Rattle.csv_tables.proofs.Flaws.{or_else-first, or_else-second, rows-few, rows-width, unmet}
-use Rattle.csv_tables.proofs.Numbers.{number-stands}
+use Rattle.csv_tables.proofs.Stands.{stands-at, stands-length}
 
 -- ---- sound tables
 
@@ -39,10 +39,10 @@ all-at P (x ∷ xs) zero d all inside = all.0
 all-at P (x ∷ xs) (suc i) d all inside = all-at P xs i d all.1 (omega arith)
 
 -- the table at a place is the one that is stored there
-pub table_at-shown : (texts : List (List ℕ)) (stored : List StoredTable) (t : ℕ) (s : StoredTable) → t < length stored → s ≡ get_or stored t s
-    → table_at (all_shown texts stored) t ≡ shown texts s
-table_at-shown texts stored t s inside e =
-    get_or-map (shown texts) stored t s (record { names = []; rows = [] }) inside ∙ ap (shown texts) (sym e)
+pub table_at-shown : (stored : List StoredTable) (t : ℕ) (s : StoredTable) → t < length stored → s ≡ get_or stored t s
+    → table_at (all_shown stored) t ≡ shown s
+table_at-shown stored t s inside e =
+    get_or-map shown stored t s (record { names = []; rows = [] }) inside ∙ ap shown (sym e)
 
 pub sound-at : (tables : List Table) (t : ℕ) → AllByRecursion IsSound tables → t < length tables → IsSound (table_at tables t)
 sound-at tables t all inside = all-at IsSound tables t (record { names = []; rows = [] }) all inside
@@ -58,59 +58,50 @@ place-below width (suc count) (suc r) c below there = let h = place-below width 
 abbrev items : Vec ℕ Global → List ℕ
 items v = v.items
 
-module _ (texts : List (List ℕ)) (stored : List StoredTable) (t : ℕ) (s : StoredTable) (inside : t < length stored) (at : s ≡ get_or stored t s) where
-  pub same-table : table_at (all_shown texts stored) t ≡ shown texts s
-  same-table = table_at-shown texts stored t s inside at
+module _ (stored : List StoredTable) (t : ℕ) (s : StoredTable) (inside : t < length stored) (at : s ≡ get_or stored t s) where
+  pub same-table : table_at (all_shown stored) t ≡ shown s
+  same-table = table_at-shown stored t s inside at
 
-  stored-sound : AllByRecursion IsSound (all_shown texts stored) → IsSound (shown texts s)
+  stored-sound : AllByRecursion IsSound (all_shown stored) → IsSound (shown s)
   stored-sound all =
-      subst IsSound same-table (sound-at (all_shown texts stored) t all (omega (arith, inside, length-map stored (shown texts))))
+      subst IsSound same-table (sound-at (all_shown stored) t all (omega (arith, inside, length-map stored shown)))
 
-  rows-same : length (shown texts s).rows ≡ s.rows.count
-  rows-same = cut_rows-length (length s.names.items) s.rows.count (map (text_at texts) s.rows.cells.items)
+  rows-same : length (shown s).rows ≡ s.rows.count
+  rows-same = cut_rows-length (length s.names.items) s.rows.count s.rows.fields
 
-  pub few-rows : AllByRecursion IsSound (all_shown texts stored) → s.rows.count ≤ 1048576
-  few-rows all = omega (arith, rows-same, sound-few_rows (shown texts s) (stored-sound all))
+  pub few-rows : AllByRecursion IsSound (all_shown stored) → s.rows.count ≤ 1048576
+  few-rows all = omega (arith, rows-same, sound-few_rows (shown s) (stored-sound all))
 
-  pub few-columns : AllByRecursion IsSound (all_shown texts stored) → length s.names.items ≤ 64
-  few-columns all = omega (arith, length-map s.names.items items, sound-few_columns (shown texts s) (stored-sound all))
+  pub few-columns : AllByRecursion IsSound (all_shown stored) → length s.names.items ≤ 64
+  few-columns all = omega (arith, length-map s.names.items items, sound-few_columns (shown s) (stored-sound all))
 
-  pub stored-at : AllByRecursion (IsStored texts) stored → IsStored texts s
-  stored-at all = subst (IsStored texts) (sym at) (all-at (IsStored texts) stored t s all inside)
+  module _ (texts : List (List ℕ)) (all : AllByRecursion (IsStored texts) stored) (r c : ℕ) (below : r < s.rows.count) (there : c < length s.names.items) where
+    stored-at : IsStored texts s
+    stored-at = subst (IsStored texts) (sym at) (all-at (IsStored texts) stored t s all inside)
 
-  module _ (all : AllByRecursion (IsStored texts) stored) (r c : ℕ) (below : r < s.rows.count) (there : c < length s.names.items) where
+    pub field-there : r * length s.names.items + c < length s.rows.fields
+    field-there = let h = place-below (length s.names.items) s.rows.count r c below there in omega (arith, h, stored-at.size)
+
     pub cell-there : r * length s.names.items + c < length s.rows.cells.items
-    cell-there = let h = place-below (length s.names.items) s.rows.count r c below there in omega (arith, h, (stored-at all).size)
+    cell-there = omega (arith, field-there, stands-length texts s.rows.cells.items s.rows.fields stored-at.stand)
 
-    module _ (n : ℕ) (cell : n ≡ get_or s.rows.cells.items (r * length s.names.items + c) n) where
-      pub number-within : n < length texts
-      number-within =
-          subst (λ k. k < length texts) (sym cell)
-          (all-at (λ k. k < length texts) s.rows.cells.items (r * length s.names.items + c) n (stored-at all).within cell-there)
+    pub field-shows : field_at (table_at (all_shown stored) t) r c ≡ get_or s.rows.fields (r * length s.names.items + c) []
+    field-shows =
+        ap (λ (table : Table). field_at table r c) same-table
+        ∙ cut_rows-cell (length s.names.items) s.rows.count s.rows.fields r c [] below there
 
-      pub number-shows : field_at (table_at (all_shown texts stored) t) r c ≡ text_at texts n
-      number-shows =
-          ap (λ (table : Table). field_at table r c) same-table
-          ∙ cut_rows-cell (length s.names.items) s.rows.count (map (text_at texts) s.rows.cells.items) r c [] below there
-          ∙ get_or-map (text_at texts) s.rows.cells.items (r * length s.names.items + c) n [] cell-there ∙ ap (text_at texts) (sym cell)
+    pub number-shows : (n : ℕ) → n ≡ get_or s.rows.cells.items (r * length s.names.items + c) n → IsNumber texts (field_at (table_at (all_shown stored) t) r c) n
+    number-shows n cell =
+        subst (λ f. IsNumber texts f n) (sym field-shows)
+        (subst (IsNumber texts (get_or s.rows.fields (r * length s.names.items + c) [])) (sym cell)
+        (stands-at texts s.rows.cells.items s.rows.fields (r * length s.names.items + c) n stored-at.stand cell-there))
 
   -- as a caller sees the tables
-  pub rows-now : (now : List Table) → all_shown texts stored ≡ now → length (table_at now t).rows ≡ s.rows.count
+  pub rows-now : (now : List Table) → all_shown stored ≡ now → length (table_at now t).rows ≡ s.rows.count
   rows-now now view =
       sym (ap (λ (ts : List Table). length (table_at ts t).rows) view) ∙ ap (λ (table : Table). length table.rows) same-table ∙ rows-same
 
-  pub columns-now : (now : List Table) → all_shown texts stored ≡ now → length (table_at now t).names ≡ length s.names.items
+  pub columns-now : (now : List Table) → all_shown stored ≡ now → length (table_at now t).names ≡ length s.names.items
   columns-now now view =
       sym (ap (λ (ts : List Table). length (table_at ts t).names) view) ∙ ap (λ (table : Table). length table.names) same-table
       ∙ length-map s.names.items items
-
--- the number of a field is that of a text, and the text is the field
-pub field-number : (texts : List (List ℕ)) (tables : List Table) (t r c : ℕ) → texts ≡ with_tables [] tables → AllByRecursion IsSound tables
-    → t < length tables → r < length (table_at tables t).rows → c < length (table_at tables t).names
-    → (number_of tables (field_at (table_at tables t) r c) < length texts)
-    × (text_at texts (number_of tables (field_at (table_at tables t) r c)) ≡ field_at (table_at tables t) r c)
-field-number texts tables t r c known sound inside row there =
-    let width = sound-width (table_at tables t) r (sound-at tables t sound inside) row in
-    let stands = number-stands tables t r c inside row (omega (arith, width, there)) in
-    let f = field_at (table_at tables t) r c in
-    (omega (arith, stands.0, ap length known), ap (λ (l : List (List ℕ)). text_at l (number_of tables f)) known ∙ stands.1)

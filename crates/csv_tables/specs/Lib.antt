@@ -1,4 +1,5 @@
 pub mod Faults
+pub mod Fields
 pub mod Left
 pub mod Stored
 pub mod Tables

@@ -4,16 +4,19 @@
 //! around a field that needs them, and records of any length. One byte order mark at the start is no part of the records;
 //! the reader takes it off. The first record names the columns, and each other one is a row.
 //!
-//! The tables are stored by dictionary encoding: one set holds the distinct fields of all tables, each with the number of
-//! its place there, and a table is a flat vector of these numbers. So fields are compared by their numbers, and a field
-//! that was read before takes four bytes more.
+//! Each field has a number, and fields are compared by their numbers. A field that writes a number below 2^31 as a decimal
+//! has that number. For the others there is dictionary encoding: one set holds the distinct ones of all tables, and the
+//! number is 2^31 and the place there. A table is a flat vector of these numbers, beside the bytes of its fields.
 #![tactic(auto)]
 
 mod fault;
+mod fields;
+mod number;
 mod reading;
 mod records;
 mod stored;
 mod tables;
+mod text;
 mod texts;
 mod weight;
 mod writing;

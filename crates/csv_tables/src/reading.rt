@@ -1,5 +1,5 @@
 //! A table from the bytes of a file.
-ghost use Rattle.std.specs.Prelude.{◌≡◌, ◌∷◌, IfErr, IfOk, None, OnErr, OnOk, length};
+ghost use Rattle.std.specs.Prelude.{◌≡◌, ◌≤◌, ◌∷◌, IfErr, IfOk, None, OnErr, OnOk, length};
 ghost use Rattle.csv.specs.Records.{fields_of};
 ghost use Rattle.anyk_model.specs.Table.{flaw_of, header_flaw, records_of, row_flaw, rows_flaw, table_of};
 ghost use Rattle.csv_tables.specs.Faults.{Tells, refusal};
@@ -7,6 +7,7 @@ ghost use Rattle.csv_tables.specs.Stored.{IsStored, fields_in, shown};
 ghost use Rattle.csv_tables.specs.Values.{Extends, StandsFor, lists_of, with_rows};
 
 use crate::fault::TableFault;
+use crate::fields::FieldList;
 use crate::records::Records;
 use crate::stored::{StoredRows, StoredTable};
 use crate::texts::Texts;
@@ -20,13 +21,11 @@ const MOST_COLUMNS: usize = 64;
 /// The most rows that a table may have.
 const MOST_ROWS: usize = 1_048_576;
 
-/// Whether these may be the names of a table's columns.
+/// Whether these may be the names of a table's columns, of which it may have so many.
 fn check_names(names: &[Vec<u8>]) -> Result<(), TableFault>
+    requires { length names.now ≤ 64 }
     ensures { result ≡ refusal (header_flaw (lists_of names.now)) }
 {
-    if names.len() > MOST_COLUMNS {
-        return Err(TableFault::TooManyColumns);
-    }
     for i in 0..names.len() {
         if names[..i].contains(&names[i]) {
             return Err(TableFault::DuplicateName(i as u32 + 1));
@@ -72,6 +71,9 @@ fn read_names(alloc: Global, records: &mut Records<'_>) -> Result<Vec<Vec<u8>>, 
     if !records.next(&mut header)? {
         return Err(TableFault::NoHeader);
     }
+    if header.len() > MOST_COLUMNS {
+        return Err(TableFault::TooManyColumns);
+    }
     let names = copy_fields(alloc, &header)?;
     check_names(&names)?;
     Ok(names)
@@ -86,19 +88,25 @@ fn read_rows(
 ) -> Result<StoredRows, TableFault>
     ensures sound { OnOk result (rows_flaw width 1 records.old ≡ None) }
     ensures count { IfOk result (λ rows. rows.count ≡ length records.old) }
+    ensures fields { IfOk result (λ rows. rows.fields ≡ fields_in records.old) }
     ensures cells { IfOk result (λ rows. StandsFor texts.new rows.cells.items (fields_in records.old)) }
     ensures texts { OnOk result (texts.new ≡ with_rows texts.old records.old) }
     ensures fault { IfErr result (Tells (rows_flaw width 1 records.old)) }
     ensures err { OnErr result (Extends texts.old texts.new) }
 {
     let mut cells = Vec::new(alloc);
+    let mut fields = FieldList::new(alloc);
     let mut row = ByteRecord::new(alloc);
     'rows: for count in 0..usize::MAX {
         if !records.next(&mut row)? {
-            return Ok(StoredRows { count, cells });
+            return Ok(StoredRows {
+                count,
+                cells,
+                fields,
+            });
         }
         check_row(width, count + 1, &row)?;
-        texts.number_row(&row, &mut cells)?;
+        texts.number_row(&row, &mut cells, &mut fields)?;
     }
     Err(TableFault::NoMemory)
 }
@@ -110,7 +118,7 @@ pub(crate) fn read_table(
     bytes: &[u8],
 ) -> Result<StoredTable, TableFault>
     ensures sound { OnOk result (flaw_of (records_of bytes.now) ≡ None) }
-    ensures shown { IfOk result (λ t. shown texts.new t ≡ table_of (records_of bytes.now)) }
+    ensures shown { IfOk result (λ t. shown t ≡ table_of (records_of bytes.now)) }
     ensures stored { IfOk result (IsStored texts.new) }
     ensures texts { OnOk result (texts.new ≡ with_rows texts.old (table_of (records_of bytes.now)).rows) }
     ensures fault { IfErr result (Tells (flaw_of (records_of bytes.now))) }

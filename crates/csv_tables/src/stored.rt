@@ -1,10 +1,12 @@
 //! A table as it is stored.
+use crate::fields::FieldList;
 
-/// The rows of a table, a number for each field: the first row's from left to right, then the next row's.
+/// The rows of a table, their fields and a number for each: the first row's from left to right, then the next row's.
 #[derive(Drop)]
 pub(crate) struct StoredRows {
     pub(crate) count: usize,
     pub(crate) cells: Vec<u32>,
+    pub(crate) fields: FieldList,
 }
 
 /// The names of the columns, and the rows.

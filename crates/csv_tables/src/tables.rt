@@ -6,10 +6,12 @@ ghost use Rattle.csv_tables.specs.Faults.{Tells};
 ghost use Rattle.csv_tables.specs.Values.{number_of};
 
 use crate::fault::TableFault;
+use crate::number::FIRST_TEXT;
 use crate::reading::read_table;
 use crate::stored::StoredTable;
 use crate::texts::Texts;
 use crate::weight::parse_weight;
+use hash_keys::Keys;
 use std::alloc::Global;
 use std::marker::Model;
 
@@ -18,6 +20,7 @@ use std::marker::Model;
 pub struct Tables {
     texts: Texts,
     tables: Vec<StoredTable>,
+    keys: Keys,
     alloc: Global,
 }
 
@@ -38,15 +41,28 @@ impl Tables {
     ghost use Rattle.std.specs.List.{AllByRecursion};
     ghost use Rattle.csv_tables.specs.Tables.{IsSound};
 
-    /// No tables. Takes no memory.
+    /// No tables, to be hashed with known keys. Takes no memory.
     pub fn new(alloc: Global) -> Tables
         ensures { result ≡ [] }
     {
+        Tables::with_keys(alloc, Keys::Known)
+    }
+
+    /// No tables, to be hashed with these keys. Takes no memory.
+    pub fn with_keys(alloc: Global, keys: Keys) -> Tables
+        ensures { result ≡ [] }
+    {
         Tables {
-            texts: Texts::new(alloc),
+            texts: Texts::new(alloc, keys),
             tables: Vec::new(alloc),
+            keys,
             alloc,
         }
+    }
+
+    /// The keys that the tables are hashed with.
+    pub fn keys(&self) -> Keys {
+        self.keys
     }
 
     /// Adds the table of the bytes of a csv file, and answers its number, from 0 on.
@@ -135,7 +151,12 @@ impl Tables {
         requires column { column < length (table_at self.now table).names }
         ensures { result.now ≡ field_at (table_at self.now table) (row - 1) column }
     {
-        self.texts.get(self.value(table, row, column))
+        let stored = &self.tables[table as usize];
+        let width = stored.names.len();
+        stored
+            .rows
+            .fields
+            .get((row as usize - 1) * width + column as usize)
     }
 
     /// The weight that a field writes: 0 where it is empty, else an optional `+` or `-` and 1 to 39 digits, where that fits an `i128`.
@@ -147,6 +168,10 @@ impl Tables {
         requires column { column < length (table_at self.now table).names }
         ensures { result ≡ weight_of (field_at (table_at self.now table) (row - 1) column) }
     {
+        let number = self.value(table, row, column);
+        if number < FIRST_TEXT {
+            return Some(number as i128);
+        }
         parse_weight(self.field(table, row, column))
     }
 }

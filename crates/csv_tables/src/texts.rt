@@ -1,25 +1,22 @@
-//! The distinct fields of tables, each with a number.
-ghost use Rattle.std.specs.Prelude.{◌≡◌, ◌<◌, [], IfOk, OnErr, OnOk, length, take};
+//! The distinct fields of tables that are not their own numbers, each with a place.
+ghost use Rattle.std.specs.Prelude.{◌≡◌, ◌<◌, ◌++◌, [], IfOk, OnErr, OnOk, length, take};
 ghost use Rattle.csv.specs.Records.{fields_of};
-ghost use Rattle.csv_tables.specs.Values.{Adds, Extends, text_at, with_fields, with_text};
+ghost use Rattle.csv_tables.specs.Values.{Adds, Extends, IsNumber, text_at, with_field, with_fields, with_text};
 
+use crate::fields::FieldList;
+use crate::number::{FIRST_TEXT, own_number};
+use crate::text::Text;
 use csv::ByteRecord;
+use hash_keys::Keys;
 use indexmap::IndexSet;
-use smallvec::SmallVec;
 use std::alloc::Global;
 use std::marker::Model;
 use step_counter::NoMemory;
 
-/// The most bytes of a text that lies in the set itself.
-const SHORT: usize = 16;
-
-/// The distinct fields of tables, numbered from 0 on in the order in which they were first read.
-/// A field of at most 16 bytes lies in the set itself.
+/// The texts of tables: their distinct fields that are not their own numbers, in the order in which they were first read.
 #[derive(Drop)]
 pub(crate) struct Texts {
-    set: IndexSet<SmallVec<u8, 16>>,
-    /// The long text that was looked up last. Its memory is used again for the next.
-    searched: SmallVec<u8, 16>,
+    set: IndexSet<Text, Keys>,
     alloc: Global,
 }
 
@@ -33,13 +30,12 @@ impl Model for Texts {
 }
 
 impl Texts {
-    /// No text.
-    pub(crate) fn new(alloc: Global) -> Texts
+    /// No text. The set hashes with these keys.
+    pub(crate) fn new(alloc: Global, keys: Keys) -> Texts
         ensures { result ≡ [] }
     {
         Texts {
-            set: IndexSet::new(alloc),
-            searched: SmallVec::new(alloc),
+            set: IndexSet::with_hasher(alloc, keys),
             alloc,
         }
     }
@@ -51,67 +47,44 @@ impl Texts {
         self.set.len()
     }
 
-    /// The text with this number.
-    pub(crate) fn get(&self, number: u32) -> &[u8]
-        requires { number < length self.now }
-        ensures { result.now ≡ text_at self.now number }
-    {
-        self.set.as_slice()[number as usize].as_slice()
-    }
-
-    /// The number of a text, which is put last where it is new.
-    pub(crate) fn number(&mut self, text: &[u8]) -> Result<u32, NoMemory>
-        ensures texts { OnOk result (self.new ≡ with_text self.old text.now) }
-        ensures within { IfOk result (λ n. n < length self.new) }
-        ensures shown { IfOk result (λ n. text_at self.new n ≡ text.now) }
+    /// The number of a field, which is put last among the texts where it is new there.
+    pub(crate) fn number(&mut self, field: &[u8]) -> Result<u32, NoMemory>
+        ensures texts { OnOk result (self.new ≡ with_field self.old field.now) }
+        ensures number { IfOk result (IsNumber self.new field.now) }
         ensures err { OnErr result (Extends self.old self.new) }
     {
-        let index = if text.len() <= SHORT {
-            self.put(text)?
-        } else {
-            self.find_or_put(text)?
-        };
-        let Ok(number) = u32::try_from(index) else {
+        if let Some(number) = own_number(field) {
+            return Ok(number);
+        }
+        let place = self.put(field)?;
+        if place >= FIRST_TEXT as usize {
             return Err(NoMemory);
-        };
-        Ok(number)
+        }
+        Ok(FIRST_TEXT + place as u32)
     }
 
-    // The place of a text, which is put last where it is new. A short one takes no memory of its own.
+    // The place of a text, which is put last where it is new.
     fn put(&mut self, text: &[u8]) -> Result<usize, NoMemory>
         ensures texts { OnOk result (self.new ≡ with_text self.old text.now) }
         ensures within { IfOk result (λ n. n < length self.new) }
         ensures shown { IfOk result (λ n. text_at self.new n ≡ text.now) }
         ensures err { OnErr result (self.new ≡ self.old) }
     {
-        let key = SmallVec::from_slice(self.alloc, text)?;
-        let (index, _) = self.set.insert_full(key)?;
-        Ok(index)
+        let text = Text::from_slice(self.alloc, text)?;
+        let (place, _) = self.set.insert_full(text)?;
+        Ok(place)
     }
 
-    // The same, with a look-up first, so that memory is taken for new texts alone.
-    fn find_or_put(&mut self, text: &[u8]) -> Result<usize, NoMemory>
-        ensures texts { OnOk result (self.new ≡ with_text self.old text.now) }
-        ensures within { IfOk result (λ n. n < length self.new) }
-        ensures shown { IfOk result (λ n. text_at self.new n ≡ text.now) }
-        ensures err { OnErr result (self.new ≡ self.old) }
-    {
-        self.searched.clear();
-        self.searched.extend_from_slice(text)?;
-        match self.set.get_index_of(&self.searched) {
-            Some(index) => Ok(index),
-            None => self.put(text),
-        }
-    }
-
-    /// Puts the numbers of the fields of a row behind the numbers in `cells`.
+    /// Puts the numbers of the fields of a row after those in `cells`, and the fields after those in `fields`.
     pub(crate) fn number_row(
         &mut self,
         row: &ByteRecord,
         cells: &mut Vec<u32>,
+        fields: &mut FieldList,
     ) -> Result<(), NoMemory>
         ensures texts { OnOk result (self.new ≡ with_fields self.old (fields_of row.now)) }
         ensures cells { OnOk result (Adds self.new cells.old.items cells.new.items (fields_of row.now)) }
+        ensures fields { OnOk result (fields.new ≡ fields.old ++ fields_of row.now) }
         ensures err { OnErr result (Extends self.old self.new) }
     {
         for i in 0..row.len() {
@@ -119,6 +92,7 @@ impl Texts {
                 unreachable!()
             };
             cells.push(self.number(field)?)?;
+            fields.push(field)?;
         }
         Ok(())
     }

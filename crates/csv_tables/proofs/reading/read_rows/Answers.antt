@@ -16,7 +16,7 @@ returns-in_err-check_row-clause-fault c =
     let found : c.in_ok-next.field-0 ≡ true = search rules in
     let next = rw found at c.in_ok-next.ensures in
     rw (p.1, p.2) (inr (turn-fault c.args.width c.args.records.now c.rows.records c.next.new.self c.args.texts.now c.rows.texts
-    c.rows.count c.rows.cells.items (fields_of c.next.new.row) c.in_err-check_row.field-0.0 c.rows.invariant next
+    c.rows.count c.rows.cells.items c.rows.fields (fields_of c.next.new.row) c.in_err-check_row.field-0.0 c.rows.invariant next
     (sym c.in_err-check_row.was ∙ c.check_row.ensures)))
 
 pub returns-in_err-check_row-clause-err : goal.returns-in_err-check_row-clause-err
@@ -35,8 +35,8 @@ rows-preserved c =
     let found : c.in_ok-next.field-0 ≡ true = search rules in
     let next : c.rows.records ≡ fields ∷ c.next.new.self = rw found at c.in_ok-next.ensures in
     reads-more c.args.width c.args.records.now c.rows.records c.next.new.self c.args.texts.now c.rows.texts c.number_row.new.self
-    c.rows.count c.rows.cells.items c.number_row.new.cells.items fields
-    c.rows.invariant next none c.in_ok-number_row.ensures.texts c.in_ok-number_row.ensures.cells
+    c.rows.count c.rows.cells.items c.number_row.new.cells.items c.rows.fields c.number_row.new.fields fields
+    c.rows.invariant next none c.in_ok-number_row.ensures.texts c.in_ok-number_row.ensures.cells c.in_ok-number_row.ensures.fields
 
 pub returns-clause-err : goal.returns-clause-err
 returns-clause-err c = reads-extends c.rows.invariant

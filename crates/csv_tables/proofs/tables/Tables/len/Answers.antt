@@ -6,21 +6,18 @@ use Rattle.csv_tables.proofs.tables.Tables.len.Goals as goal
 
 pub returns-clause-limit : goal.returns-clause-limit
 returns-clause-limit c =
-    let texts = c.self.inside.texts in
     let stored = c.self.inside.tables.items in
-    let inside : c.args.table < length stored = omega (arith, c.requires, ap length c.self.view_is, length-map stored (shown texts)) in
-    omega (arith, few-rows texts stored c.args.table c.index.result.now inside c.index.ensures c.self.invariant.sound)
+    let inside : c.args.table < length stored = omega (arith, c.requires, ap length c.self.view_is, length-map stored shown) in
+    omega (arith, few-rows stored c.args.table c.index.result.now inside c.index.ensures c.self.invariant.sound)
 
 pub overflow_cast-result : goal.overflow_cast-result
 overflow_cast-result c =
-    let texts = c.self.inside.texts in
     let stored = c.self.inside.tables.items in
-    let inside : c.args.table < length stored = omega (arith, c.requires, ap length c.self.view_is, length-map stored (shown texts)) in
-    omega (arith, few-rows texts stored c.args.table c.index.result.now inside c.index.ensures c.self.invariant.sound)
+    let inside : c.args.table < length stored = omega (arith, c.requires, ap length c.self.view_is, length-map stored shown) in
+    omega (arith, few-rows stored c.args.table c.index.result.now inside c.index.ensures c.self.invariant.sound)
 
 pub returns-clause-rows : goal.returns-clause-rows
 returns-clause-rows c =
-    let texts = c.self.inside.texts in
     let stored = c.self.inside.tables.items in
-    let inside : c.args.table < length stored = omega (arith, c.requires, ap length c.self.view_is, length-map stored (shown texts)) in
-    sym (rows-now texts stored c.args.table c.index.result.now inside c.index.ensures c.args.self.now c.self.view_is)
+    let inside : c.args.table < length stored = omega (arith, c.requires, ap length c.self.view_is, length-map stored shown) in
+    sym (rows-now stored c.args.table c.index.result.now inside c.index.ensures c.args.self.now c.self.view_is)

@@ -6,14 +6,12 @@ use Rattle.csv_tables.proofs.tables.Tables.width.Goals as goal
 
 pub returns-clause-limit : goal.returns-clause-limit
 returns-clause-limit c =
-    let texts = c.self.inside.texts in
     let stored = c.self.inside.tables.items in
-    let inside : c.args.table < length stored = omega (arith, c.requires, ap length c.self.view_is, length-map stored (shown texts)) in
-    omega (arith, c.index.result.now.names.ok.0, few-columns texts stored c.args.table c.index.result.now inside c.index.ensures c.self.invariant.sound)
+    let inside : c.args.table < length stored = omega (arith, c.requires, ap length c.self.view_is, length-map stored shown) in
+    omega (arith, c.index.result.now.names.ok.0, few-columns stored c.args.table c.index.result.now inside c.index.ensures c.self.invariant.sound)
 
 pub overflow_cast-result : goal.overflow_cast-result
 overflow_cast-result c =
-    let texts = c.self.inside.texts in
     let stored = c.self.inside.tables.items in
-    let inside : c.args.table < length stored = omega (arith, c.requires, ap length c.self.view_is, length-map stored (shown texts)) in
-    omega (arith, c.index.result.now.names.ok.0, few-columns texts stored c.args.table c.index.result.now inside c.index.ensures c.self.invariant.sound)
+    let inside : c.args.table < length stored = omega (arith, c.requires, ap length c.self.view_is, length-map stored shown) in
+    omega (arith, c.index.result.now.names.ok.0, few-columns stored c.args.table c.index.result.now inside c.index.ensures c.self.invariant.sound)

@@ -1,10 +1,14 @@
-use Rattle.std.proofs.Common.{◌≡◌, ◌<◌, ◌+◌, ◌∷◌, ◌++◌, [], ◌∙◌, sym, ap, take, length, arith, List, ℕ}
+use Rattle.std.proofs.Common.{◌≡◌, ◌<◌, ◌+◌, ◌∷◌, ◌++◌, [], ◌∙◌, sym, ap, take, length, append_assoc, append-nil, refl, arith, List, ℕ}
 use Rattle.std.proofs.lemmas.List.{take_more}
 use Rattle.csv.specs.Records.{fields_of}
 use Rattle.csv.proofs.RecordFacts.{field-get, field-there}
-use Rattle.csv_tables.specs.Values.{Extends, with_text}
-use Rattle.csv_tables.proofs.Stands.{adds-push, extends-trans, on-err, with_fields-extends, with_fields-push, with_text-extends}
+use Rattle.anyk_model.specs.Table.{Fields}
+use Rattle.csv_tables.specs.Values.{Extends, with_field}
+use Rattle.csv_tables.proofs.Stands.{adds-none, adds-push, extends-trans, on-err, with_fields-extends, with_fields-push, with_field-extends}
 use Rattle.csv_tables.proofs.texts.Texts.number_row.Goals as goal
+
+pub loop-i-init : goal.loop-i-init
+loop-i-init c = (refl, adds-none c.args.self.now c.args.cells.now.items, sym (append-nil c.args.fields.now))
 
 pub unreachable-requires : goal.unreachable-requires
 unreachable-requires c = field-there (fields_of c.args.row.now) c.loop-i.i (omega arith) (sym c.in_default.ensures.value)
@@ -21,8 +25,16 @@ returns-in_err-push-clause-err c =
     let old = c.args.self.now in
     let fields = take c.loop-i.i (fields_of c.args.row.now) in
     let all = with_fields-extends old (fields ++ c.in-Some.field.now ∷ []) in
-    let now = c.in_ok-number.ensures.texts ∙ ap (λ t. with_text t c.in-Some.field.now) c.loop-i.invariant.0 ∙ sym (with_fields-push old fields c.in-Some.field.now) in
+    let now = c.in_ok-number.ensures.texts ∙ ap (λ t. with_field t c.in-Some.field.now) c.loop-i.invariant.0 ∙ sym (with_fields-push old fields c.in-Some.field.now) in
     on-err c.from_residual-in_err-push.result (all.0, now ∙ all.1)
+
+pub returns-in_err-push-2-clause-err : goal.returns-in_err-push-2-clause-err
+returns-in_err-push-2-clause-err c =
+    let old = c.args.self.now in
+    let fields = take c.loop-i.i (fields_of c.args.row.now) in
+    let all = with_fields-extends old (fields ++ c.in-Some.field.now ∷ []) in
+    let now = c.in_ok-number.ensures.texts ∙ ap (λ t. with_field t c.in-Some.field.now) c.loop-i.invariant.0 ∙ sym (with_fields-push old fields c.in-Some.field.now) in
+    on-err c.from_residual-in_err-push-2.result (all.0, now ∙ all.1)
 
 pub loop-i-preserved : goal.loop-i-preserved
 loop-i-preserved c =
@@ -34,10 +46,11 @@ loop-i-preserved c =
     let inside : c.loop-i.i < length row = omega arith in
     let step : take (c.loop-i.i + 1) row ≡ fields ++ field ∷ [] =
     take_more row c.loop-i.i [] inside ∙ ap (λ (f : List ℕ). fields ++ f ∷ []) (field-get row c.loop-i.i field (sym c.in-Some.ensures.value)) in
-    let here = with_text-extends c.loop-i.self field in
+    let here = with_field-extends c.loop-i.self field in
     let more : Extends c.loop-i.self new = (here.0, c.in_ok-number.ensures.texts ∙ here.1) in
     rw (step, c.in_ok-push.ensures.items) (
-      c.in_ok-number.ensures.texts ∙ ap (λ t. with_text t field) c.loop-i.invariant.0 ∙ sym (with_fields-push old fields field),
+      c.in_ok-number.ensures.texts ∙ ap (λ t. with_field t field) c.loop-i.invariant.0 ∙ sym (with_fields-push old fields field),
       adds-push c.loop-i.self new c.args.cells.now.items c.loop-i.cells.items fields c.in_ok-number.field-0 field
-          more c.loop-i.invariant.1 c.in_ok-number.ensures.within c.in_ok-number.ensures.shown,
+          more c.loop-i.invariant.1 c.in_ok-number.ensures.number,
+      c.in_ok-push-2.ensures.added ∙ ap (λ (l : Fields). l ++ field ∷ []) c.loop-i.invariant.2 ∙ append_assoc c.args.fields.now fields (field ∷ []),
     )
