@@ -1,7 +1,9 @@
 -- The tests of rows that classes make.
-use Rattle.std.proofs.Common.{◌≡◌, ◌⊎◌, ◌↔◌, ◌<◌, ◌+◌, ℕ, zero, suc, true, false, not, List, [], ◌∷◌, ◌++◌, map, length, take, get_or, refl, sym, ap, subst, ◌∙◌, inl, inr, arith}
+use Rattle.std.proofs.Common.{◌≡◌, ◌⊎◌, ◌↔◌, ◌<◌, ◌+◌, ◌==◌, ◌&&◌, ℕ, zero, suc, true, false, not, List, [], ◌∷◌, ◌++◌, map, length, take, get_or, refl, sym, ap, subst, ◌∙◌, inl, inr, arith}
+use Rattle.std.specs.List.{list_any}
 use Rattle.std.specs.Str.{bytes_eq}
 use Rattle.std.proofs.lemmas.Bool.{cases_eq, cases_order, not-false, not-true}
+use Rattle.std.proofs.lemmas.Bool.Decides.{Decides-eqb}
 use Rattle.std.proofs.lemmas.Slice.Eq.{bytes_eq-Decides}
 use Rattle.std.proofs.lemmas.List.{map-append, take_more}
 use Rattle.anyk_model.specs.Table.{Table}
@@ -15,7 +17,7 @@ use Rattle.query_bind.specs.Labels.{HasNoPlace, IsFirstPlace, IsLabelling}
 use Rattle.query_bind.specs.Stored.{equality_shown}
 use Rattle.query_bind.specs.declared.bound.BoundEquality.{BoundEquality}
 use Rattle.query_bind.specs.declared.filters.Constant.{Constant}
-use Rattle.query_bind.proofs.Lists.{member-last, member-left, member-map, member-parts, member-unmap}
+use Rattle.query_bind.proofs.Lists.{and-parts, member-last, member-left, member-map, member-parts, member-unmap, or-parts}
 use Rattle.query_bind.proofs.Witness.{linked-back}
 
 abbrev column : ℕ → ℕ → Column
@@ -97,6 +99,25 @@ module _ (label : Column → Column) (item width : ℕ) where
     ];
   }
 
+  -- a constant that is listed already
+  pub constants-again : (es : List Equality) (e : Equality) (bytes : List ℕ) (p : ℕ) (list : List (ℕ × List ℕ)) → HaveConstants label item width es list
+      → e.right ≡ of_constant bytes → IsFirstPlace label item width (label e.left) p → IsMember (p, bytes) list
+      → HaveConstants label item width (es ++ e ∷ []) list
+  constants-again es e bytes p list known is here there = record {
+    sound = λ v m. let k = known.sound v m in (k.0, member-left k.0 es (e ∷ []) k.1, k.2, k.3);
+    found = λ q b m at. elim (member-parts q e es m) [
+      | inl old ↦ known.found q b old at
+      | inr new ↦
+          let sides : of_constant b ≡ of_constant bytes = sym at ∙ ap (λ (z : Equality). z.right) new ∙ is in
+          let same : b ≡ bytes = cc in
+          inr (
+            p,
+            subst (λ (z : List ℕ). IsMember (p, z) list) (sym same) there,
+            subst (λ (z : Equality). IsFirstPlace label item width (label z.left) p) (sym new) here,
+          )
+    ];
+  }
+
   pub constants-skip : (es : List Equality) (e : Equality) (list : List (ℕ × List ℕ)) → HaveConstants label item width es list
       → ((bytes : List ℕ) → e.right ≡ of_constant bytes → HasNoPlace label item width (label e.left)) → HaveConstants label item width (es ++ e ∷ []) list
   constants-skip es e list known none = record {
@@ -106,6 +127,19 @@ module _ (label : Column → Column) (item width : ℕ) where
       | inr new ↦ inl (subst (λ (z : Equality). HasNoPlace label item width (label z.left)) (sym new) (none b (sym (ap (λ (z : Equality). z.right) new) ∙ at)))
     ];
   }
+
+pub listed-member : (place : ℕ) (bytes : List ℕ) (xs : List Constant) → list_any (λ (c : Constant). (c.place == place) && bytes_eq c.bytes bytes) xs ≡ true
+    → IsMember (place, bytes) (map constant_shown xs)
+listed-member place bytes [] h = absurd (cc)
+listed-member place bytes (x ∷ xs) h =
+    elim (or-parts ((x.place == place) && bytes_eq x.bytes bytes) (list_any (λ (c : Constant). (c.place == place) && bytes_eq c.bytes bytes) xs) h) [
+      | inl t ↦
+          let p = and-parts (x.place == place) (bytes_eq x.bytes bytes) t in
+          let a : place ≡ x.place = sym ((Decides-eqb x.place place).0 p.0) in
+          let b : bytes ≡ x.bytes = sym ((bytes_eq-Decides x.bytes bytes).0 p.1) in
+          inl (λ j. (a j, b j))
+      | inr r ↦ inr (listed-member place bytes xs r)
+    ]
 
 -- the first i equalities, and one more
 pub equalities-more : (es : List BoundEquality) (i : ℕ) (e : BoundEquality) → i < length es → e ≡ get_or es i e

@@ -87,6 +87,26 @@ module _ (es : List Equality) (label : Column → Column) (e : Equality) (x y : 
   pub labels-join : IsLabelling more next
   labels-join = record { sound = new-sound; complete = along more next keeps; own = new-own; least = new-least }
 
+-- an equality within a class joins nothing
+module _ (es : List Equality) (label : Column → Column) (e : Equality) (right : Column) (is : e.right ≡ of_column right) (alike : label e.left ≡ label right)
+    (known : IsLabelling es label) where
+  keeps-alike : (q : Equality) (d : Column) → IsMember q (es ++ e ∷ []) → q.right ≡ of_column d → label q.left ≡ label d
+  keeps-alike q d m at = elim (member-parts q e es m) [
+    | inl old ↦ known.complete q.left d (forth old at same)
+    | inr new ↦
+        let sides : of_column right ≡ of_column d = sym is ∙ sym (ap (λ (z : Equality). z.right) new) ∙ at in
+        let one : right ≡ d = cc in
+        ap (λ (z : Equality). label z.left) new ∙ alike ∙ ap label one
+  ]
+
+  pub labels-alike : IsLabelling (es ++ e ∷ []) label
+  labels-alike = record {
+    sound = λ c d h. weaker e (known.sound c d h);
+    complete = along (es ++ e ∷ []) label keeps-alike;
+    own = λ c. weaker e (known.own c);
+    least = known.least;
+  }
+
 -- a constant joins nothing
 module _ (es : List Equality) (label : Column → Column) (e : Equality) (bytes : List ℕ) (is : e.right ≡ of_constant bytes) (known : IsLabelling es label) where
   keeps-old : (q : Equality) (d : Column) → IsMember q (es ++ e ∷ []) → q.right ≡ of_column d → label q.left ≡ label d

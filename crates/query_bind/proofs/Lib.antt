@@ -1,4 +1,3 @@
-pub mod Adding
 pub mod AllFilters
 pub mod AllVariables
 pub mod Binds
@@ -18,6 +17,8 @@ pub mod Parts
 pub mod Range
 pub mod Readers
 pub mod Search
+pub mod Tallied
+pub mod Tallying
 pub mod TextOrder
 pub mod VariablesFound
 pub mod Witness

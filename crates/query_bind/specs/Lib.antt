@@ -14,6 +14,7 @@ pub mod Parts
 pub mod Stored
 pub mod QueryView
 pub mod Relabelled
+pub mod Tallies
 pub mod TextOrder
 pub mod Variables
 pub mod View

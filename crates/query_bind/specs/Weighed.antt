@@ -1,5 +1,5 @@
 -- A bound query with what its rows add to the order keys.
-use Rattle.std.specs.Prelude.{◌≡◌, ◌<◌, ◌≤◌, ℕ, List, [], map, length, get_or, None, ℤ}
+use Rattle.std.specs.Prelude.{◌≡◌, ◌<◌, ◌≤◌, ℕ, List, [], ◌∷◌, map, length, get_or, None, ℤ}
 use Rattle.std.specs.List.{range_with_len}
 use Rattle.anyk_model.specs.Table.{Table}
 use Rattle.anyk_model.specs.Query.{Query, Item, Column, OrderKey}
@@ -7,17 +7,17 @@ use Rattle.query_bind.specs.Classes.{AreVariables, AreVariablesOf}
 use Rattle.query_bind.specs.Filters.{IsFilterOf, ItemFilter, filter_at}
 use Rattle.query_bind.specs.Inside.{IsWithin}
 use Rattle.query_bind.specs.Parts.{numbers_of}
-use Rattle.query_bind.specs.Weights.{cap_of, part_of, range_fault, table_in, weights_fault}
+use Rattle.query_bind.specs.Weights.{cap_of, part_of, range_fault, table_in, terms_in, weights_fault}
 
--- of a key: the cap of each item, and what each of its rows adds
-pub record KeyWeights : Type 0 where
-  pub caps : List ℕ
-  pub parts : List (List ℤ)
+-- what an item adds to a key: the greatest absolute part that its columns allow, and the part of each row
+pub record ItemParts : Type 0 where
+  pub cap : ℕ
+  pub parts : List ℤ
 
 -- its variables: of each the least column, and of each item its variables by number, each with its least column there; and what the rows of each item are tested by
 pub record BoundQuery : Type 0 where
   pub query : Query
-  pub weighed : List KeyWeights
+  pub weighed : List (List ItemParts)
   pub variables : List Column
   pub lists : List (List (ℕ × ℕ))
   pub filters : List ItemFilter
@@ -26,15 +26,22 @@ pub record BoundQuery : Type 0 where
 abbrev pub variables_at : List (List (ℕ × ℕ)) → ℕ → List (ℕ × ℕ)
 variables_at lists item = get_or lists item []
 
+-- nothing is kept of an item without a term
+abbrev pub kept : {A : Type 0} → List A → List ℤ → List ℤ
+kept [] parts = []
+kept (x ∷ xs) parts = parts
+
 -- what the rows of an item add to a key
 abbrev pub row_parts : List Table → List Item → OrderKey → ℕ → List ℤ
-row_parts tables items key item = map (λ row. part_of tables items item row key) (range_with_len 1 (length (table_in tables items item).rows))
+row_parts tables items key item =
+    kept (terms_in item key.terms) (map (λ row. part_of tables items item row key) (range_with_len 1 (length (table_in tables items item).rows)))
 
-abbrev pub key_weights : List Table → List Item → OrderKey → KeyWeights
-key_weights tables items key = record {
-  caps = map (λ i. cap_of tables items i key) (numbers_of items);
-  parts = map (row_parts tables items key) (numbers_of items);
-}
+abbrev pub item_parts : List Table → List Item → OrderKey → ℕ → ItemParts
+item_parts tables items key item = record { cap = cap_of tables items item key; parts = row_parts tables items key item }
+
+-- what each item adds to a key
+abbrev pub key_parts : List Table → List Item → OrderKey → List ItemParts
+key_parts tables items key = map (item_parts tables items key) (numbers_of items)
 
 -- the query was bound to these tables, and has an item
 pub record Fits (bound : BoundQuery) (tables : List Table) : Type 0 where
@@ -42,7 +49,7 @@ pub record Fits (bound : BoundQuery) (tables : List Table) : Type 0 where
   pub within : IsWithin bound.query tables
   pub weights : weights_fault tables bound.query.items bound.query.order ≡ None
   pub range : range_fault tables bound.query.items bound.query.order ≡ None
-  pub weighed : bound.weighed ≡ map (key_weights tables bound.query.items) bound.query.order
+  pub weighed : bound.weighed ≡ map (key_parts tables bound.query.items) bound.query.order
   pub variables : AreVariables bound.query.equalities bound.variables
   pub few : length bound.variables ≤ 1024
   pub listed : length bound.lists ≡ length bound.query.items

@@ -12,19 +12,19 @@ ghost use Rattle.query_bind.specs.Labels.{IsLabelling, least_in};
 ghost use Rattle.query_bind.specs.Stored.{column_shown};
 ghost use Rattle.query_bind.specs.TextOrder.{IsFirstFailing, IsReferenceFault};
 ghost use Rattle.query_bind.specs.Variables.{HasVariables, lists_shown};
-ghost use Rattle.query_bind.specs.Weighed.{Fits, key_weights};
+ghost use Rattle.query_bind.specs.Weighed.{Fits, key_parts};
 ghost use Rattle.query_bind.specs.WeighedView.{weighed_shown};
 ghost use Rattle.query_bind.specs.Weights.{range_fault, weights_fault};
 
 use crate::binding::{all_columns, bind_equalities, bind_items, bind_keys, bind_list};
-use crate::bound::Weighed;
+use crate::bound::ItemWeights;
 use crate::classes::Member;
 use crate::fault::BindFault;
 use crate::filters::{Filter, filters_of};
 use crate::query::Query;
 use crate::selection::Selection;
 use crate::variables::{Variables, find_variables, places_of_all};
-use crate::weighing::{check_weights, weigh};
+use crate::weighing::weigh;
 use csv_tables::Tables;
 use query_parse::select::Select;
 use std::alloc::{AllocError, Global};
@@ -71,9 +71,9 @@ fn weigh_selection(
     alloc: Global,
     selection: &Selection,
     tables: &Tables,
-) -> Result<Vec<Weighed>, BindFault>
+) -> Result<Vec<Vec<ItemWeights>>, BindFault>
     requires { IsWithin selection.now tables.now }
-    ensures weighed { IfOk result (λ v. map weighed_shown v.items ≡ map (key_weights tables.now selection.now.items) selection.now.order) }
+    ensures weighed { IfOk result (λ v. map weighed_shown v.items ≡ map (key_parts tables.now selection.now.items) selection.now.order) }
     ensures weights { OnOk result (weights_fault tables.now selection.now.items selection.now.order ≡ None) }
     ensures range { OnOk result (range_fault tables.now selection.now.items selection.now.order ≡ None) }
     ensures fault { IfErr result (Tells (or_else (weights_fault tables.now selection.now.items selection.now.order)
@@ -82,9 +82,7 @@ fn weigh_selection(
     let _tables = tables.count();
     let items = selection.items.as_slice();
     let keys = selection.keys.as_slice();
-    check_weights(items, tables, keys)?;
-    let weighed = weigh(alloc, items, tables, keys)?;
-    Ok(weighed)
+    weigh(alloc, items, tables, keys)
 }
 
 /// The variables of a query, and those of each of its items.

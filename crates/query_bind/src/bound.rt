@@ -37,9 +37,10 @@ pub(crate) struct BoundKey {
     pub(crate) descending: bool,
 }
 
-/// What items add to an order key: the cap of each item, and the part of each of its rows.
+/// What an item adds to an order key: the greatest absolute part that its columns allow, and the part of each of its rows. An
+/// item without a column in the key keeps no parts.
 #[derive(Drop)]
-pub(crate) struct Weighed {
-    pub(crate) caps: Vec<u128>,
-    pub(crate) parts: Vec<Vec<i128>>,
+pub(crate) struct ItemWeights {
+    pub(crate) cap: u128,
+    pub(crate) parts: Vec<i128>,
 }

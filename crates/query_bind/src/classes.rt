@@ -64,13 +64,16 @@ fn relabel(classes: &mut [Member], new: (u32, u32), old: (u32, u32))
     }
 }
 
-/// Joins the classes of two columns.
+/// Joins the classes of two columns, where they are not one class already. So there are fewer members than columns.
 fn join(classes: &mut Vec<Member>, left: (u32, u32), right: (u32, u32)) -> Result<(), AllocError>
     ensures { OnOk result ((es : List Equality) (e : Equality) → e.left ≡ column_shown left → e.right ≡ of_column (column_shown right)
         → IsLabelling es (least_in classes.old.items) → IsLabelling (es ++ e ∷ []) (least_in classes.new.items)) }
 {
     let a = least_of(classes.as_slice(), left);
     let b = least_of(classes.as_slice(), right);
+    if a == b {
+        return Ok(());
+    }
     let (new, old) = in_order(a, b);
     classes.push(Member {
         column: old,

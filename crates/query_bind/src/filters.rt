@@ -1,6 +1,8 @@
 //! What the rows of an item are tested by, so that only those that pass are taken.
-ghost use Rattle.std.specs.Prelude.{◌≡◌, ◌≤◌, ◌<◌, ◌-◌, ◌↔◌, length, map, IfOk, IsTrue};
-ghost use Rattle.std.specs.List.{AllByRecursion};
+ghost use Rattle.std.specs.Prelude.{◌≡◌, ◌≤◌, ◌<◌, ◌-◌, ◌↔◌, ◌==◌, ◌&&◌, length, map, IfOk, IsTrue};
+ghost use Rattle.std.specs.List.{AllByRecursion, list_any};
+ghost use Rattle.std.specs.Str.{bytes_eq};
+ghost use Rattle.query_bind.specs.declared.filters.Constant.{Constant};
 ghost use Rattle.query_bind.specs.declared.bound.BoundItem.{BoundItem};
 ghost use Rattle.anyk_model.specs.Table.{field_at, table_at};
 ghost use Rattle.query_bind.specs.Filters.{HasConstants, HasEqual, HaveConstants, HavePairs};
@@ -48,7 +50,16 @@ fn pairs_of(
     Ok(pairs)
 }
 
-/// The constants that equalities give to the columns of an item.
+/// Whether a constant is listed for a place.
+fn is_listed(constants: &[Constant], place: u32, bytes: &[u8]) -> bool
+    ensures { result ≡ list_any (λ (c : Constant). (c.place == place) && bytes_eq c.bytes bytes.now) constants.now }
+{
+    constants
+        .iter()
+        .any(|c| c.place == place && c.bytes.bytes() == bytes)
+}
+
+/// The constants that equalities give to the columns of an item, each once.
 fn constants_of(
     alloc: Global,
     classes: &[Member],
@@ -67,6 +78,9 @@ fn constants_of(
         let Some(place) = first_place(classes, item, width, least) else {
             continue;
         };
+        if is_listed(constants.as_slice(), place, bytes.bytes()) {
+            continue;
+        }
         let bytes = Bytes::from_vec(Vec::from_slice(alloc, bytes.bytes())?);
         constants.push(Constant { place, bytes })?;
     }

@@ -18,6 +18,7 @@ mod laws;
 mod names;
 mod query;
 mod selection;
+mod tallies;
 mod variables;
 mod weighing;
 

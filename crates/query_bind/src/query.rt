@@ -8,11 +8,12 @@ ghost use Rattle.query_bind.specs.Classes.{AreVariablesOf, Passes};
 ghost use Rattle.query_bind.specs.Weighed.{Fits, variables_at};
 ghost use Rattle.query_bind.specs.Weights.{cap_of, key_at, part_of, table_in};
 
-use crate::bound::{BoundEquality, Weighed};
+use crate::bound::{BoundEquality, ItemWeights};
 use crate::filters::{Filter, stands};
 use crate::item_sets::item_sets;
 use crate::selection::Selection;
 use crate::variables::Variables;
+use crate::weighing::part_at;
 use csv_tables::Tables;
 use hyper_graph::Graph;
 use std::alloc::Global;
@@ -23,7 +24,7 @@ use step_counter::NoMemory;
 #[derive(Drop)]
 pub struct Query {
     pub(crate) selection: Selection,
-    pub(crate) weighed: Vec<Weighed>,
+    pub(crate) weighed: Vec<Vec<ItemWeights>>,
     pub(crate) variables: Variables,
     pub(crate) filters: Vec<Filter>,
     pub(crate) alloc: Global,
@@ -122,7 +123,8 @@ impl Query {
         requires key { key < length self.now.query.order }
         ensures { result ≡ part_of _tables.now self.now.query.items item row (key_at self.now.query.order key) }
     {
-        self.weighed[key as usize].parts[item as usize][row as usize - 1]
+        let parts = &self.weighed[key as usize][item as usize].parts;
+        part_at(parts.as_slice(), row as usize - 1)
     }
 
     /// The greatest absolute part that the columns of an item allow. The query fits some tables.
@@ -132,7 +134,7 @@ impl Query {
         requires key { key < length self.now.query.order }
         ensures { (tables : List Table) → Fits self.now tables → result ≡ cap_of tables self.now.query.items item (key_at self.now.query.order key) }
     {
-        self.weighed[key as usize].caps[item as usize]
+        self.weighed[key as usize][item as usize].cap
     }
 
     /// How many variables there are. The query fits some tables.

@@ -4,8 +4,17 @@ use Rattle.query_bind.specs.Labels.{IsLabelling, least_in}
 use Rattle.query_bind.specs.Relabelled.{with_least}
 use Rattle.query_bind.specs.Stored.{column_shown}
 use Rattle.query_bind.specs.declared.classes.Member.{Member}
-use Rattle.query_bind.proofs.Labels.{joins, written-back}
+use Rattle.query_bind.proofs.Labels.{joins, labels-alike, written-back}
+use Rattle.query_bind.proofs.Order.{same-true}
 use Rattle.query_bind.proofs.classes.join.Goals as goal
+
+pub returns-then-eq : goal.returns-then-eq
+returns-then-eq c = λ es e left right known.
+    let ms = c.args.classes.now.items in
+    let label_a = c.least_of-a.ensures ∙ ap (λ (l : List Member). least_in l (column_shown c.args.left)) c.as_slice.ensures.value in
+    let label_b = c.least_of-b.ensures ∙ ap (λ (l : List Member). least_in l (column_shown c.args.right)) c.as_slice-2.ensures.value in
+    let one = same-true (column_shown c.least_of-a.result) (column_shown c.least_of-b.result) (sym c.eq.ensures ∙ c.if-eq.true) in
+    labels-alike es (least_in ms) e (column_shown c.args.right) right (ap (least_in ms) left ∙ sym label_a ∙ one ∙ label_b) known
 
 pub returns : goal.returns
 returns c = λ es e left right known.

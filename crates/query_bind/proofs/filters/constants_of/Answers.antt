@@ -5,7 +5,9 @@ use Rattle.query_bind.specs.FilterViews.{constant_shown}
 use Rattle.query_bind.specs.Filters.{HaveConstants}
 use Rattle.query_bind.specs.Labels.{HasNoPlace, IsFirstPlace, least_in}
 use Rattle.query_bind.specs.Stored.{column_shown, equality_shown, side_shown}
-use Rattle.query_bind.proofs.Filtering.{constants-more, constants-skip, equalities-more}
+use Rattle.rankings.specs.Order.{IsMember}
+use Rattle.query_bind.specs.declared.filters.Constant.{Constant}
+use Rattle.query_bind.proofs.Filtering.{constants-again, constants-more, constants-skip, equalities-more, listed-member}
 use Rattle.query_bind.proofs.filters.constants_of.Goals as goal
 
 pub loop-equality-preserved-in_default : goal.loop-equality-preserved-in_default
@@ -31,6 +33,25 @@ loop-equality-preserved-in_default-first_place c =
     subst (λ (l : List Equality). HaveConstants label c.args.item c.args.width l list) (equalities-more es i e c.loop-equality-test.true c.equality-item.is)
     (constants-skip label c.args.item c.args.width (map equality_shown (take i es)) (equality_shown e) list c.loop-equality.invariant (λ bytes is. none))
 
+pub loop-equality-preserved-then-is_listed : goal.loop-equality-preserved-then-is_listed
+loop-equality-preserved-then-is_listed c =
+    let label = least_in c.args.classes.now in
+    let i = c.loop-equality.equality-index in
+    let es = c.args.equalities.now in
+    let e = c.equality-item.result in
+    let xs = c.loop-equality.constants.items in
+    let p = c.in-Some.place in
+    let bytes = c.in-Constant.bytes in
+    let constant : side_shown e.right ≡ of_constant bytes = ap side_shown c.in-Constant.is in
+    let here = subst (λ (z : Column). IsFirstPlace label c.args.item c.args.width z p) c.least_of-least.ensures c.in-Some.ensures in
+    let listed = listed-member p c.bytes.result.now c.as_slice.result.now (sym c.is_listed.ensures ∙ c.if-is_listed.true) in
+    let there : IsMember (p, bytes) (map constant_shown xs) =
+    subst (λ (b : List ℕ). IsMember (p, b) (map constant_shown xs)) c.bytes.ensures
+    (subst (λ (l : List Constant). IsMember (p, c.bytes.result.now) (map constant_shown l)) c.as_slice.ensures.value listed) in
+    subst (λ (l : List Equality). HaveConstants label c.args.item c.args.width l (map constant_shown xs))
+    (equalities-more es i e c.loop-equality-test.true c.equality-item.is)
+    (constants-again label c.args.item c.args.width (map equality_shown (take i es)) (equality_shown e) bytes p (map constant_shown xs) c.loop-equality.invariant constant here there)
+
 pub loop-equality-preserved : goal.loop-equality-preserved
 loop-equality-preserved c =
     let label = least_in c.args.classes.now in
@@ -40,7 +61,7 @@ loop-equality-preserved c =
     let list = map constant_shown c.loop-equality.constants.items in
     let p = c.in-Some.place in
     let bytes = c.from_vec-bytes.result in
-    let copied : bytes ≡ c.in-Constant.bytes = c.from_vec-bytes.ensures ∙ c.in_ok-from_slice.ensures.items ∙ c.bytes.ensures in
+    let copied : bytes ≡ c.in-Constant.bytes = c.from_vec-bytes.ensures ∙ c.in_ok-from_slice.ensures.items ∙ c.bytes-in-loop-equality.ensures in
     let constant : side_shown e.right ≡ of_constant bytes = ap side_shown c.in-Constant.is ∙ ap of_constant (sym copied) in
     let here = subst (λ (z : Column). IsFirstPlace label c.args.item c.args.width z p) c.least_of-least.ensures c.in-Some.ensures in
     let pushed : map constant_shown c.push.new.self.items ≡ list ++ (p, bytes) ∷ [] =

@@ -1,0 +1,6 @@
+use Rattle.std.proofs.Common.{◌≡◌, [], replicate}
+use Rattle.query_bind.specs.WeighedView.{weighed_shown}
+use Rattle.query_bind.proofs.weighing.no_weights.Given as goal
+
+abbrev pub invariant-loop : goal.invariant-loop
+invariant-loop l = weighed_shown l.items ≡ replicate l.counter (record { cap = 0; parts = [] })

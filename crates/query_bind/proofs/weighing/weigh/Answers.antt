@@ -1,0 +1,42 @@
+use Rattle.std.proofs.Common.{◌≡◌, ◌<◌, ◌+◌, ◌∙◌, ◌∷◌, ◌++◌, [], sym, ap, subst, length, map, take, get_or, arith, ℕ, List, Option}
+use Rattle.std.proofs.lemmas.List.{get_or-map, length-map, map-append, take_more}
+use Rattle.std.proofs.lemmas.Result.{err_from_is_err_and}
+use Rattle.anyk_model.specs.Query.{OrderKey}
+use Rattle.query_bind.specs.Measured.{HasKeys}
+use Rattle.query_bind.specs.Stored.{items_shown, key_shown}
+use Rattle.query_bind.specs.Weighed.{ItemParts, key_parts}
+use Rattle.query_bind.specs.WeighedView.{weighed_shown}
+use Rattle.query_bind.proofs.Measuring.{keys-fault, keys-more, no-key-met}
+use Rattle.query_bind.proofs.weighing.weigh.Goals as goal
+
+pub returns-in_err-sum-clause-fault : goal.returns-in_err-sum-clause-fault
+returns-in_err-sum-clause-fault c =
+    let p = err_from_is_err_and c.from_residual.result c.from_residual.ensures.1 in
+    let keys = c.args.keys.now in
+    let i = c.loop-i.i in
+    let x = c.index-keys-i.result in
+    let inside : i < length (map key_shown keys) = omega (arith, length-map keys key_shown) in
+    let here : get_or (map key_shown keys) i (key_shown x) ≡ key_shown x = get_or-map key_shown keys i x (key_shown x) c.loop-i-test.true ∙ ap key_shown (sym c.index-keys-i.is) in
+    rw (p.1, p.2) (keys-fault c.args.tables.now (items_shown c.args.items.now) (map key_shown keys) i c.loop-i.first c.loop-i.invariant.0
+    (key_shown x) c.in_err-sum.field-0.0 inside here c.in_err-sum.ensures.fault)
+
+pub loop-i-preserved : goal.loop-i-preserved
+loop-i-preserved c =
+    let tables = c.args.tables.now in
+    let items = items_shown c.args.items.now in
+    let keys = c.args.keys.now in
+    let order = map key_shown keys in
+    let i = c.loop-i.i in
+    let x = c.index-keys-i.result in
+    let inside : i < length order = omega (arith, length-map keys key_shown) in
+    let here : get_or order i (key_shown x) ≡ key_shown x = get_or-map key_shown keys i x (key_shown x) c.loop-i-test.true ∙ ap key_shown (sym c.index-keys-i.is) in (
+      subst (λ (o : Option ℕ). HasKeys tables items order (i + 1) o) (sym c.first_past-first.ensures)
+          (keys-more tables items order i c.loop-i.first c.loop-i.invariant.0 (key_shown x) c.in_ok-sum.sum inside here c.in_ok-sum.ensures.size c.in_ok-sum.ensures.sound),
+      λ none.
+          let met = no-key-met c.loop-i.first c.in_ok-sum.sum (i + 1) (sym c.first_past-first.ensures ∙ none) in
+          let more : take (i + 1) order ≡ take i order ++ key_shown x ∷ [] = take_more order i (key_shown x) inside ∙ ap (λ (k : OrderKey). take i order ++ k ∷ []) here in
+          ap (map weighed_shown) c.in_ok-push.ensures.items ∙ map-append weighed_shown c.loop-i.weighed.items (c.in_ok-sum.parts ∷ [])
+          ∙ ap (λ (l : List (List ItemParts)). l ++ weighed_shown c.in_ok-sum.parts ∷ []) (c.loop-i.invariant.1 met.0)
+          ∙ ap (λ (l : List ItemParts). map (key_parts tables items) (take i order) ++ l ∷ []) (c.in_ok-sum.ensures.parts met.1)
+          ∙ sym (ap (map (key_parts tables items)) more ∙ map-append (key_parts tables items) (take i order) (key_shown x ∷ [])),
+    )

@@ -1,0 +1,56 @@
+-- The columns of an order key, each with how often it is added and subtracted.
+use Rattle.std.specs.Prelude.{◌≡◌, ℕ, ◌+◌, ◌*◌, ◌==◌, Bool, if◌then◌else◌, List, map, filter, Option, ℤ, pos, ◌-ℤ◌, ◌*ℤ◌, neg_ℤ}
+use Rattle.anyk_model.specs.Table.{Table}
+use Rattle.anyk_model.specs.Query.{Item, Column, Term, total}
+use Rattle.rankings.specs.Order.{IsMember}
+use Rattle.query_bind.specs.Names.{first_of}
+use Rattle.query_bind.specs.Parts.{sum_of_all}
+use Rattle.query_bind.specs.Stored.{column_shown}
+use Rattle.query_bind.specs.Weights.{column_size, worth_at}
+use Rattle.query_bind.specs.declared.fault.BindFault.{BindFault}
+use Rattle.query_bind.specs.declared.tallies.Tally.{Tally}
+
+-- a tally with one term more
+abbrev pub with_one : Bool → Tally → Tally
+with_one minus y =
+    if minus then record { column = y.column; plus = y.plus; minus = y.minus + 1 }
+    else record { column = y.column; plus = y.plus + 1; minus = y.minus }
+
+-- how often a column counts
+abbrev pub net : Tally → ℤ
+net y = pos y.plus -ℤ pos y.minus
+
+-- what a term adds, and what a tally adds, where each column is worth so much
+abbrev pub term_worth : (Column → ℤ) → Term → ℤ
+term_worth worth t = if t.minus then neg_ℤ (worth t.column) else worth t.column
+
+abbrev pub tally_worth : (Column → ℤ) → Tally → ℤ
+tally_worth worth y = net y *ℤ worth (column_shown y.column)
+
+-- the size of a tally, where each column has a size
+abbrev pub tally_size : (Column → ℕ) → Tally → ℕ
+tally_size size y = (y.plus + y.minus) * size (column_shown y.column)
+
+-- tallies that come to the same as some terms, whatever the columns are worth, and have no other columns
+pub record AreTallies (terms : List Term) (tallies : List Tally) : Type 0 where
+  pub worth : (worth : Column → ℤ) → total (map (term_worth worth) terms) ≡ total (map (tally_worth worth) tallies)
+  pub size : (size : Column → ℕ) → sum_of_all (map (λ (t : Term). size t.column) terms) ≡ sum_of_all (map (tally_size size) tallies)
+  pub fault : (fault_at : Column → Option BindFault)
+      → first_of (λ (t : Term). fault_at t.column) terms ≡ first_of (λ (y : Tally). fault_at (column_shown y.column)) tallies
+  pub named : (y : Tally) → IsMember y tallies → (t : Term) × IsMember t terms × (t.column ≡ column_shown y.column)
+
+-- ---- the tallies of an item
+
+abbrev pub tallies_in : ℕ → List Tally → List Tally
+tallies_in item tallies = filter (λ (y : Tally). y.column.0 == item) tallies
+
+-- the sum of the greatest weights, each as often as its column counts
+abbrev pub tallies_size : List Table → List Item → List Tally → ℕ
+tallies_size tables items tallies = sum_of_all (map (tally_size (column_size tables items)) tallies)
+
+-- what tallies add at a row
+abbrev pub tallies_sum : List Table → List Item → ℕ → List Tally → ℤ
+tallies_sum tables items row tallies = total (map (tally_worth (worth_at tables items row)) tallies)
+
+abbrev pub signed : Bool → ℤ → ℤ
+signed descending z = if descending then neg_ℤ z else z

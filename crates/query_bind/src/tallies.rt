@@ -1,0 +1,87 @@
+//! The columns of an order key, each once, with how often the key adds and subtracts it. A key may name a column any number
+//! of times, and what is done for each row then depends on the distinct columns alone.
+ghost use Rattle.std.specs.Prelude.{◌≡◌, ◌<◌, ◌+◌, ◌^◌, ◌++◌, ◌∷◌, [], List, map, length, get_or, IfOk, OnOk, IfSome};
+ghost use Rattle.anyk_model.specs.Query.{Term};
+ghost use Rattle.query_bind.specs.Parts.{sum_of_all};
+ghost use Rattle.query_bind.specs.Stored.{term_shown};
+ghost use Rattle.query_bind.specs.Tallies.{AreTallies, tally_size, with_one};
+
+use crate::bound::BoundTerm;
+use std::alloc::{AllocError, Global};
+
+/// A column of an order key, with how often it is added and how often it is subtracted.
+#[derive(Clone, Copy)]
+pub(crate) struct Tally {
+    pub(crate) column: (u32, u32),
+    pub(crate) plus: u64,
+    pub(crate) minus: u64,
+}
+
+/// A tally with one term more.
+fn counted(tally: Tally, minus: bool) -> Tally
+    requires { tally.plus + tally.minus + 1 < 2 ^ 64 }
+    ensures { result ≡ with_one minus tally }
+{
+    let column = tally.column;
+    if minus {
+        Tally {
+            column,
+            plus: tally.plus,
+            minus: tally.minus + 1,
+        }
+    } else {
+        Tally {
+            column,
+            plus: tally.plus + 1,
+            minus: tally.minus,
+        }
+    }
+}
+
+/// The place of a column among tallies.
+fn place_of(tallies: &[Tally], column: (u32, u32)) -> Option<usize>
+    ensures within { IfSome result (λ place. place < length tallies.now) }
+    ensures there { IfSome result (λ place. (d : Tally) → (get_or tallies.now place d).column ≡ column) }
+{
+    for i in 0..tallies.len() {
+        if tallies[i].column == column {
+            return Some(i);
+        }
+    }
+    None
+}
+
+/// Counts one term more.
+fn count(tallies: &mut Vec<Tally>, term: &BoundTerm) -> Result<(), AllocError>
+    requires { sum_of_all (map (tally_size (λ c. 1)) tallies.old.items) + 1 < 2 ^ 64 }
+    ensures { OnOk result ((terms : List Term) → AreTallies terms tallies.old.items
+        → AreTallies (terms ++ term_shown term.now ∷ []) tallies.new.items) }
+{
+    let column = term.column;
+    match place_of(tallies.as_slice(), column) {
+        Some(place) => {
+            tallies[place] = counted(tallies[place], term.minus);
+            Ok(())
+        }
+        None => {
+            let fresh = Tally {
+                column,
+                plus: 0,
+                minus: 0,
+            };
+            tallies.push(counted(fresh, term.minus))?;
+            Ok(())
+        }
+    }
+}
+
+/// The columns that terms name, each once, in the order in which they are first named.
+pub(crate) fn tallies_of(alloc: Global, terms: &[BoundTerm]) -> Result<Vec<Tally>, AllocError>
+    ensures { IfOk result (λ v. AreTallies (map term_shown terms.now) v.items) }
+{
+    let mut tallies = Vec::new(alloc);
+    for term in terms {
+        count(&mut tallies, term)?;
+    }
+    Ok(tallies)
+}
