@@ -7,6 +7,7 @@ pub mod NodeViews
 pub mod PlacesPut
 pub mod RawFacts
 pub mod RawReads
+pub mod RawRowLists
 pub mod RowKeys
 pub mod RowPlaces
 pub mod SeenFacts

@@ -1,4 +1,5 @@
 pub mod RawData
+pub mod RawRows
 pub mod RisingShares
 pub mod RowGroups
 pub mod Seen

@@ -1,30 +1,17 @@
 -- What contracts see of a raw tree.
 use Rattle.std.specs.Prelude.{◌≡◌, ℕ, ◌≤◌, ◌<◌, List, [], ◌∷◌, ◌++◌, map, length, slice_index, slice_index_or, slice_get, slice_set, Option}
 use Rattle.std.specs.List.{All, sum_by}
-use Rattle.std.specs.declared.vec.Vec.{Vec}
 use Rattle.tdp_model.specs.KeyTuple.{KeyOf, key_none}
 use Rattle.tdp_core.specs.declared.parts.NodeShape.{NodeShape}
 use Rattle.tdp_core.specs.declared.parts.NodeRow.{NodeRow}
-use Rattle.tdp_core.specs.declared.raw_row.RawRow.{RawRow}
+pub use Rattle.tdp_core.specs.RawRows.{RawRowData}
 use Rattle.tdp_core.specs.TreeData.{kids_below, cap_of}
 use Rattle.tdp_core.specs.WellFormed.{IsShaped, RowFits}
-
--- a row, its own link, and the link that it names for each child of its node
-pub record RawRowData (R : Type 0) : Type 0 where
-  pub row : NodeRow R
-  pub own : ℕ
-  pub children : List ℕ
 
 -- the nodes' shapes, and the rows of each node
 pub record RawData (R : Type 0) : Type 0 where
   pub shapes : List NodeShape
   pub rows : List (List (RawRowData R))
-
-abbrev pub raw_row : {R : Type 0} → RawRow R → RawRowData R
-raw_row x = record { row = x.row; own = x.own; children = x.children.items }
-
-abbrev pub raw_rows : {R Z : Type 0} → List (Vec (RawRow R) Z) → List (List (RawRowData R))
-raw_rows rows = map (λ rs. map raw_row rs.items) rows
 
 -- # Shapes
 
@@ -64,6 +51,10 @@ row_total t = sum_by length t.rows
 -- the tree with one more row at node v
 abbrev pub with_row : {R : Type 0} → RawData R → ℕ → RawRowData R → RawData R
 with_row t v x = record { shapes = t.shapes; rows = slice_set t.rows v (rows_at t v ++ x ∷ []) }
+
+-- the tree without the rows of node v
+abbrev pub without_rows : {R : Type 0} → RawData R → ℕ → RawData R
+without_rows t v = record { shapes = t.shapes; rows = slice_set t.rows v [] }
 
 module _ {R : Type 0} (t : RawData R) where
   -- how many rows node v has

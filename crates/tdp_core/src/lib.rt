@@ -8,7 +8,7 @@
 mod groups;
 mod parts;
 mod ranked;
-mod raw_row;
+mod raw_rows;
 mod raw_tree;
 mod tree;
 

@@ -1,10 +1,11 @@
-ghost use Rattle.std.specs.Prelude.{◌≡◌, ℕ, ◌+◌, ◌<◌, Some, [], ◌∷◌, ◌++◌, length, replicate, slice_get, slice_index_or, slice_set, vec_len, IfOk, OnOk, OnErr};
-ghost use Rattle.tdp_core.specs.RawData.{AreShapes, IsRawFormed, RawRowFits, raw_row, raw_rows, rows_at, row_total, with_row, shape_at, shape_children, raw_len, raw_row_at, raw_rank, raw_number, own_link, child_link};
+//! Trees whose rows are not yet in groups.
+ghost use Rattle.std.specs.Prelude.{◌≡◌, ℕ, ◌+◌, ◌<◌, Some, [], length, replicate, IfOk, OnOk, OnErr};
+ghost use Rattle.tdp_core.specs.RawData.{AreShapes, IsRawFormed, RawRowFits, row_total, with_row, without_rows, shape_at, shape_children, raw_len, raw_row_at, raw_rank, raw_number, own_link, child_link};
 
 use crate::parts::{NodeRow, NodeShape};
-use crate::raw_row::RawRow;
+use crate::raw_rows::RawRows;
+use hash_keys::Keys;
 use rank_key::Rank;
-use smallvec::SmallVec;
 use std::alloc::Global;
 use std::marker::Model;
 use step_counter::NoMemory;
@@ -14,17 +15,18 @@ use step_counter::NoMemory;
 #[derive(Drop)]
 pub struct RawTree<R: Rank> {
     shapes: Vec<NodeShape>,
-    rows: Vec<Vec<RawRow<R>>>,
+    rows: Vec<RawRows<R>>,
+    keys: Keys,
 }
 
 impl<R: Rank> Model for RawTree<R> {
-    ghost use Rattle.tdp_core.specs.RawData.{RawData, IsRawFormed, raw_rows};
+    ghost use Rattle.tdp_core.specs.RawData.{RawData, IsRawFormed};
 
     ghost Value = { RawData R };
 
-    ghost view = { λ t. record { shapes = t.shapes.items; rows = raw_rows t.rows.items } };
+    ghost view = { λ t. record { shapes = t.shapes.items; rows = t.rows.items } };
 
-    ghost invariant = { λ t. IsRawFormed R.KEYS R.key (record { shapes = t.shapes.items; rows = raw_rows t.rows.items }) };
+    ghost invariant = { λ t. IsRawFormed R.KEYS R.key (record { shapes = t.shapes.items; rows = t.rows.items }) };
 }
 
 impl<R: Rank> RawTree<R> {
@@ -33,9 +35,43 @@ impl<R: Rank> RawTree<R> {
         requires { AreShapes shapes.now }
         ensures { IfOk result (λ t. t ≡ record { shapes = shapes.now; rows = replicate (length shapes.now) [] }) }
     {
+        RawTree::with_keys(alloc, shapes, Keys::Known)
+    }
+
+    /// A tree without rows, whose links are hashed with these keys. Its nodes stand with parents first.
+    pub fn with_keys(
+        alloc: Global,
+        shapes: &[NodeShape],
+        keys: Keys,
+    ) -> Result<RawTree<R>, NoMemory>
+        requires { AreShapes shapes.now }
+        ensures { IfOk result (λ t. t ≡ record { shapes = shapes.now; rows = replicate (length shapes.now) [] }) }
+    {
         let rows = empty_rows(alloc, shapes.len())?;
         let shapes = Vec::from_slice(alloc, shapes)?;
-        Ok(RawTree { shapes, rows })
+        Ok(RawTree { shapes, rows, keys })
+    }
+
+    /// The keys with which the links are hashed.
+    pub fn keys(&self) -> Keys {
+        self.keys
+    }
+
+    /// Takes the room for so many more rows of a node. The tree stays as it is, also where memory is refused.
+    pub fn reserve(&mut self, node: u32, more: usize) -> Result<(), NoMemory>
+        requires { node < length self.old.shapes }
+        ensures { self.new ≡ self.old }
+    {
+        self.rows[node as usize].reserve(more)
+    }
+
+    /// Takes all rows of a node out, and gives their memory back.
+    pub fn clear(&mut self, node: u32)
+        requires { node < length self.old.shapes }
+        ensures { self.new ≡ without_rows self.old node }
+    {
+        let alloc = *self.shapes.allocator();
+        self.rows[node as usize] = RawRows::new(alloc);
     }
 
     /// Appends a row to a node, with its own link and the link that it names for each child of the
@@ -53,8 +89,7 @@ impl<R: Rank> RawTree<R> {
         ensures ok { OnOk result (self.new ≡ with_row self.old node (record { row = row; own = own; children = children.now })) }
         ensures err { OnErr result (self.new ≡ self.old) }
     {
-        let children = SmallVec::from_slice(*self.shapes.allocator(), children)?;
-        append_row(&mut self.rows, node as usize, RawRow { row, own, children })?;
+        self.rows[node as usize].push(row, own, children)?;
         Ok(())
     }
 
@@ -90,7 +125,7 @@ impl<R: Rank> RawTree<R> {
         ensures rank { R.key result.rank ≡ raw_rank self.now R.KEYS R.key node i }
         ensures number { result.row ≡ raw_number self.now node i }
     {
-        self.row_with_links(node, i).row
+        self.rows[node as usize].row(i as usize)
     }
 
     /// The own link of row `i` of a node.
@@ -99,7 +134,7 @@ impl<R: Rank> RawTree<R> {
         requires row { i < raw_len self.now node }
         ensures { result ≡ own_link self.now node i }
     {
-        self.row_with_links(node, i).own
+        self.rows[node as usize].own(i as usize)
     }
 
     /// The link that row `i` of a node names for one of the node's children, which are counted from 0
@@ -110,41 +145,17 @@ impl<R: Rank> RawTree<R> {
         requires child { child < shape_children self.now.shapes node }
         ensures { result ≡ child_link self.now node i child }
     {
-        self.row_with_links(node, i).children[child as usize]
-    }
-
-    /// Row `i` of a node as the tree keeps it.
-    fn row_with_links(&self, node: u32, i: u32) -> &RawRow<R>
-        requires node { node < length self.now.shapes }
-        requires row { i < raw_len self.now node }
-        ensures row { slice_get (rows_at self.now node) i ≡ Some (raw_row result.now) }
-        ensures children { length (raw_row result.now).children ≡ shape_children self.now.shapes node }
-    {
-        &self.rows[node as usize][i as usize]
+        self.rows[node as usize].link(i as usize, child as usize)
     }
 }
 
-/// The rows of `count` nodes without rows.
-fn empty_rows<R: Rank>(alloc: Global, count: usize) -> Result<Vec<Vec<RawRow<R>>>, NoMemory>
-    ensures { IfOk result (λ rows. raw_rows rows.items ≡ replicate count []) }
+/// No rows, for so many nodes.
+fn empty_rows<R: Rank>(alloc: Global, count: usize) -> Result<Vec<RawRows<R>>, NoMemory>
+    ensures { IfOk result (λ rows. rows.items ≡ replicate count []) }
 {
-    let mut rows = Vec::new(alloc);
+    let mut rows = Vec::with_capacity(alloc, count)?;
     while rows.len() < count {
-        rows.push(Vec::new(alloc))?;
+        rows.push(RawRows::new(alloc))?;
     }
     Ok(rows)
-}
-
-/// Appends a row to the rows of a node.
-fn append_row<R: Rank>(
-    rows: &mut Vec<Vec<RawRow<R>>>,
-    node: usize,
-    row: RawRow<R>,
-) -> Result<(), NoMemory>
-    requires { node < vec_len rows.old }
-    ensures ok { OnOk result (raw_rows rows.new.items ≡ slice_set (raw_rows rows.old.items) node (slice_index_or (raw_rows rows.old.items) node [] ++ raw_row row ∷ [])) }
-    ensures err { OnErr result (raw_rows rows.new.items ≡ raw_rows rows.old.items) }
-{
-    rows[node].push(row)?;
-    Ok(())
 }

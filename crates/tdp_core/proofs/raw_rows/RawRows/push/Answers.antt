@@ -1,0 +1,40 @@
+use Rattle.std.proofs.Common.{◌≡◌, ◌++◌, ◌∷◌, [], length, sym, ap, subst, ◌∙◌}
+use Rattle.std.specs.List.{All}
+use Rattle.tdp_core.specs.RawRows.{AreRawRows, raw_rows}
+use Rattle.tdp_core.proofs.RawRowLists.{formed_rows, rows_more}
+use Rattle.tdp_core.proofs.raw_rows.RawRows.push.Goals as goal
+
+pub invariant_of-self-2 : goal.invariant_of-self-2
+invariant_of-self-2 g c =
+    let t = c.self.inside in
+    let more = c.args.children.now in
+    let k = length more in
+    let rows = t.rows.items in
+    let owns = t.owns.items in
+    let named = t.named.items in
+    let all = subst (λ l. All (λ r. length r.children ≡ k) l) (sym c.self.view_is) c.requires in
+    let r : c.push.new.self.items ≡ rows ++ c.args.row ∷ [] = c.in_ok-push.ensures.items ∙ ap (λ l. l ++ c.args.row ∷ []) c.reserve.ensures.items in
+    let o : c.push-2.new.self.items ≡ owns ++ c.args.own ∷ [] = c.in_ok-push-2.ensures.items ∙ ap (λ l. l ++ c.args.own ∷ []) c.reserve-2.ensures.items in
+    let n : c.extend_from_slice.new.self.items ≡ named ++ more = c.in_ok-extend_from_slice.ensures.items in
+    subst (λ l. AreRawRows k l c.push-2.new.self.items c.extend_from_slice.new.self.items) (sym r)
+    (subst (λ l. AreRawRows k (rows ++ c.args.row ∷ []) l c.extend_from_slice.new.self.items) (sym o)
+    (subst (λ l. AreRawRows k (rows ++ c.args.row ∷ []) (owns ++ c.args.own ∷ []) l) (sym n)
+    (formed_rows c.args.row c.args.own more t.width rows owns named c.self.invariant all)))
+
+pub returns-clause-ok : goal.returns-clause-ok
+returns-clause-ok g c =
+    let t = c.self.inside in
+    let more = c.args.children.now in
+    let k = length more in
+    let rows = t.rows.items in
+    let owns = t.owns.items in
+    let named = t.named.items in
+    let all = subst (λ l. All (λ r. length r.children ≡ k) l) (sym c.self.view_is) c.requires in
+    let r : c.push.new.self.items ≡ rows ++ c.args.row ∷ [] = c.in_ok-push.ensures.items ∙ ap (λ l. l ++ c.args.row ∷ []) c.reserve.ensures.items in
+    let o : c.push-2.new.self.items ≡ owns ++ c.args.own ∷ [] = c.in_ok-push-2.ensures.items ∙ ap (λ l. l ++ c.args.own ∷ []) c.reserve-2.ensures.items in
+    let n : c.extend_from_slice.new.self.items ≡ named ++ more = c.in_ok-extend_from_slice.ensures.items in
+    ap (λ l. raw_rows k l c.push-2.new.self.items c.extend_from_slice.new.self.items) r
+    ∙ ap (λ l. raw_rows k (rows ++ c.args.row ∷ []) l c.extend_from_slice.new.self.items) o
+    ∙ ap (λ l. raw_rows k (rows ++ c.args.row ∷ []) (owns ++ c.args.own ∷ []) l) n
+    ∙ rows_more c.args.row c.args.own more t.width rows owns named c.self.invariant all
+    ∙ ap (λ l. l ++ record { row = c.args.row; own = c.args.own; children = more } ∷ []) c.self.view_is

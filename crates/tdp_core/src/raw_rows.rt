@@ -1,0 +1,108 @@
+//! The rows of a node before they are put into groups.
+ghost use Rattle.std.specs.Prelude.{◌≡◌, ◌<◌, Some, [], ◌∷◌, ◌++◌, length, map, slice_get, slice_index, slice_index_or, OnOk, OnErr};
+ghost use Rattle.std.specs.List.{All};
+ghost use Rattle.tdp_core.specs.RawRows.{RawRowData};
+
+use crate::parts::NodeRow;
+use rank_key::Rank;
+use std::alloc::Global;
+use std::marker::Model;
+use step_counter::NoMemory;
+
+/// The rows of a node, each with its own link, by which rows of the parent name it, and with the link that it names for each
+/// child of its node, children in ascending order. Links lie beside the rows, in lists of their own.
+#[derive(Drop)]
+pub(crate) struct RawRows<R: Rank> {
+    rows: Vec<NodeRow<R>>,
+    owns: Vec<u32>,
+    /// The links that the rows name, row by row.
+    named: Vec<u32>,
+    /// How many links each row names.
+    width: usize,
+}
+
+impl<R: Rank> Model for RawRows<R> {
+    ghost use Rattle.std.specs.Prelude.{List};
+    ghost use Rattle.tdp_core.specs.RawRows.{RawRowData, raw_rows, AreRawRows};
+
+    ghost Value = { List (RawRowData R) };
+
+    ghost view = { λ t. raw_rows t.width t.rows.items t.owns.items t.named.items };
+
+    ghost invariant = { λ t. AreRawRows t.width t.rows.items t.owns.items t.named.items };
+}
+
+impl<R: Rank> RawRows<R> {
+    /// No rows. Takes no memory.
+    pub(crate) fn new(alloc: Global) -> RawRows<R>
+        ensures { result ≡ [] }
+    {
+        RawRows {
+            rows: Vec::new(alloc),
+            owns: Vec::new(alloc),
+            named: Vec::new(alloc),
+            width: 0,
+        }
+    }
+
+    /// Takes the room for so many more rows. These stay as they are, also where memory is refused.
+    pub(crate) fn reserve(&mut self, more: usize) -> Result<(), NoMemory>
+        ensures { self.new ≡ self.old }
+    {
+        self.rows.reserve(more)?;
+        self.owns.reserve(more)?;
+        Ok(())
+    }
+
+    /// One more row, which names as many links as those before it. After a refusal the rows are as before.
+    pub(crate) fn push(
+        &mut self,
+        row: NodeRow<R>,
+        own: u32,
+        children: &[u32],
+    ) -> Result<(), NoMemory>
+        requires { All (λ r. length r.children ≡ length children.now) self.old }
+        ensures ok { OnOk result (self.new ≡ self.old ++ record { row = row; own = own; children = children.now } ∷ []) }
+        ensures err { OnErr result (self.new ≡ self.old) }
+    {
+        self.rows.reserve(1)?;
+        self.owns.reserve(1)?;
+        self.named.extend_from_slice(children)?;
+        self.rows.push(row)?;
+        self.owns.push(own)?;
+        self.width = children.len();
+        Ok(())
+    }
+
+    /// How many rows there are.
+    pub(crate) fn len(&self) -> usize
+        ensures { result ≡ length self.now }
+    {
+        self.rows.len()
+    }
+
+    /// Row `i`, counted from 0.
+    pub(crate) fn row(&self, i: usize) -> NodeRow<R>
+        requires { i < length self.now }
+        ensures { slice_get (map (λ r. r.row) self.now) i ≡ Some result }
+    {
+        self.rows[i]
+    }
+
+    /// The own link of row `i`.
+    pub(crate) fn own(&self, i: usize) -> u32
+        requires { i < length self.now }
+        ensures { result ≡ slice_index (map (λ r. r.own) self.now) i }
+    {
+        self.owns[i]
+    }
+
+    /// The link that row `i` names for one of the children, which are counted from 0.
+    pub(crate) fn link(&self, i: usize, child: usize) -> u32
+        requires row { i < length self.now }
+        requires child { child < length (slice_index_or (map (λ r. r.children) self.now) i []) }
+        ensures { result ≡ slice_index (slice_index_or (map (λ r. r.children) self.now) i []) child }
+    {
+        self.named[i * self.width + child]
+    }
+}
