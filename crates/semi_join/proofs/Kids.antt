@@ -58,7 +58,7 @@ eqb_by : (a b : ℕ) (t : Bool) → nat_eq a b ≡ t → (a ≡ b → ⊥) → n
 eqb_by a b true e not = absurd (not (eqb-true a b e))
 eqb_by a b false e not = e
 
-eqb_false : (a b : ℕ) → (a ≡ b → ⊥) → nat_eq a b ≡ false
+pub eqb_false : (a b : ℕ) → (a ≡ b → ⊥) → nat_eq a b ≡ false
 eqb_false a b not = eqb_by a b (nat_eq a b) refl not
 
 pub kid-added : (parent : ℕ → ℕ) (v q : ℕ) (items : List ℕ) → v < q → items ≡ children_among parent v (q - suc v) → parent q ≡ v → items ++ (q ∷ []) ≡ children_among parent v (q + 1 - suc v)

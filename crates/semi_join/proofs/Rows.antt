@@ -1,16 +1,30 @@
 -- The rows that stay, one after the other.
-use Rattle.std.proofs.Common.{◌≡◌, ℕ, zero, suc, ◌+◌, ◌-◌, ◌<◌, ◌≤◌, Bool, true, false, cond, nat_eq, ◌&&◌, List, [], ◌∷◌, ◌++◌, map, length, get_or, refl, sym, ap, subst, ◌∙◌, arith, add-one, Some, None, position, nat_lt}
+use Rattle.std.proofs.Common.{◌≡◌, ℕ, zero, suc, ◌+◌, ◌-◌, ◌<◌, ◌≤◌, Bool, true, false, cond, nat_eq, ◌&&◌, List, [], ◌∷◌, ◌++◌, map, length, get_or, refl, sym, ap, subst, ◌∙◌, arith, add-one, inl, inr, Some, None, position, nat_lt}
 use Rattle.std.specs.List.{list_any, position_or_len}
-use Rattle.indexmap.specs.IndexSet.{IndexSet}
+use Rattle.std.proofs.lemmas.Bool.{cases_lt, lt-ltb}
+use Rattle.std.proofs.lemmas.List.Elements.{All-from_get_or}
+use Rattle.std.proofs.lemmas.List.Folds.{list_any_at, list_any_none}
+use Rattle.std.proofs.lemmas.List.Quantifiers.{position-Some}
+use Rattle.std.proofs.lemmas.List.Sums.{fails_before_first}
 use Rattle.tdp_core.specs.RawData.{RawData, child_link}
+use Rattle.semi_join.specs.declared.group_links.GroupLinks.{GroupLinks}
 use Rattle.semi_join.specs.Reduction.{links_of, AreFew, child_nodes, child_links}
 use Rattle.semi_join.proofs.FirstOnes.{has_first, has-more, named_first, named-last}
 
-module _ {S : Type 0} where
-  pub links-read : (ls : List (IndexSet ℕ S)) (k : ℕ) (s : IndexSet ℕ S) → k < length ls → s ≡ get_or ls k s → get_or (map links_of ls) k [] ≡ s.keys
-  links-read [] k s h e = absurd (omega arith)
-  links-read (l ∷ ls) zero s h e = ap (λ z. z.keys) (sym e)
-  links-read (l ∷ ls) (suc k) s h e = let less : k < length ls = omega arith in links-read ls k s less e
+pub links-read : (ls : List GroupLinks) (k : ℕ) (s : GroupLinks) → k < length ls → s ≡ get_or ls k s → get_or (map links_of ls) k [] ≡ links_of s
+links-read [] k s h e = absurd (omega arith)
+links-read (l ∷ ls) zero s h e = ap links_of (sym e)
+links-read (l ∷ ls) (suc k) s h e = let less : k < length ls = omega arith in links-read ls k s less e
+
+-- a place that is found, and one that is not
+pub found-any : (p : ℕ → Bool) (xs : List ℕ) (i : ℕ) → Some i ≡ position p xs → (i < length xs) × (list_any p xs ≡ true)
+found-any p xs i e = let at = position-Some p xs i 0 (sym e) in (at.0, list_any_at p xs i 0 at.0 at.1)
+
+pub missing-any : (p : ℕ → Bool) (xs : List ℕ) → None ≡ position p xs → list_any p xs ≡ false
+missing-any p xs e = elim (cases_lt (position_or_len p xs) (length xs)) [
+  | inl l ↦ let f : None ≡ Some (position_or_len p xs) = e ∙ ap (λ b. cond b (Some (position_or_len p xs)) None) (lt-ltb (position_or_len p xs) (length xs) l) in cc
+  | inr g ↦ list_any_none p xs (All-from_get_or (λ x. p x ≡ false) xs 0 (λ i h. fails_before_first p xs i 0 (omega (arith, h, g))))
+]
 
 pub few-read : (later : List (List ℕ)) (k : ℕ) → AreFew later → k < length later → length (get_or later k []) ≤ 4194304
 few-read later k few h = few k [] h
@@ -38,8 +52,8 @@ found-place p xs i e = by (nat_lt (position_or_len p xs) (length xs)) e
 
 module _ {R : Type 0} (raw : RawData R) (v : ℕ) (later : List (List ℕ)) where
   -- the links of the groups of a child, as they are read
-  pub child-links-at : {S : Type 0} (ls : List (IndexSet ℕ S)) (children : List ℕ) (c : ℕ) (s : IndexSet ℕ S) → later ≡ map links_of ls → children ≡ child_nodes raw v → get_or children c 0 - v - 1 < length ls
-      → s ≡ get_or ls (get_or children c 0 - v - 1) s → child_links raw v later c ≡ s.keys
+  pub child-links-at : (ls : List GroupLinks) (children : List ℕ) (c : ℕ) (s : GroupLinks) → later ≡ map links_of ls → children ≡ child_nodes raw v → get_or children c 0 - v - 1 < length ls
+      → s ≡ get_or ls (get_or children c 0 - v - 1) s → child_links raw v later c ≡ links_of s
   child-links-at ls children c s l e within read =
       ap (λ ks. get_or later (get_or ks c 0 - v - 1) []) (sym e) ∙ ap (λ xs. get_or xs (get_or children c 0 - v - 1) []) l ∙ links-read ls (get_or children c 0 - v - 1) s within read
 

@@ -1,3 +1,4 @@
 pub mod Grouped
+pub mod LinkTable
 pub mod Reduced
 pub mod Reduction

@@ -1,15 +1,18 @@
 -- What the bottom-up reduction of a raw tree computes, node by node.
 use Rattle.std.specs.Prelude.{◌≡◌, ℕ, suc, ◌-◌, ◌<◌, ◌≤◌, Bool, cond, nat_eq, List, [], ◌∷◌, ◌++◌, map, length, slice_index, slice_index_or, Some, IsPermutation, All}
 use Rattle.std.specs.List.{Contains, filter, list_any, list_all, position_or_len, range_with_len, concat}
-use Rattle.indexmap.specs.IndexSet.{IndexSet, insert_all}
+use Rattle.indexmap.specs.IndexSet.{insert_all}
 use Rattle.tdp_core.specs.RawData.{RawData, shape_at, shape_parent, raw_len, raw_row_at, own_link, child_link}
 use Rattle.tdp_core.specs.TreeData.{NodeData}
+use Rattle.semi_join.specs.declared.group_links.GroupLinks.{GroupLinks}
+use Rattle.semi_join.specs.declared.group_links.GroupLinks.TheVariants.{Direct, Hashed}
 
 -- # Groups of one node
 
--- the links of a set, in its order
-abbrev pub links_of : {S : Type 0} → IndexSet ℕ S → List ℕ
-links_of s = s.keys
+-- the links, by their numbers
+abbrev pub links_of : GroupLinks → List ℕ
+links_of (Hashed links) = links.keys
+links_of (Direct links) = links
 
 -- no node has more groups than a tree has rows
 abbrev pub AreFew : List (List ℕ) → Type 0

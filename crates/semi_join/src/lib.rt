@@ -5,6 +5,8 @@
 //! that it names.
 #![tactic(auto)]
 
+mod direct_links;
+mod group_links;
 mod node;
 mod reduction;
 

@@ -1,10 +1,11 @@
+//! The rows of one node that stay, in groups.
 ghost use Rattle.std.specs.Prelude.{◌≡◌, ◌+◌, ◌*◌, ◌<◌, ◌≤◌, [], ◌∷◌, ◌++◌, true, false, map, length, IfOk, IfSome, IfNone, OnOk, Some, nat_eq};
-ghost use Rattle.indexmap.specs.IndexSet.{insert_key, index_set_len};
+ghost use Rattle.indexmap.specs.IndexSet.{insert_key};
 ghost use Rattle.tdp_core.specs.RawData.{AreShapes, raw_len, raw_row_at, row_total};
 ghost use Rattle.tdp_core.specs.TreeData.{node_data};
 ghost use Rattle.semi_join.specs.Reduction.{AreFew, EndsInPlaceOf, IsNumbering, IsReducedNode, child_nodes, group_link, group_links, groups_named, has_partners, kept_rows, links_of};
 
-use indexmap::IndexSet;
+use crate::group_links::GroupLinks;
 use rank_key::Rank;
 use smallvec::SmallVec;
 use std::alloc::{AllocError, Global};
@@ -17,7 +18,7 @@ use tdp_core::{Groups, NodeParts, NodeRow, RawTree};
 pub(crate) struct GroupedNode<R> {
     pub parts: NodeParts<R>,
     /// The link of each group: the place of a link is the number of its group.
-    pub links: IndexSet<u32>,
+    pub links: GroupLinks,
 }
 
 /// The rows of a node that stay, before they are put into groups.
@@ -29,7 +30,7 @@ struct KeptRows<R> {
     /// For each row the number of its own group.
     numbers: Vec<u32>,
     /// The link of each group.
-    links: IndexSet<u32>,
+    links: GroupLinks,
 }
 
 /// The node with the rows that stay. `later` has the links of the groups of each later node, in the
@@ -38,7 +39,7 @@ pub(crate) fn reduce_node<R: Rank, L: Ledger>(
     alloc: Global,
     raw: &RawTree<R>,
     node: u32,
-    later: &[IndexSet<u32>],
+    later: &[GroupLinks],
     steps: &mut Steps<L>,
 ) -> Result<GroupedNode<R>, NoMemory>
     requires node { node < length raw.now.shapes }
@@ -47,8 +48,8 @@ pub(crate) fn reduce_node<R: Rank, L: Ledger>(
     requires later { node + 1 + length later.now ≡ length raw.now.shapes }
     requires few { AreFew (map links_of later.now) }
     ensures reduced { IfOk result (λ r. IsReducedNode raw.now node (map links_of later.now) (node_data r.parts)) }
-    ensures links { IfOk result (λ r. r.links.keys ≡ group_links raw.now node (map links_of later.now)) }
-    ensures few { IfOk result (λ r. length r.links.keys ≤ 4194304) }
+    ensures links { IfOk result (λ r. links_of r.links ≡ group_links raw.now node (map links_of later.now)) }
+    ensures few { IfOk result (λ r. length (links_of r.links) ≤ 4194304) }
     ensures cost { steps.new ≤ steps.old + raw_len raw.now node * length raw.now.shapes }
 {
     let kept = keep_rows(alloc, raw, node, later, steps)?;
@@ -71,7 +72,7 @@ fn keep_rows<R: Rank, L: Ledger>(
     alloc: Global,
     raw: &RawTree<R>,
     node: u32,
-    later: &[IndexSet<u32>],
+    later: &[GroupLinks],
     steps: &mut Steps<L>,
 ) -> Result<KeptRows<R>, NoMemory>
     requires node { node < length raw.now.shapes }
@@ -81,18 +82,13 @@ fn keep_rows<R: Rank, L: Ledger>(
     requires few { AreFew (map links_of later.now) }
     ensures rows { IfOk result (λ kept. map Some kept.rows.items ≡ map (raw_row_at raw.now node) (kept_rows raw.now node (map links_of later.now))) }
     ensures to_child { IfOk result (λ kept. map (λ c. c.items) kept.to_child.items ≡ map (groups_named raw.now node (map links_of later.now)) (kept_rows raw.now node (map links_of later.now))) }
-    ensures links { IfOk result (λ kept. kept.links.keys ≡ group_links raw.now node (map links_of later.now)) }
-    ensures numbers { IfOk result (λ kept. IsNumbering (map (group_link raw.now node) (kept_rows raw.now node (map links_of later.now))) kept.links.keys kept.numbers.items) }
+    ensures links { IfOk result (λ kept. links_of kept.links ≡ group_links raw.now node (map links_of later.now)) }
+    ensures numbers { IfOk result (λ kept. IsNumbering (map (group_link raw.now node) (kept_rows raw.now node (map links_of later.now))) (links_of kept.links) kept.numbers.items) }
     ensures few { IfOk result (λ kept. length kept.numbers.items ≤ 4194304) }
     ensures cost { steps.new ≤ steps.old + raw_len raw.now node * length raw.now.shapes }
 {
     let children = children_of(alloc, raw, node)?;
-    let mut kept = KeptRows {
-        rows: Vec::new(alloc),
-        to_child: Vec::new(alloc),
-        numbers: Vec::new(alloc),
-        links: IndexSet::new(alloc),
-    };
+    let mut kept = no_rows(alloc, raw, node)?;
     for i in 0..raw.len(node) {
         if let Some(named) = child_groups(alloc, raw, node, i, &children, later, steps)? {
             let own = group_link_of(raw, node, i);
@@ -100,6 +96,34 @@ fn keep_rows<R: Rank, L: Ledger>(
         }
     }
     Ok(kept)
+}
+
+/// No rows, with room for all rows of a node.
+fn no_rows<R: Rank>(alloc: Global, raw: &RawTree<R>, node: u32) -> Result<KeptRows<R>, NoMemory>
+    requires { node < length raw.now.shapes }
+    ensures rows { IfOk result (λ kept. kept.rows.items ≡ []) }
+    ensures to_child { IfOk result (λ kept. kept.to_child.items ≡ []) }
+    ensures numbers { IfOk result (λ kept. kept.numbers.items ≡ []) }
+    ensures links { IfOk result (λ kept. links_of kept.links ≡ []) }
+{
+    let count = raw.len(node);
+    Ok(KeptRows {
+        rows: Vec::with_capacity(alloc, count as usize)?,
+        to_child: Vec::with_capacity(alloc, count as usize)?,
+        numbers: Vec::with_capacity(alloc, count as usize)?,
+        links: GroupLinks::new(alloc, raw.keys(), count, greatest_link(raw, node))?,
+    })
+}
+
+/// The greatest link by which a row of a node is put into its group, 0 where it has no rows.
+fn greatest_link<R: Rank>(raw: &RawTree<R>, node: u32) -> u32
+    requires { node < length raw.now.shapes }
+{
+    let mut greatest = 0;
+    for row in 0..raw.len(node) {
+        greatest = greatest.max(group_link_of(raw, node, row));
+    }
+    greatest
 }
 
 /// Puts one more row after the others, with the number of the group of its link, which is made where there is none yet.
@@ -110,16 +134,16 @@ fn keep_row<R: Rank, L: Ledger>(
     own: u32,
     steps: &mut Steps<L>,
 ) -> Result<(), NoMemory>
-    requires few { index_set_len kept.old.links ≤ 4194304 }
+    requires few { length (links_of kept.old.links) ≤ 4194304 }
     ensures rows { OnOk result (kept.new.rows.items ≡ kept.old.rows.items ++ row ∷ []) }
     ensures to_child { OnOk result (map (λ c. c.items) kept.new.to_child.items ≡ map (λ c. c.items) kept.old.to_child.items ++ named.items ∷ []) }
-    ensures links { OnOk result (kept.new.links.keys ≡ insert_key nat_eq kept.old.links.keys own) }
-    ensures number { OnOk result (EndsInPlaceOf own kept.new.links.keys kept.old.numbers.items kept.new.numbers.items) }
+    ensures links { OnOk result (links_of kept.new.links ≡ insert_key nat_eq (links_of kept.old.links) own) }
+    ensures number { OnOk result (EndsInPlaceOf own (links_of kept.new.links) kept.old.numbers.items kept.new.numbers.items) }
     ensures cost { steps.new ≤ steps.old + 1 }
 {
     steps.tick();
-    let (number, _) = kept.links.insert_full(own)?;
-    kept.numbers.push(number as u32)?;
+    let number = kept.links.insert(own)?;
+    kept.numbers.push(number)?;
     kept.rows.push(row)?;
     kept.to_child.push(named)?;
     Ok(())
@@ -156,7 +180,7 @@ fn child_groups<R: Rank, L: Ledger>(
     node: u32,
     i: u32,
     children: &[u32],
-    later: &[IndexSet<u32>],
+    later: &[GroupLinks],
     steps: &mut Steps<L>,
 ) -> Result<Option<SmallVec<u32, 4>>, NoMemory>
     requires node { node < length raw.now.shapes }
@@ -174,7 +198,7 @@ fn child_groups<R: Rank, L: Ledger>(
     for (place, child) in children.iter().enumerate() {
         let link = raw.link(node, i, place as u32);
         steps.tick();
-        match later[(*child - node - 1) as usize].get_index_of(&link) {
+        match later[(*child - node - 1) as usize].number_of(link) {
             Some(number) => numbers.push(number as u32)?,
             None => return Ok(None),
         }

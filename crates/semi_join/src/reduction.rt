@@ -1,10 +1,11 @@
+//! The reduction of a raw tree, from the last node up to the root.
 ghost use Rattle.std.specs.Prelude.{◌+◌, ◌*◌, ◌≤◌, length, IfOk};
 ghost use Rattle.tdp_core.specs.RawData.{row_total};
 ghost use Rattle.tdp_core.specs.TreeData.{tree_data};
 ghost use Rattle.semi_join.specs.Reduced.{IsReduced};
 
+use crate::group_links::GroupLinks;
 use crate::node::reduce_node;
-use indexmap::IndexSet;
 use rank_key::Rank;
 use std::alloc::Global;
 use std::sync::ledger::Ledger;
@@ -19,7 +20,8 @@ pub struct Reduced<R> {
 }
 
 /// Takes out the rows that extend to no solution of their subtree, from the last node up to the root,
-/// and puts those that stay into groups. A look-up or an insertion in an index takes one step.
+/// and puts those that stay into groups. A look-up or an insertion in an index takes one step. The raw rows
+/// of a node go as soon as it is done.
 pub fn reduce<R: Rank, L: Ledger>(
     alloc: Global,
     raw: RawTree<R>,
@@ -28,10 +30,12 @@ pub fn reduce<R: Rank, L: Ledger>(
     ensures reduced { IfOk result (λ reduced. IsReduced R.KEYS R.key raw (tree_data reduced.nodes.items)) }
     ensures cost { steps.new ≤ steps.old + 2 * length raw.shapes * (1 + row_total raw) }
 {
+    let mut tree = raw;
     let mut nodes = Vec::new(alloc);
-    let mut later: Vec<IndexSet<u32>> = Vec::new(alloc);
-    for node in (0..raw.nodes()).rev() {
-        let grouped = reduce_node(alloc, &raw, node, &later, steps)?;
+    let mut later: Vec<GroupLinks> = Vec::new(alloc);
+    for node in (0..tree.nodes()).rev() {
+        let grouped = reduce_node(alloc, &tree, node, &later, steps)?;
+        tree.clear(node);
         nodes.insert(0, grouped.parts)?;
         later.insert(0, grouped.links)?;
     }

@@ -3,7 +3,7 @@ use Rattle.std.specs.List.{list_any}
 use Rattle.tdp_core.specs.RawData.{shape_parent}
 use Rattle.semi_join.specs.Reduction.{links_of}
 use Rattle.semi_join.proofs.Kids.{kids-few, child-after, child-index, children-count}
-use Rattle.semi_join.proofs.Rows.{few-read, links-read, child-links-at, length-map, met-more, named-more, missed}
+use Rattle.semi_join.proofs.Rows.{few-read, links-read, child-links-at, length-map, met-more, named-more, missed, found-any, missing-any}
 use Rattle.semi_join.proofs.node.child_groups.Goals as goal
 
 pub overflow_cast-place : goal.overflow_cast-place
@@ -34,25 +34,27 @@ overflow_cast-number g c =
     let inside = child-index c.args.raw.now c.args.node c.args.children.now c.requires.children c.loop-place.place c.loop-place-test.true (length c.args.later.now) c.requires.later in
     let few = few-read (map links_of c.args.later.now) at c.requires.few (subst (λ n. at < n) (sym (length-map links_of c.args.later.now)) inside) in
     let is = ap length (links-read c.args.later.now at c.index-later-child.result inside c.index-later-child.is) in
-    omega (arith, few, is, c.in-Some.ensures.within)
+    let here = found-any (nat_eq c.link-link.result) (links_of c.index-later-child.result) c.in-Some.number c.in-Some.ensures in
+    omega (arith, few, is, here.0)
 
 pub returns-in-None-clause-missing : goal.returns-in-None-clause-missing
 returns-in-None-clause-missing g c =
     let inside = child-index c.args.raw.now c.args.node c.args.children.now c.requires.children c.loop-place.place c.loop-place-test.true (length c.args.later.now) c.requires.later in
     let names = child-links-at c.args.raw.now c.args.node (map links_of c.args.later.now) c.args.later.now c.args.children.now c.loop-place.place c.index-later-child.result refl c.requires.children inside c.index-later-child.is in
     let less = subst (λ ks. c.loop-place.place < length ks) c.requires.children c.loop-place-test.true in
-    missed c.args.raw.now c.args.node (map links_of c.args.later.now) c.loop-place.place _ c.args.i c.index-later-child.result.keys less names
-    (ap (λ l. list_any (nat_eq l) c.index-later-child.result.keys) (sym c.link-link.ensures) ∙ sym c.in-None.ensures.found)
+    missed c.args.raw.now c.args.node (map links_of c.args.later.now) c.loop-place.place _ c.args.i (links_of c.index-later-child.result) less names
+    (ap (λ l. list_any (nat_eq l) (links_of c.index-later-child.result)) (sym c.link-link.ensures) ∙ missing-any (nat_eq c.link-link.result) (links_of c.index-later-child.result) c.in-None.ensures)
 
 pub loop-place-preserved : goal.loop-place-preserved
 loop-place-preserved g c =
     let inside = child-index c.args.raw.now c.args.node c.args.children.now c.requires.children c.loop-place.place c.loop-place-test.true (length c.args.later.now) c.requires.later in
     let names = child-links-at c.args.raw.now c.args.node (map links_of c.args.later.now) c.args.later.now c.args.children.now c.loop-place.place c.index-later-child.result refl c.requires.children inside c.index-later-child.is in
+    let here = found-any (nat_eq c.link-link.result) (links_of c.index-later-child.result) c.in-Some.number c.in-Some.ensures in
     record {
-      met = met-more c.args.raw.now c.args.node (map links_of c.args.later.now) c.loop-place.place c.args.i c.index-later-child.result.keys names c.loop-place.invariant.met
-          (ap (λ l. list_any (nat_eq l) c.index-later-child.result.keys) (sym c.link-link.ensures) ∙ sym c.in-Some.ensures.found);
+      met = met-more c.args.raw.now c.args.node (map links_of c.args.later.now) c.loop-place.place c.args.i (links_of c.index-later-child.result) names c.loop-place.invariant.met
+          (ap (λ l. list_any (nat_eq l) (links_of c.index-later-child.result)) (sym c.link-link.ensures) ∙ here.1);
       named = c.in_ok-push-in-Some.ensures.ok
-          ∙ named-more c.args.raw.now c.args.node (map links_of c.args.later.now) c.loop-place.place c.args.i c.in-Some.number c.index-later-child.result.keys c.loop-place.numbers.items names c.loop-place.invariant.named
-          (c.in-Some.ensures.index ∙ ap (λ l. position (nat_eq l) c.index-later-child.result.keys) c.link-link.ensures);
+          ∙ named-more c.args.raw.now c.args.node (map links_of c.args.later.now) c.loop-place.place c.args.i c.in-Some.number (links_of c.index-later-child.result) c.loop-place.numbers.items names c.loop-place.invariant.named
+          (c.in-Some.ensures ∙ ap (λ l. position (nat_eq l) (links_of c.index-later-child.result)) c.link-link.ensures);
       counted = omega arith;
     }

@@ -18,7 +18,7 @@ returns-in_err-named-clause-cost g c =
 pub keep_row-requires : goal.keep_row-requires
 keep_row-requires g c =
     let now = c.loop-i.kept in
-    let few = few-links c.args.raw.now c.args.node (map links_of c.args.later.now) c.loop-i.i now.rows.items (map (λ v. v.items) now.to_child.items) now.links.keys now.numbers.items c.loop-i.invariant.so_far in
+    let few = few-links c.args.raw.now c.args.node (map links_of c.args.later.now) c.loop-i.i now.rows.items (map (λ v. v.items) now.to_child.items) (links_of now.links) now.numbers.items c.loop-i.invariant.so_far in
     let most = length_within c.args.raw.now.rows c.args.node in
     omega (arith, few, most, c.requires.few_rows, c.len-i-end.ensures)
 
@@ -38,23 +38,23 @@ loop-i-preserved g c =
     let i = c.loop-i.i in
     let old = c.loop-i.kept in
     let children = map (λ v. v.items) old.to_child.items in
-    elim c.match-branch-3.branch [
+    elim c.match-branch-4.branch [
       | in-Some+in_ok-keep_row w ↦
           let new = w.keep_row.new.kept in
           let found = subst (λ o. IfSome o (λ n. has_partners raw node later i ≡ true)) w.in-Some.is c.in_ok-named.ensures.found in
           let named = subst (λ o. IfSome o (λ n. n.items ≡ groups_named raw node later i)) w.in-Some.is c.in_ok-named.ensures.named in
           let own = w.group_link_of-own.ensures in
-          let kept = keep-row raw node later i old.rows.items new.rows.items children (map (λ v. v.items) new.to_child.items) old.links.keys new.links.keys old.numbers.items new.numbers.items w.row.result
+          let kept = keep-row raw node later i old.rows.items new.rows.items children (map (λ v. v.items) new.to_child.items) (links_of old.links) (links_of new.links) old.numbers.items new.numbers.items w.row.result
           c.loop-i.invariant.so_far found w.row.ensures.row w.in_ok-keep_row.ensures.rows (w.in_ok-keep_row.ensures.to_child ∙ ap (λ n. children ++ (n ∷ [])) named)
-          (w.in_ok-keep_row.ensures.links ∙ ap (insert_key nat_eq old.links.keys) own) (subst (λ o. EndsInPlaceOf o new.links.keys old.numbers.items new.numbers.items) own w.in_ok-keep_row.ensures.number) in
+          (w.in_ok-keep_row.ensures.links ∙ ap (insert_key nat_eq (links_of old.links)) own) (subst (λ o. EndsInPlaceOf o (links_of new.links) old.numbers.items new.numbers.items) own w.in_ok-keep_row.ensures.number) in
           record {
-            so_far = subst (λ k. IsSoFar raw node later (i + 1) k.rows.items (map (λ v. v.items) k.to_child.items) k.links.keys k.numbers.items) (sym w.kept-is) kept;
+            so_far = subst (λ k. IsSoFar raw node later (i + 1) k.rows.items (map (λ v. v.items) k.to_child.items) (links_of k.links) k.numbers.items) (sym w.kept-is) kept;
             counted = omega (arith, all, c.child_groups.ensures.cost, w.keep_row.ensures.cost, c.loop-i.invariant.counted, w.steps-is);
           }
       | in_default w ↦
-          let gone = drop-row raw node later i old.rows.items children old.links.keys old.numbers.items c.loop-i.invariant.so_far (missing-row raw node later c.in_ok-named.field-0 i w.in_default.is c.in_ok-named.ensures.missing) in
+          let gone = drop-row raw node later i old.rows.items children (links_of old.links) old.numbers.items c.loop-i.invariant.so_far (missing-row raw node later c.in_ok-named.field-0 i w.in_default.is c.in_ok-named.ensures.missing) in
           record {
-            so_far = subst (λ k. IsSoFar raw node later (i + 1) k.rows.items (map (λ v. v.items) k.to_child.items) k.links.keys k.numbers.items) (sym w.kept-is) gone;
+            so_far = subst (λ k. IsSoFar raw node later (i + 1) k.rows.items (map (λ v. v.items) k.to_child.items) (links_of k.links) k.numbers.items) (sym w.kept-is) gone;
             counted = omega (arith, all, c.child_groups.ensures.cost, c.loop-i.invariant.counted, w.steps-is);
           }
     ]
@@ -62,7 +62,7 @@ loop-i-preserved g c =
 pub returns-clause-few : goal.returns-clause-few
 returns-clause-few g c =
     let now = c.loop-i.kept in
-    let few = few-numbers c.args.raw.now c.args.node (map links_of c.args.later.now) c.loop-i.i now.rows.items (map (λ v. v.items) now.to_child.items) now.links.keys now.numbers.items c.loop-i.invariant.so_far in
+    let few = few-numbers c.args.raw.now c.args.node (map links_of c.args.later.now) c.loop-i.i now.rows.items (map (λ v. v.items) now.to_child.items) (links_of now.links) now.numbers.items c.loop-i.invariant.so_far in
     let most = length_within c.args.raw.now.rows c.args.node in
     omega (arith, few, most, c.requires.few_rows, c.len-i-end.ensures)
 
@@ -76,4 +76,4 @@ pub returns-clause-numbers : goal.returns-clause-numbers
 returns-clause-numbers g c =
     let now = c.loop-i.kept in
     let all : c.loop-i.i ≡ raw_len c.args.raw.now c.args.node = omega (arith, c.len-i-end.ensures) in
-    subst (λ n. IsNumbering (map (group_link c.args.raw.now c.args.node) (kept_first c.args.raw.now c.args.node (map links_of c.args.later.now) n)) now.links.keys now.numbers.items) all c.loop-i.invariant.so_far.numbering
+    subst (λ n. IsNumbering (map (group_link c.args.raw.now c.args.node) (kept_first c.args.raw.now c.args.node (map links_of c.args.later.now) n)) (links_of now.links) now.numbers.items) all c.loop-i.invariant.so_far.numbering

@@ -5,6 +5,6 @@ use Rattle.semi_join.proofs.node.keep_rows.Given as goal
 
 abbrev pub invariant-loop-i : goal.invariant-loop-i
 invariant-loop-i g l = record {
-  so_far : IsSoFar l.raw l.node (map links_of l.later) l.i l.kept.rows.items (map (λ c. c.items) l.kept.to_child.items) l.kept.links.keys l.kept.numbers.items;
+  so_far : IsSoFar l.raw l.node (map links_of l.later) l.i l.kept.rows.items (map (λ c. c.items) l.kept.to_child.items) (links_of l.kept.links) l.kept.numbers.items;
   counted : l.steps ≤ l.initial.steps + l.i * (length (child_nodes l.raw l.node) + 1);
 }

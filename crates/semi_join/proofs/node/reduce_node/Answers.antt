@@ -10,9 +10,9 @@ returns-clause-reduced g c =
     let node = c.args.node in
     let later = map links_of c.args.later.now in
     let owns = map (group_link raw node) (kept_rows raw node later) in
-    let links = c.in_ok-kept.kept.links.keys in
+    let links = links_of c.in_ok-kept.kept.links in
     let numbers = c.in_ok-kept.kept.numbers.items in
-    let groups : c.in_ok-groups.groups ≡ places_by_number numbers (length links) = c.in_ok-groups.ensures ∙ ap (λ ns. places_by_number ns c.len.result) c.deref.ensures.value ∙ ap (places_by_number numbers) c.len.ensures.len in
+    let groups : c.in_ok-groups.groups ≡ places_by_number numbers (length links) = c.in_ok-groups.ensures ∙ ap (λ ns. places_by_number ns c.len.result) c.deref.ensures.value ∙ ap (places_by_number numbers) c.len.ensures in
     let grouping = subst (λ ks. IsGrouping owns ks (places_by_number numbers (length links))) c.in_ok-kept.ensures.links (numbered-grouping owns links numbers c.in_ok-kept.ensures.numbers) in
     record {
       shape = c.shape.ensures;

@@ -1,53 +1,82 @@
-use Rattle.std.proofs.Common.{◌≡◌, suc, ◌+◌, ◌-◌, ◌<◌, ◌∷◌, map, length, sym, ap, subst, ◌∙◌, arith}
+use Rattle.std.proofs.Common.{◌≡◌, ◌≢◌, suc, ◌+◌, ◌-◌, ◌<◌, ◌∷◌, [], map, length, sym, ap, subst, ◌∙◌, arith}
+use Rattle.std.proofs.lemmas.List.{get_or-set_other}
+use Rattle.tdp_core.specs.RawData.{IsRawFormed, RawData, rows_at}
 use Rattle.tdp_core.specs.TreeData.{node_data}
+use Rattle.tdp_core.proofs.RawFacts.{formed_less}
 use Rattle.semi_join.specs.Reduction.{links_of, IsReducedNode, AreFew, group_links}
 use Rattle.semi_join.proofs.FromLast.{links_last, AreReducedLast}
 use Rattle.semi_join.proofs.FromLast.{steps-more, steps-few, from-more, links-more, few-more}
+use Rattle.semi_join.proofs.SameRows.{links-same, reduced-same, steps-same}
 use Rattle.semi_join.proofs.WholeReduction.{whole-reduction}
 use Rattle.semi_join.proofs.reduction.reduce.Goals as goal
 
 pub returns-in_err-grouped-clause-cost : goal.returns-in_err-grouped-clause-cost
 returns-in_err-grouped-clause-cost g c =
-    let less : c.loop-node.node - 1 < length c.args.raw.rows = omega (arith, c.loop-node.invariant.count, c.nodes-node.ensures.formed.each_node) in
-    let is : c.loop-node.node ≡ suc (c.loop-node.node - 1) = omega arith in
-    steps-few c.args.raw.rows (c.loop-node.node - 1) (length c.args.raw.shapes) c.args.steps.now c.reduce_node.new.steps
-    (steps-more c.args.raw.rows (c.loop-node.node - 1) c.loop-node.node (length c.args.raw.shapes) c.args.steps.now c.loop-node.steps c.reduce_node.new.steps less is c.loop-node.invariant.counted c.reduce_node.ensures.cost)
+    let raw = c.args.raw in
+    let v = c.loop-node.node - 1 in
+    let less : v < length raw.rows = omega (arith, c.loop-node.invariant.count, c.nodes-node.ensures.formed.each_node) in
+    let is : c.loop-node.node ≡ suc v = omega arith in
+    let one = steps-same v [] c.loop-node.tree raw c.loop-node.invariant.shapes (c.loop-node.invariant.rows v (omega arith)) c.loop-node.steps c.reduce_node.new.steps c.reduce_node.ensures.cost in
+    steps-few raw.rows v (length raw.shapes) c.args.steps.now c.reduce_node.new.steps
+    (steps-more raw.rows v c.loop-node.node (length raw.shapes) c.args.steps.now c.loop-node.steps c.reduce_node.new.steps less is c.loop-node.invariant.counted one)
 
 pub returns-in_err-insert-clause-cost : goal.returns-in_err-insert-clause-cost
 returns-in_err-insert-clause-cost g c =
-    let less : c.loop-node.node - 1 < length c.args.raw.rows = omega (arith, c.loop-node.invariant.count, c.nodes-node.ensures.formed.each_node) in
-    let is : c.loop-node.node ≡ suc (c.loop-node.node - 1) = omega arith in
-    steps-few c.args.raw.rows (c.loop-node.node - 1) (length c.args.raw.shapes) c.args.steps.now c.reduce_node.new.steps
-    (steps-more c.args.raw.rows (c.loop-node.node - 1) c.loop-node.node (length c.args.raw.shapes) c.args.steps.now c.loop-node.steps c.reduce_node.new.steps less is c.loop-node.invariant.counted c.reduce_node.ensures.cost)
+    let raw = c.args.raw in
+    let v = c.loop-node.node - 1 in
+    let less : v < length raw.rows = omega (arith, c.loop-node.invariant.count, c.nodes-node.ensures.formed.each_node) in
+    let is : c.loop-node.node ≡ suc v = omega arith in
+    let one = steps-same v [] c.loop-node.tree raw c.loop-node.invariant.shapes (c.loop-node.invariant.rows v (omega arith)) c.loop-node.steps c.reduce_node.new.steps c.reduce_node.ensures.cost in
+    steps-few raw.rows v (length raw.shapes) c.args.steps.now c.reduce_node.new.steps
+    (steps-more raw.rows v c.loop-node.node (length raw.shapes) c.args.steps.now c.loop-node.steps c.reduce_node.new.steps less is c.loop-node.invariant.counted one)
 
 pub returns-in_err-insert-2-clause-cost : goal.returns-in_err-insert-2-clause-cost
 returns-in_err-insert-2-clause-cost g c =
-    let less : c.loop-node.node - 1 < length c.args.raw.rows = omega (arith, c.loop-node.invariant.count, c.nodes-node.ensures.formed.each_node) in
-    let is : c.loop-node.node ≡ suc (c.loop-node.node - 1) = omega arith in
-    steps-few c.args.raw.rows (c.loop-node.node - 1) (length c.args.raw.shapes) c.args.steps.now c.reduce_node.new.steps
-    (steps-more c.args.raw.rows (c.loop-node.node - 1) c.loop-node.node (length c.args.raw.shapes) c.args.steps.now c.loop-node.steps c.reduce_node.new.steps less is c.loop-node.invariant.counted c.reduce_node.ensures.cost)
+    let raw = c.args.raw in
+    let v = c.loop-node.node - 1 in
+    let less : v < length raw.rows = omega (arith, c.loop-node.invariant.count, c.nodes-node.ensures.formed.each_node) in
+    let is : c.loop-node.node ≡ suc v = omega arith in
+    let one = steps-same v [] c.loop-node.tree raw c.loop-node.invariant.shapes (c.loop-node.invariant.rows v (omega arith)) c.loop-node.steps c.reduce_node.new.steps c.reduce_node.ensures.cost in
+    steps-few raw.rows v (length raw.shapes) c.args.steps.now c.reduce_node.new.steps
+    (steps-more raw.rows v c.loop-node.node (length raw.shapes) c.args.steps.now c.loop-node.steps c.reduce_node.new.steps less is c.loop-node.invariant.counted one)
 
 pub loop-node-preserved : goal.loop-node-preserved
 loop-node-preserved g c =
-    let less : c.loop-node.node - 1 < length c.args.raw.rows = omega (arith, c.loop-node.invariant.count, c.nodes-node.ensures.formed.each_node) in
-    let is : c.loop-node.node ≡ suc (c.loop-node.node - 1) = omega arith in
-    let sum : (c.loop-node.node - 1) + suc (length c.args.raw.shapes - c.loop-node.node) ≡ length c.args.raw.shapes = omega (arith, c.loop-node.invariant.count) in
-    let more : suc (length c.args.raw.shapes - c.loop-node.node) ≡ length c.args.raw.shapes - (c.loop-node.node - 1) = omega (arith, c.loop-node.invariant.count) in
-    let old = ap (map links_of) c.deref.ensures.value ∙ c.loop-node.invariant.links in
-    let here = subst (λ l. IsReducedNode c.args.raw (c.loop-node.node - 1) l (node_data c.in_ok-grouped.grouped.parts)) old c.in_ok-grouped.ensures.reduced in
-    let keys = c.in_ok-grouped.ensures.links ∙ ap (λ l. group_links c.args.raw (c.loop-node.node - 1) (map links_of l)) c.deref.ensures.value in
+    let raw = c.args.raw in
+    let tree = c.loop-node.tree in
+    let v = c.loop-node.node - 1 in
+    let before = c.loop-node.invariant in
+    let nodes = ap length before.shapes in
+    let here : v < length tree.shapes = omega (arith, before.count, nodes) in
+    let less : v < length raw.rows = omega (arith, before.count, c.nodes-node.ensures.formed.each_node) in
+    let is : c.loop-node.node ≡ suc v = omega arith in
+    let sum : v + suc (length raw.shapes - c.loop-node.node) ≡ length raw.shapes = omega (arith, before.count) in
+    let more : suc (length raw.shapes - c.loop-node.node) ≡ length raw.shapes - v = omega (arith, before.count) in
+    let same = before.rows v (omega arith) in
+    let later = map links_of c.loop-node.later.items in
+    let part = node_data c.in_ok-grouped.grouped.parts in
+    let links = links_of c.in_ok-grouped.grouped.links in
+    let found = subst (λ l. IsReducedNode tree v (map links_of l) part) c.deref.ensures.value c.in_ok-grouped.ensures.reduced in
+    let reduced = subst (λ l. IsReducedNode raw v l part) before.links (reduced-same v later tree raw before.shapes same part found) in
+    let keys : links ≡ group_links raw v later = c.in_ok-grouped.ensures.links ∙ ap (λ l. group_links tree v (map links_of l)) c.deref.ensures.value ∙ links-same v later tree raw before.shapes same in
+    let one = steps-same v later tree raw before.shapes same c.loop-node.steps c.reduce_node.new.steps c.reduce_node.ensures.cost in
     record {
+      formed = subst (IsRawFormed g.R.Rank.KEYS g.R.Rank.key) (sym c.clear.ensures) (formed_less g.R.Rank.KEYS g.R.Rank.key tree v before.formed here);
+      shapes = ap (λ (t : RawData g.row.R.Denot). t.shapes) c.clear.ensures ∙ before.shapes;
+      rows = λ u h.
+          let other : u ≢ v = λ e. omega (arith, h, e) in
+          ap (λ (t : RawData g.row.R.Denot). rows_at t u) c.clear.ensures ∙ get_or-set_other tree.rows v u [] [] other ∙ before.rows u (omega (arith, h));
       reduced =
-          subst (λ ps. AreReducedLast c.args.raw (length c.args.raw.shapes - (c.loop-node.node - 1)) (map node_data ps)) (sym c.in_ok-insert.ensures.items)
-          (subst (λ n. AreReducedLast c.args.raw n (node_data c.in_ok-grouped.grouped.parts ∷ map node_data c.loop-node.nodes.items)) more
-          (from-more c.args.raw (length c.args.raw.shapes - c.loop-node.node) (c.loop-node.node - 1) (node_data c.in_ok-grouped.grouped.parts) (map node_data c.loop-node.nodes.items) sum c.loop-node.invariant.reduced here));
+          subst (λ ps. AreReducedLast raw (length raw.shapes - v) (map node_data ps)) (sym c.in_ok-insert.ensures.items)
+          (subst (λ n. AreReducedLast raw n (part ∷ map node_data c.loop-node.nodes.items)) more
+          (from-more raw (length raw.shapes - c.loop-node.node) v part (map node_data c.loop-node.nodes.items) sum before.reduced reduced));
       links =
           ap (map links_of) c.in_ok-insert-2.ensures.items
-          ∙ links-more c.args.raw (length c.args.raw.shapes - c.loop-node.node) (c.loop-node.node - 1) c.in_ok-grouped.grouped.links.keys (map links_of c.loop-node.later.items) sum c.loop-node.invariant.links keys
-          ∙ ap (links_last c.args.raw) more;
-      few = subst (λ ls. AreFew (map links_of ls)) (sym c.in_ok-insert-2.ensures.items) (few-more c.in_ok-grouped.grouped.links.keys (map links_of c.loop-node.later.items) c.in_ok-grouped.ensures.few c.loop-node.invariant.few);
-      count = omega (arith, ap length c.in_ok-insert-2.ensures.items, c.loop-node.invariant.count);
-      counted = steps-more c.args.raw.rows (c.loop-node.node - 1) c.loop-node.node (length c.args.raw.shapes) c.args.steps.now c.loop-node.steps c.reduce_node.new.steps less is c.loop-node.invariant.counted c.reduce_node.ensures.cost;
+          ∙ links-more raw (length raw.shapes - c.loop-node.node) v links later sum before.links keys
+          ∙ ap (links_last raw) more;
+      few = subst (λ ls. AreFew (map links_of ls)) (sym c.in_ok-insert-2.ensures.items) (few-more links later c.in_ok-grouped.ensures.few before.few);
+      count = omega (arith, ap length c.in_ok-insert-2.ensures.items, before.count);
+      counted = steps-more raw.rows v c.loop-node.node (length raw.shapes) c.args.steps.now c.loop-node.steps c.reduce_node.new.steps less is before.counted one;
     }
 
 pub returns-clause-reduced : goal.returns-clause-reduced

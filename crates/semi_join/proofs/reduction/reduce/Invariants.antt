@@ -1,4 +1,5 @@
-use Rattle.std.proofs.Common.{◌≡◌, ◌≤◌, ◌+◌, ◌-◌, ◌*◌, map, length, drop, sum_by}
+use Rattle.std.proofs.Common.{◌≡◌, ◌≤◌, ◌<◌, ℕ, ◌+◌, ◌-◌, ◌*◌, map, length, drop, sum_by}
+use Rattle.tdp_core.specs.RawData.{IsRawFormed, rows_at}
 use Rattle.tdp_core.specs.TreeData.{node_data}
 use Rattle.semi_join.specs.Reduction.{AreFew, links_of}
 use Rattle.semi_join.proofs.FromLast.{AreReducedLast, links_last}
@@ -6,6 +7,9 @@ use Rattle.semi_join.proofs.reduction.reduce.Given as goal
 
 abbrev pub invariant-loop-node : goal.invariant-loop-node
 invariant-loop-node g l = record {
+  formed : IsRawFormed g.R.Rank.KEYS g.R.Rank.key l.tree;
+  shapes : l.tree.shapes ≡ l.fn.raw.shapes;
+  rows : (v : ℕ) → v < l.node → rows_at l.tree v ≡ rows_at l.fn.raw v;
   reduced : AreReducedLast l.fn.raw (length l.fn.raw.shapes - l.node) (map node_data l.nodes.items);
   links : map links_of l.later.items ≡ links_last l.fn.raw (length l.fn.raw.shapes - l.node);
   few : AreFew (map links_of l.later.items);

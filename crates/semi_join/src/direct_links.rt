@@ -1,0 +1,89 @@
+//! Links that are small numbers, with a table that has the number of each.
+ghost use Rattle.std.specs.Prelude.{◌≡◌, ◌<◌, ◌≤◌, ◌^◌, ℕ, [], OnOk, IfOk, length, nat_eq, position, slice_index, vec_len};
+ghost use Rattle.indexmap.specs.IndexSet.{insert_key};
+
+use std::alloc::Global;
+use std::marker::Model;
+use step_counter::NoMemory;
+
+/// Links that are small numbers. They are seen as a list: the number of a link is its place there.
+#[derive(Drop)]
+pub(crate) struct DirectLinks {
+    links: Vec<u32>,
+    /// For each link its number and one more, and 0 where a link is not there.
+    table: Vec<u32>,
+}
+
+impl Model for DirectLinks {
+    ghost use Rattle.std.specs.Prelude.{ℕ, List};
+    ghost use Rattle.semi_join.specs.LinkTable.{IsTableOf};
+
+    ghost Value = { List ℕ };
+
+    ghost view = { λ d. d.links.items };
+
+    ghost invariant = { λ d. IsTableOf d.table.items d.links.items };
+}
+
+impl DirectLinks {
+    /// No links, and a table for those up to the greatest one.
+    pub(crate) fn new(alloc: Global, greatest: u32) -> Result<DirectLinks, NoMemory>
+        ensures { IfOk result (λ d. d ≡ []) }
+    {
+        let table = vec![in alloc; 0; greatest as usize + 1]?;
+        Ok(DirectLinks {
+            links: Vec::new(alloc),
+            table,
+        })
+    }
+
+    /// How many links there are.
+    pub(crate) fn len(&self) -> usize
+        ensures { result ≡ length self.now }
+    {
+        self.links.len()
+    }
+
+    /// The number of a link, if it is there.
+    pub(crate) fn number_of(&self, link: u32) -> Option<usize>
+        ensures { result ≡ position (nat_eq link) self.now }
+    {
+        let place = link as usize;
+        if place >= self.table.len() {
+            return None;
+        }
+        let after = self.table[place] as usize;
+        if after == 0 { None } else { Some(after - 1) }
+    }
+
+    /// The number of a link, which goes last where it is not there yet. A table that is too short for it grows.
+    pub(crate) fn insert(&mut self, link: u32) -> Result<u32, NoMemory>
+        requires { length self.old ≤ 4194304 }
+        ensures links { OnOk result (self.new ≡ insert_key nat_eq self.old link) }
+        ensures within { IfOk result (λ n. n < length self.new) }
+        ensures stands { IfOk result (λ n. slice_index self.new n ≡ link) }
+    {
+        let place = link as usize;
+        reach(&mut self.table, place)?;
+        let after = self.table[place];
+        if after > 0 {
+            return Ok(after - 1);
+        }
+        let number = self.links.len() as u32;
+        self.links.push(link)?;
+        self.table[place] = number + 1;
+        Ok(number)
+    }
+}
+
+/// Makes a table long enough to have this place. What is new in it is 0.
+fn reach(table: &mut Vec<u32>, place: usize) -> Result<(), NoMemory>
+    requires { place < 2 ^ 32 }
+    ensures within { OnOk result (place < vec_len table.new) }
+    ensures same { (i : ℕ) → slice_index table.new.items i ≡ slice_index table.old.items i }
+{
+    if place >= table.len() {
+        table.resize(place + 1, 0)?;
+    }
+    Ok(())
+}
