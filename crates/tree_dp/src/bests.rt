@@ -27,7 +27,7 @@ pub(crate) fn bests_of<R: Rank, L: Ledger>(
     ensures bests { IfOk result (λ bests. (r : ℕ) → r < rows (tree_data nodes.now) node → key_at R.KEYS R.key bests.items r ≡ by_children R.KEYS R.key (tree_data nodes.now) node r) }
     ensures cost { steps.new ≤ steps.old + rows (tree_data nodes.now) node * length nodes.now }
 {
-    let mut bests = Vec::new(alloc);
+    let mut bests = Vec::with_capacity(alloc, nodes[node].rows.len())?;
     for row in 0..nodes[node].rows.len() {
         let best = row_best(nodes, node, row, leasts, steps);
         bests.push(best)?;
