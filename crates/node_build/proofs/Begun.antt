@@ -1,4 +1,4 @@
--- A raw tree without rows, and no numbered lists.
+-- A raw tree without rows, and no numbered pairs.
 use Rattle.std.proofs.Common.{◌≡◌, ℕ, zero, suc, List, [], length, get_or, replicate, refl, ap, ◌∙◌, inl, inr, arith}
 use Rattle.std.specs.List.{sum_by}
 use Rattle.std.proofs.lemmas.Bool.{cases_lt}
@@ -23,18 +23,18 @@ sum-none : (A : Type 0) (n : ℕ) → (let none : List A = [] in sum_by length (
 sum-none A zero = refl
 sum-none A (suc n) = let none : List A = [] in omega (arith, sum-none A n, sum_by-cons length none (replicate n none))
 
-pub no-numbers : (names : List (List (List ℕ))) (n : ℕ) → names ≡ replicate n [] → AreNumbers names
+pub no-numbers : (names : List (List (ℕ × ℕ))) (n : ℕ) → names ≡ replicate n [] → AreNumbers names
 no-numbers names n is q m k values a b =
-    let none : List (List ℕ) = [] in
-    let empty : get_or names q none ≡ none = ap (λ (xs : List (List (List ℕ))). get_or xs q none) is ∙ none-at (List ℕ) n q in
+    let none : List (ℕ × ℕ) = [] in
+    let empty : get_or names q none ≡ none = ap (λ (xs : List (List (ℕ × ℕ))). get_or xs q none) is ∙ none-at (ℕ × ℕ) n q in
     let size : length (get_or names q none) ≡ 0 = ap length empty in
     let w = a.within in
     absurd (omega (arith, w, size))
 
-pub names-count : (names : List (List (List ℕ))) (n : ℕ) → names ≡ replicate n [] → length names ≡ n
-names-count names n is = let none : List (List ℕ) = [] in ap length is ∙ length-replicate n none
+pub names-count : (names : List (List (ℕ × ℕ))) (n : ℕ) → names ≡ replicate n [] → length names ≡ n
+names-count names n is = let none : List (ℕ × ℕ) = [] in ap length is ∙ length-replicate n none
 
-pub no-rows-yet : {R : Type 0} (bound : BoundQuery) (tables : List Table) (join : JoinTree) (own above : List (List ℕ)) (d : ℕ) (key : R → KeyOf d 16) (names : List (List (List ℕ)))
+pub no-rows-yet : {R : Type 0} (bound : BoundQuery) (tables : List Table) (join : JoinTree) (own above : List (List ℕ)) (d : ℕ) (key : R → KeyOf d 16) (names : List (List (ℕ × ℕ)))
     (rows : List (List ℕ)) (shapes : List NodeShape) (tree : RawData R) → length shapes ≡ join.count → tree ≡ record { shapes = shapes; rows = replicate (length shapes) [] }
     → AreFilled bound tables join own above d key names 0 rows tree
 no-rows-yet {R = R} bound tables join own above d key names rows shapes tree count is =

@@ -52,8 +52,8 @@ last-or-before xs x y r e = elim (cases_lt r (length xs)) [
 ]
 
 module _ (bound : BoundQuery) (tables : List Table) (join : JoinTree) (own above : List (List ℕ)) {R : Type 0} (d : ℕ) (key : R → KeyOf d 16) where
-  -- a row keeps its links when more lists are numbered
-  row-kept : (old new : List (List (List ℕ))) (v row : ℕ) (x : RawRowData R) → AreMore old new → IsRowOf bound tables join own above d key old v row x
+  -- a row keeps its links when more pairs are numbered
+  row-kept : (old new : List (List (ℕ × ℕ))) (v row : ℕ) (x : RawRowData R) → AreMore old new → IsRowOf bound tables join own above d key old v row x
       → IsRowOf bound tables join own above d key new v row x
   row-kept old new v row x more h = record {
     number = h.number;
@@ -62,17 +62,17 @@ module _ (bound : BoundQuery) (tables : List Table) (join : JoinTree) (own above
     children = λ q some l is. link-kept old new q _ _ more (h.children q some l is);
   }
 
-  pub rows-kept : (old new : List (List (List ℕ))) (v n : ℕ) (rows : List ℕ) (xs : List (RawRowData R)) → AreMore old new
+  pub rows-kept : (old new : List (List (ℕ × ℕ))) (v n : ℕ) (rows : List ℕ) (xs : List (RawRowData R)) → AreMore old new
       → HasRowsOf bound tables join own above d key old v n rows xs → HasRowsOf bound tables join own above d key new v n rows xs
   rows-kept old new v n rows xs more h = record { count = h.count; each = λ r x is. row-kept old new v (get_or rows r 0) x more (h.each r x is) }
 
-  pub no-rows : (names : List (List (List ℕ))) (v : ℕ) (rows : List ℕ) (xs : List (RawRowData R)) → xs ≡ [] → HasRowsOf bound tables join own above d key names v 0 rows xs
+  pub no-rows : (names : List (List (ℕ × ℕ))) (v : ℕ) (rows : List ℕ) (xs : List (RawRowData R)) → xs ≡ [] → HasRowsOf bound tables join own above d key names v 0 rows xs
   no-rows names v rows xs none =
       let n : length xs ≡ 0 = ap length none in
       record { count = n; each = λ r x is. absurd (let l = slice_get_within xs r x is in omega (arith, l, n)) }
 
   -- one more row of a node
-  pub rows-more : (old new : List (List (List ℕ))) (v n row : ℕ) (rows : List ℕ) (xs now : List (RawRowData R)) (x : RawRowData R) → AreMore old new → row ≡ get_or rows n 0
+  pub rows-more : (old new : List (List (ℕ × ℕ))) (v n row : ℕ) (rows : List ℕ) (xs now : List (RawRowData R)) (x : RawRowData R) → AreMore old new → row ≡ get_or rows n 0
       → now ≡ xs ++ x ∷ [] → HasRowsOf bound tables join own above d key old v n rows xs → IsRowOf bound tables join own above d key new v row x
       → HasRowsOf bound tables join own above d key new v (n + 1) rows now
   rows-more old new v n row rows xs now x more at is so_far here =
@@ -90,7 +90,7 @@ module _ (bound : BoundQuery) (tables : List Table) (join : JoinTree) (own above
       }
 
   -- the rows of one more node
-  pub filled-more : (old new : List (List (List ℕ))) (n : ℕ) (rows : List (List ℕ)) (t now : RawData R) → AreMore old new → n < length rows
+  pub filled-more : (old new : List (List (ℕ × ℕ))) (n : ℕ) (rows : List (List ℕ)) (t now : RawData R) → AreMore old new → n < length rows
       → AreFilled bound tables join own above d key old n rows t → HasOnlyMore n (length (get_or rows n [])) t now
       → HasRowsOf bound tables join own above d key new n (length (get_or rows n [])) (get_or rows n []) (rows_at now n)
       → AreFilled bound tables join own above d key new (n + 1) rows now

@@ -60,19 +60,19 @@ kids-rise parent v n m l =
 -- ---- names
 
 module _ (bound : BoundQuery) (tables : List Table) (join : JoinTree) (own above : List (List ℕ)) where
-  abbrev Names : List (List (List ℕ)) → ℕ → ℕ → ℕ → List ℕ → Type 0
+  abbrev Names : List (List (ℕ × ℕ)) → ℕ → ℕ → ℕ → List ℕ → Type 0
   Names = NamesLinks bound tables join own above
 
-  pub names-none : (names : List (List (List ℕ))) (v row : ℕ) (children : List ℕ) → Names names v row 1 children
+  pub names-none : (names : List (List (ℕ × ℕ))) (v row : ℕ) (children : List ℕ) → Names names v row 1 children
   names-none names v row children q some l is = absurd (omega (arith, some, l))
 
-  pub names-skip : (names : List (List (List ℕ))) (v row n : ℕ) (children : List ℕ) → parent_of join n ≢ v → Names names v row n children → Names names v row (n + 1) children
+  pub names-skip : (names : List (List (ℕ × ℕ))) (v row n : ℕ) (children : List ℕ) → parent_of join n ≢ v → Names names v row n children → Names names v row (n + 1) children
   names-skip names v row n children other so_far q some l is = elim (cases_eq q n) [
     | inl same ↦ absurd (other (ap (parent_of join) (sym same) ∙ is))
     | inr differ ↦ so_far q some (omega (arith, l, differ)) is
   ]
 
-  pub names-more : (old new : List (List (List ℕ))) (v row n : ℕ) (children now : List ℕ) (link : ℕ) → AreMore old new → 0 < n → parent_of join n ≡ v
+  pub names-more : (old new : List (List (ℕ × ℕ))) (v row n : ℕ) (children now : List ℕ) (link : ℕ) → AreMore old new → 0 < n → parent_of join n ≡ v
       → length children ≡ kids_below (parent_of join) v n → now ≡ children ++ link ∷ [] → Names old v row n children
       → IsLink new n link (values_at bound tables join own above v row (get_or above n [])) → Names new v row (n + 1) now
   names-more old new v row n children now link more past below count is so_far here q some l up = elim (cases_eq q n) [

@@ -18,7 +18,7 @@ pub record HasOnlyMore {R : Type 0} (v n : ℕ) (old new : RawData R) : Type 0 w
 
 -- the first n nodes have their rows, and the others have none
 pub record AreFilled {R : Type 0} (bound : BoundQuery) (tables : List Table) (join : JoinTree) (own above : List (List ℕ)) (d : ℕ) (key : R → KeyOf d 16)
-    (names : List (List (List ℕ))) (n : ℕ) (rows : List (List ℕ)) (tree : RawData R) : Type 0 where
+    (names : List (List (ℕ × ℕ))) (n : ℕ) (rows : List (List ℕ)) (tree : RawData R) : Type 0 where
   pub each_node : length tree.rows ≡ join.count
   pub filled : (v : ℕ) → v < n → HasRowsOf bound tables join own above d key names v (length (slice_index_or rows v [])) (slice_index_or rows v []) (rows_at tree v)
   pub empty : (v : ℕ) → n ≤ v → rows_at tree v ≡ []
@@ -29,7 +29,7 @@ pub record IsFilledTree {R : Type 0} (bound : BoundQuery) (tables : List Table) 
     (rows : List (List ℕ)) (tree : RawData R) : Type 0 where
   pub own : List (List ℕ)
   pub above : List (List ℕ)
-  pub names : List (List (List ℕ))
+  pub names : List (List (ℕ × ℕ))
   pub columns : HaveColumns bound join join.count own above
   pub numbers : AreNumbers names
   pub filled : AreFilled bound tables join own above d key names join.count rows tree

@@ -1,7 +1,6 @@
 -- Links: one number for the values that a row has in some columns.
-use Rattle.std.specs.Prelude.{◌≡◌, ◌<◌, ◌≤◌, ◌-◌, ℕ, List, [], map, length, slice_index, slice_index_or, slice_get, Some}
+use Rattle.std.specs.Prelude.{◌≡◌, ◌<◌, ◌-◌, ℕ, List, [], ◌∷◌, map, length, slice_index, slice_index_or, slice_get, Some}
 use Rattle.std.specs.HashSet.{HashSet}
-use Rattle.smallvec.specs.SmallVec.{SmallVec}
 use Rattle.rank_key.specs.Keys.{row_key}
 use Rattle.tdp_model.specs.KeyTuple.{KeyOf}
 use Rattle.tdp_core.specs.TreeData.{kids_below}
@@ -17,32 +16,34 @@ use Rattle.node_build.specs.Nodes.{item_of, parent_of, row_parts}
 abbrev pub values_in : List Table → Table → ℕ → List ℕ → List ℕ
 values_in tables table row columns = map (λ (c : ℕ). number_of tables (field_at table (row - 1) c)) columns
 
--- the lists of a set
-abbrev pub lists_in : {S : Type 0} → HashSet (SmallVec ℕ) S → List (List ℕ)
-lists_in s = map (λ v. v.items) s.keys
+-- the pairs of each set
+abbrev pub names_of : {S : Type 0} → List (HashSet (ℕ × ℕ) S) → List (List (ℕ × ℕ))
+names_of sets = map (λ s. s.keys) sets
 
--- the lists of each set
-abbrev pub names_of : {S : Type 0} → List (HashSet (SmallVec ℕ) S) → List (List (List ℕ))
-names_of sets = map lists_in sets
-
--- list number n of node q
-pub record IsNumbered (names : List (List (List ℕ))) (q n : ℕ) (values : List ℕ) : Type 0 where
+-- pair number n of node q
+pub record IsNumbered (names : List (List (ℕ × ℕ))) (q n : ℕ) (pair : ℕ × ℕ) : Type 0 where
   pub within : n < length (slice_index_or names q [])
-  pub is : slice_index_or (slice_index_or names q []) n [] ≡ values
+  pub is : slice_index_or (slice_index_or names q []) n (0, 0) ≡ pair
 
--- no list has two numbers
-abbrev pub AreNumbers : List (List (List ℕ)) → Type 0
-AreNumbers names = (q m n : ℕ) (values : List ℕ) → IsNumbered names q m values → IsNumbered names q n values → m ≡ n
+-- no pair has two numbers
+abbrev pub AreNumbers : List (List (ℕ × ℕ)) → Type 0
+AreNumbers names = (q m n : ℕ) (pair : ℕ × ℕ) → IsNumbered names q m pair → IsNumbered names q n pair → m ≡ n
 
--- the link of a list of values at node q: a value alone is its own link, the link of an empty list is 0, and several values have their number
-pub record IsLink (names : List (List (List ℕ))) (q n : ℕ) (values : List ℕ) : Type 0 where
-  pub alone : length values ≤ 1 → n ≡ slice_index values 0
-  pub several : 1 < length values → IsNumbered names q n values
+-- n is the number at node q of a list of values that begins with `first`. One value is its own number. The number of more is that
+-- of a pair: the number of all but the last, and the last.
+abbrev pub IsListNumber : List (List (ℕ × ℕ)) → ℕ → ℕ → ℕ → List ℕ → Type 0
+IsListNumber names q first n [] = n ≡ first
+IsListNumber names q first n (value ∷ rest) = (m : ℕ) × IsNumbered names q m (first, value) × IsListNumber names q m n rest
 
--- lists keep their numbers when others are added
-pub record AreMore (old new : List (List (List ℕ))) : Type 0 where
+-- the link of a list of values at node q: 0 where there is none, and else the number of the list
+abbrev pub IsLink : List (List (ℕ × ℕ)) → ℕ → ℕ → List ℕ → Type 0
+IsLink names q n [] = n ≡ 0
+IsLink names q n (value ∷ rest) = IsListNumber names q value n rest
+
+-- pairs keep their numbers when others are added
+pub record AreMore (old new : List (List (ℕ × ℕ))) : Type 0 where
   pub count : length new ≡ length old
-  pub kept : (q n : ℕ) (values : List ℕ) → IsNumbered old q n values → IsNumbered new q n values
+  pub kept : (q n : ℕ) (pair : ℕ × ℕ) → IsNumbered old q n pair → IsNumbered new q n pair
   pub numbers : AreNumbers old → AreNumbers new
 
 module _ (bound : BoundQuery) (tables : List Table) (join : JoinTree) (own above : List (List ℕ)) where
@@ -51,19 +52,19 @@ module _ (bound : BoundQuery) (tables : List Table) (join : JoinTree) (own above
   values_at v row columns = values_in tables (table_in tables bound.query.items (item_of join v)) row columns
 
   -- the links that a row of node v names for the first n nodes
-  abbrev pub NamesLinks : List (List (List ℕ)) → ℕ → ℕ → ℕ → List ℕ → Type 0
+  abbrev pub NamesLinks : List (List (ℕ × ℕ)) → ℕ → ℕ → ℕ → List ℕ → Type 0
   NamesLinks names v row n children =
       (q : ℕ) → 0 < q → q < n → parent_of join q ≡ v
       → IsLink names q (slice_index children (kids_below (parent_of join) v q)) (values_at v row (slice_index_or above q []))
 
   -- the raw tree's row for a row of node v
-  pub record IsRowOf {R : Type 0} (d : ℕ) (key : R → KeyOf d 16) (names : List (List (List ℕ))) (v row : ℕ) (x : RawRowData R) : Type 0 where
+  pub record IsRowOf {R : Type 0} (d : ℕ) (key : R → KeyOf d 16) (names : List (List (ℕ × ℕ))) (v row : ℕ) (x : RawRowData R) : Type 0 where
     pub number : x.row.row ≡ row
     pub rank : key x.row.rank ≡ row_key d (row_parts bound tables (item_of join v) row) (item_of join v) row
     pub link : IsLink names v x.own (values_at v row (slice_index_or own v []))
     pub children : NamesLinks names v row join.count x.children
 
   -- the rows of node v are the first n of a list
-  pub record HasRowsOf {R : Type 0} (d : ℕ) (key : R → KeyOf d 16) (names : List (List (List ℕ))) (v n : ℕ) (rows : List ℕ) (xs : List (RawRowData R)) : Type 0 where
+  pub record HasRowsOf {R : Type 0} (d : ℕ) (key : R → KeyOf d 16) (names : List (List (ℕ × ℕ))) (v n : ℕ) (rows : List ℕ) (xs : List (RawRowData R)) : Type 0 where
     pub count : length xs ≡ n
     pub each : (r : ℕ) (x : RawRowData R) → slice_get xs r ≡ Some x → IsRowOf d key names v (slice_index rows r) x

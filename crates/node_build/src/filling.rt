@@ -39,9 +39,10 @@ pub(crate) fn filled_tree<R: Rank, L: Ledger>(
     ensures cost { steps.new ≤ steps.old + sum_by length (lists_of rows.now) * join.now.count }
 {
     let shapes = shapes_of(alloc, query, join)?;
-    let mut tree = RawTree::new(alloc, shapes.as_slice())?;
+    let keys = tables.keys();
+    let mut tree = RawTree::with_keys(alloc, shapes.as_slice(), keys)?;
     let columns = columns_of(alloc, query, join)?;
-    let mut links = no_links(alloc, join.count)?;
+    let mut links = no_links(alloc, join.count, keys)?;
     for node in 0..join.count {
         let list = rows[node as usize].as_slice();
         add_rows(

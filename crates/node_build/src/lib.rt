@@ -4,7 +4,7 @@
 //! This is the first step of the reduction of an acyclic join (Yannakakis, Algorithms for acyclic database schemes, 1981):
 //! two rows belong together where they agree on the variables that both items have. A link is one number for the values that a
 //! row has there. Each value is a number already, the same for two fields exactly where their bytes are, so one value is its own
-//! link. Several values are numbered, list by list.
+//! link. Several values are numbered pair by pair: the number of those before, and the next value.
 #![tactic(auto)]
 
 mod building;

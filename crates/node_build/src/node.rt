@@ -19,15 +19,13 @@ use csv_tables::Tables;
 use join_tree::JoinTree;
 use query_bind::Query;
 use rank_key::Rank;
-use smallvec::SmallVec;
 use std::alloc::Global;
 use std::sync::ledger::Ledger;
 use step_counter::{NoMemory, Steps};
 use tdp_core::{NodeRow, RawTree};
 
-// The links that a row of a node names for the node's children.
+// Puts the links that a row of a node names for the node's children into `named`. What was in it goes.
 fn child_links<L: Ledger>(
-    alloc: Global,
     query: &Query,
     tables: &Tables,
     join: &JoinTree,
@@ -35,8 +33,9 @@ fn child_links<L: Ledger>(
     node: u32,
     row: u32,
     links: &mut Links,
+    named: &mut Vec<u32>,
     steps: &mut Steps<L>,
-) -> Result<SmallVec<u32, 4>, NoMemory>
+) -> Result<(), NoMemory>
     requires fits { Fits query.now tables.now }
     requires tree { IsJoinTreeOf query.now.query join.now }
     requires columns { HaveColumns query.now join.now join.now.count (lists_of columns.now.own.items) (lists_of columns.now.above.items) }
@@ -45,26 +44,25 @@ fn child_links<L: Ledger>(
     requires row { row ≤ length (table_in tables.now query.now.query.items (item_of join.now node)).rows }
     requires links { vec_len links.old ≡ join.now.count }
     ensures more { OnOk result (AreMore (names_of links.old.items) (names_of links.new.items)) }
-    ensures count { IfOk result (λ children. length children.items ≡ kids_below (parent_of join.now) node join.now.count) }
-    ensures names { IfOk result (λ children. NamesLinks query.now tables.now join.now (lists_of columns.now.own.items) (lists_of columns.now.above.items)
-        (names_of links.new.items) node row join.now.count children.items) }
+    ensures count { OnOk result (length named.new.items ≡ kids_below (parent_of join.now) node join.now.count) }
+    ensures names { OnOk result (NamesLinks query.now tables.now join.now (lists_of columns.now.own.items) (lists_of columns.now.above.items)
+        (names_of links.new.items) node row join.now.count named.new.items) }
     ensures cost { steps.new ≤ steps.old + kids_below (parent_of join.now) node join.now.count }
 {
     let table = query.table_of(join.atom[node as usize]);
-    let mut children = SmallVec::new(alloc);
+    named.clear();
     for child in 1..join.count as usize {
         if join.parent[child] != node {
             continue;
         }
         let above = columns.above[child].as_slice();
-        children.push(link(alloc, tables, table, row, above, links, child, steps)?)?;
+        named.push(link(tables, table, row, above, links, child, steps)?)?;
     }
-    Ok(children)
+    Ok(())
 }
 
-// Adds a row of a node to the tree, with its links.
+// Adds a row of a node to the tree, with its links. `named` is for the links that it names, and what was in it goes.
 fn add_row<R: Rank, L: Ledger>(
-    alloc: Global,
     query: &Query,
     tables: &Tables,
     join: &JoinTree,
@@ -72,6 +70,7 @@ fn add_row<R: Rank, L: Ledger>(
     node: u32,
     row: u32,
     links: &mut Links,
+    named: &mut Vec<u32>,
     tree: &mut RawTree<R>,
     steps: &mut Steps<L>,
 ) -> Result<(), NoMemory>
@@ -93,10 +92,10 @@ fn add_row<R: Rank, L: Ledger>(
     let item = join.atom[node as usize];
     let table = query.table_of(item);
     let own = columns.own[node as usize].as_slice();
-    let own_link = link(alloc, tables, table, row, own, links, node as usize, steps)?;
-    let children = child_links(alloc, query, tables, join, columns, node, row, links, steps)?;
+    let own_link = link(tables, table, row, own, links, node as usize, steps)?;
+    child_links(query, tables, join, columns, node, row, links, named, steps)?;
     let rank = rank_of(query, tables, join, node, row);
-    tree.add_row(node, NodeRow { rank, row }, own_link, children.as_slice())
+    tree.add_row(node, NodeRow { rank, row }, own_link, named.as_slice())
 }
 
 /// Adds the rows of a node to the tree, with their links.
@@ -129,9 +128,11 @@ pub(crate) fn add_rows<R: Rank, L: Ledger>(
         R.KEYS R.key (names_of links.new.items) node (length rows.now) rows.now (rows_at tree.new node)) }
     ensures cost { steps.new ≤ steps.old + length rows.now * join.now.count }
 {
+    tree.reserve(node, rows.len())?;
+    let mut named = Vec::new(alloc);
     for row in rows {
         add_row(
-            alloc, query, tables, join, columns, node, *row, links, tree, steps,
+            query, tables, join, columns, node, *row, links, &mut named, tree, steps,
         )?;
     }
     Ok(())

@@ -24,8 +24,9 @@ fn passing_rows(
     ensures few { IfOk result (λ rows. length rows.items ≤ length (table_in tables.now query.now.query.items item).rows) }
     ensures limit { IfOk result (λ rows. length rows.items ≤ 1048576) }
 {
-    let mut rows = Vec::new(alloc);
-    for row in 1..tables.len(query.table_of(item)) + 1 {
+    let count = tables.len(query.table_of(item));
+    let mut rows = Vec::with_capacity(alloc, count as usize)?;
+    for row in 1..count + 1 {
         if !query.passes(tables, item, row) {
             continue;
         }

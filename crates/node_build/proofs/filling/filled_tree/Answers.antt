@@ -13,8 +13,8 @@ use Rattle.node_build.proofs.Naming.{list-at, lists-length}
 use Rattle.node_build.proofs.Shaped.{shapes-are}
 use Rattle.node_build.proofs.filling.filled_tree.Goals as goal
 
-pub new-requires : goal.new-requires
-new-requires g c =
+pub with_keys-requires : goal.with_keys-requires
+with_keys-requires g c =
     subst AreShapes (sym c.as_slice.ensures.value)
     (shapes-are c.args.query.now c.args.tables.now c.requires.fits c.args.join.now c.in_ok-shapes.shapes.items c.requires.tree (c.in_ok-shapes.ensures c.args.tables.now c.requires.fits))
 

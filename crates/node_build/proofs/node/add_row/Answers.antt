@@ -20,10 +20,10 @@ link-requires-clause-columns g c =
     own-there c.args.query.now c.args.tables.now c.requires.fits c.args.join.now (lists_of vs) (lists_of c.args.columns.now.above.items) c.requires.columns
     node c.table_of-table.result c.as_slice-own.result.now c.requires.node list c.table_of-table.ensures
 
-pub returns-in_err-children-clause-cost : goal.returns-in_err-children-clause-cost
-returns-in_err-children-clause-cost g c =
+pub returns-in_err-child_links-clause-cost : goal.returns-in_err-child_links-clause-cost
+returns-in_err-child_links-clause-cost g c =
     let few = kids-below (parent_of c.args.join.now) c.args.node c.args.join.now.count (omega (arith, c.requires.node)) in
-    omega (arith, few, c.in_err-children.ensures.cost, c.in_ok-own_link.ensures.cost)
+    omega (arith, few, c.in_err-child_links.ensures.cost, c.in_ok-own_link.ensures.cost)
 
 pub add_row-requires-clause-fits : goal.add_row-requires-clause-fits
 add_row-requires-clause-fits g c =
@@ -33,13 +33,13 @@ add_row-requires-clause-fits g c =
     let known = item-known query.query join c.requires.tree c.args.node c.requires.node in (
       row-fits query c.args.tables.now join c.args.tree.now.shapes c.requires.shapes c.args.node c.requires.node g.R.Rank.KEYS c.args.row (g.R.Rank.key c.rank_of-rank.result)
           (omega (arith, known, few, c.requires.tree.count)) (omega arith) c.rank_of-rank.ensures,
-      ap length c.as_slice.ensures ∙ c.in_ok-children.ensures.count ∙ children-are query c.args.tables.now join c.args.tree.now.shapes c.requires.shapes c.args.node c.requires.node,
+      ap length c.as_slice.ensures.value ∙ c.in_ok-child_links.ensures.count ∙ children-are query c.args.tables.now join c.args.tree.now.shapes c.requires.shapes c.args.node c.requires.node,
     )
 
 pub returns-clause-more : goal.returns-clause-more
 returns-clause-more g c =
     on-ok c.add_row.result
-    (more-trans (names_of c.args.links.now.items) (names_of c.link.new.links.items) (names_of c.child_links.new.links.items) c.in_ok-own_link.ensures.more c.in_ok-children.ensures.more)
+    (more-trans (names_of c.args.links.now.items) (names_of c.link.new.links.items) (names_of c.child_links.new.links.items) c.in_ok-own_link.ensures.more c.in_ok-child_links.ensures.more)
 
 pub returns-clause-added : goal.returns-clause-added
 returns-clause-added g c =
@@ -62,9 +62,9 @@ returns-clause-added g c =
       record {
         number = refl;
         rank = c.rank_of-rank.ensures;
-        link = link-kept (names_of c.link.new.links.items) (names_of c.child_links.new.links.items) node c.in_ok-own_link.own_link _ c.in_ok-children.ensures.more link;
+        link = link-kept (names_of c.link.new.links.items) (names_of c.child_links.new.links.items) node c.in_ok-own_link.own_link _ c.in_ok-child_links.ensures.more link;
         children = subst (λ (cs : List ℕ). NamesLinks query tables join (lists_of vs) (lists_of c.args.columns.now.above.items) (names_of c.child_links.new.links.items) node c.args.row join.count cs)
-            (sym c.as_slice.ensures) c.in_ok-children.ensures.names;
+            (sym c.as_slice.ensures.value) c.in_ok-child_links.ensures.names;
       },
     ))
     c.add_row.ensures.ok
@@ -72,4 +72,4 @@ returns-clause-added g c =
 pub returns-clause-cost : goal.returns-clause-cost
 returns-clause-cost g c =
     let few = kids-below (parent_of c.args.join.now) c.args.node c.args.join.now.count (omega (arith, c.requires.node)) in
-    omega (arith, few, c.in_ok-children.ensures.cost, c.in_ok-own_link.ensures.cost)
+    omega (arith, few, c.in_ok-child_links.ensures.cost, c.in_ok-own_link.ensures.cost)

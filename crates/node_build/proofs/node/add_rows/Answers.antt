@@ -1,11 +1,25 @@
-use Rattle.std.proofs.Common.{◌<◌, length, get_or, refl, arith}
-use Rattle.tdp_core.specs.RawData.{rows_at}
+use Rattle.std.proofs.Common.{◌≡◌, ◌<◌, ◌∙◌, length, get_or, refl, sym, ap, subst, arith}
+use Rattle.tdp_core.specs.RawData.{RawData, row_total, rows_at}
 use Rattle.query_bind.proofs.Lists.{member-index}
+use Rattle.node_build.specs.Filled.{HasOnlyMore}
 use Rattle.node_build.specs.Links.{names_of}
 use Rattle.node_build.specs.Rows.{lists_of}
-use Rattle.node_build.proofs.Growing.{only-more, rows-more, rows-now}
-use Rattle.node_build.proofs.Numbering.{more-trans}
+use Rattle.node_build.specs.Shapes.{AreShapesOf}
+use Rattle.node_build.proofs.Growing.{no-rows, only-more, only-none, rows-more, rows-now}
+use Rattle.node_build.proofs.Numbering.{more-same, more-trans}
 use Rattle.node_build.proofs.node.add_rows.Goals as goal
+
+pub loop-row-init : goal.loop-row-init
+loop-row-init g c =
+    let node = c.args.node in
+    let tree = c.reserve.new.self in
+    record {
+      more = more-same (names_of c.args.links.now.items);
+      others = only-none node tree;
+      rows = no-rows c.args.query.now c.args.tables.now c.args.join.now (lists_of c.args.columns.now.own.items) (lists_of c.args.columns.now.above.items) g.R.Rank.KEYS g.R.Rank.key
+          (names_of c.args.links.now.items) node c.args.rows.now (rows_at tree node) (ap (λ (t : RawData g.row.R.Denot). rows_at t node) c.reserve.ensures ∙ c.requires.empty);
+      cost = omega arith;
+    }
 
 pub add_row-requires-clause-first : goal.add_row-requires-clause-first
 add_row-requires-clause-first g c =
@@ -15,18 +29,36 @@ pub add_row-requires-clause-row : goal.add_row-requires-clause-row
 add_row-requires-clause-row g c =
     (c.requires.rows (get_or c.args.rows.now c.loop-row.row-index 0) (member-index c.args.rows.now c.loop-row.row-index 0 (omega arith))).1
 
+pub add_row-requires-clause-shapes : goal.add_row-requires-clause-shapes
+add_row-requires-clause-shapes g c =
+    let same = c.loop-row.invariant.others.shapes ∙ ap (λ (t : RawData g.row.R.Denot). t.shapes) c.reserve.ensures in
+    subst (AreShapesOf c.args.query.now c.args.tables.now c.args.join.now c.args.join.now.count) (sym same) c.requires.shapes
+
+pub add_row-requires-clause-room : goal.add_row-requires-clause-room
+add_row-requires-clause-room g c =
+    let same = ap (λ (t : RawData g.row.R.Denot). row_total t) c.reserve.ensures in
+    let total = c.loop-row.invariant.others.total in
+    omega (arith, same, total, c.requires.room)
+
 pub loop-row-preserved : goal.loop-row-preserved
 loop-row-preserved g c =
     let before = c.loop-row.invariant in
     let x = c.in_ok-add_row.ensures.added in
     let node = c.args.node in
     let i = c.loop-row.row-index in
-    let inside : node < length c.loop-row.tree.rows = omega (arith, c.requires.node, c.requires.each_node, before.others.each_node) in
+    let same = ap (λ (t : RawData g.row.R.Denot). length t.rows) c.reserve.ensures in
+    let inside : node < length c.loop-row.tree.rows = omega (arith, c.requires.node, c.requires.each_node, same, before.others.each_node) in
     record {
       more = more-trans (names_of c.args.links.now.items) (names_of c.loop-row.links.items) (names_of c.add_row.new.links.items) before.more c.in_ok-add_row.ensures.more;
-      others = only-more c.args.tree.now c.loop-row.tree c.add_row.new.tree node i x.0 inside before.others x.1;
+      others = only-more c.reserve.new.self c.loop-row.tree c.add_row.new.tree node i x.0 inside before.others x.1;
       rows = rows-more c.args.query.now c.args.tables.now c.args.join.now (lists_of c.args.columns.now.own.items) (lists_of c.args.columns.now.above.items) g.R.Rank.KEYS g.R.Rank.key
           (names_of c.loop-row.links.items) (names_of c.add_row.new.links.items) node i (get_or c.args.rows.now i 0) c.args.rows.now (rows_at c.loop-row.tree node) (rows_at c.add_row.new.tree node) x.0
           c.in_ok-add_row.ensures.more refl (rows-now c.loop-row.tree c.add_row.new.tree node x.0 inside x.1) before.rows x.2;
       cost = omega (arith, before.cost, c.in_ok-add_row.ensures.cost);
     }
+
+pub returns-clause-others : goal.returns-clause-others
+returns-clause-others g c =
+    let all : c.loop-row.row-index ≡ length c.args.rows.now = omega arith in
+    subst (λ n. HasOnlyMore c.args.node n c.args.tree.now c.loop-row.tree) all
+    (subst (λ (t : RawData g.row.R.Denot). HasOnlyMore c.args.node c.loop-row.row-index t c.loop-row.tree) c.reserve.ensures c.loop-row.invariant.others)

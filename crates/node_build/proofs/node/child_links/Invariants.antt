@@ -8,7 +8,7 @@ use Rattle.node_build.proofs.node.child_links.Given as goal
 abbrev pub invariant-loop-child : goal.invariant-loop-child
 invariant-loop-child g l = record {
   more : AreMore (names_of l.initial.links.items) (names_of l.links.items);
-  count : length l.children.items ≡ kids_below (parent_of l.join) l.node l.child;
-  names : NamesLinks l.query l.tables l.join (lists_of l.columns.own.items) (lists_of l.columns.above.items) (names_of l.links.items) l.node l.row l.child l.children.items;
+  count : length l.named.items ≡ kids_below (parent_of l.join) l.node l.child;
+  names : NamesLinks l.query l.tables l.join (lists_of l.columns.own.items) (lists_of l.columns.above.items) (names_of l.links.items) l.node l.row l.child l.named.items;
   cost : l.steps ≤ l.initial.steps + kids_below (parent_of l.join) l.node l.child;
 }

@@ -24,7 +24,7 @@ pub returns-clause-rows : goal.returns-clause-rows
 returns-clause-rows c =
     let tables = c.args.tables.now in
     let query = c.args.query.now.query in
-    let known : c.len-row-end.result ≡ length (item_table query tables c.args.item).rows =
-    c.len-row-end.ensures.rows ∙ ap (λ (t : ℕ). length (table_at tables t).rows) c.table_of.ensures in
+    let known : c.len-count.result ≡ length (item_table query tables c.args.item).rows =
+    c.len-count.ensures.rows ∙ ap (λ (t : ℕ). length (table_at tables t).rows) c.table_of.ensures in
     let all : c.loop-row.row ≡ length (item_table query tables c.args.item).rows + 1 = omega (arith, known) in
     rows-all query tables c.args.item c.loop-row.row c.loop-row.rows.items all c.loop-row.invariant.rows
