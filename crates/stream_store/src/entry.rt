@@ -3,7 +3,7 @@ use std::marker::Model;
 /// Names an entry of a store, and is seen as its place there, from 0.
 #[derive(Clone, Copy, Debug, PartialEq, Eq)]
 pub struct EntryId {
-    pub(crate) place: usize,
+    pub(crate) place: u32,
 }
 
 impl Model for EntryId {

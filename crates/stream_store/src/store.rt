@@ -1,4 +1,4 @@
-ghost use Rattle.std.specs.Prelude.{◌≡◌, ℕ, ◌+◌, ◌-◌, ◌<◌, ◌≤◌, [], ◌∷◌, ◌++◌, length, slice_index_or, slice_set, IfOk, IfErr, OnOk, OnErr, IsOk};
+ghost use Rattle.std.specs.Prelude.{◌≡◌, ℕ, ◌+◌, ◌-◌, ◌^◌, ◌<◌, ◌≤◌, [], ◌∷◌, ◌++◌, length, slice_index_or, slice_set, IfOk, IfErr, OnOk, OnErr, IsOk};
 ghost use Rattle.stream_store.specs.declared.entry.Linked.{Linked};
 ghost use Rattle.stream_store.specs.Buckets.{joined, AreFilled, whole_room};
 
@@ -9,10 +9,14 @@ use std::marker::Model;
 use std::sync::ledger::Ledger;
 use step_counter::{NoMemory, Steps};
 
+/// The most entries for which room is made, so that the place of each fits 32 bits.
+const MOST: usize = u32::MAX as usize;
+
 /// A list of linked entries, and the number of entries for which room is reserved.
 ///
 /// Bucket number k has room for 16 * 2^k entries. It is made once with all its room, and no entry
 /// in it is ever moved. Buckets that were made before a later one was refused stay for later use.
+/// No room is made past 2^32 - 1 entries, which is refused as memory is.
 #[derive(Drop)]
 pub struct Store<T, A: Allocator + Clone> {
     buckets: Vec<Vec<Linked<T>, A>, A>,
@@ -24,7 +28,7 @@ pub struct Store<T, A: Allocator + Clone> {
 }
 
 impl<T, A: Allocator + Clone> Model for Store<T, A> {
-    ghost use Rattle.std.specs.Prelude.{◌≡◌, ◌-◌, ◌≤◌};
+    ghost use Rattle.std.specs.Prelude.{◌≡◌, ◌-◌, ◌^◌, ◌<◌, ◌≤◌};
     ghost use Rattle.stream_store.specs.Entries.{Entries};
     ghost use Rattle.stream_store.specs.Buckets.{joined, AreFilled, whole_room};
 
@@ -32,7 +36,7 @@ impl<T, A: Allocator + Clone> Model for Store<T, A> {
 
     ghost view = { λ s. record { entries = joined s.buckets.items; spare = s.room - s.len } };
 
-    ghost invariant = { λ s. AreFilled 16 s.len s.buckets.items × (s.made ≡ whole_room 16 s.buckets.items) × (s.len ≤ s.room) × (s.room ≤ s.made) };
+    ghost invariant = { λ s. AreFilled 16 s.len s.buckets.items × (s.made ≡ whole_room 16 s.buckets.items) × (s.len ≤ s.room) × (s.room ≤ s.made) × (s.made < 2 ^ 32) };
 }
 
 impl<T, A: Allocator + Clone> Store<T, A> {
@@ -89,7 +93,9 @@ impl<T, A: Allocator + Clone> Store<T, A> {
         let bucket = &mut self.buckets[spot.bucket];
         bucket.push_reserved(Linked { value, next: None });
         self.len += 1;
-        EntryId { place }
+        EntryId {
+            place: place as u32,
+        }
     }
 
     /// Adds an entry without a next entry. Where memory is refused it hands the value back, and the
@@ -119,7 +125,7 @@ impl<T, A: Allocator + Clone> Store<T, A> {
         requires { id < length self.now.entries }
         ensures { (d : Linked T) → slice_index_or self.now.entries id d ≡ result.now }
     {
-        let spot = spot_of(id.place);
+        let spot = spot_of(id.place as usize);
         let bucket = &self.buckets[spot.bucket];
         &bucket[spot.offset]
     }
@@ -154,7 +160,7 @@ impl<T, A: Allocator + Clone> Store<T, A> {
         ensures cost { steps.new ≡ steps.old + 1 }
     {
         steps.tick();
-        let spot = spot_of(id.place);
+        let spot = spot_of(id.place as usize);
         let bucket = &mut self.buckets[spot.bucket];
         bucket[spot.offset].next = Some(to);
     }
@@ -170,11 +176,13 @@ fn make_room<T, A: Allocator + Clone>(
     requires filled { AreFilled 16 len buckets.old.items }
     requires made { made.old ≡ whole_room 16 buckets.old.items }
     requires within { len ≤ made.old }
+    requires small { made.old < 2 ^ 32 }
     ensures filled { AreFilled 16 len buckets.new.items }
     ensures made { made.new ≡ whole_room 16 buckets.new.items }
     ensures entries { joined buckets.new.items ≡ joined buckets.old.items }
     ensures ok { OnOk result (len + count ≤ made.new) }
     ensures grows { made.old ≤ made.new }
+    ensures small { made.new < 2 ^ 32 }
     ensures succeeds { len + count ≤ made.old → IsOk result }
 {
     while *made - len < count {
@@ -189,14 +197,19 @@ fn make_bucket<T, A: Allocator + Clone>(
     made: &mut usize,
 ) -> Result<(), NoMemory>
     requires made { made.old ≡ whole_room 16 buckets.old.items }
+    requires small { made.old < 2 ^ 32 }
     ensures filled { (len : ℕ) → AreFilled 16 len buckets.old.items → AreFilled 16 len buckets.new.items }
     ensures made { made.new ≡ whole_room 16 buckets.new.items }
     ensures entries { joined buckets.new.items ≡ joined buckets.old.items }
     ensures ok { OnOk result (made.old < made.new) }
+    ensures small { made.new < 2 ^ 32 }
     ensures err { OnErr result (made.new ≡ made.old) }
 {
-    let size = made.checked_add(FIRST_ROOM).ok_or(NoMemory)?;
-    let total = made.checked_add(size).ok_or(NoMemory)?;
+    let size = *made + FIRST_ROOM;
+    let total = *made + size;
+    if total > MOST {
+        return Err(NoMemory);
+    }
     let alloc = buckets.allocator().clone()?;
     buckets.reserve(1)?;
     buckets.push_reserved(Vec::with_capacity(alloc, size)?);

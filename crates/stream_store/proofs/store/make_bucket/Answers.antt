@@ -1,4 +1,4 @@
-use Rattle.std.proofs.Common.{◌≡◌, ◌+◌, [], ◌∷◌, ◌++◌, ap, arith, ◌∙◌, rules}
+use Rattle.std.proofs.Common.{◌≡◌, ◌+◌, [], ◌∷◌, ◌++◌, ap, arith, ◌∙◌}
 use Rattle.std.specs.Vec.{vec_len, vec_capacity}
 use Rattle.stream_store.proofs.Buckets.{whole_room-next, joined-added, AreFilled-added, whole_room-added}
 use Rattle.stream_store.proofs.store.make_bucket.Goals as goal
@@ -8,9 +8,8 @@ returns-clause-filled g c = λ len filled.
     let bs = c.args.buckets.now.items in
     let bucket = c.in_ok-with_capacity.field-0 in
     let told = c.in_ok-with_capacity.ensures in
-    let size : c.in_ok-size.size ≡ c.args.made.now + 16 = search rules in
     let due = whole_room-next 16 bs in
-    let exact : vec_capacity bucket ≡ c.in_ok-size.size = told.exact in
+    let exact : vec_capacity bucket ≡ (c.args.made.now + 16) = told.exact in
     let none : vec_len bucket ≡ 0 = told.len in
     let items = c.push_reserved.ensures.items ∙ ap (λ l. l ++ bucket ∷ []) c.reserve.ensures.items in
     rw items (AreFilled-added 16 len bs bucket filled none (omega arith))
@@ -19,8 +18,6 @@ pub returns-clause-made : goal.returns-clause-made
 returns-clause-made g c =
     let bs = c.args.buckets.now.items in
     let bucket = c.in_ok-with_capacity.field-0 in
-    let size : c.in_ok-size.size ≡ c.args.made.now + 16 = search rules in
-    let total : c.in_ok-total.total ≡ c.args.made.now + c.in_ok-size.size = search rules in
     let due = whole_room-next 16 bs in
     let items = c.push_reserved.ensures.items ∙ ap (λ l. l ++ bucket ∷ []) c.reserve.ensures.items in
     rw items (omega (arith, whole_room-added 16 bs bucket))

@@ -52,6 +52,7 @@ invariant_of-self g c =
       total ∙ sym (whole_room-set 16 bs spot.bucket pushed),
       omega arith,
       c.self.invariant.3,
+      c.self.invariant.4,
     )
 
 pub returns-clause-id : goal.returns-clause-id

@@ -52,6 +52,7 @@ invariant_of-self g c =
       c.self.invariant.1 ∙ sym (whole_room-set 16 bs spot.bucket written),
       c.self.invariant.2,
       c.self.invariant.3,
+      c.self.invariant.4,
     )
 
 pub returns-clause-entries : goal.returns-clause-entries
