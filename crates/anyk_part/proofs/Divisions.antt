@@ -13,12 +13,14 @@ use Rattle.tdp_model.specs.Regions.{in_region, in_regions, completion, deviation
 use Rattle.tdp_core.specs.TreeData.{NodeData}
 use Rattle.anyk_part.specs.declared.candidate.Link.{Link}
 use Rattle.anyk_part.specs.declared.candidate.Candidate.{Candidate}
+use Rattle.anyk_part.specs.declared.candidate.Choice.{Choice}
 use Rattle.anyk_part.specs.declared.candidate.Walk.{Walk}
 use Rattle.anyk_part.specs.Chains.{chain}
 use Rattle.anyk_part.specs.Regions.{followers, Reached, region_of, region_at, held_by, IsEntry}
-use Rattle.anyk_part.specs.Walks.{best_from, divided_from, IsAt, IsDivision, row_at, start_region}
+use Rattle.anyk_part.specs.Walks.{best_from, divided_from, IsAt, IsChoice, IsDivision, row_at, start_region}
 use Rattle.anyk_part.proofs.ChainLemmas.{chain-length}
 use Rattle.anyk_part.proofs.Sites.{sum_by-first}
+use Rattle.anyk_part.proofs.Steps.{link_of, at_after, chain_after, entries_after, held_after, held_kept, top_after}
 
 module _ (members : List ℕ → List ℕ) where
   best_from-first : (n : ℕ) (pre : List ℕ) → best_from members n pre 0 ≡ completion members n pre
@@ -137,14 +139,14 @@ module _ {R : Type 0} (d : ℕ) (key : R → KeyOf d 16) (t : List (NodeData R))
     all_nodes : w.node ≡ length t
     all_nodes = omega (arith, done, at.to)
 
-    pub division_best : take (length t) chosen ≡ best_of (followers t) (start_region d key t old_links start)
+    division_best : take (length t) chosen ≡ best_of (followers t) (start_region d key t old_links start)
     unfolding best_from
     division_best =
         ap (λ n. take n chosen) (sym all_nodes)
         ∙ at.rows
         ∙ sym (h.goal ∙ ap (λ n. best_from (followers t) n (chain links w.node w.before) w.place) none_left)
 
-    pub division_reached : Reached t 0 (take (length t) chosen)
+    division_reached : Reached t 0 (take (length t) chosen)
     division_reached =
         subst (λ n. Reached t n (take (length t) chosen)) none_left
         (subst (λ p. Reached t (length t - w.node) p) (sym at.rows ∙ ap (λ n. take n chosen) all_nodes) at.reached)
@@ -154,11 +156,11 @@ module _ {R : Type 0} (d : ℕ) (key : R → KeyOf d 16) (t : List (NodeData R))
     unfolding divided_from in_regions
     division_held s = h.held s ∙ ap (λ n. in_regions (followers t) (divided_from (followers t) n (chain links w.node w.before) w.place) s + (cond w.top_stands 0 (held_by t old_links (take 1 before) s) + held_by t links entries s)) none_left ∙ omega arith
 
-    pub held_gone : w.top_stands ≡ false → (s : List ℕ) → in_regions (followers t) (divided (followers t) (start_region d key t old_links start)) s + held_by t old_links before s
+    held_gone : w.top_stands ≡ false → (s : List ℕ) → in_regions (followers t) (divided (followers t) (start_region d key t old_links start)) s + held_by t old_links before s
         ≡ held_by t old_links (take 1 before) s + held_by t links entries s
     held_gone e s = omega (arith, division_held s, stands_no w.top_stands (held_by t old_links (take 1 before) s) e)
 
-    pub held_popped : w.top_stands ≡ true → (top : Entry R Candidate) (new : List (Entry R Candidate)) → 0 < length entries → top ≡ get_or entries 0 top → IsPermutation entries (top ∷ new) → (s : List ℕ)
+    held_popped : w.top_stands ≡ true → (top : Entry R Candidate) (new : List (Entry R Candidate)) → 0 < length entries → top ≡ get_or entries 0 top → IsPermutation entries (top ∷ new) → (s : List ℕ)
         → in_regions (followers t) (divided (followers t) (start_region d key t old_links start)) s + held_by t old_links before s ≡ held_by t old_links (take 1 before) s + held_by t links new s
     held_popped e top new some first p s =
         let f : Entry R Candidate → ℕ = λ x. in_region (followers t) (region_of links (length t) x.tag) s in
@@ -173,8 +175,56 @@ module _ {R : Type 0} (d : ℕ) (key : R → KeyOf d 16) (t : List (NodeData R))
           (h.stands e).1 s,
         )
 
-    pub entries_popped : (top : Entry R Candidate) (new : List (Entry R Candidate)) → IsPermutation entries (top ∷ new) → All (IsEntry d key t links) new
-    entries_popped top new p = All-tail (IsEntry d key t links) top new (All-permutation (IsEntry d key t links) entries (top ∷ new) p h.each)
+  -- # The choice at the last node, as one more step over the links that its own link would join
+
+  module _ (whole : R) (start : Walk) (old_links : List (Linked Link)) (before : List (Entry R Candidate)) (w : Walk) (links : List (Linked Link)) (chosen : List ℕ)
+      (entries : List (Entry R Candidate)) (at : IsAt d key t whole w chosen links) (h : IsDivision d key t start old_links before w links entries) (below : w.node < length t) (done : length t ≤ w.node + 1)
+      (c : Choice) (rows : List ℕ) (new : List (Entry R Candidate)) (k : IsChoice d key t w links chosen entries c rows new) where
+    abbrev made : List (Linked Link)
+    made = link_of d key t whole w chosen links at below c.row ∷ []
+
+    abbrev end : Walk
+    end = record { node = w.node + 1; place = 0; before = Some (length links); top_stands = c.top_stands }
+
+    at_end : IsAt d key t whole end rows (links ++ made)
+    at_end = at_after d key t whole w chosen links at below (length links) c.row rows (links ++ made) c.top_stands k.row k.put refl refl
+
+    division_end : IsDivision d key t start old_links before end (links ++ made) new
+    division_end =
+        division_next whole start old_links before w end links (links ++ made) chosen entries new at below h refl refl
+        (chain_after d key t whole w chosen links at below (length links) c.row (links ++ made) k.row refl refl)
+        (entries_after d key t w links made (links ++ made) chosen entries c rows new k refl)
+        (held_after d key t w links made (links ++ made) chosen entries c rows new k refl)
+        k.stands
+        (top_after d key t w links made (links ++ made) chosen entries c rows new k refl h.each)
+        k.few
+
+    pub choice_best : take (length t) rows ≡ best_of (followers t) (start_region d key t old_links start)
+    choice_best = division_best whole start old_links before end (links ++ made) rows new at_end division_end done
+
+    pub choice_reached : Reached t 0 (take (length t) rows)
+    choice_reached = division_reached whole start old_links before end (links ++ made) rows new at_end division_end done
+
+    pub choice_few : length new ≤ length before + 2 * length t
+    choice_few = omega (arith, division_end.few, below)
+
+    pub choice_gone : c.top_stands ≡ false → (s : List ℕ) → in_regions (followers t) (divided (followers t) (start_region d key t old_links start)) s + held_by t old_links before s
+        ≡ held_by t old_links (take 1 before) s + held_by t links new s
+    choice_gone e s =
+        held_gone whole start old_links before end (links ++ made) rows new at_end division_end done e s
+        ∙ ap (λ n. held_by t old_links (take 1 before) s + n) (held_kept d key t links made new k.each s)
+
+    pub choice_full : c.top_stands ≡ true → 0 < length before → 0 < length new
+    choice_full e some = subst (λ es. 0 < length es) (sym (division_end.stands e).0) some
+
+    pub choice_entries : (top : Entry R Candidate) (rest : List (Entry R Candidate)) → IsPermutation new (top ∷ rest) → All (IsEntry d key t links) rest
+    choice_entries top rest p = All-tail (IsEntry d key t links) top rest (All-permutation (IsEntry d key t links) new (top ∷ rest) p k.each)
+
+    pub choice_popped : c.top_stands ≡ true → (top : Entry R Candidate) (rest : List (Entry R Candidate)) → 0 < length before → top ≡ get_or new 0 top → IsPermutation new (top ∷ rest) → (s : List ℕ)
+        → in_regions (followers t) (divided (followers t) (start_region d key t old_links start)) s + held_by t old_links before s ≡ held_by t old_links (take 1 before) s + held_by t links rest s
+    choice_popped e top rest some first p s =
+        held_popped whole start old_links before end (links ++ made) rows new at_end division_end done e top rest (choice_full e some) first p s
+        ∙ ap (λ n. held_by t old_links (take 1 before) s + n) (held_kept d key t links made rest (choice_entries top rest p) s)
 
 pub some_is : {X : Type 0} (o : Option X) → IsSome o → (x : X) × (o ≡ Some x)
 some_is None h = absurd (false≢true h)

@@ -1,12 +1,11 @@
 -- The list of what regions hold has the solutions that they count, so that the queue determines the ranking of the rest.
-use Rattle.std.proofs.Common.{◌≡◌, ℕ, zero, suc, ◌*◌, ◌-◌, ◌/◌, ◌<◌, ◌≤◌, ◌⊎◌, Bool, true, false, cond, nat_eq, List, [], ◌∷◌, ◌++◌, map, length, get_or, refl, sym, ap, ◌∙◌, subst, inl, inr, arith}
+use Rattle.std.proofs.Common.{◌≡◌, ℕ, zero, suc, ◌*◌, ◌-◌, ◌/◌, ◌<◌, ◌≤◌, Bool, true, false, cond, nat_eq, List, [], ◌∷◌, ◌++◌, map, length, get_or, refl, sym, ap, ◌∙◌, subst, inl, inr, arith}
 use Rattle.std.proofs.lemmas.Bool.{cases_lt, eq-eqb, eqb-true, cond-true}
 use Rattle.rankings.specs.Order.{IsOrder, IsMember, ranked}
 use Rattle.rankings.proofs.Members.{member-left, member-right, member-either, member-map, member-unmap}
 use Rattle.tdp_model.specs.Remains.{Remains}
 use Rattle.tdp_model.specs.Heap.{under, climbs}
 use Rattle.tdp_model.specs.Regions.{past, is_empty, completes, held, stands, place_of, Region, in_region, in_regions}
-use Rattle.tdp_model.specs.TreeProblem.{gather}
 use Rattle.tdp_model.proofs.Division.{get_place, place_le, stands_yes, stands_place, past_found, past_at, empty_found, append_nil, times_pos}
 use Rattle.tdp_model.proofs.Enumeration.{gather_member, member_gather}
 use Rattle.tdp_model.proofs.Sorting.{ranked_is_ranking}

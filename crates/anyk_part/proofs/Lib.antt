@@ -6,6 +6,7 @@ pub mod HeldSolutions
 pub mod LiveTrees
 pub mod NextAnswers
 pub mod Numbers
+pub mod Placed
 pub mod Queues
 pub mod Sites
 pub mod Starts

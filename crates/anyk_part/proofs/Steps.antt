@@ -1,5 +1,5 @@
 -- One node of the division of a region.
-use Rattle.std.proofs.Common.{◌≡◌, ℕ, suc, ◌+◌, ◌-◌, ◌<◌, Bool, true, false, cond, nat_eq, Some, None, List, [], ◌∷◌, ◌++◌, length, take, get_or, refl, sym, ap, ◌∙◌, subst, inl, inr, arith}
+use Rattle.std.proofs.Common.{◌≡◌, ℕ, suc, ◌+◌, ◌-◌, ◌*◌, ◌<◌, Bool, true, false, cond, nat_eq, Some, None, List, [], ◌∷◌, ◌++◌, length, take, get_or, refl, sym, ap, ◌∙◌, subst, inl, inr, arith}
 use Rattle.std.specs.List.{All}
 use Rattle.std.proofs.Math.ListN.{set, length-set}
 use Rattle.std.proofs.Math.Seq.{take-suc-set}
@@ -16,10 +16,11 @@ use Rattle.tdp_core.specs.TreeData.{NodeData, parent, rows, members, group_numbe
 use Rattle.tdp_core.proofs.TreeFacts.{member_is_row, rows_within, group_rows_within}
 use Rattle.anyk_part.specs.declared.candidate.Link.{Link}
 use Rattle.anyk_part.specs.declared.candidate.Candidate.{Candidate}
+use Rattle.anyk_part.specs.declared.candidate.Choice.{Choice}
 use Rattle.anyk_part.specs.declared.candidate.Walk.{Walk}
 use Rattle.anyk_part.specs.Chains.{chain, IsChain}
-use Rattle.anyk_part.specs.Regions.{followers, Reached, least, region_of, held_by, IsEntry}
-use Rattle.anyk_part.specs.Walks.{IsSite, IsAt, row_at}
+use Rattle.anyk_part.specs.Regions.{followers, Reached, least, region_of, region_at, held_by, IsEntry}
+use Rattle.anyk_part.specs.Walks.{IsSite, IsAt, IsChoice, row_at}
 use Rattle.anyk_part.proofs.ChainLemmas.{chain-length, IsChain-kept, chain-kept, IsChain-new, chain-new}
 use Rattle.anyk_part.proofs.LiveTrees.{staged}
 
@@ -128,8 +129,12 @@ module _ {R : Type 0} (d : ℕ) (key : R → KeyOf d 16) (t : List (NodeData R))
   next_size : suc w.node ≡ w.node + 1
   next_size = omega arith
 
+  -- the link of a row
+  abbrev pub link_of : ℕ → Linked Link
+  link_of r = record { value = record { row = r; before = w.before }; next = None }
+
   abbrev pub linked : Linked Link
-  linked = record { value = record { row = row; before = w.before }; next = None }
+  linked = link_of row
 
   pub chain_next : chain (links ++ (linked ∷ [])) (w.node + 1) (Some (length links)) ≡ so_far ++ (row ∷ [])
   chain_next = subst (λ n. chain (links ++ (linked ∷ [])) n (Some (length links)) ≡ so_far ++ (row ∷ [])) next_size (chain-new links linked w.node h.chained)
@@ -163,3 +168,38 @@ module _ {R : Type 0} (d : ℕ) (key : R → KeyOf d 16) (t : List (NodeData R))
             subst (λ p. key whole ≡ least d key t (p ++ (get_or (followers t p) 0 0 ∷ []))) (sym chain_next)
             (h.total l ∙ sym (law.first (length t - (w.node + 2)) (so_far ++ (row ∷ [])) (open_reach m)));
       }
+
+  pub at_after : (id r : ℕ) (rows : List ℕ) (grown : List (Linked Link)) (stands : Bool) → r ≡ row → rows ≡ set chosen w.node r → grown ≡ links ++ (link_of r ∷ []) → id ≡ length links
+      → IsAt d key t whole (record { node = w.node + 1; place = 0; before = Some id; top_stands = stands }) rows grown
+  at_after id r rows grown stands same put more named =
+      let At : ℕ → List ℕ → List (Linked Link) → Type 0 = λ i xs ls. IsAt d key t whole (record { node = w.node + 1; place = 0; before = Some i; top_stands = stands }) xs ls in
+      subst (λ ls. At id rows ls) (sym more)
+      (subst (λ xs. At id xs (links ++ (link_of r ∷ []))) (sym put)
+      (subst (λ i. At i (set chosen w.node r) (links ++ (link_of r ∷ []))) (sym named)
+      (subst (λ z. At (length links) (set chosen w.node z) (links ++ (link_of z ∷ []))) (sym same) (at_next stands))))
+
+  pub chain_after : (id r : ℕ) (grown : List (Linked Link)) → r ≡ row → grown ≡ links ++ (link_of r ∷ []) → id ≡ length links → chain grown (w.node + 1) (Some id) ≡ so_far ++ (row ∷ [])
+  chain_after id r grown same more named =
+      let At : ℕ → List (Linked Link) → Type 0 = λ i ls. chain ls (w.node + 1) (Some i) ≡ so_far ++ (row ∷ []) in
+      subst (λ ls. At id ls) (sym more)
+      (subst (λ i. At i (links ++ (link_of r ∷ []))) (sym named)
+      (subst (λ z. At (length links) (links ++ (link_of z ∷ []))) (sym same) chain_next))
+
+-- # A choice, and the link that follows it
+
+module _ {R : Type 0} (d : ℕ) (key : R → KeyOf d 16) (t : List (NodeData R)) (w : Walk) (links more grown : List (Linked Link)) (chosen : List ℕ) (before : List (Entry R Candidate)) (c : Choice)
+    (rows : List ℕ) (entries : List (Entry R Candidate)) (h : IsChoice d key t w links chosen before c rows entries) (is : grown ≡ links ++ more) where
+  pub entries_after : All (IsEntry d key t grown) entries
+  entries_after = λ k e l. subst (λ ls. IsEntry d key t ls (get_or entries k e)) (sym is) (entry_kept d key t links more (get_or entries k e) (h.each k e l))
+
+  pub held_after : (u : List ℕ) → in_region (followers t) (region_at t (chain links w.node w.before) (2 * w.place + 1)) u
+      + (in_region (followers t) (region_at t (chain links w.node w.before) (2 * w.place + 2)) u + held_by t links before u)
+      ≡ cond w.top_stands (cond c.top_stands 0 (held_by t links (take 1 before) u)) 0 + held_by t grown entries u
+  held_after u = h.held u ∙ ap (λ n. cond w.top_stands (cond c.top_stands 0 (held_by t links (take 1 before) u)) 0 + n)
+      (sym (ap (λ ls. held_by t ls entries u) is ∙ held_kept d key t links more entries h.each u))
+
+  pub top_after : All (IsEntry d key t links) before → c.top_stands ≡ true → (u : List ℕ) → held_by t grown (take 1 entries) u ≡ held_by t links (take 1 before) u
+  top_after all e u =
+      ap (λ ls. held_by t ls (take 1 entries) u) is
+      ∙ ap (λ es. held_by t (links ++ more) (take 1 es) u) (h.stands e).1
+      ∙ held_kept d key t links more (take 1 before) (All-first (IsEntry d key t links) before all) u

@@ -1,18 +1,19 @@
 -- The division of a region by one answer, node by node.
-use Rattle.std.specs.Prelude.{Bool, ◌≡◌, ℕ, ◌+◌, ◌-◌, ◌*◌, ◌<◌, ◌≤◌, zero, suc, true, cond, List, [], ◌∷◌, ◌++◌, length, take, slice_index}
+use Rattle.std.specs.Prelude.{Bool, ◌≡◌, ℕ, ◌+◌, ◌-◌, ◌*◌, ◌<◌, ◌≤◌, zero, suc, true, cond, List, [], ◌∷◌, ◌++◌, length, take, slice_index, slice_set}
 use Rattle.std.specs.List.{All}
 use Rattle.stream_store.specs.declared.entry.Linked.{Linked}
 use Rattle.take2_heap.specs.declared.entry.Entry.{Entry}
 use Rattle.tdp_model.specs.KeyTuple.{KeyOf}
-use Rattle.tdp_model.specs.Regions.{Region, in_regions, completion, deviations, best_of, divided}
+use Rattle.tdp_model.specs.Regions.{Region, in_region, in_regions, completion, deviations, best_of, divided}
 use Rattle.tdp_core.specs.TreeData.{NodeData, parent, rows, group_count, group_number, best}
 use Rattle.tdp_core.specs.WellFormed.{IsFormed}
 use Rattle.anyk_part.specs.declared.candidate.Link.{Link}
 use Rattle.anyk_part.specs.declared.candidate.Candidate.{Candidate}
+use Rattle.anyk_part.specs.declared.candidate.Choice.{Choice}
 use Rattle.anyk_part.specs.declared.candidate.Site.{Site}
 use Rattle.anyk_part.specs.declared.candidate.Walk.{Walk}
 use Rattle.anyk_part.specs.Chains.{chain, IsChain}
-use Rattle.anyk_part.specs.Regions.{followers, Reached, least, held_by, IsEntry}
+use Rattle.anyk_part.specs.Regions.{followers, Reached, least, region_at, held_by, IsEntry}
 
 -- the best solution that begins with `pre` and then the member at a place, where n rows are left
 unfoldable pub best_from : (List ℕ → List ℕ) → ℕ → List ℕ → ℕ → List ℕ
@@ -59,6 +60,18 @@ module _ {R : Type 0} (d : ℕ) (key : R → KeyOf d 16) (t : List (NodeData R))
   -- the row that the walk chooses
   abbrev pub row_at : Walk → List (Linked Link) → ℕ
   row_at w links = slice_index (followers t (chain links w.node w.before)) w.place
+
+  -- The row of the walk's node is chosen, and the candidates that deviate from it stand beside the entries that were there before.
+  pub record IsChoice (w : Walk) (links : List (Linked Link)) (chosen : List ℕ) (before : List (Entry R Candidate)) (c : Choice)
+      (rows : List ℕ) (entries : List (Entry R Candidate)) : Type 0 where
+    pub row : c.row ≡ row_at w links
+    pub put : rows ≡ slice_set chosen w.node c.row
+    pub each : All (IsEntry d key t links) entries
+    pub held : (s : List ℕ) → in_region (followers t) (region_at t (chain links w.node w.before) (2 * w.place + 1)) s
+        + (in_region (followers t) (region_at t (chain links w.node w.before) (2 * w.place + 2)) s + held_by t links before s)
+        ≡ gone w.top_stands c.top_stands (held_by t links (take 1 before) s) + held_by t links entries s
+    pub stands : c.top_stands ≡ true → (w.top_stands ≡ true) × (entries ≡ before)
+    pub few : length entries ≤ length before + 2
 
   -- the region of which the division starts
   abbrev pub start_region : List (Linked Link) → Walk → Region

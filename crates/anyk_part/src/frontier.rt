@@ -5,10 +5,11 @@ ghost use Rattle.take2_heap.specs.Order.{IsLeast};
 ghost use Rattle.rank_key.specs.Bits.{bit_length};
 ghost use Rattle.tdp_model.specs.Regions.{in_region, in_regions, best_of, divided};
 ghost use Rattle.anyk_part.specs.Chains.{chain, IsChain};
+ghost use Rattle.anyk_part.specs.Places.{ArePlaces};
 ghost use Rattle.anyk_part.specs.Regions.{followers, Reached, region_at, held_by, IsEntry};
-ghost use Rattle.anyk_part.specs.Walks.{IsSite, IsAt, gone, row_at, start_region};
+ghost use Rattle.anyk_part.specs.Walks.{IsSite, IsAt, IsChoice, gone, row_at, start_region};
 
-use crate::candidate::{Candidate, Link, Site, Walk};
+use crate::candidate::{Candidate, Choice, Link, Site, Walk};
 use crate::paths::group_at;
 use rank_key::Rank;
 use std::alloc::Allocator;
@@ -151,14 +152,54 @@ impl<R: Rank, A: Allocator + Clone> Frontier<R, A> {
     }
 
     /// Chooses the row at one node, and puts in the candidates that deviate from it.
+    fn choose<L: Ledger>(
+        &mut self,
+        tree: &Tree<R>,
+        places: &[u32; 16],
+        total: R,
+        walk: &Walk,
+        chosen: &mut [u32; 16],
+        steps: &mut Steps<L>,
+    ) -> Choice
+        requires places { ArePlaces tree.now places.now }
+        requires at { IsAt R.KEYS R.key tree.now total walk.now chosen.old self.old.links.entries }
+        requires node { walk.now.node < length tree.now }
+        requires entries { All (IsEntry R.KEYS R.key tree.now self.old.links.entries) self.old.queue.entries }
+        requires top { walk.now.top_stands ≡ true → 0 < length self.old.queue.entries }
+        requires room { 2 ≤ self.old.queue.spare }
+        ensures choice { IsChoice R.KEYS R.key tree.now walk.now self.old.links.entries chosen.old self.old.queue.entries result chosen.new self.new.queue.entries }
+        ensures links { self.new.links ≡ self.old.links }
+        ensures room { self.old.queue.spare ≤ self.new.queue.spare + 2 }
+        ensures cost { steps.new ≤ steps.old + 9 + 4 * bit_length (length self.old.queue.entries + 2) }
+    {
+        let group = group_at(tree, places, walk.node, chosen, steps);
+        let row = tree.member(walk.node, group, walk.place, steps);
+        let best = tree.best(walk.node, row, steps);
+        let site = Site {
+            total,
+            best,
+            node: walk.node,
+            group,
+            row,
+            before: walk.before,
+        };
+        let stands = self.offer(tree, &site, 2 * walk.place + 1, walk.top_stands, steps);
+        let top_stands = self.offer(tree, &site, 2 * walk.place + 2, stands, steps);
+        chosen[walk.node as usize] = row;
+        Choice { row, top_stands }
+    }
+
+    /// Chooses the row at a node that is not the last, and links it to the rows before it.
     fn advance<L: Ledger>(
         &mut self,
         tree: &Tree<R>,
+        places: &[u32; 16],
         total: R,
         walk: Walk,
         chosen: &mut [u32; 16],
         steps: &mut Steps<L>,
     ) -> Walk
+        requires places { ArePlaces tree.now places.now }
         requires at { IsAt R.KEYS R.key tree.now total walk chosen.old self.old.links.entries }
         requires node { walk.node < length tree.now }
         requires entries { All (IsEntry R.KEYS R.key tree.now self.old.links.entries) self.old.queue.entries }
@@ -186,22 +227,9 @@ impl<R: Rank, A: Allocator + Clone> Frontier<R, A> {
         ensures length { length self.new.queue.entries ≤ length self.old.queue.entries + 2 }
         ensures cost { steps.new ≤ steps.old + 10 + 4 * bit_length (length self.old.queue.entries + 2) }
     {
-        let group = group_at(tree, walk.node, chosen, steps);
-        let row = tree.member(walk.node, group, walk.place, steps);
-        let best = tree.best(walk.node, row, steps);
-        let site = Site {
-            total,
-            best,
-            node: walk.node,
-            group,
-            row,
-            before: walk.before,
-        };
-        let stands = self.offer(tree, &site, 2 * walk.place + 1, walk.top_stands, steps);
-        let top_stands = self.offer(tree, &site, 2 * walk.place + 2, stands, steps);
-        chosen[walk.node as usize] = row;
+        let choice = self.choose(tree, places, total, &walk, chosen, steps);
         let link = Link {
-            row,
+            row: choice.row,
             before: walk.before,
         };
         let last = self.links.push_reserved(link, steps);
@@ -209,7 +237,7 @@ impl<R: Rank, A: Allocator + Clone> Frontier<R, A> {
             node: walk.node + 1,
             place: 0,
             before: Some(last),
-            top_stands,
+            top_stands: choice.top_stands,
         }
     }
 
@@ -218,11 +246,13 @@ impl<R: Rank, A: Allocator + Clone> Frontier<R, A> {
     pub fn divide<L: Ledger>(
         &mut self,
         tree: &Tree<R>,
+        places: &[u32; 16],
         total: R,
         start: Walk,
         chosen: &mut [u32; 16],
         steps: &mut Steps<L>,
     )
+        requires places { ArePlaces tree.now places.now }
         requires at { IsAt R.KEYS R.key tree.now total start chosen.old self.old.links.entries }
         requires node { start.node < length tree.now }
         requires stands { start.top_stands ≡ true }
@@ -244,12 +274,13 @@ impl<R: Rank, A: Allocator + Clone> Frontier<R, A> {
             ≤ steps.old + length tree.now * (10 + 4 * bit_length (length self.old.queue.entries + 2 * length tree.now))
             + 2 * bit_length (length self.old.queue.entries + 2 * length tree.now) }
     {
-        let nodes = tree.nodes();
+        let last = tree.nodes() - 1;
         let mut walk = start;
-        while walk.node < nodes {
-            walk = self.advance(tree, total, walk, chosen, steps);
+        while walk.node < last {
+            walk = self.advance(tree, places, total, walk, chosen, steps);
         }
-        if walk.top_stands {
+        let choice = self.choose(tree, places, total, &walk, chosen, steps);
+        if choice.top_stands {
             self.queue.pop(steps);
         }
     }

@@ -13,7 +13,7 @@ ghost use Rattle.anyk_part.specs.Candidates.{HoldTheRest, HasLeastRank};
 
 use crate::candidate::{Candidate, Link, Walk};
 use crate::frontier::Frontier;
-use crate::paths::row_numbers;
+use crate::paths::{child_places, row_numbers};
 use rank_key::Rank;
 use std::alloc::Allocator;
 use std::marker::Model;
@@ -31,19 +31,22 @@ use tdp_core::{Answer, Ranked, Tree};
 #[derive(Drop)]
 pub struct Part<'t, R: Rank, A: Allocator + Clone> {
     tree: &'t Tree<R>,
+    /// The place of each node among the children of its parent.
+    places: [u32; 16],
     frontier: Frontier<R, A>,
     calls: u64,
 }
 
 impl<'t, R: Rank, A: Allocator + Clone> Model for Part<'t, R, A> {
     ghost use Rattle.std.specs.Prelude.{length};
+    ghost use Rattle.anyk_part.specs.Places.{ArePlaces};
     ghost use Rattle.anyk_part.specs.Regions.{PartState, candidates_of, IsPart};
 
     ghost Value = { PartState R };
 
     ghost view = { λ s. record { tree = s.tree.now; candidates = candidates_of s.frontier.links.entries (length s.tree.now) s.frontier.queue.entries; calls = s.calls } };
 
-    ghost invariant = { λ s. IsPart R.KEYS R.key s.tree.now s.frontier.links.entries s.frontier.queue.entries s.calls };
+    ghost invariant = { λ s. IsPart R.KEYS R.key s.tree.now s.frontier.links.entries s.frontier.queue.entries s.calls × ArePlaces s.tree.now s.places };
 }
 
 /// The queue of one candidate with every solution, empty where the tree has none.
@@ -92,6 +95,7 @@ impl<'t, R: Rank, A: Allocator + Clone> Part<'t, R, A> {
         let queue = first_queue(alloc, tree, steps)?;
         Ok(Part {
             tree,
+            places: child_places(tree),
             frontier: Frontier { queue, links },
             calls: 0,
         })
@@ -133,7 +137,7 @@ impl<'t, R: Rank, A: Allocator + Clone> Ranked for Part<'t, R, A> {
         self.frontier.make_room(self.tree.nodes())?;
         let mut chosen = self.frontier.prefix(start.node, start.before, steps);
         self.frontier
-            .divide(self.tree, rank, start, &mut chosen, steps);
+            .divide(self.tree, &self.places, rank, start, &mut chosen, steps);
         let rows = row_numbers(self.tree, &chosen, steps);
         Ok(Some(Answer { rows, rank }))
     }

@@ -4,20 +4,34 @@ ghost use Rattle.tdp_model.specs.TreeProblem.{rows_key};
 ghost use Rattle.tdp_core.specs.Seen.{rows_of_key};
 ghost use Rattle.tdp_core.specs.TreeData.{parent, rows, rank, group_number};
 ghost use Rattle.tdp_core.specs.WellFormed.{IsFormed, IsTieFreeTree};
+ghost use Rattle.anyk_part.specs.Places.{ArePlaces};
 
 use rank_key::Rank;
 use std::sync::ledger::Ledger;
 use step_counter::Steps;
 use tdp_core::Tree;
 
+/// The place of each node among the children of its parent, and 0 for the root.
+pub(crate) fn child_places<R: Rank>(tree: &Tree<R>) -> [u32; 16]
+    ensures { ArePlaces tree.now result }
+{
+    let mut places = [0; 16];
+    for node in 1..tree.nodes() {
+        places[node as usize] = tree.child_place(node);
+    }
+    places
+}
+
 /// The group of a node that the row chosen at its parent names.
 pub(crate) fn group_at<R: Rank, L: Ledger>(
     tree: &Tree<R>,
+    places: &[u32; 16],
     node: u32,
     chosen: &[u32; 16],
     steps: &mut Steps<L>,
 ) -> u32
     requires formed { IsFormed R.KEYS R.key tree.now }
+    requires places { ArePlaces tree.now places.now }
     requires node { node < length tree.now }
     requires rows { (q : ℕ) → q < node → slice_index chosen.now q < rows tree.now q }
     ensures group { result ≡ group_number tree.now node (slice_index chosen.now (parent tree.now node)) }
@@ -28,7 +42,7 @@ pub(crate) fn group_at<R: Rank, L: Ledger>(
     }
     let parent = tree.shape(node).parent;
     let row = chosen[parent as usize];
-    tree.group_of(parent, row, tree.child_place(node), steps)
+    tree.group_of(parent, row, places[node as usize], steps)
 }
 
 /// The row numbers of a solution, by item.

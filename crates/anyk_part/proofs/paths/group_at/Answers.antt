@@ -26,5 +26,6 @@ group_of-requires-clause-row g c =
 pub group_of-requires-clause-child : goal.group_of-requires-clause-child
 group_of-requires-clause-child g c =
     let t = c.args.tree.now in
+    let some : 0 < c.args.node = search rules in
     let is : c.shape.result.now.parent ≡ parent t c.args.node = search rules in
-    subst (λ p. c.child_place.result < child_count t p) (sym is) c.child_place.ensures.within
+    subst (λ p. get_or c.args.places.now c.args.node 0 < child_count t p) (sym is) (c.requires.places c.args.node some c.requires.node).1

@@ -1,28 +1,36 @@
-use Rattle.std.proofs.Common.{rules, ◌≡◌, ◌+◌, ◌-◌, ◌*◌, ◌<◌, List, ◌∷◌, length, get_or, Option, Some, IsSome, IfSome, sym, subst, arith}
+use Rattle.std.proofs.Common.{rules, ◌≡◌, ◌+◌, ◌-◌, ◌*◌, ◌<◌, List, ◌∷◌, length, take, get_or, Option, Some, IsSome, IfSome, sym, ap, ◌∙◌, subst, arith}
+use Rattle.std.specs.List.{All}
 use Rattle.std.specs.List.Sorted.{IsPermutation}
 use Rattle.std.proofs.lemmas.List.Sorted.{length_permutation}
 use Rattle.rank_key.specs.Bits.{bit_length}
 use Rattle.rank_key.proofs.BitLemmas.{bit_length-rises}
+use Rattle.stream_store.specs.Entries.{Entries}
 use Rattle.take2_heap.specs.declared.entry.Entry.{Entry}
 use Rattle.anyk_part.specs.declared.candidate.Candidate.{Candidate}
-use Rattle.anyk_part.proofs.Divisions.{division_init, division_next, division_best, division_reached, held_gone, held_popped, entries_popped, some_is, times_next, times_within}
+use Rattle.anyk_part.specs.declared.candidate.Link.{Link}
+use Rattle.anyk_part.specs.Regions.{held_by, IsEntry}
+use Rattle.anyk_part.proofs.Divisions.{division_init, division_next, choice_best, choice_reached, choice_few, choice_gone, choice_full, choice_entries, choice_popped, some_is, times_next, times_within}
 use Rattle.anyk_part.proofs.frontier.Frontier.divide.Goals as goal
 
 pub loop-walk-init : goal.loop-walk-init
-loop-walk-init g c = record {
-  at = c.requires.at;
-  division = division_init g.R.Rank.KEYS g.R.Rank.key c.args.tree.now c.args.start c.args.self.now.links.entries c.args.self.now.queue.entries c.requires.node c.requires.stands c.requires.entries;
-  count = c.nodes-nodes.ensures.count;
-  room = omega (arith, c.nodes-nodes.ensures.count, c.requires.room);
-  link_room = omega (arith, c.nodes-nodes.ensures.count, c.requires.link_room);
-  cost = omega arith;
-}
+loop-walk-init g c =
+    let some = c.nodes-last.ensures.formed.shaped.some_node in
+    let count = c.nodes-last.ensures.count in
+    record {
+      at = c.requires.at;
+      division = division_init g.R.Rank.KEYS g.R.Rank.key c.args.tree.now c.args.start c.args.self.now.links.entries c.args.self.now.queue.entries c.requires.node c.requires.stands c.requires.entries;
+      below = c.requires.node;
+      count = omega (arith, count, some);
+      room = omega (arith, count, some, c.requires.room);
+      link_room = omega (arith, count, c.requires.link_room);
+      cost = omega arith;
+    }
 
 pub loop-walk-preserved : goal.loop-walk-preserved
 loop-walk-preserved g c =
     let l = c.loop-walk.invariant in
     let e = c.advance-walk.ensures in
-    let below : c.loop-walk.walk.node < length c.args.tree.now = omega (arith, c.loop-walk-test.true, l.count) in
+    let below = l.below in
     let n = length c.args.self.now.queue.entries in
     let m = length c.args.tree.now in
     let digits = bit_length-rises (length c.loop-walk.self.queue.entries + 2) (n + 2 * m) (omega (arith, l.division.few, below)) in
@@ -30,6 +38,7 @@ loop-walk-preserved g c =
       at = e.at;
       division = division_next g.R.Rank.KEYS g.R.Rank.key c.args.tree.now c.args.total c.args.start c.args.self.now.links.entries c.args.self.now.queue.entries c.loop-walk.walk c.advance-walk.result
           c.loop-walk.self.links.entries c.advance-walk.new.self.links.entries c.loop-walk.chosen c.loop-walk.self.queue.entries c.advance-walk.new.self.queue.entries l.at below l.division e.node e.place e.chain e.entries e.held e.stands e.top e.length;
+      below = omega (arith, e.node, c.loop-walk-test.true, l.count);
       count = l.count;
       room = omega (arith, l.room, e.room, e.node, c.loop-walk-test.true);
       link_room = omega (arith, l.link_room, e.link_room, e.node, c.loop-walk-test.true);
@@ -37,90 +46,120 @@ loop-walk-preserved g c =
           (omega (arith, e.node, l.division.from)) l.cost (omega (arith, e.cost, digits));
     }
 
-pub returns-then-walk-clause-best : goal.returns-then-walk-clause-best
-returns-then-walk-clause-best g c =
+pub returns-then-choice-clause-best : goal.returns-then-choice-clause-best
+returns-then-choice-clause-best g c =
     let l = c.loop-walk.invariant in
-    division_best g.R.Rank.KEYS g.R.Rank.key c.args.tree.now c.args.total c.args.start c.args.self.now.links.entries c.args.self.now.queue.entries c.loop-walk.walk c.loop-walk.self.links.entries c.loop-walk.chosen c.loop-walk.self.queue.entries l.at l.division
-    (omega (arith, c.loop-walk-test.false, l.count))
+    choice_best g.R.Rank.KEYS g.R.Rank.key c.args.tree.now c.args.total c.args.start c.args.self.now.links.entries c.args.self.now.queue.entries c.loop-walk.walk c.loop-walk.self.links.entries c.loop-walk.chosen c.loop-walk.self.queue.entries
+    l.at l.division l.below (omega (arith, c.loop-walk-test.false, l.count)) c.choose-choice.result c.choose-choice.new.chosen c.choose-choice.new.self.queue.entries c.choose-choice.ensures.choice
 
-pub returns-then-walk-clause-reached : goal.returns-then-walk-clause-reached
-returns-then-walk-clause-reached g c =
+pub returns-then-choice-clause-reached : goal.returns-then-choice-clause-reached
+returns-then-choice-clause-reached g c =
     let l = c.loop-walk.invariant in
-    division_reached g.R.Rank.KEYS g.R.Rank.key c.args.tree.now c.args.total c.args.start c.args.self.now.links.entries c.args.self.now.queue.entries c.loop-walk.walk c.loop-walk.self.links.entries c.loop-walk.chosen c.loop-walk.self.queue.entries l.at l.division
-    (omega (arith, c.loop-walk-test.false, l.count))
+    choice_reached g.R.Rank.KEYS g.R.Rank.key c.args.tree.now c.args.total c.args.start c.args.self.now.links.entries c.args.self.now.queue.entries c.loop-walk.walk c.loop-walk.self.links.entries c.loop-walk.chosen c.loop-walk.self.queue.entries
+    l.at l.division l.below (omega (arith, c.loop-walk-test.false, l.count)) c.choose-choice.result c.choose-choice.new.chosen c.choose-choice.new.self.queue.entries c.choose-choice.ensures.choice
 
-pub returns-then-walk-clause-held : goal.returns-then-walk-clause-held
-returns-then-walk-clause-held g c =
+pub returns-then-choice-clause-held : goal.returns-then-choice-clause-held
+returns-then-choice-clause-held g c =
     let l = c.loop-walk.invariant in
-    let entries : List (Entry g.row.R.Denot Candidate) = c.loop-walk.self.queue.entries in
-    let was : entries ≡ c.args.self.now.queue.entries = (l.division.stands c.if-walk.true).0 in
-    let full : 0 < length entries = subst (λ (es : List (Entry g.row.R.Denot Candidate)). 0 < length es) (sym was) c.requires.some in
+    let before : List (Entry g.row.R.Denot Candidate) = c.args.self.now.queue.entries in
+    let full : 0 < length c.choose-choice.new.self.queue.entries =
+    choice_full g.R.Rank.KEYS g.R.Rank.key c.args.tree.now c.args.total c.args.start c.args.self.now.links.entries c.args.self.now.queue.entries c.loop-walk.walk c.loop-walk.self.links.entries c.loop-walk.chosen c.loop-walk.self.queue.entries
+    l.at l.division l.below (omega (arith, c.loop-walk-test.false, l.count)) c.choose-choice.result c.choose-choice.new.chosen c.choose-choice.new.self.queue.entries c.choose-choice.ensures.choice c.if-choice.true c.requires.some in
     let some : IsSome c.pop.result = search rules in
     let top : (x : Entry g.row.R.Denot Candidate) × (c.pop.result ≡ Some x) = some_is c.pop.result some in
-    held_popped g.R.Rank.KEYS g.R.Rank.key c.args.tree.now c.args.total c.args.start c.args.self.now.links.entries c.args.self.now.queue.entries c.loop-walk.walk c.loop-walk.self.links.entries c.loop-walk.chosen entries l.at l.division
-    (omega (arith, c.loop-walk-test.false, l.count)) c.if-walk.true top.0 c.pop.new.self.entries full
-    (subst (λ (o : Option (Entry g.row.R.Denot Candidate)). IfSome o (λ e. e ≡ get_or entries 0 e)) top.1 c.pop.ensures.top)
-    (subst (λ (o : Option (Entry g.row.R.Denot Candidate)). IfSome o (λ e. IsPermutation entries (e ∷ c.pop.new.self.entries))) top.1 c.pop.ensures.permutation)
+    let p : IsPermutation c.choose-choice.new.self.queue.entries (top.0 ∷ c.pop.new.self.entries) =
+    subst (λ (o : Option (Entry g.row.R.Denot Candidate)). IfSome o (λ e. IsPermutation c.choose-choice.new.self.queue.entries (e ∷ c.pop.new.self.entries))) top.1 c.pop.ensures.permutation in
+    λ s. choice_popped g.R.Rank.KEYS g.R.Rank.key c.args.tree.now c.args.total c.args.start c.args.self.now.links.entries c.args.self.now.queue.entries c.loop-walk.walk c.loop-walk.self.links.entries c.loop-walk.chosen c.loop-walk.self.queue.entries
+    l.at l.division l.below (omega (arith, c.loop-walk-test.false, l.count)) c.choose-choice.result c.choose-choice.new.chosen c.choose-choice.new.self.queue.entries c.choose-choice.ensures.choice c.if-choice.true top.0 c.pop.new.self.entries c.requires.some
+    (subst (λ (o : Option (Entry g.row.R.Denot Candidate)). IfSome o (λ e. e ≡ get_or c.choose-choice.new.self.queue.entries 0 e)) top.1 c.pop.ensures.top) p s
+    ∙ ap (λ (k : Entries Link). held_by c.args.tree.now c.args.self.now.links.entries (take 1 before) s + held_by c.args.tree.now k.entries c.pop.new.self.entries s) (sym c.choose-choice.ensures.links)
 
-pub returns-then-walk-clause-entries : goal.returns-then-walk-clause-entries
-returns-then-walk-clause-entries g c =
+pub returns-then-choice-clause-entries : goal.returns-then-choice-clause-entries
+returns-then-choice-clause-entries g c =
     let l = c.loop-walk.invariant in
-    let entries : List (Entry g.row.R.Denot Candidate) = c.loop-walk.self.queue.entries in
-    let was : entries ≡ c.args.self.now.queue.entries = (l.division.stands c.if-walk.true).0 in
-    let full : 0 < length entries = subst (λ (es : List (Entry g.row.R.Denot Candidate)). 0 < length es) (sym was) c.requires.some in
+    let full : 0 < length c.choose-choice.new.self.queue.entries =
+    choice_full g.R.Rank.KEYS g.R.Rank.key c.args.tree.now c.args.total c.args.start c.args.self.now.links.entries c.args.self.now.queue.entries c.loop-walk.walk c.loop-walk.self.links.entries c.loop-walk.chosen c.loop-walk.self.queue.entries
+    l.at l.division l.below (omega (arith, c.loop-walk-test.false, l.count)) c.choose-choice.result c.choose-choice.new.chosen c.choose-choice.new.self.queue.entries c.choose-choice.ensures.choice c.if-choice.true c.requires.some in
     let some : IsSome c.pop.result = search rules in
     let top : (x : Entry g.row.R.Denot Candidate) × (c.pop.result ≡ Some x) = some_is c.pop.result some in
-    entries_popped g.R.Rank.KEYS g.R.Rank.key c.args.tree.now c.args.total c.args.start c.args.self.now.links.entries c.args.self.now.queue.entries c.loop-walk.walk c.loop-walk.self.links.entries c.loop-walk.chosen entries l.at l.division
-    (omega (arith, c.loop-walk-test.false, l.count)) top.0 c.pop.new.self.entries
-    (subst (λ (o : Option (Entry g.row.R.Denot Candidate)). IfSome o (λ e. IsPermutation entries (e ∷ c.pop.new.self.entries))) top.1 c.pop.ensures.permutation)
+    let p : IsPermutation c.choose-choice.new.self.queue.entries (top.0 ∷ c.pop.new.self.entries) =
+    subst (λ (o : Option (Entry g.row.R.Denot Candidate)). IfSome o (λ e. IsPermutation c.choose-choice.new.self.queue.entries (e ∷ c.pop.new.self.entries))) top.1 c.pop.ensures.permutation in
+    subst (λ (k : Entries Link). All (IsEntry g.R.Rank.KEYS g.R.Rank.key c.args.tree.now k.entries) c.pop.new.self.entries) (sym c.choose-choice.ensures.links)
+    (choice_entries g.R.Rank.KEYS g.R.Rank.key c.args.tree.now c.args.total c.args.start c.args.self.now.links.entries c.args.self.now.queue.entries c.loop-walk.walk c.loop-walk.self.links.entries c.loop-walk.chosen c.loop-walk.self.queue.entries
+    l.at l.division l.below (omega (arith, c.loop-walk-test.false, l.count)) c.choose-choice.result c.choose-choice.new.chosen c.choose-choice.new.self.queue.entries c.choose-choice.ensures.choice top.0 c.pop.new.self.entries p)
 
-pub returns-then-walk-clause-length : goal.returns-then-walk-clause-length
-returns-then-walk-clause-length g c =
+pub returns-then-choice-clause-length : goal.returns-then-choice-clause-length
+returns-then-choice-clause-length g c =
     let l = c.loop-walk.invariant in
-    let entries : List (Entry g.row.R.Denot Candidate) = c.loop-walk.self.queue.entries in
-    let was : entries ≡ c.args.self.now.queue.entries = (l.division.stands c.if-walk.true).0 in
-    let full : 0 < length entries = subst (λ (es : List (Entry g.row.R.Denot Candidate)). 0 < length es) (sym was) c.requires.some in
+    let full : 0 < length c.choose-choice.new.self.queue.entries =
+    choice_full g.R.Rank.KEYS g.R.Rank.key c.args.tree.now c.args.total c.args.start c.args.self.now.links.entries c.args.self.now.queue.entries c.loop-walk.walk c.loop-walk.self.links.entries c.loop-walk.chosen c.loop-walk.self.queue.entries
+    l.at l.division l.below (omega (arith, c.loop-walk-test.false, l.count)) c.choose-choice.result c.choose-choice.new.chosen c.choose-choice.new.self.queue.entries c.choose-choice.ensures.choice c.if-choice.true c.requires.some in
     let some : IsSome c.pop.result = search rules in
     let top : (x : Entry g.row.R.Denot Candidate) × (c.pop.result ≡ Some x) = some_is c.pop.result some in
-    let p : IsPermutation entries (top.0 ∷ c.pop.new.self.entries) =
-    subst (λ (o : Option (Entry g.row.R.Denot Candidate)). IfSome o (λ e. IsPermutation entries (e ∷ c.pop.new.self.entries))) top.1 c.pop.ensures.permutation in
-    omega (arith, length_permutation entries (top.0 ∷ c.pop.new.self.entries) p, l.division.few, l.at.to)
+    let p : IsPermutation c.choose-choice.new.self.queue.entries (top.0 ∷ c.pop.new.self.entries) =
+    subst (λ (o : Option (Entry g.row.R.Denot Candidate)). IfSome o (λ e. IsPermutation c.choose-choice.new.self.queue.entries (e ∷ c.pop.new.self.entries))) top.1 c.pop.ensures.permutation in
+    let few = choice_few g.R.Rank.KEYS g.R.Rank.key c.args.tree.now c.args.total c.args.start c.args.self.now.links.entries c.args.self.now.queue.entries c.loop-walk.walk c.loop-walk.self.links.entries c.loop-walk.chosen c.loop-walk.self.queue.entries
+    l.at l.division l.below (omega (arith, c.loop-walk-test.false, l.count)) c.choose-choice.result c.choose-choice.new.chosen c.choose-choice.new.self.queue.entries c.choose-choice.ensures.choice in
+    omega (arith, few, length_permutation c.choose-choice.new.self.queue.entries (top.0 ∷ c.pop.new.self.entries) p)
 
-pub returns-then-walk-clause-cost : goal.returns-then-walk-clause-cost
-returns-then-walk-clause-cost g c =
+pub returns-then-choice-clause-cost : goal.returns-then-choice-clause-cost
+returns-then-choice-clause-cost g c =
     let l = c.loop-walk.invariant in
     let n = length c.args.self.now.queue.entries in
     let m = length c.args.tree.now in
-    let digits = bit_length-rises (length c.loop-walk.self.queue.entries) (n + 2 * m) (omega (arith, l.division.few, l.at.to)) in
-    times_within (c.loop-walk.walk.node - c.args.start.node) m (10 + 4 * bit_length (n + 2 * m)) c.args.steps.now c.loop-walk.steps c.pop.new.steps (2 * bit_length (n + 2 * m))
-    (omega (arith, l.at.to)) l.cost (omega (arith, c.pop.ensures.cost, digits))
+    let u = 10 + 4 * bit_length (n + 2 * m) in
+    let few = choice_few g.R.Rank.KEYS g.R.Rank.key c.args.tree.now c.args.total c.args.start c.args.self.now.links.entries c.args.self.now.queue.entries c.loop-walk.walk c.loop-walk.self.links.entries c.loop-walk.chosen c.loop-walk.self.queue.entries
+    l.at l.division l.below (omega (arith, c.loop-walk-test.false, l.count)) c.choose-choice.result c.choose-choice.new.chosen c.choose-choice.new.self.queue.entries c.choose-choice.ensures.choice in
+    let digits = bit_length-rises (length c.loop-walk.self.queue.entries + 2) (n + 2 * m) (omega (arith, l.division.few, l.below)) in
+    let popped = bit_length-rises (length c.choose-choice.new.self.queue.entries) (n + 2 * m) (omega (arith, few)) in
+    let end = times_next (c.loop-walk.walk.node + 1 - c.args.start.node) (c.loop-walk.walk.node - c.args.start.node) u c.args.steps.now c.loop-walk.steps c.choose-choice.new.steps
+    (omega (arith, l.division.from)) l.cost (omega (arith, c.choose-choice.ensures.cost, digits)) in
+    times_within (c.loop-walk.walk.node + 1 - c.args.start.node) m u c.args.steps.now c.choose-choice.new.steps c.pop.new.steps (2 * bit_length (n + 2 * m))
+    (omega (arith, l.below)) end (omega (arith, c.pop.ensures.cost, popped))
 
-pub returns-else-walk-clause-best : goal.returns-else-walk-clause-best
-returns-else-walk-clause-best g c =
+pub returns-else-choice-clause-best : goal.returns-else-choice-clause-best
+returns-else-choice-clause-best g c =
     let l = c.loop-walk.invariant in
-    division_best g.R.Rank.KEYS g.R.Rank.key c.args.tree.now c.args.total c.args.start c.args.self.now.links.entries c.args.self.now.queue.entries c.loop-walk.walk c.loop-walk.self.links.entries c.loop-walk.chosen c.loop-walk.self.queue.entries l.at l.division
-    (omega (arith, c.loop-walk-test.false, l.count))
+    choice_best g.R.Rank.KEYS g.R.Rank.key c.args.tree.now c.args.total c.args.start c.args.self.now.links.entries c.args.self.now.queue.entries c.loop-walk.walk c.loop-walk.self.links.entries c.loop-walk.chosen c.loop-walk.self.queue.entries
+    l.at l.division l.below (omega (arith, c.loop-walk-test.false, l.count)) c.choose-choice.result c.choose-choice.new.chosen c.choose-choice.new.self.queue.entries c.choose-choice.ensures.choice
 
-pub returns-else-walk-clause-reached : goal.returns-else-walk-clause-reached
-returns-else-walk-clause-reached g c =
+pub returns-else-choice-clause-reached : goal.returns-else-choice-clause-reached
+returns-else-choice-clause-reached g c =
     let l = c.loop-walk.invariant in
-    division_reached g.R.Rank.KEYS g.R.Rank.key c.args.tree.now c.args.total c.args.start c.args.self.now.links.entries c.args.self.now.queue.entries c.loop-walk.walk c.loop-walk.self.links.entries c.loop-walk.chosen c.loop-walk.self.queue.entries l.at l.division
-    (omega (arith, c.loop-walk-test.false, l.count))
+    choice_reached g.R.Rank.KEYS g.R.Rank.key c.args.tree.now c.args.total c.args.start c.args.self.now.links.entries c.args.self.now.queue.entries c.loop-walk.walk c.loop-walk.self.links.entries c.loop-walk.chosen c.loop-walk.self.queue.entries
+    l.at l.division l.below (omega (arith, c.loop-walk-test.false, l.count)) c.choose-choice.result c.choose-choice.new.chosen c.choose-choice.new.self.queue.entries c.choose-choice.ensures.choice
 
-pub returns-else-walk-clause-held : goal.returns-else-walk-clause-held
-returns-else-walk-clause-held g c =
+pub returns-else-choice-clause-held : goal.returns-else-choice-clause-held
+returns-else-choice-clause-held g c =
     let l = c.loop-walk.invariant in
-    held_gone g.R.Rank.KEYS g.R.Rank.key c.args.tree.now c.args.total c.args.start c.args.self.now.links.entries c.args.self.now.queue.entries c.loop-walk.walk c.loop-walk.self.links.entries c.loop-walk.chosen c.loop-walk.self.queue.entries l.at l.division
-    (omega (arith, c.loop-walk-test.false, l.count)) c.if-walk.false
+    let before : List (Entry g.row.R.Denot Candidate) = c.args.self.now.queue.entries in
+    λ s. choice_gone g.R.Rank.KEYS g.R.Rank.key c.args.tree.now c.args.total c.args.start c.args.self.now.links.entries c.args.self.now.queue.entries c.loop-walk.walk c.loop-walk.self.links.entries c.loop-walk.chosen c.loop-walk.self.queue.entries
+    l.at l.division l.below (omega (arith, c.loop-walk-test.false, l.count)) c.choose-choice.result c.choose-choice.new.chosen c.choose-choice.new.self.queue.entries c.choose-choice.ensures.choice c.if-choice.false s
+    ∙ ap (λ (k : Entries Link). held_by c.args.tree.now c.args.self.now.links.entries (take 1 before) s + held_by c.args.tree.now k.entries c.choose-choice.new.self.queue.entries s) (sym c.choose-choice.ensures.links)
 
-pub returns-else-walk-clause-length : goal.returns-else-walk-clause-length
-returns-else-walk-clause-length g c =
+pub returns-else-choice-clause-entries : goal.returns-else-choice-clause-entries
+returns-else-choice-clause-entries g c =
     let l = c.loop-walk.invariant in
-    omega (arith, l.division.few, l.at.to)
+    subst (λ (k : Entries Link). All (IsEntry g.R.Rank.KEYS g.R.Rank.key c.args.tree.now k.entries) c.choose-choice.new.self.queue.entries) (sym c.choose-choice.ensures.links)
+    (c.choose-choice.ensures.choice.each)
 
-pub returns-else-walk-clause-cost : goal.returns-else-walk-clause-cost
-returns-else-walk-clause-cost g c =
+pub returns-else-choice-clause-length : goal.returns-else-choice-clause-length
+returns-else-choice-clause-length g c =
+    let l = c.loop-walk.invariant in
+    let few = choice_few g.R.Rank.KEYS g.R.Rank.key c.args.tree.now c.args.total c.args.start c.args.self.now.links.entries c.args.self.now.queue.entries c.loop-walk.walk c.loop-walk.self.links.entries c.loop-walk.chosen c.loop-walk.self.queue.entries
+    l.at l.division l.below (omega (arith, c.loop-walk-test.false, l.count)) c.choose-choice.result c.choose-choice.new.chosen c.choose-choice.new.self.queue.entries c.choose-choice.ensures.choice in
+    omega (arith, few)
+
+pub returns-else-choice-clause-cost : goal.returns-else-choice-clause-cost
+returns-else-choice-clause-cost g c =
     let l = c.loop-walk.invariant in
     let n = length c.args.self.now.queue.entries in
     let m = length c.args.tree.now in
-    times_within (c.loop-walk.walk.node - c.args.start.node) m (10 + 4 * bit_length (n + 2 * m)) c.args.steps.now c.loop-walk.steps c.loop-walk.steps (2 * bit_length (n + 2 * m)) (omega (arith, l.at.to)) l.cost (omega arith)
+    let u = 10 + 4 * bit_length (n + 2 * m) in
+    let few = choice_few g.R.Rank.KEYS g.R.Rank.key c.args.tree.now c.args.total c.args.start c.args.self.now.links.entries c.args.self.now.queue.entries c.loop-walk.walk c.loop-walk.self.links.entries c.loop-walk.chosen c.loop-walk.self.queue.entries
+    l.at l.division l.below (omega (arith, c.loop-walk-test.false, l.count)) c.choose-choice.result c.choose-choice.new.chosen c.choose-choice.new.self.queue.entries c.choose-choice.ensures.choice in
+    let digits = bit_length-rises (length c.loop-walk.self.queue.entries + 2) (n + 2 * m) (omega (arith, l.division.few, l.below)) in
+    let end = times_next (c.loop-walk.walk.node + 1 - c.args.start.node) (c.loop-walk.walk.node - c.args.start.node) u c.args.steps.now c.loop-walk.steps c.choose-choice.new.steps
+    (omega (arith, l.division.from)) l.cost (omega (arith, c.choose-choice.ensures.cost, digits)) in
+    times_within (c.loop-walk.walk.node + 1 - c.args.start.node) m u c.args.steps.now c.choose-choice.new.steps c.choose-choice.new.steps (2 * bit_length (n + 2 * m))
+    (omega (arith, l.below)) end (omega arith)

@@ -8,9 +8,9 @@ use Rattle.anyk_part.proofs.part.Part.candidates.Goals as goal
 pub returns-clause-left : goal.returns-clause-left
 returns-clause-left g c =
     subst (λ (s : PartState g.row.R.Denot). HoldTheRest g.R.Rank.KEYS g.R.Rank.key s.tree s.candidates) c.self.view_is
-    (candidates_hold g.R.Rank.KEYS g.R.Rank.key c.self.inside.tree.now c.self.inside.frontier.links.entries c.self.inside.frontier.queue.entries c.self.inside.calls c.self.invariant)
+    (candidates_hold g.R.Rank.KEYS g.R.Rank.key c.self.inside.tree.now c.self.inside.frontier.links.entries c.self.inside.frontier.queue.entries c.self.inside.calls c.self.invariant.0)
 
 pub returns-clause-ranks : goal.returns-clause-ranks
 returns-clause-ranks g c =
     subst (λ (s : PartState g.row.R.Denot). All (HasLeastRank g.R.Rank.KEYS g.R.Rank.key s.tree) s.candidates) c.self.view_is
-    (candidates_ranked g.R.Rank.KEYS g.R.Rank.key c.self.inside.tree.now c.self.inside.frontier.links.entries c.self.inside.frontier.queue.entries c.self.invariant.formed c.self.invariant.live c.self.invariant.each)
+    (candidates_ranked g.R.Rank.KEYS g.R.Rank.key c.self.inside.tree.now c.self.inside.frontier.links.entries c.self.inside.frontier.queue.entries c.self.invariant.0.formed c.self.invariant.0.live c.self.invariant.0.each)

@@ -15,7 +15,7 @@ pub returns-in_err-queue-clause-cost : goal.returns-in_err-queue-clause-cost
 returns-in_err-queue-clause-cost g c = three_of_sixteen c.args.steps.now c.first_queue.new.steps (length c.args.tree.now) (row_count c.args.tree.now) c.first_queue.ensures.cost
 
 pub invariant_of-result : goal.invariant_of-result
-invariant_of-result g c = (c.in_ok-queue.ensures.part c.new-links.result.entries).0
+invariant_of-result g c = ((c.in_ok-queue.ensures.part c.new-links.result.entries).0, c.child_places.ensures)
 
 pub returns-clause-ranking : goal.returns-clause-ranking
 returns-clause-ranking g c =

@@ -23,29 +23,32 @@ returns-in_default-clause-end g c =
 pub prefix-chosen-requires-clause-count : goal.prefix-chosen-requires-clause-count
 prefix-chosen-requires-clause-count g c =
     let entry = top_entry g.R.Rank.KEYS g.R.Rank.key c.self.inside.tree.now c.self.inside.frontier.links.entries c.make_room.new.self.links.entries c.self.inside.frontier.queue.entries c.make_room.new.self.queue.entries c.self.inside.calls _ _
-    c.make_room.ensures.links c.make_room.ensures.entries c.self.invariant (c.in-Some.ensures.variant.0 refl) c.in-Some.ensures.top in
-    omega (arith, entry.position, c.self.invariant.formed.shaped.few_nodes)
+    c.make_room.ensures.links c.make_room.ensures.entries c.self.invariant.0 (c.in-Some.ensures.variant.0 refl) c.in-Some.ensures.top in
+    omega (arith, entry.position, c.self.invariant.0.formed.shaped.few_nodes)
 
 pub prefix-chosen-requires-clause-chained : goal.prefix-chosen-requires-clause-chained
 prefix-chosen-requires-clause-chained g c = (top_entry g.R.Rank.KEYS g.R.Rank.key c.self.inside.tree.now c.self.inside.frontier.links.entries c.make_room.new.self.links.entries c.self.inside.frontier.queue.entries c.make_room.new.self.queue.entries c.self.inside.calls _ _
-    c.make_room.ensures.links c.make_room.ensures.entries c.self.invariant (c.in-Some.ensures.variant.0 refl) c.in-Some.ensures.top).chained
+    c.make_room.ensures.links c.make_room.ensures.entries c.self.invariant.0 (c.in-Some.ensures.variant.0 refl) c.in-Some.ensures.top).chained
 
 pub divide-requires-clause-at : goal.divide-requires-clause-at
 divide-requires-clause-at g c =
     let long : length c.prefix-chosen.result ≡ 16 = search rules in
-    starts_at g.R.Rank.KEYS g.R.Rank.key c.self.inside.tree.now c.make_room.new.self.links.entries _ _ c.prefix-chosen.result c.self.invariant.formed (c.self.invariant.live (c.in-Some.ensures.variant.0 refl))
+    starts_at g.R.Rank.KEYS g.R.Rank.key c.self.inside.tree.now c.make_room.new.self.links.entries _ _ c.prefix-chosen.result c.self.invariant.0.formed (c.self.invariant.0.live (c.in-Some.ensures.variant.0 refl))
     (top_entry g.R.Rank.KEYS g.R.Rank.key c.self.inside.tree.now c.self.inside.frontier.links.entries c.make_room.new.self.links.entries c.self.inside.frontier.queue.entries c.make_room.new.self.queue.entries c.self.inside.calls _ _
-    c.make_room.ensures.links c.make_room.ensures.entries c.self.invariant (c.in-Some.ensures.variant.0 refl) c.in-Some.ensures.top)
+    c.make_room.ensures.links c.make_room.ensures.entries c.self.invariant.0 (c.in-Some.ensures.variant.0 refl) c.in-Some.ensures.top)
     long c.prefix-chosen.ensures.rows
 
 pub divide-requires-clause-node : goal.divide-requires-clause-node
 divide-requires-clause-node g c = (top_entry g.R.Rank.KEYS g.R.Rank.key c.self.inside.tree.now c.self.inside.frontier.links.entries c.make_room.new.self.links.entries c.self.inside.frontier.queue.entries c.make_room.new.self.queue.entries c.self.inside.calls _ _
-    c.make_room.ensures.links c.make_room.ensures.entries c.self.invariant (c.in-Some.ensures.variant.0 refl) c.in-Some.ensures.top).position
+    c.make_room.ensures.links c.make_room.ensures.entries c.self.invariant.0 (c.in-Some.ensures.variant.0 refl) c.in-Some.ensures.top).position
 
 pub invariant_of-self-2 : goal.invariant_of-self-2
-invariant_of-self-2 g c = (top_next g.R.Rank.KEYS g.R.Rank.key c.self.inside.tree.now c.self.inside.frontier.links.entries c.make_room.new.self.links.entries c.self.inside.frontier.queue.entries c.make_room.new.self.queue.entries c.self.inside.calls _ _
-    c.make_room.ensures.links c.make_room.ensures.entries c.self.invariant (c.in-Some.ensures.variant.0 refl) c.in-Some.ensures.top
-    c.divide.new.self.links.entries c.divide.new.self.queue.entries c.saturating_add-self-inside.result c.in-Some.ensures.least c.divide.ensures.held c.divide.ensures.entries c.in-Some.ensures.limit c.divide.ensures.length c.saturating_add-self-inside.ensures).1
+invariant_of-self-2 g c = (
+  (top_next g.R.Rank.KEYS g.R.Rank.key c.self.inside.tree.now c.self.inside.frontier.links.entries c.make_room.new.self.links.entries c.self.inside.frontier.queue.entries c.make_room.new.self.queue.entries c.self.inside.calls _ _
+      c.make_room.ensures.links c.make_room.ensures.entries c.self.invariant.0 (c.in-Some.ensures.variant.0 refl) c.in-Some.ensures.top
+      c.divide.new.self.links.entries c.divide.new.self.queue.entries c.saturating_add-self-inside.result c.in-Some.ensures.least c.divide.ensures.held c.divide.ensures.entries c.in-Some.ensures.limit c.divide.ensures.length c.saturating_add-self-inside.ensures).1,
+  c.self.invariant.1,
+)
 
 pub returns-clause-found : goal.returns-clause-found
 returns-clause-found g c =
@@ -55,20 +58,20 @@ returns-clause-found g c =
     ap (λ (s : PartState g.row.R.Denot). rest_of g.R.Rank.KEYS g.R.Rank.key s.tree s.candidates) (sym c.self.view_is)
     ∙ answer_found g.R.Rank.KEYS g.R.Rank.key t links c.divide.new.self.links.entries entries c.divide.new.self.queue.entries _ c.row_numbers-rows.result
     (top_next g.R.Rank.KEYS g.R.Rank.key t links c.make_room.new.self.links.entries entries c.make_room.new.self.queue.entries c.self.inside.calls _ _
-    c.make_room.ensures.links c.make_room.ensures.entries c.self.invariant (c.in-Some.ensures.variant.0 refl) c.in-Some.ensures.top
+    c.make_room.ensures.links c.make_room.ensures.entries c.self.invariant.0 (c.in-Some.ensures.variant.0 refl) c.in-Some.ensures.top
     c.divide.new.self.links.entries c.divide.new.self.queue.entries c.saturating_add-self-inside.result c.in-Some.ensures.least c.divide.ensures.held c.divide.ensures.entries c.in-Some.ensures.limit c.divide.ensures.length c.saturating_add-self-inside.ensures).0
     (c.row_numbers-rows.ensures.numbers ∙ ap (λ k. rows_of_key g.R.Rank.KEYS 16 k)
     (top_key g.R.Rank.KEYS g.R.Rank.key t links c.make_room.new.self.links.entries entries c.make_room.new.self.queue.entries c.self.inside.calls _ _
-    c.make_room.ensures.links c.make_room.ensures.entries c.self.invariant (c.in-Some.ensures.variant.0 refl) c.in-Some.ensures.top c.divide.new.chosen c.divide.ensures.best))
+    c.make_room.ensures.links c.make_room.ensures.entries c.self.invariant.0 (c.in-Some.ensures.variant.0 refl) c.in-Some.ensures.top c.divide.new.chosen c.divide.ensures.best))
 
 pub returns-clause-cost : goal.returns-clause-cost
 returns-clause-cost g c =
     let t = c.self.inside.tree.now in
     let entry = top_entry g.R.Rank.KEYS g.R.Rank.key t c.self.inside.frontier.links.entries c.make_room.new.self.links.entries c.self.inside.frontier.queue.entries c.make_room.new.self.queue.entries c.self.inside.calls _ _
-    c.make_room.ensures.links c.make_room.ensures.entries c.self.invariant (c.in-Some.ensures.variant.0 refl) c.in-Some.ensures.top in
-    let few = c.self.invariant.few in
+    c.make_room.ensures.links c.make_room.ensures.entries c.self.invariant.0 (c.in-Some.ensures.variant.0 refl) c.in-Some.ensures.top in
+    let few = c.self.invariant.0.few in
     let same : length c.make_room.new.self.queue.entries ≡ length c.self.inside.frontier.queue.entries = ap (λ (es : List (Entry g.row.R.Denot Candidate)). length es) c.make_room.ensures.entries in
     let all : c.row_numbers-rows.new.steps ≤ c.args.steps.now + most_steps (length t) (row_count t) (group_count t 0) c.self.inside.calls =
     steps_within (length t) (row_count t) (group_count t 0) c.self.inside.calls (length c.make_room.new.self.queue.entries) _ c.args.steps.now c.prefix-chosen.new.steps c.divide.new.steps c.row_numbers-rows.new.steps
-    c.self.invariant.formed.shaped.some_node (c.self.invariant.live (c.in-Some.ensures.variant.0 refl)) (omega (arith, few, same)) (omega (arith, entry.position)) c.prefix-chosen.ensures.cost c.divide.ensures.cost c.row_numbers-rows.ensures.cost in
+    c.self.invariant.0.formed.shaped.some_node (c.self.invariant.0.live (c.in-Some.ensures.variant.0 refl)) (omega (arith, few, same)) (omega (arith, entry.position)) c.prefix-chosen.ensures.cost c.divide.ensures.cost c.row_numbers-rows.ensures.cost in
     subst (λ (s : PartState g.row.R.Denot). c.row_numbers-rows.new.steps ≤ c.args.steps.now + most_steps (length s.tree) (row_count s.tree) (group_count s.tree 0) s.calls) c.self.view_is all
