@@ -26,7 +26,7 @@ module _ {R T : Type 0} (d : ℕ) (key : R → KeyOf d 16) (at : T → Pair) (be
   heads_more r i [] e s p k h = let same : i ≡ r = omega arith in (subst (λ z. at e.tag ≡ record { left = z; right = 0 }) same p, subst (λ z. key e.rank ≡ best_at z) same k, tt)
   heads_more r i (x ∷ es) e s p k h = (h.0, h.1, heads_more (suc r) i es e (omega arith) p k h.2)
 
-  heads_at : (r i j : ℕ) (es : List (Entry R T)) (e : Entry R T) → j ≡ r + i → i < length es → AreHeads d key at best_at r es → key (get_or es i e).rank ≡ best_at j
+  pub heads_at : (r i j : ℕ) (es : List (Entry R T)) (e : Entry R T) → j ≡ r + i → i < length es → AreHeads d key at best_at r es → key (get_or es i e).rank ≡ best_at j
   heads_at r i j [] e s l h = absurd (omega arith)
   heads_at r zero j (x ∷ es) e s l h = let same : r ≡ j = omega arith in subst (λ z. key x.rank ≡ best_at z) same h.1
   heads_at r (suc i) j (x ∷ es) e s l h = heads_at (suc r) i j es e (omega arith) (omega arith) h.2

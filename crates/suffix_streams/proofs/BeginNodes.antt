@@ -7,7 +7,7 @@ use Rattle.std.proofs.lemmas.List.Sorted.{length_permutation}
 use Rattle.stream_store.specs.declared.entry.Linked.{Linked}
 use Rattle.tdp_model.specs.KeyTuple.{KeyOf, key_none}
 use Rattle.tdp_model.specs.TreeProblem.{sum_from}
-use Rattle.tdp_core.specs.TreeData.{NodeData, node_at, parent, members, group_count, group_named, child_count, child_place, rows}
+use Rattle.tdp_core.specs.TreeData.{NodeData, node_at, best, parent, members, group_count, group_named, child_count, child_place, rows}
 use Rattle.tdp_core.specs.WellFormed.{IsFormed}
 use Rattle.tdp_core.proofs.TreeFacts.{member_is_row, group_count_within}
 use Rattle.tdp_core.proofs.Children.{kids_below-most}
@@ -32,6 +32,12 @@ module _ {R : Type 0} (d : ℕ) (key : R → KeyOf d 16) (t : List (NodeData R))
       let some = formed.inhabited q g l lg in
       (row_head d key t formed q (get_or (members t q g) 0 0) _ l (member_is_row d key t formed q g 0 l some) (row_is_ranking d key t formed q (get_or (members t q g) 0 0) l)).1
       ∙ sym (group_head d key t formed q g _ l some (group_is_ranking d key t q g l)).1
+
+  -- that is the best of the member
+  pub first_best : (q g : ℕ) → q < length t → g < group_count t q
+      → best t d key q (get_or (members t q g) 0 0) ≡ get_or (part_list d key t q (get_or (members t q g) 0 0) (child_count t q)) 0 (key_none d 16)
+  first_best q g l lg =
+      sym (row_head d key t formed q (get_or (members t q g) 0 0) _ l (member_is_row d key t formed q g 0 l (formed.inhabited q g l lg)) (row_is_ranking d key t formed q (get_or (members t q g) 0 0) l)).1
 
 module _ {R : Type 0} (d : ℕ) (key : R → KeyOf d 16) (t : List (NodeData R)) where
   pub from_none : (nodes : List (NodeLists R)) → length nodes ≡ length t → ((v : ℕ) → v < length t → IsEmptyNode t v (lists_of nodes v)) → IsBegunFrom d key t [] nodes (length t)

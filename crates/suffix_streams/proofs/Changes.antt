@@ -9,7 +9,7 @@ use Rattle.suffix_streams.specs.declared.stream.Found.{Found}
 use Rattle.suffix_streams.specs.ProductData.{ProductData}
 use Rattle.suffix_streams.specs.NodeLists.{NodeLists, product_at, stream_at, known_of, with_product}
 use Rattle.suffix_streams.specs.StreamsData.{lists_of, products_of, product_of, stream_of, part_known, row_known, IsProductOf, IsStreams}
-use Rattle.suffix_streams.proofs.Stores.{set_length}
+use Rattle.suffix_streams.proofs.Stores.{set_length, row_inside}
 use Rattle.suffix_streams.proofs.Kept.{held_itself, stream_stays, product_stays}
 
 module _ {R : Type 0} where
@@ -68,7 +68,7 @@ module _ {R : Type 0} (d : ℕ) (key : R → KeyOf d 16) (t : List (NodeData R))
   in_nodes = omega (arith, h.all_nodes)
 
   in_rows : r < length (lists_of nodes v).products
-  in_rows = omega (arith, h.all_rows v l)
+  in_rows = row_inside (lists_of nodes v).products r c in_row
 
   pub changed_at : lists_of changed v ≡ with_product (lists_of nodes v) r c p
   changed_at = lists_same nodes v (with_product (lists_of nodes v) r c p) in_nodes

@@ -90,7 +90,6 @@ module _ {R : Type 0} (d : ℕ) (key : R → KeyOf d 16) (t : List (NodeData R))
   pub parts_of : (v r c : ℕ) → v < length t → r < rows t v → c < length (products_of nodes v r) → HasParts d key t es nodes v r c
   parts_of v r c l row k = record {
     node = omega (arith, h.all_nodes);
-    row = omega (arith, h.all_rows v l);
     count = omega arith;
     lefts = lefts_of v r c l row (omega arith);
     rights = λ i a n m. let e = entry_key i (child t v c) (group_named t v r c) a n m in (e.1, e.2);
@@ -99,10 +98,9 @@ module _ {R : Type 0} (d : ℕ) (key : R → KeyOf d 16) (t : List (NodeData R))
 
   pub row_of : (v r : ℕ) → v < length t → r < rows t v → HasRow d key t es nodes v r
   row_of v r l row = record {
-    row = omega (arith, h.all_rows v l);
     headed = headed_of v r l row;
     whole = h.whole_rows v r l row;
-    last = lefts_of v r (length (products_of nodes v r)) l row (omega arith);
+    parts = λ c k. (parts_of v r c l row k, h.products v r c l row k);
   }
 
 -- a stream is as long as its owner has entries

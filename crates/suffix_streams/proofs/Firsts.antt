@@ -4,15 +4,17 @@ use Rattle.std.proofs.lemmas.List.Elements.{All-get_or}
 use Rattle.rank_key.specs.Keys.{KeyFits}
 use Rattle.take2_heap.specs.declared.entry.Entry.{Entry}
 use Rattle.tdp_core.specs.declared.ranked.Answer.{Answer}
-use Rattle.tdp_core.specs.Seen.{rows_of_key}
 use Rattle.tdp_core.specs.TreeData.{NodeData, rows, rank, child_count, group_named}
 use Rattle.tdp_core.specs.WellFormed.{IsFormed, IsTieFreeTree}
 use Rattle.tdp_model.specs.KeyTuple.{KeyOf, key_add, key_none}
 use Rattle.tdp_model.specs.Product.{Pair}
+use Rattle.stream_store.specs.declared.entry.Linked.{Linked}
+use Rattle.suffix_streams.specs.declared.cell.Cell.{Cell}
+use Rattle.suffix_streams.specs.declared.stream.Found.{Found}
 use Rattle.suffix_streams.specs.NodeLists.{NodeLists}
 use Rattle.suffix_streams.specs.Rankings.{child, part_list, group_list}
-use Rattle.suffix_streams.specs.Frontiers.{HasRows, IsPrefix, IsFrontier}
-use Rattle.suffix_streams.specs.StreamsData.{product_of, part_known, AreLefts}
+use Rattle.suffix_streams.specs.Frontiers.{HasRows, IsPrefix, AreFirst, IsFrontier}
+use Rattle.suffix_streams.specs.StreamsData.{place_of, product_of, part_known, AreLefts, HasParts, IsCell}
 use Rattle.suffix_streams.proofs.Rankings.{kid, named_in, own_some, own_first, group_some, part_ascends, group_ascends, sums_begin, sum_fits}
 use Rattle.suffix_streams.proofs.Growth.{frontier_begins}
 use Rattle.suffix_streams.proofs.Stores.{map_at}
@@ -32,16 +34,24 @@ prefix_at d key xs ks i x p l = (
   All-get_or (HasRows d key) xs i x l p.3,
 )
 
-pub lefts_at : {R : Type 0} (d : ℕ) (key : R → KeyOf d 16) (t : List (NodeData R)) (nodes : List (NodeLists R)) (v r c b place : ℕ) (x : Answer R) → c ≡ suc b → AreLefts d key t nodes v r c
-    → place < part_known nodes v r c
-    → (place < length (product_of nodes v r b).found) × (key (get_or (product_of nodes v r b).found place x).rank ≡ get_or (part_list d key t v r c) place (key_none d 16)) × HasRows d key (get_or (product_of nodes v r b).found place x)
+-- the same by the keys alone
+pub first_at : {R T : Type 0} (d : ℕ) (key : R → KeyOf d 16) (xs : List (Entry R T)) (ks : List (KeyOf d 16)) (i : ℕ) (x : Entry R T) → AreFirst d key xs ks → i < length xs → key (get_or xs i x).rank ≡ get_or ks i (key_none d 16)
+first_at d key xs ks i x p l = sym (map_at (λ e. key e.rank) xs i x (key_none d 16) l) ∙ ap (λ z. get_or z i (key_none d 16)) p.2 ∙ taken_at ks (length xs) i (key_none d 16) l
+
+pub lefts_at : {R : Type 0} (d : ℕ) (key : R → KeyOf d 16) (t : List (NodeData R)) (nodes : List (NodeLists R)) (v r c b place : ℕ) (x : Entry R Cell) → c ≡ suc b → AreLefts d key t nodes v r c
+    → place < part_known nodes v r c → (place < length (product_of nodes v r b).found) × (key (get_or (product_of nodes v r b).found place x).rank ≡ get_or (part_list d key t v r c) place (key_none d 16))
 lefts_at d key t nodes v r zero b place x e h l = absurd (omega arith)
 lefts_at {R} d key t nodes v r (suc c) b place x e h l =
     let same : c ≡ b = omega arith in
-    let at : (key (get_or (product_of nodes v r c).found place x).rank ≡ get_or (part_list d key t v r (suc c)) place (key_none d 16)) × HasRows d key (get_or (product_of nodes v r c).found place x) =
-    prefix_at d key (product_of nodes v r c).found (part_list d key t v r (suc c)) place x h l in
-    subst (λ b. (place < length (product_of nodes v r b).found) × (key (get_or (product_of nodes v r b).found place x).rank ≡ get_or (part_list d key t v r (suc c)) place (key_none d 16)) × HasRows d key (get_or (product_of nodes v r b).found place x)) same
-    (l, at.0, at.1)
+    let at : key (get_or (product_of nodes v r c).found place x).rank ≡ get_or (part_list d key t v r (suc c)) place (key_none d 16) = first_at d key (product_of nodes v r c).found (part_list d key t v r (suc c)) place x h l in
+    subst (λ b. (place < length (product_of nodes v r b).found) × (key (get_or (product_of nodes v r b).found place x).rank ≡ get_or (part_list d key t v r (suc c)) place (key_none d 16))) same (l, at)
+
+-- the rank of a solution that is known
+pub known_key : {R : Type 0} (d : ℕ) (key : R → KeyOf d 16) (t : List (NodeData R)) (nodes : List (NodeLists R)) (v r c b place : ℕ) (x : R) → c ≡ suc b → AreLefts d key t nodes v r c → place < part_known nodes v r c
+    → ((a : Entry R Cell) → x ≡ (get_or (product_of nodes v r b).found place a).rank) → key x ≡ get_or (part_list d key t v r c) place (key_none d 16)
+known_key {R} d key t nodes v r c b place x e h l at =
+    let a : Entry R Cell = record { rank = x; tag = record { left = 0; right = 0 } } in
+    ap key (at a) ∙ (lefts_at d key t nodes v r c b place a e h l).1
 
 module _ {R : Type 0} (d : ℕ) (key : R → KeyOf d 16) (t : List (NodeData R)) (formed : IsFormed d key t) (apart : IsTieFreeTree t) where
   -- the first sum is the sum of the firsts
@@ -50,12 +60,11 @@ module _ {R : Type 0} (d : ℕ) (key : R → KeyOf d 16) (t : List (NodeData R))
       × (get_or (part_list d key t v r (suc c)) 0 (key_none d 16) ≡ key_add d 16 (get_or (part_list d key t v r c) 0 (key_none d 16)) (get_or (group_list d key t (child t v c) (group_named t v r c)) 0 (key_none d 16)))
   first_sum v r c l row h some =
       let k : KeyOf d 16 = key_add d 16 (get_or (part_list d key t v r c) 0 (key_none d 16)) (get_or (group_list d key t (child t v c) (group_named t v r c)) 0 (key_none d 16)) in
-      let a : Answer (KeyOf d 16) = record { rows = rows_of_key d 16 k; rank = k } in
       let e : Entry (KeyOf d 16) Pair = record { rank = k; tag = record { left = 0; right = 0 } } in
       let f : (get_or (part_list d key t v r (suc c)) 0 (key_none d 16) ≡ k)
-      × IsFrontier d (λ (z : KeyOf d 16). z) (λ (p : Pair). p) (part_list d key t v r c) (group_list d key t (child t v c) (group_named t v r c)) (part_list d key t v r (suc c)) (a ∷ []) (e ∷ []) =
+      × IsFrontier d (λ (z : KeyOf d 16). z) (λ (p : Pair). p) (part_list d key t v r c) (group_list d key t (child t v c) (group_named t v r c)) (part_list d key t v r (suc c)) (e ∷ []) (e ∷ []) =
       frontier_begins d (λ (z : KeyOf d 16). z) (part_list d key t v r c) (group_list d key t (child t v c) (group_named t v r c)) (part_list d key t v r (suc c)) (part_ascends d key t v r c) (group_ascends d key t (child t v c) (group_named t v r c)) (λ (p : Pair). p)
-      a e some (group_some d key t formed (child t v c) (group_named t v r c) (kid d key t formed v c h).within (named_in d key t formed v r c row h)) refl refl refl refl (sums_begin d key t formed apart v r c l h) in
+      e some (group_some d key t formed (child t v c) (group_named t v r c) (kid d key t formed v c h).within (named_in d key t formed v r c row h)) refl refl (sums_begin d key t formed apart v r c l h) in
       (omega (arith, f.1.prefix.1), f.0)
 
   pub part_some : (v r c : ℕ) → v < length t → r < rows t v → c ≤ child_count t v → 0 < length (part_list d key t v r c)
@@ -87,3 +96,13 @@ module _ {R : Type 0} (d : ℕ) (key : R → KeyOf d 16) (t : List (NodeData R))
   pub known_within : (nodes : List (NodeLists R)) (v r c place : ℕ) → v < length t → AreLefts d key t nodes v r c → place < part_known nodes v r c → place < length (part_list d key t v r c)
   known_within nodes v r zero place l h p = omega (arith, own_some d key t formed v r l)
   known_within nodes v r (suc c) place l h p = omega (arith, h.1)
+
+-- the sum of a cell fits, where x and y are the keys of its parts
+pub cell_fits : {R : Type 0} (d : ℕ) (key : R → KeyOf d 16) (t : List (NodeData R)) → IsFormed d key t → (es : List (Linked (Found R))) (nodes : List (NodeLists R)) (v r c : ℕ) (cell : Cell) → v < length t → HasParts d key t es nodes v r c
+    → IsCell d key t es nodes v r c cell → (x y : KeyOf d 16) → x ≡ get_or (part_list d key t v r c) cell.left (key_none d 16)
+    → y ≡ get_or (group_list d key t (child t v c) (group_named t v r c)) (place_of es cell.right) (key_none d 16) → KeyFits d (key_add d 16 x y)
+cell_fits {R} d key t formed es nodes v r c cell l parts known x y x_is y_is =
+    let right = parts.rights cell.right known.right known.node known.group in
+    subst (λ (z : KeyOf d 16). KeyFits d (key_add d 16 z y)) (sym x_is)
+    (subst (λ (z : KeyOf d 16). KeyFits d (key_add d 16 (get_or (part_list d key t v r c) cell.left (key_none d 16)) z)) (sym y_is)
+    (parts.fits cell.left (place_of es cell.right) (known_within d key t formed nodes v r c cell.left l parts.lefts known.left) right.0))

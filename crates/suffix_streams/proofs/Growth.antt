@@ -2,7 +2,7 @@
 use Rattle.std.proofs.Common.{◌≡◌, ℕ, suc, ◌<◌, Option, None, List, [], ◌∷◌, ◌++◌, length, take, drop, get_or, refl, sym, ap, ◌∙◌, subst, inr, arith}
 use Rattle.std.specs.List.{All}
 use Rattle.std.specs.List.Sorted.{IsPermutation}
-use Rattle.std.proofs.lemmas.List.Elements.{All-nil, All-cons, All-head, All-tail}
+use Rattle.std.proofs.lemmas.List.Elements.{All-nil, All-cons, All-head, All-tail, All-get_or}
 use Rattle.take2_heap.specs.declared.entry.Entry.{Entry}
 use Rattle.take2_heap.specs.Order.{IsLeast}
 use Rattle.tdp_core.specs.declared.ranked.Answer.{Answer}
@@ -17,8 +17,8 @@ use Rattle.stream_model.specs.Ahead.{IsAhead}
 use Rattle.stream_model.specs.Held.{IsHeld, places, InProduct, InRuns}
 use Rattle.stream_model.proofs.Held.{MaybeHolds}
 use Rattle.stream_model.proofs.Steps.{product_passes, product_shows, product_done, group_passes, group_shows, group_done, IsDown, IsAcross, IsNext}
-use Rattle.suffix_streams.specs.Frontiers.{HasRows, IsFrontier, IsMerge}
-use Rattle.suffix_streams.proofs.State.{prefix_more, count_more}
+use Rattle.suffix_streams.specs.Frontiers.{IsFrontier, IsMerge}
+use Rattle.suffix_streams.proofs.State.{prefix_more, first_more, all_more, count_more}
 
 one_taken : {K : Type 0} (ks : List K) (d : K) → 0 < length ks → get_or ks 0 d ∷ [] ≡ take 1 ks
 one_taken [] d l = absurd (omega arith)
@@ -26,7 +26,7 @@ one_taken (k ∷ ks) d l = refl
 
 module _ {R T : Type 0} (d : ℕ) (key : R → KeyOf d 16) (xs ys zs : List (KeyOf d 16)) (ax : IsAscending (key_below d 16) xs) (ay : IsAscending (key_below d 16) ys) (at : T → Pair) where
   -- the last solution is passed, and what follows it stands in the frontier
-  passed_on : (found : List (Answer R)) (old new : List (Entry R T)) (a b : Option (Entry R T)) (top : Entry R T) → IsFrontier d key at xs ys zs found old → 0 < length old → top ≡ get_or old 0 top → IsLeast d key top old
+  passed_on : (found old new : List (Entry R T)) (a b : Option (Entry R T)) (top : Entry R T) → IsFrontier d key at xs ys zs found old → 0 < length old → top ≡ get_or old 0 top → IsLeast d key top old
       → IsPermutation (offers a b old) (top ∷ new) → MaybeHolds (IsHeld d key (pair_key (key_add d 16) (key_none d 16) xs ys) (InProduct d xs ys) at) a
       → MaybeHolds (IsHeld d key (pair_key (key_add d 16) (key_none d 16) xs ys) (InProduct d xs ys) at) b
       → InProduct d xs ys (at top.tag) → IsDown d key xs ys at (at top.tag) a → IsAcross d key xs ys at (at top.tag) b
@@ -36,14 +36,14 @@ module _ {R T : Type 0} (d : ℕ) (key : R → KeyOf d 16) (xs ys zs : List (Key
       product_passes d key xs ys at ax ay zs (length found) a b top old new f.held some is_top least moved ha hb inside da ab f.ahead
 
   -- One more solution is found: the new top's.
-  pub frontier_grows : (found : List (Answer R)) (old new : List (Entry R T)) (a b : Option (Entry R T)) (top next : Entry R T) (answer : Answer R) → IsFrontier d key at xs ys zs found old
+  pub frontier_grows : (found old new : List (Entry R T)) (a b : Option (Entry R T)) (top next : Entry R T) → IsFrontier d key at xs ys zs found old
       → 0 < length old → top ≡ get_or old 0 top → IsLeast d key top old
       → IsPermutation (offers a b old) (top ∷ new) → MaybeHolds (IsHeld d key (pair_key (key_add d 16) (key_none d 16) xs ys) (InProduct d xs ys) at) a
       → MaybeHolds (IsHeld d key (pair_key (key_add d 16) (key_none d 16) xs ys) (InProduct d xs ys) at) b
       → InProduct d xs ys (at top.tag) → IsDown d key xs ys at (at top.tag) a → IsAcross d key xs ys at (at top.tag) b
-      → 0 < length new → next ≡ get_or new 0 next → IsLeast d key next new → key answer.rank ≡ key next.rank → answer.rows ≡ rows_of_key d 16 (key answer.rank)
-      → (length found < length zs) × IsFrontier d key at xs ys zs (found ++ (answer ∷ [])) new
-  frontier_grows found old new a b top next answer f some is_top least moved ha hb inside da ab more is_next next_least rank rows =
+      → 0 < length new → next ≡ get_or new 0 next → IsLeast d key next new
+      → (length found < length zs) × IsFrontier d key at xs ys zs (found ++ (next ∷ [])) new
+  frontier_grows found old new a b top next f some is_top least moved ha hb inside da ab more is_next next_least =
       let p : All (IsHeld d key (pair_key (key_add d 16) (key_none d 16) xs ys) (InProduct d xs ys) at) new
       × Remains Pair (KeyOf d 16) (key_below d 16) (pair_key (key_add d 16) (key_none d 16) xs ys) (total (stands_for (length xs) (length ys)) (places at new)) (drop (length found) zs) =
       passed_on found old new a b top f some is_top least moved ha hb inside da ab in
@@ -52,14 +52,16 @@ module _ {R T : Type 0} (d : ℕ) (key : R → KeyOf d 16) (xs ys zs : List (Key
       product_shows d key xs ys at ax ay zs (length found) next new p.0 more is_next next_least p.1 in (
         s.0,
         record {
-          prefix = prefix_more d key found answer zs (key_none d 16) f.prefix s.0 (s.1 ∙ sym rank) rows;
+          prefix = first_more d key found next zs (key_none d 16) f.prefix s.0 s.1;
+          kept = all_more (IsHeld d key (pair_key (key_add d 16) (key_none d 16) xs ys) (InProduct d xs ys) at) found next f.kept
+              (subst (IsHeld d key (pair_key (key_add d 16) (key_none d 16) xs ys) (InProduct d xs ys) at) (sym is_next) (All-get_or (IsHeld d key (pair_key (key_add d 16) (key_none d 16) xs ys) (InProduct d xs ys) at) new 0 next more p.0));
           held = p.0;
-          ahead = subst (λ n. IsAhead Pair (KeyOf d 16) (key_below d 16) (pair_key (key_add d 16) (key_none d 16) xs ys) (stands_for (length xs) (length ys)) (InProduct d xs ys) zs n (places at new)) (sym (count_more found answer)) s.2;
+          ahead = subst (λ n. IsAhead Pair (KeyOf d 16) (key_below d 16) (pair_key (key_add d 16) (key_none d 16) xs ys) (stands_for (length xs) (length ys)) (InProduct d xs ys) zs n (places at new)) (sym (count_more found next)) s.2;
         },
       )
 
   -- No further solution is there.
-  pub frontier_ends : (found : List (Answer R)) (old : List (Entry R T)) (a b : Option (Entry R T)) (top : Entry R T) → IsFrontier d key at xs ys zs found old
+  pub frontier_ends : (found old : List (Entry R T)) (a b : Option (Entry R T)) (top : Entry R T) → IsFrontier d key at xs ys zs found old
       → 0 < length old → top ≡ get_or old 0 top → IsLeast d key top old
       → IsPermutation (offers a b old) (top ∷ []) → MaybeHolds (IsHeld d key (pair_key (key_add d 16) (key_none d 16) xs ys) (InProduct d xs ys) at) a
       → MaybeHolds (IsHeld d key (pair_key (key_add d 16) (key_none d 16) xs ys) (InProduct d xs ys) at) b
@@ -71,14 +73,14 @@ module _ {R T : Type 0} (d : ℕ) (key : R → KeyOf d 16) (xs ys zs : List (Key
       passed_on found old [] a b top f some is_top least moved ha hb inside da ab in
       let s : IsAhead Pair (KeyOf d 16) (key_below d 16) (pair_key (key_add d 16) (key_none d 16) xs ys) (stands_for (length xs) (length ys)) (InProduct d xs ys) zs (length found) [] × (length found ≡ length zs) =
       product_done d key xs ys at ax ay zs (length found) f.prefix.0 f.prefix.1 p.1 in
-      (s.1, record { prefix = f.prefix; held = p.0; ahead = s.0 })
+      (s.1, record { prefix = f.prefix; kept = f.kept; held = p.0; ahead = s.0 })
 
   -- A product begins with the sum of the two heads.
-  pub frontier_begins : (answer : Answer R) (entry : Entry R T) → 0 < length xs → 0 < length ys → at entry.tag ≡ record { left = 0; right = 0 } → key answer.rank ≡ key entry.rank
-      → key entry.rank ≡ key_add d 16 (get_or xs 0 (key_none d 16)) (get_or ys 0 (key_none d 16)) → HasRows d key answer
+  pub frontier_begins : (entry : Entry R T) → 0 < length xs → 0 < length ys → at entry.tag ≡ record { left = 0; right = 0 }
+      → key entry.rank ≡ key_add d 16 (get_or xs 0 (key_none d 16)) (get_or ys 0 (key_none d 16))
       → Remains Pair (KeyOf d 16) (key_below d 16) (pair_key (key_add d 16) (key_none d 16) xs ys) (total (stands_for (length xs) (length ys)) ((record { left = 0; right = 0 }) ∷ [])) zs
-      → (get_or zs 0 (key_none d 16) ≡ key entry.rank) × IsFrontier d key at xs ys zs (answer ∷ []) (entry ∷ [])
-  frontier_begins answer entry sx sy place same rank rows q =
+      → (get_or zs 0 (key_none d 16) ≡ key entry.rank) × IsFrontier d key at xs ys zs (entry ∷ []) (entry ∷ [])
+  frontier_begins entry sx sy place rank q =
       let held : All (IsHeld d key (pair_key (key_add d 16) (key_none d 16) xs ys) (InProduct d xs ys) at) (entry ∷ []) =
       All-cons (IsHeld d key (pair_key (key_add d 16) (key_none d 16) xs ys) (InProduct d xs ys) at) entry [] (subst (λ p. InProduct d xs ys p) (sym place) (sx, sy), rank ∙ ap (λ p. pair_key (key_add d 16) (key_none d 16) xs ys p) (sym place)) (All-nil (IsHeld d key (pair_key (key_add d 16) (key_none d 16) xs ys) (InProduct d xs ys) at)) in
       let s : (0 < length zs) × (get_or zs 0 (key_none d 16) ≡ key entry.rank)
@@ -87,7 +89,8 @@ module _ {R T : Type 0} (d : ℕ) (key : R → KeyOf d 16) (xs ys zs : List (Key
       (subst (λ p. Remains Pair (KeyOf d 16) (key_below d 16) (pair_key (key_add d 16) (key_none d 16) xs ys) (total (stands_for (length xs) (length ys)) (p ∷ [])) zs) (sym place) q) in (
         s.1,
         record {
-          prefix = (omega arith, s.0, ap (λ k. k ∷ []) (same ∙ sym s.1) ∙ one_taken zs (key_none d 16) s.0, All-cons (HasRows d key) answer [] rows (All-nil (HasRows d key)));
+          prefix = (omega arith, s.0, ap (λ k. k ∷ []) (sym s.1) ∙ one_taken zs (key_none d 16) s.0);
+          kept = held;
           held = held;
           ahead = s.2;
         },

@@ -47,28 +47,41 @@ module _ {R : Type 0} (d : ℕ) (key : R → KeyOf d 16) (t : List (NodeData R))
   }
 
   -- a frontier whose entries stay
-  pub frontier_stays : (v c g : ℕ) (xs ys zs : List (KeyOf d 16)) (found : List (Answer R)) (frontier : List (Entry R Cell)) → All (λ (e : Entry R Cell). e.tag.right < length es) frontier
+  pub frontier_stays : (v c g : ℕ) (xs ys zs : List (KeyOf d 16)) (found frontier : List (Entry R Cell)) → All (λ (e : Entry R Cell). e.tag.right < length es) found → All (λ (e : Entry R Cell). e.tag.right < length es) frontier
       → IsFrontier d key (pair_of es) xs ys zs found frontier → IsFrontier d key (pair_of es') xs ys zs found frontier
-  frontier_stays v c g xs ys zs found frontier known f =
+  frontier_stays v c g xs ys zs found frontier found_known known f =
       let same : (e : Entry R Cell) → e.tag.right < length es → pair_of es e.tag ≡ pair_of es' e.tag =
       λ e h. ap (λ (p : ℕ). (let z : Pair = record { left = e.tag.left; right = p } in z)) (sym (held.places e.tag.right h)) in
       record {
         prefix = f.prefix;
+        kept = held_kept d key (pair_key (key_add d 16) (key_none d 16) xs ys) (InProduct d xs ys) (pair_of es) (pair_of es') (λ (e : Entry R Cell). e.tag.right < length es) same found found_known f.kept;
         held = held_kept d key (pair_key (key_add d 16) (key_none d 16) xs ys) (InProduct d xs ys) (pair_of es) (pair_of es') (λ (e : Entry R Cell). e.tag.right < length es) same frontier known f.held;
         ahead = subst (λ ps. IsAhead Pair (KeyOf d 16) (key_below d 16) (pair_key (key_add d 16) (key_none d 16) xs ys) (stands_for (length xs) (length ys)) (InProduct d xs ys) zs (length found) ps)
             (places_kept d key (pair_key (key_add d 16) (key_none d 16) xs ys) (InProduct d xs ys) (pair_of es) (pair_of es') (λ (e : Entry R Cell). e.tag.right < length es) same frontier known) f.ahead;
       }
 
+  module _ (v r c : ℕ) (rises : part_known nodes v r c ≤ part_known nodes' v r c) where
+    abbrev Known : Entry R Cell → Type 0
+    Known e = (e.tag.left < part_known nodes v r c) × (e.tag.right < length es) × (node_of es e.tag.right ≡ child t v c) × (group_of es e.tag.right ≡ group_named t v r c)
+
+    abbrev KnownLater : Entry R Cell → Type 0
+    KnownLater e = (e.tag.left < part_known nodes' v r c) × (e.tag.right < length es') × (node_of es' e.tag.right ≡ child t v c) × (group_of es' e.tag.right ≡ group_named t v r c)
+
+    cells_stay : (xs ys : List (Entry R Cell)) → ys ≡ xs → All Known xs → All KnownLater ys
+    cells_stay xs ys same a =
+        subst (All KnownLater) (sym same) (All-weaker Known KnownLater (λ e h. (omega (arith, h.0, rises), omega (arith, h.1, held.longer), held.nodes e.tag.right h.1 ∙ h.2, held.groups e.tag.right h.1 ∙ h.3)) xs a)
+
+    rights_in : (xs : List (Entry R Cell)) → All Known xs → All (λ (e : Entry R Cell). e.tag.right < length es) xs
+    rights_in xs a = All-weaker Known (λ (e : Entry R Cell). e.tag.right < length es) (λ e h. h.1) xs a
+
   pub product_stays : (v r c : ℕ) → (product_of nodes' v r c).found ≡ (product_of nodes v r c).found → (product_of nodes' v r c).frontier ≡ (product_of nodes v r c).frontier → part_known nodes v r c ≤ part_known nodes' v r c
       → IsProductOf d key t es nodes v r c → IsProductOf d key t es' nodes' v r c
   product_stays v r c found frontier rises p = record {
     few = subst (λ (z : List (Entry R Cell)). length z < 2 ^ 64) (sym frontier) p.few;
-    known = subst (λ (z : List (Entry R Cell)). All (λ (e : Entry R Cell). (e.tag.left < part_known nodes' v r c) × (e.tag.right < length es') × (node_of es' e.tag.right ≡ child t v c) × (group_of es' e.tag.right ≡ group_named t v r c)) z) (sym frontier)
-        (All-weaker (λ (e : Entry R Cell). (e.tag.left < part_known nodes v r c) × (e.tag.right < length es) × (node_of es e.tag.right ≡ child t v c) × (group_of es e.tag.right ≡ group_named t v r c))
-        (λ (e : Entry R Cell). (e.tag.left < part_known nodes' v r c) × (e.tag.right < length es') × (node_of es' e.tag.right ≡ child t v c) × (group_of es' e.tag.right ≡ group_named t v r c))
-        (λ e h. (omega (arith, h.0, rises), omega (arith, h.1, held.longer), held.nodes e.tag.right h.1 ∙ h.2, held.groups e.tag.right h.1 ∙ h.3)) (product_of nodes v r c).frontier p.known);
+    known = cells_stay v r c rises (product_of nodes v r c).frontier (product_of nodes' v r c).frontier frontier p.known;
+    found_known = cells_stay v r c rises (product_of nodes v r c).found (product_of nodes' v r c).found found p.found_known;
     sums = subst (λ (z : List (Entry R Cell)). IsFrontier d key (pair_of es') (part_list d key t v r c) (group_list d key t (child t v c) (group_named t v r c)) (part_list d key t v r (suc c)) (product_of nodes' v r c).found z) (sym frontier)
-        (subst (λ (z : List (Answer R)). IsFrontier d key (pair_of es') (part_list d key t v r c) (group_list d key t (child t v c) (group_named t v r c)) (part_list d key t v r (suc c)) z (product_of nodes v r c).frontier) (sym found)
+        (subst (λ (z : List (Entry R Cell)). IsFrontier d key (pair_of es') (part_list d key t v r c) (group_list d key t (child t v c) (group_named t v r c)) (part_list d key t v r (suc c)) z (product_of nodes v r c).frontier) (sym found)
         (frontier_stays v c (group_named t v r c) (part_list d key t v r c) (group_list d key t (child t v c) (group_named t v r c)) (part_list d key t v r (suc c)) (product_of nodes v r c).found (product_of nodes v r c).frontier
-        (All-weaker (λ (e : Entry R Cell). (e.tag.left < part_known nodes v r c) × (e.tag.right < length es) × (node_of es e.tag.right ≡ child t v c) × (group_of es e.tag.right ≡ group_named t v r c)) (λ (e : Entry R Cell). e.tag.right < length es) (λ e h. h.1) (product_of nodes v r c).frontier p.known) p.sums));
+        (rights_in v r c rises (product_of nodes v r c).found p.found_known) (rights_in v r c rises (product_of nodes v r c).frontier p.known) p.sums));
   }

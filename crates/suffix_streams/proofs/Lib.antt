@@ -37,3 +37,4 @@ pub mod RowSearch
 pub mod NextCall
 pub mod QueuePass
 pub mod ProductPass
+pub mod PartRows

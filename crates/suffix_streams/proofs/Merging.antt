@@ -19,14 +19,15 @@ use Rattle.stream_model.specs.Held.{IsHeld, InRuns}
 use Rattle.stream_model.specs.Links.{IsLinked}
 use Rattle.stream_model.proofs.Held.{MaybeHolds, held_moved}
 use Rattle.stream_model.proofs.Steps.{IsNext}
+use Rattle.suffix_streams.specs.declared.cell.Cell.{Cell}
 use Rattle.suffix_streams.specs.declared.stream.Source.{Source}
 use Rattle.suffix_streams.specs.declared.stream.Found.{Found}
 use Rattle.suffix_streams.specs.ProductData.{ProductData}
 use Rattle.suffix_streams.specs.StreamData.{StreamData}
 use Rattle.suffix_streams.specs.NodeLists.{NodeLists, stream_at, known_of, with_queue}
 use Rattle.suffix_streams.specs.Rankings.{child, part_list, group_list}
-use Rattle.suffix_streams.specs.Frontiers.{HasRows, IsPrefix, IsMerge}
-use Rattle.suffix_streams.specs.StreamsData.{node_list, group_list_of, next_list, node_of, group_of, place_of, stream, lists_of, products_of, stream_of, part_known, row_known, run_of, HasKey, AreLefts, HasRow, IsStreamOf, IsStreams}
+use Rattle.suffix_streams.specs.Frontiers.{HasRows, AreFirst, IsMerge}
+use Rattle.suffix_streams.specs.StreamsData.{node_list, group_list_of, next_list, node_of, group_of, place_of, stream, lists_of, products_of, stream_of, part_known, row_known, run_of, HasKey, HasParts, IsProductOf, AreLefts, HasRow, IsStreamOf, IsStreams}
 use Rattle.suffix_streams.specs.Growing.{IsReached}
 use Rattle.suffix_streams.proofs.Rankings.{part_ascends}
 use Rattle.suffix_streams.proofs.Stores.{set_length}
@@ -151,12 +152,29 @@ module _ {R : Type 0} (d : ℕ) (key : R → KeyOf d 16) (t : List (NodeData R))
   lefts_same : (r c : ℕ) → AreLefts d key t nodes q r c → AreLefts d key t later q r c
   lefts_same r zero a = tt
   lefts_same r (suc c) a =
-      subst (λ (ps : List (List (ProductData R))). IsPrefix d key (get_or (get_or ps r []) c (record { found = []; frontier = []; room = 0; frontier_room = 0 })).found (part_list d key t q r (suc c))) (sym (queued_products d key t es es nodes h (held_itself es) q g l in_group new q)) a
+      subst (λ (ps : List (List (ProductData R))). AreFirst d key (get_or (get_or ps r []) c (record { found = []; frontier = []; room = 0; frontier_room = 0 })).found (part_list d key t q r (suc c))) (sym (queued_products d key t es es nodes h (held_itself es) q g l in_group new q)) a
+
+  rows_same : (r : ℕ) → length (products_of later q r) ≡ length (products_of nodes q r)
+  rows_same r = ap (λ z. length (get_or z r [])) (queued_products d key t es es nodes h (held_itself es) q g l in_group new q)
+
+  parts_same : (r c : ℕ) → HasParts d key t es nodes q r c → HasParts d key t es later q r c
+  parts_same r c a = record {
+    node = omega (arith, a.node, set_length nodes q (with_queue (lists_of nodes q) g new));
+    count = omega (arith, a.count, rows_same r);
+    lefts = lefts_same r c a.lefts;
+    rights = a.rights;
+    fits = a.fits;
+  }
+
+  product_same : (r c : ℕ) → IsProductOf d key t es nodes q r c → IsProductOf d key t es later q r c
+  product_same r c a =
+      product_stays d key t es es nodes later (held_itself es) q r c (ap (λ (ps : List (List (ProductData R))). (get_or (get_or ps r []) c (record { found = []; frontier = []; room = 0; frontier_room = 0 })).found) (queued_products d key t es es nodes h (held_itself es) q g l in_group new q))
+      (ap (λ (ps : List (List (ProductData R))). (get_or (get_or ps r []) c (record { found = []; frontier = []; room = 0; frontier_room = 0 })).frontier) (queued_products d key t es es nodes h (held_itself es) q g l in_group new q))
+      (omega (arith, queued_known d key t es es nodes h (held_itself es) q g l in_group new q r c)) a
 
   -- what is read of a row after the queue has changed
   pub row_after : (r : ℕ) → HasRow d key t es nodes q r → HasRow d key t es later q r
   row_after r a = record {
-    row = omega (arith, a.row, ap length (queued_products d key t es es nodes h (held_itself es) q g l in_group new q));
     headed = record {
       all_nodes = set_length nodes q (with_queue (lists_of nodes q) g new) ∙ a.headed.all_nodes;
       all_children = ap length (queued_children d key t es es nodes h (held_itself es) q g l in_group new q) ∙ a.headed.all_children;
@@ -167,7 +185,7 @@ module _ {R : Type 0} (d : ℕ) (key : R → KeyOf d 16) (t : List (NodeData R))
     };
     whole = λ some. ap (λ z. length (get_or z r [])) (queued_products d key t es es nodes h (held_itself es) q g l in_group new q)
         ∙ a.whole (omega (arith, some, ap (λ z. length (get_or z r [])) (queued_products d key t es es nodes h (held_itself es) q g l in_group new q)));
-    last = subst (λ c. AreLefts d key t later q r c) (sym (ap (λ z. length (get_or z r [])) (queued_products d key t es es nodes h (held_itself es) q g l in_group new q))) (lefts_same r (length (products_of nodes q r)) a.last);
+    parts = λ c k. (parts_same r c (a.parts c (omega (arith, k, rows_same r))).0, product_same r c (a.parts c (omega (arith, k, rows_same r))).1);
   }
 
 -- what is offered for the member whose solution was passed last: its next one, or there is none
@@ -175,7 +193,7 @@ pub record IsNextOffer {R : Type 0} (n : NodeLists R) (r : ℕ) (next : Source) 
   pub none : offer ≡ None → known_of n r (length (get_or n.products r [])) ≤ next.place
   pub tag : (e : Entry R Source) → offer ≡ Some e → e.tag ≡ next
   pub known : (e : Entry R Source) → offer ≡ Some e → next.place < known_of n r (length (get_or n.products r []))
-  pub rank : (e : Entry R Source) → offer ≡ Some e → (c : ℕ) (x : Answer R) → length (get_or n.products r []) ≡ c + 1 → e.rank ≡ (get_or (get_or (get_or n.products r []) c (record { found = []; frontier = []; room = 0; frontier_room = 0 })).found next.place x).rank
+  pub rank : (e : Entry R Source) → offer ≡ Some e → (c : ℕ) (x : Entry R Cell) → length (get_or n.products r []) ≡ c + 1 → e.rank ≡ (get_or (get_or (get_or n.products r []) c (record { found = []; frontier = []; room = 0; frontier_room = 0 })).found next.place x).rank
 
 module _ {R : Type 0} (d : ℕ) (key : R → KeyOf d 16) (t : List (NodeData R)) (es : List (Linked (Found R))) (nodes : List (NodeLists R)) (h : IsStreams d key t es nodes) (q g : ℕ)
     (l : q < length t) (in_group : g < group_count t q) (r : ℕ) (source : Source) (offer : Option (Entry R Source)) (top : Entry R Source) (new : List (Entry R Source))
@@ -236,7 +254,7 @@ module _ {R : Type 0} (d : ℕ) (key : R → KeyOf d 16) (t : List (NodeData R))
           → key e.rank ≡ get_or (part_list d key t q r (length (products_of nodes q r))) (source.place + 1) (key_none d 16)
       rank_is zero at k e s = absurd (omega (arith, k, ap (λ z. known_of (lists_of nodes q) r z) at))
       rank_is (suc c) at k e s =
-          let a : Answer R = record { rows = []; rank = e.rank } in
+          let a : Entry R Cell = record { rank = e.rank; tag = record { left = 0; right = 0 } } in
           let f = lefts_at d key t nodes q r (length (products_of nodes q r)) c (source.place + 1) a at (lefts_of d key t es nodes h q r (length (products_of nodes q r)) l row_in (omega arith)) k in
           ap key (next.rank e s c a (omega (arith, at))) ∙ f.1
 
@@ -275,14 +293,14 @@ module _ {R : Type 0} (d : ℕ) (key : R → KeyOf d 16) (t : List (NodeData R))
 -- the offer that was made, as it is seen from the lists
 pub next_offer : {R : Type 0} (n m : NodeLists R) (r member place : ℕ) (next : Source) (offer : Option (Entry R Source)) → n ≡ m → next.member ≡ member → next.place ≡ place + 1
     → IfNone offer (known_of m r (length (get_or m.products r [])) ≤ next.place) → IfSome offer (λ e. e.tag ≡ next) → IfSome offer (λ e. next.place < known_of m r (length (get_or m.products r [])))
-    → IfSome offer (λ e. (c : ℕ) (x : Answer R) → length (get_or m.products r []) ≡ c + 1 → e.rank ≡ (get_or (get_or (get_or m.products r []) c (record { found = []; frontier = []; room = 0; frontier_room = 0 })).found next.place x).rank)
+    → IfSome offer (λ e. (c : ℕ) (x : Entry R Cell) → length (get_or m.products r []) ≡ c + 1 → e.rank ≡ (get_or (get_or (get_or m.products r []) c (record { found = []; frontier = []; room = 0; frontier_room = 0 })).found next.place x).rank)
     → IsNextOffer n r (record { member = member; place = place + 1 }) offer
 next_offer {R} n m r member place next offer same em ep none tag known rank =
     let e : next ≡ record { member = member; place = place + 1 } = ap (λ (z : ℕ). (let s : Source = record { member = z; place = next.place } in s)) em ∙ ap (λ (z : ℕ). (let s : Source = record { member = member; place = z } in s)) ep in
     subst (λ z. IsNextOffer n r z offer) e (subst (λ z. IsNextOffer z r next offer) (sym same) (cases offer none tag known rank))
   where
     cases : (o : Option (Entry R Source)) → IfNone o (known_of m r (length (get_or m.products r [])) ≤ next.place) → IfSome o (λ e. e.tag ≡ next) → IfSome o (λ e. next.place < known_of m r (length (get_or m.products r [])))
-        → IfSome o (λ e. (c : ℕ) (x : Answer R) → length (get_or m.products r []) ≡ c + 1 → e.rank ≡ (get_or (get_or (get_or m.products r []) c (record { found = []; frontier = []; room = 0; frontier_room = 0 })).found next.place x).rank)
+        → IfSome o (λ e. (c : ℕ) (x : Entry R Cell) → length (get_or m.products r []) ≡ c + 1 → e.rank ≡ (get_or (get_or (get_or m.products r []) c (record { found = []; frontier = []; room = 0; frontier_room = 0 })).found next.place x).rank)
         → IsNextOffer m r next o
     cases None a b c f = record { none = λ e. a; tag = λ e s. absurd (clash e s); known = λ e s. absurd (clash e s); rank = λ e s. absurd (clash e s) }
       where

@@ -6,7 +6,6 @@ use Rattle.std.proofs.lemmas.List.{get_or-set_same, get_or-set_other}
 use Rattle.std.proofs.lemmas.List.Elements.{All-nil, All-cons}
 use Rattle.stream_store.specs.declared.entry.Linked.{Linked}
 use Rattle.take2_heap.specs.declared.entry.Entry.{Entry}
-use Rattle.tdp_core.specs.declared.ranked.Answer.{Answer}
 use Rattle.tdp_core.specs.TreeData.{NodeData, rows, child_count, group_named}
 use Rattle.tdp_core.specs.WellFormed.{IsTieFreeTree}
 use Rattle.tdp_model.specs.KeyTuple.{KeyOf, key_none}
@@ -17,9 +16,9 @@ use Rattle.suffix_streams.specs.ProductData.{ProductData}
 use Rattle.suffix_streams.specs.NodeLists.{NodeLists}
 use Rattle.suffix_streams.specs.Rankings.{child, part_list, group_list}
 use Rattle.suffix_streams.specs.Frontiers.{IsFrontier}
-use Rattle.suffix_streams.specs.StreamsData.{node_of, group_of, lists_of, products_of, product_of, stream_of, part_known, row_known, pair_of, IsStreamOf, IsProductOf, IsStreams, IsFreshAt, AreFreshTo}
+use Rattle.suffix_streams.specs.StreamsData.{node_of, group_of, place_of, lists_of, products_of, product_of, stream_of, part_known, row_known, pair_of, IsStreamOf, IsProductOf, IsStreams, IsFreshAt, AreFreshTo}
 use Rattle.suffix_streams.proofs.Rankings.{kid, part_ascends, group_ascends, group_some, sums_begin}
-use Rattle.suffix_streams.proofs.Stores.{set_length}
+use Rattle.suffix_streams.proofs.Stores.{set_length, open_all}
 use Rattle.suffix_streams.proofs.Growth.{frontier_begins}
 use Rattle.suffix_streams.proofs.Firsts.{part_some, first_sum}
 use Rattle.suffix_streams.proofs.Entries.{named_stream}
@@ -27,8 +26,33 @@ use Rattle.suffix_streams.proofs.Heads.{lists_at}
 use Rattle.suffix_streams.proofs.Kept.{held_itself, stream_stays, product_stays}
 use Rattle.suffix_streams.proofs.Changes.{lists_same, lists_other}
 
+module _ {R : Type 0} (d : ℕ) (key : R → KeyOf d 16) (t : List (NodeData R)) (es : List (Linked (Found R))) (nodes : List (NodeLists R)) (h : IsStreams d key t es nodes) (v r : ℕ) (l : v < length t) (row : r < rows t v)
+    (n : NodeLists R) (at : n ≡ get_or nodes v n) (count kids : ℕ) (count_is : count ≡ length (get_or n.products r [])) (kids_is : kids ≡ length n.children) where
+  lists : lists_of nodes v ≡ n
+  lists = lists_at nodes v n at (omega (arith, h.all_nodes))
+
+  counted : count ≡ length (products_of nodes v r)
+  counted = count_is ∙ ap (λ z. length (get_or z.products r [])) (sym lists)
+
+  all : kids ≡ child_count t v
+  all = kids_is ∙ ap (λ z. length z.children) (sym lists) ∙ h.all_children v l
+
+  -- a row with fewer products than children has none, and there are children
+  pub row_lacks : count < kids → (length (products_of nodes v r) ≡ 0) × (0 < child_count t v)
+  row_lacks few = elim (cases_lt 0 (length (products_of nodes v r))) [
+    | inl some ↦ absurd (omega (arith, few, counted, all, h.whole_rows v r l row some))
+    | inr none ↦ (omega (arith, none), omega (arith, few, all))
+  ]
+
+  -- and else it has all
+  pub row_whole : kids ≤ count → length (products_of nodes v r) ≡ child_count t v
+  row_whole many = elim (cases_lt 0 (length (products_of nodes v r))) [
+    | inl some ↦ h.whole_rows v r l row some
+    | inr none ↦ omega (arith, many, counted, all, none)
+  ]
+
 module _ {R : Type 0} (d : ℕ) (key : R → KeyOf d 16) (t : List (NodeData R)) (es : List (Linked (Found R))) (nodes : List (NodeLists R)) (h : IsStreams d key t es nodes) (apart : IsTieFreeTree t) (v r : ℕ)
-    (l : v < length t) (row : r < rows t v) (ps : List (ProductData R)) (fresh : AreFreshTo d key t nodes v r (child_count t v) ps) (empty : length (products_of nodes v r) ≡ 0) where
+    (l : v < length t) (row : r < rows t v) (ps : List (ProductData R)) (fresh : AreFreshTo d key t nodes v r (child_count t v) ps) (empty : length (products_of nodes v r) ≡ 0) (kids : 0 < child_count t v) where
   abbrev made : NodeLists R
   made = record (lists_of nodes v) { products = slice_set (lists_of nodes v).products r ps }
 
@@ -42,7 +66,7 @@ module _ {R : Type 0} (d : ℕ) (key : R → KeyOf d 16) (t : List (NodeData R))
   opened_other w n = lists_other nodes v w made n
 
   pub opened_row : products_of opened v r ≡ ps
-  opened_row = ap (λ n. get_or n.products r []) opened_at ∙ get_or-set_same (lists_of nodes v).products r ps [] (omega (arith, h.all_rows v l))
+  opened_row = ap (λ n. get_or n.products r []) opened_at ∙ get_or-set_same (lists_of nodes v).products r ps [] (omega (arith, row, h.all_rows v l, open_all (child_count t v) (rows t v) kids))
 
   other_row : (w s : ℕ) → ((w ≢ v) ⊎ (s ≢ r)) → products_of opened w s ≡ products_of nodes w s
   other_row w s (inl n) = ap (λ z. get_or z.products s []) (opened_other w n)
@@ -98,28 +122,29 @@ module _ {R : Type 0} (d : ℕ) (key : R → KeyOf d 16) (t : List (NodeData R))
     ]
   ]
 
+  abbrev KnownIn : ℕ → Entry R Cell → Type 0
+  KnownIn c x = (x.tag.left < part_known opened v r c) × (x.tag.right < length es) × (node_of es x.tag.right ≡ child t v c) × (group_of es x.tag.right ≡ group_named t v r c)
+
   fresh_product : (c : ℕ) → c < child_count t v → IsProductOf d key t es opened v r c
   fresh_product c k =
       let f : IsFreshAt d key t nodes v r c (get_or ps c (record { found = []; frontier = []; room = 0; frontier_room = 0 })) = fresh.first c (record { found = []; frontier = []; room = 0; frontier_room = 0 }) k in
       let s : IsStreamOf d key t es nodes (child t v c) (group_named t v r c) = h.streams (child t v c) (group_named t v r c) (kid d key t h.tree v c k).within (named_stream d key t es nodes h v r c l row k) in
-      let head : ℕ = (stream_of nodes (child t v c) (group_named t v r c)).head in
-      let e : Entry R Cell = record { rank = f.0.rank; tag = record { left = 0; right = (stream_of nodes (child t v c) (group_named t v r c)).head } } in
-      let found : (product_of opened v r c).found ≡ f.0 ∷ [] = ap (λ p. p.found) (opened_product c) ∙ f.1 in
+      let e : Entry R Cell = f.0 in
+      let found : (product_of opened v r c).found ≡ e ∷ [] = ap (λ p. p.found) (opened_product c) ∙ f.1 in
       let frontier : (product_of opened v r c).frontier ≡ e ∷ [] = ap (λ p. p.frontier) (opened_product c) ∙ f.2 in
-      let g : (get_or (part_list d key t v r (suc c)) 0 (key_none d 16) ≡ key f.0.rank)
-      × IsFrontier d key (pair_of es) (part_list d key t v r c) (group_list d key t (child t v c) (group_named t v r c)) (part_list d key t v r (suc c)) (f.0 ∷ []) (e ∷ []) =
+      let g : (get_or (part_list d key t v r (suc c)) 0 (key_none d 16) ≡ key e.rank)
+      × IsFrontier d key (pair_of es) (part_list d key t v r c) (group_list d key t (child t v c) (group_named t v r c)) (part_list d key t v r (suc c)) (e ∷ []) (e ∷ []) =
       frontier_begins d key (part_list d key t v r c) (group_list d key t (child t v c) (group_named t v r c)) (part_list d key t v r (suc c)) (part_ascends d key t v r c) (group_ascends d key t (child t v c) (group_named t v r c)) (pair_of es)
-      f.0 e (part_some d key t h.tree apart v r c l row (omega arith)) (group_some d key t h.tree (child t v c) (group_named t v r c) (kid d key t h.tree v c k).within (named_stream d key t es nodes h v r c l row k))
-      (ap (λ (p : ℕ). (let z : Pair = record { left = 0; right = p } in z)) s.head_place) refl
-      (f.3 ∙ (first_sum d key t h.tree apart v r c l row k (part_some d key t h.tree apart v r c l row (omega arith))).1) f.4 (sums_begin d key t h.tree apart v r c l k) in
+      e (part_some d key t h.tree apart v r c l row (omega arith)) (group_some d key t h.tree (child t v c) (group_named t v r c) (kid d key t h.tree v c k).within (named_stream d key t es nodes h v r c l row k))
+      (ap (λ (z : Cell). (let p : Pair = record { left = z.left; right = place_of es z.right } in p)) f.3 ∙ ap (λ (p : ℕ). (let z : Pair = record { left = 0; right = p } in z)) s.head_place)
+      (f.4 ∙ (first_sum d key t h.tree apart v r c l row k (part_some d key t h.tree apart v r c l row (omega arith))).1) (sums_begin d key t h.tree apart v r c l k) in
+      let known : KnownIn c e = subst (λ (z : Cell). (z.left < part_known opened v r c) × (z.right < length es) × (node_of es z.right ≡ child t v c) × (group_of es z.right ≡ group_named t v r c)) (sym f.3) (omega (arith, one_known c (omega arith)), s.head_in, s.head_node, s.head_group) in
       record {
         few = subst (λ (z : List (Entry R Cell)). length z < 2 ^ 64) (sym frontier) (omega arith);
-        known = subst (λ (z : List (Entry R Cell)). All (λ (x : Entry R Cell). (x.tag.left < part_known opened v r c) × (x.tag.right < length es) × (node_of es x.tag.right ≡ child t v c) × (group_of es x.tag.right ≡ group_named t v r c)) z) (sym frontier)
-            (All-cons (λ (x : Entry R Cell). (x.tag.left < part_known opened v r c) × (x.tag.right < length es) × (node_of es x.tag.right ≡ child t v c) × (group_of es x.tag.right ≡ group_named t v r c)) e []
-            (omega (arith, one_known c (omega arith)), s.head_in, s.head_node, s.head_group)
-            (All-nil (λ (x : Entry R Cell). (x.tag.left < part_known opened v r c) × (x.tag.right < length es) × (node_of es x.tag.right ≡ child t v c) × (group_of es x.tag.right ≡ group_named t v r c))));
+        known = subst (All (KnownIn c)) (sym frontier) (All-cons (KnownIn c) e [] known (All-nil (KnownIn c)));
+        found_known = subst (All (KnownIn c)) (sym found) (All-cons (KnownIn c) e [] known (All-nil (KnownIn c)));
         sums = subst (λ (z : List (Entry R Cell)). IsFrontier d key (pair_of es) (part_list d key t v r c) (group_list d key t (child t v c) (group_named t v r c)) (part_list d key t v r (suc c)) (product_of opened v r c).found z) (sym frontier)
-            (subst (λ (z : List (Answer R)). IsFrontier d key (pair_of es) (part_list d key t v r c) (group_list d key t (child t v c) (group_named t v r c)) (part_list d key t v r (suc c)) z (e ∷ [])) (sym found) g.1);
+            (subst (λ (z : List (Entry R Cell)). IsFrontier d key (pair_of es) (part_list d key t v r c) (group_list d key t (child t v c) (group_named t v r c)) (part_list d key t v r (suc c)) z (e ∷ [])) (sym found) g.1);
       }
 
   pub row_opened : IsStreams d key t es opened

@@ -13,6 +13,7 @@ use Rattle.tdp_model.specs.Product.{run_key}
 use Rattle.stream_model.specs.Offers.{offers}
 use Rattle.stream_model.specs.Held.{IsHeld, InRuns}
 use Rattle.stream_model.specs.Links.{IsLinked}
+use Rattle.suffix_streams.specs.declared.cell.Cell.{Cell}
 use Rattle.suffix_streams.specs.declared.stream.Source.{Source}
 use Rattle.suffix_streams.specs.declared.stream.Found.{Found}
 use Rattle.suffix_streams.specs.NodeLists.{NodeLists, stream_at, known_of, with_queue}
@@ -68,7 +69,7 @@ pub queue_passed : {R : Type 0} {d : ℕ} {key : R → KeyOf d 16} {t : List (No
     (q : List (Entry R Source)) (a b : NodeLists R) → IsStreams d key t es n → 0 < length (stream_of n v g).queue → ((x : Entry R Source) → (get_or (stream_of n v g).queue 0 x).tag.member ≡ next.member)
     → ((x : Entry R Source) → (get_or (stream_of n v g).queue 0 x).tag.place + 1 ≡ next.place) → r ≡ get_or (members t v g) next.member 0 → length (products_of n v r) ≡ child_count t v → IsReached d key t n v r (child_count t v) next.place
     → a ≡ get_or n v a → b ≡ get_or n v b → IfNone offer (known_of a r (length (get_or a.products r [])) ≤ next.place) → IfSome offer (λ e. e.tag ≡ next) → IfSome offer (λ e. next.place < known_of a r (length (get_or a.products r [])))
-    → IfSome offer (λ e. (c : ℕ) (x : Answer R) → length (get_or a.products r []) ≡ c + 1 → e.rank ≡ (get_or (get_or (get_or a.products r []) c (record { found = []; frontier = []; room = 0; frontier_room = 0 })).found next.place x).rank)
+    → IfSome offer (λ e. (c : ℕ) (x : Entry R Cell) → length (get_or a.products r []) ≡ c + 1 → e.rank ≡ (get_or (get_or (get_or a.products r []) c (record { found = []; frontier = []; room = 0; frontier_room = 0 })).found next.place x).rank)
     → ((x : Entry R Source) → IsPermutation (offers offer None (stream_at b g).queue) (get_or (stream_at b g).queue 0 x ∷ q)) → ((x : Entry R Source) → IsLeast d key (get_or (stream_at b g).queue 0 x) (stream_at b g).queue) → IsQueuePassed d key t es n v g q
 queue_passed {R} {d} {key} {t} {es} {n} {last} {v} {g} {r} top next offer q a b h some member place row whole reached read_a read_b none tag known rank moved least =
     let l : v < length t = top.node in
@@ -118,6 +119,11 @@ module _ {R : Type 0} {d : ℕ} {key : R → KeyOf d 16} {t : List (NodeData R)}
   queued_member e some first =
       (subst (IsHeld d key (run_key (key_none d 16) (lists_of_member d key t v g)) (InRuns d (length (members t v g)) (lists_of_member d key t v g)) run_of) (sym first)
       (All-get_or (IsHeld d key (run_key (key_none d 16) (lists_of_member d key t v g)) (InRuns d (length (members t v g)) (lists_of_member d key t v g)) run_of) q 0 e some p.held)).0.0
+
+  pub queued_key : (e : Entry R Source) → 0 < length q → e ≡ get_or q 0 e → key e.rank ≡ get_or (part_list d key t v (get_or (members t v g) e.tag.member 0) (child_count t v)) e.tag.place (key_none d 16)
+  queued_key e some first =
+      (subst (IsHeld d key (run_key (key_none d 16) (lists_of_member d key t v g)) (InRuns d (length (members t v g)) (lists_of_member d key t v g)) run_of) (sym first)
+      (All-get_or (IsHeld d key (run_key (key_none d 16) (lists_of_member d key t v g)) (InRuns d (length (members t v g)) (lists_of_member d key t v g)) run_of) q 0 e some p.held)).1
 
   pub queued_place : (e : Entry R Source) → 0 < length q → e ≡ get_or q 0 e → e.tag.place < row_known (slice_set n v (with_queue (lists_of n v) g q)) v (get_or (members t v g) e.tag.member 0)
   queued_place e some first =

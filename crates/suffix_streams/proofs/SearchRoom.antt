@@ -13,6 +13,7 @@ use Rattle.suffix_streams.specs.Growing.{IsExtended, AreQueuesGrown, HasOtherPro
 use Rattle.suffix_streams.proofs.Searching.{replaced_at, replaced_other, replaced_others, reserved_holds}
 use Rattle.suffix_streams.proofs.Changes.{counts_kept, lists_same}
 use Rattle.suffix_streams.proofs.Heads.{lists_at}
+use Rattle.suffix_streams.proofs.Stores.{row_inside}
 use Rattle.suffix_streams.proofs.StepCells.{one_change}
 
 -- one product was changed in the node's own lists
@@ -36,7 +37,7 @@ module _ {R : Type 0} (d : ℕ) (key : R → KeyOf d 16) (t : List (NodeData R))
   in_nodes = omega (arith, in_tree, h.all_nodes)
 
   in_rows : r < length (lists_of n v).products
-  in_rows = omega (arith, row, h.all_rows v in_tree)
+  in_rows = row_inside (lists_of n v).products r c in_row
 
   pub room_formed : IsStreams d key t es n1
   room_formed = subst (λ z. IsStreams d key t es z) (sym other) (reserved_holds d key t es n h v r c (product_of n1 v r c) in_tree row in_row found frontier)

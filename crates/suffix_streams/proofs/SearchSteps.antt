@@ -15,6 +15,7 @@ use Rattle.suffix_streams.specs.StreamsData.{lists_of, products_of, product_of, 
 use Rattle.suffix_streams.specs.Growing.{IsGrown, IsExtended, IsReached, AreQueuesGrown, HasOtherProduct, IsWithinSteps, below_kids, kids_size}
 use Rattle.suffix_streams.proofs.Rankings.{kid, kid_below}
 use Rattle.suffix_streams.proofs.Costs.{kids_size_none}
+use Rattle.suffix_streams.proofs.Stores.{row_inside}
 use Rattle.suffix_streams.proofs.Entries.{child_in, named_stream}
 use Rattle.suffix_streams.proofs.Searching.{same_is, replaced_queues, extended_replaced, extended_on, head_stays}
 use Rattle.suffix_streams.proofs.SearchCosts.{child_within, none_within, some_bits, queues_apart}
@@ -37,7 +38,7 @@ module _ {R : Type 0} (d : ℕ) (key : R → KeyOf d 16) (t : List (NodeData R))
   in_nodes = omega (arith, in_tree, h2.all_nodes)
 
   in_rows : r < length (lists_of o v).products
-  in_rows = omega (arith, row, h2.all_rows v in_tree)
+  in_rows = row_inside (lists_of o v).products r c row_kept
 
   pub search_extended : IsExtended t v r (suc c) a n e o
   search_extended = extended_on d key t h.tree v r c in_tree in_kids a b e n m o g x

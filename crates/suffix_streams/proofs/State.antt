@@ -3,11 +3,12 @@ use Rattle.std.proofs.Common.{◌≡◌, ℕ, zero, suc, ◌+◌, ◌<◌, Bool,
 use Rattle.std.specs.List.{All}
 use Rattle.std.proofs.lemmas.List.Elements.{All-nil, All-cons, All-head, All-tail}
 use Rattle.stream_store.specs.declared.entry.Linked.{Linked}
+use Rattle.take2_heap.specs.declared.entry.Entry.{Entry}
 use Rattle.tdp_core.specs.declared.ranked.Answer.{Answer}
 use Rattle.tdp_core.specs.Seen.{rows_of_key}
 use Rattle.tdp_model.specs.KeyTuple.{KeyOf}
 use Rattle.suffix_streams.specs.declared.stream.Found.{Found}
-use Rattle.suffix_streams.specs.Frontiers.{IsPrefix}
+use Rattle.suffix_streams.specs.Frontiers.{IsPrefix, AreFirst}
 use Rattle.suffix_streams.specs.StreamsData.{stream, node_size}
 
 later : {A : Type 0} (b c : Bool) (x a : A) (xs : List A) →
@@ -65,7 +66,7 @@ pub count_more : {A : Type 0} (xs : List A) (x : A) → length (xs ++ (x ∷ [])
 count_more [] x = refl
 count_more (y ∷ xs) x = ap suc (count_more xs x)
 
-all_more : {A : Type 0} (P : A → Type 0) (xs : List A) (x : A) → All P xs → P x → All P (xs ++ (x ∷ []))
+pub all_more : {A : Type 0} (P : A → Type 0) (xs : List A) (x : A) → All P xs → P x → All P (xs ++ (x ∷ []))
 all_more P [] x a p = All-cons P x [] p (All-nil P)
 all_more P (y ∷ xs) x a p = All-cons P y (xs ++ (x ∷ [])) (All-head P y xs a) (all_more P xs x (All-tail P y xs a) p)
 
@@ -78,4 +79,12 @@ module _ {R : Type 0} (d : ℕ) (key : R → KeyOf d 16) where
     omega (arith, count_more xs a),
     map_more (λ x. key x.rank) xs a ∙ ap (λ z. z ++ (key a.rank ∷ [])) p.2 ∙ ap (λ z. take (length xs) ks ++ (z ∷ [])) (sym e) ∙ take_one_more ks (length xs) none l ∙ ap (λ n. take n ks) (sym (count_more xs a)),
     all_more (λ x. x.rows ≡ rows_of_key d 16 (key x.rank)) xs a p.3 r,
+  )
+
+  -- The ranking's next member is found, by its key alone.
+  pub first_more : {T : Type 0} (xs : List (Entry R T)) (e : Entry R T) (ks : List (KeyOf d 16)) (none : KeyOf d 16) → AreFirst d key xs ks → length xs < length ks → get_or ks (length xs) none ≡ key e.rank → AreFirst d key (xs ++ (e ∷ [])) ks
+  first_more xs e ks none p l at = (
+    omega (arith, count_more xs e),
+    omega (arith, count_more xs e),
+    map_more (λ x. key x.rank) xs e ∙ ap (λ z. z ++ (key e.rank ∷ [])) p.2 ∙ ap (λ z. take (length xs) ks ++ (z ∷ [])) (sym at) ∙ take_one_more ks (length xs) none l ∙ ap (λ n. take n ks) (sym (count_more xs e)),
   )

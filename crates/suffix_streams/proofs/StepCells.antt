@@ -15,15 +15,13 @@ use Rattle.suffix_streams.specs.declared.stream.Found.{Found}
 use Rattle.suffix_streams.specs.ProductData.{ProductData}
 use Rattle.suffix_streams.specs.NodeLists.{NodeLists, product_at, with_product}
 use Rattle.suffix_streams.specs.Cells.{cell_down}
-use Rattle.suffix_streams.specs.Rankings.{child, part_list}
-use Rattle.suffix_streams.specs.Frontiers.{IsPrefix}
-use Rattle.suffix_streams.specs.StreamsData.{node_list, group_list_of, node_of, group_of, lists_of, products_of, product_of, stream_of, part_known, IsStreamOf, IsStreams, IsCell, HasParts, AreLefts}
+use Rattle.suffix_streams.specs.Rankings.{child}
+use Rattle.suffix_streams.specs.StreamsData.{node_list, group_list_of, node_of, group_of, lists_of, products_of, product_of, stream_of, part_known, IsStreamOf, IsStreams, IsCell}
 use Rattle.suffix_streams.specs.Growing.{IsAnswered}
 use Rattle.suffix_streams.proofs.Rankings.{kid}
-use Rattle.suffix_streams.proofs.Stores.{node_length, set_length}
+use Rattle.suffix_streams.proofs.Stores.{node_length}
 use Rattle.suffix_streams.proofs.Heads.{lists_at}
-use Rattle.suffix_streams.proofs.Entries.{child_in, named_stream, parts_of}
-use Rattle.suffix_streams.proofs.Changes.{product_row, changed_at, changed_count}
+use Rattle.suffix_streams.proofs.Entries.{child_in, named_stream}
 
 -- the first of a list
 pub first_of : {A : Type 0} (xs : List A) → 0 < length xs → (x : A) × (x ≡ get_or xs 0 x)
@@ -58,26 +56,6 @@ module _ {R : Type 0} (d : ℕ) (key : R → KeyOf d 16) (t : List (NodeData R))
       h.streams (child t v c) (group_named t v r c) (kid d key t h.tree v c (child_in d key t es nodes h v r c l row in_row)).within (named_stream d key t es nodes h v r c l row (child_in d key t es nodes h v r c l row in_row)) in
       subst (λ (z : Cell). IsCell d key t es nodes v r c z) (sym m.2)
       (record { left = m.1; right = omega (arith, e, s.head_in); node = ap (λ z. node_of es z) e ∙ s.head_node; group = ap (λ z. group_of es z) e ∙ s.head_group })
-
-  -- what is read after the queue was passed
-  pub parts_after : (p : ProductData R) → (rises : length (product_of nodes v r c).found ≤ length p.found) → HasParts d key t es (slice_set nodes v (with_product (lists_of nodes v) r c p)) v r c
-  parts_after p rises =
-      let f : HasParts d key t es nodes v r c = parts_of d key t es nodes h v r c l row in_row in
-      record {
-        node = omega (arith, f.node, set_length nodes v (with_product (lists_of nodes v) r c p));
-        row = omega (arith, f.row, ap (λ n. length n.products) (changed_at d key t es nodes h v r c p l row in_row rises), set_length (lists_of nodes v).products r (slice_set (products_of nodes v r) c p));
-        count = omega (arith, f.count, changed_count d key t es nodes h v r c p l row in_row rises v r);
-        lefts = lefts c refl f.lefts;
-        rights = f.rights;
-        fits = f.fits;
-      }
-    where
-      lefts : (b : ℕ) → b ≡ c → AreLefts d key t nodes v r b → AreLefts d key t (slice_set nodes v (with_product (lists_of nodes v) r c p)) v r b
-      lefts zero e a = tt
-      lefts (suc b) e a =
-          let same : product_of (slice_set nodes v (with_product (lists_of nodes v) r c p)) v r b ≡ product_of nodes v r b =
-          ap (λ n. product_at n r b) (changed_at d key t es nodes h v r c p l row in_row rises) ∙ product_row (lists_of nodes v) r c p (omega (arith, h.all_rows v l)) in_row b (λ z. omega (arith, e, z)) in
-          subst (λ (z : ProductData R). IsPrefix d key z.found (part_list d key t v r (suc b))) (sym same) a
 
 module _ {R : Type 0} (nodes : List (NodeLists R)) (v r c : ℕ) (m n : NodeLists R) (in_nodes : v < length nodes) (at : m ≡ get_or nodes v m) (changed : n ≡ with_product m r c (product_at n r c)) where
   -- a change of one product, as it is seen from the lists

@@ -8,7 +8,6 @@ use Rattle.std.proofs.lemmas.List.Sorted.{All-permutation}
 use Rattle.stream_store.specs.declared.entry.Linked.{Linked}
 use Rattle.take2_heap.specs.declared.entry.Entry.{Entry}
 use Rattle.take2_heap.specs.Order.{IsLeast}
-use Rattle.tdp_core.specs.declared.ranked.Answer.{Answer}
 use Rattle.tdp_core.specs.TreeData.{NodeData, rows, group_named}
 use Rattle.tdp_model.specs.KeyTuple.{KeyOf, key_add, key_none}
 use Rattle.tdp_model.specs.Product.{Pair, pair_key}
@@ -24,11 +23,12 @@ use Rattle.suffix_streams.specs.ProductData.{ProductData}
 use Rattle.suffix_streams.specs.NodeLists.{NodeLists, with_product}
 use Rattle.suffix_streams.specs.Cells.{cell_down}
 use Rattle.suffix_streams.specs.Rankings.{child, part_list, group_list}
-use Rattle.suffix_streams.specs.Frontiers.{HasRows, IsFrontier}
+use Rattle.suffix_streams.specs.Frontiers.{IsFrontier}
 use Rattle.suffix_streams.specs.StreamsData.{node_list, group_list_of, node_of, group_of, place_of, next_of, lists_of, products_of, product_of, stream_of, part_known, pair_of, IsProductOf, IsStreamOf, IsStreams, IsCell, IsOffer}
 use Rattle.suffix_streams.specs.Growing.{IsAnswered, IsReached}
 use Rattle.suffix_streams.proofs.Rankings.{part_ascends, group_ascends, kid}
 use Rattle.suffix_streams.proofs.Stores.{node_length, group_length}
+use Rattle.suffix_streams.proofs.State.{all_more}
 use Rattle.suffix_streams.proofs.Growth.{frontier_grows, frontier_ends}
 use Rattle.suffix_streams.proofs.Firsts.{known_within}
 use Rattle.suffix_streams.proofs.Entries.{entry_key, child_in, lefts_of, named_stream}
@@ -176,24 +176,35 @@ module _ {R : Type 0} (d : ℕ) (key : R → KeyOf d 16) (t : List (NodeData R))
       frontier_ends d key xs ys (part_list d key t v r (suc c)) (part_ascends d key t v r c) (group_ascends d key t (child t v c) (group_named t v r c)) (pair_of es) old.found old.frontier down across top own.sums some is_top least
       (subst (λ z. IsPermutation (offers down across old.frontier) (top ∷ z)) e moved) down_all.0 across_all.0 top_held.0 down_all.2 across_all.2
 
+  -- the cells of the sums found stay known
+  pub kept_known : All Known old.found
+  kept_known = own.found_known
+
+  pub next_known : (next : Entry R Cell) → 0 < length new → next ≡ get_or new 0 next → All Known (old.found ++ (next ∷ []))
+  next_known next more is_next = all_more Known old.found next own.found_known (subst Known (sym is_next) (All-get_or Known new 0 next more new_known))
+
   -- the next sum
-  pub sums_grow : (next : Entry R Cell) (answer : Answer R) → 0 < length new → next ≡ get_or new 0 next → IsLeast d key next new → key answer.rank ≡ pair_key (key_add d 16) (key_none d 16) xs ys (pair_of es next.tag) → HasRows d key answer
-      → IsFrontier d key (pair_of es) xs ys (part_list d key t v r (suc c)) (old.found ++ (answer ∷ [])) new
-  sums_grow next answer more is_next next_least k rs =
-      let held : Held next = subst Held (sym is_next) (All-get_or Held new 0 next more new_held) in
-      (frontier_grows d key xs ys (part_list d key t v r (suc c)) (part_ascends d key t v r c) (group_ascends d key t (child t v c) (group_named t v r c)) (pair_of es) old.found old.frontier new down across top next answer own.sums some is_top least
-      moved down_all.0 across_all.0 top_held.0 down_all.2 across_all.2 more is_next next_least (k ∙ sym held.1) rs).1
+  pub sums_grow : (next : Entry R Cell) → 0 < length new → next ≡ get_or new 0 next → IsLeast d key next new → IsFrontier d key (pair_of es) xs ys (part_list d key t v r (suc c)) (old.found ++ (next ∷ [])) new
+  sums_grow next more is_next next_least =
+      (frontier_grows d key xs ys (part_list d key t v r (suc c)) (part_ascends d key t v r c) (group_ascends d key t (child t v c) (group_named t v r c)) (pair_of es) old.found old.frontier new down across top next own.sums some is_top least
+      moved down_all.0 across_all.0 top_held.0 down_all.2 across_all.2 more is_next next_least).1
+
+  cells_after : (p : ProductData R) → (rises : length old.found ≤ length p.found) → (es1 es2 : List (Entry R Cell)) → es2 ≡ es1 → All Known es1
+      → All (λ (e : Entry R Cell). (e.tag.left < part_known (slice_set nodes v (with_product (lists_of nodes v) r c p)) v r c) × (e.tag.right < length es) × (node_of es e.tag.right ≡ child t v c) × (group_of es e.tag.right ≡ group_named t v r c)) es2
+  cells_after p rises es1 es2 same a =
+      subst (All (λ (e : Entry R Cell). (e.tag.left < part_known (slice_set nodes v (with_product (lists_of nodes v) r c p)) v r c) × (e.tag.right < length es) × (node_of es e.tag.right ≡ child t v c) × (group_of es e.tag.right ≡ group_named t v r c))) (sym same)
+      (All-weaker Known (λ (e : Entry R Cell). (e.tag.left < part_known (slice_set nodes v (with_product (lists_of nodes v) r c p)) v r c) × (e.tag.right < length es) × (node_of es e.tag.right ≡ child t v c) × (group_of es e.tag.right ≡ group_named t v r c))
+      (λ e k. (omega (arith, k.0, changed_known d key t es nodes h v r c p l row in_row rises v r c), k.1, k.2, k.3)) es1 a)
 
   -- the invariants after the step
-  pub step_holds : (p : ProductData R) → p.frontier ≡ new → length new < 2 ^ 64 → (rises : length old.found ≤ length p.found) → IsFrontier d key (pair_of es) xs ys (part_list d key t v r (suc c)) p.found new
+  pub step_holds : (p : ProductData R) → p.frontier ≡ new → length new < 2 ^ 64 → (rises : length old.found ≤ length p.found) → All Known p.found → IsFrontier d key (pair_of es) xs ys (part_list d key t v r (suc c)) p.found new
       → IsStreams d key t es (slice_set nodes v (with_product (lists_of nodes v) r c p))
-  step_holds p same few rises f =
+  step_holds p same few rises found_known f =
       product_set d key t es nodes h v r c p l row in_row rises
       (record {
         few = subst (λ z. length z < 2 ^ 64) (sym (at_frontier ∙ same)) few;
-        known = subst (λ (z : List (Entry R Cell)). All (λ (e : Entry R Cell). (e.tag.left < part_known (slice_set nodes v (with_product (lists_of nodes v) r c p)) v r c) × (e.tag.right < length es) × (node_of es e.tag.right ≡ child t v c) × (group_of es e.tag.right ≡ group_named t v r c)) z) (sym (at_frontier ∙ same))
-            (All-weaker Known (λ (e : Entry R Cell). (e.tag.left < part_known (slice_set nodes v (with_product (lists_of nodes v) r c p)) v r c) × (e.tag.right < length es) × (node_of es e.tag.right ≡ child t v c) × (group_of es e.tag.right ≡ group_named t v r c))
-            (λ e k. (omega (arith, k.0, changed_known d key t es nodes h v r c p l row in_row rises v r c), k.1, k.2, k.3)) new new_known);
+        known = cells_after p rises new (product_of (slice_set nodes v (with_product (lists_of nodes v) r c p)) v r c).frontier (at_frontier ∙ same) new_known;
+        found_known = cells_after p rises p.found (product_of (slice_set nodes v (with_product (lists_of nodes v) r c p)) v r c).found (ap (λ z. z.found) at_product) found_known;
         sums = subst (λ (z : ProductData R). IsFrontier d key (pair_of es) xs ys (part_list d key t v r (suc c)) z.found z.frontier) (sym at_product)
             (subst (λ (z : List (Entry R Cell)). IsFrontier d key (pair_of es) xs ys (part_list d key t v r (suc c)) p.found z) (sym same) f);
       })
@@ -203,9 +214,3 @@ module _ {R : Type 0} (d : ℕ) (key : R → KeyOf d 16) (t : List (NodeData R))
 
       at_frontier : (product_of (slice_set nodes v (with_product (lists_of nodes v) r c p)) v r c).frontier ≡ p.frontier
       at_frontier = ap (λ z. z.frontier) at_product
-
-  -- what is read between the two changes of a product
-  pub cell_after : (p : ProductData R) → (rises : length old.found ≤ length p.found) → (next : Entry R Cell) → 0 < length new → next ≡ get_or new 0 next → IsCell d key t es (slice_set nodes v (with_product (lists_of nodes v) r c p)) v r c next.tag
-  cell_after p rises next more is_next =
-      let k : Known next = subst Known (sym is_next) (All-get_or Known new 0 next more new_known) in
-      record { left = omega (arith, k.0, changed_known d key t es nodes h v r c p l row in_row rises v r c); right = k.1; node = k.2; group = k.3 }

@@ -5,7 +5,7 @@ use Rattle.stream_store.specs.declared.entry.Linked.{Linked}
 use Rattle.stream_model.specs.Links.{place_in, IsLinked}
 use Rattle.stream_model.proofs.Linking.{link_kept, place_kept}
 use Rattle.suffix_streams.specs.declared.stream.Found.{Found}
-use Rattle.suffix_streams.specs.StreamsData.{node_list, group_list_of, next_list, node_of, group_of, place_of, next_of, stream, node_size}
+use Rattle.suffix_streams.specs.StreamsData.{open_rows, node_list, group_list_of, next_list, node_of, group_of, place_of, next_of, stream, node_size}
 use Rattle.suffix_streams.specs.Growing.{IsStoreGrown}
 use Rattle.suffix_streams.proofs.State.{stream_own, stream_other, node_size_more, stream_linked, count_more}
 
@@ -21,6 +21,21 @@ pub map_at : {A B : Type 0} (f : A → B) (xs : List A) (i : ℕ) (a : A) (b : B
 map_at f [] i a b l = absurd (omega arith)
 map_at f (x ∷ xs) zero a b l = refl
 map_at f (x ∷ xs) (suc i) a b l = map_at f xs i a b (omega arith)
+
+-- a list of lists reaches as far as a list in it that has elements
+pub row_inside : {A : Type 0} (xs : List (List A)) (r c : ℕ) → c < length (get_or xs r []) → r < length xs
+row_inside [] r c l = absurd (omega arith)
+row_inside (x ∷ xs) zero c l = omega arith
+row_inside (x ∷ xs) (suc r) c l = let rest : r < length xs = row_inside xs r c l in omega (arith, rest)
+
+-- the rows of which products can be kept: at most all, and all if they have children
+pub open_few : (k n : ℕ) → open_rows k n ≤ n
+open_few zero n = omega arith
+open_few (suc k) n = omega arith
+
+pub open_all : (k n : ℕ) → 0 < k → open_rows k n ≡ n
+open_all zero n l = absurd (omega arith)
+open_all (suc k) n l = refl
 
 pub at_more : {A : Type 0} (xs : List A) (x d : A) (i : ℕ) → i < length xs → get_or (xs ++ (x ∷ [])) i d ≡ get_or xs i d
 at_more [] x d i l = absurd (omega arith)

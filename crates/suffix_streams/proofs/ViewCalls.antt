@@ -5,7 +5,7 @@ use Rattle.stream_store.specs.declared.entry.Linked.{Linked}
 use Rattle.rank_key.specs.Bits.{bit_length}
 use Rattle.rank_key.proofs.BitLemmas.{bit_length-rises}
 use Rattle.tdp_core.specs.Seen.{counted}
-use Rattle.tdp_core.specs.TreeData.{NodeData, parent, rows, members, group_count, node_at, row_count}
+use Rattle.tdp_core.specs.TreeData.{NodeData, parent, rows, child_count, members, group_count, node_at, row_count}
 use Rattle.tdp_core.specs.WellFormed.{IsFormed}
 use Rattle.tdp_core.proofs.TreeFacts.{group_rows_within, term_within}
 use Rattle.tdp_model.specs.Below.{ascends, is_below}
@@ -18,6 +18,7 @@ use Rattle.suffix_streams.specs.StreamsData.{node_of, lists_of, products_of, pro
 use Rattle.suffix_streams.specs.Growing.{IsStoreGrown, AreQueuesGrown, IsAnswered, IsWithinSteps, subtree_size}
 use Rattle.suffix_streams.specs.StreamsView.{StreamsView, AreKept, Follows}
 use Rattle.suffix_streams.proofs.BeginOwners.{get_past}
+use Rattle.suffix_streams.proofs.Stores.{open_few}
 use Rattle.suffix_streams.proofs.ViewPrefixes.{entry_inside, next_linked}
 
 -- a node is below another once at most
@@ -105,7 +106,7 @@ module _ {R : Type 0} (d : ℕ) (key : R → KeyOf d 16) (t : List (NodeData R))
               | inl lc ↦ let f = (s.products v r c lv lr lc).few in omega arith
               | inr past ↦ omega (arith, ap (λ (p : ProductData R). length p.frontier) (get_past (products_of nodes' v r) c (record { found = []; frontier = []; room = 0; frontier_room = 0 }) past))
             ]
-            | inr past ↦ omega (arith, no_product (lists_of nodes' v).products (omega (arith, past, s.all_rows v lv)))
+            | inr past ↦ omega (arith, no_product (lists_of nodes' v).products (omega (arith, past, s.all_rows v lv, open_few (child_count t v) (rows t v))))
           ]
           | inr past ↦
               let none : lists_of nodes' v ≡ record { children = []; streams = []; products = [] } = get_past nodes' v (record { children = []; streams = []; products = [] }) (omega (arith, past, s.all_nodes)) in

@@ -10,7 +10,7 @@ use Rattle.suffix_streams.specs.declared.stream.Found.{Found}
 use Rattle.suffix_streams.specs.declared.stream.Source.{Source}
 use Rattle.suffix_streams.specs.NodeLists.{NodeLists}
 use Rattle.suffix_streams.specs.Rankings.{child, group_list}
-use Rattle.suffix_streams.specs.StreamsData.{node_list, group_list_of, node_of, group_of, next_of, lists_of, stream_of, products_of, run_of, HasKey}
+use Rattle.suffix_streams.specs.StreamsData.{open_rows, node_list, group_list_of, node_of, group_of, next_of, lists_of, stream_of, products_of, run_of, HasKey}
 
 -- the entries stand for the first solutions of the members r, r + 1, and so on
 abbrev pub AreHeads : {R T : Type 0} (d : ℕ) → (R → KeyOf d 16) → (T → Pair) → (ℕ → KeyOf d 16) → ℕ → List (Entry R T) → Type 0
@@ -31,7 +31,7 @@ module _ {R : Type 0} (t : List (NodeData R)) where
   pub record IsEmptyNode (v : ℕ) (n : NodeLists R) : Type 0 where
     pub children : AreChildren v n.children
     pub no_streams : n.streams ≡ []
-    pub all_rows : length n.products ≡ rows t v
+    pub all_rows : length n.products ≡ open_rows (child_count t v) (rows t v)
     pub no_products : (r : ℕ) → slice_index_or n.products r [] ≡ []
 
 module _ {R : Type 0} (d : ℕ) (key : R → KeyOf d 16) (t : List (NodeData R)) (es : List (Linked (Found R))) (nodes : List (NodeLists R)) where
@@ -47,7 +47,7 @@ module _ {R : Type 0} (d : ℕ) (key : R → KeyOf d 16) (t : List (NodeData R))
   pub record IsBegun : Type 0 where
     pub all_nodes : length nodes ≡ length t
     pub children : (v : ℕ) → v < length t → AreChildren t v (lists_of nodes v).children
-    pub all_rows : (v : ℕ) → v < length t → length (lists_of nodes v).products ≡ rows t v
+    pub all_rows : (v : ℕ) → v < length t → length (lists_of nodes v).products ≡ open_rows (child_count t v) (rows t v)
     pub no_products : (v r : ℕ) → products_of nodes v r ≡ []
     pub few_streams : (v : ℕ) → v < length t → length (lists_of nodes v).streams ≤ group_count t v
     pub no_links : (i : ℕ) → next_of es i ≡ None

@@ -17,9 +17,14 @@ HasRows d key a = a.rows ≡ rows_of_key d 16 (key a.rank)
 abbrev pub IsPrefix : {R : Type 0} (d : ℕ) → (R → KeyOf d 16) → List (Answer R) → List (KeyOf d 16) → Type 0
 IsPrefix d key xs ks = (0 < length xs) × (length xs ≤ length ks) × (map (λ a. key a.rank) xs ≡ take (length xs) ks) × All (HasRows d key) xs
 
+-- some of the ranking's first members, by their keys alone
+abbrev pub AreFirst : {R T : Type 0} (d : ℕ) → (R → KeyOf d 16) → List (Entry R T) → List (KeyOf d 16) → Type 0
+AreFirst d key xs ks = (0 < length xs) × (length xs ≤ length ks) × (map (λ e. key e.rank) xs ≡ take (length xs) ks)
+
 -- the first sums of xs and ys in the order of their ranking zs, and a queue that has what follows
-pub record IsFrontier {R T : Type 0} (d : ℕ) (key : R → KeyOf d 16) (at : T → Pair) (xs ys zs : List (KeyOf d 16)) (found : List (Answer R)) (frontier : List (Entry R T)) : Type 0 where
-  pub prefix : IsPrefix d key found zs
+pub record IsFrontier {R T : Type 0} (d : ℕ) (key : R → KeyOf d 16) (at : T → Pair) (xs ys zs : List (KeyOf d 16)) (found frontier : List (Entry R T)) : Type 0 where
+  pub prefix : AreFirst d key found zs
+  pub kept : All (IsHeld d key (pair_key (key_add d 16) (key_none d 16) xs ys) (InProduct d xs ys) at) found
   pub held : All (IsHeld d key (pair_key (key_add d 16) (key_none d 16) xs ys) (InProduct d xs ys) at) frontier
   pub ahead : IsAhead Pair (KeyOf d 16) (key_below d 16) (pair_key (key_add d 16) (key_none d 16) xs ys) (stands_for (length xs) (length ys)) (InProduct d xs ys) zs (length found) (places at frontier)
 

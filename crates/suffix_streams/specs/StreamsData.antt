@@ -17,7 +17,7 @@ use Rattle.suffix_streams.specs.ProductData.{ProductData}
 use Rattle.suffix_streams.specs.StreamData.{StreamData}
 use Rattle.suffix_streams.specs.NodeLists.{NodeLists, product_at, stream_at, known_of}
 use Rattle.suffix_streams.specs.Rankings.{child, part_list, group_list}
-use Rattle.suffix_streams.specs.Frontiers.{HasRows, IsPrefix, IsFrontier, IsMerge}
+use Rattle.suffix_streams.specs.Frontiers.{HasRows, AreFirst, IsFrontier, IsMerge}
 
 -- # The store
 
@@ -58,6 +58,11 @@ node_size (e ∷ es) q = cond (nat_eq e.value.node q) 1 0 + node_size es q
 
 -- # What is kept for each node
 
+-- of how many of n rows products can be kept, where the rows have k children each: with no child there are none
+abbrev pub open_rows : ℕ → ℕ → ℕ
+open_rows zero n = 0
+open_rows (suc k) n = n
+
 module _ {R : Type 0} (nodes : List (NodeLists R)) where
   abbrev pub lists_of : ℕ → NodeLists R
   lists_of v = slice_index_or nodes v (record { children = []; streams = []; products = [] })
@@ -89,7 +94,7 @@ run_of s = record { left = s.member; right = s.place }
 -- the solutions of row r of node v with its first c children that are known stand in their product; with no child there is one
 abbrev pub AreLefts : {R : Type 0} (d : ℕ) (key : R → KeyOf d 16) → List (NodeData R) → List (NodeLists R) → ℕ → ℕ → ℕ → Type 0
 AreLefts d key t nodes v r zero = Unit {0}
-AreLefts d key t nodes v r (suc c) = IsPrefix d key (product_of nodes v r c).found (part_list d key t v r (suc c))
+AreLefts d key t nodes v r (suc c) = AreFirst d key (product_of nodes v r c).found (part_list d key t v r (suc c))
 
 -- the solution that entry i stands for has this key, and the key's slots as row numbers
 abbrev pub HasKey : {R : Type 0} (d : ℕ) → (R → KeyOf d 16) → List (Linked (Found R)) → ℕ → KeyOf d 16 → Type 0
@@ -112,6 +117,7 @@ module _ {R : Type 0} (d : ℕ) (key : R → KeyOf d 16) (t : List (NodeData R))
   pub record IsProductOf (v r c : ℕ) : Type 0 where
     pub few : length (product_of nodes v r c).frontier < 2 ^ 64
     pub known : All (λ e. (e.tag.left < part_known nodes v r c) × (e.tag.right < length es) × (node_of es e.tag.right ≡ child t v c) × (group_of es e.tag.right ≡ group_named t v r c)) (product_of nodes v r c).frontier
+    pub found_known : All (λ e. (e.tag.left < part_known nodes v r c) × (e.tag.right < length es) × (node_of es e.tag.right ≡ child t v c) × (group_of es e.tag.right ≡ group_named t v r c)) (product_of nodes v r c).found
     pub sums : IsFrontier d key (pair_of es) (part_list d key t v r c) (group_list d key t (child t v c) (group_named t v r c)) (part_list d key t v r (suc c)) (product_of nodes v r c).found (product_of nodes v r c).frontier
 
   pub record IsStreams : Type 0 where
@@ -120,7 +126,7 @@ module _ {R : Type 0} (d : ℕ) (key : R → KeyOf d 16) (t : List (NodeData R))
     pub all_children : (v : ℕ) → v < length t → length (lists_of nodes v).children ≡ child_count t v
     pub children : (v c : ℕ) → v < length t → c < child_count t v → slice_index (lists_of nodes v).children c ≡ child t v c
     pub all_streams : (v : ℕ) → v < length t → length (lists_of nodes v).streams ≡ group_count t v
-    pub all_rows : (v : ℕ) → v < length t → length (lists_of nodes v).products ≡ rows t v
+    pub all_rows : (v : ℕ) → v < length t → length (lists_of nodes v).products ≡ open_rows (child_count t v) (rows t v)
     pub whole_rows : (v r : ℕ) → v < length t → r < rows t v → 0 < length (products_of nodes v r) → length (products_of nodes v r) ≡ child_count t v
     pub owners : (i : ℕ) → i < length es → (node_of es i < length t) × (group_of es i < group_count t (node_of es i))
     pub linked : IsLinked (node_list es) (group_list_of es) (next_list es)
@@ -141,7 +147,6 @@ module _ {R : Type 0} (d : ℕ) (key : R → KeyOf d 16) (t : List (NodeData R))
   -- what the sums of product number c of row r of node v are formed of
   pub record HasParts (v r c : ℕ) : Type 0 where
     pub node : v < length nodes
-    pub row : r < length (lists_of nodes v).products
     pub count : c ≤ length (products_of nodes v r)
     pub lefts : AreLefts d key t nodes v r c
     pub rights : (i : ℕ) → i < length es → node_of es i ≡ child t v c → group_of es i ≡ group_named t v r c
@@ -156,12 +161,15 @@ module _ {R : Type 0} (d : ℕ) (key : R → KeyOf d 16) (t : List (NodeData R))
     pub node : node_of es cell.right ≡ child t v c
     pub group : group_of es cell.right ≡ group_named t v r c
 
+  -- the products of row r of node v, each with what its sums are formed of
+  abbrev pub HaveParts : ℕ → ℕ → Type 0
+  HaveParts v r = (c : ℕ) → c < length (products_of nodes v r) → HasParts v r c × IsProductOf v r c
+
   -- what the known solutions of row r of node v are read from
   pub record HasRow (v r : ℕ) : Type 0 where
-    pub row : r < length (lists_of nodes v).products
     pub headed : IsHeaded v r
     pub whole : 0 < length (products_of nodes v r) → length (products_of nodes v r) ≡ child_count t v
-    pub last : AreLefts d key t nodes v r (length (products_of nodes v r))
+    pub parts : HaveParts v r
 
 -- the cell, where there is one, with the key of its sum
 abbrev pub IsOffer : {R : Type 0} (d : ℕ) (key : R → KeyOf d 16) → List (NodeData R) → List (Linked (Found R)) → ℕ → ℕ → ℕ → Option Cell → Option (Entry R Cell) → Type 0
@@ -174,8 +182,8 @@ IsOffer d key t es v r c (Some x) (Some e) =
 -- the product begins with the first solution of row r of node v with its first c + 1 children
 abbrev pub IsFreshAt : {R : Type 0} (d : ℕ) (key : R → KeyOf d 16) → List (NodeData R) → List (NodeLists R) → ℕ → ℕ → ℕ → ProductData R → Type 0
 IsFreshAt {R} d key t nodes v r c p =
-    (a : Answer R) × (p.found ≡ a ∷ []) × (p.frontier ≡ record { rank = a.rank; tag = record { left = 0; right = (stream_of nodes (child t v c) (group_named t v r c)).head } } ∷ [])
-    × (key a.rank ≡ slice_index_or (part_list d key t v r (suc c)) 0 (key_none d 16)) × HasRows d key a
+    (e : Entry R Cell) × (p.found ≡ e ∷ []) × (p.frontier ≡ e ∷ []) × (e.tag ≡ record { left = 0; right = (stream_of nodes (child t v c) (group_named t v r c)).head })
+    × (key e.rank ≡ slice_index_or (part_list d key t v r (suc c)) 0 (key_none d 16))
 
 -- n products that begin with the first solutions of row r of node v
 pub record AreFreshTo {R : Type 0} (d : ℕ) (key : R → KeyOf d 16) (t : List (NodeData R)) (nodes : List (NodeLists R)) (v r n : ℕ) (products : List (ProductData R)) : Type 0 where

@@ -6,7 +6,7 @@ ghost use Rattle.tdp_core.specs.WellFormed.{IsFormed, IsTieFreeTree};
 ghost use Rattle.tdp_model.specs.KeyTuple.{key_none};
 ghost use Rattle.suffix_streams.specs.Rankings.{group_list};
 ghost use Rattle.suffix_streams.specs.Frontiers.{HasRows};
-ghost use Rattle.suffix_streams.specs.StreamsData.{lists_of};
+ghost use Rattle.suffix_streams.specs.StreamsData.{open_rows, lists_of};
 ghost use Rattle.suffix_streams.specs.Beginnings.{AreChildren, IsEmptyNode, HasHeads, IsBegunFrom, IsBegunIn};
 
 use crate::node::NodeStreams;
@@ -48,11 +48,18 @@ fn no_products<R: Rank, A: Allocator + Clone>(
     ensures count { IfOk result (λ v. length v.items ≡ rows) }
     ensures none { IfOk result (λ v. (r : ℕ) → slice_index_or (map (λ p. p.items) v.items) r [] ≡ []) }
 {
-    let mut products = Vec::new(alloc.clone()?);
+    let mut products = Vec::with_capacity(alloc.clone()?, rows as usize)?;
     for _ in 0..rows {
         products.push(Vec::new(alloc.clone()?))?;
     }
     Ok(products)
+}
+
+/// Of how many rows products can be kept: of none where the node has no children.
+fn rows_to_open(children: usize, rows: u32) -> u32
+    ensures { result ≡ open_rows children rows }
+{
+    if children == 0 { 0 } else { rows }
 }
 
 /// A node whose streams are not there yet.
@@ -65,8 +72,8 @@ fn empty_node<R: Rank, A: Allocator + Clone>(
     ensures { IfOk result (IsEmptyNode tree.now node) }
 {
     let children = children_of(alloc, tree, node)?;
-    let products = no_products(alloc, tree.len(node))?;
-    let streams = Vec::new(alloc.clone()?);
+    let products = no_products(alloc, rows_to_open(children.len(), tree.len(node)))?;
+    let streams = Vec::with_capacity(alloc.clone()?, tree.groups(node) as usize)?;
     Ok(NodeStreams {
         children,
         streams,
@@ -103,8 +110,9 @@ fn heads_of<R: Rank, A: Allocator + Clone, L: Ledger>(
     ensures heads { IfOk result (λ heads. HasHeads R.KEYS R.key tree.now node group heads.items) }
     ensures cost { steps.new ≤ steps.old + 2 * length (members tree.now node group) }
 {
-    let mut heads = Vec::new(alloc.clone()?);
-    for member in 0..tree.group_len(node, group) {
+    let members = tree.group_len(node, group);
+    let mut heads = Vec::with_capacity(alloc.clone()?, members as usize)?;
+    for member in 0..members {
         let row = tree.member(node, group, member, steps);
         let rank = tree.best(node, row, steps);
         heads.push(Entry {
@@ -137,8 +145,9 @@ fn first_stream<R: Rank, A: Allocator + Clone, L: Ledger>(
     ensures cost { steps.new ≤ steps.old + 2 * length (members tree.now node group) + (3 + 3 * child_count tree.now node) }
 {
     let heads = heads_of(alloc, tree, node, group, steps)?;
+    let rank = heads[0].rank;
     let first = tree.member(node, group, 0, steps);
-    let answer = first_answer(tree, nodes, entries, node, first, steps);
+    let answer = first_answer(tree, nodes, entries, node, first, rank, steps);
     entries.reserve(1)?;
     let head = entries.push_reserved(
         Found {

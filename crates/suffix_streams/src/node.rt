@@ -4,7 +4,6 @@ ghost use Rattle.rank_key.specs.Bits.{bit_length};
 ghost use Rattle.take2_heap.specs.Order.{IsLeast};
 ghost use Rattle.take2_heap.specs.declared.entry.Entry.{Entry};
 ghost use Rattle.stream_model.specs.Offers.{offers};
-ghost use Rattle.tdp_core.specs.declared.ranked.Answer.{Answer};
 ghost use Rattle.suffix_streams.specs.declared.cell.Cell.{Cell};
 ghost use Rattle.suffix_streams.specs.declared.stream.Source.{Source};
 ghost use Rattle.suffix_streams.specs.NodeLists.{known_of, product_at, stream_at, with_product, with_queue};
@@ -19,7 +18,6 @@ use std::sync::ledger::Ledger;
 use step_counter::{NoMemory, Steps};
 use stream_store::EntryId;
 use take2_heap::Entry;
-use tdp_core::Answer;
 
 /// What is kept for one node: its children, the stream of each of its groups, and the products of
 /// those of its rows of which a second solution was asked for.
@@ -66,15 +64,18 @@ impl<R: Rank, A: Allocator> NodeStreams<R, A> {
 
     /// How many products a row has.
     pub(crate) fn product_count(&self, row: u32) -> usize
-        requires { row < length self.now.products }
         ensures { result ≡ length (slice_index_or self.now.products row []) }
     {
-        self.products[row as usize].len()
+        let row = row as usize;
+        if row < self.products.len() {
+            self.products[row].len()
+        } else {
+            0
+        }
     }
 
     /// A product of a row.
     fn product(&self, row: u32, child: usize) -> &Product<R, A>
-        requires row { row < length self.now.products }
         requires child { child < length (slice_index_or self.now.products row []) }
         ensures { result.now ≡ product_at self.now row child }
     {
@@ -83,7 +84,6 @@ impl<R: Rank, A: Allocator> NodeStreams<R, A> {
 
     /// How many solutions of a row with its first `count` children are known.
     pub(crate) fn known(&self, row: u32, count: usize) -> usize
-        requires row { row < length self.now.products }
         requires count { count ≤ length (slice_index_or self.now.products row []) }
         ensures { result ≡ known_of self.now row count }
     {
@@ -94,19 +94,26 @@ impl<R: Rank, A: Allocator> NodeStreams<R, A> {
         }
     }
 
-    /// A solution of a row with its first children up to number `child`, by its place.
-    pub(crate) fn answer(&self, row: u32, child: usize, place: usize) -> Answer<R>
-        requires row { row < length self.now.products }
+    /// The cell of a solution of a row with its first children up to number `child`, by its place.
+    pub(crate) fn cell(&self, row: u32, child: usize, place: usize) -> Cell
         requires child { child < length (slice_index_or self.now.products row []) }
         requires place { place < length (product_at self.now row child).found }
-        ensures { (d : Answer R) → result ≡ slice_index_or (product_at self.now row child).found place d }
+        ensures { (d : Entry R Cell) → result ≡ (slice_index_or (product_at self.now row child).found place d).tag }
     {
-        self.product(row, child).get(place)
+        self.product(row, child).cell(place)
+    }
+
+    /// The rank of such a solution.
+    pub(crate) fn rank(&self, row: u32, child: usize, place: usize) -> R
+        requires child { child < length (slice_index_or self.now.products row []) }
+        requires place { place < length (product_at self.now row child).found }
+        ensures { (d : Entry R Cell) → result ≡ (slice_index_or (product_at self.now row child).found place d).rank }
+    {
+        self.product(row, child).rank(place)
     }
 
     /// The last sum that a product found, and None where no further one follows.
     pub(crate) fn product_top(&self, row: u32, child: usize) -> Option<Entry<R, Cell>>
-        requires row { row < length self.now.products }
         requires child { child < length (slice_index_or self.now.products row []) }
         ensures variant { IsSome result ↔ (0 < length (product_at self.now row child).frontier) }
         ensures top { IfSome result (λ e. (d : Entry R Cell) → e ≡ slice_index_or (product_at self.now row child).frontier 0 d) }
@@ -128,27 +135,24 @@ impl<R: Rank, A: Allocator> NodeStreams<R, A> {
 
     /// The solution of a row that `next` tells the place of, where it is known.
     pub(crate) fn offered(&self, row: u32, next: Source) -> Option<Entry<R, Source>>
-        requires row { row < length self.now.products }
         requires place { 0 < next.place }
         ensures none { IfNone result (known_of self.now row (length (slice_index_or self.now.products row [])) ≤ next.place) }
         ensures tag { IfSome result (λ e. e.tag ≡ next) }
         ensures known { IfSome result (λ e. next.place < known_of self.now row (length (slice_index_or self.now.products row []))) }
-        ensures rank { IfSome result (λ e. (c : ℕ) (d : Answer R) → length (slice_index_or self.now.products row []) ≡ c + 1 → e.rank ≡ (slice_index_or (product_at self.now row c).found next.place d).rank) }
+        ensures rank { IfSome result (λ e. (c : ℕ) (d : Entry R Cell) → length (slice_index_or self.now.products row []) ≡ c + 1 → e.rank ≡ (slice_index_or (product_at self.now row c).found next.place d).rank) }
     {
         let count = self.product_count(row);
         if count == 0 || self.known(row, count) <= next.place {
             return None;
         }
-        let answer = self.answer(row, count - 1, next.place);
         Some(Entry {
-            rank: answer.rank,
+            rank: self.rank(row, count - 1, next.place),
             tag: next,
         })
     }
 
     /// Makes room for one more solution in a product.
     pub(crate) fn reserve_product(&mut self, row: u32, child: usize) -> Result<(), NoMemory>
-        requires row { row < length self.old.products }
         requires child { child < length (slice_index_or self.old.products row []) }
         ensures changed { self.new ≡ with_product self.old row child (product_at self.new row child) }
         ensures found { (product_at self.new row child).found ≡ (product_at self.old row child).found }
@@ -169,7 +173,6 @@ impl<R: Rank, A: Allocator> NodeStreams<R, A> {
         across: Option<Entry<R, Cell>>,
         steps: &mut Steps<L>,
     )
-        requires row { row < length self.old.products }
         requires child { child < length (slice_index_or self.old.products row []) }
         requires top { 0 < length (product_at self.old row child).frontier }
         requires room { 0 < (product_at self.old row child).frontier_room }
@@ -185,16 +188,15 @@ impl<R: Rank, A: Allocator> NodeStreams<R, A> {
     }
 
     /// Keeps one more solution of a product, in room that was made for it.
-    pub(crate) fn keep(&mut self, row: u32, child: usize, answer: Answer<R>)
-        requires row { row < length self.old.products }
+    pub(crate) fn keep(&mut self, row: u32, child: usize, sum: Entry<R, Cell>)
         requires child { child < length (slice_index_or self.old.products row []) }
         requires room { 0 < (product_at self.old row child).room }
         ensures changed { self.new ≡ with_product self.old row child (product_at self.new row child) }
-        ensures found { (product_at self.new row child).found ≡ (product_at self.old row child).found ++ answer ∷ [] }
+        ensures found { (product_at self.new row child).found ≡ (product_at self.old row child).found ++ sum ∷ [] }
         ensures frontier { (product_at self.new row child).frontier ≡ (product_at self.old row child).frontier }
     {
         let products = &mut self.products[row as usize];
-        products[child].keep(answer);
+        products[child].keep(sum);
     }
 
     /// Passes the last solution of a group: the next one of its row stands in its place, or none.

@@ -4,7 +4,6 @@ ghost use Rattle.rank_key.specs.Bits.{bit_length};
 ghost use Rattle.take2_heap.specs.Order.{IsMinHeap, IsLeast};
 ghost use Rattle.take2_heap.specs.declared.entry.Entry.{Entry};
 ghost use Rattle.stream_model.specs.Offers.{offers};
-ghost use Rattle.tdp_core.specs.declared.ranked.Answer.{Answer};
 ghost use Rattle.suffix_streams.specs.declared.cell.Cell.{Cell};
 
 use crate::cell::Cell;
@@ -16,14 +15,13 @@ use step_counter::{NoMemory, Steps};
 use stream_model::pass_top;
 use stream_store::EntryId;
 use take2_heap::{Entry, HeapOf};
-use tdp_core::Answer;
 
 /// The solutions of a row with its first children, as sums of those with one child less and of the
-/// solutions of the last child's group. The frontier's top is the last one found, until its successor is
-/// asked for.
+/// solutions of the last child's group: the cells of those found, each with its rank, and a frontier, whose
+/// top is the last one found, until its successor is asked for.
 #[derive(Drop)]
 pub(crate) struct Product<R: Rank, A: Allocator> {
-    found: Vec<Answer<R>, A>,
+    found: Vec<Entry<R, Cell>, A>,
     frontier: HeapOf<R, Cell, A>,
 }
 
@@ -38,22 +36,19 @@ impl<R: Rank, A: Allocator> Model for Product<R, A> {
 }
 
 impl<R: Rank, A: Allocator + Clone> Product<R, A> {
-    /// The product whose first solution is known.
-    pub(crate) fn new(
-        alloc: &A,
-        first: Answer<R>,
-        right: EntryId,
-    ) -> Result<Product<R, A>, NoMemory>
-        ensures found { IfOk result (λ p. p.found ≡ first ∷ []) }
-        ensures frontier { IfOk result (λ p. p.frontier ≡ record { rank = first.rank; tag = record { left = 0; right = right } } ∷ []) }
+    /// The product whose first solution has a rank that is known, and a right part.
+    pub(crate) fn new(alloc: &A, rank: R, right: EntryId) -> Result<Product<R, A>, NoMemory>
+        ensures found { IfOk result (λ p. p.found ≡ record { rank = rank; tag = record { left = 0; right = right } } ∷ []) }
+        ensures frontier { IfOk result (λ p. p.frontier ≡ record { rank = rank; tag = record { left = 0; right = right } } ∷ []) }
     {
-        let mut found = Vec::new(alloc.clone()?);
-        found.push(first)?;
-        let mut frontier = Vec::new(alloc.clone()?);
-        frontier.push(Entry {
-            rank: first.rank,
+        let sum = Entry {
+            rank,
             tag: Cell { left: 0, right },
-        })?;
+        };
+        let mut found = Vec::with_capacity(alloc.clone()?, 1)?;
+        found.push(sum)?;
+        let mut frontier = Vec::with_capacity(alloc.clone()?, 1)?;
+        frontier.push(sum)?;
         Ok(Product {
             found,
             frontier: HeapOf::from_heap(frontier),
@@ -69,12 +64,20 @@ impl<R: Rank, A: Allocator> Product<R, A> {
         self.found.len()
     }
 
-    /// The solution at a place.
-    pub(crate) fn get(&self, place: usize) -> Answer<R>
+    /// The cell of the solution at a place.
+    pub(crate) fn cell(&self, place: usize) -> Cell
         requires { place < length self.now.found }
-        ensures { (d : Answer R) → result ≡ slice_index_or self.now.found place d }
+        ensures { (d : Entry R Cell) → result ≡ (slice_index_or self.now.found place d).tag }
     {
-        self.found[place]
+        self.found[place].tag
+    }
+
+    /// The rank of the solution at a place.
+    pub(crate) fn rank(&self, place: usize) -> R
+        requires { place < length self.now.found }
+        ensures { (d : Entry R Cell) → result ≡ (slice_index_or self.now.found place d).rank }
+    {
+        self.found[place].rank
     }
 
     /// The last solution found, as a sum, and none where no further one follows.
@@ -118,11 +121,11 @@ impl<R: Rank, A: Allocator> Product<R, A> {
     }
 
     /// Keeps one more solution, in room that was made for it.
-    pub(crate) fn keep(&mut self, answer: Answer<R>)
+    pub(crate) fn keep(&mut self, sum: Entry<R, Cell>)
         requires { 0 < self.old.room }
-        ensures found { self.new.found ≡ self.old.found ++ answer ∷ [] }
+        ensures found { self.new.found ≡ self.old.found ++ sum ∷ [] }
         ensures frontier { self.new.frontier ≡ self.old.frontier }
     {
-        self.found.push_reserved(answer);
+        self.found.push_reserved(sum);
     }
 }

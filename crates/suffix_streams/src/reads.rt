@@ -1,17 +1,18 @@
 ghost use Rattle.std.specs.Prelude.{◌≡◌, ℕ, ◌+◌, ◌*◌, ◌<◌, ◌≤◌, length, slice_index_or, IfOk, IfSome};
 ghost use Rattle.tdp_core.specs.TreeData.{child_count, group_named, rows};
+ghost use Rattle.tdp_core.specs.Seen.{rows_of_key};
 ghost use Rattle.tdp_core.specs.WellFormed.{IsFormed, IsTieFreeTree};
 ghost use Rattle.tdp_model.specs.KeyTuple.{key_add, key_none};
 ghost use Rattle.tdp_model.specs.Product.{pair_key};
 ghost use Rattle.suffix_streams.specs.Rankings.{child as child_node, part_list, group_list};
 ghost use Rattle.suffix_streams.specs.Frontiers.{HasRows};
-ghost use Rattle.suffix_streams.specs.StreamsData.{lists_of, products_of, stream_of, part_known, row_known, pair_of, IsHeaded, HasParts, IsCell, IsOffer, HasRow, AreFreshTo, AreLefts};
+ghost use Rattle.suffix_streams.specs.StreamsData.{lists_of, products_of, stream_of, part_known, row_known, pair_of, IsHeaded, HasParts, HaveParts, IsCell, IsOffer, HasRow, AreFreshTo, AreLefts};
 
-use crate::answers::{joined, own_answer};
+use crate::answers::{joined_rows, own_rows};
 use crate::cell::Cell;
 use crate::node::NodeStreams;
 use crate::product::Product;
-use crate::stream::Found;
+use crate::stream::{Found, Source};
 use rank_key::Rank;
 use std::alloc::Allocator;
 use std::sync::ledger::Ledger;
@@ -44,13 +45,14 @@ pub(crate) fn child_head<R: Rank, A: Allocator + Clone, L: Ledger>(
     nodes[child_node as usize].head(group)
 }
 
-/// The first solution of a row: its own part, and the head of each child's group.
+/// The first solution of a row, whose rank is known: its own part, and the head of each child's group.
 pub(crate) fn first_answer<R: Rank, A: Allocator + Clone, L: Ledger>(
     tree: &Tree<R>,
     nodes: &[NodeStreams<R, A>],
     entries: &Store<Found<R>, A>,
     node: u32,
     row: u32,
+    rank: R,
     steps: &mut Steps<L>,
 ) -> Answer<R>
     requires formed { IsFormed R.KEYS R.key tree.now }
@@ -58,16 +60,17 @@ pub(crate) fn first_answer<R: Rank, A: Allocator + Clone, L: Ledger>(
     requires node { node < length tree.now }
     requires row { row < rows tree.now node }
     requires headed { IsHeaded R.KEYS R.key tree.now entries.now.entries nodes.now node row }
-    ensures key { R.key result.rank ≡ slice_index_or (part_list R.KEYS R.key tree.now node row (child_count tree.now node)) 0 (key_none R.KEYS 16) }
+    requires key { R.key rank ≡ slice_index_or (part_list R.KEYS R.key tree.now node row (child_count tree.now node)) 0 (key_none R.KEYS 16) }
+    ensures rank { result.rank ≡ rank }
     ensures rows { HasRows R.KEYS R.key result }
-    ensures cost { steps.new ≡ steps.old + 1 + 3 * child_count tree.now node }
+    ensures cost { steps.new ≡ steps.old + 1 + 2 * child_count tree.now node }
 {
-    let mut answer = own_answer(tree, node, row, steps);
+    let mut rows = own_rows(tree, node, row, steps);
     for child in 0..nodes[node as usize].child_count() {
         let head = child_head(tree, nodes, entries, node, row, child, steps);
-        answer = joined(&answer, &entries.get(head, steps).answer, steps);
+        rows = joined_rows(&rows, &entries.get(head, steps).answer.rows);
     }
-    answer
+    Answer { rows, rank }
 }
 
 /// The products of a row, each with its first solution.
@@ -88,18 +91,19 @@ pub(crate) fn made_products<R: Rank, A: Allocator + Clone, L: Ledger>(
     ensures fresh { IfOk result (λ p. AreFreshTo R.KEYS R.key tree.now nodes.now node row (child_count tree.now node) p.items) }
     ensures cost { steps.new ≤ steps.old + 1 + 3 * child_count tree.now node }
 {
-    let mut products = Vec::new(alloc.clone()?);
-    let mut first = own_answer(tree, node, row, steps);
-    for child in 0..nodes[node as usize].child_count() {
+    let children = nodes[node as usize].child_count();
+    let mut products = Vec::with_capacity(alloc.clone()?, children)?;
+    let mut rank = tree.row_at(node, row, steps).rank;
+    for child in 0..children {
         let head = child_head(tree, nodes, entries, node, row, child, steps);
-        first = joined(&first, &entries.get(head, steps).answer, steps);
-        products.push(Product::new(alloc, first, head)?)?;
+        rank = R::join(rank, entries.get(head, steps).answer.rank, steps);
+        products.push(Product::new(alloc, rank, head)?)?;
     }
     Ok(products)
 }
 
-/// The solution of a row with its first `count` children at a place that is known.
-fn part_answer<R: Rank, A: Allocator + Clone, L: Ledger>(
+/// The rank of a solution of a row with its first `count` children at a place that is known.
+fn part_rank<R: Rank, A: Allocator + Clone, L: Ledger>(
     tree: &Tree<R>,
     nodes: &[NodeStreams<R, A>],
     node: u32,
@@ -107,27 +111,25 @@ fn part_answer<R: Rank, A: Allocator + Clone, L: Ledger>(
     count: usize,
     place: usize,
     steps: &mut Steps<L>,
-) -> Answer<R>
+) -> R
     requires formed { IsFormed R.KEYS R.key tree.now }
     requires node { node < length tree.now }
     requires row { row < rows tree.now node }
     requires all_nodes { node < length nodes.now }
-    requires all_rows { row < length (lists_of nodes.now node).products }
     requires count { count ≤ length (products_of nodes.now node row) }
     requires lefts { AreLefts R.KEYS R.key tree.now nodes.now node row count }
     requires place { place < part_known nodes.now node row count }
-    ensures key { R.key result.rank ≡ slice_index_or (part_list R.KEYS R.key tree.now node row count) place (key_none R.KEYS 16) }
-    ensures rows { HasRows R.KEYS R.key result }
+    ensures key { R.key result ≡ slice_index_or (part_list R.KEYS R.key tree.now node row count) place (key_none R.KEYS 16) }
     ensures cost { steps.new ≤ steps.old + 1 }
 {
     if count == 0 {
-        return own_answer(tree, node, row, steps);
+        return tree.row_at(node, row, steps).rank;
     }
-    nodes[node as usize].answer(row, count - 1, place)
+    nodes[node as usize].rank(row, count - 1, place)
 }
 
-/// The solution that a cell stands for.
-pub(crate) fn cell_answer<R: Rank, A: Allocator + Clone, L: Ledger>(
+/// The rank of the solution that a cell stands for.
+fn cell_rank<R: Rank, A: Allocator + Clone, L: Ledger>(
     tree: &Tree<R>,
     nodes: &[NodeStreams<R, A>],
     entries: &Store<Found<R>, A>,
@@ -136,19 +138,18 @@ pub(crate) fn cell_answer<R: Rank, A: Allocator + Clone, L: Ledger>(
     child: usize,
     cell: &Cell,
     steps: &mut Steps<L>,
-) -> Answer<R>
+) -> R
     requires formed { IsFormed R.KEYS R.key tree.now }
-    requires tie_free { IsTieFreeTree tree.now }
     requires node { node < length tree.now }
     requires row { row < rows tree.now node }
     requires parts { HasParts R.KEYS R.key tree.now entries.now.entries nodes.now node row child }
     requires cell { IsCell R.KEYS R.key tree.now entries.now.entries nodes.now node row child cell.now }
-    ensures key { R.key result.rank ≡ pair_key (key_add R.KEYS 16) (key_none R.KEYS 16) (part_list R.KEYS R.key tree.now node row child) (group_list R.KEYS R.key tree.now (child_node tree.now node child) (group_named tree.now node row child)) (pair_of entries.now.entries cell.now) }
-    ensures rows { HasRows R.KEYS R.key result }
+    ensures key { R.key result ≡ pair_key (key_add R.KEYS 16) (key_none R.KEYS 16) (part_list R.KEYS R.key tree.now node row child) (group_list R.KEYS R.key tree.now (child_node tree.now node child) (group_named tree.now node row child)) (pair_of entries.now.entries cell.now) }
     ensures cost { steps.new ≤ steps.old + 3 }
 {
-    let left = part_answer(tree, nodes, node, row, child, cell.left, steps);
-    joined(&left, &entries.get(cell.right, steps).answer, steps)
+    let left = part_rank(tree, nodes, node, row, child, cell.left, steps);
+    let right = entries.get(cell.right, steps);
+    R::join(left, right.answer.rank, steps)
 }
 
 /// A cell with the rank of its solution, where there is a cell.
@@ -163,7 +164,6 @@ pub(crate) fn offered<R: Rank, A: Allocator + Clone, L: Ledger>(
     steps: &mut Steps<L>,
 ) -> Option<Entry<R, Cell>>
     requires formed { IsFormed R.KEYS R.key tree.now }
-    requires tie_free { IsTieFreeTree tree.now }
     requires node { node < length tree.now }
     requires row { row < rows tree.now node }
     requires parts { HasParts R.KEYS R.key tree.now entries.now.entries nodes.now node row child }
@@ -172,21 +172,48 @@ pub(crate) fn offered<R: Rank, A: Allocator + Clone, L: Ledger>(
     ensures cost { steps.new ≤ steps.old + 3 }
 {
     let cell = cell?;
-    let answer = cell_answer(tree, nodes, entries, node, row, child, &cell, steps);
-    Some(Entry {
-        rank: answer.rank,
-        tag: cell,
-    })
+    let rank = cell_rank(tree, nodes, entries, node, row, child, &cell, steps);
+    Some(Entry { rank, tag: cell })
 }
 
-/// The solution of a row at a place that is known.
+/// The row numbers of a solution of a row with its first `count` children, at a place that is known.
+fn part_rows<R: Rank, A: Allocator + Clone, L: Ledger>(
+    tree: &Tree<R>,
+    nodes: &[NodeStreams<R, A>],
+    entries: &Store<Found<R>, A>,
+    node: u32,
+    row: u32,
+    count: usize,
+    place: usize,
+    steps: &mut Steps<L>,
+) -> [u32; 16]
+    requires formed { IsFormed R.KEYS R.key tree.now }
+    requires node { node < length tree.now }
+    requires row { row < rows tree.now node }
+    requires all_nodes { node < length nodes.now }
+    requires count { count ≤ length (products_of nodes.now node row) }
+    requires parts { HaveParts R.KEYS R.key tree.now entries.now.entries nodes.now node row }
+    requires place { place < part_known nodes.now node row count }
+    ensures rows { result ≡ rows_of_key R.KEYS 16 (slice_index_or (part_list R.KEYS R.key tree.now node row count) place (key_none R.KEYS 16)) }
+    ensures cost { steps.new ≡ steps.old + 1 + count }
+{
+    if count == 0 {
+        return own_rows(tree, node, row, steps);
+    }
+    let cell = nodes[node as usize].cell(row, count - 1, place);
+    let right = entries.get(cell.right, steps);
+    let left = part_rows(tree, nodes, entries, node, row, count - 1, cell.left, steps);
+    joined_rows(&left, &right.answer.rows)
+}
+
+/// The solution of a row that an entry of a group's queue stands for, whose rank it has.
 pub(crate) fn row_answer<R: Rank, A: Allocator + Clone, L: Ledger>(
     tree: &Tree<R>,
     nodes: &[NodeStreams<R, A>],
     entries: &Store<Found<R>, A>,
     node: u32,
     row: u32,
-    place: usize,
+    next: &Entry<R, Source>,
     steps: &mut Steps<L>,
 ) -> Answer<R>
     requires formed { IsFormed R.KEYS R.key tree.now }
@@ -194,14 +221,28 @@ pub(crate) fn row_answer<R: Rank, A: Allocator + Clone, L: Ledger>(
     requires node { node < length tree.now }
     requires row { row < rows tree.now node }
     requires known { HasRow R.KEYS R.key tree.now entries.now.entries nodes.now node row }
-    requires place { place < row_known nodes.now node row }
-    ensures key { R.key result.rank ≡ slice_index_or (part_list R.KEYS R.key tree.now node row (child_count tree.now node)) place (key_none R.KEYS 16) }
+    requires place { next.now.tag.place < row_known nodes.now node row }
+    requires key { R.key next.now.rank ≡ slice_index_or (part_list R.KEYS R.key tree.now node row (child_count tree.now node)) next.now.tag.place (key_none R.KEYS 16) }
+    ensures rank { result.rank ≡ next.now.rank }
     ensures rows { HasRows R.KEYS R.key result }
-    ensures cost { steps.new ≤ steps.old + 1 + 3 * child_count tree.now node }
+    ensures cost { steps.new ≤ steps.old + 1 + 2 * child_count tree.now node }
 {
     let count = nodes[node as usize].product_count(row);
     if count == 0 {
-        return first_answer(tree, nodes, entries, node, row, steps);
+        return first_answer(tree, nodes, entries, node, row, next.rank, steps);
     }
-    part_answer(tree, nodes, node, row, count, place, steps)
+    let rows = part_rows(
+        tree,
+        nodes,
+        entries,
+        node,
+        row,
+        count,
+        next.tag.place,
+        steps,
+    );
+    Answer {
+        rows,
+        rank: next.rank,
+    }
 }

@@ -13,7 +13,7 @@ ghost use Rattle.suffix_streams.specs.Growing.{IsStoreGrown, IsGrown, IsExtended
 
 use crate::cell::{Cell, across_cell, down_cell};
 use crate::node::NodeStreams;
-use crate::reads::{cell_answer, child_head, made_products, offered, row_answer};
+use crate::reads::{child_head, made_products, offered, row_answer};
 use crate::stream::{Found, Source};
 use rank_key::Rank;
 use std::alloc::Allocator;
@@ -122,7 +122,7 @@ impl<'t, R: Rank, A: Allocator + Clone> Solutions<'t, R, A> {
 }
 
 impl<'t, R: Rank, A: Allocator + Clone> Solutions<'t, R, A> {
-    /// Makes the products of a row, if they are not there yet.
+    /// Makes the products of a row, one for each child, if they are not there yet.
     fn open_row<L: Ledger>(
         &mut self,
         node: u32,
@@ -142,7 +142,8 @@ impl<'t, R: Rank, A: Allocator + Clone> Solutions<'t, R, A> {
         ensures queues { AreQueuesGrown (λ _. 0) self.old.nodes.items self.new.nodes.items }
         ensures cost { steps.new ≤ steps.old + 1 + 3 * child_count self.old.tree.now node }
     {
-        if self.nodes[node as usize].product_count(row) == 0 {
+        let lists = &self.nodes[node as usize];
+        if lists.product_count(row) < lists.child_count() {
             let products = made_products(
                 &self.alloc,
                 self.tree,
@@ -216,17 +217,7 @@ impl<'t, R: Rank, A: Allocator + Clone> Solutions<'t, R, A> {
         let Some(top) = self.nodes[node as usize].product_top(row, child) else {
             return;
         };
-        let answer = cell_answer(
-            self.tree,
-            self.nodes.as_slice(),
-            &self.entries,
-            node,
-            row,
-            child,
-            &top.tag,
-            steps,
-        );
-        self.nodes[node as usize].keep(row, child, answer);
+        self.nodes[node as usize].keep(row, child, top);
     }
 
     /// Passes the last solution of a group, which `last` stands for, and links the one that follows, where there is one. `next`
@@ -272,7 +263,7 @@ impl<'t, R: Rank, A: Allocator + Clone> Solutions<'t, R, A> {
             &self.entries,
             node,
             row,
-            top.tag.place,
+            &top,
             steps,
         );
         let next = self.entries.push_reserved(
@@ -296,7 +287,6 @@ fn make_room<R: Rank, A: Allocator + Clone>(
     child: usize,
 ) -> Result<(), NoMemory>
     requires node { node < length nodes.old.items }
-    requires row { row < length (lists_of nodes.old.items node).products }
     requires child { child < length (products_of nodes.old.items node row) }
     ensures changed { HasOtherProduct nodes.old.items node row child nodes.new.items }
     ensures found { (product_of nodes.new.items node row child).found ≡ (product_of nodes.old.items node row child).found }

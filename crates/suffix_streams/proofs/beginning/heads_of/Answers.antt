@@ -13,7 +13,7 @@ use Rattle.suffix_streams.proofs.beginning.heads_of.Goals as goal
 pub best-rank-requires-clause-row : goal.best-rank-requires-clause-row
 best-rank-requires-clause-row g c =
     let t = c.args.tree.now in
-    let within : c.loop-member.member < length (members t c.args.node c.args.group) = omega (arith, c.loop-member-test.true, c.group_len-member-end.ensures) in
+    let within : c.loop-member.member < length (members t c.args.node c.args.group) = omega (arith, c.loop-member-test.true, c.group_len-members.ensures) in
     subst (λ z. z < rows t c.args.node) (sym c.member-row.ensures.member) (member_is_row g.R.Rank.KEYS g.R.Rank.key t c.requires.formed c.args.node c.args.group c.loop-member.member c.requires.node within)
 
 pub loop-member-preserved : goal.loop-member-preserved

@@ -9,41 +9,32 @@ use Rattle.suffix_streams.proofs.reads.made_products.Goals as goal
 
 pub loop-child-init : goal.loop-child-init
 loop-child-init g c = record {
-  key = c.own_answer-first.ensures.key ∙ sym (own_first g.R.Rank.KEYS g.R.Rank.key c.args.tree.now c.requires.formed c.args.node c.args.row c.requires.node);
-  rows = c.own_answer-first.ensures.rows;
-  fresh = record { count = ap length c.new-products.ensures.items; first = λ i p l. absurd (omega arith) };
-  steps = omega (arith, c.own_answer-first.ensures.cost);
+  key = c.row_at-rank.ensures.rank ∙ sym (own_first g.R.Rank.KEYS g.R.Rank.key c.args.tree.now c.requires.formed c.args.node c.args.row c.requires.node);
+  fresh = record { count = ap length c.in_ok-products.ensures.items; first = λ i p l. absurd (omega arith) };
+  steps = omega (arith, c.row_at-rank.ensures.counted);
 }
 
-pub joined-first-requires-clause-fits : goal.joined-first-requires-clause-fits
-joined-first-requires-clause-fits g c =
+pub join-rank-requires : goal.join-rank-requires
+join-rank-requires g c =
     let kids : length c.index-nodes-node.result.children ≡ child_count c.args.tree.now c.args.node = children_count g.R.Rank.KEYS g.R.Rank.key c.args.tree.now c.args.entries.now.entries c.args.nodes.now c.args.node c.args.row c.index-nodes-node.result c.requires.headed c.requires.node c.index-nodes-node.is in
-    let kid_in : c.loop-child.child < child_count c.args.tree.now c.args.node = omega (arith, kids, c.child_count-child-end.ensures) in
+    let kid_in : c.loop-child.child < child_count c.args.tree.now c.args.node = omega (arith, kids, c.child_count-children.ensures) in
     let k = head_key g.R.Rank.KEYS g.R.Rank.key c.args.entries.now.entries (stream_of c.args.nodes.now (child c.args.tree.now c.args.node c.loop-child.child) (group_named c.args.tree.now c.args.node c.args.row c.loop-child.child)).head c.child_head-head.result c.get.result.now _ c.child_head-head.ensures.head c.get.ensures.value (c.requires.headed.keys c.loop-child.child kid_in) in
     firsts_fit g.R.Rank.KEYS g.R.Rank.key c.args.tree.now c.requires.formed c.requires.tie_free c.args.node c.args.row c.loop-child.child _ _ c.requires.node c.requires.row kid_in c.loop-child.invariant.key k.0
-
-pub joined-first-requires-clause-second : goal.joined-first-requires-clause-second
-joined-first-requires-clause-second g c =
-    let kids : length c.index-nodes-node.result.children ≡ child_count c.args.tree.now c.args.node = children_count g.R.Rank.KEYS g.R.Rank.key c.args.tree.now c.args.entries.now.entries c.args.nodes.now c.args.node c.args.row c.index-nodes-node.result c.requires.headed c.requires.node c.index-nodes-node.is in
-    let kid_in : c.loop-child.child < child_count c.args.tree.now c.args.node = omega (arith, kids, c.child_count-child-end.ensures) in
-    let k = head_key g.R.Rank.KEYS g.R.Rank.key c.args.entries.now.entries (stream_of c.args.nodes.now (child c.args.tree.now c.args.node c.loop-child.child) (group_named c.args.tree.now c.args.node c.args.row c.loop-child.child)).head c.child_head-head.result c.get.result.now _ c.child_head-head.ensures.head c.get.ensures.value (c.requires.headed.keys c.loop-child.child kid_in) in
-    k.1
 
 pub loop-child-preserved : goal.loop-child-preserved
 loop-child-preserved g c =
     let kids : length c.index-nodes-node.result.children ≡ child_count c.args.tree.now c.args.node = children_count g.R.Rank.KEYS g.R.Rank.key c.args.tree.now c.args.entries.now.entries c.args.nodes.now c.args.node c.args.row c.index-nodes-node.result c.requires.headed c.requires.node c.index-nodes-node.is in
-    let kid_in : c.loop-child.child < child_count c.args.tree.now c.args.node = omega (arith, kids, c.child_count-child-end.ensures) in
+    let kid_in : c.loop-child.child < child_count c.args.tree.now c.args.node = omega (arith, kids, c.child_count-children.ensures) in
     let k = head_key g.R.Rank.KEYS g.R.Rank.key c.args.entries.now.entries (stream_of c.args.nodes.now (child c.args.tree.now c.args.node c.loop-child.child) (group_named c.args.tree.now c.args.node c.args.row c.loop-child.child)).head c.child_head-head.result c.get.result.now _ c.child_head-head.ensures.head c.get.ensures.value (c.requires.headed.keys c.loop-child.child kid_in) in
-    let longer = first_longer g.R.Rank.KEYS g.R.Rank.key c.args.tree.now c.requires.formed c.requires.tie_free c.args.node c.args.row c.loop-child.child _ _ (g.R.Rank.key c.joined-first.result.rank) c.requires.node c.requires.row kid_in c.loop-child.invariant.key k.0 c.joined-first.ensures.key in
+    let longer = first_longer g.R.Rank.KEYS g.R.Rank.key c.args.tree.now c.requires.formed c.requires.tie_free c.args.node c.args.row c.loop-child.child _ _ (g.R.Rank.key c.join-rank.result) c.requires.node c.requires.row kid_in c.loop-child.invariant.key k.0 c.join-rank.ensures.sum in
     record {
       key = longer;
-      rows = c.joined-first.ensures.rows;
-      fresh = product_made g.R.Rank.KEYS g.R.Rank.key c.args.tree.now c.args.nodes.now c.args.node c.args.row c.loop-child.child c.child_head-head.result c.loop-child.products.items _ c.in_ok-new.field-0 c.joined-first.result c.loop-child.invariant.fresh c.in_ok-push.ensures.items c.in_ok-new.ensures.found c.in_ok-new.ensures.frontier c.child_head-head.ensures.head longer c.joined-first.ensures.rows;
-      steps = omega (arith, c.loop-child.invariant.steps, c.child_head-head.ensures.cost, c.get.ensures.cost, c.joined-first.ensures.cost);
+      fresh = product_made g.R.Rank.KEYS g.R.Rank.key c.args.tree.now c.args.nodes.now c.args.node c.args.row c.loop-child.child c.child_head-head.result c.loop-child.products.items _ c.in_ok-new.field-0 c.join-rank.result c.loop-child.invariant.fresh c.in_ok-push.ensures.items c.in_ok-new.ensures.found c.in_ok-new.ensures.frontier c.child_head-head.ensures.head longer;
+      steps = omega (arith, c.loop-child.invariant.steps, c.child_head-head.ensures.cost, c.get.ensures.cost, c.join-rank.ensures.counted);
     }
 
 pub returns-clause-fresh : goal.returns-clause-fresh
 returns-clause-fresh g c =
     let kids : length c.index-nodes-node.result.children ≡ child_count c.args.tree.now c.args.node = children_count g.R.Rank.KEYS g.R.Rank.key c.args.tree.now c.args.entries.now.entries c.args.nodes.now c.args.node c.args.row c.index-nodes-node.result c.requires.headed c.requires.node c.index-nodes-node.is in
-    let end : c.loop-child.child ≡ child_count c.args.tree.now c.args.node = omega (arith, kids, c.child_count-child-end.ensures, c.loop-child.auto.child-end) in
+    let end : c.loop-child.child ≡ child_count c.args.tree.now c.args.node = omega (arith, kids, c.child_count-children.ensures, c.loop-child.auto.child-end) in
     subst (λ n. AreFreshTo g.R.Rank.KEYS g.R.Rank.key c.args.tree.now c.args.nodes.now c.args.node c.args.row n c.loop-child.products.items) end c.loop-child.invariant.fresh

@@ -180,25 +180,9 @@ after-index-requires-3 g t c =
     let a = row_of g t at.After-open_row o p in
     omega (arith, a.in_nodes)
 
-pub after-product_count-count-requires : goal.after-product_count-count-requires
-after-product_count-count-requires g t c =
-    let at = goal.at.after-product_count-count-requires g t c in
-    let o = entry_owned g t at.After-get-found in
-    let p = top_of g t at.In-Some-top o in
-    let a = row_of g t at.After-open_row o p in
-    omega (arith, a.row, a.formed.all_rows c.get-found.result.now.node o.node, ap (λ z. length z.products) (lists_at c.open_row.new.self.nodes.items c.get-found.result.now.node c.index-2.result.now c.index-2.ensures a.in_nodes))
-
-pub after-known-requires-clause-row : goal.after-known-requires-clause-row
-after-known-requires-clause-row g t c =
-    let at = goal.at.after-known-requires-clause-row g t c in
-    let o = entry_owned g t at.After-get-found in
-    let p = top_of g t at.In-Some-top o in
-    let a = row_of g t at.After-open_row o p in
-    omega (arith, a.row, a.formed.all_rows c.get-found.result.now.node o.node, ap (λ z. length z.products) (lists_at c.open_row.new.self.nodes.items c.get-found.result.now.node c.index-3.result.now c.index-3.ensures a.in_nodes))
-
-pub after-known-requires-clause-count : goal.after-known-requires-clause-count
-after-known-requires-clause-count g t c =
-    let at = goal.at.after-known-requires-clause-count g t c in
+pub after-known-requires : goal.after-known-requires
+after-known-requires g t c =
+    let at = goal.at.after-known-requires g t c in
     let o = entry_owned g t at.After-get-found in
     let p = top_of g t at.In-Some-top o in
     let a = row_of g t at.After-open_row o p in
@@ -659,16 +643,9 @@ extend-left_search-earlier-requires g t c =
     let b = child_of g t at.After-after a in
     omega (arith, b.left, c.known-known.ensures, ap (λ z. known_of z c.args.row (c.args.count - 1)) (lists_at c.after.new.self.nodes.items c.args.node c.index-3.result.now c.index-3.ensures (omega (arith, c.requires.node, b.formed.all_nodes))))
 
-pub extend-known-known-requires-clause-row : goal.extend-known-known-requires-clause-row
-extend-known-known-requires-clause-row g t c =
-    let at = goal.at.extend-known-known-requires-clause-row g t c in
-    let a = room_of g t at.After-make_room in
-    let b = child_of g t at.After-after a in
-    omega (arith, c.requires.row, b.formed.all_rows c.args.node c.requires.node, ap (λ z. length z.products) (lists_at c.after.new.self.nodes.items c.args.node c.index-3.result.now c.index-3.ensures (omega (arith, c.requires.node, b.formed.all_nodes))))
-
-pub extend-known-known-requires-clause-count : goal.extend-known-known-requires-clause-count
-extend-known-known-requires-clause-count g t c =
-    let at = goal.at.extend-known-known-requires-clause-count g t c in
+pub extend-known-known-requires : goal.extend-known-known-requires
+extend-known-known-requires g t c =
+    let at = goal.at.extend-known-known-requires g t c in
     let a = room_of g t at.After-make_room in
     let b = child_of g t at.After-after a in
     omega (arith, b.in_row, ap (λ z. length (get_or z.products c.args.row [])) (lists_at c.after.new.self.nodes.items c.args.node c.index-3.result.now c.index-3.ensures (omega (arith, c.requires.node, b.formed.all_nodes))))

@@ -18,7 +18,7 @@ use Rattle.stream_model.specs.Links.{owned, IsLinkedAt}
 use Rattle.tdp_core.proofs.TreeFacts.{member_is_row}
 use Rattle.tdp_model.specs.KeyTuple.{key_none}
 use Rattle.suffix_streams.specs.Rankings.{part_list, group_list}
-use Rattle.suffix_streams.proofs.QueuePass.{IsGroupTop, IsQueuePassed, IsEntryLinked, group_top, queue_passed, passed_ends, passed_grows, queued_member, queued_place, row_read, entry_linked}
+use Rattle.suffix_streams.proofs.QueuePass.{IsGroupTop, IsQueuePassed, IsEntryLinked, group_top, queue_passed, passed_ends, passed_grows, queued_member, queued_key, queued_place, row_read, entry_linked}
 use Rattle.suffix_streams.proofs.solutions.Solutions.advance.Given.{Over}
 use Rattle.suffix_streams.proofs.solutions.Solutions.advance.Goals.{After-index, After-pass, After-set_next, After-top, In_ok-top}
 use Rattle.suffix_streams.proofs.solutions.Solutions.advance.Goals as goal
@@ -55,12 +55,6 @@ module _ (g : Over) where
 
   linked_of : (c : After-set_next g) → IsGroupTop g.R.Rank.KEYS g.R.Rank.key c.args.self.now.tree.now c.args.self.now.entries.entries c.args.self.now.nodes.items c.args.last c.args.node c.args.group c.args.row → IsEntryLinked c.args.self.now.tree.now c.args.self.now.entries.entries c.set_next.new.self.entries c.args.last (record { node = c.args.node; group = c.args.group; answer = c.row_answer-answer.result })
   linked_of c o = entry_linked o c.row_answer-answer.result c.push_reserved-next.new.self.entries c.set_next.new.self.entries c.push_reserved-next.result c.requires.formed c.requires.last c.requires.node c.requires.group c.requires.none c.push_reserved-next.ensures.id c.push_reserved-next.ensures.entries c.set_next.ensures.entries
-
-pub offered-offer-requires-clause-row : goal.offered-offer-requires-clause-row
-offered-offer-requires-clause-row g c =
-    let at = goal.at.offered-offer-requires-clause-row g c in
-    let o = top_of g at.After-index in
-    subst (λ n. c.args.row < length n.products) (lists_at c.args.self.now.nodes.items c.args.node c.index.result.now c.index.ensures o.in_nodes) (omega (arith, o.row, c.requires.formed.all_rows c.args.node o.node))
 
 pub returns-in_err-top-clause-formed : goal.returns-in_err-top-clause-formed
 returns-in_err-top-clause-formed g c =
@@ -132,6 +126,16 @@ row_answer-answer-requires-clause-place g c =
     subst (λ (z : List (NodeLists g.row.R.Denot)). c.in_ok-top.top.tag.place < row_known z c.args.node c.member-row.result) (sym (c.as_slice.ensures.value ∙ changed))
     (subst (λ z. c.in_ok-top.top.tag.place < row_known (slice_set c.args.self.now.nodes.items c.args.node (with_queue (lists_of c.args.self.now.nodes.items c.args.node) c.args.group (stream_at c.pass.new.self c.args.group).queue)) c.args.node z) (sym c.member-row.ensures.member) (queued_place p c.in_ok-top.top some first))
 
+pub row_answer-answer-requires-clause-key : goal.row_answer-answer-requires-clause-key
+row_answer-answer-requires-clause-key g c =
+    let at = goal.at.row_answer-answer-requires-clause-key g c in
+    let o = top_of g at.After-index in
+    let p = passed_of g at.After-pass o in
+    let some = some_of g at.In_ok-top o in
+    let first = first_is g at.In_ok-top o in
+    queued_key p c.in_ok-top.top some first
+    ∙ ap (λ z. get_or (part_list g.R.Rank.KEYS g.R.Rank.key c.args.self.now.tree.now c.args.node z (child_count c.args.self.now.tree.now c.args.node)) c.in_ok-top.top.tag.place (key_none g.R.Rank.KEYS 16)) (sym c.member-row.ensures.member)
+
 pub returns-clause-products : goal.returns-clause-products
 returns-clause-products g c =
     let at = goal.at.returns-clause-products g c in
@@ -177,13 +181,13 @@ returns-clause-formed g c =
     let some = some_of g at.In_ok-top o in
     let first = first_is g at.In_ok-top o in
     let e = linked_of g at.After-set_next o in
-    let key = c.row_answer-answer.ensures.key ∙ ap (λ z. get_or (part_list g.R.Rank.KEYS g.R.Rank.key c.args.self.now.tree.now c.args.node z (child_count c.args.self.now.tree.now c.args.node)) c.in_ok-top.top.tag.place (key_none g.R.Rank.KEYS 16)) c.member-row.ensures.member in
+    let key = ap g.R.Rank.key c.row_answer-answer.ensures.rank ∙ queued_key p c.in_ok-top.top some first in
     subst (λ (z : List (NodeLists g.row.R.Denot)). IsStreams g.R.Rank.KEYS g.R.Rank.key c.args.self.now.tree.now c.set_next.new.self.entries z) (sym changed)
     (passed_grows p c.set_next.new.self.entries c.in_ok-top.top c.row_answer-answer.result (entry_held c.args.self.now.entries.entries c.set_next.new.self.entries e.store) e.owners e.linked e.others e.longer some first
     (subst (λ n. IsLeast g.R.Rank.KEYS g.R.Rank.key c.in_ok-top.top (stream_at n c.args.group).queue) read c.in_ok-top.ensures.least) key c.row_answer-answer.ensures.rows)
 
-pub offered-offer-requires-clause-place : goal.offered-offer-requires-clause-place
-offered-offer-requires-clause-place g c =
+pub offered-offer-requires : goal.offered-offer-requires
+offered-offer-requires g c =
     let x = first_of (stream_of c.args.self.now.nodes.items c.args.node c.args.group).queue c.requires.top in
     let place : x.0.tag.place + 1 ≡ c.args.next.place = ap (λ e. e.tag.place + 1) x.1 ∙ c.requires.after x.0 in
     omega (arith, place)

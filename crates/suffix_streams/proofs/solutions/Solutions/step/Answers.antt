@@ -1,10 +1,12 @@
 use Rattle.std.proofs.Common.{◌≡◌, ◌+◌, ◌*◌, ◌<◌, ◌≤◌, ◌^◌, suc, inl, inr, refl, Option, IfSome, MatchOption, List, [], ◌∷◌, ◌++◌, length, slice_set, get_or, sym, ap, ◌∙◌, subst, arith}
 use Rattle.std.proofs.lemmas.List.{get_or-set_same}
+use Rattle.std.specs.List.{All}
 use Rattle.rank_key.specs.Bits.{bit_length}
+use Rattle.take2_heap.specs.declared.entry.Entry.{Entry}
 use Rattle.take2_heap.specs.Order.{IsLeast}
 use Rattle.suffix_streams.specs.declared.cell.Cell.{Cell}
 use Rattle.suffix_streams.specs.NodeLists.{NodeLists, product_at, known_of, with_product}
-use Rattle.suffix_streams.specs.StreamsData.{HasParts, IsCell, IsStreams, pair_of, lists_of, product_of, part_known}
+use Rattle.suffix_streams.specs.StreamsData.{HasParts, IsCell, IsStreams, pair_of, node_of, group_of, lists_of, product_of, part_known}
 use Rattle.tdp_core.specs.TreeData.{group_named}
 use Rattle.rank_key.proofs.BitLemmas.{bit_length-rises}
 use Rattle.suffix_streams.specs.Rankings.{child, part_list, group_list}
@@ -14,7 +16,7 @@ use Rattle.suffix_streams.proofs.State.{count_more}
 use Rattle.suffix_streams.proofs.Heads.{lists_at}
 use Rattle.suffix_streams.proofs.Entries.{parts_of}
 use Rattle.suffix_streams.proofs.Changes.{counts_kept}
-use Rattle.suffix_streams.proofs.StepCells.{cell_known, down_cell_known, beside_cell_known, parts_after, one_change, no_top}
+use Rattle.suffix_streams.proofs.StepCells.{cell_known, down_cell_known, beside_cell_known, one_change, no_top}
 use Rattle.suffix_streams.proofs.ProductPass.{IsProductPassed, IsSumKept, product_passed, product_ends, sum_kept}
 use Rattle.suffix_streams.proofs.solutions.Solutions.step.Given.{Over}
 use Rattle.suffix_streams.proofs.solutions.Solutions.step.Goals.{After-keep, After-known-known, After-pass_product, After-product_top}
@@ -43,9 +45,9 @@ module _ (g : Over) where
   read_of : (c : After-product_top g) → IsProductPassed g.R.Rank.KEYS g.R.Rank.key c.args.self.now.tree.now c.args.self.now.entries.entries c.args.self.now.nodes.items c.args.node c.args.row c.args.child (product_at c.pass_product.new.self c.args.row c.args.child) → c.index-2.result.now ≡ c.pass_product.new.self
   read_of c a = c.index-2.ensures ∙ get_or-set_same c.args.self.now.nodes.items c.args.node c.pass_product.new.self c.index-2.result.now a.in_nodes
 
-  kept_of : (c : After-keep g) → IsProductPassed g.R.Rank.KEYS g.R.Rank.key c.args.self.now.tree.now c.args.self.now.entries.entries c.args.self.now.nodes.items c.args.node c.args.row c.args.child (product_at c.pass_product.new.self c.args.row c.args.child) → IsSumKept c.args.self.now.nodes.items c.args.node c.args.row c.args.child c.cell_answer-answer.result c.pass_product.new.self c.keep.new.self
+  kept_of : (c : After-keep g) → IsProductPassed g.R.Rank.KEYS g.R.Rank.key c.args.self.now.tree.now c.args.self.now.entries.entries c.args.self.now.nodes.items c.args.node c.args.row c.args.child (product_at c.pass_product.new.self c.args.row c.args.child) → IsSumKept c.args.self.now.nodes.items c.args.node c.args.row c.args.child c.in-Some.top c.pass_product.new.self c.keep.new.self
   kept_of c a =
-      sum_kept a c.cell_answer-answer.result c.index_mut.result.now c.index_mut-2.result.now c.pass_product.new.self c.keep.new.self refl c.requires.formed c.requires.node c.requires.row c.requires.child c.index_mut.ensures.value c.pass_product.ensures.changed c.index_mut-2.ensures.value c.keep.ensures.changed c.keep.ensures.found c.keep.ensures.frontier
+      sum_kept a c.in-Some.top c.index_mut.result.now c.index_mut-2.result.now c.pass_product.new.self c.keep.new.self refl c.requires.formed c.requires.node c.requires.row c.requires.child c.index_mut.ensures.value c.pass_product.ensures.changed c.index_mut-2.ensures.value c.keep.ensures.changed c.keep.ensures.found c.keep.ensures.frontier
 
 pub offered-down-requires-clause-parts : goal.offered-down-requires-clause-parts
 offered-down-requires-clause-parts g c = subst (λ (z : List (NodeLists g.row.R.Denot)). HasParts g.R.Rank.KEYS g.R.Rank.key c.args.self.now.tree.now c.args.self.now.entries.entries z c.args.node c.args.row c.args.child) (sym c.as_slice.ensures.value) (parts_of g.R.Rank.KEYS g.R.Rank.key c.args.self.now.tree.now c.args.self.now.entries.entries c.args.self.now.nodes.items c.requires.formed c.args.node c.args.row c.args.child c.requires.node c.requires.row c.requires.child)
@@ -96,24 +98,6 @@ returns-in_default-clause-cost g c =
     let digits = digits_of g at.After-pass_product in
     omega (arith, digits)
 
-pub cell_answer-answer-requires-clause-parts : goal.cell_answer-answer-requires-clause-parts
-cell_answer-answer-requires-clause-parts g c =
-    let at = goal.at.cell_answer-answer-requires-clause-parts g c in
-    let a = passed_of g at.After-pass_product in
-    let changed = changed_of g at.After-pass_product a in
-    subst (λ (z : List (NodeLists g.row.R.Denot)). HasParts g.R.Rank.KEYS g.R.Rank.key c.args.self.now.tree.now c.args.self.now.entries.entries z c.args.node c.args.row c.args.child) (sym (c.as_slice-3.ensures.value ∙ changed))
-    (parts_after g.R.Rank.KEYS g.R.Rank.key c.args.self.now.tree.now c.args.self.now.entries.entries c.args.self.now.nodes.items c.requires.formed c.args.node c.args.row c.args.child c.requires.node c.requires.row c.requires.child c.args.cell.now c.requires.top c.requires.cell (product_at c.pass_product.new.self c.args.row c.args.child) a.rises)
-
-pub cell_answer-answer-requires-clause-cell : goal.cell_answer-answer-requires-clause-cell
-cell_answer-answer-requires-clause-cell g c =
-    let at = goal.at.cell_answer-answer-requires-clause-cell g c in
-    let a = passed_of g at.After-pass_product in
-    let changed = changed_of g at.After-pass_product a in
-    let read = read_of g at.After-product_top a in
-    let some : 0 < length (product_at c.pass_product.new.self c.args.row c.args.child).frontier = subst (λ n. 0 < length (product_at n c.args.row c.args.child).frontier) read (c.in-Some.ensures.variant.0 refl) in
-    let first : c.in-Some.top ≡ get_or (product_at c.pass_product.new.self c.args.row c.args.child).frontier 0 c.in-Some.top = c.in-Some.ensures.top c.in-Some.top ∙ ap (λ n. get_or (product_at n c.args.row c.args.child).frontier 0 c.in-Some.top) read in
-    subst (λ (z : List (NodeLists g.row.R.Denot)). IsCell g.R.Rank.KEYS g.R.Rank.key c.args.self.now.tree.now c.args.self.now.entries.entries z c.args.node c.args.row c.args.child c.in-Some.top.tag) (sym (c.as_slice-3.ensures.value ∙ changed)) (a.next_known c.in-Some.top some first)
-
 pub keep-requires-clause-child : goal.keep-requires-clause-child
 keep-requires-clause-child g c =
     let at = goal.at.keep-requires-clause-child g c in
@@ -130,9 +114,9 @@ returns-clause-formed g c =
     let some : 0 < length (product_at c.pass_product.new.self c.args.row c.args.child).frontier = subst (λ n. 0 < length (product_at n c.args.row c.args.child).frontier) read (c.in-Some.ensures.variant.0 refl) in
     let first : c.in-Some.top ≡ get_or (product_at c.pass_product.new.self c.args.row c.args.child).frontier 0 c.in-Some.top = c.in-Some.ensures.top c.in-Some.top ∙ ap (λ n. get_or (product_at n c.args.row c.args.child).frontier 0 c.in-Some.top) read in
     subst (λ (z : List (NodeLists g.row.R.Denot)). IsStreams g.R.Rank.KEYS g.R.Rank.key c.args.self.now.tree.now c.args.self.now.entries.entries z) (sym k.changed)
-    (a.holds (product_at c.keep.new.self c.args.row c.args.child) k.frontier (subst (λ n. length (product_at n c.args.row c.args.child).frontier < 2 ^ 64) read c.in-Some.ensures.limit) k.rises
+    (a.holds (product_at c.keep.new.self c.args.row c.args.child) k.frontier (subst (λ n. length (product_at n c.args.row c.args.child).frontier < 2 ^ 64) read c.in-Some.ensures.limit) k.rises (subst (All (λ (e : Entry g.row.R.Denot Cell). (e.tag.left < part_known c.args.self.now.nodes.items c.args.node c.args.row c.args.child) × (e.tag.right < length c.args.self.now.entries.entries) × (node_of c.args.self.now.entries.entries e.tag.right ≡ child c.args.self.now.tree.now c.args.node c.args.child) × (group_of c.args.self.now.entries.entries e.tag.right ≡ group_named c.args.self.now.tree.now c.args.node c.args.row c.args.child))) (sym k.found) (a.next_known c.in-Some.top some first))
     (subst (λ f. IsFrontier g.R.Rank.KEYS g.R.Rank.key (pair_of c.args.self.now.entries.entries) (part_list g.R.Rank.KEYS g.R.Rank.key c.args.self.now.tree.now c.args.node c.args.row c.args.child) (group_list g.R.Rank.KEYS g.R.Rank.key c.args.self.now.tree.now (child c.args.self.now.tree.now c.args.node c.args.child) (group_named c.args.self.now.tree.now c.args.node c.args.row c.args.child)) (part_list g.R.Rank.KEYS g.R.Rank.key c.args.self.now.tree.now c.args.node c.args.row (suc c.args.child)) f (product_at c.pass_product.new.self c.args.row c.args.child).frontier) (sym k.found)
-    (a.grows c.in-Some.top c.cell_answer-answer.result some first (subst (λ n. IsLeast g.R.Rank.KEYS g.R.Rank.key c.in-Some.top (product_at n c.args.row c.args.child).frontier) read c.in-Some.ensures.least) c.cell_answer-answer.ensures.key c.cell_answer-answer.ensures.rows)))
+    (a.grows c.in-Some.top some first (subst (λ n. IsLeast g.R.Rank.KEYS g.R.Rank.key c.in-Some.top (product_at n c.args.row c.args.child).frontier) read c.in-Some.ensures.least))))
 
 pub returns-clause-changed : goal.returns-clause-changed
 returns-clause-changed g c =
@@ -148,7 +132,7 @@ returns-clause-reached g c =
     let k = kept_of g at.After-keep a in
     let next : suc c.args.child ≡ c.args.child + 1 = omega arith in
     subst (λ k. IsReached g.R.Rank.KEYS g.R.Rank.key c.args.self.now.tree.now (slice_set (slice_set c.args.self.now.nodes.items c.args.node c.pass_product.new.self) c.args.node c.keep.new.self) c.args.node c.args.row k (part_known c.args.self.now.nodes.items c.args.node c.args.row k)) next
-    (inl (omega (arith, ap (λ q. length q.found) k.product, ap length k.found, count_more (product_of c.args.self.now.nodes.items c.args.node c.args.row c.args.child).found c.cell_answer-answer.result)))
+    (inl (omega (arith, ap (λ q. length q.found) k.product, ap length k.found, count_more (product_of c.args.self.now.nodes.items c.args.node c.args.row c.args.child).found c.in-Some.top)))
 
 pub returns-clause-queue : goal.returns-clause-queue
 returns-clause-queue g c =
@@ -161,4 +145,4 @@ pub returns-clause-cost : goal.returns-clause-cost
 returns-clause-cost g c =
     let at = goal.at.returns-clause-cost g c in
     let digits = digits_of g at.After-pass_product in
-    omega (arith, digits, c.cell_answer-answer.ensures.cost)
+    omega (arith, digits)
