@@ -1,5 +1,5 @@
 //! The record of an answer.
-ghost use Rattle.std.specs.Prelude.{◌≡◌, ◌<◌, ◌++◌, [], if◌then◌else◌, length, map, option_map, string_bytes, take, IfOk, OnOk};
+ghost use Rattle.std.specs.Prelude.{◌≡◌, ◌<◌, ◌++◌, [], if◌then◌else◌, length, map, option_map, take, IfOk, OnOk};
 ghost use Rattle.std.specs.Fmt.{decimal, signed_decimal};
 ghost use Rattle.anyk_model.specs.Output.{line_text, optional_field};
 ghost use Rattle.anyk_model.specs.Query.{IsCombination, row_counts, sum_of, value_of};
@@ -7,9 +7,10 @@ ghost use Rattle.query_bind.specs.Weighed.{Fits};
 ghost use Rattle.query_bind.specs.Weights.{key_at};
 ghost use Rattle.answer_print.specs.Shown.{style_shown};
 
-use crate::fields::{push_optional, push_texts};
+use crate::fields::{push_numbers, push_optional};
 use crate::style::Style;
 use csv_tables::{RecordWriter, Tables};
+use number_text::NumberText;
 use query_bind::Query;
 use std::alloc::Global;
 use step_counter::NoMemory;
@@ -57,17 +58,17 @@ fn collect_fields<'a>(
     tables: &'a Tables,
     rows: &[u32; 16],
     cursor: Option<&'a [u8]>,
-    numbers: &'a [String],
+    numbers: &'a [NumberText],
 ) -> Result<Vec<&'a [u8]>, NoMemory>
     requires fits { Fits query.now tables.now }
     requires rows { IsCombination (row_counts query.now.query.items tables.now) (take (length query.now.query.items) rows.now) }
     ensures { IfOk result (λ fields. map (λ f. f.now) fields.items ≡ optional_field (option_map (λ name. name.now) cursor.entry)
-        ++ (map (value_of query.now.query tables.now (take (length query.now.query.items) rows.now)) query.now.query.list ++ map string_bytes numbers.now)) }
+        ++ (map (value_of query.now.query tables.now (take (length query.now.query.items) rows.now)) query.now.query.list ++ numbers.now)) }
 {
-    let mut fields = Vec::new(alloc);
+    let mut fields = Vec::with_capacity(alloc, 1 + query.columns().len() + numbers.len())?;
     push_optional(&mut fields, cursor)?;
     push_values(&mut fields, query, tables, rows)?;
-    push_texts(&mut fields, numbers)?;
+    push_numbers(&mut fields, numbers)?;
     Ok(fields)
 }
 
@@ -98,54 +99,51 @@ fn numbers(
     tables: &Tables,
     rows: &[u32; 16],
     style: &Style<'_>,
-) -> Result<Vec<String>, NoMemory>
+) -> Result<Vec<NumberText>, NoMemory>
     requires fits { Fits query.now tables.now }
     requires rows { IsCombination (row_counts query.now.query.items tables.now) (take (length query.now.query.items) rows.now) }
-    ensures { let chosen = take (length query.now.query.items) rows.now in IfOk result (λ numbers. map string_bytes numbers.items
+    ensures { let chosen = take (length query.now.query.items) rows.now in IfOk result (λ numbers. numbers.items
         ≡ (if style.now.ranks then map (λ k. signed_decimal (sum_of query.now.query tables.now chosen k)) query.now.query.order else [])
         ++ (if style.now.rows then map decimal chosen else [])) }
 {
     let mut numbers = Vec::new(alloc);
     if style.ranks {
-        push_sums(alloc, &mut numbers, query, tables, rows)?;
+        push_sums(&mut numbers, query, tables, rows)?;
     }
     if style.rows {
-        push_rows(alloc, &mut numbers, query, rows)?;
+        push_rows(&mut numbers, query, rows)?;
     }
     Ok(numbers)
 }
 
 /// Puts the sums of the order keys last.
 fn push_sums(
-    alloc: Global,
-    numbers: &mut Vec<String>,
+    numbers: &mut Vec<NumberText>,
     query: &Query,
     tables: &Tables,
     rows: &[u32; 16],
 ) -> Result<(), NoMemory>
     requires fits { Fits query.now tables.now }
     requires rows { IsCombination (row_counts query.now.query.items tables.now) (take (length query.now.query.items) rows.now) }
-    ensures { let chosen = take (length query.now.query.items) rows.now in OnOk result (map string_bytes numbers.new.items ≡ map string_bytes numbers.old.items
+    ensures { let chosen = take (length query.now.query.items) rows.now in OnOk result (numbers.new.items ≡ numbers.old.items
         ++ map (λ k. signed_decimal (sum_of query.now.query tables.now chosen k)) query.now.query.order) }
 {
+    numbers.reserve(query.keys() as usize)?;
     for key in 0..query.keys() {
         let sum = key_sum(query, tables, rows, key);
-        numbers.push(format!(in alloc; "{sum}")?)?;
+        numbers.push(NumberText::of_signed(sum))?;
     }
     Ok(())
 }
 
 /// Puts the row numbers of the items last.
-fn push_rows(
-    alloc: Global,
-    numbers: &mut Vec<String>,
-    query: &Query,
-    rows: &[u32; 16],
-) -> Result<(), NoMemory>
-    ensures { OnOk result (map string_bytes numbers.new.items ≡ map string_bytes numbers.old.items ++ map decimal (take (length query.now.query.items) rows.now)) }
+fn push_rows(numbers: &mut Vec<NumberText>, query: &Query, rows: &[u32; 16]) -> Result<(), NoMemory>
+    ensures { OnOk result (numbers.new.items ≡ numbers.old.items ++ map decimal (take (length query.now.query.items) rows.now)) }
 {
-    for row in &rows[..query.items() as usize] {
-        numbers.push(format!(in alloc; "{row}")?)?;
+    let items = query.items() as usize;
+    numbers.reserve(items)?;
+    for row in &rows[..items] {
+        numbers.push(NumberText::of(*row))?;
     }
     Ok(())
 }

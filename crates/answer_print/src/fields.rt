@@ -2,6 +2,7 @@
 ghost use Rattle.std.specs.Prelude.{◌≡◌, ◌++◌, OnOk, map, option_map, string_bytes};
 ghost use Rattle.anyk_model.specs.Output.{optional_field};
 
+use number_text::NumberText;
 use step_counter::NoMemory;
 
 /// Puts a field last, where there is one.
@@ -26,6 +27,19 @@ pub(crate) fn push_texts<'a>(
 {
     for text in texts {
         fields.push(text.as_bytes())?;
+    }
+    Ok(())
+}
+
+/// Puts the texts of numbers last.
+pub(crate) fn push_numbers<'a>(
+    fields: &mut Vec<&'a [u8]>,
+    numbers: &'a [NumberText],
+) -> Result<(), NoMemory>
+    ensures { OnOk result (map (λ f. f.now) fields.new.items ≡ map (λ f. f.now) fields.old.items ++ numbers.now) }
+{
+    for number in numbers {
+        fields.push(number.as_bytes())?;
     }
     Ok(())
 }

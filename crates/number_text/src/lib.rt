@@ -4,6 +4,10 @@
 ghost use Rattle.std.specs.Prelude.{◌≡◌, ◌≤◌, ◌%◌, decimal, drop, false};
 ghost use Rattle.std.specs.Fmt.{digit_glyph};
 
+mod text;
+
+pub use text::NumberText;
+
 /// Writes the number's digits, without leading zeros, at the end of the buffer, and answers where they begin, from 0.
 /// Twenty digits are room for every `u64`.
 pub fn write_digits(number: u64, digits: &mut [u8; 20]) -> usize
