@@ -10,3 +10,4 @@ pub mod WitnessRows
 pub mod Witnesses
 pub mod Places
 pub mod PlanRows
+pub mod Lines

@@ -1,5 +1,5 @@
 -- The plan of a query, from what building, reducing and solving give.
-use Rattle.std.proofs.Common.{◌≡◌, ℕ, ◌+◌, ◌<◌, ◌≤◌, List, length, Err, sym, ap, ◌∙◌, arith}
+use Rattle.std.proofs.Common.{◌≡◌, ℕ, ◌+◌, ◌<◌, ◌≤◌, List, length, map, Err, refl, sym, ap, ◌∙◌, subst, arith}
 use Rattle.std.proofs.lemmas.List.{get_or-map, get_or-take, length-map}
 use Rattle.tdp_model.specs.KeyTuple.{KeyOf}
 use Rattle.tdp_model.specs.TreeProblem.{sum_from}
@@ -7,20 +7,21 @@ use Rattle.tdp_core.specs.RawData.{RawData, row_total, shape_at}
 use Rattle.tdp_core.specs.TreeData.{NodeData, node_at, rows}
 use Rattle.tdp_core.specs.Solutions.{IsTieFreeRaw}
 use Rattle.tdp_core.specs.WellFormed.{IsFormed}
+use Rattle.join_tree.specs.Rerooting.{IsTree}
 use Rattle.join_tree.specs.declared.tree.JoinTree.{JoinTree}
 use Rattle.anyk_model.specs.Table.{Table}
 use Rattle.anyk_model.specs.Query.{row_counts}
 use Rattle.query_bind.specs.Parts.{sum_of_all}
 use Rattle.query_bind.specs.Weighed.{BoundQuery, Fits}
-use Rattle.query_shape.specs.Shape.{IsShape, too_many_rows}
-use Rattle.query_shape.specs.Shown.{HasStoredTree}
+use Rattle.query_shape.specs.Shape.{HasShape, IsShape, too_many_rows}
+use Rattle.query_shape.specs.Shown.{HasItems, HasStoredTree}
 use Rattle.node_build.specs.Nodes.{IsBuilt, IsJoinTreeOf, PassesBudget}
 use Rattle.semi_join.specs.Reduced.{IsReduced}
 use Rattle.tree_dp.specs.Solved.{IsSolved}
-use Rattle.plan_build.specs.Plan.{IsPlan}
+use Rattle.plan_build.specs.Plan.{IsPlan, tree_shown}
 use Rattle.plan_build.proofs.PlanOf.{AreWitnesses, has-witnesses, ranking-agrees}
 use Rattle.plan_build.proofs.PlanRows.{reduced-rows}
-use Rattle.plan_build.proofs.ShapeOf.{kept-in-all, numbers-in-all, numbers_of, rows-of-built, shape-of-rows, shape_with}
+use Rattle.plan_build.proofs.ShapeOf.{kept-in-all, numbers-in-all, numbers_of, rows-of-built, same-lengths, shape-of-rows, shape_with}
 use Rattle.plan_build.proofs.Sizes.{fewer-in-all, sum-of-lengths}
 use Rattle.plan_build.proofs.Witnesses.{raw-witness, witness-raw}
 
@@ -35,6 +36,7 @@ module _ (bound : BoundQuery) (tables : List Table) (join : JoinTree) (stored : 
       (shape, shape-of-rows bound tables join stored count past.rows past.of_nodes, (let sum = sum-of-lengths past.rows in let p = past.past in omega (arith, is, sum, p)))
 
   module _ {R : Type 0} (d : ℕ) (key : R → KeyOf d 16) (fits : Fits bound tables) (few : length bound.query.order ≤ d) (items : length bound.query.items ≤ 16)
+      (ordered : IsTree join.count join.atom join.parent) (atoms : HasItems join.count join.atom (length bound.query.items))
       (raw : RawData R) (built : IsBuilt bound tables d key join raw) (each_node : length raw.rows ≡ length raw.shapes) (tie_free : IsTieFreeRaw raw)
       (parts tree : List (NodeData R)) (reduced : IsReduced d key raw parts) (solved : IsSolved parts tree) (formed : IsFormed d key tree) where
     are-witnesses : AreWitnesses d key bound.query tables raw
@@ -63,18 +65,26 @@ module _ (bound : BoundQuery) (tables : List Table) (join : JoinTree) (stored : 
         let all : sum_from ◌+◌ 0 (rows tree) (length tree) 0 ≡ sum_from ◌+◌ 0 (rows tree) (length raw.shapes) 0 = ap (λ n. sum_from ◌+◌ 0 (rows tree) n 0) same in
         omega (arith, kept, fewer, all)
 
-    pub planned : (used total : ℕ) → used ≡ row_total raw → used ≤ 4194304 → total ≡ sum_of_all (row_counts bound.query.items tables) + used
-        → IsPlan d key bound tables (record { tree = tree; total = total })
-    planned used total is within sum =
+    pub planned : (node_rows : List ℕ) (used total : ℕ) → node_rows ≡ map length raw.rows → used ≡ row_total raw → used ≤ 4194304
+        → total ≡ sum_of_all (row_counts bound.query.items tables) + used
+        → IsPlan d key bound tables (record { tree = tree; join = join; node_rows = node_rows; total = total })
+    planned node_rows used total rows_are is within sum =
         let numbers = numbers_of raw in
-        let shape = shape_with bound tables join stored count numbers in
-        let all : sum_of_all shape.node_rows ≡ used = numbers-in-all raw ∙ sym is in
+        let same : map length numbers ≡ node_rows = same-lengths (λ x. x.row.row) raw.rows ∙ sym rows_are in
+        let all : sum_of_all node_rows ≡ used = ap sum_of_all (sym same) ∙ numbers-in-all raw ∙ sym is in
+        let hung : HasShape bound.query tables (tree_shown join node_rows) =
+        subst (λ (rows : List ℕ). HasShape bound.query tables (tree_shown join rows)) same
+        (shape-of-rows bound tables join stored count numbers (rows-of-built bound tables join stored count d key raw built each_node)) in
         let apart = solved.tie_free (reduced.tie_free tie_free) in
         let has = has-witnesses d key bound.query tables raw parts tree reduced solved are-witnesses formed apart in
         record {
-          shape = shape;
-          is_shape = (shape-of-rows bound tables join stored count numbers (rows-of-built bound tables join stored count d key raw built each_node), omega (arith, all, within));
+          shape = tree_shown join node_rows;
+          is_shape = (hung, omega (arith, all, within));
+          shown = refl;
           total = omega (arith, sum, all);
+          count = count;
+          ordered = ordered;
+          atoms = atoms;
           nodes = nodes ∙ count;
           items = λ v l.
               let inside : v < join.count = (let n = nodes in omega (arith, l, n)) in

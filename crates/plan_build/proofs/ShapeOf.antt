@@ -19,7 +19,7 @@ use Rattle.plan_build.proofs.Sizes.{few-below, fewer-in-all, lengths-in-all, sum
 abbrev pub numbers_of : {R : Type 0} → RawData R → List (List ℕ)
 numbers_of raw = map (map (λ x. x.row.row)) raw.rows
 
-same-lengths : {A : Type 0} (f : A → ℕ) (xss : List (List A)) → map length (map (map f) xss) ≡ map length xss
+pub same-lengths : {A : Type 0} (f : A → ℕ) (xss : List (List A)) → map length (map (map f) xss) ≡ map length xss
 same-lengths f [] = refl
 same-lengths f (xs ∷ xss) = λ i. length-map xs f i ∷ same-lengths f xss i
 

@@ -1,5 +1,5 @@
 -- The plan of a query: the tree problem whose solutions are the query's witnesses.
-use Rattle.std.specs.Prelude.{◌≡◌, ◌↔◌, ◌⊎◌, ℕ, ◌<◌, ◌≤◌, List, Contains, map, length, slice_index, Ok, Err}
+use Rattle.std.specs.Prelude.{◌≡◌, ◌↔◌, ◌⊎◌, ℕ, ◌<◌, ◌≤◌, List, Contains, map, length, slice_index, take, Ok, Err}
 use Rattle.rankings.specs.Order.{IsAscending, IsMember}
 use Rattle.tdp_model.specs.KeyTuple.{KeyOf}
 use Rattle.tdp_core.specs.TreeData.{NodeData, group, item, node_at, number, parent, row_count, rows}
@@ -11,7 +11,10 @@ use Rattle.anyk_model.specs.Ranking.{ranking_of}
 use Rattle.query_bind.specs.Classes.{Passes}
 use Rattle.query_bind.specs.Parts.{sum_of_all}
 use Rattle.query_bind.specs.Weighed.{BoundQuery}
+use Rattle.join_tree.specs.Rerooting.{IsTree}
+use Rattle.join_tree.specs.declared.tree.JoinTree.{JoinTree}
 use Rattle.query_shape.specs.Shape.{IsShape, Shape, cyclic, too_many_rows}
+use Rattle.query_shape.specs.Shown.{HasItems}
 use Rattle.node_build.specs.Nodes.{RowsAgree, RowsAlike}
 use Rattle.semi_join.specs.Reduced.{ShareGroup}
 use Rattle.hyper_graph.specs.Items.{items_of}
@@ -20,10 +23,20 @@ use Rattle.witness_key.specs.WitnessKey.{witness_key}
 use Rattle.plan_build.specs.declared.fault.PlanFault.{PlanFault}
 use Rattle.plan_build.specs.declared.fault.PlanFault.TheVariants as fault
 
--- a tree, and how many rows the tables of all items and the nodes have together
+-- a tree that was solved, the join tree under it, how many rows each node had before the reduction, and how many rows the tables of
+-- all items and the nodes have together
 pub record PlanData (R : Type 0) : Type 0 where
   pub tree : List (NodeData R)
+  pub join : JoinTree
+  pub node_rows : List ℕ
   pub total : ℕ
+
+-- the nodes of a stored join tree, with so many rows each
+abbrev pub tree_shown : JoinTree → List ℕ → Shape
+tree_shown join node_rows = record { atoms = take join.count join.atom; parents = take join.count join.parent; node_rows = node_rows }
+
+abbrev pub shape_of : {R : Type 0} → PlanData R → Shape
+shape_of plan = tree_shown plan.join plan.node_rows
 
 module _ {R : Type 0} (d : ℕ) (key : R → KeyOf d 16) (query : Query) (tables : List Table) where
   -- a solution of the tree has the key of a witness, each witness has the key of a solution, and two solutions with one key are
@@ -63,7 +76,12 @@ module _ (bound : BoundQuery) (tables : List Table) {R : Type 0} (tree : List (N
 pub record IsPlan {R : Type 0} (d : ℕ) (key : R → KeyOf d 16) (bound : BoundQuery) (tables : List Table) (plan : PlanData R) : Type 0 where
   pub shape : Shape
   pub is_shape : IsShape bound.query tables (Ok shape)
+  pub shown : shape ≡ shape_of plan
   pub total : plan.total ≡ total_of bound.query tables shape
+  -- the join tree is stored with parents first, each node an item of the query
+  pub count : plan.join.count ≡ length bound.query.items
+  pub ordered : IsTree plan.join.count plan.join.atom plan.join.parent
+  pub atoms : HasItems plan.join.count plan.join.atom (length bound.query.items)
   -- the nodes are those of the join tree
   pub nodes : length plan.tree ≡ length bound.query.items
   pub items : (v : ℕ) → v < length plan.tree → item plan.tree v ≡ slice_index shape.atoms v

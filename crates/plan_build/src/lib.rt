@@ -8,6 +8,8 @@
 
 mod fault;
 mod plan;
+mod reporting;
 
 pub use fault::PlanFault;
 pub use plan::{Plan, prepare};
+pub use reporting::report;

@@ -1,10 +1,11 @@
 //! The plan of a query.
-ghost use Rattle.std.specs.Prelude.{◌≡◌, ◌≤◌, ◌+◌, ◌*◌, ◌<◌, ◌^◌, List, length, IfErr, IfOk, Ok, ℕ};
+ghost use Rattle.std.specs.Prelude.{◌≡◌, ◌≤◌, ◌+◌, ◌*◌, ◌<◌, ◌^◌, List, length, map, IfErr, IfOk, Ok, ℕ};
 ghost use Rattle.anyk_model.specs.Query.{row_counts};
 ghost use Rattle.anyk_model.specs.Table.{Table};
 ghost use Rattle.query_bind.specs.Parts.{sum_of_all};
 ghost use Rattle.query_bind.specs.Weighed.{Fits};
-ghost use Rattle.query_shape.specs.Shown.{HasStoredTree};
+ghost use Rattle.join_tree.specs.Rerooting.{IsTree};
+ghost use Rattle.query_shape.specs.Shown.{HasItems, HasStoredTree};
 ghost use Rattle.tdp_core.specs.RawData.{IsRawFormed, row_total};
 ghost use Rattle.tdp_core.specs.Solutions.{IsTieFreeRaw};
 ghost use Rattle.node_build.specs.Nodes.{IsBuilt};
@@ -25,12 +26,14 @@ use step_counter::Steps;
 use tdp_core::Tree;
 use tree_dp::solve;
 
-/// A query's tree problem, prepared for ranked enumeration. It is seen as the tree and the number of rows of the tables of all
-/// items and of all nodes.
+/// A query's tree problem, prepared for ranked enumeration, with the join tree under it. It is seen as the two trees, the numbers of
+/// node rows before the reduction, and the number of rows of the tables of all items and of all nodes.
 #[derive(Drop)]
 pub struct Plan<R: Rank> {
     tree: Tree<R>,
-    total: u64,
+    pub(crate) join: JoinTree,
+    pub(crate) node_rows: Vec<u64>,
+    pub(crate) total: u64,
 }
 
 impl<R: Rank> Model for Plan<R> {
@@ -38,7 +41,7 @@ impl<R: Rank> Model for Plan<R> {
 
     ghost Value = { PlanData R };
 
-    ghost view = { λ p. record { tree = p.tree; total = p.total } };
+    ghost view = { λ p. record { tree = p.tree; join = p.join; node_rows = p.node_rows.items; total = p.total } };
 }
 
 impl<R: Rank> Plan<R> {
@@ -79,13 +82,20 @@ pub fn prepare<R: Rank, L: Ledger>(
     let reduced = reduce(alloc, built.tree, steps)?;
     let tree = solve(alloc, reduced, steps)?;
     let _nodes = tree.nodes();
-    Ok(Plan { tree, total })
+    Ok(Plan {
+        tree,
+        join,
+        node_rows: built.rows_of,
+        total,
+    })
 }
 
 // The join tree of a query.
 fn join_tree_of(query: &Query) -> Result<JoinTree, PlanFault>
     requires fits { (tables : List Table) × Fits query.now tables }
     ensures tree { IfOk result (HasStoredTree query.now.query) }
+    ensures ordered { IfOk result (λ tree. IsTree tree.count tree.atom tree.parent) }
+    ensures items { IfOk result (λ tree. HasItems tree.count tree.atom (length query.now.query.items)) }
     ensures count { IfOk result (λ tree. tree.count ≡ length query.now.query.items) }
     ensures refusal { IfErr result (λ fault. (tables : List Table) → TellsFlaw query.now.query tables fault) }
 {
@@ -112,6 +122,7 @@ fn nodes_of<R: Rank, L: Ledger>(
     ensures built { IfOk result (λ built. IsBuilt query.now tables.now R.KEYS R.key join.now built.tree) }
     ensures formed { IfOk result (λ built. IsRawFormed R.KEYS R.key built.tree) }
     ensures tie_free { IfOk result (λ built. IsTieFreeRaw built.tree) }
+    ensures rows_of { IfOk result (λ built. built.rows_of.items ≡ map length built.tree.rows) }
     ensures used { IfOk result (λ built. built.used ≡ row_total built.tree) }
     ensures within { IfOk result (λ built. built.used ≤ 4194304) }
     ensures fewer { IfOk result (λ built. built.used ≤ sum_of_all (row_counts query.now.query.items tables.now)) }

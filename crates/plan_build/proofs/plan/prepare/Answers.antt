@@ -36,9 +36,9 @@ returns-clause-plan g c =
     let built = c.in_ok-built.ensures in
     let nodes : length c.in_ok-built.built.tree.shapes ≡ length query.query.items = built.built.nodes ∙ c.in_ok-join.ensures.count in
     planned query c.args.tables.now c.in_ok-join.join c.in_ok-join.ensures.tree c.in_ok-join.ensures.count g.R.Rank.KEYS g.R.Rank.key c.requires.fits c.requires.keys
-    (omega (arith, nodes, built.formed.shaped.few_nodes))
-    c.in_ok-built.built.tree built.built built.formed.each_node built.tie_free _ _ c.in_ok-reduced.ensures.reduced c.in_ok-tree.ensures.solved c.nodes-nodes.ensures.formed c.in_ok-built.built.used _
-    built.used built.within (omega (arith, c.rows_of_tables.ensures.rows))
+    (omega (arith, nodes, built.formed.shaped.few_nodes)) c.in_ok-join.ensures.ordered c.in_ok-join.ensures.items
+    c.in_ok-built.built.tree built.built built.formed.each_node built.tie_free _ _ c.in_ok-reduced.ensures.reduced c.in_ok-tree.ensures.solved c.nodes-nodes.ensures.formed c.in_ok-built.built.rows_of.items c.in_ok-built.built.used _
+    built.rows_of built.used built.within (omega (arith, c.rows_of_tables.ensures.rows))
 
 pub returns-clause-cost : goal.returns-clause-cost
 returns-clause-cost g c =
