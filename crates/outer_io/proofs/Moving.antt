@@ -1,11 +1,38 @@
 -- Bytes that were moved in two calls, one after the other.
-use Rattle.std.proofs.Common.{◌≡◌, ℕ, ◌+◌, List, ◌++◌, Option, sym, ap, ◌∙◌, subst, take, drop}
-use Rattle.std.specs.Io.KnownBytes.{Appends}
-use Rattle.std.proofs.KnownBytes.{Appends-trans}
-use lib.Seq.{take-add}
+use Rattle.std.proofs.Common.{◌≡◌, ℕ, ◌+◌, ◌≤◌, ◌<◌, List, [], ◌++◌, Option, None, Some, IfSome, sym, ap, ◌∙◌, subst, take, drop, length, arith, length-take-le, length-append, drop_at, Result, Ok, Err, IfOk}
+use Rattle.std.specs.Io.{ReadsAtMost}
+use Rattle.std.specs.Io.KnownBytes.{Appends, Consumes, IsAtEnd}
+use Rattle.std.proofs.KnownBytes.{Appends-trans, Consumes-trans, Consumes-all}
+use lib.Seq.{take-add, take-append-le}
 
 -- the first n bytes were written, and then the first k of the others
 pub Appends-more : (a b c : Option (List ℕ)) (n k : ℕ) (bytes rest : List ℕ) → Appends a b (take n bytes) → Appends b c (take k rest) → rest ≡ drop n bytes
     → Appends a c (take (n + k) bytes)
 Appends-more a b c n k bytes rest p q e =
     subst (Appends a c) (ap (λ l. take n bytes ++ take k l) e ∙ sym (take-add n k bytes)) (Appends-trans a b c _ _ p q)
+
+-- the first n bytes were read, and then k more after them
+pub Consumes-more : (a b c : Option (List ℕ)) (n k : ℕ) (old new : List ℕ) → take n new ≡ take n old → Consumes a b (take n old) → Consumes b c (take k (drop n new))
+    → Consumes a c (take (n + k) new)
+Consumes-more a b c n k old new same p q =
+    subst (Consumes a c) (ap (λ l. l ++ take k (drop n new)) (sym same) ∙ sym (take-add n k new)) (Consumes-trans a b c _ _ p q)
+
+-- what was read is all that there was
+pub Consumes-whole : (a b : Option (List ℕ)) (bytes all : List ℕ) → Consumes a b bytes → IsAtEnd b → all ≡ bytes → IfSome a (λ xs. all ≡ xs)
+Consumes-whole a b bytes all p end e = Consumes-all a b bytes [] all p end e
+
+-- what was read is no longer than what there was
+pub Consumes-long : (a b : Option (List ℕ)) (n limit : ℕ) (bytes : List ℕ) → Consumes a b (take n bytes) → n ≤ length bytes → limit < n → IfSome a (λ xs. limit < length xs)
+Consumes-long None b n limit bytes p fits more = tt
+Consumes-long (Some xs) None n limit bytes p fits more = absurd p
+Consumes-long (Some xs) (Some ys) n limit bytes p fits more =
+    let long = ap length p ∙ length-append (take n bytes) ys in
+    let front = length-take-le n bytes fits in
+    omega (arith, long, front, more)
+
+-- what was read into the part stands after the front
+pub Consumes-in_place : {E : Type 0} (a b : Option (List ℕ)) (r : Result ℕ E) (front part rest : List ℕ) (at : ℕ) → length front ≡ at → ReadsAtMost r part
+    → IfOk r (λ n. Consumes a b (take n part)) → IfOk r (λ n. Consumes a b (take n (drop at (front ++ (part ++ rest)))))
+Consumes-in_place a b (Ok n) front part rest at long fits read =
+    subst (Consumes a b) (sym (ap (take n) (drop_at front (part ++ rest) at long) ∙ take-append-le n part rest fits.0)) read
+Consumes-in_place a b (Err e) front part rest at long fits read = tt

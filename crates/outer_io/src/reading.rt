@@ -1,18 +1,23 @@
 //! A whole file from a shelf.
 
-ghost use Rattle.std.specs.Prelude.{◌≡◌, ◌≤◌, ◌<◌, ◌⊎◌, Some, length, vec_len, IfOk, IfSome, IsErrOf};
-ghost use Rattle.outer_io.specs.declared.reading.FileFault.TheVariants.{NoMemory};
-ghost use Rattle.outer_io.specs.Counts.{Rose, RoseAbove};
+ghost use Rattle.std.specs.Prelude.{◌≡◌, ◌≤◌, ◌<◌, ◌+◌, ◌⊎◌, Some, length, take, drop, vec_len, IfOk, IfSome, IsErrOf, OnErr, OnOk};
+ghost use Rattle.std.specs.Io.{ReadsAtMost};
+ghost use Rattle.std.specs.Io.KnownBytes.{Consumes, IsAtEnd};
+ghost use Rattle.outer_io.specs.declared.reading.FileFault.TheVariants.{Failed, NoMemory};
+ghost use Rattle.outer_io.specs.Counts.{last_count, Rose, RoseAbove, RoseBy};
 ghost use Rattle.outer_io.specs.Files.{HasFile, HasLongFile, IsNoShortFile, LacksFile};
 
-use crate::{Shelf, ShelfFault};
+use crate::{ReadFailed, Shelf, ShelfFault};
 use std::alloc::{AllocError, Global};
 
 /// No file longer than this is read, in bytes.
 pub const MAX_FILE_BYTES: usize = 67_108_864;
 
+/// The number of bytes that the first read asks for.
+const FIRST_READ: usize = 8192;
+
 /// The greatest number of bytes that one read asks for.
-const CHUNK: usize = 8192;
+const LONGEST_READ: usize = 262_144;
 
 /// Why a file was not read.
 #[derive(Clone, Copy, Debug, PartialEq, Eq, Drop)]
@@ -32,6 +37,14 @@ impl From<AllocError> for FileFault {
 
     fn from(_: AllocError) -> Self {
         FileFault::NoMemory
+    }
+}
+
+impl From<ReadFailed> for FileFault {
+    ghost from_gives = { λ _ e. e ≡ Failed };
+
+    fn from(_: ReadFailed) -> Self {
+        FileFault::Failed
     }
 }
 
@@ -73,17 +86,87 @@ fn read_to_end<F: Shelf>(alloc: Global, shelf: &mut F) -> Result<Vec<u8>, FileFa
     ensures taken { F.taken shelf.old ≤ F.taken shelf.new }
 {
     let mut bytes = Vec::new(alloc);
-    let mut chunk = [0u8; CHUNK];
+    let mut filled = 0;
     'read: loop {
-        let Ok(count) = shelf.read(&mut chunk) else {
-            return Err(FileFault::Failed);
-        };
+        let count = read_more(shelf, &mut bytes, filled)?;
         if count == 0 {
+            bytes.truncate(filled);
             return Ok(bytes);
         }
-        if count > MAX_FILE_BYTES - bytes.len() {
+        if count > MAX_FILE_BYTES - filled {
             return Err(FileFault::TooLarge);
         }
-        bytes.extend_from_slice(&chunk[..count])?;
+        filled += count;
     }
+}
+
+// One read after the first `filled` bytes. Room is made first, so that a refusal of memory loses no byte.
+fn read_more<F: Shelf>(
+    shelf: &mut F,
+    bytes: &mut Vec<u8>,
+    filled: usize,
+) -> Result<usize, FileFault>
+    requires { filled ≤ vec_len bytes.old }
+    ensures files { F.files shelf.new ≡ F.files shelf.old }
+    ensures front { take filled bytes.new.items ≡ take filled bytes.old.items }
+    ensures fits { IfOk result (λ n. filled + n ≤ vec_len bytes.new) }
+    ensures read { IfOk result (λ n. Consumes (F.rest shelf.old) (F.rest shelf.new) (take n (drop filled bytes.new.items))) }
+    ensures end { IfOk result (λ n. n ≡ 0 → IsAtEnd (F.rest shelf.new)) }
+    ensures held { IsErrOf result FileFault.Missing → ⊥ }
+    ensures short { IsErrOf result FileFault.TooLarge → ⊥ }
+    ensures failed { IsErrOf result FileFault.Failed → Rose (F.faults shelf.old) (F.faults shelf.new) }
+    ensures misses { F.misses shelf.old ≤ F.misses shelf.new }
+    ensures faults { F.faults shelf.old ≤ F.faults shelf.new }
+    ensures taken { F.taken shelf.old ≤ F.taken shelf.new }
+    ensures taken_by { IfOk result (λ n. RoseBy n (F.taken shelf.old) (F.taken shelf.new)) }
+    ensures taken_fits { OnOk result (F.taken shelf.new ≤ last_count) }
+{
+    make_room(bytes, filled)?;
+    Ok(read_at(shelf, bytes.as_mut_slice(), filled)?)
+}
+
+// Makes the vector longer than `filled` by zeros, where it is not. What an earlier read left unfilled is used first.
+fn make_room(bytes: &mut Vec<u8>, filled: usize) -> Result<(), AllocError>
+    requires { filled ≤ vec_len bytes.old }
+    ensures front { take filled bytes.new.items ≡ take filled bytes.old.items }
+    ensures room { OnOk result (filled < vec_len bytes.new) }
+{
+    if filled == bytes.len() {
+        bytes.resize(filled + filled.max(FIRST_READ).min(LONGEST_READ), 0)?;
+    }
+    Ok(())
+}
+
+// One read into the bytes from the place on.
+fn read_at<F: Shelf>(shelf: &mut F, bytes: &mut [u8], at: usize) -> Result<usize, ReadFailed>
+    requires { at < length bytes.old }
+    ensures files { F.files shelf.new ≡ F.files shelf.old }
+    ensures front { take at bytes.new ≡ take at bytes.old }
+    ensures fits { IfOk result (λ n. at + n ≤ length bytes.new) }
+    ensures read { IfOk result (λ n. Consumes (F.rest shelf.old) (F.rest shelf.new) (take n (drop at bytes.new))) }
+    ensures end { IfOk result (λ n. n ≡ 0 → IsAtEnd (F.rest shelf.new)) }
+    ensures failed { OnErr result (Rose (F.faults shelf.old) (F.faults shelf.new)) }
+    ensures misses { F.misses shelf.old ≤ F.misses shelf.new }
+    ensures faults { F.faults shelf.old ≤ F.faults shelf.new }
+    ensures taken { F.taken shelf.old ≤ F.taken shelf.new }
+    ensures taken_by { IfOk result (λ n. RoseBy n (F.taken shelf.old) (F.taken shelf.new)) }
+    ensures taken_fits { OnOk result (F.taken shelf.new ≤ last_count) }
+{
+    read_front(shelf, &mut bytes[at..])
+}
+
+// One read, with what it says of a read and of the end apart.
+fn read_front<F: Shelf>(shelf: &mut F, bytes: &mut [u8]) -> Result<usize, ReadFailed>
+    ensures files { F.files shelf.new ≡ F.files shelf.old }
+    ensures bound { ReadsAtMost result bytes.new }
+    ensures read { IfOk result (λ n. Consumes (F.rest shelf.old) (F.rest shelf.new) (take n bytes.new)) }
+    ensures end { IfOk result (λ n. n ≡ 0 → 0 < length bytes.old → IsAtEnd (F.rest shelf.new)) }
+    ensures failed { OnErr result (Rose (F.faults shelf.old) (F.faults shelf.new)) }
+    ensures misses { F.misses shelf.old ≤ F.misses shelf.new }
+    ensures faults { F.faults shelf.old ≤ F.faults shelf.new }
+    ensures taken { F.taken shelf.old ≤ F.taken shelf.new }
+    ensures taken_by { IfOk result (λ n. RoseBy n (F.taken shelf.old) (F.taken shelf.new)) }
+    ensures taken_fits { OnOk result (F.taken shelf.new ≤ last_count) }
+{
+    shelf.read(bytes)
 }

@@ -1,9 +1,14 @@
 //! The files, the standard output and the standard error of the system: the few lines over std that no
-//! clause describes. They tell no content, and count their faults.
+//! clause describes. They tell no content, and count their faults. A call that a signal interrupts is made again.
+
+ghost use Rattle.std.specs.Io.{ReadsAtMost, WritesAtMost};
 
 use crate::{ReadFailed, Shelf, ShelfFault, Sink, WriteFailed};
 use std::fs::{self, File};
-use std::io::{ErrorKind, Read, Write};
+use std::io::{self, ErrorKind, Read, Write};
+
+/// How often a read or a write is tried, if a signal interrupts each.
+const TRIES: u32 = 10_000;
 
 /// The files of the system.
 #[derive(Drop)]
@@ -61,7 +66,7 @@ impl Shelf for FileShelf {
 
     fn read(&mut self, buf: &mut [u8]) -> Result<usize, ReadFailed> {
         let outcome = match &mut self.file {
-            Some(file) => file.read(buf),
+            Some(file) => read_again(file, buf),
             None => Ok(0),
         };
         match outcome {
@@ -99,7 +104,7 @@ impl<W: Write> Sink for StdSink<W> {
     ghost faults = { λ s. s.faults };
 
     fn write(&mut self, bytes: &[u8]) -> Result<usize, WriteFailed> {
-        match self.stream.write(bytes) {
+        match write_again(&mut self.stream, bytes) {
             Ok(count) => {
                 if count == 0 && !bytes.is_empty() {
                     self.faults = self.faults.saturating_add(1);
@@ -112,4 +117,30 @@ impl<W: Write> Sink for StdSink<W> {
             }
         }
     }
+}
+
+// One read that no signal interrupts. A read that is interrupted has moved nothing.
+fn read_again<R: Read>(from: &mut R, buf: &mut [u8]) -> io::Result<usize>
+    ensures { ReadsAtMost result buf.new }
+{
+    for _ in 1..TRIES {
+        match from.read(buf) {
+            Err(error) if error.kind() == ErrorKind::Interrupted => {}
+            outcome => return outcome,
+        }
+    }
+    from.read(buf)
+}
+
+// One write that no signal interrupts. A write that is interrupted has taken nothing.
+fn write_again<W: Write>(to: &mut W, bytes: &[u8]) -> io::Result<usize>
+    ensures { WritesAtMost result bytes.now }
+{
+    for _ in 1..TRIES {
+        match to.write(bytes) {
+            Err(error) if error.kind() == ErrorKind::Interrupted => {}
+            outcome => return outcome,
+        }
+    }
+    to.write(bytes)
 }
