@@ -80,7 +80,7 @@ fn read_tables(alloc: Global, words: Option<&[&str]>) -> Result<Vec<Named>, Word
         return Err(WordsFault::Usage);
     };
     let named = read_pairs(alloc, words)?;
-    if !name_distinct_tables(&named) {
+    if !name_distinct_tables(alloc, &named)? {
         return Err(WordsFault::Usage);
     }
     Ok(named)
