@@ -2,9 +2,11 @@
 #![tactic(auto)]
 
 use anyk_top::run_uncounted;
+use hash_keys::Keys;
 use outer_io::{FileShelf, StdSink};
 use std::alloc::AllocError;
 use std::env;
+use std::hash::RandomState;
 use std::io::{ErrorKind, Stderr, Stdout};
 use std::marker::Brand;
 use std::process::ExitCode;
@@ -28,11 +30,21 @@ fn main(rt: HostRuntime) -> ExitCode {
                 &mut shelf,
                 &mut out,
                 &mut err,
+                keys(&rt),
                 Blank::new(1),
             );
             ExitCode::from(status)
         }
         Err(status) => ExitCode::from(status),
+    }
+}
+
+// Keys drawn at random, so that nobody who writes the files can choose texts that collide, or the known ones where the system gives no
+// random words.
+fn keys(rt: &HostRuntime) -> Keys {
+    match RandomState::new(rt) {
+        Ok(state) => Keys::Drawn(state),
+        Err(_) => Keys::Known,
     }
 }
 

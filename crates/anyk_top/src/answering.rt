@@ -20,6 +20,7 @@ use crate::plan::print_report;
 use crate::request::Request;
 use crate::run::print_run;
 use crate::session::print_script;
+use hash_keys::Keys;
 use input_load::Input;
 use outer_io::{Shelf, Sink};
 use query_run::run_load;
@@ -34,6 +35,7 @@ pub(crate) fn answer<'a, F: Shelf, S: Sink, L: Ledger>(
     request: &'a Request,
     shelf: &mut F,
     out: &mut S,
+    keys: Keys,
     steps: &mut Steps<L>,
 ) -> Result<(), Refusal<'a>>
     ensures done { OnOk result (IsComplete (built (command_of request.now)) (F.files shelf.old)
@@ -49,7 +51,7 @@ pub(crate) fn answer<'a, F: Shelf, S: Sink, L: Ledger>(
     ensures bounded { IsBounded (built (command_of request.now)) (F.files shelf.old) steps.old steps.new }
     ensures prompt { IsPrompt (built (command_of request.now)) (F.files shelf.old) (S.written out.old) (S.written out.new) steps.old steps.new }
 {
-    let input = look_at(alloc, request, shelf)?;
+    let input = look_at(alloc, request, shelf, keys)?;
     print_output(alloc, request, &input, out, steps)
 }
 

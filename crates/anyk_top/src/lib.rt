@@ -14,4 +14,4 @@ mod run;
 mod session;
 mod top;
 
-pub use top::{run_uncounted, run_words};
+pub use top::{run_keyed, run_uncounted, run_words};

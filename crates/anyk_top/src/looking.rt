@@ -13,6 +13,7 @@ ghost use Rattle.anyk_top.specs.Requests.{command_of};
 
 use crate::request::Request;
 use cmd_words::Words;
+use hash_keys::Keys;
 use input_load::{Input, load_input, load_made};
 use outer_io::Shelf;
 use refusal_lines::Refusal;
@@ -23,6 +24,7 @@ pub(crate) fn look_at<'a, F: Shelf>(
     alloc: Global,
     request: &'a Request,
     shelf: &mut F,
+    keys: Keys,
 ) -> Result<Input, Refusal<'a>>
     ensures looked { IsLooked (command_of request.now)
         (record { files = F.files shelf.old; misses = F.misses shelf.old; faults = F.faults shelf.old })
@@ -34,9 +36,15 @@ pub(crate) fn look_at<'a, F: Shelf>(
     ensures rules { IfOk result (λ input. KeepsRules [] input.steps.items) }
 {
     match request {
-        Request::Run(words) => look_up(alloc, words, None, shelf),
-        Request::Plan(words) => look_up(alloc, words, None, shelf),
-        Request::Session(script, words) => look_up(alloc, words, Some(script.as_str()), shelf),
+        Request::Run(words) => look_up(alloc, words, None, shelf, keys),
+        Request::Plan(words) => look_up(alloc, words, None, shelf, keys),
+        Request::Session(script, words) => look_up(
+            alloc,
+            words,
+            Some(script.as_str()),
+            shelf,
+            keys,
+        ),
         Request::Load(_, made) => load_made(alloc, made),
     }
 }
@@ -47,6 +55,7 @@ fn look_up<'a, F: Shelf>(
     words: &'a Words,
     script: Option<&'a str>,
     shelf: &mut F,
+    keys: Keys,
 ) -> Result<Input, Refusal<'a>>
     ensures looked { IsLookedUp (words_of (seen_words words.now)) (option_map (λ name. name.now) script.entry)
         (record { files = F.files shelf.old; misses = F.misses shelf.old; faults = F.faults shelf.old })
@@ -63,5 +72,6 @@ fn look_up<'a, F: Shelf>(
         script,
         words.tables.as_slice(),
         shelf,
+        keys,
     )
 }

@@ -9,13 +9,14 @@ ghost use Rattle.anyk_top.specs.Asked.{asked_of};
 use crate::answering::answer;
 use crate::asking::read_request;
 use crate::ending::finish;
+use hash_keys::Keys;
 use outer_io::{Shelf, Sink};
 use std::alloc::Global;
 use std::sync::ledger::{Blank, Ledger};
 use step_counter::Steps;
 
 /// Does all that the program does, and answers its exit status: reads the words, the files that they name on the shelf, and
-/// writes the answers to `out` and the line of a refusal to `err`.
+/// writes the answers to `out` and the line of a refusal to `err`. The tables are hashed with known keys.
 pub fn run_words<F: Shelf, S: Sink, E: Sink, L: Ledger>(
     alloc: Global,
     words: &[String],
@@ -45,19 +46,56 @@ pub fn run_words<F: Shelf, S: Sink, E: Sink, L: Ledger>(
     ensures bounded { IsBounded (asked_of (said_of (map string_bytes words.now))) (F.files shelf.old) steps.old steps.new }
     ensures prompt { IsPrompt (asked_of (said_of (map string_bytes words.now))) (F.files shelf.old) (S.written out.old) (S.written out.new) steps.old steps.new }
 {
+    run_keyed(alloc, words, shelf, out, err, Keys::Known, steps)
+}
+
+/// Does all that the program does, and answers its exit status: reads the words, the files that they name on the shelf, and
+/// writes the answers to `out` and the line of a refusal to `err`. The tables of the files are hashed with these keys. No clause
+/// depends on them.
+pub fn run_keyed<F: Shelf, S: Sink, E: Sink, L: Ledger>(
+    alloc: Global,
+    words: &[String],
+    shelf: &mut F,
+    out: &mut S,
+    err: &mut E,
+    keys: Keys,
+    steps: &mut Steps<L>,
+) -> u8
+    ensures outcome { Outcome (asked_of (said_of (map string_bytes words.now))) (F.files shelf.old)
+        (record {
+          misses = F.misses shelf.old;
+          read_faults = F.faults shelf.old;
+          output = S.written out.old;
+          write_faults = S.faults out.old;
+          errors = E.written err.old;
+          error_faults = E.faults err.old;
+        })
+        (record {
+          misses = F.misses shelf.new;
+          read_faults = F.faults shelf.new;
+          output = S.written out.new;
+          write_faults = S.faults out.new;
+          errors = E.written err.new;
+          error_faults = E.faults err.new;
+        })
+        result }
+    ensures bounded { IsBounded (asked_of (said_of (map string_bytes words.now))) (F.files shelf.old) steps.old steps.new }
+    ensures prompt { IsPrompt (asked_of (said_of (map string_bytes words.now))) (F.files shelf.old) (S.written out.old) (S.written out.new) steps.old steps.new }
+{
     match read_request(alloc, words) {
-        Ok(request) => finish(err, answer(alloc, &request, shelf, out, steps)),
+        Ok(request) => finish(err, answer(alloc, &request, shelf, out, keys, steps)),
         Err(refusal) => finish(err, Err(refusal)),
     }
 }
 
-/// The same, with a counter of its own that nobody reads.
+/// `run_keyed`, with a counter of its own that nobody reads.
 pub fn run_uncounted<F: Shelf, S: Sink, E: Sink, L: Ledger>(
     alloc: Global,
     words: &[String],
     shelf: &mut F,
     out: &mut S,
     err: &mut E,
+    keys: Keys,
     blank: Blank,
 ) -> u8
     requires name { blank.name ≡ L.name }
@@ -83,5 +121,5 @@ pub fn run_uncounted<F: Shelf, S: Sink, E: Sink, L: Ledger>(
         result }
 {
     let mut steps = Steps::<L>::new(blank);
-    run_words(alloc, words, shelf, out, err, &mut steps)
+    run_keyed(alloc, words, shelf, out, err, keys, &mut steps)
 }

@@ -22,18 +22,21 @@ use crate::structure::find_shape;
 use crate::tables::read_tables;
 use crate::uses::{entries_of, first_entries, table_numbers};
 use cmd_words::Named;
+use hash_keys::Keys;
 use outer_io::Shelf;
 use query_parse::select::Select;
 use refusal_lines::Refusal;
 use std::alloc::Global;
 
-/// The input that the query file, the script's file, where there is one, and the tables' files hold, or its first refusal.
+/// The input that the query file, the script's file, where there is one, and the tables' files hold, or its first refusal. The tables
+/// are hashed with these keys.
 pub fn load_input<'a, F: Shelf>(
     alloc: Global,
     query: &'a str,
     script: Option<&'a str>,
     named: &'a [Named],
     shelf: &mut F,
+    keys: Keys,
 ) -> Result<Input, Refusal<'a>>
     ensures staged { Staged (IsVerdictOn query.now (option_map (λ name. name.now) script.entry) (map named_pair named.now))
         (IsTurn query.now (option_map (λ name. name.now) script.entry) (map named_pair named.now))
@@ -46,7 +49,7 @@ pub fn load_input<'a, F: Shelf>(
     ensures rules { IfOk result (λ input. KeepsRules [] input.steps.items) }
 {
     let bytes = load(alloc, shelf, query)?;
-    read_input(alloc, &bytes, script, named, shelf)
+    read_input(alloc, &bytes, script, named, shelf, keys)
 }
 
 // From the bytes of the query file on.
@@ -56,6 +59,7 @@ fn read_input<'a, F: Shelf>(
     script: Option<&'a str>,
     named: &'a [Named],
     shelf: &mut F,
+    keys: Keys,
 ) -> Result<Input, Refusal<'a>>
     ensures staged { Staged (λ files. IsRead (option_map (λ name. name.now) script.entry) (map named_pair named.now) files bytes.now)
         (λ files. IsReadTurn (option_map (λ name. name.now) script.entry) (map named_pair named.now) files bytes.now)
@@ -68,7 +72,7 @@ fn read_input<'a, F: Shelf>(
     ensures rules { IfOk result (λ input. KeepsRules [] input.steps.items) }
 {
     let select = parse_query(alloc, bytes)?;
-    script_input(alloc, &select, script, named, shelf)
+    script_input(alloc, &select, script, named, shelf, keys)
 }
 
 // From the script on.
@@ -78,6 +82,7 @@ fn script_input<'a, F: Shelf>(
     script: Option<&'a str>,
     named: &'a [Named],
     shelf: &mut F,
+    keys: Keys,
 ) -> Result<Input, Refusal<'a>>
     requires some { 1 ≤ length select.now.items }
     requires items { length select.now.items ≤ 16 }
@@ -93,7 +98,7 @@ fn script_input<'a, F: Shelf>(
     ensures rules { IfOk result (λ input. KeepsRules [] input.steps.items) }
 {
     let steps = load_script(alloc, script, shelf)?;
-    let input = select_input(alloc, select, named, shelf)?;
+    let input = select_input(alloc, select, named, shelf, keys)?;
     Ok(Input {
         query: input.query,
         tables: input.tables,
@@ -108,6 +113,7 @@ fn select_input<'a, F: Shelf>(
     select: &Select,
     named: &'a [Named],
     shelf: &mut F,
+    keys: Keys,
 ) -> Result<Input, Refusal<'a>>
     requires some { 1 ≤ length select.now.items }
     requires items { length select.now.items ≤ 16 }
@@ -121,7 +127,7 @@ fn select_input<'a, F: Shelf>(
     ensures shape { IfOk result (λ input. IsShape input.query.query input.tables (Ok (shape_shown input.shape))) }
 {
     let entries = entries_of(alloc, named, select)?;
-    bound_input(alloc, select, &entries, shelf)
+    bound_input(alloc, select, &entries, shelf, keys)
 }
 
 // From the words that name the items' tables on: the tables, the names, weights and ranges, and the structure.
@@ -130,6 +136,7 @@ fn bound_input<'a, F: Shelf>(
     select: &Select,
     entries: &[&'a Named],
     shelf: &mut F,
+    keys: Keys,
 ) -> Result<Input, Refusal<'a>>
     requires some { 1 ≤ length select.now.items }
     requires items { length select.now.items ≤ 16 }
@@ -146,7 +153,7 @@ fn bound_input<'a, F: Shelf>(
 {
     let firsts = first_entries(alloc, entries)?;
     let which = table_numbers(alloc, entries, &firsts)?;
-    let tables = read_tables(alloc, &firsts, shelf)?;
+    let tables = read_tables(alloc, &firsts, shelf, keys)?;
     let query = bind_query(alloc, select, &tables, &which)?;
     let shape = find_shape(&query, &tables)?;
     let steps = Vec::new(alloc);

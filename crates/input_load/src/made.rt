@@ -15,13 +15,15 @@ ghost use Rattle.input_load.specs.Found.{shown_input};
 use crate::binding::Input;
 use crate::generated::MadeTables;
 use crate::input::load_input;
+use hash_keys::Keys;
 use make_input::{query_of, tables_of};
 use outer_io::{MemFile, PureShelf};
 use refusal_lines::Refusal;
 use std::alloc::Global;
 use step_counter::NoMemory;
 
-/// The input of the query over the tables that are made, or its first refusal. No file is read.
+/// The input of the query over the tables that are made, or its first refusal. No file is read. The tables are the program's own, so
+/// known keys do.
 pub fn load_made<'a>(alloc: Global, made: &'a MadeTables) -> Result<Input, Refusal<'a>>
     ensures loaded { Pure (IsVerdictOn query_file None table_files (made_files made.now.number made.now.rows)) (shown_input result) }
     ensures fits { IfOk result (λ input. Fits input.query input.tables) }
@@ -31,7 +33,14 @@ pub fn load_made<'a>(alloc: Global, made: &'a MadeTables) -> Result<Input, Refus
     ensures rules { IfOk result (λ input. KeepsRules [] input.steps.items) }
 {
     let mut shelf = PureShelf::new(made_shelf(alloc, made)?);
-    load_input(alloc, "load.sql", None, made.named.as_slice(), &mut shelf)
+    load_input(
+        alloc,
+        "load.sql",
+        None,
+        made.named.as_slice(),
+        &mut shelf,
+        Keys::Known,
+    )
 }
 
 // The file of the query, and those of the tables.

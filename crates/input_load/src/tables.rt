@@ -14,15 +14,17 @@ ghost use Rattle.input_load.specs.Shown.{said_as, shown_tables, table_answer};
 use crate::file::load;
 use cmd_words::Named;
 use csv_tables::{TableFault, Tables};
+use hash_keys::Keys;
 use outer_io::Shelf;
 use refusal_lines::Refusal;
 use std::alloc::Global;
 
-/// The tables of these entries, one after another: of each its file, and then its records.
+/// The tables of these entries, one after another: of each its file, and then its records. They are hashed with these keys.
 pub(crate) fn read_tables<'a, F: Shelf>(
     alloc: Global,
     entries: &[&'a Named],
     shelf: &mut F,
+    keys: Keys,
 ) -> Result<Tables, Refusal<'a>>
     requires { length entries.now ≤ 16 }
     ensures staged { (named : List (List ℕ × List ℕ)) → AllByRecursion (IsEntryOf named) (map (λ e. named_pair e.now) entries.now)
@@ -32,7 +34,7 @@ pub(crate) fn read_tables<'a, F: Shelf>(
         (record { files = F.files shelf.new; misses = F.misses shelf.new; faults = F.faults shelf.new }) (shown_tables result) }
     ensures count { IfOk result (λ tables. length tables ≡ length entries.now) }
 {
-    let mut tables = Tables::new(alloc);
+    let mut tables = Tables::with_keys(alloc, keys);
     for entry in entries {
         read_table(alloc, entry, shelf, &mut tables)?;
     }
