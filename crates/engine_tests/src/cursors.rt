@@ -8,9 +8,7 @@ use cursor_set::{CursorFault, CursorId, Cursors, MOST_OPEN};
 use rank_key::{Rank, SumRank};
 use std::alloc::Global;
 use std::marker::Brand;
-use std::process::Abort;
 use std::sync::ledger::{Blank, Ledger};
-use std::test::Fail;
 use step_counter::{NoMemory, Steps};
 use tdp_core::{Answer, Ranked};
 
@@ -55,8 +53,8 @@ impl<R: Rank> Ranked for Listed<R> {
     ghost due_within = { Prim.search rules };
 }
 
-/// The answers with the row numbers below `count`.
-fn answers_of<R: Rank>(alloc: Global, count: u32, refusals: u64) -> Result<Listed<R>, NoMemory> {
+// The answers with the row numbers below `count`.
+fn answers_of<R: Rank>(alloc: Global, count: u32) -> Result<Vec<Answer<R>>, NoMemory> {
     let mut answers = Vec::new(alloc);
     for number in 0..count {
         let rank = R::of_row(&[], 0, number);
@@ -65,15 +63,25 @@ fn answers_of<R: Rank>(alloc: Global, count: u32, refusals: u64) -> Result<Liste
             rank,
         })?;
     }
-    Ok(Listed {
-        answers,
+    Ok(answers)
+}
+
+// No cursor yet over these answers.
+fn cursors_over<R: Rank>(
+    alloc: Global,
+    count: u32,
+    refusals: u64,
+) -> Result<Cursors<Listed<R>>, NoMemory> {
+    let engine = Listed {
+        answers: answers_of(alloc, count)?,
         place: 0,
         calls: 0,
         refusals,
-    })
+    };
+    Ok(Cursors::new(alloc, engine))
 }
 
-/// The first row number of a cursor's next answer.
+// The first row number of a cursor's next answer.
 fn next_row<E: Ranked, L: Ledger>(
     cursors: &mut Cursors<E>,
     id: CursorId,
@@ -85,55 +93,121 @@ fn next_row<E: Ranked, L: Ledger>(
     }
 }
 
-fn moves_cursors<R: Rank, L: Ledger>(
-    rt: &impl Abort,
+// Whether a cursor gives these rows, and its end where there is none.
+fn gives<E: Ranked, L: Ledger>(
+    cursors: &mut Cursors<E>,
+    id: CursorId,
+    rows: &[Option<u32>],
+    steps: &mut Steps<L>,
+) -> bool {
+    for row in rows {
+        if next_row(cursors, id, steps) != Ok(*row) {
+            return false;
+        }
+    }
+    true
+}
+
+// Whether two cursors of which the second was forked from the first at place 2 of 3 move apart.
+fn move_apart<E: Ranked, L: Ledger>(
+    cursors: &mut Cursors<E>,
+    a: CursorId,
+    b: CursorId,
+    steps: &mut Steps<L>,
+) -> bool {
+    gives(cursors, b, &[Some(2), None], steps)
+        && gives(cursors, a, &[Some(2)], steps)
+        && cursors.rewind(b) == Ok(())
+        && gives(cursors, a, &[None], steps)
+        && gives(cursors, b, &[Some(0)], steps)
+}
+
+// Whether each call on a cursor says that it is not open.
+fn is_unknown<E: Ranked, L: Ledger>(
+    cursors: &mut Cursors<E>,
+    id: CursorId,
+    steps: &mut Steps<L>,
+) -> bool {
+    let unknown = CursorFault::Unknown(id);
+    next_row(cursors, id, steps) == Err(unknown)
+        && cursors.fork(id) == Err(unknown)
+        && cursors.rewind(id) == Err(unknown)
+        && cursors.close(id) == Err(unknown)
+}
+
+// Whether the first cursor is closed and opened again, and the second, at place 1, is left alone.
+fn closes_and_opens<E: Ranked, L: Ledger>(
+    cursors: &mut Cursors<E>,
+    a: CursorId,
+    b: CursorId,
+    steps: &mut Steps<L>,
+) -> bool {
+    cursors.close(a) == Ok(())
+        && is_unknown(cursors, a, steps)
+        && cursors.open() == Ok(a)
+        && gives(cursors, b, &[Some(1)], steps)
+}
+
+// Whether cursors over three answers move as they are told.
+fn move_over_three<E: Ranked, L: Ledger>(
+    cursors: &mut Cursors<E>,
+    steps: &mut Steps<L>,
+) -> Result<bool, CursorFault> {
+    let a = cursors.open()?;
+    if !gives(cursors, a, &[Some(0), Some(1)], steps) {
+        return Ok(false);
+    }
+    let b = cursors.fork(a)?;
+    Ok(move_apart(cursors, a, b, steps) && closes_and_opens(cursors, a, b, steps))
+}
+
+fn cursors_move<R: Rank, L: Ledger>(
     alloc: Global,
     blank: Blank,
-) -> Result<(), Fail>
+) -> Result<Result<bool, CursorFault>, NoMemory>
     requires name { blank.name ≡ L.name }
     requires parts { blank.parts ≡ L.parts }
     requires share { 0 < L.parts }
 {
     let mut steps: Steps<L> = Steps::new(blank);
-    let mut cursors = Cursors::new(alloc, answers_of::<R>(alloc, 3, 0)?);
-    let a = cursors.open().ok().ok_or("open")?;
-    assert_eq!(rt; next_row(&mut cursors, a, &mut steps), Ok(Some(0)));
-    assert_eq!(rt; next_row(&mut cursors, a, &mut steps), Ok(Some(1)));
-    let b = cursors.fork(a).ok().ok_or("fork")?;
-    assert_eq!(rt; next_row(&mut cursors, b, &mut steps), Ok(Some(2)));
-    assert_eq!(rt; next_row(&mut cursors, b, &mut steps), Ok(None));
-    assert_eq!(rt; next_row(&mut cursors, a, &mut steps), Ok(Some(2)));
-    assert_eq!(rt; cursors.rewind(b), Ok(()));
-    assert_eq!(rt; next_row(&mut cursors, a, &mut steps), Ok(None));
-    assert_eq!(rt; next_row(&mut cursors, b, &mut steps), Ok(Some(0)));
-    assert_eq!(rt; cursors.close(a), Ok(()));
-    assert_eq!(rt;
-        next_row(&mut cursors, a, &mut steps),
-        Err(CursorFault::Unknown(a))
-    );
-    assert_eq!(rt; cursors.fork(a), Err(CursorFault::Unknown(a)));
-    assert_eq!(rt; cursors.rewind(a), Err(CursorFault::Unknown(a)));
-    assert_eq!(rt; cursors.close(a), Err(CursorFault::Unknown(a)));
-    assert_eq!(rt; cursors.open(), Ok(a));
-    assert_eq!(rt; next_row(&mut cursors, b, &mut steps), Ok(Some(1)));
-    Ok(())
+    let mut cursors = cursors_over::<R>(alloc, 3, 0)?;
+    Ok(move_over_three(&mut cursors, &mut steps))
 }
 
-fn opens_as_many_as_can_be<R: Rank>(rt: &impl Abort, alloc: Global) -> Result<(), Fail> {
-    let mut cursors = Cursors::new(alloc, answers_of::<R>(alloc, 1, 0)?);
-    let first = cursors.open().ok().ok_or("open")?;
-    for _more in 1..MOST_OPEN {
-        assert!(rt; cursors.open().is_ok());
+// Whether so many cursors can be opened.
+fn open_all<E: Ranked>(cursors: &mut Cursors<E>, count: usize) -> bool {
+    for _ in 0..count {
+        if cursors.open().is_err() {
+            return false;
+        }
     }
-    assert_eq!(rt; cursors.open(), Err(CursorFault::TooMany));
-    assert_eq!(rt; cursors.fork(first), Err(CursorFault::TooMany));
-    assert_eq!(rt; cursors.close(first), Ok(()));
-    assert_eq!(rt; cursors.fork(first), Err(CursorFault::Unknown(first)));
-    assert_eq!(rt; cursors.open(), Ok(first));
-    Ok(())
+    true
 }
 
-/// Drives a cursor from the front of the list.
+// Whether a closed cursor is unknown, and opened again by its name.
+fn reopens<E: Ranked>(cursors: &mut Cursors<E>, first: CursorId) -> bool {
+    cursors.close(first) == Ok(())
+        && cursors.fork(first) == Err(CursorFault::Unknown(first))
+        && cursors.open() == Ok(first)
+}
+
+// Whether as many cursors can be open as there may be, and no more.
+fn open_as_many_as_can_be<E: Ranked>(cursors: &mut Cursors<E>) -> Result<bool, CursorFault> {
+    let first = cursors.open()?;
+    Ok(
+        open_all(cursors, MOST_OPEN - 1)
+            && cursors.open() == Err(CursorFault::TooMany)
+            && cursors.fork(first) == Err(CursorFault::TooMany)
+            && reopens(cursors, first),
+    )
+}
+
+fn cursors_open<R: Rank>(alloc: Global) -> Result<Result<bool, CursorFault>, NoMemory> {
+    let mut cursors = cursors_over::<R>(alloc, 1, 0)?;
+    Ok(open_as_many_as_can_be(&mut cursors))
+}
+
+// Drives a cursor from the front of the list.
 fn drive_from_the_front<E: Ranked, L: Ledger>(
     cursors: &mut Cursors<E>,
     members: u64,
@@ -144,48 +218,53 @@ fn drive_from_the_front<E: Ranked, L: Ledger>(
     Ok(drive(cursors, id, members, refusals, steps))
 }
 
-fn drives_cursors<R: Rank, L: Ledger>(
-    rt: &impl Abort,
-    alloc: Global,
-    blank: Blank,
-) -> Result<(), Fail>
+// How many members and refusals a cursor is driven by, and how many answers and refusals it meets, and whether the end.
+const DRIVES: &[(u64, u64, u64, u64, bool)] = &[
+    (3, 1, 0, 2, false),
+    (3, 1, 3, 1, false),
+    (9, 0, 5, 0, true),
+    (9, 0, 5, 0, true),
+    (5, 0, 5, 0, false),
+];
+
+// Whether one cursor after another over five answers, of which the first three calls are refused, is driven so far.
+fn are_driven<E: Ranked, L: Ledger>(cursors: &mut Cursors<E>, steps: &mut Steps<L>) -> bool {
+    for (members, refusals, given, refused, ended) in DRIVES {
+        let driven = Driven {
+            given: *given,
+            refused: *refused,
+            ended: *ended,
+        };
+        if drive_from_the_front(cursors, *members, *refusals, steps) != Ok(driven) {
+            return false;
+        }
+    }
+    true
+}
+
+fn cursors_are_driven<R: Rank, L: Ledger>(alloc: Global, blank: Blank) -> Result<bool, NoMemory>
     requires name { blank.name ≡ L.name }
     requires parts { blank.parts ≡ L.parts }
     requires share { 0 < L.parts }
 {
     let mut steps: Steps<L> = Steps::new(blank);
-    let mut cursors = Cursors::new(alloc, answers_of::<R>(alloc, 5, 3)?);
-    for (members, refusals, given, refused, ended) in [
-        (3, 1, 0, 2, false),
-        (3, 1, 3, 1, false),
-        (9, 0, 5, 0, true),
-        (9, 0, 5, 0, true),
-        (5, 0, 5, 0, false),
-    ] {
-        let driven = drive_from_the_front(&mut cursors, members, refusals, &mut steps);
-        assert_eq!(rt;
-            driven,
-            Ok(Driven {
-                given,
-                refused,
-                ended
-            })
-        );
-    }
-    Ok(())
+    let mut cursors = cursors_over::<R>(alloc, 5, 3)?;
+    Ok(are_driven(&mut cursors, &mut steps))
 }
 
 #[test]
-fn cursors_move_apart(rt: HostRuntime) -> Result<(), Fail> {
-    moves_cursors::<SumRank, Brand>(&rt, rt.alloc(), Blank::new(1))
+fn cursors_move_apart(rt: HostRuntime) {
+    let moved = cursors_move::<SumRank, Brand>(rt.alloc(), Blank::new(1));
+    assert!(rt; moved == Ok(Ok(true)));
 }
 
 #[test]
-fn the_65th_cursor_is_refused(rt: HostRuntime) -> Result<(), Fail> {
-    opens_as_many_as_can_be::<SumRank>(&rt, rt.alloc())
+fn the_65th_cursor_is_refused(rt: HostRuntime) {
+    assert!(rt; cursors_open::<SumRank>(rt.alloc()) == Ok(Ok(true)));
 }
 
 #[test]
-fn a_driven_cursor_meets_refusals_and_the_end(rt: HostRuntime) -> Result<(), Fail> {
-    drives_cursors::<SumRank, Brand>(&rt, rt.alloc(), Blank::new(1))
+fn a_driven_cursor_meets_refusals_and_the_end(rt: HostRuntime) {
+    let driven = cursors_are_driven::<SumRank, Brand>(rt.alloc(), Blank::new(1));
+    assert!(rt; driven == Ok(true));
 }

@@ -4,16 +4,14 @@ ghost use Rattle.std.specs.Prelude.{◌≡◌, ◌<◌};
 use rank_key::{LexRank, Rank, SumRank};
 use std::alloc::Global;
 use std::marker::Brand;
-use std::process::Abort;
 use std::sync::ledger::{Blank, Ledger};
-use std::test::Fail;
 use step_counter::{NoMemory, Steps};
 use take2_heap::{Entry, HeapOf, heapify};
 
 /// What an entry was made of: its first sum and its row number.
 type Made = (u32, u32);
 
-const SIZES: [u32; 5] = [0, 1, 2, 3, 1000];
+const SIZES: &[u32] = &[0, 1, 2, 3, 1000];
 
 // The number after `number` in a sequence without visible order, with many equal ones.
 fn scrambled(number: u32) -> u32 {
@@ -43,112 +41,158 @@ fn entries_of<R: Rank>(alloc: Global, count: u32) -> Result<Vec<Entry<R, Made>>,
     Ok(entries)
 }
 
-// Takes all entries out, and sees that each comes before the next.
-fn drain<R: Rank, L: Ledger>(
-    rt: &impl Abort,
-    mut heap: HeapOf<R, Made, Global>,
+// Whether so many entries come out, each before the next.
+fn ascends<R: Rank, L: Ledger>(
+    heap: &mut HeapOf<R, Made, Global>,
     count: usize,
     steps: &mut Steps<L>,
-) {
-    assert_eq!(rt; heap.len(), count);
+) -> bool {
     let mut last = (0, 0);
-    for taken in 0..count {
+    for _ in 0..count {
         let Some(next) = heap.pop(steps) else {
-            panic!(rt; "empty after {taken} of {count}");
+            return false;
         };
-        assert!(rt; last < next.tag, "entry {taken} of {count}");
+        if !(last < next.tag) {
+            return false;
+        }
         last = next.tag;
     }
-    assert!(rt; heap.peek().is_none());
-    assert!(rt; heap.pop(steps).is_none());
+    true
+}
+
+// Whether just so many entries come out, each before the next.
+fn drains<R: Rank, L: Ledger>(
+    heap: &mut HeapOf<R, Made, Global>,
+    count: usize,
+    steps: &mut Steps<L>,
+) -> bool {
+    heap.len() == count
+        && ascends(heap, count, steps)
+        && heap.peek().is_none()
+        && heap.pop(steps).is_none()
 }
 
 fn heapified<R: Rank, L: Ledger>(
-    rt: &impl Abort,
     alloc: Global,
     count: u32,
-    blank: Blank,
-) -> Result<(), Fail>
-    requires name { blank.name ≡ L.name }
-    requires parts { blank.parts ≡ L.parts }
-    requires share { 0 < L.parts }
+    steps: &mut Steps<L>,
+) -> Result<bool, NoMemory>
     requires keys { 0 < R.KEYS }
 {
-    let mut steps: Steps<L> = Steps::new(blank);
     let mut entries = entries_of::<R>(alloc, count)?;
-    heapify(entries.as_mut_slice(), &mut steps);
-    drain(rt, HeapOf::from_heap(entries), count as usize, &mut steps);
-    Ok(())
+    heapify(entries.as_mut_slice(), steps);
+    let mut heap = HeapOf::from_heap(entries);
+    Ok(drains(&mut heap, count as usize, steps))
+}
+
+// A heap of these entries, pushed one by one.
+fn heap_of<R: Rank, L: Ledger>(
+    alloc: Global,
+    entries: &[Entry<R, Made>],
+    steps: &mut Steps<L>,
+) -> Result<HeapOf<R, Made, Global>, NoMemory> {
+    let mut heap = HeapOf::new(alloc);
+    for entry in entries {
+        heap.reserve(1)?;
+        heap.push_reserved(entry.rank, entry.tag, steps);
+    }
+    Ok(heap)
 }
 
 fn pushed<R: Rank, L: Ledger>(
-    rt: &impl Abort,
     alloc: Global,
     count: u32,
-    blank: Blank,
-) -> Result<(), Fail>
+    steps: &mut Steps<L>,
+) -> Result<bool, NoMemory>
+    requires keys { 0 < R.KEYS }
+{
+    let entries = entries_of::<R>(alloc, count)?;
+    let mut heap = heap_of(alloc, &entries, steps)?;
+    Ok(drains(&mut heap, count as usize, steps))
+}
+
+// Whether entries of each size leave in order of rank, made a heap at once and pushed one by one.
+fn all_drain<R: Rank, L: Ledger>(alloc: Global, steps: &mut Steps<L>) -> Result<bool, NoMemory>
+    requires keys { 0 < R.KEYS }
+{
+    for count in SIZES {
+        if !heapified::<R, L>(alloc, *count, steps)? || !pushed::<R, L>(alloc, *count, steps)? {
+            return Ok(false);
+        }
+    }
+    Ok(true)
+}
+
+fn leave_in_order<R: Rank, L: Ledger>(alloc: Global, blank: Blank) -> Result<bool, NoMemory>
     requires name { blank.name ≡ L.name }
     requires parts { blank.parts ≡ L.parts }
     requires share { 0 < L.parts }
     requires keys { 0 < R.KEYS }
 {
     let mut steps: Steps<L> = Steps::new(blank);
-    let entries = entries_of::<R>(alloc, count)?;
-    let mut heap = HeapOf::new(alloc);
-    for entry in &entries {
-        heap.reserve(1)?;
-        heap.push_reserved(entry.rank, entry.tag, &mut steps);
-    }
-    drain(rt, heap, count as usize, &mut steps);
-    Ok(())
+    all_drain::<R, L>(alloc, &mut steps)
 }
 
-fn replaced<L: Ledger>(rt: &impl Abort, alloc: Global, blank: Blank) -> Result<(), Fail>
+// What is put in place of the top of two entries, the top that leaves, and the one that stands there then.
+const REPLACED: &[(Made, Made, Made)] = &[
+    ((9, 1), (2, 1), (7, 1)),
+    ((7, 2), (7, 1), (7, 2)),
+    ((1, 1), (7, 2), (1, 1)),
+];
+
+// Whether the top of two entries is this one.
+fn has_top(heap: &HeapOf<SumRank, Made, Global>, made: Made) -> bool {
+    match heap.peek() {
+        Some(top) => top.tag == made,
+        None => false,
+    }
+}
+
+// Whether another entry in place of the top of two lets the old one leave, and the new top is there.
+fn replaces<L: Ledger>(
+    heap: &mut HeapOf<SumRank, Made, Global>,
+    made: Made,
+    out: Made,
+    top: Made,
+    steps: &mut Steps<L>,
+) -> bool {
+    if heap.len() != 2 {
+        return false;
+    }
+    let one: Entry<SumRank, Made> = entry(made);
+    heap.replace_top(one.rank, one.tag, steps).tag == out && has_top(heap, top)
+}
+
+fn all_replace<L: Ledger>(heap: &mut HeapOf<SumRank, Made, Global>, steps: &mut Steps<L>) -> bool {
+    for (made, out, top) in REPLACED {
+        if !replaces(heap, *made, *out, *top, steps) {
+            return false;
+        }
+    }
+    true
+}
+
+fn tops_are_replaced<L: Ledger>(alloc: Global, blank: Blank) -> Result<bool, NoMemory>
     requires name { blank.name ≡ L.name }
     requires parts { blank.parts ≡ L.parts }
     requires share { 0 < L.parts }
 {
     let mut steps: Steps<L> = Steps::new(blank);
-    let mut heap = HeapOf::new(alloc);
-    for made in [(7, 1), (2, 1)] {
-        let one: Entry<SumRank, Made> = entry(made);
-        heap.reserve(1)?;
-        heap.push_reserved(one.rank, one.tag, &mut steps);
-    }
-    for (made, out, top) in [
-        ((9, 1), (2, 1), (7, 1)),
-        ((7, 2), (7, 1), (7, 2)),
-        ((1, 1), (7, 2), (1, 1)),
-    ] {
-        let one: Entry<SumRank, Made> = entry(made);
-        assert!(rt; heap.len() == 2);
-        let old = heap.replace_top(one.rank, one.tag, &mut steps);
-        assert_eq!(rt; old.tag, out);
-        let new = heap.peek().ok_or("empty")?;
-        assert_eq!(rt; new.tag, top);
-    }
-    Ok(())
+    let two: [Entry<SumRank, Made>; 2] = [entry((7, 1)), entry((2, 1))];
+    let mut heap = heap_of(alloc, &two, &mut steps)?;
+    Ok(all_replace(&mut heap, &mut steps))
 }
 
 #[test]
-fn a_heapified_list_leaves_in_order_of_rank(rt: HostRuntime) -> Result<(), Fail> {
-    for count in SIZES {
-        heapified::<SumRank, Brand>(&rt, rt.alloc(), count, Blank::new(1))?;
-        heapified::<LexRank, Brand>(&rt, rt.alloc(), count, Blank::new(1))?;
-    }
-    Ok(())
+fn entries_leave_in_order_of_rank(rt: HostRuntime) {
+    let by_sums = leave_in_order::<SumRank, Brand>(rt.alloc(), Blank::new(1));
+    assert!(rt; by_sums == Ok(true));
+    let by_lists = leave_in_order::<LexRank, Brand>(rt.alloc(), Blank::new(1));
+    assert!(rt; by_lists == Ok(true));
 }
 
 #[test]
-fn pushed_entries_leave_in_order_of_rank(rt: HostRuntime) -> Result<(), Fail> {
-    for count in SIZES {
-        pushed::<SumRank, Brand>(&rt, rt.alloc(), count, Blank::new(1))?;
-        pushed::<LexRank, Brand>(&rt, rt.alloc(), count, Blank::new(1))?;
-    }
-    Ok(())
-}
-
-#[test]
-fn a_replaced_top_sinks(rt: HostRuntime) -> Result<(), Fail> {
-    replaced::<Brand>(&rt, rt.alloc(), Blank::new(1))
+fn a_replaced_top_sinks(rt: HostRuntime) {
+    let sunken = tops_are_replaced::<Brand>(rt.alloc(), Blank::new(1));
+    assert!(rt; sunken == Ok(true));
 }

@@ -4,26 +4,24 @@ ghost use Rattle.std.specs.Prelude.{◌≡◌, ℕ, ◌<◌, ◌≤◌, length, 
 use bumpalo::Bump;
 use std::alloc::{Allocator, Global};
 use std::marker::Brand;
-use std::process::Abort;
 use std::sync::ledger::{Blank, Ledger};
-use std::test::Fail;
-use step_counter::Steps;
+use step_counter::{NoMemory, Steps};
 use stream_store::{EntryId, Store};
 
-/// Pushes the numbers below `count`, and keeps the names of their entries.
+// Pushes the numbers below `count`, and keeps the names of their entries.
 fn fill<A: Allocator + Clone, L: Ledger>(
     store: &mut Store<u64, A>,
     ids: &mut Vec<EntryId>,
     count: u64,
     steps: &mut Steps<L>,
-) -> Result<(), Fail>
+) -> Result<(), NoMemory>
     requires { EachIndex ids.old.items (λ k. slice_index ids.old.items k < length store.old.entries) }
     ensures { OnOk result (EachIndex ids.new.items (λ k. slice_index ids.new.items k < length store.new.entries)) }
 {
     for value in 0..count {
         let id = match store.push(value, steps) {
             Ok(id) => id,
-            Err((_value, refused)) => return Err(Fail::from(refused)),
+            Err((_value, refused)) => return Err(refused),
         };
         ids.push(id)?;
     }
@@ -33,8 +31,8 @@ fn fill<A: Allocator + Clone, L: Ledger>(
 /// What a store has to hold, in one vector: each entry's value, and the place of its next entry.
 type Plain = Vec<(u64, Option<usize>)>;
 
-/// Lets the entry at one place be followed by that at another, in the store and in the vector, where
-/// none follows it yet.
+// Lets the entry at one place be followed by that at another, in the store and in the vector, where
+// none follows it yet.
 fn link_both<A: Allocator + Clone, L: Ledger>(
     store: &mut Store<u64, A>,
     plain: &mut Plain,
@@ -54,7 +52,7 @@ fn link_both<A: Allocator + Clone, L: Ledger>(
     }
 }
 
-/// Whether each entry of the store is that of the vector.
+// Whether each entry of the store is that of the vector.
 fn agree<A: Allocator + Clone, L: Ledger>(
     store: &Store<u64, A>,
     plain: &Plain,
@@ -75,71 +73,101 @@ fn agree<A: Allocator + Clone, L: Ledger>(
     store.len() == plain.len()
 }
 
-fn agrees_with_a_vector<L: Ledger>(
-    rt: &impl Abort,
-    alloc: Global,
-    bump: &Bump,
-    blank: Blank,
-) -> Result<(), Fail>
-    requires name { blank.name ≡ L.name }
-    requires parts { blank.parts ≡ L.parts }
-    requires share { 0 < L.parts }
+// Pushes three entries, and links two that are there.
+fn grow<A: Allocator + Clone, L: Ledger>(
+    store: &mut Store<u64, A>,
+    plain: &mut Plain,
+    ids: &mut Vec<EntryId>,
+    round: usize,
+    steps: &mut Steps<L>,
+) -> Result<(), NoMemory>
+    requires few { round < 1000 }
+    requires known { EachIndex ids.old.items (λ k. slice_index ids.old.items k < length store.old.entries) }
+    ensures { OnOk result (EachIndex ids.new.items (λ k. slice_index ids.new.items k < length store.new.entries)) }
 {
-    let mut steps: Steps<L> = Steps::new(blank);
+    store.reserve(round)?;
+    fill(store, ids, 3, steps)?;
+    plain.extend_from_slice(&[(0, None), (1, None), (2, None)])?;
+    link_both(store, plain, ids.as_slice(), round, 2 * round + 1, steps);
+    link_both(store, plain, ids.as_slice(), round / 2, round, steps);
+    Ok(())
+}
+
+// Whether a store and a vector that grow side by side agree.
+fn agree_after<A: Allocator + Clone, L: Ledger>(
+    store: &mut Store<u64, A>,
+    alloc: Global,
+    rounds: usize,
+    steps: &mut Steps<L>,
+) -> Result<bool, NoMemory>
+    requires { rounds < 1000 }
+{
     let mut ids = Vec::new(alloc);
     let mut plain: Plain = Vec::new(alloc);
-    let mut store = Store::new(bump);
-    for round in 0..40usize {
-        store.reserve(round)?;
-        fill(&mut store, &mut ids, 3, &mut steps)?;
-        for value in 0..3 {
-            plain.push((value, None))?;
-        }
-        link_both(
-            &mut store,
-            &mut plain,
-            &ids,
-            round,
-            2 * round + 1,
-            &mut steps,
-        );
-        link_both(&mut store, &mut plain, &ids, round / 2, round, &mut steps);
+    for round in 0..rounds {
+        grow(store, &mut plain, &mut ids, round, steps)?;
     }
-    assert!(rt; agree(&store, &plain, &ids, &mut steps));
-    Ok(())
+    Ok(agree(store, &plain, &ids, steps))
 }
 
-#[test]
-fn the_store_agrees_with_one_vector(rt: HostRuntime) -> Result<(), Fail> {
-    let bump = Bump::new(rt.alloc());
-    agrees_with_a_vector::<Brand>(&rt, rt.alloc(), &bump, Blank::new(1))
-}
-
-fn reads_what_it_pushed<L: Ledger>(
-    rt: &impl Abort,
-    alloc: Global,
-    bump: &Bump,
-    blank: Blank,
-) -> Result<(), Fail>
+fn agrees_with_a_vector<L: Ledger>(alloc: Global, blank: Blank) -> Result<bool, NoMemory>
     requires name { blank.name ≡ L.name }
     requires parts { blank.parts ≡ L.parts }
     requires share { 0 < L.parts }
 {
     let mut steps: Steps<L> = Steps::new(blank);
-    let mut ids = Vec::new(alloc);
-    let mut store = Store::new(bump);
-    fill(&mut store, &mut ids, 1000, &mut steps)?;
-    assert_eq!(rt; store.len(), 1000);
-    let mut expected = 0u64;
-    for id in ids.iter() {
-        assert_eq!(rt; *store.get(*id, &mut steps), expected);
-        expected = expected.wrapping_add(1);
-    }
-    Ok(())
+    let bump = Bump::new(alloc);
+    agree_after(&mut Store::new(&bump), alloc, 40, &mut steps)
 }
 
 #[test]
-fn a_thousand_entries_of_an_arena_are_read_back(rt: HostRuntime) -> Result<(), Fail> {
-    let bump = Bump::new(rt.alloc());
-    reads_what_it_pushed::<Brand>(&rt, rt.alloc(), &bump, Blank::new(1))
+fn the_store_agrees_with_one_vector(rt: HostRuntime) {
+    let agrees = agrees_with_a_vector::<Brand>(rt.alloc(), Blank::new(1));
+    assert!(rt; agrees == Ok(true));
+}
+
+// Whether the entries are the numbers from 0, in their order.
+fn counts_up<A: Allocator + Clone, L: Ledger>(
+    store: &Store<u64, A>,
+    ids: &[EntryId],
+    steps: &mut Steps<L>,
+) -> bool
+    requires { EachIndex ids.now (λ k. slice_index ids.now k < length store.now.entries) }
+{
+    let mut expected = 0u64;
+    for id in ids.iter() {
+        if *store.get(*id, steps) != expected {
+            return false;
+        }
+        expected = expected.wrapping_add(1);
+    }
+    true
+}
+
+// Whether so many entries of a store that has none are read back.
+fn reads_back<A: Allocator + Clone, L: Ledger>(
+    store: &mut Store<u64, A>,
+    alloc: Global,
+    count: u64,
+    steps: &mut Steps<L>,
+) -> Result<bool, NoMemory> {
+    let mut ids = Vec::new(alloc);
+    fill(store, &mut ids, count, steps)?;
+    Ok(store.len() as u64 == count && counts_up(store, &ids, steps))
+}
+
+fn a_thousand_are_read_back<L: Ledger>(alloc: Global, blank: Blank) -> Result<bool, NoMemory>
+    requires name { blank.name ≡ L.name }
+    requires parts { blank.parts ≡ L.parts }
+    requires share { 0 < L.parts }
+{
+    let mut steps: Steps<L> = Steps::new(blank);
+    let bump = Bump::new(alloc);
+    reads_back(&mut Store::new(&bump), alloc, 1000, &mut steps)
+}
+
+#[test]
+fn a_thousand_entries_of_an_arena_are_read_back(rt: HostRuntime) {
+    let read = a_thousand_are_read_back::<Brand>(rt.alloc(), Blank::new(1));
+    assert!(rt; read == Ok(true));
 }

@@ -1,80 +1,124 @@
-//! Two small tables, and small queries.
-ghost use Rattle.std.specs.Prelude.{◌≡◌, ◌<◌, ◌≤◌, IfOk, length};
+//! Small tables, small queries over them, and their plans.
+ghost use Rattle.std.specs.Prelude.{◌≡◌, ◌<◌, ◌≤◌, [], IfSome, OnOk, length};
 ghost use Rattle.std.specs.List.{AllByRecursion};
 ghost use Rattle.query_bind.specs.Weighed.{Fits};
+ghost use Rattle.tdp_core.specs.WellFormed.{IsTieFreeTree};
 
-use csv_tables::Tables;
+use csv_tables::{TableFault, Tables};
+use plan_build::{Plan, prepare};
 use query_bind::{Query, bind};
 use query_parse::{Select, parse};
+use rank_key::Rank;
 use std::alloc::Global;
-use std::test::Fail;
+use std::sync::ledger::Ledger;
+use step_counter::Steps;
+use tdp_core::Answer;
 
-/// The tables of two small files.
-pub(crate) fn read_two(alloc: Global, files: (&[u8], &[u8])) -> Result<Tables, Fail>
-    ensures two { IfOk result (λ made. length made ≡ 2) }
-{
-    if files.0.len() > 1000 || files.1.len() > 1000 {
-        return Err("not a small table".into());
-    }
-    let mut tables = Tables::new(alloc);
-    tables.read(files.0)?;
-    tables.read(files.1)?;
-    Ok(tables)
-}
+/// The texts of two tables.
+pub(crate) type Files = (&'static str, &'static str);
 
 /// The tables R and S.
-pub(crate) fn two_tables(alloc: Global) -> Result<Tables, Fail>
-    ensures { IfOk result (λ tables. length tables ≡ 2) }
-{
-    read_two(
-        alloc,
-        (
-            b"a,b,w\n1,x,3\n2,y,1\n3,x,1\n",
-            b"b,c,w\nx,p,5\ny,q,2\nx,q,4\n",
-        ),
-    )
-}
+pub(crate) const TWO: Files = (
+    "a,b,w\n1,x,3\n2,y,1\n3,x,1\n",
+    "b,c,w\nx,p,5\ny,q,2\nx,q,4\n",
+);
 
-// A query of so many items, and at least one, that can be bound.
-fn parse_small(alloc: Global, text: &[u8], items: usize) -> Result<Select, Fail>
-    requires few { items ≤ 16 }
-    ensures some { IfOk result (λ made. 1 ≤ length made.items) }
-    ensures items { IfOk result (λ made. length made.items ≡ items) }
-    ensures keys { IfOk result (λ made. length made.keys ≤ 8) }
+/// Reads the tables of two small files.
+pub(crate) fn read_two(tables: &mut Tables, files: Files) -> Result<(), TableFault>
+    requires { tables.old ≡ [] }
+    ensures { OnOk result (length tables.new ≡ 2) }
 {
-    let select = parse(alloc, text)?;
-    if items == 0 || select.items.as_slice().len() != items || select.keys.as_slice().len() > 8 {
-        return Err("not a small query".into());
+    if files.0.len() > 1000 || files.1.len() > 1000 {
+        return Err(TableFault::NoMemory);
     }
-    Ok(select)
+    tables.read(files.0.as_bytes())?;
+    tables.read(files.1.as_bytes())?;
+    Ok(())
 }
 
-// The query of this text over the tables, which are those of its items in their order.
-fn bind_small(alloc: Global, tables: &Tables, text: &[u8], which: &[u32]) -> Result<Query, Fail>
+// The query over the tables, which are those of its items in their order, where it has as many items and few keys.
+fn bound(alloc: Global, tables: &Tables, select: &Select, which: &[u32]) -> Option<Query>
     requires few { length which.now ≤ 16 }
     requires known { AllByRecursion (λ t. t < length tables.now) which.now }
-    ensures fits { IfOk result (λ query. Fits query tables.now) }
+    ensures fits { IfSome result (λ query. Fits query tables.now) }
 {
-    let select = parse_small(alloc, text, which.len())?;
-    Ok(bind(alloc, &select, tables, which)?)
+    let items = select.items.as_slice().len();
+    if items == 0 || items != which.len() || select.keys.as_slice().len() > 8 {
+        return None;
+    }
+    bind(alloc, select, tables, which).ok()
 }
 
-/// The same query, where it has at most so many keys.
+// The same of the query of this text.
+fn bound_text(alloc: Global, tables: &Tables, text: &[u8], which: &[u32]) -> Option<Query>
+    requires few { length which.now ≤ 16 }
+    requires known { AllByRecursion (λ t. t < length tables.now) which.now }
+    ensures fits { IfSome result (λ query. Fits query tables.now) }
+{
+    match parse(alloc, text) {
+        Ok(select) => bound(alloc, tables, &select, which),
+        Err(_) => None,
+    }
+}
+
+/// The query of this text over the tables, where it has at most so many keys.
 pub(crate) fn query_of(
     alloc: Global,
     tables: &Tables,
     text: &[u8],
     which: &[u32],
     keys: usize,
-) -> Result<Query, Fail>
+) -> Option<Query>
     requires few { length which.now ≤ 16 }
     requires known { AllByRecursion (λ t. t < length tables.now) which.now }
-    ensures fits { IfOk result (λ query. Fits query tables.now) }
-    ensures keys { IfOk result (λ query. length query.query.order ≤ keys) }
+    ensures fits { IfSome result (λ query. Fits query tables.now) }
+    ensures keys { IfSome result (λ query. length query.query.order ≤ keys) }
 {
-    let query = bind_small(alloc, tables, text, which)?;
+    let query = bound_text(alloc, tables, text, which)?;
     if query.keys() as usize > keys {
-        return Err("not a small query".into());
+        return None;
     }
-    Ok(query)
+    Some(query)
+}
+
+// The plan of the query of this text over the tables.
+fn plan_over<R: Rank, L: Ledger>(
+    alloc: Global,
+    tables: &Tables,
+    text: &[u8],
+    which: &[u32],
+    steps: &mut Steps<L>,
+) -> Option<Plan<R>>
+    requires few { length which.now ≤ 16 }
+    requires known { AllByRecursion (λ t. t < length tables.now) which.now }
+    ensures tie_free { IfSome result (λ plan. IsTieFreeTree plan.tree) }
+{
+    let query = query_of(alloc, tables, text, which, R::KEYS)?;
+    prepare(alloc, &query, tables, steps).ok()
+}
+
+/// The plan of the query of this text over the tables of two files.
+pub(crate) fn plan_of<R: Rank, L: Ledger>(
+    alloc: Global,
+    files: Files,
+    text: &[u8],
+    which: &[u32],
+    steps: &mut Steps<L>,
+) -> Option<Plan<R>>
+    requires few { length which.now ≤ 16 }
+    requires known { AllByRecursion (λ t. t < 2) which.now }
+    ensures tie_free { IfSome result (λ plan. IsTieFreeTree plan.tree) }
+{
+    let mut tables = Tables::new(alloc);
+    read_two(&mut tables, files).ok()?;
+    plan_over(alloc, &tables, text, which, steps)
+}
+
+/// Whether there is an answer, and its first items have these rows.
+pub(crate) fn has_rows<R: Rank>(answer: Option<Answer<R>>, rows: &[u32; 4]) -> bool {
+    let Some(answer) = answer else {
+        return false;
+    };
+    let all = answer.rows;
+    all.starts_with(rows)
 }

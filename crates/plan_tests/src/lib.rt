@@ -1,6 +1,6 @@
-//! Tests of what is made of a query over tables before its answers are printed: nodes, reduction, least keys, the plan, the answers
-//! of both engines, a cursor that is driven over each, and the second engine in an arena that refuses memory. They are worked examples
-//! over the public calls of those crates, in a crate of their own so that none of those is proved twice for its tests.
+//! Tests of what is made of a query over tables before its answers are printed: nodes, reduction, least keys, the plan and its report,
+//! the answers of both engines, a cursor that is driven over each, and the second engine in an arena that refuses memory. They are
+//! worked examples over the public calls of those crates, in a crate of their own so that none of those is proved twice for its tests.
 #![tactic(auto)]
 
 #[cfg(test)]
@@ -15,6 +15,8 @@ mod plans;
 mod reduction;
 #[cfg(test)]
 mod refusals;
+#[cfg(test)]
+mod reports;
 #[cfg(test)]
 mod solving;
 #[cfg(test)]

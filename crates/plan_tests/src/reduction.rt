@@ -1,3 +1,4 @@
+//! What the reduction leaves of raw trees.
 ghost use Rattle.std.specs.Prelude.{◌≡◌, ℕ, ◌+◌, ◌<◌, ◌≤◌, length, IfOk, OnOk};
 ghost use Rattle.plan_tests.specs.ChainTrees.{IsChain, chain_children};
 ghost use Rattle.tdp_core.specs.RawData.{row_total};
@@ -7,7 +8,6 @@ use semi_join::{Reduced, reduce};
 use std::alloc::Global;
 use std::marker::Brand;
 use std::sync::ledger::{Blank, Ledger};
-use std::test::Fail;
 use step_counter::{NoMemory, Steps};
 use tdp_core::{NodeParts, NodeRow, NodeShape, RawTree};
 
@@ -111,18 +111,19 @@ fn has_named<R: Rank>(parts: &NodeParts<R>, named: &[u32]) -> bool {
     true
 }
 
-/// A tree in which row 2 of the second node has no partner, so that row 6 of the root has none either.
-fn partly_linked<R: Rank>(alloc: Global) -> Result<RawTree<R>, NoMemory> {
-    let mut tree = chain(alloc)?;
-    add(&mut tree, 0, 4, 9, &[7])?;
-    add(&mut tree, 0, 6, 8, &[5])?;
-    add(&mut tree, 0, 7, 3, &[2])?;
-    add(&mut tree, 1, 1, 7, &[3])?;
-    add(&mut tree, 1, 2, 5, &[1])?;
-    add(&mut tree, 1, 5, 2, &[3])?;
-    add(&mut tree, 2, 0, 3, &[])?;
-    add(&mut tree, 2, 8, 3, &[])?;
-    Ok(tree)
+// Row 2 of the second node has no partner, so that row 6 of the root has none either.
+fn link_partly<R: Rank>(tree: &mut RawTree<R>) -> Result<(), NoMemory>
+    requires chain { IsChain tree.old.shapes }
+    requires empty { row_total tree.old ≡ 0 }
+{
+    add(tree, 0, 4, 9, &[7])?;
+    add(tree, 0, 6, 8, &[5])?;
+    add(tree, 0, 7, 3, &[2])?;
+    add(tree, 1, 1, 7, &[3])?;
+    add(tree, 1, 2, 5, &[1])?;
+    add(tree, 1, 5, 2, &[3])?;
+    add(tree, 2, 0, 3, &[])?;
+    add(tree, 2, 8, 3, &[])
 }
 
 /// What is left of that tree.
@@ -139,22 +140,34 @@ fn is_partly_linked<R: Rank>(nodes: &[NodeParts<R>]) -> bool {
         && has_members(last, &[&[0, 1]])
 }
 
-#[test]
-fn rows_without_partner_go(rt: HostRuntime) -> Result<(), Fail> {
-    let alloc = rt.alloc();
-    let raw: RawTree<SumRank> = partly_linked(alloc)?;
-    let reduced = reduced_by::<SumRank, Brand>(alloc, raw, Blank::new(1))?;
-    assert!(rt; is_partly_linked(reduced.nodes.as_slice()));
-    Ok(())
+fn partly_linked_is_reduced<R: Rank, L: Ledger>(
+    alloc: Global,
+    blank: Blank,
+) -> Result<bool, NoMemory>
+    requires name { blank.name ≡ L.name }
+    requires parts { blank.parts ≡ L.parts }
+    requires share { 0 < L.parts }
+{
+    let mut raw: RawTree<R> = chain(alloc)?;
+    link_partly(&mut raw)?;
+    let reduced = reduced_by::<R, L>(alloc, raw, blank)?;
+    Ok(is_partly_linked(reduced.nodes.as_slice()))
 }
 
-/// A tree in which no row of the second node has a partner.
-fn unlinked<R: Rank>(alloc: Global) -> Result<RawTree<R>, NoMemory> {
-    let mut tree = chain(alloc)?;
-    add(&mut tree, 0, 4, 9, &[7])?;
-    add(&mut tree, 1, 1, 7, &[3])?;
-    add(&mut tree, 2, 8, 5, &[])?;
-    Ok(tree)
+#[test]
+fn rows_without_partner_go(rt: HostRuntime) {
+    let reduced = partly_linked_is_reduced::<SumRank, Brand>(rt.alloc(), Blank::new(1));
+    assert!(rt; reduced == Ok(true));
+}
+
+// No row of the second node has a partner.
+fn link_none<R: Rank>(tree: &mut RawTree<R>) -> Result<(), NoMemory>
+    requires chain { IsChain tree.old.shapes }
+    requires empty { row_total tree.old ≡ 0 }
+{
+    add(tree, 0, 4, 9, &[7])?;
+    add(tree, 1, 1, 7, &[3])?;
+    add(tree, 2, 8, 5, &[])
 }
 
 /// Whether the first two of three nodes are left without rows, and the root without groups.
@@ -165,11 +178,19 @@ fn is_emptied<R: Rank>(nodes: &[NodeParts<R>]) -> bool {
     root.rows.is_empty() && root.groups.is_empty() && middle.rows.is_empty()
 }
 
+fn unlinked_is_reduced<R: Rank, L: Ledger>(alloc: Global, blank: Blank) -> Result<bool, NoMemory>
+    requires name { blank.name ≡ L.name }
+    requires parts { blank.parts ≡ L.parts }
+    requires share { 0 < L.parts }
+{
+    let mut raw: RawTree<R> = chain(alloc)?;
+    link_none(&mut raw)?;
+    let reduced = reduced_by::<R, L>(alloc, raw, blank)?;
+    Ok(is_emptied(reduced.nodes.as_slice()))
+}
+
 #[test]
-fn a_tree_without_solutions_is_emptied(rt: HostRuntime) -> Result<(), Fail> {
-    let alloc = rt.alloc();
-    let raw: RawTree<SumRank> = unlinked(alloc)?;
-    let reduced = reduced_by::<SumRank, Brand>(alloc, raw, Blank::new(1))?;
-    assert!(rt; is_emptied(reduced.nodes.as_slice()));
-    Ok(())
+fn a_tree_without_solutions_is_emptied(rt: HostRuntime) {
+    let reduced = unlinked_is_reduced::<SumRank, Brand>(rt.alloc(), Blank::new(1));
+    assert!(rt; reduced == Ok(true));
 }

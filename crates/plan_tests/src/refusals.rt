@@ -1,20 +1,16 @@
 //! The second engine over an arena that refuses each allocation in turn.
 ghost use Rattle.std.specs.Prelude.{◌≡◌, ◌<◌, ◌≤◌, length};
 ghost use Rattle.std.specs.List.{AllByRecursion};
-ghost use Rattle.query_bind.specs.Weighed.{Fits};
 ghost use Rattle.tdp_core.specs.WellFormed.{IsTieFreeTree};
 
-use crate::fixtures::{query_of, read_two, two_tables};
+use crate::fixtures::{Files, TWO, has_rows, plan_of};
 use anyk_rec::Rec;
 use bumpalo::Bump;
-use csv_tables::Tables;
-use plan_build::prepare;
-use query_bind::Query;
+use plan_build::Plan;
 use rank_key::{Rank, SumRank};
 use std::alloc::Global;
 use std::marker::Brand;
 use std::sync::ledger::{Blank, Ledger};
-use std::test::Fail;
 use step_counter::{NoMemory, Steps};
 use tdp_core::{Answer, Ranked, Tree};
 
@@ -62,15 +58,6 @@ fn next_in<E: Ranked, L: Ledger>(
         }
     }
     Err(NoMemory)
-}
-
-// Whether there is an answer, and its first items have these rows.
-fn has_rows<R: Rank>(answer: Option<Answer<R>>, rows: &[u32; 4]) -> bool {
-    let Some(answer) = answer else {
-        return false;
-    };
-    let all = answer.rows;
-    all.starts_with(rows)
 }
 
 // How often memory was refused while the engine gave all its answers, where these are the wanted rows of the first four items.
@@ -128,57 +115,47 @@ fn refusals_in_all<R: Rank, L: Ledger>(
     tree: &Tree<R>,
     wanted: &[[u32; 4]],
     steps: &mut Steps<L>,
-) -> Result<usize, Fail>
+) -> Result<Option<usize>, NoMemory>
     requires tie_free { IsTieFreeTree tree.now }
 {
     let mut refusals: usize = 0;
     for eighth in 0..CHUNK / 8 {
-        let run = refusals_in(alloc, tree, 8 * eighth, wanted, steps)?;
-        refusals = refusals.saturating_add(run.ok_or("other answers")?);
+        let Some(run) = refusals_in(alloc, tree, 8 * eighth, wanted, steps)? else {
+            return Ok(None);
+        };
+        refusals = refusals.saturating_add(run);
     }
-    Ok(refusals)
+    Ok(Some(refusals))
 }
 
-// The same over the plan of a query.
-fn refusals_of_query<R: Rank, L: Ledger>(
+// Whether memory was refused more than 50 times over the plan of the query of this text, and the wanted rows came in each run.
+fn comes_back<R: Rank, L: Ledger>(
     alloc: Global,
-    query: &Query,
-    tables: &Tables,
-    wanted: &[[u32; 4]],
-    steps: &mut Steps<L>,
-) -> Result<usize, Fail>
-    requires fits { Fits query.now tables.now }
-    requires keys { length query.now.query.order ≤ R.KEYS }
-{
-    let Ok(plan) = prepare::<R, L>(alloc, query, tables, steps) else {
-        return Err("no plan".into());
-    };
-    refusals_in_all(alloc, plan.tree(), wanted, steps)
-}
-
-// The same over the query of this text over the tables, which are those of its items in their order.
-fn refusals_of_text<R: Rank, L: Ledger>(
-    alloc: Global,
-    tables: &Tables,
+    files: Files,
     text: &[u8],
     which: &[u32],
     wanted: &[[u32; 4]],
     blank: Blank,
-) -> Result<usize, Fail>
+) -> bool
     requires few { length which.now ≤ 16 }
-    requires known { AllByRecursion (λ t. t < length tables.now) which.now }
-    requires keys { 1 ≤ R.KEYS }
+    requires known { AllByRecursion (λ t. t < 2) which.now }
     requires name { blank.name ≡ L.name }
     requires parts { blank.parts ≡ L.parts }
     requires some_part { 0 < blank.parts }
 {
     let mut steps = Steps::<L>::new(blank);
-    let query = query_of(alloc, tables, text, which, 1)?;
-    refusals_of_query::<R, L>(alloc, &query, tables, wanted, &mut steps)
+    let plan: Option<Plan<R>> = plan_of(alloc, files, text, which, &mut steps);
+    let Some(plan) = plan else {
+        return false;
+    };
+    match refusals_in_all(alloc, plan.tree(), wanted, &mut steps) {
+        Ok(Some(refusals)) => refusals > 50,
+        _ => false,
+    }
 }
 
 #[test]
-fn a_join_comes_back_after_each_refusal(rt: HostRuntime) -> Result<(), Fail> {
+fn a_join_comes_back_after_each_refusal(rt: HostRuntime) {
     let text = b"select R.a, S.c from R, S where R.b = S.b order by R.w + S.w";
     let wanted = [
         [2, 2, 0, 0],
@@ -187,38 +164,19 @@ fn a_join_comes_back_after_each_refusal(rt: HostRuntime) -> Result<(), Fail> {
         [1, 3, 0, 0],
         [1, 1, 0, 0],
     ];
-    let tables = two_tables(rt.alloc())?;
-    let refusals = refusals_of_text::<SumRank, Brand>(
-        rt.alloc(),
-        &tables,
-        text,
-        &[0, 1],
-        &wanted,
-        Blank::new(1),
-    )?;
-    assert!(rt; refusals > 50);
-    Ok(())
+    let blank = Blank::new(1);
+    assert!(rt; comes_back::<SumRank, Brand>(rt.alloc(), TWO, text, &[0, 1], &wanted, blank));
 }
 
+// A row of C goes with each pair of two rows of L, and with the row of C itself.
+const OF_A_STAR: Files = ("k,v,w\nz,5,0\n", "k,v,w\nz,1,0\nz,2,0\n");
+
 #[test]
-fn a_star_comes_back_after_each_refusal(rt: HostRuntime) -> Result<(), Fail> {
-    // A row of C goes with each pair of two rows of L, and with the row of C itself.
-    let files = (
-        b"k,v,w\nz,5,0\n".as_slice(),
-        b"k,v,w\nz,1,0\nz,2,0\n".as_slice(),
-    );
+fn a_star_comes_back_after_each_refusal(rt: HostRuntime) {
     let text =
         b"select L1.v, L2.v, L3.v from C, L L1, L L2, C L3 where C.k = L1.k and C.k = L2.k and C.k = L3.k order by L1.w + L2.w + L3.w";
     let wanted = [[1, 1, 1, 1], [1, 1, 2, 1], [1, 2, 1, 1], [1, 2, 2, 1]];
-    let tables = read_two(rt.alloc(), files)?;
-    let refusals = refusals_of_text::<SumRank, Brand>(
-        rt.alloc(),
-        &tables,
-        text,
-        &[0, 1, 1, 0],
-        &wanted,
-        Blank::new(1),
-    )?;
-    assert!(rt; refusals > 50);
-    Ok(())
+    let blank = Blank::new(1);
+    let which = [0, 1, 1, 0];
+    assert!(rt; comes_back::<SumRank, Brand>(rt.alloc(), OF_A_STAR, text, &which, &wanted, blank));
 }

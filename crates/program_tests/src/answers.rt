@@ -60,9 +60,8 @@ const OVER_TWO_TABLES: &[Case<'static>] = &[
 ];
 
 #[test]
-fn answers_come_in_order(rt: HostRuntime) -> Result<(), AllocError> {
-    assert_eq!(rt; first_failing(rt.alloc(), OVER_TWO_TABLES)?, None);
-    Ok(())
+fn answers_come_in_order(rt: HostRuntime) {
+    assert!(rt; first_failing(rt.alloc(), OVER_TWO_TABLES) == Ok(None));
 }
 
 const GREATEST: &str = "a,b,w\n1,x,170141183460469231731687303715884105727\n";
@@ -160,9 +159,8 @@ const OVER_OTHER_TABLES: &[Case<'static>] = &[
 ];
 
 #[test]
-fn other_tables_are_joined(rt: HostRuntime) -> Result<(), AllocError> {
-    assert_eq!(rt; first_failing(rt.alloc(), OVER_OTHER_TABLES)?, None);
-    Ok(())
+fn other_tables_are_joined(rt: HostRuntime) {
+    assert!(rt; first_failing(rt.alloc(), OVER_OTHER_TABLES) == Ok(None));
 }
 
 const FLIGHTS: &str =
@@ -194,7 +192,6 @@ const WRITTEN_OTHERWISE: &[Case<'static>] = &[
 ];
 
 #[test]
-fn queries_may_be_written_otherwise(rt: HostRuntime) -> Result<(), AllocError> {
-    assert_eq!(rt; first_failing(rt.alloc(), WRITTEN_OTHERWISE)?, None);
-    Ok(())
+fn queries_may_be_written_otherwise(rt: HostRuntime) {
+    assert!(rt; first_failing(rt.alloc(), WRITTEN_OTHERWISE) == Ok(None));
 }

@@ -1,5 +1,6 @@
 //! A call of the program over files in memory, and what is to come of it.
 use anyk_top::run_uncounted;
+use hash_keys::Keys;
 use outer_io::{MemFile, MemShelf, MemSink, have_distinct_names};
 use std::alloc::{AllocError, Global};
 use std::marker::Brand;
@@ -95,7 +96,52 @@ fn shelf_of(alloc: Global, case: &Case<'_>, read: u64) -> Result<Option<MemShelf
     Ok(Some(MemShelf::new(files, one(alloc, read)?)))
 }
 
-// Whether the case comes out as it says, with these options, over these failing calls.
+// A sink that takes so many bytes by a call, fails at one call and takes nothing at another.
+fn sink_of(alloc: Global, most: usize, fails: u64, stuck: u64) -> Result<MemSink, AllocError> {
+    let failing = one(alloc, fails)?;
+    let stuck = one(alloc, stuck)?;
+    MemSink::new(alloc, ROOM, most, failing, stuck)
+        .ok()
+        .ok_or(AllocError)
+}
+
+// Whether the call of these words comes out as the case says.
+fn comes_out(
+    alloc: Global,
+    case: &Case<'_>,
+    words: &[String],
+    shelf: &mut MemShelf,
+    out: &mut MemSink,
+    err: &mut MemSink,
+) -> bool {
+    let status = run_uncounted::<MemShelf, MemSink, MemSink, Brand>(
+        alloc,
+        words,
+        shelf,
+        out,
+        err,
+        Keys::Known,
+        Blank::new(1),
+    );
+    status == case.status
+        && out.bytes() == case.out.as_bytes()
+        && err.bytes() == case.err.as_bytes()
+}
+
+// The same over sinks with these failing calls.
+fn comes_out_with(
+    alloc: Global,
+    case: &Case<'_>,
+    words: &[String],
+    shelf: &mut MemShelf,
+    failing: Failing,
+) -> Result<bool, AllocError> {
+    let mut out = sink_of(alloc, failing.most, failing.write, failing.stuck)?;
+    let mut err = sink_of(alloc, 3, failing.line, 0)?;
+    Ok(comes_out(alloc, case, words, shelf, &mut out, &mut err))
+}
+
+// The same over a shelf with these failing calls, with these options.
 fn holds_with(
     alloc: Global,
     case: &Case<'_>,
@@ -103,29 +149,10 @@ fn holds_with(
     failing: Failing,
 ) -> Result<bool, AllocError> {
     let words = words_of(alloc, case.words, options)?;
-    let Some(mut shelf) = shelf_of(alloc, case, failing.read)? else {
-        return Ok(false);
-    };
-    let stuck = one(alloc, failing.stuck)?;
-    let out = MemSink::new(alloc, ROOM, failing.most, one(alloc, failing.write)?, stuck);
-    let none = Vec::new(alloc);
-    let err = MemSink::new(alloc, ROOM, 3, one(alloc, failing.line)?, none);
-    let (Ok(mut out), Ok(mut err)) = (out, err) else {
-        return Ok(false);
-    };
-    let status = run_uncounted::<MemShelf, MemSink, MemSink, Brand>(
-        alloc,
-        &words,
-        &mut shelf,
-        &mut out,
-        &mut err,
-        Blank::new(1),
-    );
-    Ok(
-        status == case.status
-            && out.bytes() == case.out.as_bytes()
-            && err.bytes() == case.err.as_bytes(),
-    )
+    match shelf_of(alloc, case, failing.read)? {
+        Some(mut shelf) => comes_out_with(alloc, case, &words, &mut shelf, failing),
+        None => Ok(false),
+    }
 }
 
 // Whether the command has engines to choose from, and the words name none.

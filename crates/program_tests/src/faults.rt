@@ -1,29 +1,32 @@
 //! Files that cannot be read, output that cannot be written, and files that were cut off.
-use super::cases::{Case, FOUND, Failing, LEFT, NEVER, RIGHT, RUN, first_failing, holds};
+use super::cases::{Case, FOUND, Failing, LEFT, NEVER, RIGHT, RUN, holds, named, over};
 use std::alloc::{AllocError, Global};
 
 const ANSWERED: Case<'static> = Case { out: FOUND, ..RUN };
 
+// Whether a run whose read of this number fails ends there. The first calls open the query's file, read it and find its end; then
+// those of each table.
+fn ends_at_read(alloc: Global, read: u64) -> Result<bool, AllocError> {
+    let err = match read {
+        1..4 => "anyk: file q.sql: read failed\n",
+        4..7 => "anyk: file R.csv: read failed\n",
+        _ => "anyk: file S.csv: read failed\n",
+    };
+    let unread = Case {
+        status: 10,
+        err,
+        ..RUN
+    };
+    holds(alloc, &unread, Failing { read, ..NEVER })
+}
+
 #[test]
-fn failing_reads_end_a_run(rt: HostRuntime) -> Result<(), AllocError> {
-    // The first calls open the query's file, read it and find its end; then those of each table.
+fn failing_reads_end_a_run(rt: HostRuntime) {
     for read in 1..10 {
-        let err = match read {
-            1..4 => "anyk: file q.sql: read failed\n",
-            4..7 => "anyk: file R.csv: read failed\n",
-            _ => "anyk: file S.csv: read failed\n",
-        };
-        let failing = Failing { read, ..NEVER };
-        let unread = Case {
-            status: 10,
-            err,
-            ..RUN
-        };
-        assert!(rt; holds(rt.alloc(), &unread, failing)?, "call {read}");
+        assert!(rt; ends_at_read(rt.alloc(), read) == Ok(true), "call {read}");
     }
     let late = Failing { read: 10, ..NEVER };
-    assert!(rt; holds(rt.alloc(), &ANSWERED, late)?);
-    Ok(())
+    assert!(rt; holds(rt.alloc(), &ANSWERED, late) == Ok(true));
 }
 
 // Whether a run that cannot write its record of this number, from 1 for the header, ends there.
@@ -43,21 +46,20 @@ fn ends_at(alloc: Global, write: u64, whole: usize) -> Result<bool, AllocError> 
 }
 
 #[test]
-fn failing_writes_end_a_run(rt: HostRuntime) -> Result<(), AllocError> {
+fn failing_writes_end_a_run(rt: HostRuntime) {
     let alloc = rt.alloc();
     for (write, whole) in [(1, 0), (2, 4), (3, 8), (4, 12), (5, 16), (6, 20)] {
-        assert!(rt; ends_at(alloc, write, whole)?, "call {write}");
+        assert!(rt; ends_at(alloc, write, whole) == Ok(true), "call {write}");
     }
     let bytewise = Failing { most: 1, ..NEVER };
-    assert!(rt; holds(alloc, &ANSWERED, bytewise)?);
+    assert!(rt; holds(alloc, &ANSWERED, bytewise) == Ok(true));
     let silent = Failing { line: 1, ..NEVER };
     let refused = Case {
         query: "select",
         status: 3,
         ..RUN
     };
-    assert!(rt; holds(alloc, &refused, silent)?);
-    Ok(())
+    assert!(rt; holds(alloc, &refused, silent) == Ok(true));
 }
 
 // What comes of a run over a table that is cut off after so many of its bytes, from the first to the second number. A weight that
@@ -94,20 +96,40 @@ const CUT: &[(usize, usize, u8, &str, &str)] = &[
     (23, 24, 0, FOUND, ""),
 ];
 
-#[test]
-fn cut_tables_are_told(rt: HostRuntime) -> Result<(), AllocError> {
-    for (first, last, status, out, err) in CUT {
-        for length in *first..*last + 1 {
-            let cut = RIGHT.get(..length).unwrap_or("");
-            let case = Case {
-                files: &[("R.csv", LEFT), ("S.csv", cut)],
-                status: *status,
-                out,
-                err,
-                ..RUN
-            };
-            assert_eq!(rt; first_failing(rt.alloc(), &[case])?, None, "{length} bytes");
+// Whether a run over the table of so many bytes comes out so.
+fn is_told(
+    alloc: Global,
+    length: usize,
+    status: u8,
+    out: &str,
+    err: &str,
+) -> Result<bool, AllocError> {
+    let cut = RIGHT.get(..length).unwrap_or("");
+    let files = [named("R.csv", LEFT), named("S.csv", cut)];
+    holds(alloc, &over(RUN.words, &files, status, out, err), NEVER)
+}
+
+// The least of these lengths of which the run comes out otherwise.
+fn first_told_otherwise(
+    alloc: Global,
+    row: &(usize, usize, u8, &str, &str),
+) -> Result<Option<usize>, AllocError> {
+    let (first, last, status, out, err) = *row;
+    for length in first..last.saturating_add(1) {
+        if !is_told(alloc, length, status, out, err)? {
+            return Ok(Some(length));
         }
     }
-    Ok(())
+    Ok(None)
+}
+
+#[test]
+fn cut_tables_are_told(rt: HostRuntime) {
+    for row in CUT {
+        assert!(rt;
+            first_told_otherwise(rt.alloc(), row) == Ok(None),
+            "from {} bytes",
+            row.0
+        );
+    }
 }

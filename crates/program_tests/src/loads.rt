@@ -55,17 +55,16 @@ const OF_NUMBERS: &[Case<'static>] = &[
 ];
 
 #[test]
-fn made_tables_are_summed_up(rt: HostRuntime) -> Result<(), AllocError> {
+fn made_tables_are_summed_up(rt: HostRuntime) {
     let alloc = rt.alloc();
-    assert_eq!(rt; first_failing(alloc, OF_NUMBERS)?, None);
+    assert!(rt; first_failing(alloc, OF_NUMBERS) == Ok(None));
     let unread = Failing { read: 1, ..NEVER };
-    assert!(rt; holds(alloc, &PAIRS, unread)?);
+    assert!(rt; holds(alloc, &PAIRS, unread) == Ok(true));
     let unwritten = Case {
         status: 11,
         out: "",
         err: "anyk: write failed\n",
         ..PAIRS
     };
-    assert!(rt; holds(alloc, &unwritten, Failing { write: 1, ..NEVER })?);
-    Ok(())
+    assert!(rt; holds(alloc, &unwritten, Failing { write: 1, ..NEVER }) == Ok(true));
 }

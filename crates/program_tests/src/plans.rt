@@ -54,13 +54,12 @@ const REPORTS: &[Case<'static>] = &[
 ];
 
 #[test]
-fn plans_are_reported(rt: HostRuntime) -> Result<(), AllocError> {
-    assert_eq!(rt; first_failing(rt.alloc(), REPORTS)?, None);
-    Ok(())
+fn plans_are_reported(rt: HostRuntime) {
+    assert!(rt; first_failing(rt.alloc(), REPORTS) == Ok(None));
 }
 
 #[test]
-fn failing_writes_end_a_plan(rt: HostRuntime) -> Result<(), AllocError> {
+fn failing_writes_end_a_plan(rt: HostRuntime) {
     let failing = Failing { write: 1, ..NEVER };
     let unwritten = Case {
         status: 11,
@@ -68,6 +67,5 @@ fn failing_writes_end_a_plan(rt: HostRuntime) -> Result<(), AllocError> {
         err: "anyk: write failed\n",
         ..PLAN
     };
-    assert!(rt; holds(rt.alloc(), &unwritten, failing)?);
-    Ok(())
+    assert!(rt; holds(rt.alloc(), &unwritten, failing) == Ok(true));
 }

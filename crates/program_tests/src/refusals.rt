@@ -261,17 +261,15 @@ const IN_ORDER: &[Case<'static>] = &[
 ];
 
 #[test]
-fn refusals_are_told(rt: HostRuntime) -> Result<(), AllocError> {
+fn refusals_are_told(rt: HostRuntime) {
     let alloc = rt.alloc();
-    assert_eq!(rt; first_failing(alloc, OF_WORDS_AND_FILES)?, None);
-    assert_eq!(rt; first_failing(alloc, OF_QUERIES)?, None);
-    assert_eq!(rt; first_failing(alloc, OF_TABLES)?, None);
-    assert_eq!(rt; first_failing(alloc, OF_CYCLES)?, None);
-    Ok(())
+    assert!(rt; first_failing(alloc, OF_WORDS_AND_FILES) == Ok(None));
+    assert!(rt; first_failing(alloc, OF_QUERIES) == Ok(None));
+    assert!(rt; first_failing(alloc, OF_TABLES) == Ok(None));
+    assert!(rt; first_failing(alloc, OF_CYCLES) == Ok(None));
 }
 
 #[test]
-fn refusals_come_in_their_order(rt: HostRuntime) -> Result<(), AllocError> {
-    assert_eq!(rt; first_failing(rt.alloc(), IN_ORDER)?, None);
-    Ok(())
+fn refusals_come_in_their_order(rt: HostRuntime) {
+    assert!(rt; first_failing(rt.alloc(), IN_ORDER) == Ok(None));
 }

@@ -42,7 +42,6 @@ const OF_SIXTEEN: &[Case<'static>] = &[
 ];
 
 #[test]
-fn sixteen_items_are_joined(rt: HostRuntime) -> Result<(), AllocError> {
-    assert_eq!(rt; first_failing(rt.alloc(), OF_SIXTEEN)?, None);
-    Ok(())
+fn sixteen_items_are_joined(rt: HostRuntime) {
+    assert!(rt; first_failing(rt.alloc(), OF_SIXTEEN) == Ok(None));
 }

@@ -8,7 +8,6 @@ use csv_tables::Tables;
 use query_bind::{BindFault, Query, bind};
 use query_parse::select::Select;
 use std::alloc::Global;
-use std::test::Fail;
 
 const PAIRS: &[u8] = b"p,q\n1,1\n1,2\n";
 
@@ -173,13 +172,13 @@ fn told_over(
     tables: &Tables,
     text: &[u8],
     which: &[u32],
-) -> Result<Result<Bound, BindFault>, Fail>
+) -> Option<Result<Bound, BindFault>>
     requires two { length tables.now ≡ 2 }
     requires few { length which.now ≤ 16 }
     requires known { AllByRecursion (λ t. t < 2) which.now }
 {
     let select = parse_small(alloc, text, which.len())?;
-    Ok(told_of(alloc, &select, tables, which))
+    Some(told_of(alloc, &select, tables, which))
 }
 
 // The same over the tables of two files.
@@ -188,19 +187,30 @@ fn told(
     files: (&[u8], &[u8]),
     text: &[u8],
     which: &[u32],
-) -> Result<Result<Bound, BindFault>, Fail>
+) -> Option<Result<Bound, BindFault>>
     requires few { length which.now ≤ 16 }
     requires known { AllByRecursion (λ t. t < 2) which.now }
 {
-    let tables = read_two(alloc, files)?;
+    let mut tables = Tables::new(alloc);
+    read_two(&mut tables, files).ok()?;
     told_over(alloc, &tables, text, which)
 }
 
+// What the query tells, if it can be bound.
+fn told_if_bound(alloc: Global, files: (&[u8], &[u8]), text: &[u8], which: &[u32]) -> Option<Bound>
+    requires few { length which.now ≤ 16 }
+    requires known { AllByRecursion (λ t. t < 2) which.now }
+{
+    told(alloc, files, text, which)?.ok()
+}
+
 #[test]
-fn binds_two_tables(rt: HostRuntime) -> Result<(), Fail> {
+fn binds_two_tables(rt: HostRuntime) {
     let text =
         b"select R.a, S.c from R, S where R.b = S.b order by R.w desc, S.w, R.w + R.w limit 3";
-    let told = told(rt.alloc(), (R, S), text, &[0, 1])??;
+    let Some(told) = told_if_bound(rt.alloc(), (R, S), text, &[0, 1]) else {
+        panic!(rt; "not bound");
+    };
     assert!(rt; told.counts == [2, 3, 1] && told.limit == Some(3));
     let columns = [Some((0, 0)), Some((1, 1)), None, None, None, None, None];
     assert!(rt; told.columns == columns);
@@ -209,13 +219,14 @@ fn binds_two_tables(rt: HostRuntime) -> Result<(), Fail> {
     // An item's rows add nothing to a key that has no column of the item, and a column that is named twice counts twice.
     assert!(rt; told.parts == [[-1, 0, 2], [0, 4, 0]]);
     assert!(rt; told.caps == [[3, 0, 6], [0, 5, 0]]);
-    Ok(())
 }
 
 #[test]
-fn selects_all_columns(rt: HostRuntime) -> Result<(), Fail> {
+fn selects_all_columns(rt: HostRuntime) {
     let text = b"select * from R a, R b where a.b = b.b";
-    let told = told(rt.alloc(), (R, S), text, &[0, 0])??;
+    let Some(told) = told_if_bound(rt.alloc(), (R, S), text, &[0, 0]) else {
+        panic!(rt; "not bound");
+    };
     let columns = [
         Some((0, 0)),
         Some((0, 1)),
@@ -227,22 +238,24 @@ fn selects_all_columns(rt: HostRuntime) -> Result<(), Fail> {
     ];
     assert!(rt; told.columns == columns);
     assert!(rt; told.variables[1] == [Some((0, 1)), None]);
-    Ok(())
 }
 
 #[test]
-fn a_triangle_has_three_variables(rt: HostRuntime) -> Result<(), Fail> {
+fn a_triangle_has_three_variables(rt: HostRuntime) {
     let text = b"select A.p from T A, T B, T C where A.q = B.p and B.q = C.p and C.q = A.p";
-    let triangle = told(rt.alloc(), (PAIRS, S), text, &[0, 0, 0])??;
+    let Some(triangle) = told_if_bound(rt.alloc(), (PAIRS, S), text, &[0, 0, 0]) else {
+        panic!(rt; "not bound");
+    };
     assert!(rt; triangle.counts[2] == 3 && triangle.graph == [5, 3, 6]);
     assert!(rt; triangle.variables[2] == [Some((0, 1)), Some((2, 0))]);
-    Ok(())
 }
 
 #[test]
-fn equalities_that_meet_late_make_one_class(rt: HostRuntime) -> Result<(), Fail> {
+fn equalities_that_meet_late_make_one_class(rt: HostRuntime) {
     let text = b"select A.p from T A, T B, T C where C.q = B.q and A.q = C.p and B.q = A.q";
-    let late = told(rt.alloc(), (PAIRS, S), text, &[0, 0, 0])??;
+    let Some(late) = told_if_bound(rt.alloc(), (PAIRS, S), text, &[0, 0, 0]) else {
+        panic!(rt; "not bound");
+    };
     assert!(rt; late.counts[2] == 1 && late.graph == [7, 0, 0]);
     // Each item shows its first column of the class, and the last item has two.
     let shown = [
@@ -252,36 +265,41 @@ fn equalities_that_meet_late_make_one_class(rt: HostRuntime) -> Result<(), Fail>
     ];
     assert!(rt; late.variables == shown);
     assert!(rt; late.passes == [[true, true], [true, true], [true, false]]);
-    Ok(())
 }
 
 #[test]
-fn a_class_within_one_item_is_no_variable(rt: HostRuntime) -> Result<(), Fail> {
-    let one = told(rt.alloc(), (PAIRS, S), b"select p from T where p = q", &[0])??;
+fn a_class_within_one_item_is_no_variable(rt: HostRuntime) {
+    let Some(one) = told_if_bound(rt.alloc(), (PAIRS, S), b"select p from T where p = q", &[0])
+    else {
+        panic!(rt; "not bound");
+    };
     assert!(rt; one.counts[2] == 0 && one.graph == [0; 3] && one.passes[0] == [true, false]);
-    Ok(())
 }
 
 #[test]
-fn takes_constants_as_filters(rt: HostRuntime) -> Result<(), Fail> {
+fn takes_constants_as_filters(rt: HostRuntime) {
     // The constant holds in both items, and their class is no variable.
     let text = b"select R.a from R, S where R.b = S.b and S.b = 'x'";
-    let both = told(rt.alloc(), (R, S), text, &[0, 1])??;
+    let Some(both) = told_if_bound(rt.alloc(), (R, S), text, &[0, 1]) else {
+        panic!(rt; "not bound");
+    };
     assert!(rt; both.counts[2] == 0);
     assert!(rt; both.passes == [[true, false], [true, false], [false, false]]);
     // Two different constants leave no row, and are no fault.
     let text = b"select R.a from R where R.b = 'x' and R.b = 'y'";
-    let none = told(rt.alloc(), (R, S), text, &[0])??;
+    let Some(none) = told_if_bound(rt.alloc(), (R, S), text, &[0]) else {
+        panic!(rt; "not bound");
+    };
     assert!(rt; none.passes[0] == [false, false]);
-    Ok(())
 }
 
-fn fault_of(alloc: Global, files: (&[u8], &[u8]), text: &[u8]) -> Result<Option<BindFault>, Fail> {
-    Ok(told(alloc, files, text, &[0, 1])?.err())
+// Why the query is refused, if it is.
+fn fault_of(alloc: Global, files: (&[u8], &[u8]), text: &[u8]) -> Option<BindFault> {
+    told(alloc, files, text, &[0, 1])?.err()
 }
 
 #[test]
-fn refuses_names(rt: HostRuntime) -> Result<(), Fail> {
+fn refuses_names(rt: HostRuntime) {
     for (text, fault) in [
         ("select w from R, S", BindFault::Ambiguous(7)),
         ("select R.a, T.b from R, S", BindFault::UnknownAlias(12)),
@@ -292,68 +310,85 @@ fn refuses_names(rt: HostRuntime) -> Result<(), Fail> {
         ("select R.a from R, R", BindFault::DuplicateAlias(2)),
     ] {
         assert!(rt;
-            fault_of(rt.alloc(), (R, S), text.as_bytes())? == Some(fault),
+            fault_of(rt.alloc(), (R, S), text.as_bytes()) == Some(fault),
             "{text}"
         );
     }
-    Ok(())
 }
 
 #[test]
-fn refuses_weights_and_their_sums(rt: HostRuntime) -> Result<(), Fail> {
+fn refuses_weights_and_their_sums(rt: HostRuntime) {
     let fault = BindFault::BadWeight {
         item: 1,
         row: 2,
         col: 3,
     };
-    assert!(rt; fault_of(rt.alloc(), (FLAWED, S), SUM)? == Some(fault));
-    let fault = fault_of(rt.alloc(), (GREATEST, b"b,w\nx,1\n"), SUM)?;
+    assert!(rt; fault_of(rt.alloc(), (FLAWED, S), SUM) == Some(fault));
+    let fault = fault_of(rt.alloc(), (GREATEST, b"b,w\nx,1\n"), SUM);
     assert!(rt; fault == Some(BindFault::RankRange(1)));
     let text = b"select a from R, S order by R.w";
-    let fault = fault_of(rt.alloc(), (LEAST, S), text)?;
+    let fault = fault_of(rt.alloc(), (LEAST, S), text);
     assert!(rt; fault == Some(BindFault::RankRange(1)));
     // Twice the greatest weight is past the range.
     let text = b"select a from R, S order by R.w desc, R.w + R.w";
-    let fault = fault_of(rt.alloc(), (GREATEST, S), text)?;
+    let fault = fault_of(rt.alloc(), (GREATEST, S), text);
     assert!(rt; fault == Some(BindFault::RankRange(2)));
-    Ok(())
 }
 
 // What the last row of each of two items adds to the first key, and the most that a row adds.
-fn weights(
-    alloc: Global,
-    files: (&[u8], &[u8]),
-    text: &[u8],
-) -> Result<([i128; 2], [u128; 2]), Fail> {
-    let told = told(alloc, files, text, &[0, 1])??;
-    Ok((
+fn weights(alloc: Global, files: (&[u8], &[u8]), text: &[u8]) -> Option<([i128; 2], [u128; 2])> {
+    let told = told_if_bound(alloc, files, text, &[0, 1])?;
+    Some((
         [told.parts[0][0], told.parts[1][0]],
         [told.caps[0][0], told.caps[1][0]],
     ))
 }
 
 #[test]
-fn an_empty_weight_counts_zero(rt: HostRuntime) -> Result<(), Fail> {
-    let told = weights(rt.alloc(), (b"a,b,w\n1,x,-3\n2,y,\n", S), SUM)?;
-    assert!(rt; told == ([0, 4], [3, 5]));
-    Ok(())
+fn a_column_may_be_named_many_times(rt: HostRuntime) {
+    for (text, parts, caps) in [
+        (
+            "select a from R, S order by R.w + R.w - R.w",
+            [1i128, 0],
+            [9u128, 0],
+        ),
+        ("select a from R, S order by R.w - R.w", [0, 0], [6, 0]),
+        (
+            "select a from R, S order by S.w - R.w - R.w + S.w - R.w",
+            [-3, 8],
+            [9, 10],
+        ),
+        (
+            "select a from R, S order by R.w - S.w - S.w - R.w desc",
+            [0, 8],
+            [6, 10],
+        ),
+    ] {
+        let told = weights(rt.alloc(), (R, S), text.as_bytes());
+        assert!(rt; told == Some((parts, caps)), "{text}");
+    }
 }
 
 #[test]
-fn takes_the_greatest_sums(rt: HostRuntime) -> Result<(), Fail> {
+fn an_empty_weight_counts_zero(rt: HostRuntime) {
+    let told = weights(rt.alloc(), (b"a,b,w\n1,x,-3\n2,y,\n", S), SUM);
+    assert!(rt; told == Some(([0, 4], [3, 5])));
+}
+
+#[test]
+fn takes_the_greatest_sums(rt: HostRuntime) {
     let greatest = 170141183460469231731687303715884105727;
     let most = 170141183460469231731687303715884105727;
-    let told = weights(rt.alloc(), (GREATEST, b"b,w\nx,0\n"), SUM)?;
-    assert!(rt; told == ([greatest, 0], [most, 0]));
+    let told = weights(rt.alloc(), (GREATEST, b"b,w\nx,0\n"), SUM);
+    assert!(rt; told == Some(([greatest, 0], [most, 0])));
     let text = b"select a from R, S order by R.w desc";
-    let told = weights(rt.alloc(), (GREATEST, S), text)?;
-    assert!(rt; told == ([-greatest, 0], [most, 0]));
+    let told = weights(rt.alloc(), (GREATEST, S), text);
+    assert!(rt; told == Some(([-greatest, 0], [most, 0])));
     // A table without rows adds nothing.
-    let told = weights(rt.alloc(), (GREATEST, b"b,w\n"), SUM)?;
-    assert!(rt; told == ([greatest, 0], [most, 0]));
+    let told = weights(rt.alloc(), (GREATEST, b"b,w\n"), SUM);
+    assert!(rt; told == Some(([greatest, 0], [most, 0])));
     // A column that no key names need not hold weights.
     let text = b"select R.a from R, S where R.b = S.b order by S.w";
-    let told = weights(rt.alloc(), (FLAWED, S), text)?;
-    assert!(rt; told == ([0, 4], [0, 5]));
-    Ok(())
+    let told = weights(rt.alloc(), (FLAWED, S), text);
+    assert!(rt; told == Some(([0, 4], [0, 5])));
 }

@@ -5,6 +5,66 @@ use outer_io::{
 };
 use std::alloc::{AllocError, Global};
 
+/// A call on a shelf, and what it returns.
+#[derive(Clone, Copy)]
+enum Call {
+    Open(&'static str, Result<(), ShelfFault>),
+    // Into a buffer of so many bytes, 16 at most.
+    Read(usize, Result<&'static str, ReadFailed>),
+    // All of a file.
+    Whole(&'static str, Result<&'static str, FileFault>),
+}
+
+// Whether a read into a buffer of so many bytes gives these.
+fn gives<S: Shelf>(shelf: &mut S, size: usize, wanted: Result<&str, ReadFailed>) -> bool {
+    if size > 16 {
+        return false;
+    }
+    let mut buf = [0u8; 16];
+    let count = shelf.read(&mut buf[..size]);
+    match wanted {
+        Ok(text) => count == Ok(text.len()) && buf.starts_with(text.as_bytes()),
+        Err(fault) => count == Err(fault),
+    }
+}
+
+// Whether a file is these bytes, or cannot be read for this reason.
+fn is_whole<S: Shelf>(
+    alloc: Global,
+    shelf: &mut S,
+    name: &str,
+    wanted: Result<&str, FileFault>,
+) -> bool {
+    match read_file(alloc, shelf, name) {
+        Ok(bytes) => match wanted {
+            Ok(text) => bytes.as_slice() == text.as_bytes(),
+            Err(_) => false,
+        },
+        Err(found) => match wanted {
+            Ok(_) => false,
+            Err(fault) => found == fault,
+        },
+    }
+}
+
+fn returns<S: Shelf>(alloc: Global, shelf: &mut S, call: Call) -> bool {
+    match call {
+        Call::Open(name, wanted) => shelf.open(name) == wanted,
+        Call::Read(size, wanted) => gives(shelf, size, wanted),
+        Call::Whole(name, wanted) => is_whole(alloc, shelf, name, wanted),
+    }
+}
+
+// The place of the first call, made in this order, that returns something else.
+fn first_failing<S: Shelf>(alloc: Global, shelf: &mut S, calls: &[Call]) -> Option<usize> {
+    for (i, call) in calls.iter().enumerate() {
+        if !returns(alloc, shelf, *call) {
+            return Some(i);
+        }
+    }
+    None
+}
+
 fn file(alloc: Global, name: &str, bytes: &[u8]) -> Result<MemFile, AllocError> {
     Ok(MemFile {
         name: String::from_str(alloc, name)?,
@@ -20,96 +80,141 @@ fn two_files(alloc: Global) -> Result<Vec<MemFile>, AllocError> {
     Ok(files)
 }
 
-#[test]
-fn files_are_read_whole(rt: HostRuntime) -> Result<(), AllocError> {
-    let alloc = rt.alloc();
+const OF_FILES: &[Call] = &[
+    // No file is open yet.
+    Call::Read(4, Ok("")),
+    Call::Whole("a", Ok("some bytes")),
+    Call::Whole("b", Ok("")),
+    Call::Whole("c", Err(FileFault::Missing)),
+    Call::Open("a", Ok(())),
+    Call::Read(4, Ok("some")),
+    Call::Open("", Err(ShelfFault::Missing)),
+    // After a refusal no file is open.
+    Call::Read(4, Ok("")),
+];
+
+fn first_failing_of_files(alloc: Global) -> Result<Option<usize>, AllocError> {
     let files = two_files(alloc)?;
-    assert!(rt; have_distinct_names(&files));
-    let mut shelf = PureShelf::new(files);
-    let mut buf = [0u8; 4];
-    assert!(rt; shelf.read(&mut buf) == Ok(0), "no file is open yet");
-    for (name, bytes) in [("a", b"some bytes".as_slice()), ("b", b"".as_slice())] {
-        let read = read_file(alloc, &mut shelf, name);
-        assert!(rt;
-            matches!(&read, Ok(read) if read.as_slice() == bytes),
-            "file {name}"
-        );
+    if !have_distinct_names(&files) {
+        return Ok(Some(0));
     }
-    assert!(rt; matches!(&read_file(alloc, &mut shelf, "c"), Err(FileFault::Missing)));
-    assert!(rt; shelf.open("a") == Ok(()));
-    assert!(rt; shelf.read(&mut buf) == Ok(4));
-    assert!(rt; buf.as_slice() == b"some".as_slice());
-    assert!(rt; shelf.open("") == Err(ShelfFault::Missing));
-    assert!(rt;
-        shelf.read(&mut buf) == Ok(0),
-        "after a refusal no file is open"
-    );
-    Ok(())
+    Ok(first_failing(alloc, &mut PureShelf::new(files), OF_FILES))
 }
 
 #[test]
-fn a_shelf_fails_at_its_numbers(rt: HostRuntime) -> Result<(), AllocError> {
-    let alloc = rt.alloc();
-    let files = two_files(alloc)?;
-    assert!(rt; have_distinct_names(&files));
-    let mut shelf = MemShelf::new(files, vec![in alloc; 2, 4, 7]?);
-    // Calls 1 and 2, 3 and 4, 5 to 7, 8 to 10.
-    assert!(rt; matches!(&read_file(alloc, &mut shelf, "a"), Err(FileFault::Failed)));
-    assert!(rt; shelf.open("a") == Ok(()));
-    assert!(rt; shelf.open("b") == Err(ShelfFault::Failed));
-    let mut buf = [0u8; 16];
-    assert!(rt;
-        shelf.read(&mut buf) == Ok(0),
-        "the failed call closed the file"
-    );
-    assert!(rt; shelf.open("a") == Ok(()));
-    assert!(rt; shelf.read(&mut buf) == Err(ReadFailed));
-    assert!(rt;
-        shelf.read(&mut buf) == Ok(10),
-        "a failed read leaves the rest"
-    );
-    assert!(rt; matches!(&read_file(alloc, &mut shelf, "b"), Ok(read) if read.is_empty()));
-    Ok(())
+fn files_are_read_whole(rt: HostRuntime) {
+    assert!(rt; first_failing_of_files(rt.alloc()) == Ok(None));
 }
 
-#[test]
-fn a_sink_takes_what_it_says(rt: HostRuntime) -> Result<(), AllocError> {
-    let alloc = rt.alloc();
-    // It takes four bytes a call, fails at call 2 and takes nothing at call 4.
-    let sink = MemSink::new(alloc, 12, 4, vec![in alloc; 2]?, vec![in alloc; 2, 4]?);
-    let Ok(mut sink) = sink else {
-        return Err(AllocError);
+// Over a shelf that fails at its calls 2, 4 and 7: the lines here make calls 1 and 2, 3, 4, none, 5 and so on.
+const OF_FAILING_CALLS: &[Call] = &[
+    Call::Whole("a", Err(FileFault::Failed)),
+    Call::Open("a", Ok(())),
+    Call::Open("b", Err(ShelfFault::Failed)),
+    // The failed call closed the file.
+    Call::Read(16, Ok("")),
+    Call::Open("a", Ok(())),
+    Call::Read(16, Err(ReadFailed)),
+    // A failed read leaves the rest.
+    Call::Read(16, Ok("some bytes")),
+    Call::Whole("b", Ok("")),
+];
+
+fn failing_shelf(alloc: Global, files: Vec<MemFile>) -> Result<Option<MemShelf>, AllocError> {
+    let failing = vec![in alloc; 2, 4, 7]?;
+    if !have_distinct_names(&files) {
+        return Ok(None);
+    }
+    Ok(Some(MemShelf::new(files, failing)))
+}
+
+fn first_failing_of_calls(alloc: Global) -> Result<Option<usize>, AllocError> {
+    let Some(mut shelf) = failing_shelf(alloc, two_files(alloc)?)? else {
+        return Ok(Some(0));
     };
-    assert!(rt; write_all(&mut sink, b"some bytes") == Err(Unwritten { taken: 4 }));
-    assert!(rt; write_all(&mut sink, b"+more") == Err(Unwritten { taken: 4 }));
-    assert!(rt; sink.bytes() == b"some+mor".as_slice());
-    assert!(rt; sink.write(b"") == Ok(0), "none of none is no fault");
-    assert!(rt; write_all(&mut sink, b"e, and too much") == Err(Unwritten { taken: 4 }));
-    assert!(rt; sink.bytes() == b"some+more, a".as_slice());
-    assert!(rt; sink.write(b"x") == Err(WriteFailed), "no room is left");
-    let slow = MemSink::new(alloc, 100, 1, Vec::new(alloc), Vec::new(alloc));
-    let Ok(mut slow) = slow else {
-        return Err(AllocError);
-    };
-    assert!(rt; write_all(&mut slow, b"byte by byte") == Ok(()));
-    assert!(rt; write_all(&mut slow, b"") == Ok(()));
-    assert!(rt; slow.bytes() == b"byte by byte".as_slice());
-    Ok(())
+    Ok(first_failing(alloc, &mut shelf, OF_FAILING_CALLS))
 }
 
 #[test]
-fn the_system_answers(rt: HostRuntime) -> Result<(), AllocError> {
+fn a_shelf_fails_at_its_numbers(rt: HostRuntime) {
+    assert!(rt; first_failing_of_calls(rt.alloc()) == Ok(None));
+}
+
+/// Bytes that are written as a whole, what comes of it, and all bytes that the sink has then.
+type Written = (&'static str, Result<(), Unwritten>, &'static str);
+
+// Whether the texts, written one after the other, come out so.
+fn are_written(sink: &mut MemSink, texts: &[Written]) -> bool {
+    for (text, wanted, whole) in texts {
+        if write_all(sink, text.as_bytes()) != *wanted || sink.bytes() != whole.as_bytes() {
+            return false;
+        }
+    }
+    true
+}
+
+const CUT: &[Written] = &[
+    ("some bytes", Err(Unwritten { taken: 4 }), "some"),
+    ("+more", Err(Unwritten { taken: 4 }), "some+mor"),
+];
+
+const CUT_BY_ROOM: &[Written] = &[(
+    "e, and too much",
+    Err(Unwritten { taken: 4 }),
+    "some+more, a",
+)];
+
+const BYTE_BY_BYTE: &[Written] = &[
+    ("byte by byte", Ok(()), "byte by byte"),
+    ("", Ok(()), "byte by byte"),
+];
+
+// Writes nothing, which is no fault, after the texts that were cut, and a byte where no room is left.
+fn is_filled(sink: &mut MemSink) -> bool {
+    are_written(sink, CUT)
+        && sink.write(b"") == Ok(0)
+        && are_written(sink, CUT_BY_ROOM)
+        && sink.write(b"x") == Err(WriteFailed)
+}
+
+// A sink of room for 12 bytes that takes four bytes a call, fails at call 2 and takes nothing at call 4.
+fn failing_sink(alloc: Global) -> Result<Option<MemSink>, AllocError> {
+    let failing = vec![in alloc; 2]?;
+    let zeros = vec![in alloc; 2, 4]?;
+    Ok(MemSink::new(alloc, 12, 4, failing, zeros).ok())
+}
+
+fn failing_is_filled(alloc: Global) -> Result<bool, AllocError> {
+    match failing_sink(alloc)? {
+        Some(mut sink) => Ok(is_filled(&mut sink)),
+        None => Ok(false),
+    }
+}
+
+fn slow_takes_all(alloc: Global) -> bool {
+    match MemSink::new(alloc, 100, 1, Vec::new(alloc), Vec::new(alloc)) {
+        Ok(mut sink) => are_written(&mut sink, BYTE_BY_BYTE),
+        Err(_) => false,
+    }
+}
+
+#[test]
+fn a_sink_takes_what_it_says(rt: HostRuntime) {
+    assert!(rt; failing_is_filled(rt.alloc()) == Ok(true));
+    assert!(rt; slow_takes_all(rt.alloc()));
+}
+
+const OF_SYSTEM: &[Call] = &[
+    // No file is open yet.
+    Call::Read(4, Ok("")),
+    Call::Open("no such folder/no such file", Err(ShelfFault::Missing)),
+    Call::Whole(".", Err(FileFault::Failed)),
+];
+
+#[test]
+fn the_system_answers(rt: HostRuntime) {
     let mut shelf = FileShelf::new(rt);
-    let mut buf = [0u8; 4];
-    assert!(rt; shelf.read(&mut buf) == Ok(0), "no file is open yet");
-    assert!(rt; shelf.open("no such folder/no such file") == Err(ShelfFault::Missing));
-    assert!(rt;
-        matches!(
-            &read_file(rt.alloc(), &mut shelf, "."),
-            Err(FileFault::Failed)
-        )
-    );
+    assert!(rt; first_failing(rt.alloc(), &mut shelf, OF_SYSTEM).is_none());
     let mut sink = StdSink::new(rt.stdout());
     assert!(rt; write_all(&mut sink, b"") == Ok(()));
-    Ok(())
 }

@@ -1,190 +1,179 @@
 //! The lines, as text.
 use outer_io::{MemSink, Unwritten};
 use refusal_lines::{Refusal, write_line};
-use std::alloc::Global;
-use std::test::Fail;
+use std::alloc::{AllocError, Global};
 
 /// A refusal with its status and its line.
-#[derive(Drop)]
-struct Row {
-    refusal: Refusal<'static>,
-    status: u8,
-    line: &'static [u8],
+type Row = (Refusal<'static>, u8, &'static str);
+
+// Whether a sink gets this line, and the status is the row's.
+fn writes(err: &mut MemSink, row: &Row) -> bool {
+    let (refusal, status, line) = *row;
+    write_line(err, refusal).is_ok() && err.bytes() == line.as_bytes() && refusal.status() == status
 }
 
-fn expected(refusal: Refusal<'static>, status: u8, line: &'static [u8]) -> Row {
-    Row {
-        refusal,
-        status,
-        line,
+// The same of a sink that takes so many bytes a call.
+fn writes_by(alloc: Global, row: &Row, most: usize) -> bool {
+    match MemSink::new(alloc, 200, most, Vec::new(alloc), Vec::new(alloc)) {
+        Ok(mut err) => writes(&mut err, row),
+        Err(_) => false,
     }
 }
 
-/// Whether a sink that takes so many bytes a call gets the row's line, and the status is the row's.
-fn writes(alloc: Global, row: &Row, most: usize) -> Result<bool, Fail> {
-    let mut err = MemSink::new(alloc, 200, most, Vec::new(alloc), Vec::new(alloc))?;
-    write_line(&mut err, row.refusal)?;
-    Ok(err.bytes() == row.line && row.refusal.status() == row.status)
-}
-
-#[test]
-fn writes_lines_on_the_query(rt: HostRuntime) -> Result<(), Fail> {
-    let rows = [
-        expected(Refusal::Usage, 2, b"anyk: usage\n"),
-        expected(Refusal::Syntax(28), 3, b"anyk: syntax error at byte 28\n"),
-        expected(Refusal::BadLine(1), 3, b"anyk: script line 1: bad line\n"),
-        expected(
-            Refusal::UnknownCursor(2),
-            3,
-            b"anyk: script line 2: unknown cursor\n",
-        ),
-        expected(
-            Refusal::CursorExists(10),
-            3,
-            b"anyk: script line 10: cursor exists\n",
-        ),
-        expected(
-            Refusal::UnknownTable(24),
-            4,
-            b"anyk: byte 24: unknown table\n",
-        ),
-        expected(
-            Refusal::DuplicateAlias(2),
-            4,
-            b"anyk: item 2: alias used twice\n",
-        ),
-        expected(
-            Refusal::UnknownAlias(0),
-            4,
-            b"anyk: byte 0: unknown alias\n",
-        ),
-        expected(
-            Refusal::UnknownColumn(65_535),
-            4,
-            b"anyk: byte 65535: unknown column\n",
-        ),
-        expected(
-            Refusal::Ambiguous(7),
-            4,
-            b"anyk: byte 7: ambiguous column\n",
-        ),
-        expected(Refusal::Cyclic(7), 6, b"anyk: cyclic query: items 1 2 3\n"),
-        expected(
-            Refusal::Cyclic(0x8015),
-            6,
-            b"anyk: cyclic query: items 1 3 5 16\n",
-        ),
-        expected(
-            Refusal::RankRange(1),
-            7,
-            b"anyk: order key 1: rank may pass 128 bits\n",
-        ),
-        expected(
-            Refusal::TooLong,
-            8,
-            b"anyk: query longer than 65536 bytes\n",
-        ),
-        expected(Refusal::TooManyItems, 8, b"anyk: more than 16 items\n"),
-        expected(Refusal::TooManyKeys, 8, b"anyk: more than 8 order keys\n"),
-        expected(
-            Refusal::LimitRange(24),
-            8,
-            b"anyk: limit at byte 24 out of range\n",
-        ),
-    ];
-    for i in 0..rows.len() {
-        assert!(rt; writes(rt.alloc(), &rows[i], 200)?, "row {i}");
-        assert!(rt; writes(rt.alloc(), &rows[i], 3)?, "row {i}");
+// The place of the first row whose line is written otherwise, whole or three bytes a call.
+fn first_failing(alloc: Global, rows: &[Row]) -> Option<usize> {
+    for (i, row) in rows.iter().enumerate() {
+        if !writes_by(alloc, row, 200) || !writes_by(alloc, row, 3) {
+            return Some(i);
+        }
     }
-    Ok(())
+    None
 }
 
-#[test]
-fn writes_lines_on_files_and_limits(rt: HostRuntime) -> Result<(), Fail> {
-    let rows = [
-        expected(Refusal::NoHeader(b"S"), 5, b"anyk: table S: no header\n"),
-        expected(
-            Refusal::DuplicateName {
-                table: b"R",
-                column: 2,
-            },
-            5,
-            b"anyk: table R: column 2: name used twice\n",
-        ),
-        expected(
-            Refusal::Ragged {
-                table: b"R",
-                row: 1_048_576,
-            },
-            5,
-            b"anyk: table R: row 1048576: wrong number of fields\n",
-        ),
-        expected(
-            Refusal::BadWeight {
-                item: 1,
-                row: 2,
-                column: 3,
-            },
-            5,
-            b"anyk: item 1: row 2: column 3: not a weight\n",
-        ),
-        expected(
-            Refusal::TooLarge("big.csv"),
-            8,
-            b"anyk: file big.csv longer than 67108864 bytes\n",
-        ),
-        expected(
-            Refusal::TooManyColumns(b"R"),
-            8,
-            b"anyk: table R: more than 64 columns\n",
-        ),
-        expected(
-            Refusal::TooManyTableRows(b"R"),
-            8,
-            b"anyk: table R: more than 1048576 rows\n",
-        ),
-        expected(
-            Refusal::TooManyNodeRows,
-            8,
-            b"anyk: more than 4194304 node rows\n",
-        ),
-        expected(
-            Refusal::TooManyLines,
-            8,
-            b"anyk: script: more than 10000 lines\n",
-        ),
-        expected(
-            Refusal::TooManyOpen(65),
-            8,
-            b"anyk: script line 65: more than 64 cursors\n",
-        ),
-        expected(
-            Refusal::NoFile("S.csv"),
-            9,
-            b"anyk: file S.csv: not found\n",
-        ),
-        expected(
-            Refusal::ReadFault("S.csv"),
-            10,
-            b"anyk: file S.csv: read failed\n",
-        ),
-        expected(Refusal::WriteFault, 11, b"anyk: write failed\n"),
-        expected(Refusal::NoMemory, 12, b"anyk: out of memory\n"),
-    ];
-    for i in 0..rows.len() {
-        assert!(rt; writes(rt.alloc(), &rows[i], 200)?, "row {i}");
-        assert!(rt; writes(rt.alloc(), &rows[i], 3)?, "row {i}");
-    }
-    Ok(())
-}
+const ON_THE_QUERY: &[Row] = &[
+    (Refusal::Usage, 2, "anyk: usage\n"),
+    (Refusal::Syntax(28), 3, "anyk: syntax error at byte 28\n"),
+    (Refusal::BadLine(1), 3, "anyk: script line 1: bad line\n"),
+    (
+        Refusal::UnknownCursor(2),
+        3,
+        "anyk: script line 2: unknown cursor\n",
+    ),
+    (
+        Refusal::CursorExists(10),
+        3,
+        "anyk: script line 10: cursor exists\n",
+    ),
+    (
+        Refusal::UnknownTable(24),
+        4,
+        "anyk: byte 24: unknown table\n",
+    ),
+    (
+        Refusal::DuplicateAlias(2),
+        4,
+        "anyk: item 2: alias used twice\n",
+    ),
+    (Refusal::UnknownAlias(0), 4, "anyk: byte 0: unknown alias\n"),
+    (
+        Refusal::UnknownColumn(65_535),
+        4,
+        "anyk: byte 65535: unknown column\n",
+    ),
+    (Refusal::Ambiguous(7), 4, "anyk: byte 7: ambiguous column\n"),
+    (Refusal::Cyclic(7), 6, "anyk: cyclic query: items 1 2 3\n"),
+    (
+        Refusal::Cyclic(0x8015),
+        6,
+        "anyk: cyclic query: items 1 3 5 16\n",
+    ),
+    (
+        Refusal::RankRange(1),
+        7,
+        "anyk: order key 1: rank may pass 128 bits\n",
+    ),
+    (Refusal::TooLong, 8, "anyk: query longer than 65536 bytes\n"),
+    (Refusal::TooManyItems, 8, "anyk: more than 16 items\n"),
+    (Refusal::TooManyKeys, 8, "anyk: more than 8 order keys\n"),
+    (
+        Refusal::LimitRange(24),
+        8,
+        "anyk: limit at byte 24 out of range\n",
+    ),
+];
 
 #[test]
-fn stops_where_the_sink_fails(rt: HostRuntime) -> Result<(), Fail> {
-    let alloc = rt.alloc();
+fn writes_lines_on_the_query(rt: HostRuntime) {
+    assert_eq!(rt; first_failing(rt.alloc(), ON_THE_QUERY), None);
+}
+
+const ON_FILES_AND_LIMITS: &[Row] = &[
+    (Refusal::NoHeader(b"S"), 5, "anyk: table S: no header\n"),
+    (
+        Refusal::DuplicateName {
+            table: b"R",
+            column: 2,
+        },
+        5,
+        "anyk: table R: column 2: name used twice\n",
+    ),
+    (
+        Refusal::Ragged {
+            table: b"R",
+            row: 1_048_576,
+        },
+        5,
+        "anyk: table R: row 1048576: wrong number of fields\n",
+    ),
+    (
+        Refusal::BadWeight {
+            item: 1,
+            row: 2,
+            column: 3,
+        },
+        5,
+        "anyk: item 1: row 2: column 3: not a weight\n",
+    ),
+    (
+        Refusal::TooLarge("big.csv"),
+        8,
+        "anyk: file big.csv longer than 67108864 bytes\n",
+    ),
+    (
+        Refusal::TooManyColumns(b"R"),
+        8,
+        "anyk: table R: more than 64 columns\n",
+    ),
+    (
+        Refusal::TooManyTableRows(b"R"),
+        8,
+        "anyk: table R: more than 1048576 rows\n",
+    ),
+    (
+        Refusal::TooManyNodeRows,
+        8,
+        "anyk: more than 4194304 node rows\n",
+    ),
+    (
+        Refusal::TooManyLines,
+        8,
+        "anyk: script: more than 10000 lines\n",
+    ),
+    (
+        Refusal::TooManyOpen(65),
+        8,
+        "anyk: script line 65: more than 64 cursors\n",
+    ),
+    (Refusal::NoFile("S.csv"), 9, "anyk: file S.csv: not found\n"),
+    (
+        Refusal::ReadFault("S.csv"),
+        10,
+        "anyk: file S.csv: read failed\n",
+    ),
+    (Refusal::WriteFault, 11, "anyk: write failed\n"),
+    (Refusal::NoMemory, 12, "anyk: out of memory\n"),
+];
+
+#[test]
+fn writes_lines_on_files_and_limits(rt: HostRuntime) {
+    assert_eq!(rt; first_failing(rt.alloc(), ON_FILES_AND_LIMITS), None);
+}
+
+// Whether the line is cut by a sink that fails at its fourth call.
+fn is_cut(err: &mut MemSink) -> bool {
+    write_line(err, Refusal::NoFile("S.csv")) == Err(Unwritten { taken: 3 })
+        && err.bytes() == b"anyk: fil".as_slice()
+}
+
+fn stops_at_a_fault(alloc: Global) -> Result<bool, AllocError> {
     let failing = vec![in alloc; 4]?;
-    let mut err = MemSink::new(alloc, 200, 3, failing, Vec::new(alloc))?;
-    let result = write_line(&mut err, Refusal::NoFile("S.csv"));
-    assert_eq!(rt; result, Err(Unwritten { taken: 3 }));
-    assert_eq!(rt; err.bytes(), b"anyk: fil".as_slice());
-    Ok(())
+    match MemSink::new(alloc, 200, 3, failing, Vec::new(alloc)) {
+        Ok(mut err) => Ok(is_cut(&mut err)),
+        Err(_) => Ok(false),
+    }
+}
+
+#[test]
+fn stops_where_the_sink_fails(rt: HostRuntime) {
+    assert!(rt; stops_at_a_fault(rt.alloc()) == Ok(true));
 }

@@ -1,57 +1,61 @@
 //! The reports of a path and of a star.
-ghost use Rattle.std.specs.Prelude.{◌<◌, length, IfOk};
+ghost use Rattle.std.specs.Prelude.{◌≡◌, ◌<◌, length};
 ghost use Rattle.std.specs.List.{AllByRecursion};
 ghost use Rattle.query_bind.specs.Weighed.{Fits};
 
+use crate::fixtures::{R, S, query_of, read_two};
 use csv_tables::Tables;
 use plan_report::report;
-use query_bind::{Query, bind};
-use query_parse::parse;
+use query_bind::Query;
 use query_shape::shape_of;
 use std::alloc::Global;
-use std::test::Fail;
 
-// The query of this text over these tables, in their order.
-fn query_of(alloc: Global, text: &[u8], tables: &Tables, which: &[u32]) -> Result<Query, Fail>
-    requires known { AllByRecursion (λ t. t < length tables.now) which.now }
-    ensures fits { IfOk result (λ query. Fits query tables.now) }
+// Whether the report of the query over these tables is this text.
+fn has_report(alloc: Global, query: &Query, tables: &Tables, text: &str) -> bool
+    requires { Fits query.now tables.now }
 {
-    let select = parse(alloc, text)?;
-    let items = select.items.as_slice().len();
-    if items == 0 || items > 16 || which.len() != items || select.keys.as_slice().len() > 8 {
-        return Err("not a small query".into());
+    let Ok(shape) = shape_of(query, tables) else {
+        return false;
+    };
+    match report(alloc, query, tables, &shape) {
+        Ok(made) => made.as_slice() == text.as_bytes(),
+        Err(_) => false,
     }
-    Ok(bind(alloc, &select, tables, which)?)
 }
 
-// Whether the report of the query of this text over these tables is the expected one.
-fn is_reported(
-    alloc: Global,
-    text: &[u8],
-    tables: &Tables,
-    which: &[u32],
-    expected: &[u8],
-) -> Result<bool, Fail>
-    requires known { AllByRecursion (λ t. t < length tables.now) which.now }
+// The same of the query of this text.
+fn is_reported(alloc: Global, query: &str, tables: &Tables, which: &[u32], text: &str) -> bool
+    requires { AllByRecursion (λ t. t < length tables.now) which.now }
 {
-    let query = query_of(alloc, text, tables, which)?;
-    let Ok(shape) = shape_of(&query, tables) else {
-        return Ok(false);
-    };
-    Ok(report(alloc, &query, tables, &shape)?.as_slice() == expected)
+    match query_of(alloc, tables, query, which) {
+        Some(query) => has_report(alloc, &query, tables, text),
+        None => false,
+    }
+}
+
+const PATH: &str = "select R.a, S.c from R, S where R.b = S.b order by R.w + S.w";
+
+const OF_PATH: &str = "node 1 parent 0 rows 3 item R\nnode 2 parent 1 rows 3 item S\ntotal 12\n";
+
+// One table counts once for each item, and rows without the constant are no node rows.
+const TWICE: &str = "select \"x y\".a from R \"x y\", R b where \"x y\".b = b.b and b.a = '2'";
+
+const OF_TWICE: &str =
+    "node 1 parent 0 rows 3 item \"x y\"\nnode 2 parent 1 rows 1 item b\ntotal 10\n";
+
+fn both_are_reported(alloc: Global, tables: &Tables) -> bool
+    requires { length tables.now ≡ 2 }
+{
+    is_reported(alloc, PATH, tables, &[0, 1], OF_PATH)
+        && is_reported(alloc, TWICE, tables, &[0, 0], OF_TWICE)
+}
+
+fn both_are_reported_over_two(alloc: Global) -> bool {
+    let mut tables = Tables::new(alloc);
+    read_two(&mut tables, R, S).is_ok() && both_are_reported(alloc, &tables)
 }
 
 #[test]
-fn reports_a_path(rt: HostRuntime) -> Result<(), Fail> {
-    let mut tables = Tables::new(rt.alloc());
-    tables.read(b"a,b,w\n1,x,3\n2,y,1\n3,x,1\n")?;
-    tables.read(b"b,c,w\nx,p,5\ny,q,2\nx,q,4\n")?;
-    let text = b"select R.a, S.c from R, S where R.b = S.b order by R.w + S.w";
-    let path = b"node 1 parent 0 rows 3 item R\nnode 2 parent 1 rows 3 item S\ntotal 12\n";
-    assert!(rt; is_reported(rt.alloc(), text, &tables, &[0, 1], path)?);
-    // One table counts once for each item, and rows without the constant are no node rows.
-    let text = b"select \"x y\".a from R \"x y\", R b where \"x y\".b = b.b and b.a = '2'";
-    let twice = b"node 1 parent 0 rows 3 item \"x y\"\nnode 2 parent 1 rows 1 item b\ntotal 10\n";
-    assert!(rt; is_reported(rt.alloc(), text, &tables, &[0, 0], twice)?);
-    Ok(())
+fn reports_a_path(rt: HostRuntime) {
+    assert!(rt; both_are_reported_over_two(rt.alloc()));
 }

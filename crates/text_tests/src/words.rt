@@ -1,5 +1,5 @@
 //! Command lines.
-use cmd_words::{Command, Engine, WordsFault, read_words};
+use cmd_words::{Command, Engine, Words, WordsFault, read_words};
 use std::alloc::{AllocError, Global};
 
 fn words(alloc: Global, texts: &[&str]) -> Result<Vec<String>, AllocError> {
@@ -10,129 +10,208 @@ fn words(alloc: Global, texts: &[&str]) -> Result<Vec<String>, AllocError> {
     Ok(all)
 }
 
-/// The command that the words are, where they are one.
-fn command_of(alloc: Global, texts: &[&str]) -> Result<Option<Command>, AllocError> {
+/// What the words of a command say.
+#[derive(Clone, Copy)]
+struct Said {
+    engine: Engine,
+    ranks: bool,
+    rows: bool,
+    script: Option<&'static str>,
+    query: &'static str,
+    tables: &'static [(&'static str, &'static str)],
+}
+
+/// A command.
+#[derive(Clone, Copy)]
+enum Read {
+    Run(Said),
+    Session(Said),
+    Plan(Said),
+    Load(Engine, u32, u32),
+}
+
+fn is_script(script: &Option<String>, wanted: Option<&str>) -> bool {
+    let Some(script) = script else {
+        return wanted.is_none();
+    };
+    match wanted {
+        Some(name) => script.as_str() == name,
+        None => false,
+    }
+}
+
+fn are_tables(words: &Words, wanted: &[(&str, &str)]) -> bool {
+    if words.tables.len() != wanted.len() {
+        return false;
+    }
+    for i in 0..wanted.len() {
+        let (table, file) = wanted[i];
+        if words.tables[i].table.as_str() != table || words.tables[i].file.as_str() != file {
+            return false;
+        }
+    }
+    true
+}
+
+fn say(words: &Words, said: &Said) -> bool {
+    words.engine == said.engine
+        && words.ranks == said.ranks
+        && words.rows == said.rows
+        && words.query.as_str() == said.query
+        && is_script(&words.script, said.script)
+        && are_tables(words, said.tables)
+}
+
+fn is_command(command: &Command, read: &Read) -> bool {
+    match (command, read) {
+        (Command::Run(words), Read::Run(said)) => say(words, said),
+        (Command::Session(words), Read::Session(said)) => say(words, said),
+        (Command::Plan(words), Read::Plan(said)) => say(words, said),
+        (Command::Load(engine, number, rows), Read::Load(wanted, first, count)) => {
+            engine == wanted && number == first && rows == count
+        }
+        _ => false,
+    }
+}
+
+/// The words of a command, and the command.
+type Line = (&'static [&'static str], Read);
+
+const PLAIN: Said = Said {
+    engine: Engine::Part,
+    ranks: false,
+    rows: false,
+    script: None,
+    query: "q.sql",
+    tables: &[("R", "a")],
+};
+
+const COMMANDS: &[Line] = &[
+    // Options stand before, between and after the other words, and the first `=` ends the table's name.
+    (
+        &["run", "--engine=rec", "q.sql", "R=a", "--ranks", "S=b=c"],
+        Read::Run(Said {
+            engine: Engine::Rec,
+            ranks: true,
+            tables: &[("R", "a"), ("S", "b=c")],
+            ..PLAIN
+        }),
+    ),
+    (&["plan", "q.sql", "R=a"], Read::Plan(PLAIN)),
+    (
+        &["session", "q.sql", "--rows", "R=a", "--script", "s.txt"],
+        Read::Session(Said {
+            rows: true,
+            script: Some("s.txt"),
+            ..PLAIN
+        }),
+    ),
+    (
+        &[
+            "load",
+            "--number",
+            "2147483647",
+            "--rows=100000",
+            "--engine",
+            "rec",
+        ],
+        Read::Load(Engine::Rec, 2147483647, 100000),
+    ),
+];
+
+// Whether the words are this command.
+fn are_read(alloc: Global, words: &[String], read: &Read) -> bool {
+    match read_words(alloc, words) {
+        Ok(command) => is_command(&command, read),
+        Err(_) => false,
+    }
+}
+
+// The same of these texts.
+fn is_read(alloc: Global, texts: &[&str], read: &Read) -> Result<bool, AllocError> {
     let line = words(alloc, texts)?;
-    Ok(read_words(alloc, &line).ok())
+    Ok(are_read(alloc, line.as_slice(), read))
 }
 
-/// Options stand before, between and after the other words, and the first `=` ends the table's name.
-fn reads_run(alloc: Global) -> Result<bool, AllocError> {
-    let texts = ["run", "--engine=rec", "q.sql", "R=a", "--ranks", "S=b=c"];
-    let Some(Command::Run(said)) = command_of(alloc, &texts)? else {
-        return Ok(false);
-    };
-    let [first, second] = said.tables.as_slice() else {
-        return Ok(false);
-    };
-    let is_first = first.table.as_str() == "R" && first.file.as_str() == "a";
-    let is_second = second.table.as_str() == "S" && second.file.as_str() == "b=c";
-    Ok(
-        is_first
-            && is_second
-            && said.engine == Engine::Rec
-            && said.ranks
-            && !said.rows
-            && said.query.as_str() == "q.sql"
-            && said.script.is_none(),
-    )
-}
-
-fn reads_plan(alloc: Global) -> Result<bool, AllocError> {
-    let Some(Command::Plan(said)) = command_of(alloc, &["plan", "q.sql", "R=a"])? else {
-        return Ok(false);
-    };
-    Ok(
-        said.engine == Engine::Part
-            && !said.ranks
-            && !said.rows
-            && said.query.as_str() == "q.sql"
-            && said.script.is_none(),
-    )
-}
-
-fn reads_session(alloc: Global) -> Result<bool, AllocError> {
-    let texts = ["session", "q.sql", "--rows", "R=a", "--script", "s.txt"];
-    let Some(Command::Session(said)) = command_of(alloc, &texts)? else {
-        return Ok(false);
-    };
-    let is_script = said
-        .script
-        .as_ref()
-        .is_some_and(|script| script.as_str() == "s.txt");
-    Ok(is_script && said.engine == Engine::Part && !said.ranks && said.rows)
-}
-
-fn reads_load(alloc: Global) -> Result<bool, AllocError> {
-    let texts = [
-        "load",
-        "--number",
-        "2147483647",
-        "--rows=100000",
-        "--engine",
-        "rec",
-    ];
-    let load = command_of(alloc, &texts)?;
-    Ok(matches!(&load, Some(Command::Load(Engine::Rec, 2147483647, 100000))))
+// The place of the first line that is read otherwise.
+fn first_failing(alloc: Global, lines: &[Line]) -> Result<Option<usize>, AllocError> {
+    for (i, (texts, read)) in lines.iter().enumerate() {
+        if !is_read(alloc, texts, read)? {
+            return Ok(Some(i));
+        }
+    }
+    Ok(None)
 }
 
 #[test]
-fn reads_each_command(rt: HostRuntime) -> Result<(), AllocError> {
-    let alloc = rt.alloc();
-    assert!(rt; reads_run(alloc)?);
-    assert!(rt; reads_plan(alloc)?);
-    assert!(rt; reads_session(alloc)?);
-    assert!(rt; reads_load(alloc)?);
-    Ok(())
+fn reads_each_command(rt: HostRuntime) {
+    assert!(rt; first_failing(rt.alloc(), COMMANDS) == Ok(None));
+}
+
+fn is_usage(alloc: Global, words: &[String]) -> bool {
+    match read_words(alloc, words) {
+        Ok(_) => false,
+        Err(fault) => fault == WordsFault::Usage,
+    }
 }
 
 fn is_refused(alloc: Global, texts: &[&str]) -> Result<bool, AllocError> {
     let line = words(alloc, texts)?;
-    let outcome = read_words(alloc, &line);
-    Ok(matches!(&outcome, Err(WordsFault::Usage)))
+    Ok(is_usage(alloc, line.as_slice()))
 }
 
-#[test]
-fn refuses_what_is_no_command(rt: HostRuntime) -> Result<(), AllocError> {
-    let alloc = rt.alloc();
-    let refused: [&[&str]; 32] = [
-        &[],
-        &["stop", "q.sql", "R=a"],
-        &["Run", "q.sql", "R=a"],
-        &["--help"],
-        &["run"],
-        &["run", "q.sql"],
-        &["run", "q.sql", "x"],
-        &["run", "q.sql", "=x"],
-        &["run", "q.sql", "x="],
-        &["run", "q.sql", "R=R.csv", "R=R.csv"],
-        &["run", "q.sql", "R=a", "S=b", "R=c"],
-        &["run", "--help"],
-        &["run", "-h", "q.sql", "R=a"],
-        &["run", "--engine", "best", "q.sql", "R=a"],
-        &["run", "--engine", "part", "--engine", "rec", "q.sql", "R=a"],
-        &["run", "--eng", "part", "q.sql", "R=a"],
-        &["run", "--ranks=true", "q.sql", "R=a"],
-        &["run", "--script", "s.txt", "q.sql", "R=a"],
-        &["session", "q.sql", "R=a"],
-        &["plan", "--ranks", "q.sql", "R=a"],
-        &["plan", "--engine", "rec", "q.sql", "R=a"],
-        &["load", "--number", "5"],
-        &["load", "--number", "2147483648", "--rows", "5"],
-        &["load", "--number", "5", "--rows", "0"],
-        &["load", "--number", "5", "--rows", "100001"],
-        &["load", "--number", "5", "--rows", "five"],
-        &["load", "--number", "01", "--rows", "5"],
-        &["load", "--number", "00", "--rows", "5"],
-        &["load", "--number", "+5", "--rows", "5"],
-        &["load", "--number", "5", "--rows", "0001"],
-        &["load", "--number", "5", "--rows", "+1"],
-        &["load", "--number", "5", "--rows", ""],
-    ];
-    for texts in refused {
-        assert!(rt; is_refused(alloc, texts)?);
+// The place of the first line that is refused, or is not.
+fn first_of(alloc: Global, lines: &[&[&str]], refused: bool) -> Result<Option<usize>, AllocError> {
+    for (i, texts) in lines.iter().enumerate() {
+        if is_refused(alloc, texts)? == refused {
+            return Ok(Some(i));
+        }
     }
-    assert!(rt; !is_refused(alloc, &["run", "--", "--q", "R=a"])?);
-    assert!(rt; !is_refused(alloc, &["load", "--number", "0", "--rows", "1"])?);
-    Ok(())
+    Ok(None)
+}
+
+const REFUSED: &[&[&str]] = &[
+    &[],
+    &["stop", "q.sql", "R=a"],
+    &["Run", "q.sql", "R=a"],
+    &["--help"],
+    &["run"],
+    &["run", "q.sql"],
+    &["run", "q.sql", "x"],
+    &["run", "q.sql", "=x"],
+    &["run", "q.sql", "x="],
+    &["run", "q.sql", "R=R.csv", "R=R.csv"],
+    &["run", "q.sql", "R=a", "S=b", "R=c"],
+    &["run", "--help"],
+    &["run", "-h", "q.sql", "R=a"],
+    &["run", "--engine", "best", "q.sql", "R=a"],
+    &["run", "--engine", "part", "--engine", "rec", "q.sql", "R=a"],
+    &["run", "--eng", "part", "q.sql", "R=a"],
+    &["run", "--ranks=true", "q.sql", "R=a"],
+    &["run", "--script", "s.txt", "q.sql", "R=a"],
+    &["session", "q.sql", "R=a"],
+    &["plan", "--ranks", "q.sql", "R=a"],
+    &["plan", "--engine", "rec", "q.sql", "R=a"],
+    &["load", "--number", "5"],
+    &["load", "--number", "2147483648", "--rows", "5"],
+    &["load", "--number", "5", "--rows", "0"],
+    &["load", "--number", "5", "--rows", "100001"],
+    &["load", "--number", "5", "--rows", "five"],
+    &["load", "--number", "01", "--rows", "5"],
+    &["load", "--number", "00", "--rows", "5"],
+    &["load", "--number", "+5", "--rows", "5"],
+    &["load", "--number", "5", "--rows", "0001"],
+    &["load", "--number", "5", "--rows", "+1"],
+    &["load", "--number", "5", "--rows", ""],
+];
+
+const TAKEN: &[&[&str]] = &[
+    &["run", "--", "--q", "R=a"],
+    &["load", "--number", "0", "--rows", "1"],
+];
+
+#[test]
+fn refuses_what_is_no_command(rt: HostRuntime) {
+    assert!(rt; first_of(rt.alloc(), REFUSED, false) == Ok(None));
+    assert!(rt; first_of(rt.alloc(), TAKEN, true) == Ok(None));
 }

@@ -1,4 +1,4 @@
-use Rattle.program_tests.proofs.cases.holds_with.Given as goal
+use Rattle.program_tests.proofs.cases.comes_out.Given as goal
 
 abbrev pub ghosts-run_uncounted : goal.ghosts-run_uncounted
 ghosts-run_uncounted a = record { name = a.blank.name; parts = a.blank.parts }
