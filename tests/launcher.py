@@ -34,7 +34,31 @@ RT = """#!/bin/sh
 # Stands in for rt: proves nothing, and builds a script.
 echo "$*" >> "$RT_ROOM/calls"
 broken() { grep -q BROKEN ../"$1"/src/*.rt; }
+link() {
+    [ ! -f "$RT_ROOM/linkless" ] || { echo 'error: linking failed'; exit 1; }
+    sed "s/VERSION/$(sed -n 's/version //p' src/main.rt)/" "$RT_ROOM/program" > out/anyk_cli
+    chmod +x out/anyk_cli
+    [ ! -f "$RT_ROOM/edits" ] || echo 'version 99' > "$RT_ROOM/a house/crates/anyk_cli/src/main.rt"
+}
 case "$1 $2" in
+'ci ')
+    # The gate, in a copy that holds what the program is made from and nothing else.
+    [ -d .git ] && [ -f HANDLES ] && cd crates/anyk_cli || { echo 'rt: no repository'; exit 2; }
+    [ ! -d ../other_tests ] && [ ! -d ../low/must-fail ] && ! grep -q other ../../crates.txt || { echo 'rt: too much'; exit 1; }
+    mkdir out
+    for crate in low middle anyk_cli; do
+        while [ -f "$RT_ROOM/hold-$crate" ]; do sleep 0.05; done
+        [ -z "${at-}" ] || { echo "rt: $crate NOT PROVED: its library $at failed"; continue; }
+        echo "== $crate"
+        if broken $crate; then
+            echo 'src/lib.rt:3:5: error[E]: what is broken'; at=$crate
+            echo "rt: $crate NOT PROVED"
+        else
+            echo 'logic=proved functions=48'; echo "rt: $crate proved"
+        fi
+    done
+    [ -z "${at-}" ] || { echo "rt: FAILED: $at"; exit 1; }
+    link ;;
 'all check')
     state=ok
     for crate in low middle anyk_cli; do
@@ -62,10 +86,7 @@ case "$1 $2" in
     done
     mkdir -p out
     rm -f out/anyk_cli.stamp
-    [ ! -f "$RT_ROOM/linkless" ] || { echo 'error: linking failed'; exit 1; }
-    sed "s/VERSION/$(sed -n 's/version //p' src/main.rt)/" "$RT_ROOM/program" > out/anyk_cli
-    chmod +x out/anyk_cli
-    [ ! -f "$RT_ROOM/edits" ] || echo 'version 99' > src/main.rt
+    link
     echo stamp > out/anyk_cli.stamp
     out/anyk_cli
     exit 2 ;;
@@ -140,10 +161,12 @@ class House:
         for it in ("tools", "man"):
             shutil.copytree(f"{TOP}/{it}", f"{self.top}/{it}")
         write(f"{self.top}/crates.txt", CRATES)
+        write(f"{self.top}/HANDLES", "Handles allowed: none.\n")
         for crate in ("low", "middle", "other_tests"):
             self.source(crate, "src/lib.rt", "//! A crate.\n")
             self.source(crate, "proofs/one/Proof.antt", "proof\n")
         self.source("low", "specs/Lib.antt", "spec\n")
+        self.source("low", "must-fail/wrong.edit", "an edit\n")
         self.source("anyk_cli", "src/main.rt", "version 1\n")
         write(f"{self.room}/bin/rt", RT)
         os.chmod(f"{self.room}/bin/rt", 0o755)
@@ -172,6 +195,11 @@ class House:
     def start(self, *words, more=None, **how):
         how = self.how(more, **{"stdout": subprocess.PIPE, "stderr": subprocess.PIPE, "start_new_session": True, **how})
         return subprocess.Popen([f"{self.top}/anyk", *words], **how)
+
+    def developed(self):
+        """A checkout in which a developer's check has built a library."""
+        self.source("low", "out/rlib/stamp", "stamp\n")
+        return self
 
     def hold(self, crate):
         """Lets rt wait before a crate."""
@@ -255,12 +283,29 @@ def test_first_call(house):
     status, output, error = house.call("one", "two")
     same((status, output), (0, ran(1, house.top, ["one", "two"])))
     same(error, f"anyk: the program is proved and built first, which takes a while (the progress is in {house.out}/build.log)\n")
+    same(house.calls(), ["ci"])
+    same([it for it in os.listdir(house.out) if "room" in it], [])
+    same(house.call("one")[1:], (ran(1, house.top, ["one"]), ""))
+    same(house.calls(), [])
+
+
+def test_developers_call(house):
+    house.developed()
+    same(house.call("one")[:2], (0, ran(1, house.top, ["one"])))
     first, second = house.calls()
     check(re.fullmatch("all check --jobs [1-9][0-9]*", first), first)
     same(second, "run --")
     check(int(first.split()[-1]) <= len(os.sched_getaffinity(0)), first)
-    same(house.call("one")[1:], (ran(1, house.top, ["one"]), ""))
-    same(house.calls(), [])
+    house.source("low", "src/lib.rt", "BROKEN\n")
+    refuses_old(house, "== low\nsrc/lib.rt:3:5: error[E]: what is broken\n", "anyk: the program was not built")
+
+
+def test_git_checkout(house):
+    os.mkdir(f"{house.top}/.git")
+    # What a build that was broken off left there is no hindrance.
+    write(f"{house.top}/.git/anyk-build/crates/low/src/lib.rt", "BROKEN\n")
+    same(house.call("one")[:2], (0, ran(1, house.top, ["one"])))
+    same(os.listdir(f"{house.top}/.git"), [])
 
 
 def test_closed_streams(house):
@@ -268,7 +313,7 @@ def test_closed_streams(house):
         house.version(1 if output else 2)
         by = ["sh", "-c", f'exec "$0" "$@" {closed}', f"{house.top}/anyk"]
         same((closed, house.call("x", by=by)[1]), (closed, output))
-        same(len(house.calls()), 2)
+        same(len(house.calls()), 1)
 
 
 def test_words_and_input(house):
@@ -293,6 +338,15 @@ def test_ways_of_calling(house):
     for by in (["sh", "anyk"], ["bash", "anyk"], ["./anyk"]):
         same((by, house.call("x", by=by)), (by, (0, ran(1, house.top, ["x"]), "")))
     same(house.calls(), [])
+
+
+def test_first_call_by_sh(house):
+    for version, by, cwd in ((1, ["sh", "anyk"], house.top), (2, ["sh", "a house/anyk"], house.room)):
+        house.version(version)
+        same(house.call("x", by=by, cwd=cwd)[:2], (0, ran(version, cwd, ["x"])))
+    # It was built where it belongs, and not in the folder of the call.
+    check(os.path.exists(house.program) and not os.path.exists(f"{house.room}/crates"))
+    same(len(house.calls()), 2)
 
 
 def test_what_is_current(house):
@@ -380,7 +434,7 @@ def test_failed_proof(house):
     house.source("low", "src/lib.rt", good)
     house.version(3)
     same(house.call("x")[:2], (0, ran(3, house.top, ["x"])))
-    same(len(house.calls()), 2)
+    same(len(house.calls()), 1)
 
 
 def test_failed_link(house):
@@ -394,6 +448,7 @@ def test_failed_link(house):
 
 def test_killed_check(house):
     # Where a check was killed, as for memory, the next command tries again.
+    house.developed()
     write(f"{house.room}/killed", "")
     same(house.call("x")[:2], (0, ran(1, house.top, ["x"])))
     same(len(house.calls()), 2)
@@ -425,7 +480,7 @@ def test_broken_off(house):
         house.go("middle")
         same(house.call("x", more={"ANYK_NO_BUILD": "1"})[:2], (1, ""))
         same(house.call("x")[:2], (0, ran(number, house.top, ["x"])))
-        same(len(house.calls()), 2)
+        same(len(house.calls()), 1)
 
 
 def until(holds):
@@ -451,7 +506,7 @@ def test_two_at_once(house):
     for word, begun in [("one", first), *others.items()]:
         output, error = begun.communicate(timeout=40)
         same((begun.returncode, output.decode(), error.count(b"\n")), (0, ran(1, house.top, [word]), int(word == "one")))
-    same(len(house.calls()), 2)
+    same(len(house.calls()), 1)
     # Where the first one fails, the one that waits builds for itself, and fails too.
     house.source("low", "src/lib.rt", "BROKEN\n")
     for begun in [house.start("x"), house.start("y")]:
@@ -464,7 +519,7 @@ def test_many_at_once(house):
     for number, begun in enumerate(many):
         output, _ = begun.communicate(timeout=40)
         same((begun.returncode, output.decode()), (0, ran(1, house.top, [str(number)])))
-    same(len(house.calls()), 2)
+    same(len(house.calls()), 1)
 
 
 def test_read_only(house):
@@ -510,7 +565,7 @@ def test_noexec(house):
     same(status, 0)
     same(re.findall("status .*", output), ["status 1"] * 2)
     has(output, "anyk_cli\n", "anyk_cli.sums")
-    same(len(house.calls()), 2)
+    same(len(house.calls()), 1)
     same(error.count("it may not be run: its file system is mounted noexec"), 2)
 
 
@@ -914,7 +969,7 @@ def test_install(house):
     to = f"{house.room}/an empty folder"
     house.version(1)
     same(house.call("install", to, umask=0o077)[0:2], (0, f"anyk: installed as {to}/bin/anyk\n"))
-    same(len(house.calls()), 2)
+    same(len(house.calls()), 1)
     found = sorted(os.path.relpath(f"{at}/{it}", to) for at, _, files in os.walk(to) for it in files)
     wanted = ["bin/anyk", "libexec/anyk/anyk_cli", "share/anyk/call.sh", "share/anyk/hints.py", "share/anyk/picture.py", "share/bash-completion/completions/anyk",
               "share/doc/anyk/USING.md", "share/fish/vendor_completions.d/anyk.fish", "share/man/man1/anyk.1", "share/zsh/site-functions/_anyk"]
@@ -1030,6 +1085,9 @@ def tried(name):
 def main():
     tests = [it for it in globals() if it.startswith("test_")]
     tests = [it for it in sys.argv[1:] if it in tests] or tests
+    # What is started heeds these signals, also where this script was started in the background, which ignores them.
+    signal.signal(signal.SIGINT, signal.default_int_handler)
+    signal.signal(signal.SIGHUP, signal.SIG_DFL)
     # Most of them wait for others.
     with ThreadPoolExecutor(8) as pool:
         results = list(pool.map(tried, tests))

@@ -14,6 +14,10 @@ One call at a time builds; another one waits for it. These files are beside the 
 The sums and the program are removed before a build starts, so no older program is taken for the new one. The program's time is then
 set to a time before its sources were read, and the sources are read again after the build, so no later edit is missed.
 
+Where no crate of the checkout has a library that `rt` built for its own checks, the crates are copied, without their wrong bodies, and
+`rt ci` proves them there: it keeps all processors at work, and goes first along the longest chain of crates. Elsewhere a developer is at
+work, and `rt` goes on with what its checks kept, so that only what changed is proved again.
+
 If the error output is a terminal, it shows how far the build is. The time that is left is estimated from the file
 tools/gate_times.tsv, if it is there: a line for each crate, with its name, a tab and the seconds that its proof takes.
 """
@@ -39,6 +43,12 @@ STAMP = f"{PROGRAM}.stamp"
 LOG = f"{OUT}/build.log"
 TIMES = f"{TOP}/tools/gate_times.tsv"
 PARTS = ("src", "specs", "proofs")
+# What `rt ci` gets of the program's crate besides: how it is run, and what it must then print.
+RUN = ("args", "status", "stdin", "stdout", "data")
+# Where the copy is made: beside what git keeps, which no command of `rt` reads, or else with the program.
+ROOM = f"{TOP}/.git/anyk-build" if os.path.isdir(f"{TOP}/.git") else f"{OUT}/anyk_cli.room"
+# How the log names a crate that is done.
+DONE = re.compile(r"(?:== (\w+)|rt: (\w+) (?:proved|is kept:.*))$")
 # How the log names a crate whose check was killed, most likely for memory.
 KILLED = re.compile(r"^\S+: failed \(-9\)$", re.M)
 # The memory that the proof of one crate may take, in bytes.
@@ -211,7 +221,8 @@ class Progress:
             log.seek(self.at)
             rows = (self.rest + log.read()).split("\n")
             self.at, self.rest = log.tell(), rows.pop()
-            self.done.update(it[3:] for it in rows if it.startswith("== ") and it[3:] in self.crates)
+            done = [it[1] or it[2] for it in map(DONE.match, rows) if it]
+            self.done.update(it for it in done if it in self.crates)
 
     def show(self):
         if not self.is_shown:
@@ -232,10 +243,10 @@ class Progress:
             print("\r" + " " * self.width, end="\r", file=sys.stderr, flush=True)
 
 
-def run(words, progress, lock):
-    """Runs `rt` in the program's crate, its output in the log, and returns its status. It holds the lock as long as it runs."""
+def run(words, where, progress, lock):
+    """Runs `rt` in a folder, its output in the log, and returns its status. It holds the lock as long as it runs."""
     with open(LOG, "ab") as log:
-        how = {"cwd": CRATE, "stdin": subprocess.DEVNULL, "stdout": log, "stderr": log}
+        how = {"cwd": where, "stdin": subprocess.DEVNULL, "stdout": log, "stderr": log}
         ran = subprocess.Popen(["rt", *words], pass_fds=[lock] if lock is not None else [], **how)
         try:
             while progress.is_shown:
@@ -253,7 +264,8 @@ def run(words, progress, lock):
 def why_not(text):
     """The lines of the log that say why there is no program: of the first crate that is not proved, or else the last ones."""
     before, _, summary = text.rpartition("== summary\n")
-    failed = re.search(r"(?m)^(\S+): failed ", summary)
+    failed = re.search(r"(?m)^(\S+): failed ", summary) if before else re.search(r"(?m)^rt: (\S+) NOT PROVED$", text)
+    before = before or text
     if failed and not KILLED.search(summary):
         said = re.split(r"(?m)^== .*\n", before.partition(f"== {failed[1]}\n")[2])[0].splitlines()
         return [f"== {failed[1]}", *said[-20:]]
@@ -265,6 +277,51 @@ def allow_as_sources():
     for made, like in ((OUT, CRATE), (PROGRAM, f"{TOP}/anyk"), (SUMS, f"{TOP}/crates.txt"), (FILES, f"{TOP}/crates.txt")):
         with contextlib.suppress(OSError):
             os.chmod(made, os.stat(made).st_mode & 0o7777 | os.stat(like).st_mode & 0o555)
+
+
+def is_untouched(crates):
+    """Whether no crate has a library that `rt` built for a developer's checks."""
+    return not any(os.path.exists(f"{TOP}/crates/{it}/out/rlib/stamp") for it in crates)
+
+
+def copy_crates(crates, to):
+    """Copies what the program is made from, as a repository of its own."""
+    os.makedirs(f"{to}/.git")
+    shutil.copyfile(f"{TOP}/HANDLES", f"{to}/HANDLES")
+    for crate in crates:
+        for part in (*PARTS, *(RUN if crate == os.path.basename(CRATE) else ())):
+            one, other = f"{TOP}/crates/{crate}/{part}", f"{to}/crates/{crate}/{part}"
+            if os.path.isdir(one):
+                shutil.copytree(one, other)
+            elif os.path.isfile(one):
+                shutil.copyfile(one, other)
+    rows = text_of(f"{TOP}/crates.txt").split("\n")
+    named = [it for it in rows if it.partition("#")[0].partition(":")[0].split()[:1] in [[crate] for crate in crates]]
+    write(f"{to}/crates.txt", "\n".join(named) + "\n")
+
+
+def prove_copy(crates, progress, lock):
+    """Has `rt ci` prove a copy of the crates and build the program there, takes the program, and returns whether that went well."""
+    shutil.rmtree(ROOM, ignore_errors=True)
+    try:
+        copy_crates(crates, ROOM)
+        made = f"{ROOM}/crates/{os.path.basename(CRATE)}/out/{os.path.basename(PROGRAM)}"
+        if run(["ci"], ROOM, progress, lock) or not os.path.isfile(made):
+            return False
+        shutil.move(made, PROGRAM)
+        return True
+    finally:
+        shutil.rmtree(ROOM, ignore_errors=True)
+
+
+def prove_here(jobs, progress, lock):
+    """Has `rt` prove the crates here, over what earlier checks kept, and build the program, and returns whether that went well."""
+    status = run(["all", "check", "--jobs", str(jobs)], CRATE, progress, lock)
+    # A check that was killed is tried again by the next command, which does one at a time.
+    if status == 0 or KILLED.search(text_of(LOG)):
+        # Without arguments the program says only its usage. `rt` writes the stamp once the program is proved and linked.
+        run(["run", "--"], CRATE, progress, lock)
+    return os.path.isfile(STAMP) and os.path.isfile(PROGRAM)
 
 
 def build(crates, lock):
@@ -282,14 +339,10 @@ def build(crates, lock):
     jobs = at_once(len(os.sched_getaffinity(0)), free_memory())
     progress = Progress(crates, jobs)
     try:
-        status = run(["all", "check", "--jobs", str(jobs)], progress, lock)
-        # A check that was killed is tried again by the next command, which does one at a time.
-        if status == 0 or KILLED.search(text_of(LOG)):
-            # Without arguments the program says only its usage. `rt` writes the stamp once the program is proved and linked.
-            run(["run", "--"], progress, lock)
+        proves = prove_copy(crates, progress, lock) if is_untouched(crates) else prove_here(jobs, progress, lock)
     finally:
         progress.end()
-    if not (os.path.isfile(STAMP) and os.path.isfile(PROGRAM)):
+    if not proves:
         print(*why_not(text_of(LOG)), sep="\n", file=sys.stderr)
         say(f"the program was not built (all that rt said is in {LOG})")
         return False
