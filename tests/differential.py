@@ -428,17 +428,22 @@ class Case:
                 compared = [-it if descending else it for it, (_, descending) in zip(sums, self.keys)]
                 found.append((compared, rows, sums))
         found.sort()
-        shown = self.list or [(item, place) for item in range(len(self.items)) for place in range(len(self.names(item)))]
-        header = [self.names(item)[place] for item, place in shown]
-        header += [f"rank{it + 1}" for it in range(len(self.keys))] if self.ranks else []
-        header += [f"row{it + 1}" for it in range(len(self.items))] if self.rows else []
-        records = []
+        shown, records = self.shown(), []
         for _, rows, sums in found[: self.limit]:
             record = [value(rows, it) for it in shown]
             record += [str(it) for it in sums] if self.ranks else []
             record += [str(it) for it in rows] if self.rows else []
             records.append(record)
-        return header, records, len(found)
+        return self.header(), records, len(found)
+
+    def shown(self):
+        """The columns of the output, without those of the options."""
+        return self.list or [(item, place) for item in range(len(self.items)) for place in range(len(self.names(item)))]
+
+    def header(self):
+        names = [self.names(item)[place] for item, place in self.shown()]
+        names += [f"rank{it + 1}" for it in range(len(self.keys))] if self.ranks else []
+        return names + ([f"row{it + 1}" for it in range(len(self.items))] if self.rows else [])
 
 
 # ---- fixed inputs: files, words, status, and the output or the line on the error output
@@ -592,7 +597,7 @@ def run(program, files, words):
     with tempfile.TemporaryDirectory(prefix="anyk-differential-") as room:
         for name, text in files.items():
             with open(f"{room}/{name}", "wb") as it:
-                it.write(text.encode())
+                it.write(text if isinstance(text, bytes) else text.encode())
         ran = subprocess.run([program, *words], cwd=room, stdin=subprocess.DEVNULL, capture_output=True, timeout=60)
         return ran.returncode, ran.stdout, ran.stderr
 

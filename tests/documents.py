@@ -32,6 +32,7 @@ LONG = {
     "bench/reading.sh": "it measures reading of 1,000,000 rows, and needs rustc",
     "bench/preparing.py": "it measures for minutes, and needs valgrind",
     "bench/ranking.py": "it measures for minutes, sqlite3 too",
+    "bench/memory.py": "it measures for minutes",
     "examples/airports/make.py": "it needs a file of a package that is not in the repository",
     "examples/timezones/make.py": "what it makes is that of one release of the time zone database",
     "examples/wordnet/make.py": "it needs a file of a package that is not in the repository",

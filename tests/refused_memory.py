@@ -1,0 +1,68 @@
+#!/usr/bin/env python3
+"""Refuses the program its memory: the nth request for it, for n = 1, 2 and on, until a run asks for less.
+
+usage: tests/refused_memory.py [PROGRAM]
+
+PROGRAM is ./anyk where it is not given. A join, a star and a session are run with each engine, then each other command, each option
+and some refusals. First the nth request alone is refused, then the nth and all after it. Such a run ends with status 12, its line or
+nothing on the error output, and a first part of the output; or with the status, the output and the error output of the whole run,
+where the program can do without. A small C library is preloaded into the program, and where none can be made nothing is tried.
+"""
+import sys
+
+from preloaded import Failing, Skipped, first_inputs, in_turn, other_inputs
+
+LINES = (b"", b"anyk: out of memory\n")
+MOST = 100000
+
+
+def wrong(one, status, output, error):
+    """What is wrong with a run in which memory was refused, or nothing."""
+    if (status, output, error) == (one.status, one.output, one.error):
+        return ""
+    if status != 12:
+        return f"status {status}, {error!r}"
+    if error not in LINES:
+        return f"status 12 with {error!r}"
+    return "" if one.output.startswith(output) else f"its output is no first part of the whole: {output!r}"
+
+
+def tried(failing, one, count):
+    """How many runs of an input there were, how many ended with status 12, and what was wrong with some."""
+    folder, runs, refused, faults = failing.put(one), 0, 0, []
+    for nth in range(1, MOST):
+        has_failed, status, output, error = failing.run(folder, one.words, "memory", nth, count)
+        if not has_failed:
+            if (status, output, error) != (one.status, one.output, one.error):
+                faults.append(f"{one.name}: with all memory: status {status}, {output!r}, {error!r}")
+            break
+        runs += 1
+        refused += status == 12
+        fault = wrong(one, status, output, error)
+        if fault:
+            faults.append(f"{one.name}: request {nth}{'' if count else ' and all after it'}: {fault}")
+    return runs, refused, faults
+
+
+def main():
+    try:
+        failing = Failing(sys.argv[1] if len(sys.argv) > 1 else "./anyk")
+    except Skipped as why:
+        print(f"refused memory: SKIPPED, {why}")
+        return 0
+    try:
+        inputs = first_inputs() + other_inputs()
+        done = in_turn([lambda one=one, count=count: tried(failing, one, count) for one in inputs for count in (1, 0)])
+    finally:
+        failing.close()
+    faults = [it for _, _, each in done for it in each]
+    for it in faults[:5]:
+        print(f"refused memory: {it}")
+    runs, refused = sum(it[0] for it in done), sum(it[1] for it in done)
+    verdict = f"FAILED: {len(faults)}" if faults or not runs else "passed"
+    print(f"refused memory: {len(inputs)} inputs, {runs} runs, {refused} of them out of memory: {verdict}")
+    return 0 if verdict == "passed" else 1
+
+
+if __name__ == "__main__":
+    sys.exit(main())
