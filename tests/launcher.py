@@ -725,6 +725,7 @@ def at(text, column):
 # those that need no large file.
 REFUSALS = [
     (["run", "stay.sql"], 2, "usage", ["TABLE=FILE is missing", "usage: anyk run [--engine"]),
+    (["help", "cycle"], 2, "usage", ["there is no page of help for these arguments"]),
     (["rnu", *WORDS], 2, "usage", ["rnu is not a command; perhaps run is meant", "usage: anyk run", "anyk plan QUERYFILE"]),
     (["run", "--rank", *WORDS], 2, "usage", ["--rank is not an option of run; perhaps --ranks is meant"]),
     (["run", "--ranks", "--ranks", *WORDS], 2, "usage", ["--ranks is given twice"]),

@@ -455,6 +455,8 @@ def on_usage(call, query):
 
 def wrong_words(call):
     """What is wrong with the arguments, as far as that is plain."""
+    if call.command in ("help", "--help", "-h"):
+        return ["there is no page of help for these arguments: call help alone, or with the name of one command"]
     if call.command not in COMMANDS:
         return [f"{shown(call.command) or 'an empty argument'} is not a command{perhaps(call.command, COMMANDS)}"]
     known, lines, seen = OPTIONS[call.command], [], set()
