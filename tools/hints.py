@@ -30,6 +30,8 @@ MISSING = {
     **{it: f"no {it.upper()}" for it in ("distinct", "like", "in", "between", "having", "offset")},
     "or": "no OR: ask once for each side",
     "group": "no GROUP BY",
+    "*": "no multiplication: name the column as often as it counts",
+    "as": "no other name for a column",
     "/": "no division and no comment",
     "#": "no comment",
 }
@@ -239,10 +241,29 @@ def kind_of(name):
     return None
 
 
+def is_name(word):
+    return re.fullmatch(rb"[A-Za-z_][A-Za-z0-9_]*", word) and word not in KEYWORDS
+
+
+def meant(words, place):
+    """What may be meant by a token at which a query cannot go on, as far as the tokens around it tell."""
+    token = words[place].lower().decode(errors="replace")
+    before, after = (words[place - 1] if place else b""), (words[place + 1 : place + 2] or [b""])[0]
+    if token == "." and before.isdigit():
+        return ["a number with a point is written as a string, in single quotes"]
+    if token.isdigit() and after == b"*":
+        return [f"there is {MISSING['*']}"]
+    if token in MISSING:
+        return [f"there is {MISSING[token]}"]
+    if is_name(words[place]) and is_name(before):
+        guess = perhaps(token, [it.decode() for it in KEYWORDS])[2:]
+        return [guess or "a name with a blank is written in double quotes"]
+    return []
+
+
 def on_syntax(call, query, at):
     place, lines = query.place_of(at), query.caret(at)
-    token = query.tokens[place][1].lower().decode(errors="replace") if place is not None else ""
-    return lines + ([f"there is {MISSING[token]}"] if token in MISSING else [])
+    return lines + (meant(query.words, place) if place is not None else [])
 
 
 def on_limit(call, query, at):
