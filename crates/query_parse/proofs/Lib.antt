@@ -1,17 +1,4 @@
-pub mod SameKind
-pub mod Outcomes
-pub mod Shorter
-pub mod Rules
-pub mod Again
-pub mod Stuck
-pub mod Loops
-pub mod Stepping
 pub mod Strings
-pub mod ScanLength
-pub mod Examples
-pub mod Decimal
-pub mod Answered
-pub mod Exactly
 pub mod NameScan
 pub mod TextScan
 pub mod Written
@@ -19,6 +6,5 @@ pub mod Plain
 pub mod Spelled
 pub mod PlainNames
 pub mod RoundTrip
-pub mod InOrder
 pub mod Longest
 pub mod LongestTokens

@@ -1,13 +1,3 @@
-pub mod Lexeme
-pub mod Reading
-pub mod Grammar
-pub mod Places
-pub mod FirstFault
-pub mod Tokens
-pub mod Scanned
-pub mod Parse
 pub mod Text
 pub mod TokenForms
-pub mod Same
-pub mod SameLaws
-pub mod TextOrder
+pub mod ReadBack

@@ -1,8 +1,8 @@
 //! What holds of the tokens of any bytes, as definitions alone say it.
 
 ghost use Rattle.std.specs.Prelude.{◌≡◌, ◌↔◌, List, ℕ};
-ghost use Rattle.query_parse.specs.Lexeme.{Lexeme};
-ghost use Rattle.query_parse.specs.Tokens.{scan_of, stray, tokens_of};
+ghost use Rattle.query_grammar.specs.Lexeme.{Lexeme};
+ghost use Rattle.query_grammar.specs.Tokens.{scan_of, stray, tokens_of};
 ghost use Rattle.query_parse.specs.TokenForms.{AreTokens, NoToken, ScansLongest};
 
 /// A scan is of the longest form of a token that begins the bytes, and of a stray byte exactly where no form begins them.

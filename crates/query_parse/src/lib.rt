@@ -1,27 +1,14 @@
-//! The query language: `select` with equi-joins, order keys that are sums of columns, and a limit.
-//!
-//! Bytes become tokens, the longest at each place; a reader for each rule of the grammar goes over them from left to
-//! right, and the next token alone decides each choice (LL(1) parsing by recursive descent). A syntax fault is told
-//! where the first token begins behind which no query can go on (the valid prefix property of such parsers).
-//! `text` writes a query in one canonical form, which `parse` reads as the same query.
+//! The query language: `parse` reads a query, `text` writes it in one form, and the laws say that tokens are the longest forms
+//! that begin at their places. What other crates need of the language, the grammar and what a query says, stands in
+//! `query_grammar`, so that they do not wait for the rest.
 #![tactic(auto)]
 
-mod equality;
-pub mod fault;
 mod laws;
-pub mod name;
-mod parsing;
-mod reader;
-mod scanner;
-pub mod select;
-pub mod sequence;
-mod token;
 mod writing;
 
-pub use fault::ParseFault;
 pub use laws::{scans_are_longest, tokens_are_longest};
-pub use name::{Bytes, Name};
-pub use parsing::{MAX_BYTES, MAX_ITEMS, MAX_KEYS, parse};
-pub use select::{ColumnRef, Equality, ItemRef, KeyRef, Select, SelectList, Side, Term};
-pub use sequence::Sequence;
-pub use writing::{name_text, text};
+pub use query_grammar::{
+    Bytes, ColumnRef, Equality, ItemRef, KeyRef, MAX_BYTES, MAX_ITEMS, MAX_KEYS, Name, ParseFault,
+    Select, SelectList, Sequence, Side, Term, name_text, parse,
+};
+pub use writing::text;

@@ -1,60 +1,14 @@
 //! The canonical text.
 
-ghost use Rattle.std.specs.Prelude.{◌≡◌, ◌++◌, ◌∷◌, [], IfOk, OnOk, codes, decimal, List, ℕ, ◌≤◌, length};
-ghost use Rattle.std.specs.List.{list_all};
-ghost use Rattle.query_parse.specs.Reading.{same};
-ghost use Rattle.query_parse.specs.Tokens.{is_word_byte, kind_of_word};
-ghost use Rattle.query_parse.specs.Parse.{IsParsed};
-ghost use Rattle.query_parse.specs.Same.{ReadsBack};
-ghost use Rattle.query_parse.specs.Text.{is_bare, name_text_of, doubled, column_text, columns_text, list_text, item_text, items_text, constant_text, side_text, equality_text, where_text, first_term_text, term_text, terms_text, key_text, order_text, limit_text, text_of};
+ghost use Rattle.std.specs.Prelude.{◌≡◌, ◌++◌, ◌∷◌, [], IfOk, OnOk, List, ℕ, ◌≤◌, length};
+ghost use Rattle.query_grammar.specs.Parse.{IsParsed};
+ghost use Rattle.query_parse.specs.ReadBack.{ReadsBack};
+ghost use Rattle.query_parse.specs.Text.{doubled, column_text, columns_text, list_text, item_text, items_text, constant_text, side_text, equality_text, where_text, first_term_text, term_text, terms_text, key_text, order_text, limit_text, text_of};
 
-use crate::scanner::{begins_word, goes_on_word, word_kind};
-use crate::select::{ColumnRef, Equality, ItemRef, KeyRef, Select, SelectList, Side, Term};
-use crate::token::Kind;
+use query_grammar::push_name;
+use query_grammar::select::{ColumnRef, Equality, ItemRef, KeyRef, Select, SelectList, Side, Term};
 use std::alloc::{AllocError, Global};
 use step_counter::NoMemory;
-
-fn is_no_keyword(word: &[u8]) -> bool
-    ensures { result ≡ same (kind_of_word word.now) Kind.Name }
-{
-    word_kind(word) == Kind::Name
-}
-
-fn go_on_word(bytes: &[u8]) -> bool
-    ensures { result ≡ list_all is_word_byte bytes.now }
-{
-    bytes.iter().all(|byte| goes_on_word(*byte))
-}
-
-fn is_bare_name(name: &[u8]) -> bool
-    ensures { result ≡ is_bare name.now }
-{
-    match name {
-        [] => false,
-        [first, rest @ ..] => begins_word(*first) && go_on_word(rest) && is_no_keyword(name),
-    }
-}
-
-/// A name as the canonical text writes it: bare where it can be, else between quotes.
-pub fn name_text(alloc: Global, name: &[u8]) -> Result<Vec<u8>, NoMemory>
-    ensures { IfOk result (λ v. v.items ≡ name_text_of name.now) }
-{
-    let mut text = Vec::new(alloc);
-    push_name(&mut text, name)?;
-    Ok(text)
-}
-
-fn push_name(text: &mut Vec<u8>, name: &[u8]) -> Result<(), AllocError>
-    ensures { OnOk result (text.new.items ≡ text.old.items ++ name_text_of name.now) }
-{
-    if is_bare_name(name) {
-        return text.extend_from_slice(name);
-    }
-    text.push(b'"')?;
-    text.extend_from_slice(name)?;
-    text.push(b'"')?;
-    Ok(())
-}
 
 #[tactic(auto, unfolding(crate::specs::Text::column_text))]
 fn push_column(text: &mut Vec<u8>, column: &ColumnRef) -> Result<(), AllocError>

@@ -1,0 +1,15 @@
+pub mod SameKind
+pub mod Outcomes
+pub mod Shorter
+pub mod Rules
+pub mod Again
+pub mod Stuck
+pub mod Loops
+pub mod Stepping
+pub mod Strings
+pub mod ScanLength
+pub mod Examples
+pub mod Decimal
+pub mod Answered
+pub mod Exactly
+pub mod InOrder

@@ -1,0 +1,611 @@
+//! The grammar, read token by token.
+
+ghost use Rattle.std.specs.Prelude.{◌≡◌, length, ◌≤◌, ◌++◌, ◌∷◌, [], MatchOption, Some, None, IfOk, OnOk, option_copied, Option, Bool, List, ℕ};
+ghost use Rattle.std.specs.Option.{option_map};
+ghost use Rattle.query_grammar.specs.Lexeme.{Lexeme, lexeme, lexemes};
+ghost use Rattle.query_grammar.specs.Reading.{Gives, expect_at, optional_at, place_of, same, column_at, next_column_at, columns_at, list_at, undoubled, undoubled_from, side_at, condition_at, next_condition_at, conditions_at, alias_at, item_at, plain_item_at, joined_item_at, inner_item_at, next_item_at, items_at, where_at, sign_at, term_at, next_term_at, direction_at, terms_at, key_at, next_key_at, keys_at, order_at, limit_at, finish_at, query_at, some_lexeme};
+
+use crate::fault::ParseFault;
+use crate::name::{Bytes, Name};
+use crate::select::{ColumnRef, Equality, ItemRef, KeyRef, Select, SelectList, Side, Term};
+use crate::sequence::Sequence;
+use crate::token::{Kind, Token};
+use std::alloc::{AllocError, Global};
+
+fn is_kind(token: &Token<'_>, kind: Kind) -> bool
+    ensures { result ≡ same token.now.kind kind }
+{
+    token.kind == kind
+}
+
+/// Where the next token begins, or the query's end.
+fn place(tokens: &[Token<'_>], end: u32) -> u32
+    ensures { result ≡ place_of end (lexemes tokens.now) }
+{
+    match tokens {
+        [] => end,
+        [token, ..] => token.at,
+    }
+}
+
+#[tactic(auto, unfolding(crate::specs::Reading::expect_at))]
+fn expect<'a, 't>(
+    tokens: &'t [Token<'a>],
+    end: u32,
+    kind: Kind,
+) -> Result<(Token<'a>, &'t [Token<'a>]), ParseFault>
+    ensures { Gives end (λ x. (lexeme x.0, lexemes x.1.now)) result (expect_at kind (lexemes tokens.now)) }
+{
+    match tokens {
+        [token, rest @ ..] if is_kind(token, kind) => Ok((*token, rest)),
+        _ => Err(ParseFault::Syntax(place(tokens, end))),
+    }
+}
+
+#[tactic(auto, unfolding(crate::specs::Reading::optional_at))]
+fn optional<'a, 't>(tokens: &'t [Token<'a>], kind: Kind) -> (Option<Token<'a>>, &'t [Token<'a>])
+    ensures { optional_at kind (lexemes tokens.now) ≡ (some_lexeme result.0, lexemes result.1.now) }
+{
+    match tokens {
+        [token, rest @ ..] if is_kind(token, kind) => (Some(*token), rest),
+        _ => (None, tokens),
+    }
+}
+
+#[tactic(auto, unfolding(crate::specs::Reading::column_at))]
+fn column<'a, 't>(
+    alloc: Global,
+    tokens: &'t [Token<'a>],
+    end: u32,
+) -> Result<(ColumnRef, &'t [Token<'a>]), ParseFault>
+    ensures { Gives end (λ x. (x.0, lexemes x.1.now)) result (column_at (lexemes tokens.now)) }
+{
+    let (first, rest) = expect(tokens, end, Kind::Name)?;
+    let at = first.at;
+    let (dot, rest) = optional(rest, Kind::Dot);
+    if dot.is_none() {
+        let column = Name::from_slice(alloc, first.body)?;
+        return Ok((
+            ColumnRef {
+                alias: None,
+                column,
+                at,
+            },
+            rest,
+        ));
+    }
+    let (second, rest) = expect(rest, end, Kind::Name)?;
+    let alias = Some(Name::from_slice(alloc, first.body)?);
+    let column = Name::from_slice(alloc, second.body)?;
+    Ok((ColumnRef { alias, column, at }, rest))
+}
+
+#[tactic(auto, unfolding(crate::specs::Reading::next_column_at))]
+fn next_column<'a, 't>(
+    alloc: Global,
+    tokens: &'t [Token<'a>],
+    end: u32,
+) -> Result<Option<(ColumnRef, &'t [Token<'a>])>, ParseFault>
+    ensures { Gives end (option_map (λ x. (x.0, lexemes x.1.now))) result (next_column_at (lexemes tokens.now)) }
+{
+    let (comma, rest) = optional(tokens, Kind::Comma);
+    if comma.is_none() {
+        return Ok(None);
+    }
+    let found = column(alloc, rest, end)?;
+    Ok(Some(found))
+}
+
+#[tactic(auto, unfolding(crate::specs::Reading::columns_at))]
+fn columns<'a, 't>(
+    alloc: Global,
+    tokens: &'t [Token<'a>],
+    end: u32,
+) -> Result<(Sequence<ColumnRef>, &'t [Token<'a>]), ParseFault>
+    ensures { Gives end (λ x. (x.0, lexemes x.1.now)) result (columns_at (lexemes tokens.now)) }
+{
+    let (first, mut rest) = column(alloc, tokens, end)?;
+    let mut columns = Vec::new(alloc);
+    columns.push(first)?;
+    while let Some((column, after)) = next_column(alloc, rest, end)? {
+        columns.push(column)?;
+        rest = after;
+    }
+    Ok((Sequence::from_vec(columns), rest))
+}
+
+#[tactic(auto, unfolding(crate::specs::Reading::list_at))]
+fn list<'a, 't>(
+    alloc: Global,
+    tokens: &'t [Token<'a>],
+    end: u32,
+) -> Result<(SelectList, &'t [Token<'a>]), ParseFault>
+    ensures { Gives end (λ x. (x.0, lexemes x.1.now)) result (list_at (lexemes tokens.now)) }
+{
+    let (star, rest) = optional(tokens, Kind::Star);
+    if star.is_some() {
+        return Ok((SelectList::Star, rest));
+    }
+    let (columns, rest) = columns(alloc, tokens, end)?;
+    Ok((SelectList::Columns(columns), rest))
+}
+
+/// Copies a byte of a string, but for the second quote of two; whether the byte is the first of two quotes.
+#[tactic(auto, unfolding(crate::specs::Reading::undoubled_from))]
+fn push_undoubled(bytes: &mut Vec<u8>, byte: u8, second: bool) -> Result<bool, AllocError>
+    ensures { IfOk result (λ next. (rest : List ℕ) → bytes.new.items ++ undoubled_from next rest ≡ bytes.old.items ++ undoubled_from second (byte ∷ rest)) }
+{
+    let is_quote = byte == b'\'';
+    if is_quote && second {
+        return Ok(false);
+    }
+    bytes.push(byte)?;
+    Ok(is_quote)
+}
+
+#[tactic(auto, unfolding(crate::specs::Reading::undoubled_from))]
+fn undoubled_text(alloc: Global, body: &[u8]) -> Result<Vec<u8>, AllocError>
+    ensures { IfOk result (λ v. v.items ≡ undoubled body.now) }
+{
+    let mut bytes = Vec::new(alloc);
+    let mut second = false;
+    for byte in body {
+        second = push_undoubled(&mut bytes, *byte, second)?;
+    }
+    Ok(bytes)
+}
+
+fn negative(alloc: Global, digits: &[u8]) -> Result<Vec<u8>, AllocError>
+    ensures { IfOk result (λ v. v.items ≡ 45 ∷ digits.now) }
+{
+    let mut bytes = Vec::new(alloc);
+    bytes.push(b'-')?;
+    bytes.extend_from_slice(digits)?;
+    Ok(bytes)
+}
+
+#[tactic(auto, unfolding(crate::specs::Reading::side_at))]
+fn side<'a, 't>(
+    alloc: Global,
+    tokens: &'t [Token<'a>],
+    end: u32,
+) -> Result<(Side, &'t [Token<'a>]), ParseFault>
+    ensures { Gives end (λ x. (x.0, lexemes x.1.now)) result (side_at (lexemes tokens.now)) }
+{
+    if let (Some(text), rest) = optional(tokens, Kind::Text) {
+        let bytes = undoubled_text(alloc, text.body)?;
+        return Ok((Side::Constant(Bytes::from_vec(bytes)), rest));
+    }
+    if let (Some(_), rest) = optional(tokens, Kind::Minus) {
+        let (digits, rest) = expect(rest, end, Kind::Digits)?;
+        let bytes = negative(alloc, digits.body)?;
+        return Ok((Side::Constant(Bytes::from_vec(bytes)), rest));
+    }
+    if let (Some(digits), rest) = optional(tokens, Kind::Digits) {
+        let bytes = Vec::from_slice(alloc, digits.body)?;
+        return Ok((Side::Constant(Bytes::from_vec(bytes)), rest));
+    }
+    let (column, rest) = column(alloc, tokens, end)?;
+    Ok((Side::Column(column), rest))
+}
+
+#[tactic(auto, unfolding(crate::specs::Reading::condition_at))]
+fn condition<'a, 't>(
+    alloc: Global,
+    tokens: &'t [Token<'a>],
+    end: u32,
+) -> Result<(Equality, &'t [Token<'a>]), ParseFault>
+    ensures { Gives end (λ x. (x.0, lexemes x.1.now)) result (condition_at (lexemes tokens.now)) }
+{
+    let (left, rest) = side(alloc, tokens, end)?;
+    let (_, rest) = expect(rest, end, Kind::Equals)?;
+    match left {
+        Side::Column(left) => {
+            let (right, rest) = side(alloc, rest, end)?;
+            Ok((Equality { left, right }, rest))
+        }
+        Side::Constant(bytes) => {
+            let (left, rest) = column(alloc, rest, end)?;
+            let right = Side::Constant(bytes);
+            Ok((Equality { left, right }, rest))
+        }
+    }
+}
+
+#[tactic(auto, unfolding(crate::specs::Reading::next_condition_at))]
+fn next_condition<'a, 't>(
+    alloc: Global,
+    tokens: &'t [Token<'a>],
+    end: u32,
+) -> Result<Option<(Equality, &'t [Token<'a>])>, ParseFault>
+    ensures { Gives end (option_map (λ x. (x.0, lexemes x.1.now))) result (next_condition_at (lexemes tokens.now)) }
+{
+    let (and, rest) = optional(tokens, Kind::And);
+    if and.is_none() {
+        return Ok(None);
+    }
+    let found = condition(alloc, rest, end)?;
+    Ok(Some(found))
+}
+
+#[tactic(auto, unfolding(crate::specs::Reading::conditions_at))]
+fn conditions<'a, 't>(
+    alloc: Global,
+    tokens: &'t [Token<'a>],
+    end: u32,
+) -> Result<(Vec<Equality>, &'t [Token<'a>]), ParseFault>
+    ensures { Gives end (λ x. (x.0.items, lexemes x.1.now)) result (conditions_at (lexemes tokens.now)) }
+{
+    let (first, mut rest) = condition(alloc, tokens, end)?;
+    let mut equalities = Vec::new(alloc);
+    equalities.push(first)?;
+    while let Some((equality, after)) = next_condition(alloc, rest, end)? {
+        equalities.push(equality)?;
+        rest = after;
+    }
+    Ok((equalities, rest))
+}
+
+#[tactic(auto, unfolding(crate::specs::Reading::item_at))]
+fn item<'a, 't>(
+    alloc: Global,
+    tokens: &'t [Token<'a>],
+    end: u32,
+) -> Result<(ItemRef, &'t [Token<'a>]), ParseFault>
+    ensures { Gives end (λ x. (x.0, lexemes x.1.now)) result (item_at (lexemes tokens.now)) }
+{
+    let (table, rest) = expect(tokens, end, Kind::Name)?;
+    let at = table.at;
+    let (alias, rest) = alias(rest, end, table)?;
+    let table = Name::from_slice(alloc, table.body)?;
+    let alias = Name::from_slice(alloc, alias.body)?;
+    Ok((ItemRef { table, alias, at }, rest))
+}
+
+/// The name behind a table, or the table's own.
+fn alias<'a, 't>(
+    tokens: &'t [Token<'a>],
+    end: u32,
+    table: Token<'a>,
+) -> Result<(Token<'a>, &'t [Token<'a>]), ParseFault>
+    ensures { Gives end (λ x. (lexeme x.0, lexemes x.1.now)) result (alias_at (lexeme table.entry) (lexemes tokens.now)) }
+{
+    if let (Some(_), rest) = optional(tokens, Kind::As) {
+        return expect(rest, end, Kind::Name);
+    }
+    if let (Some(alias), rest) = optional(tokens, Kind::Name) {
+        return Ok((alias, rest));
+    }
+    Ok((table, tokens))
+}
+
+/// An item with the equalities of its ON.
+#[derive(Debug, Drop)]
+struct Joined {
+    item: ItemRef,
+    on: Vec<Equality>,
+}
+
+#[tactic(auto, unfolding(crate::specs::Reading::plain_item_at))]
+fn plain_item<'a, 't>(
+    alloc: Global,
+    tokens: &'t [Token<'a>],
+    end: u32,
+) -> Result<(Joined, &'t [Token<'a>]), ParseFault>
+    ensures { Gives end (λ x. ((x.0.item, x.0.on.items), lexemes x.1.now)) result (plain_item_at (lexemes tokens.now)) }
+{
+    let (item, rest) = item(alloc, tokens, end)?;
+    let on = Vec::new(alloc);
+    Ok((Joined { item, on }, rest))
+}
+
+#[tactic(auto, unfolding(crate::specs::Reading::joined_item_at))]
+fn joined_item<'a, 't>(
+    alloc: Global,
+    tokens: &'t [Token<'a>],
+    end: u32,
+) -> Result<(Joined, &'t [Token<'a>]), ParseFault>
+    ensures { Gives end (λ x. ((x.0.item, x.0.on.items), lexemes x.1.now)) result (joined_item_at (lexemes tokens.now)) }
+{
+    let (item, rest) = item(alloc, tokens, end)?;
+    let (_, rest) = expect(rest, end, Kind::On)?;
+    let (on, rest) = conditions(alloc, rest, end)?;
+    Ok((Joined { item, on }, rest))
+}
+
+#[tactic(auto, unfolding(crate::specs::Reading::inner_item_at))]
+fn inner_item<'a, 't>(
+    alloc: Global,
+    tokens: &'t [Token<'a>],
+    end: u32,
+) -> Result<(Joined, &'t [Token<'a>]), ParseFault>
+    ensures { Gives end (λ x. ((x.0.item, x.0.on.items), lexemes x.1.now)) result (inner_item_at (lexemes tokens.now)) }
+{
+    let (_, rest) = expect(tokens, end, Kind::Join)?;
+    joined_item(alloc, rest, end)
+}
+
+#[tactic(auto, unfolding(crate::specs::Reading::next_item_at))]
+fn next_item<'a, 't>(
+    alloc: Global,
+    tokens: &'t [Token<'a>],
+    end: u32,
+) -> Result<Option<(Joined, &'t [Token<'a>])>, ParseFault>
+    ensures { Gives end (option_map (λ x. ((x.0.item, x.0.on.items), lexemes x.1.now))) result (next_item_at (lexemes tokens.now)) }
+{
+    if let (Some(_), rest) = optional(tokens, Kind::Comma) {
+        let found = plain_item(alloc, rest, end)?;
+        return Ok(Some(found));
+    }
+    if let (Some(_), rest) = optional(tokens, Kind::Inner) {
+        let found = inner_item(alloc, rest, end)?;
+        return Ok(Some(found));
+    }
+    if let (Some(_), rest) = optional(tokens, Kind::Join) {
+        let found = joined_item(alloc, rest, end)?;
+        return Ok(Some(found));
+    }
+    Ok(None)
+}
+
+/// The from-items, and the equalities of their ON.
+#[derive(Debug, Drop)]
+struct FromItems {
+    items: Vec<ItemRef>,
+    on: Vec<Equality>,
+}
+
+impl FromItems {
+    fn push(&mut self, joined: Joined) -> Result<(), AllocError>
+        ensures items { OnOk result (self.new.items.items ≡ self.old.items.items ++ joined.item ∷ []) }
+        ensures on { OnOk result (self.new.on.items ≡ self.old.on.items ++ joined.on.items) }
+    {
+        let Joined { item, mut on } = joined;
+        self.items.push(item)?;
+        self.on.append(&mut on)?;
+        Ok(())
+    }
+}
+
+#[tactic(auto, unfolding(crate::specs::Reading::items_at))]
+fn items<'a, 't>(
+    alloc: Global,
+    tokens: &'t [Token<'a>],
+    end: u32,
+) -> Result<(FromItems, &'t [Token<'a>]), ParseFault>
+    ensures { Gives end (λ x. ((x.0.items.items, x.0.on.items), lexemes x.1.now)) result (items_at (lexemes tokens.now)) }
+{
+    let (first, mut rest) = item(alloc, tokens, end)?;
+    let mut found = FromItems {
+        items: Vec::new(alloc),
+        on: Vec::new(alloc),
+    };
+    found.items.push(first)?;
+    while let Some((joined, after)) = next_item(alloc, rest, end)? {
+        found.push(joined)?;
+        rest = after;
+    }
+    Ok((found, rest))
+}
+
+#[tactic(auto, unfolding(crate::specs::Reading::where_at))]
+fn where_clause<'a, 't>(
+    alloc: Global,
+    tokens: &'t [Token<'a>],
+    end: u32,
+) -> Result<(Vec<Equality>, &'t [Token<'a>]), ParseFault>
+    ensures { Gives end (λ x. (x.0.items, lexemes x.1.now)) result (where_at (lexemes tokens.now)) }
+{
+    let (word, rest) = optional(tokens, Kind::Where);
+    if word.is_none() {
+        return Ok((Vec::new(alloc), rest));
+    }
+    conditions(alloc, rest, end)
+}
+
+/// Whether a sign stands there, and whether it is a minus.
+#[tactic(auto, unfolding(crate::specs::Reading::sign_at))]
+fn sign<'a, 't>(tokens: &'t [Token<'a>]) -> (Option<bool>, &'t [Token<'a>])
+    ensures { sign_at (lexemes tokens.now) ≡ (result.0, lexemes result.1.now) }
+{
+    if let (Some(_), rest) = optional(tokens, Kind::Minus) {
+        return (Some(true), rest);
+    }
+    if let (Some(_), rest) = optional(tokens, Kind::Plus) {
+        return (Some(false), rest);
+    }
+    (None, tokens)
+}
+
+#[tactic(auto, unfolding(crate::specs::Reading::term_at))]
+fn term<'a, 't>(
+    alloc: Global,
+    minus: bool,
+    tokens: &'t [Token<'a>],
+    end: u32,
+) -> Result<(Term, &'t [Token<'a>]), ParseFault>
+    ensures { Gives end (λ x. (x.0, lexemes x.1.now)) result (term_at minus (lexemes tokens.now)) }
+{
+    let (column, rest) = column(alloc, tokens, end)?;
+    Ok((Term { minus, column }, rest))
+}
+
+#[tactic(auto, unfolding(crate::specs::Reading::next_term_at))]
+fn next_term<'a, 't>(
+    alloc: Global,
+    tokens: &'t [Token<'a>],
+    end: u32,
+) -> Result<Option<(Term, &'t [Token<'a>])>, ParseFault>
+    ensures { Gives end (option_map (λ x. (x.0, lexemes x.1.now))) result (next_term_at (lexemes tokens.now)) }
+{
+    if let (Some(minus), rest) = sign(tokens) {
+        let found = term(alloc, minus, rest, end)?;
+        return Ok(Some(found));
+    }
+    Ok(None)
+}
+
+/// Whether DESC stands there; ASC is read too.
+#[tactic(auto, unfolding(crate::specs::Reading::direction_at))]
+fn direction<'a, 't>(tokens: &'t [Token<'a>]) -> (bool, &'t [Token<'a>])
+    ensures { direction_at (lexemes tokens.now) ≡ (result.0, lexemes result.1.now) }
+{
+    if let (Some(_), rest) = optional(tokens, Kind::Desc) {
+        return (true, rest);
+    }
+    let (_, rest) = optional(tokens, Kind::Asc);
+    (false, rest)
+}
+
+#[tactic(auto, unfolding(crate::specs::Reading::terms_at))]
+fn terms<'a, 't>(
+    alloc: Global,
+    tokens: &'t [Token<'a>],
+    end: u32,
+) -> Result<(Sequence<Term>, &'t [Token<'a>]), ParseFault>
+    ensures { Gives end (λ x. (x.0, lexemes x.1.now)) result (terms_at (lexemes tokens.now)) }
+{
+    let (minus, rest) = sign(tokens);
+    let (first, mut rest) = term(alloc, minus.unwrap_or(false), rest, end)?;
+    let mut terms = Vec::new(alloc);
+    terms.push(first)?;
+    while let Some((term, after)) = next_term(alloc, rest, end)? {
+        terms.push(term)?;
+        rest = after;
+    }
+    Ok((Sequence::from_vec(terms), rest))
+}
+
+#[tactic(auto, unfolding(crate::specs::Reading::key_at))]
+fn key<'a, 't>(
+    alloc: Global,
+    tokens: &'t [Token<'a>],
+    end: u32,
+) -> Result<(KeyRef, &'t [Token<'a>]), ParseFault>
+    ensures { Gives end (λ x. (x.0, lexemes x.1.now)) result (key_at (lexemes tokens.now)) }
+{
+    let (terms, rest) = terms(alloc, tokens, end)?;
+    let (descending, rest) = direction(rest);
+    Ok((KeyRef { terms, descending }, rest))
+}
+
+#[tactic(auto, unfolding(crate::specs::Reading::next_key_at))]
+fn next_key<'a, 't>(
+    alloc: Global,
+    tokens: &'t [Token<'a>],
+    end: u32,
+) -> Result<Option<(KeyRef, &'t [Token<'a>])>, ParseFault>
+    ensures { Gives end (option_map (λ x. (x.0, lexemes x.1.now))) result (next_key_at (lexemes tokens.now)) }
+{
+    let (comma, rest) = optional(tokens, Kind::Comma);
+    if comma.is_none() {
+        return Ok(None);
+    }
+    let found = key(alloc, rest, end)?;
+    Ok(Some(found))
+}
+
+#[tactic(auto, unfolding(crate::specs::Reading::keys_at))]
+fn keys<'a, 't>(
+    alloc: Global,
+    tokens: &'t [Token<'a>],
+    end: u32,
+) -> Result<(Vec<KeyRef>, &'t [Token<'a>]), ParseFault>
+    ensures { Gives end (λ x. (x.0.items, lexemes x.1.now)) result (keys_at (lexemes tokens.now)) }
+{
+    let (_, rest) = expect(tokens, end, Kind::By)?;
+    let (first, mut rest) = key(alloc, rest, end)?;
+    let mut keys = Vec::new(alloc);
+    keys.push(first)?;
+    while let Some((key, after)) = next_key(alloc, rest, end)? {
+        keys.push(key)?;
+        rest = after;
+    }
+    Ok((keys, rest))
+}
+
+#[tactic(auto, unfolding(crate::specs::Reading::order_at))]
+fn order_clause<'a, 't>(
+    alloc: Global,
+    tokens: &'t [Token<'a>],
+    end: u32,
+) -> Result<(Vec<KeyRef>, &'t [Token<'a>]), ParseFault>
+    ensures { Gives end (λ x. (x.0.items, lexemes x.1.now)) result (order_at (lexemes tokens.now)) }
+{
+    let (word, rest) = optional(tokens, Kind::Order);
+    if word.is_none() {
+        return Ok((Vec::new(alloc), rest));
+    }
+    keys(alloc, rest, end)
+}
+
+#[tactic(auto, unfolding(crate::specs::Reading::limit_at))]
+fn limit_clause<'a, 't>(
+    tokens: &'t [Token<'a>],
+    end: u32,
+) -> Result<(Option<Token<'a>>, &'t [Token<'a>]), ParseFault>
+    ensures { Gives end (λ x. (some_lexeme x.0, lexemes x.1.now)) result (limit_at (lexemes tokens.now)) }
+{
+    let (word, rest) = optional(tokens, Kind::Limit);
+    if word.is_none() {
+        return Ok((None, rest));
+    }
+    let (digits, rest) = expect(rest, end, Kind::Digits)?;
+    Ok((Some(digits), rest))
+}
+
+/// That nothing but a `;` is left.
+#[tactic(auto, unfolding(crate::specs::Reading::finish_at))]
+fn finish(tokens: &[Token<'_>], end: u32) -> Result<(), ParseFault>
+    ensures { Gives end (λ _. tt) result (finish_at (lexemes tokens.now)) }
+{
+    let (_, rest) = optional(tokens, Kind::Semicolon);
+    if rest.is_empty() {
+        Ok(())
+    } else {
+        Err(ParseFault::Syntax(place(rest, end)))
+    }
+}
+
+/// A query without its limit, and the limit's digits.
+#[tactic(auto, unfolding(crate::specs::Reading::query_at))]
+pub(crate) fn query<'a>(
+    alloc: Global,
+    tokens: &[Token<'a>],
+    end: u32,
+) -> Result<(Select, Option<Token<'a>>), ParseFault>
+    ensures { Gives end (λ x. (x.0, some_lexeme x.1)) result (query_at (lexemes tokens.now)) }
+{
+    let (_, rest) = expect(tokens, end, Kind::Select)?;
+    let (list, rest) = list(alloc, rest, end)?;
+    let (_, rest) = expect(rest, end, Kind::From)?;
+    let (found, rest) = items(alloc, rest, end)?;
+    let (conditions, rest) = where_clause(alloc, rest, end)?;
+    let (keys, rest) = order_clause(alloc, rest, end)?;
+    let (digits, rest) = limit_clause(rest, end)?;
+    finish(rest, end)?;
+    let select = selected(list, found, conditions, keys)?;
+    Ok((select, digits))
+}
+
+/// The select of the clauses that were read, without a limit.
+fn selected(
+    list: SelectList,
+    found: FromItems,
+    conditions: Vec<Equality>,
+    keys: Vec<KeyRef>,
+) -> Result<Select, AllocError>
+    ensures { IfOk result (λ s. s ≡ record { list = list; items = found.items.items; equalities = found.on.items ++ conditions.items; keys = keys.items; limit = None }) }
+{
+    let FromItems { items, on } = found;
+    let mut equalities = on;
+    let mut conditions = conditions;
+    equalities.append(&mut conditions)?;
+    Ok(Select {
+        list,
+        items: Sequence::from_vec(items),
+        equalities: Sequence::from_vec(equalities),
+        keys: Sequence::from_vec(keys),
+        limit: None,
+    })
+}
