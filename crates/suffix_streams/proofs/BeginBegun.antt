@@ -15,7 +15,7 @@ use Rattle.stream_model.specs.Ahead.{IsAhead}
 use Rattle.stream_model.specs.Held.{places, InRuns}
 use Rattle.stream_model.specs.Links.{owned, place_in, IsLinkedAt}
 use Rattle.suffix_streams.specs.declared.stream.Found.{Found}
-use Rattle.suffix_streams.specs.declared.stream.Source.{Source}
+use Rattle.stream_cells.specs.declared.source.Source.{Source}
 use Rattle.suffix_streams.specs.ProductData.{ProductData}
 use Rattle.suffix_streams.specs.NodeLists.{NodeLists, known_of}
 use Rattle.suffix_streams.specs.Rankings.{part_list, group_list}

@@ -9,7 +9,7 @@ use Rattle.tdp_core.specs.WellFormed.{IsFormed, IsTieFreeTree}
 use Rattle.tdp_model.specs.KeyTuple.{KeyOf, key_add, key_none}
 use Rattle.tdp_model.specs.Product.{Pair}
 use Rattle.stream_store.specs.declared.entry.Linked.{Linked}
-use Rattle.suffix_streams.specs.declared.cell.Cell.{Cell}
+use Rattle.stream_cells.specs.declared.cell.Cell.{Cell}
 use Rattle.suffix_streams.specs.declared.stream.Found.{Found}
 use Rattle.suffix_streams.specs.NodeLists.{NodeLists}
 use Rattle.suffix_streams.specs.Rankings.{child, part_list, group_list}

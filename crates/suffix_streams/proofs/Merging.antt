@@ -19,8 +19,8 @@ use Rattle.stream_model.specs.Held.{IsHeld, InRuns}
 use Rattle.stream_model.specs.Links.{IsLinked}
 use Rattle.stream_model.proofs.Held.{MaybeHolds, held_moved}
 use Rattle.stream_model.proofs.Steps.{IsNext}
-use Rattle.suffix_streams.specs.declared.cell.Cell.{Cell}
-use Rattle.suffix_streams.specs.declared.stream.Source.{Source}
+use Rattle.stream_cells.specs.declared.cell.Cell.{Cell}
+use Rattle.stream_cells.specs.declared.source.Source.{Source}
 use Rattle.suffix_streams.specs.declared.stream.Found.{Found}
 use Rattle.suffix_streams.specs.ProductData.{ProductData}
 use Rattle.suffix_streams.specs.StreamData.{StreamData}

@@ -8,7 +8,7 @@ use Rattle.tdp_core.proofs.TreeFacts.{member_is_row}
 use Rattle.tdp_model.specs.Below.{is_below}
 use Rattle.tdp_model.specs.KeyTuple.{KeyOf}
 use Rattle.suffix_streams.specs.declared.stream.Found.{Found}
-use Rattle.suffix_streams.specs.declared.stream.Source.{Source}
+use Rattle.stream_cells.specs.declared.source.Source.{Source}
 use Rattle.suffix_streams.specs.StreamData.{StreamData}
 use Rattle.suffix_streams.specs.NodeLists.{NodeLists, stream_at}
 use Rattle.suffix_streams.specs.StreamsData.{lists_of, products_of, stream_of, part_known, row_known, node_of, group_of, node_size, IsStreams}

@@ -8,9 +8,9 @@ use Rattle.take2_heap.specs.Order.{IsLeast}
 use Rattle.tdp_core.specs.TreeData.{NodeData, rows, group_named}
 use Rattle.tdp_model.specs.KeyTuple.{KeyOf}
 use Rattle.stream_model.specs.Offers.{offers}
-use Rattle.suffix_streams.specs.declared.cell.Cell.{Cell}
+use Rattle.stream_cells.specs.declared.cell.Cell.{Cell}
 use Rattle.suffix_streams.specs.declared.stream.Found.{Found}
-use Rattle.suffix_streams.specs.Cells.{cell_down}
+use Rattle.stream_cells.specs.Cells.{cell_down}
 use Rattle.suffix_streams.specs.ProductData.{ProductData}
 use Rattle.suffix_streams.specs.NodeLists.{NodeLists, product_at, known_of, with_product}
 use Rattle.suffix_streams.specs.Rankings.{child, part_list, group_list}

@@ -13,8 +13,8 @@ use Rattle.tdp_model.specs.Product.{run_key}
 use Rattle.stream_model.specs.Offers.{offers}
 use Rattle.stream_model.specs.Held.{IsHeld, InRuns}
 use Rattle.stream_model.specs.Links.{IsLinked}
-use Rattle.suffix_streams.specs.declared.cell.Cell.{Cell}
-use Rattle.suffix_streams.specs.declared.stream.Source.{Source}
+use Rattle.stream_cells.specs.declared.cell.Cell.{Cell}
+use Rattle.stream_cells.specs.declared.source.Source.{Source}
 use Rattle.suffix_streams.specs.declared.stream.Found.{Found}
 use Rattle.suffix_streams.specs.NodeLists.{NodeLists, stream_at, known_of, with_queue}
 use Rattle.suffix_streams.specs.Rankings.{part_list, group_list}

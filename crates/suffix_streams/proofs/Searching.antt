@@ -16,9 +16,9 @@ use Rattle.stream_model.specs.Ahead.{IsAhead}
 use Rattle.stream_model.specs.Held.{IsHeld, places, InProduct, InRuns}
 use Rattle.stream_model.specs.Links.{IsLinkedAt}
 use Rattle.stream_model.proofs.Linking.{place_once}
-use Rattle.suffix_streams.specs.declared.cell.Cell.{Cell}
+use Rattle.stream_cells.specs.declared.cell.Cell.{Cell}
 use Rattle.suffix_streams.specs.declared.stream.Found.{Found}
-use Rattle.suffix_streams.specs.declared.stream.Source.{Source}
+use Rattle.stream_cells.specs.declared.source.Source.{Source}
 use Rattle.suffix_streams.specs.ProductData.{ProductData}
 use Rattle.suffix_streams.specs.NodeLists.{NodeLists, product_at, with_product}
 use Rattle.suffix_streams.specs.Rankings.{child, part_list, group_list}

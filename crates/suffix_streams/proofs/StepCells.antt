@@ -10,11 +10,11 @@ use Rattle.take2_heap.specs.declared.entry.Entry.{Entry}
 use Rattle.tdp_core.specs.TreeData.{NodeData, rows, group_named}
 use Rattle.tdp_model.specs.KeyTuple.{KeyOf}
 use Rattle.stream_model.specs.Links.{IsLinkedAt}
-use Rattle.suffix_streams.specs.declared.cell.Cell.{Cell}
+use Rattle.stream_cells.specs.declared.cell.Cell.{Cell}
 use Rattle.suffix_streams.specs.declared.stream.Found.{Found}
 use Rattle.suffix_streams.specs.ProductData.{ProductData}
 use Rattle.suffix_streams.specs.NodeLists.{NodeLists, product_at, with_product}
-use Rattle.suffix_streams.specs.Cells.{cell_down}
+use Rattle.stream_cells.specs.Cells.{cell_down}
 use Rattle.suffix_streams.specs.Rankings.{child}
 use Rattle.suffix_streams.specs.StreamsData.{node_list, group_list_of, node_of, group_of, lists_of, products_of, product_of, stream_of, part_known, IsStreamOf, IsStreams, IsCell}
 use Rattle.suffix_streams.specs.Growing.{IsAnswered}

@@ -17,11 +17,11 @@ use Rattle.stream_model.specs.Links.{IsLinkedAt}
 use Rattle.stream_model.proofs.Held.{MaybeHolds, held_moved}
 use Rattle.stream_model.proofs.Linking.{place_once}
 use Rattle.stream_model.proofs.Steps.{IsDown, IsAcross}
-use Rattle.suffix_streams.specs.declared.cell.Cell.{Cell}
+use Rattle.stream_cells.specs.declared.cell.Cell.{Cell}
 use Rattle.suffix_streams.specs.declared.stream.Found.{Found}
 use Rattle.suffix_streams.specs.ProductData.{ProductData}
 use Rattle.suffix_streams.specs.NodeLists.{NodeLists, with_product}
-use Rattle.suffix_streams.specs.Cells.{cell_down}
+use Rattle.stream_cells.specs.Cells.{cell_down}
 use Rattle.suffix_streams.specs.Rankings.{child, part_list, group_list}
 use Rattle.suffix_streams.specs.Frontiers.{IsFrontier}
 use Rattle.suffix_streams.specs.StreamsData.{node_list, group_list_of, node_of, group_of, place_of, next_of, lists_of, products_of, product_of, stream_of, part_known, pair_of, IsProductOf, IsStreamOf, IsStreams, IsCell, IsOffer}

@@ -5,7 +5,6 @@ pub mod Rankings
 pub mod Frontiers
 pub mod StreamsData
 pub mod Growing
-pub mod Cells
 pub mod StreamsView
 pub mod Beginnings
 pub mod Refusals

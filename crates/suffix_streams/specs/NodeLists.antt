@@ -1,7 +1,7 @@
 -- What is kept of a node, to its callers.
 use Rattle.std.specs.Prelude.{ℕ, zero, suc, List, [], length, slice_set, slice_index_or}
 use Rattle.take2_heap.specs.declared.entry.Entry.{Entry}
-use Rattle.suffix_streams.specs.declared.stream.Source.{Source}
+use Rattle.stream_cells.specs.declared.source.Source.{Source}
 use Rattle.suffix_streams.specs.ProductData.{ProductData}
 use Rattle.suffix_streams.specs.StreamData.{StreamData}
 

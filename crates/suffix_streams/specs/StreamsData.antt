@@ -10,8 +10,8 @@ use Rattle.rank_key.specs.Keys.{KeyFits}
 use Rattle.tdp_model.specs.KeyTuple.{KeyOf, key_add, key_none}
 use Rattle.tdp_model.specs.Product.{Pair, pair_key}
 use Rattle.stream_model.specs.Links.{place_in, IsLinked}
-use Rattle.suffix_streams.specs.declared.cell.Cell.{Cell}
-use Rattle.suffix_streams.specs.declared.stream.Source.{Source}
+use Rattle.stream_cells.specs.declared.cell.Cell.{Cell}
+use Rattle.stream_cells.specs.declared.source.Source.{Source}
 use Rattle.suffix_streams.specs.declared.stream.Found.{Found}
 use Rattle.suffix_streams.specs.ProductData.{ProductData}
 use Rattle.suffix_streams.specs.StreamData.{StreamData}

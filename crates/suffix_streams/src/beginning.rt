@@ -12,11 +12,12 @@ ghost use Rattle.suffix_streams.specs.Beginnings.{AreChildren, IsEmptyNode, HasH
 use crate::node::NodeStreams;
 use crate::product::Product;
 use crate::reads::first_answer;
-use crate::stream::{Found, Source, Stream};
+use crate::stream::{Found, Stream};
 use rank_key::Rank;
 use std::alloc::Allocator;
 use std::sync::ledger::Ledger;
 use step_counter::{NoMemory, Steps};
+use stream_cells::Source;
 use stream_store::Store;
 use take2_heap::{Entry, HeapOf};
 use tdp_core::Tree;

@@ -8,7 +8,6 @@
 
 mod answers;
 mod beginning;
-mod cell;
 mod node;
 mod product;
 mod reads;

@@ -1,21 +1,22 @@
+//! What is kept for one node of the tree.
 ghost use Rattle.std.specs.Prelude.{◌≡◌, ℕ, ◌+◌, ◌*◌, ◌^◌, ◌<◌, ◌≤◌, ◌↔◌, None, [], ◌∷◌, ◌++◌, length, slice_set, slice_index, slice_index_or, OnOk, IsSome, IfSome, IfNone};
 ghost use Rattle.std.specs.List.Sorted.{IsPermutation};
 ghost use Rattle.rank_key.specs.Bits.{bit_length};
 ghost use Rattle.take2_heap.specs.Order.{IsLeast};
 ghost use Rattle.take2_heap.specs.declared.entry.Entry.{Entry};
 ghost use Rattle.stream_model.specs.Offers.{offers};
-ghost use Rattle.suffix_streams.specs.declared.cell.Cell.{Cell};
-ghost use Rattle.suffix_streams.specs.declared.stream.Source.{Source};
+ghost use Rattle.stream_cells.specs.declared.cell.Cell.{Cell};
+ghost use Rattle.stream_cells.specs.declared.source.Source.{Source};
 ghost use Rattle.suffix_streams.specs.NodeLists.{known_of, product_at, stream_at, with_product, with_queue};
 
-use crate::cell::Cell;
 use crate::product::Product;
-use crate::stream::{Source, Stream};
+use crate::stream::Stream;
 use rank_key::Rank;
 use std::alloc::Allocator;
 use std::marker::Model;
 use std::sync::ledger::Ledger;
 use step_counter::{NoMemory, Steps};
+use stream_cells::{Cell, Source};
 use stream_store::EntryId;
 use take2_heap::Entry;
 

@@ -1,3 +1,4 @@
+//! What is read of entries and products, and changes nothing.
 ghost use Rattle.std.specs.Prelude.{◌≡◌, ℕ, ◌+◌, ◌*◌, ◌<◌, ◌≤◌, length, slice_index_or, IfOk, IfSome};
 ghost use Rattle.tdp_core.specs.TreeData.{child_count, group_named, rows};
 ghost use Rattle.tdp_core.specs.Seen.{rows_of_key};
@@ -9,14 +10,14 @@ ghost use Rattle.suffix_streams.specs.Frontiers.{HasRows};
 ghost use Rattle.suffix_streams.specs.StreamsData.{lists_of, products_of, stream_of, part_known, row_known, pair_of, IsHeaded, HasParts, HaveParts, IsCell, IsOffer, HasRow, AreFreshTo, AreLefts};
 
 use crate::answers::{joined_rows, own_rows};
-use crate::cell::Cell;
 use crate::node::NodeStreams;
 use crate::product::Product;
-use crate::stream::{Found, Source};
+use crate::stream::Found;
 use rank_key::Rank;
 use std::alloc::Allocator;
 use std::sync::ledger::Ledger;
 use step_counter::{NoMemory, Steps};
+use stream_cells::{Cell, Source};
 use stream_store::{EntryId, Store};
 use take2_heap::Entry;
 use tdp_core::{Answer, Tree};

@@ -1,3 +1,4 @@
+//! The next solution of a stream, and the steps at the nodes below it.
 ghost use Rattle.std.specs.Prelude.{◌≡◌, ◌≢◌, ℕ, ◌+◌, ◌*◌, ◌<◌, ◌≤◌, Option, None, cond, nat_eq, length, slice_index, slice_index_or, IfOk, OnOk, OnErr, IsOk, IsSome};
 ghost use Rattle.take2_heap.specs.declared.entry.Entry.{Entry};
 ghost use Rattle.tdp_core.specs.TreeData.{parent, rows, child_count, group_named, members};
@@ -5,20 +6,20 @@ ghost use Rattle.tdp_core.specs.WellFormed.{IsTieFreeTree};
 ghost use Rattle.tdp_model.specs.Below.{is_below};
 ghost use Rattle.rank_key.specs.Bits.{bit_length};
 ghost use Rattle.suffix_streams.specs.Rankings.{child as child_node};
-ghost use Rattle.suffix_streams.specs.declared.cell.Cell.{Cell};
-ghost use Rattle.suffix_streams.specs.declared.stream.Source.{Source};
+ghost use Rattle.stream_cells.specs.declared.cell.Cell.{Cell};
+ghost use Rattle.stream_cells.specs.declared.source.Source.{Source};
 ghost use Rattle.suffix_streams.specs.StreamsData.{IsStreams, node_of, group_of, next_of, node_size, lists_of, stream_of, product_of, products_of, part_known};
 ghost use Rattle.suffix_streams.specs.Refusals.{AreUnstepped};
 ghost use Rattle.suffix_streams.specs.Growing.{IsStoreGrown, IsGrown, IsExtended, IsReached, IsAnswered, HasOtherProduct, AreQueuesGrown, IsWithinSteps, below_kids, kids_size};
 
-use crate::cell::{Cell, across_cell, down_cell};
 use crate::node::NodeStreams;
 use crate::reads::{child_head, made_products, offered, row_answer};
-use crate::stream::{Found, Source};
+use crate::stream::Found;
 use rank_key::Rank;
 use std::alloc::Allocator;
 use std::sync::ledger::Ledger;
 use step_counter::{NoMemory, Steps};
+use stream_cells::{Cell, Source, across_cell, down_cell, source_row};
 use stream_store::{EntryId, Store};
 use tdp_core::Tree;
 
@@ -58,9 +59,7 @@ impl<'t, R: Rank, A: Allocator + Clone> Solutions<'t, R, A> {
             return Ok(None);
         };
         let source = top.tag;
-        let row = self
-            .tree
-            .member(found.node, found.group, source.member, steps);
+        let row = source_row(self.tree, found.node, found.group, &source, steps);
         self.open_row(found.node, row, steps)?;
         let count = self.nodes[found.node as usize].product_count(row);
         let next = following(&source, self.nodes[found.node as usize].known(row, count));

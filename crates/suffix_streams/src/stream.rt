@@ -1,27 +1,21 @@
+//! The ranking of one group, found solution by solution.
 ghost use Rattle.std.specs.Prelude.{◌≡◌, ℕ, ◌+◌, ◌*◌, ◌<◌, ◌≤◌, ◌↔◌, Option, None, ◌∷◌, length, slice_index_or, IsSome, IfSome};
 ghost use Rattle.std.specs.List.Sorted.{IsPermutation};
 ghost use Rattle.rank_key.specs.Bits.{bit_length};
 ghost use Rattle.take2_heap.specs.Order.{IsLeast};
 ghost use Rattle.take2_heap.specs.declared.entry.Entry.{Entry};
 ghost use Rattle.stream_model.specs.Offers.{offers};
-ghost use Rattle.suffix_streams.specs.declared.stream.Source.{Source};
+ghost use Rattle.stream_cells.specs.declared.source.Source.{Source};
 
 use rank_key::Rank;
 use std::alloc::Allocator;
 use std::marker::Model;
 use std::sync::ledger::Ledger;
 use step_counter::Steps;
+use stream_cells::Source;
 use stream_store::EntryId;
 use take2_heap::{Entry, HeapOf};
 use tdp_core::Answer;
-
-/// Where a subtree solution of a group comes from: a member of the group, and a place in the ranking of
-/// that member's solutions, both from 0.
-#[derive(Clone, Copy)]
-pub(crate) struct Source {
-    pub(crate) member: u32,
-    pub(crate) place: usize,
-}
 
 /// A subtree solution of a group, as it stands in the store.
 #[derive(Clone, Copy)]

@@ -1,3 +1,4 @@
+//! The streams of a tree, one for each group of its nodes.
 ghost use Rattle.std.specs.Prelude.{◌≡◌, ◌≢◌, ℕ, ◌+◌, ◌-◌, ◌*◌, ◌^◌, ◌<◌, ◌≤◌, Some, min, length, IfOk, IsOk, IsSome};
 ghost use Rattle.rank_key.specs.Bits.{bit_length};
 ghost use Rattle.tdp_core.specs.TreeData.{group_count, row_count};

@@ -3,7 +3,7 @@ use Rattle.take2_heap.specs.declared.entry.Entry.{Entry}
 use Rattle.tdp_core.specs.TreeData.{rows, members, best}
 use Rattle.tdp_core.proofs.TreeFacts.{member_is_row}
 use Rattle.tdp_model.specs.KeyTuple.{KeyOf}
-use Rattle.suffix_streams.specs.declared.stream.Source.{Source}
+use Rattle.stream_cells.specs.declared.source.Source.{Source}
 use Rattle.suffix_streams.specs.StreamsData.{run_of}
 use Rattle.suffix_streams.specs.Beginnings.{AreHeads}
 use Rattle.suffix_streams.proofs.BeginHeads.{heads_more}

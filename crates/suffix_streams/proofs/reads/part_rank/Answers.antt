@@ -1,6 +1,6 @@
 use Rattle.std.proofs.Common.{◌≡◌, suc, ◌-◌, get_or, sym, ap, ◌∙◌, arith}
 use Rattle.take2_heap.specs.declared.entry.Entry.{Entry}
-use Rattle.suffix_streams.specs.declared.cell.Cell.{Cell}
+use Rattle.stream_cells.specs.declared.cell.Cell.{Cell}
 use Rattle.suffix_streams.specs.NodeLists.{product_at}
 use Rattle.suffix_streams.proofs.Firsts.{own_at, known_key}
 use Rattle.suffix_streams.proofs.Heads.{lists_at}

@@ -4,7 +4,7 @@ use Rattle.std.specs.List.{All}
 use Rattle.rank_key.specs.Bits.{bit_length}
 use Rattle.take2_heap.specs.declared.entry.Entry.{Entry}
 use Rattle.take2_heap.specs.Order.{IsLeast}
-use Rattle.suffix_streams.specs.declared.cell.Cell.{Cell}
+use Rattle.stream_cells.specs.declared.cell.Cell.{Cell}
 use Rattle.suffix_streams.specs.NodeLists.{NodeLists, product_at, known_of, with_product}
 use Rattle.suffix_streams.specs.StreamsData.{HasParts, IsCell, IsStreams, pair_of, node_of, group_of, lists_of, product_of, part_known}
 use Rattle.tdp_core.specs.TreeData.{group_named}

@@ -1,18 +1,20 @@
+//! The cells of a product of two rankings, and which of them follow one.
+
 ghost use Rattle.std.specs.Prelude.{◌≡◌, ℕ, ◌+◌, ◌<◌, ◌≤◌, MatchOption};
-ghost use Rattle.suffix_streams.specs.Cells.{cell_down};
+ghost use Rattle.stream_cells.specs.Cells.{cell_down};
 
 use stream_store::EntryId;
 
 /// A solution of a row with its earlier children, by its place from 0, and a subtree solution of the group
 /// of the next child.
 #[derive(Clone, Copy)]
-pub(crate) struct Cell {
-    pub(crate) left: usize,
-    pub(crate) right: EntryId,
+pub struct Cell {
+    pub left: usize,
+    pub right: EntryId,
 }
 
 /// The cell below: the same left part, with the entry that follows the right part.
-pub(crate) fn down_cell(cell: &Cell, below: Option<EntryId>) -> Option<Cell>
+pub fn down_cell(cell: &Cell, below: Option<EntryId>) -> Option<Cell>
     ensures { result ≡ cell_down cell.now below }
 {
     let right = below?;
@@ -23,7 +25,7 @@ pub(crate) fn down_cell(cell: &Cell, below: Option<EntryId>) -> Option<Cell>
 }
 
 /// The cell beside one whose right part is the head: the next left part, where it is among the `known` ones.
-pub(crate) fn across_cell(cell: &Cell, head: EntryId, known: usize) -> Option<Cell>
+pub fn across_cell(cell: &Cell, head: EntryId, known: usize) -> Option<Cell>
     requires { cell.now.left < known }
     ensures { MatchOption result (cell.now.right ≡ head → known ≤ cell.now.left + 1) (λ c. (cell.now.right ≡ head) × (cell.now.left + 1 < known) × (c ≡ record { left = cell.now.left + 1; right = head })) }
 {

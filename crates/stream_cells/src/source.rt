@@ -1,0 +1,34 @@
+//! Where a solution of a group comes from.
+
+ghost use Rattle.std.specs.Prelude.{◌≡◌, ◌+◌, ◌<◌, length, slice_index};
+ghost use Rattle.tdp_core.specs.TreeData.{group_count, members};
+
+use rank_key::Rank;
+use std::sync::ledger::Ledger;
+use step_counter::Steps;
+use tdp_core::Tree;
+
+/// Where a subtree solution of a group comes from: a member of the group, and a place in the ranking of
+/// that member's solutions, both from 0.
+#[derive(Clone, Copy)]
+pub struct Source {
+    pub member: u32,
+    pub place: usize,
+}
+
+/// The row that a source is a solution of. It takes one step.
+pub fn source_row<R: Rank, L: Ledger>(
+    tree: &Tree<R>,
+    node: u32,
+    group: u32,
+    source: &Source,
+    steps: &mut Steps<L>,
+) -> u32
+    requires node { node < length tree.now }
+    requires group { group < group_count tree.now node }
+    requires place { source.now.member < length (members tree.now node group) }
+    ensures member { result ≡ slice_index (members tree.now node group) source.now.member }
+    ensures counted { steps.new ≡ steps.old + 1 }
+{
+    tree.member(node, group, source.member, steps)
+}
