@@ -1,14 +1,15 @@
 -- Counting how often a key names each column.
-use Rattle.std.proofs.Common.{◌≡◌, ◌⊎◌, ◌+◌, ◌*◌, ◌<◌, ◌≤◌, ℕ, zero, suc, Bool, true, false, if◌then◌else◌, ℤ, pos, ◌+ℤ◌, ◌-ℤ◌, ◌*ℤ◌, neg_ℤ, List, [], ◌∷◌, ◌++◌, map, length, get_or, set, Option, Some, None, refl, sym, ap, ◌∙◌, inl, inr, arith}
+use Rattle.std.proofs.Common.{◌≡◌, ◌⊎◌, ◌+◌, ◌*◌, ◌<◌, ◌≤◌, ℕ, zero, suc, Bool, true, false, if◌then◌else◌, ℤ, pos, ◌+ℤ◌, ◌-ℤ◌, ◌*ℤ◌, neg_ℤ, List, [], ◌∷◌, ◌++◌, map, length, get_or, set, Option, Some, None, refl, sym, ap, subst, ◌∙◌, inl, inr, arith}
 use lib.IntN.{suc_ℤ-*ℤ, pred_ℤ-*ℤ, zero-*ℤ, +ℤ_one, -ℤ_one}
 use Rattle.std.proofs.lemmas.Int.{ints}
 use Rattle.std.proofs.lemmas.List.{map-append}
+use Rattle.std.proofs.Math.Seq.{map-set_same}
 use Rattle.anyk_model.specs.Query.{Column, Term, total}
 use Rattle.rankings.specs.Order.{IsMember}
 use Rattle.query_bind.specs.Names.{first_of, or_else}
 use Rattle.query_bind.specs.Parts.{sum_of_all}
 use Rattle.query_bind.specs.Stored.{column_shown}
-use Rattle.query_bind.specs.Tallies.{AreTallies, tally_size, tally_worth, term_worth, with_one}
+use Rattle.query_bind.specs.Tallies.{AreTallies, StandOnce, columns_of, tally_size, tally_worth, term_worth, with_one}
 use Rattle.query_bind.specs.declared.fault.BindFault.{BindFault}
 use Rattle.query_bind.specs.declared.tallies.Tally.{Tally}
 use Rattle.query_bind.proofs.Collect.{first_of-append, or_else-assoc}
@@ -200,3 +201,25 @@ module _ (terms : List Term) (ys : List Tally) (t : Term) (so_far : AreTallies t
 pub ones-length : {A : Type 0} (xs : List A) → sum_of_all (map (λ (x : A). 1) xs) ≡ length xs
 ones-length [] = refl
 ones-length (x ∷ xs) = let h = ones-length xs in omega (arith, h)
+
+-- ---- columns of which each stands once
+
+pub stand-push : (cs : List (ℕ × ℕ)) (c : ℕ × ℕ) → StandOnce cs → (IsMember c cs → ⊥) → StandOnce (cs ++ c ∷ [])
+stand-push [] c once absent = (λ m. m, tt)
+stand-push (d ∷ cs) c once absent = (
+  λ m. elim (member-parts d c cs m) [ inl there ↦ once.0 there | inr e ↦ absent (inl (sym e)) ],
+  stand-push cs c once.1 (λ m. absent (inr m)),
+)
+
+-- a tally of a column that is counted anew
+pub once-again : (ys : List Tally) (j : ℕ) (d : Tally) (minus : Bool) → StandOnce (columns_of ys)
+    → StandOnce (columns_of (set ys j (with_one minus (get_or ys j d))))
+once-again ys j d minus =
+    subst StandOnce (sym (map-set_same (λ (y : Tally). y.column) ys j (with_one minus (get_or ys j d)) d (one-column minus (get_or ys j d))))
+
+-- a tally of a column that has none
+pub once-first : (ys : List Tally) (fresh : Tally) (minus : Bool) → (IsMember fresh.column (columns_of ys) → ⊥) → StandOnce (columns_of ys)
+    → StandOnce (columns_of (ys ++ with_one minus fresh ∷ []))
+once-first ys fresh minus absent once =
+    subst StandOnce (sym (map-append (λ (y : Tally). y.column) ys (with_one minus fresh ∷ []) ∙ ap (λ (c : ℕ × ℕ). columns_of ys ++ c ∷ []) (one-column minus fresh)))
+    (stand-push (columns_of ys) fresh.column once absent)

@@ -1,5 +1,5 @@
 -- The columns of an order key, each with how often it is added and subtracted.
-use Rattle.std.specs.Prelude.{◌≡◌, ℕ, ◌+◌, ◌*◌, ◌==◌, Bool, if◌then◌else◌, List, map, filter, Option, ℤ, pos, ◌-ℤ◌, ◌*ℤ◌, neg_ℤ}
+use Rattle.std.specs.Prelude.{◌≡◌, ℕ, ◌+◌, ◌*◌, ◌==◌, Bool, if◌then◌else◌, List, [], ◌∷◌, map, filter, Option, ℤ, pos, ◌-ℤ◌, ◌*ℤ◌, neg_ℤ, ⊤}
 use Rattle.anyk_model.specs.Table.{Table}
 use Rattle.anyk_model.specs.Query.{Item, Column, Term, total}
 use Rattle.rankings.specs.Order.{IsMember}
@@ -38,6 +38,15 @@ pub record AreTallies (terms : List Term) (tallies : List Tally) : Type 0 where
   pub fault : (fault_at : Column → Option BindFault)
       → first_of (λ (t : Term). fault_at t.column) terms ≡ first_of (λ (y : Tally). fault_at (column_shown y.column)) tallies
   pub named : (y : Tally) → IsMember y tallies → (t : Term) × IsMember t terms × (t.column ≡ column_shown y.column)
+
+-- the columns of tallies
+abbrev pub columns_of : List Tally → List (ℕ × ℕ)
+columns_of tallies = map (λ (y : Tally). y.column) tallies
+
+-- columns of which each stands once
+abbrev pub StandOnce : List (ℕ × ℕ) → Type 0
+StandOnce [] = ⊤
+StandOnce (c ∷ cs) = (IsMember c cs → ⊥) × StandOnce cs
 
 -- ---- the tallies of an item
 

@@ -1,6 +1,6 @@
 //! What names stand for, once they are bound.
 
-use query_parse::name::{Bytes, Name};
+use query_grammar::name::{Bytes, Name};
 
 /// An item of the from list.
 #[derive(Drop)]

@@ -1,10 +1,11 @@
 //! The columns of an order key, each once, with how often the key adds and subtracts it. A key may name a column any number
 //! of times, and what is done for each row then depends on the distinct columns alone.
-ghost use Rattle.std.specs.Prelude.{◌≡◌, ◌<◌, ◌+◌, ◌^◌, ◌++◌, ◌∷◌, [], List, map, length, get_or, IfOk, OnOk, IfSome};
+ghost use Rattle.std.specs.Prelude.{◌≡◌, ◌<◌, ◌+◌, ◌^◌, ◌++◌, ◌∷◌, [], List, map, length, get_or, IfOk, OnOk, IfSome, IfNone};
 ghost use Rattle.anyk_model.specs.Query.{Term};
 ghost use Rattle.query_bind.specs.Parts.{sum_of_all};
 ghost use Rattle.query_bind.specs.Stored.{term_shown};
-ghost use Rattle.query_bind.specs.Tallies.{AreTallies, tally_size, with_one};
+ghost use Rattle.query_bind.specs.Tallies.{AreTallies, StandOnce, columns_of, tally_size, with_one};
+ghost use Rattle.rankings.specs.Order.{IsMember};
 
 use crate::bound::BoundTerm;
 use std::alloc::{AllocError, Global};
@@ -38,10 +39,11 @@ fn counted(tally: Tally, minus: bool) -> Tally
     }
 }
 
-/// The place of a column among tallies.
+/// The place of a column among tallies, if it has one.
 fn place_of(tallies: &[Tally], column: (u32, u32)) -> Option<usize>
     ensures within { IfSome result (λ place. place < length tallies.now) }
     ensures there { IfSome result (λ place. (d : Tally) → (get_or tallies.now place d).column ≡ column) }
+    ensures absent { IfNone result (IsMember column (columns_of tallies.now) → ⊥) }
 {
     for i in 0..tallies.len() {
         if tallies[i].column == column {
@@ -54,8 +56,9 @@ fn place_of(tallies: &[Tally], column: (u32, u32)) -> Option<usize>
 /// Counts one term more.
 fn count(tallies: &mut Vec<Tally>, term: &BoundTerm) -> Result<(), AllocError>
     requires { sum_of_all (map (tally_size (λ c. 1)) tallies.old.items) + 1 < 2 ^ 64 }
-    ensures { OnOk result ((terms : List Term) → AreTallies terms tallies.old.items
+    ensures same { OnOk result ((terms : List Term) → AreTallies terms tallies.old.items
         → AreTallies (terms ++ term_shown term.now ∷ []) tallies.new.items) }
+    ensures once { OnOk result (StandOnce (columns_of tallies.old.items) → StandOnce (columns_of tallies.new.items)) }
 {
     let column = term.column;
     match place_of(tallies.as_slice(), column) {
@@ -77,7 +80,8 @@ fn count(tallies: &mut Vec<Tally>, term: &BoundTerm) -> Result<(), AllocError>
 
 /// The columns that terms name, each once, in the order in which they are first named.
 pub(crate) fn tallies_of(alloc: Global, terms: &[BoundTerm]) -> Result<Vec<Tally>, AllocError>
-    ensures { IfOk result (λ v. AreTallies (map term_shown terms.now) v.items) }
+    ensures same { IfOk result (λ v. AreTallies (map term_shown terms.now) v.items) }
+    ensures once { IfOk result (λ v. StandOnce (columns_of v.items)) }
 {
     let mut tallies = Vec::new(alloc);
     for term in terms {

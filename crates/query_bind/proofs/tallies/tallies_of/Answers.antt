@@ -2,20 +2,20 @@ use Rattle.std.proofs.Common.{◌∙◌, ◌∷◌, [], ap, sym, subst, map, tak
 use Rattle.std.proofs.lemmas.List.{length-map, length-take, map-append, take_all, take_more}
 use Rattle.anyk_model.specs.Query.{Column, Term}
 use Rattle.query_bind.specs.Stored.{term_shown}
-use Rattle.query_bind.specs.Tallies.{AreTallies}
+use Rattle.query_bind.specs.Tallies.{AreTallies, StandOnce, columns_of}
 use Rattle.query_bind.specs.declared.bound.BoundTerm.{BoundTerm}
 use Rattle.query_bind.specs.declared.tallies.Tally.{Tally}
 use Rattle.query_bind.proofs.Tallying.{ones-length, tallies-none}
 use Rattle.query_bind.proofs.tallies.tallies_of.Goals as goal
 
 pub loop-term-init : goal.loop-term-init
-loop-term-init c = subst (λ (l : List Tally). AreTallies [] l) (sym c.new-tallies.ensures.items) tallies-none
+loop-term-init c = subst (λ (l : List Tally). AreTallies [] l × StandOnce (columns_of l)) (sym c.new-tallies.ensures.items) (tallies-none, tt)
 
 pub count-requires : goal.count-requires
 count-requires c =
     let i = c.loop-term.term-index in
     let terms = map term_shown (take i c.args.terms.now) in
-    let sum = c.loop-term.invariant.size (λ (k : Column). 1) in
+    let sum = c.loop-term.invariant.0.size (λ (k : Column). 1) in
     let ones = ones-length terms in
     let size = length-map (take i c.args.terms.now) term_shown in
     let cut = length-take i c.args.terms.now in
@@ -28,11 +28,16 @@ loop-term-preserved c =
     let terms = c.args.terms.now in
     let d : BoundTerm = record { minus = false; column = (0, 0) } in
     let t = get_or terms i d in
-    let more = take_more terms i d c.loop-term-test.true in
-    subst (λ (l : List Term). AreTallies l c.count.new.tallies.items) (sym (ap (map term_shown) more ∙ map-append term_shown (take i terms) (t ∷ [])))
-    (c.in_ok-count.ensures (map term_shown (take i terms)) c.loop-term.invariant)
+    let more = take_more terms i d c.loop-term-test.true in (
+      subst (λ (l : List Term). AreTallies l c.count.new.tallies.items) (sym (ap (map term_shown) more ∙ map-append term_shown (take i terms) (t ∷ [])))
+          (c.in_ok-count.ensures.same (map term_shown (take i terms)) c.loop-term.invariant.0),
+      c.in_ok-count.ensures.once c.loop-term.invariant.1,
+    )
 
-pub returns : goal.returns
-returns c =
+pub returns-clause-same : goal.returns-clause-same
+returns-clause-same c =
     subst (λ (l : List BoundTerm). AreTallies (map term_shown l) c.loop-term.tallies.items)
-    (take_all c.loop-term.term-index c.args.terms.now c.loop-term-test.false) c.loop-term.invariant
+    (take_all c.loop-term.term-index c.args.terms.now c.loop-term-test.false) c.loop-term.invariant.0
+
+pub returns-clause-once : goal.returns-clause-once
+returns-clause-once c = c.loop-term.invariant.1
