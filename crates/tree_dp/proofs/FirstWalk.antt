@@ -1,6 +1,9 @@
 -- The rows at place 0 of the groups that the rows chosen before name.
 use Rattle.std.proofs.Common.{◌≡◌, ℕ, zero, suc, ◌+◌, ◌-◌, ◌<◌, ◌≤◌, false, cond, nat_eq, nat_lt, List, [], ◌∷◌, ◌++◌, length, get_or, take, refl, sym, ap, subst, ◌∙◌, inl, inr, arith}
 use Rattle.std.proofs.Math.ListN.{set}
+use Rattle.std.specs.List.{concat, range_with_len}
+use Rattle.std.proofs.lemmas.List.Sorted.{length_permutation}
+use Rattle.std.proofs.lemmas.List.FromFn.{length-range_with_len}
 use Rattle.std.proofs.lemmas.Bool.{cases_eq, cases_lt, eq-eqb, ne_eqb, cond-true, cond-false}
 use Rattle.std.proofs.lemmas.Bool.Decides.{nat_tests}
 use Rattle.std.proofs.lemmas.List.{get_or-take, length-take-le, take_more_set, ext_get_or, get_or-set_same, get_or-set_other}
@@ -9,13 +12,12 @@ use Rattle.tdp_model.specs.TreeProblem.{sum_from, least_of, open_part, bound_of,
 use Rattle.tdp_model.proofs.KeyTuples.{tuple_keys, slot_of_add, slot_of_none}
 use Rattle.tdp_model.proofs.Sums.{get_front, get_end, length_end, none_add, sum_same, sum_last}
 use Rattle.tdp_model.proofs.Ties.{slot_zero}
-use Rattle.tdp_model.proofs.TreeStaged.{tree_staged, bound_whole}
+use Rattle.tdp_model.proofs.TreeStaged.{tree_staged, other_of, bound_parts, bound_whole}
 use Rattle.tdp_core.specs.Seen.{rows_of_key}
-use Rattle.tdp_core.specs.TreeData.{NodeData, parent, item, rows, number, group_count, members, group, rank, best}
+use Rattle.tdp_core.specs.TreeData.{NodeData, node_at, parent, item, rows, number, group_count, group, rank, best}
 use Rattle.tdp_core.specs.WellFormed.{IsFormed, IsTieFreeTree}
 use Rattle.tdp_core.proofs.SeenFacts.{rows_of_key-length, rows_of_key-at}
 use Rattle.tdp_core.proofs.TreeFacts.{tree_of, tie_free_of, ranked_of}
-use Rattle.tree_dp.proofs.RankingHead.{top}
 
 module _ {R : Type 0} (d : ℕ) (key : R → KeyOf d 16) (t : List (NodeData R)) where
   -- the least key of a solution that begins with these rows
@@ -53,16 +55,29 @@ module _ {R : Type 0} (d : ℕ) (key : R → KeyOf d 16) (t : List (NodeData R))
       none_below x = grind (arith, nat_tests)
 
   module _ (formed : IsFormed d key t) where
-    -- with no row chosen, the least key is the top
-    pub walk_begins : least_with [] ≡ top d key t formed
-    unfolding sum_from open_part
-    walk_begins =
-        let all : length t - 0 ≡ suc (length t - 1) = omega (arith, formed.shaped.some_node) in
-        let open_at = open_part (key_add d 16) (key_none d 16) (length t) (parent t) (rank t d key) (group t) (best t d key) 0 [] in
-        none_add (key_below d 16) (key_add d 16) (key_none d 16) (tuple_keys d 16) (sum_from (key_add d 16) (key_none d 16) open_at (length t - 0) 0)
-        ∙ ap (λ n. sum_from (key_add d 16) (key_none d 16) open_at n 0) all
-        ∙ ap (key_add d 16 (top d key t formed)) (none_open (length t - 1) 1 (omega arith))
-        ∙ (tuple_keys d 16).add_none (top d key t formed)
+    -- a row of the root makes the tree live
+    pub root_lives : (r : ℕ) → r < rows t 0 → 0 < group_count t 0
+    root_lives r some = elim (cases_lt 0 (group_count t 0)) [
+      | inl live ↦ live
+      | inr dead ↦
+          let same = length_permutation (range_with_len 0 (rows t 0)) (concat (node_at t 0).groups) (formed.grouped 0 (omega (arith, formed.shaped.some_node))) in
+          absurd (omega (arith, some, same, length-range_with_len 0 (rows t 0), none_in (node_at t 0).groups dead))
+    ]
+      where
+        none_in : (gs : List (List ℕ)) → length gs ≤ 0 → length (concat gs) ≡ 0
+        none_in [] none = refl
+        none_in (g ∷ gs) none = absurd (omega arith)
+
+    -- with a row of the root chosen, the least key is that row's best
+    pub walk_begins : (chosen : List ℕ) (row : ℕ) → 0 < length chosen → row < rows t 0 → least_with (take 1 (set chosen 0 row)) ≡ best t d key 0 row
+    unfolding other_of sum_from
+    walk_begins chosen row room some =
+        let live = root_lives row some in
+        ap least_with (take_more_set chosen 0 row room)
+        ∙ bound_parts (key_below d 16) (key_add d 16) (key_none d 16) (tuple_keys d 16) (length t) (parent t) (rank t d key) (group t) (best t d key) (λ v r. r < rows t v) (tree_of d key t formed live)
+        (length t - 1) [] row (omega (arith, formed.shaped.some_node)) some
+        ∙ ap (λ z. key_add d 16 z (best t d key 0 row)) (none_add (key_below d 16) (key_add d 16) (key_none d 16) (tuple_keys d 16) _ ∙ none_open (length t - 1) 1 (omega arith))
+        ∙ none_add (key_below d 16) (key_add d 16) (key_none d 16) (tuple_keys d 16) (best t d key 0 row)
 
     module _ (live : 0 < group_count t 0) (chosen : List ℕ) (q row : ℕ) (inside : q < length t) (room : q < length chosen) where
       taken : length (take q chosen) ≡ q
@@ -92,14 +107,6 @@ module _ {R : Type 0} (d : ℕ) (key : R → KeyOf d 16) (t : List (NodeData R))
           in
           let staged = tree_staged (key_below d 16) (key_add d 16) (key_none d 16) (tuple_keys d 16) (length t) (parent t) (rank t d key) (group t) (best t d key) (λ v r. r < rows t v) (tree_of d key t formed live) in
           ap least_with after ∙ ap (λ x. least_with (pre ++ x ∷ [])) (is ∙ ap (λ xs. get_or xs 0 0) (sym follows)) ∙ staged.first (length t - suc q) pre reach
-
-      pub root_kept : (0 < q → get_or chosen 0 0 ≡ get_or (members t 0 0) 0 0) → row ≡ get_or (group t q (get_or chosen (parent t q) 0)) 0 0 → get_or (set chosen q row) 0 0 ≡ get_or (members t 0 0) 0 0
-      root_kept so_far is = elim (cases_lt 0 q) [
-        | inl some ↦ get_or-set_other chosen q 0 row 0 (λ e. omega arith) ∙ so_far some
-        | inr none ↦
-            let zero_is : 0 ≡ q = omega arith in
-            ap (λ p. get_or (set chosen q row) p 0) zero_is ∙ get_or-set_same chosen q row 0 room ∙ is ∙ sym (subst (λ p. get_or (members t 0 0) 0 0 ≡ get_or (group t p (get_or chosen (parent t p) 0)) 0 0) zero_is refl)
-      ]
 
       pub reached_kept : ((p : ℕ) → p < q → get_or chosen p 0 < rows t p) → row < rows t q → (p : ℕ) → p < q + 1 → get_or (set chosen q row) p 0 < rows t p
       reached_kept so_far here p l = elim (cases_eq p q) [
@@ -131,12 +138,12 @@ module _ {R : Type 0} (d : ℕ) (key : R → KeyOf d 16) (t : List (NodeData R))
             omega (arith, slot-row i l, own, get_or-set_other numbers (item t q) i (number t q row) 0 other, so_far i l)
       ]
 
-    module _ (live : 0 < group_count t 0) (chosen : List ℕ) (room : length t ≤ length chosen) (least : least_with (take (length t) chosen) ≡ top d key t formed) where
-      -- a whole walk is a solution with the top key
-      pub walk_ends : (numbers : List ℕ) → length numbers ≡ 16 → ((i : ℕ) → i < 16 → get_or numbers i 0 ≡ slot_of d 16 i (key_of_rows (take (length t) chosen))) → numbers ≡ rows_of_key d 16 (top d key t formed)
+    module _ (live : 0 < group_count t 0) (chosen : List ℕ) (room : length t ≤ length chosen) (k : KeyOf d 16) (least : least_with (take (length t) chosen) ≡ k) where
+      -- a whole walk is a solution with that key
+      pub walk_ends : (numbers : List ℕ) → length numbers ≡ 16 → ((i : ℕ) → i < 16 → get_or numbers i 0 ≡ slot_of d 16 i (key_of_rows (take (length t) chosen))) → numbers ≡ rows_of_key d 16 k
       walk_ends numbers long slots =
-          let whole : key_of_rows (take (length t) chosen) ≡ top d key t formed =
+          let whole : key_of_rows (take (length t) chosen) ≡ k =
           sym (bound_whole (key_below d 16) (key_add d 16) (key_none d 16) (tuple_keys d 16) (length t) (parent t) (rank t d key) (group t) (best t d key) (λ v r. r < rows t v) (tree_of d key t formed live) (take (length t) chosen) (length-take-le (length t) chosen room)) ∙ least
           in
-          ext_get_or 0 numbers (rows_of_key d 16 (top d key t formed)) (long ∙ sym (rows_of_key-length d 16 (top d key t formed)))
-          (λ i l. slots i (omega arith) ∙ ap (slot_of d 16 i) whole ∙ sym (rows_of_key-at d 16 i (top d key t formed)))
+          ext_get_or 0 numbers (rows_of_key d 16 k) (long ∙ sym (rows_of_key-length d 16 k))
+          (λ i l. slots i (omega arith) ∙ ap (slot_of d 16 i) whole ∙ sym (rows_of_key-at d 16 i k))

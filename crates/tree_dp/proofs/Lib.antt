@@ -9,4 +9,5 @@ pub mod NodeReads
 pub mod NodeSolved
 pub mod RankingHead
 pub mod Reordered
+pub mod RootRows
 pub mod RowTotals

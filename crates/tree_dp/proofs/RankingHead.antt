@@ -31,23 +31,23 @@ none_chosen members n (x ∷ rest) empty h =
     omega (arith, place, ap length empty)
 
 module _ {R : Type 0} (d : ℕ) (key : R → KeyOf d 16) (t : List (NodeData R)) (formed : IsFormed d key t) where
-  abbrev HasSolution : KeyOf d 16 → Type 0
+  abbrev pub HasSolution : KeyOf d 16 → Type 0
   HasSolution k = SolutionHas (key_add d 16) (key_none d 16) (length t) (parent t) (rank t d key) (group t) k
 
-  abbrev RootHas : KeyOf d 16 → Type 0
+  abbrev pub RootHas : KeyOf d 16 → Type 0
   RootHas k = GroupHas (key_add d 16) (key_none d 16) (length t) (parent t) (rank t d key) (group t) (suc (length t)) 0 0 k
 
   some_node : 0 < length t
   some_node = omega (arith, formed.shaped.some_node)
 
-  root_has : (k : KeyOf d 16) → HasSolution k → RootHas k
+  pub root_has : (k : KeyOf d 16) → HasSolution k → RootHas k
   root_has k h =
       let one : suc (length t - 1) ≡ length t = omega (arith, some_node) in
       let found : 0 < completes (rows_after (parent t) (group t)) (suc (length t - 1)) [] h.0 = subst (λ n. 0 < completes (rows_after (parent t) (group t)) n [] h.0) (sym one) h.1 in
       subst RootHas h.2
       (root_of_solution (key_below d 16) (key_add d 16) (key_none d 16) (tuple_keys d 16) (length t) (parent t) (rank t d key) (group t) formed.shaped.parents_first (length t) (omega arith) (length t - 1) h.0 one found)
 
-  has_solution : (k : KeyOf d 16) → RootHas k → HasSolution k
+  pub has_solution : (k : KeyOf d 16) → RootHas k → HasSolution k
   has_solution k h =
       let one : suc (length t - 1) ≡ length t = omega (arith, some_node) in
       subst (λ n. (s : List ℕ) × (0 < completes (rows_after (parent t) (group t)) n [] s) × (rows_key (key_add d 16) (key_none d 16) (rank t d key) s ≡ k)) one

@@ -4,11 +4,11 @@ use Rattle.tdp_model.specs.KeyTuple.{KeyOf, key_below, key_none}
 use Rattle.tdp_model.specs.Remains.{AtMost}
 
 module _ {R : Type 0} (d : ℕ) (key : R → KeyOf d 16) where
-  -- the key of row r, where `best` has the rank of each row; the key of zeros past the last one
+  -- the key of row r, where `best` has the rank of each row; past the last one the key of zeros
   abbrev pub key_at : List R → ℕ → KeyOf d 16
   key_at best r = slice_index_or (map key best) r (key_none d 16)
 
-  -- no row of the group has a lesser key than the row at its place's parent in a binary heap
+  -- no row of the group has a lesser key than the row at the parent of its place in a binary heap
   abbrev pub IsHeapOver : List R → List ℕ → Type 0
   IsHeapOver best group =
       (i : ℕ) → 0 < i → i < length group

@@ -1,3 +1,4 @@
+//! The least rank of each row's subtree solutions.
 ghost use Rattle.std.specs.Prelude.{◌≡◌, ℕ, ◌+◌, ◌*◌, ◌<◌, ◌≤◌, [], length, map, slice_index_or, IfOk};
 ghost use Rattle.tdp_core.specs.TreeData.{tree_data, node_at, rows, group_named};
 ghost use Rattle.tree_dp.specs.Orders.{key_at};
@@ -10,8 +11,8 @@ use std::sync::ledger::Ledger;
 use step_counter::{NoMemory, Steps};
 use tdp_core::NodeParts;
 
-/// The rank of the least subtree solution of each row of a node, where the later nodes are solved and `leasts` has the least
-/// rank of each of their groups. It takes at most one step for each row and each node.
+/// The rank of the least subtree solution of each row of a node. The later nodes must be solved, and `leasts` has the
+/// least rank of each of their groups. It takes at most one step for each row and each node.
 pub(crate) fn bests_of<R: Rank, L: Ledger>(
     alloc: Global,
     nodes: &[NodeParts<R>],
@@ -35,8 +36,8 @@ pub(crate) fn bests_of<R: Rank, L: Ledger>(
     Ok(bests)
 }
 
-/// The rank of the least subtree solution of a row of a node, where the later nodes are solved and `leasts` has the least rank
-/// of each of their groups. It takes at most one step for each node.
+/// The rank of the least subtree solution of a row of a node. The later nodes must be solved, and `leasts` has the
+/// least rank of each of their groups. It takes at most one step for each node.
 fn row_best<R: Rank, L: Ledger>(
     nodes: &[NodeParts<R>],
     node: usize,

@@ -1,10 +1,10 @@
 //! Least keys of subtree solutions, groups in heap order by them, and the first answer of a tree.
 //!
-//! Nodes are gone through from the last to the root. The least key of a row is its own key with, for each child of its node,
-//! the least key in the group that it names there: dynamic programming over a tree, by which Tziavelis et al., "Optimal
-//! Algorithms for Ranked Enumeration of Answers to Full Conjunctive Queries", PVLDB 2020, prepare ranked enumeration. A
-//! group is made a heap as soon as its rows' least keys are known, from the last parent up and in linear time (Floyd,
-//! "Algorithm 245: Treesort 3", 1964), so that its least row is the one at place 0.
+//! Nodes are visited from the last to the root. The least key of a row is its own key plus, for each child of its node,
+//! the least key in the group that it names there. This is dynamic programming over a tree, by which Tziavelis et al.,
+//! "Optimal Algorithms for Ranked Enumeration of Answers to Full Conjunctive Queries", PVLDB 2020, prepare ranked
+//! enumeration. A group is made a heap as soon as the least keys of its rows are known, from the last parent up and in
+//! linear time (Floyd, "Algorithm 245: Treesort 3", 1964), so that its least row is at place 0.
 #![tactic(auto)]
 
 mod bests;
@@ -13,5 +13,5 @@ mod order;
 mod row_order;
 mod solving;
 
-pub use first_answer::first;
+pub use first_answer::{best_rows, first};
 pub use solving::solve;

@@ -1,3 +1,4 @@
+//! The order of a node's rows.
 ghost use Rattle.std.specs.Prelude.{ℕ, ◌<◌, length};
 ghost use Rattle.tree_dp.specs.Orders.{key_at};
 
@@ -6,7 +7,7 @@ use std::sync::ledger::Ledger;
 use step_counter::Steps;
 use take2_heap::KeyOrder;
 
-/// The order of a node's rows by their ranks in a list, where they are compared.
+/// The order of a node's rows by their ranks, which are compared where they are, in a list.
 #[derive(Drop)]
 pub(crate) struct RowOrder<'a, R> {
     pub(crate) best: &'a [R],

@@ -1,4 +1,4 @@
-use Rattle.std.proofs.Common.{◌+◌, [], ◌∷◌, length, length-append, ap, subst, ◌∙◌, arith}
+use Rattle.std.proofs.Common.{◌+◌, [], ◌∷◌, length, length-append, ap, ◌∙◌, arith}
 use Rattle.tdp_core.specs.TreeData.{tree_data}
 use Rattle.tree_dp.specs.Orders.{key_at}
 use Rattle.tree_dp.specs.Progress.{by_children}

@@ -1,8 +1,8 @@
 use Rattle.std.proofs.Common.{◌≡◌, ℕ, ◌+◌, ◌*◌, ◌<◌, ◌≤◌, length, get_or, take}
 use Rattle.tdp_model.specs.KeyTuple.{slot_of}
-use Rattle.tdp_core.specs.TreeData.{rows, members, best}
+use Rattle.tdp_core.specs.TreeData.{rows, best}
 use Rattle.tree_dp.proofs.FirstWalk.{least_with, key_of_rows}
-use Rattle.tree_dp.proofs.first_answer.first.Given as goal
+use Rattle.tree_dp.proofs.first_answer.best_rows.Given as goal
 
 abbrev pub invariant-loop-node : goal.invariant-loop-node
 invariant-loop-node g l =
@@ -12,9 +12,8 @@ invariant-loop-node g l =
     record {
       chosen_long : length l.chosen ≡ 16;
       rows_long : length l.rows ≡ 16;
-      root : 0 < l.node → get_or l.chosen 0 0 ≡ get_or (members t 0 0) 0 0;
       reached : (q : ℕ) → q < l.node → get_or l.chosen q 0 < rows t q;
-      least : least_with d key t (take l.node l.chosen) ≡ best t d key 0 (get_or (members t 0 0) 0 0);
+      least : least_with d key t (take l.node l.chosen) ≡ best t d key 0 l.fn.row;
       slots : (i : ℕ) → i < 16 → get_or l.rows i 0 ≡ slot_of d 16 i (key_of_rows d key t (take l.node l.chosen));
-      counted : l.steps ≤ l.initial.steps + 3 * l.node;
+      counted : l.steps + 3 ≤ l.initial.steps + 3 * l.node;
     }

@@ -1,0 +1,4 @@
+pub mod Best
+pub mod Filtered
+pub mod Least
+mod Rows

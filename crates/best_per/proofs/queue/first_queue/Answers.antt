@@ -1,0 +1,56 @@
+use Rattle.std.proofs.Common.{rules, ◌≡◌, ◌+◌, ◌≤◌, ◌∙◌, ℕ, List, [], length, ap, sym, subst, arith}
+use Rattle.std.proofs.lemmas.List.{get_or_past}
+use Rattle.std.proofs.lemmas.List.Elements.{All-nil}
+use Rattle.take2_heap.specs.declared.entry.Entry.{Entry}
+use Rattle.rank_key.specs.Bits.{bit_length}
+use Rattle.rank_key.proofs.BitLemmas.{bit_length-is}
+use Rattle.tdp_model.specs.KeyTuple.{KeyOf}
+use Rattle.tdp_core.specs.TreeData.{NodeData, node_at, group_count}
+use Rattle.tdp_core.specs.WellFormed.{IsFormed, IsTieFreeTree}
+use Rattle.tree_dp.specs.BestRanking.{IsBestRanking}
+use Rattle.best_per.specs.RootHeap.{root_len, rest_keys, IsPlace, IsQueue}
+use Rattle.best_per.proofs.Places.{none_past, nothing_held}
+use Rattle.best_per.proofs.Queues.{queue_begins}
+use Rattle.best_per.proofs.queue.first_queue.Goals as goal
+
+-- the queue over a tree without solutions
+none_begins : {R : Type 0} (d : ℕ) (key : R → KeyOf d 16) (t : List (NodeData R)) (es : List (Entry R ℕ)) (spare : ℕ) → IsFormed d key t → IsTieFreeTree t → group_count t 0 ≤ 0 → es ≡ []
+    → IsQueue d key t es spare × IsBestRanking t d key (rest_keys d key t es)
+none_begins {R} d key t es spare formed apart dead is =
+    let none : root_len t ≤ 0 = omega (arith, ap length (get_or_past (node_at t 0).groups 0 [] dead)) in
+    subst (λ (xs : List (Entry R ℕ)). IsQueue d key t xs spare × IsBestRanking t d key (rest_keys d key t xs)) (sym is)
+    (queue_begins d key t [] spare formed apart (All-nil (IsPlace d key t)) (λ i. omega (arith, none_past (root_len t) 0 i none)) (omega (arith, none)) (omega arith))
+
+pub returns-then-not-live-clause-queue : goal.returns-then-not-live-clause-queue
+returns-then-not-live-clause-queue g c =
+    let dead : group_count c.args.tree.now 0 ≤ 0 = search rules in
+    (none_begins g.R.Rank.KEYS g.R.Rank.key c.args.tree.now c.new-queue.result.entries c.new-queue.result.spare c.live.ensures.formed c.requires.tie_free dead c.new-queue.ensures.entries).0
+
+pub returns-then-not-live-clause-best : goal.returns-then-not-live-clause-best
+returns-then-not-live-clause-best g c =
+    let dead : group_count c.args.tree.now 0 ≤ 0 = search rules in
+    (none_begins g.R.Rank.KEYS g.R.Rank.key c.args.tree.now c.new-queue.result.entries c.new-queue.result.spare c.live.ensures.formed c.requires.tie_free dead c.new-queue.ensures.entries).1
+
+pub returns-clause-queue : goal.returns-clause-queue
+returns-clause-queue g c =
+    let t = c.args.tree.now in
+    let empty : c.reserve.new.self.entries ≡ [] = c.reserve.ensures.entries ∙ c.new-queue.ensures.entries in
+    let none : length c.reserve.new.self.entries ≡ 0 = ap (λ (es : List (Entry g.row.R.Denot ℕ)). length es) empty in
+    (queue_begins g.R.Rank.KEYS g.R.Rank.key t c.offer.new.queue.entries c.offer.new.queue.spare c.live.ensures.formed c.requires.tie_free c.offer.ensures.entries
+    (λ i. omega (arith, c.offer.ensures.held i, nothing_held (root_len t) c.reserve.new.self.entries i none))
+    (omega (arith, c.offer.ensures.room, c.in_ok-reserve.ensures.ok, c.group_len.ensures)) (omega (arith, c.offer.ensures.length, none))).0
+
+pub returns-clause-best : goal.returns-clause-best
+returns-clause-best g c =
+    let t = c.args.tree.now in
+    let empty : c.reserve.new.self.entries ≡ [] = c.reserve.ensures.entries ∙ c.new-queue.ensures.entries in
+    let none : length c.reserve.new.self.entries ≡ 0 = ap (λ (es : List (Entry g.row.R.Denot ℕ)). length es) empty in
+    (queue_begins g.R.Rank.KEYS g.R.Rank.key t c.offer.new.queue.entries c.offer.new.queue.spare c.live.ensures.formed c.requires.tie_free c.offer.ensures.entries
+    (λ i. omega (arith, c.offer.ensures.held i, nothing_held (root_len t) c.reserve.new.self.entries i none))
+    (omega (arith, c.offer.ensures.room, c.in_ok-reserve.ensures.ok, c.group_len.ensures)) (omega (arith, c.offer.ensures.length, none))).1
+
+pub returns-clause-cost : goal.returns-clause-cost
+returns-clause-cost g c =
+    let empty : length c.reserve.new.self.entries ≡ 0 = ap (λ (es : List (Entry g.row.R.Denot ℕ)). length es) (c.reserve.ensures.entries ∙ c.new-queue.ensures.entries) in
+    let one : bit_length (length c.reserve.new.self.entries + 1) ≡ 1 = ap (λ n. bit_length (n + 1)) empty ∙ bit_length-is 1 1 (omega arith) (λ _. omega arith) in
+    omega (arith, c.offer.ensures.cost, one, c.live.ensures.formed.shaped.some_node)

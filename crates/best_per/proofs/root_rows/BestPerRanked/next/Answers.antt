@@ -1,0 +1,127 @@
+use Rattle.std.proofs.Common.{rules, ◌≡◌, ◌+◌, ◌<◌, ◌≤◌, ◌∙◌, ℕ, ℤ, List, [], ◌∷◌, length, sym, ap, subst, arith}
+use Rattle.std.proofs.lemmas.List.Sorted.{length_permutation}
+use Rattle.take2_heap.specs.declared.entry.Entry.{Entry}
+use Rattle.rank_key.specs.Bits.{bit_length}
+use Rattle.rank_key.proofs.BitLemmas.{bit_length-rises, bit_length-zero}
+use Rattle.tdp_model.specs.KeyTuple.{KeyOf}
+use Rattle.tdp_model.specs.KeyNumbers.{numbers}
+use Rattle.tdp_core.specs.Seen.{Seen, answers_of, rows_of_key}
+use Rattle.tdp_core.specs.Shares.{share_of, size_of}
+use Rattle.tdp_core.specs.TreeData.{rows, row_count, group_count, best}
+use Rattle.tdp_core.proofs.TreeFacts.{member_is_row}
+use Rattle.best_per.specs.RootHeap.{BestState, rest_keys, place_key}
+use Rattle.best_per.proofs.Counts.{call_within}
+use Rattle.best_per.proofs.Queues.{top_place, others_placed, top_lives, heap_within, tag_small, rows_counted, some_left, queue_next, none_rest}
+use Rattle.best_per.proofs.root_rows.BestPerRanked.next.Goals as goal
+
+pub returns-in_default-clause-end : goal.returns-in_default-clause-end
+returns-in_default-clause-end g c =
+    let d = g.R.Rank.KEYS in
+    let key = g.R.Rank.key in
+    let t = c.self.inside.tree.now in
+    let entries : List (Entry g.row.R.Denot ℕ) = c.self.inside.queue.entries in
+    let empty : length entries ≤ 0 = search rules in
+    let none : answers_of d (rest_keys d key t entries) ≡ [] = ap (answers_of d) (none_rest d key t entries empty) in
+    let same : c.pop.new.self.entries ≡ entries = search rules in (
+      ap (λ (s : BestState g.row.R.Denot). s.rest) (sym c.self.view_is) ∙ none,
+      ap (λ (es : List (Entry g.row.R.Denot ℕ)). answers_of d (rest_keys d key t es)) same ∙ none,
+    )
+
+pub returns-in_default-clause-cost : goal.returns-in_default-clause-cost
+returns-in_default-clause-cost g c =
+    let entries : List (Entry g.row.R.Denot ℕ) = c.self.inside.queue.entries in
+    let empty : length entries ≤ 0 = search rules in
+    let zero_digits : bit_length (length entries) ≡ 0 = ap bit_length (let e : length entries ≡ 0 = omega (arith, empty) in e) ∙ bit_length-zero in
+    omega (arith, c.pop.ensures.cost, zero_digits)
+
+pub overflow_mul-top : goal.overflow_mul-top
+overflow_mul-top g c =
+    let small = tag_small g.R.Rank.KEYS g.R.Rank.key c.self.inside.tree.now c.self.inside.queue.entries c.self.inside.queue.spare c.self.invariant c.in-Some.top c.pop.new.self.entries c.in-Some.ensures.permutation in
+    omega (arith, small)
+
+pub overflow_add-top : goal.overflow_add-top
+overflow_add-top g c =
+    let small = tag_small g.R.Rank.KEYS g.R.Rank.key c.self.inside.tree.now c.self.inside.queue.entries c.self.inside.queue.spare c.self.invariant c.in-Some.top c.pop.new.self.entries c.in-Some.ensures.permutation in
+    omega (arith, small)
+
+pub offer-requires-clause-entries : goal.offer-requires-clause-entries
+offer-requires-clause-entries g c =
+    others_placed g.R.Rank.KEYS g.R.Rank.key c.self.inside.tree.now c.self.inside.queue.entries c.self.inside.queue.spare c.self.invariant c.in-Some.top c.pop.new.self.entries c.in-Some.ensures.permutation
+
+pub overflow_mul-top-2 : goal.overflow_mul-top-2
+overflow_mul-top-2 g c =
+    let small = tag_small g.R.Rank.KEYS g.R.Rank.key c.self.inside.tree.now c.self.inside.queue.entries c.self.inside.queue.spare c.self.invariant c.in-Some.top c.pop.new.self.entries c.in-Some.ensures.permutation in
+    omega (arith, small)
+
+pub overflow_add-top-2 : goal.overflow_add-top-2
+overflow_add-top-2 g c =
+    let small = tag_small g.R.Rank.KEYS g.R.Rank.key c.self.inside.tree.now c.self.inside.queue.entries c.self.inside.queue.spare c.self.invariant c.in-Some.top c.pop.new.self.entries c.in-Some.ensures.permutation in
+    omega (arith, small)
+
+pub offer-requires-2-clause-room : goal.offer-requires-2-clause-room
+offer-requires-2-clause-room g c =
+    let left = some_left g.R.Rank.KEYS g.R.Rank.key c.self.inside.tree.now c.self.inside.queue.entries c.self.inside.queue.spare c.self.invariant c.in-Some.top c.pop.new.self.entries c.in-Some.ensures.permutation in
+    omega (arith, left, c.self.invariant.room, c.in-Some.ensures.spare, c.offer.ensures.room)
+
+pub best_rows-rows-requires-clause-row : goal.best_rows-rows-requires-clause-row
+best_rows-rows-requires-clause-row g c =
+    let d = g.R.Rank.KEYS in
+    let key = g.R.Rank.key in
+    let t = c.self.inside.tree.now in
+    let formed = c.self.invariant.formed in
+    let place = top_place d key t c.self.inside.queue.entries c.self.inside.queue.spare c.self.invariant c.in-Some.top c.pop.new.self.entries c.in-Some.ensures.permutation in
+    subst (λ r. r < rows t 0) (sym c.member-row.ensures.member) (member_is_row d key t formed 0 0 c.in-Some.top.tag (omega (arith, formed.shaped.some_node)) place.within)
+
+pub invariant_of-self-2 : goal.invariant_of-self-2
+invariant_of-self-2 g c =
+    (queue_next g.R.Rank.KEYS g.R.Rank.key c.self.inside.tree.now c.self.inside.queue.entries c.self.inside.queue.spare c.self.invariant c.in-Some.top c.pop.new.self.entries c.in-Some.ensures.permutation
+    c.in-Some.ensures.least c.offer-2.new.queue.entries c.offer-2.new.queue.spare c.offer-2.ensures.entries (λ i. omega (arith, c.offer-2.ensures.held i, c.offer.ensures.held i))
+    (omega (arith, c.offer-2.ensures.room, c.offer.ensures.room, c.in-Some.ensures.spare)) (omega (arith, c.offer-2.ensures.length, c.offer.ensures.length))).1
+
+pub returns-clause-found : goal.returns-clause-found
+returns-clause-found g c =
+    let d = g.R.Rank.KEYS in
+    let key = g.R.Rank.key in
+    let t = c.self.inside.tree.now in
+    let entries : List (Entry g.row.R.Denot ℕ) = c.self.inside.queue.entries in
+    let e : Entry g.row.R.Denot ℕ = c.in-Some.top in
+    let left : List (Entry g.row.R.Denot ℕ) = c.offer-2.new.queue.entries in
+    let k : KeyOf d 16 = place_key d key t e.tag in
+    let place = top_place d key t entries c.self.inside.queue.spare c.self.invariant e c.pop.new.self.entries c.in-Some.ensures.permutation in
+    let next : rest_keys d key t entries ≡ k ∷ rest_keys d key t left =
+    (queue_next d key t entries c.self.inside.queue.spare c.self.invariant e c.pop.new.self.entries c.in-Some.ensures.permutation
+    c.in-Some.ensures.least left c.offer-2.new.queue.spare c.offer-2.ensures.entries (λ i. omega (arith, c.offer-2.ensures.held i, c.offer.ensures.held i))
+    (omega (arith, c.offer-2.ensures.room, c.offer.ensures.room, c.in-Some.ensures.spare)) (omega (arith, c.offer-2.ensures.length, c.offer.ensures.length))).0
+    in
+    let rows_are : c.best_rows-rows.result ≡ rows_of_key d 16 k = c.best_rows-rows.ensures.rows ∙ ap (λ r. rows_of_key d 16 (best t d key 0 r)) c.member-row.ensures.member in
+    let seen : List ℕ → List ℤ → Seen = λ r ns. record { rows = r; key = ns } in
+    ap (λ (s : BestState g.row.R.Denot). s.rest) (sym c.self.view_is)
+    ∙ ap (answers_of d) next
+    ∙ ap (λ r. seen r (numbers d 16 k) ∷ answers_of d (rest_keys d key t left)) (sym rows_are)
+    ∙ ap (λ z. seen c.best_rows-rows.result (numbers d 16 z) ∷ answers_of d (rest_keys d key t left)) (sym place.ranked)
+
+pub returns-clause-cost : goal.returns-clause-cost
+returns-clause-cost g c =
+    let d = g.R.Rank.KEYS in
+    let key = g.R.Rank.key in
+    let t = c.self.inside.tree.now in
+    let entries : List (Entry g.row.R.Denot ℕ) = c.self.inside.queue.entries in
+    let spare = c.self.inside.queue.spare in
+    let q = c.self.invariant in
+    let e : Entry g.row.R.Denot ℕ = c.in-Some.top in
+    let others : List (Entry g.row.R.Denot ℕ) = c.pop.new.self.entries in
+    let popped = c.in-Some.ensures.permutation in
+    let one : length entries ≡ length others + 1 = omega (arith, length_permutation entries (e ∷ others) popped) in
+    let first : bit_length (length others + 1) ≡ bit_length (length entries) = ap bit_length (sym one) in
+    let second : bit_length (length c.offer.new.queue.entries + 1) ≤ bit_length (length entries + 1) =
+    bit_length-rises (length c.offer.new.queue.entries + 1) (length entries + 1) (omega (arith, c.offer.ensures.length, one))
+    in
+    let few : length entries ≤ row_count t =
+    omega (arith, q.few, some_left d key t entries spare q e others popped, heap_within d key t entries spare q e others popped, rows_counted d key t entries spare q e others popped)
+    in
+    let all : c.best_rows-rows.new.steps ≤ c.args.steps.now + share_of (size_of t) 0 =
+    call_within (length t) (row_count t) (group_count t 0) (length entries) c.args.steps.now c.pop.new.steps c.offer.new.steps c.offer-2.new.steps c.member-row.new.steps c.best_rows-rows.new.steps
+    q.formed.shaped.some_node (top_lives d key t entries spare q e others popped) (omega (arith, one)) few c.pop.ensures.cost (omega (arith, c.offer.ensures.cost, first))
+    (omega (arith, c.offer-2.ensures.cost, second)) c.member-row.ensures.counted c.best_rows-rows.ensures.cost
+    in
+    subst (λ (s : BestState g.row.R.Denot). c.best_rows-rows.new.steps ≤ c.args.steps.now + share_of (size_of s.tree) 0) c.self.view_is all
