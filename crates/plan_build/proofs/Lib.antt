@@ -11,3 +11,5 @@ pub mod Witnesses
 pub mod Places
 pub mod PlanRows
 pub mod Lines
+pub mod ShapeIs
+pub mod AnswersAgree

@@ -8,8 +8,10 @@
 
 mod fault;
 mod plan;
+mod ranked_plan;
 mod reporting;
 
 pub use fault::PlanFault;
 pub use plan::{Plan, prepare};
+pub use ranked_plan::{RankedPlan, prepare_ranked};
 pub use reporting::report;

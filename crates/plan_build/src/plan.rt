@@ -9,6 +9,7 @@ ghost use Rattle.query_shape.specs.Shown.{HasItems, HasStoredTree};
 ghost use Rattle.tdp_core.specs.RawData.{IsRawFormed, row_total};
 ghost use Rattle.tdp_core.specs.Solutions.{IsTieFreeRaw};
 ghost use Rattle.node_build.specs.Nodes.{IsBuilt};
+ghost use Rattle.step_bounds.specs.Bounded.{IsPrepared};
 ghost use Rattle.plan_build.specs.Plan.{IsPlan, TellsFlaw};
 
 use crate::fault::PlanFault;
@@ -16,7 +17,7 @@ use csv_tables::Tables;
 use join_tree::JoinTree;
 use node_build::{BuildFault, Built, build};
 use query_bind::Query;
-use query_shape::{MOST_NODE_ROWS, ShapeFault, tree_shape};
+use query_shape::{ShapeFault, tree_shape};
 use rank_key::Rank;
 use semi_join::reduce;
 use std::alloc::Global;
@@ -25,6 +26,9 @@ use std::sync::ledger::Ledger;
 use step_counter::Steps;
 use tdp_core::Tree;
 use tree_dp::solve;
+
+// The most rows that the nodes of a join tree may have, all together.
+const MAX_NODE_ROWS: u64 = 4_194_304;
 
 /// A query's tree problem, prepared for ranked enumeration, with the join tree under it. It is seen as the two trees, the numbers of
 /// node rows before the reduction, and the number of rows of the tables of all items and of all nodes.
@@ -61,8 +65,8 @@ impl<R: Rank> Plan<R> {
     }
 }
 
-/// The plan of a query over the tables to which it is bound. The query is cyclic exactly where no join tree exists; there are too
-/// many rows exactly where more than 4,194,304 rows of all nodes pass. The other error is that memory is refused.
+/// The plan of a query over the tables to which it is bound. The query is cyclic exactly if no join tree exists; there are too
+/// many rows exactly if more than 4,194,304 rows of all nodes pass. The other error is that memory is refused.
 pub fn prepare<R: Rank, L: Ledger>(
     alloc: Global,
     query: &Query,
@@ -73,8 +77,7 @@ pub fn prepare<R: Rank, L: Ledger>(
     requires keys { length query.now.query.order ≤ R.KEYS }
     ensures plan { IfOk result (IsPlan R.KEYS R.key query.now tables.now) }
     ensures refusal { IfErr result (TellsFlaw query.now.query tables.now) }
-    ensures cost { steps.new ≤ steps.old
-        + 16 * (length query.now.query.items * length query.now.query.items * (1 + sum_of_all (row_counts query.now.query.items tables.now))) }
+    ensures cost { IsPrepared query.now.query tables.now steps.old steps.new }
 {
     let join = join_tree_of(query)?;
     let built = nodes_of(alloc, query, tables, &join, steps)?;
@@ -102,7 +105,6 @@ fn join_tree_of(query: &Query) -> Result<JoinTree, PlanFault>
     match tree_shape(query) {
         Ok(tree) => Ok(tree),
         Err(ShapeFault::Cyclic(core)) => Err(PlanFault::Cyclic(core)),
-        Err(ShapeFault::TooManyRows) => unreachable!(),
         Err(ShapeFault::NoMemory) => Err(PlanFault::NoMemory),
     }
 }
@@ -129,7 +131,7 @@ fn nodes_of<R: Rank, L: Ledger>(
     ensures refusal { IfErr result (TellsFlaw query.now.query tables.now) }
     ensures cost { steps.new ≤ steps.old + length query.now.query.items * sum_of_all (row_counts query.now.query.items tables.now) }
 {
-    match build(alloc, query, tables, join, MOST_NODE_ROWS as u64, steps) {
+    match build(alloc, query, tables, join, MAX_NODE_ROWS, steps) {
         Ok(built) => {
             let _nodes = built.tree.nodes();
             Ok(built)

@@ -1,7 +1,7 @@
 //! The report of a plan's join tree, one line after another.
 ghost use Rattle.std.specs.Prelude.{◌≡◌, ◌<◌, ◌≤◌, ◌+◌, ◌++◌, IfOk, List, OnOk, codes, decimal, length, slice_index, ℕ};
 ghost use Rattle.join_tree.specs.Rerooting.{IsTree};
-ghost use Rattle.plan_report.specs.Report.{node_line, node_text, parent_number, report_of};
+ghost use Rattle.query_shape.specs.Report.{node_line, node_text, parent_number, report_of};
 ghost use Rattle.query_shape.specs.Shown.{HasItems};
 ghost use Rattle.plan_build.specs.Plan.{IsPlan, shape_of, tree_shown};
 
@@ -9,7 +9,7 @@ use crate::plan::Plan;
 use csv_tables::Tables;
 use join_tree::JoinTree;
 use query_bind::Query;
-use query_parse::name_text;
+use query_grammar::name_text;
 use rank_key::Rank;
 use std::alloc::Global;
 use step_counter::NoMemory;

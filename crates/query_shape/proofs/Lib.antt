@@ -1,5 +1,3 @@
 pub mod Alike
 pub mod Core
-pub mod Counts
 pub mod OneShape
-pub mod Rows

@@ -1,14 +1,13 @@
-//! Why a query has no shape.
+//! Why a query has no join tree.
 
 use step_counter::NoMemory;
 
-/// Why a query has no shape.
+/// Why a query has no join tree.
 #[derive(Clone, Copy, Debug, PartialEq, Eq)]
 pub enum ShapeFault {
     /// No join tree exists. The items that are left where no ear is left, as bits: item 1 is the lowest.
     Cyclic(u16),
-    /// The nodes have too many rows, all together.
-    TooManyRows,
+    /// Memory was refused.
     NoMemory,
 }
 

@@ -2,7 +2,7 @@ use Rattle.std.proofs.Common.{◌≡◌, ◌∙◌, ◌++◌, ℕ, List, ap, sym
 use Rattle.std.specs.List.{flat_map, range_with_len}
 use Rattle.query_shape.specs.Shape.{Shape}
 use Rattle.plan_build.specs.Plan.{shape_of, tree_shown}
-use Rattle.plan_report.specs.Report.{node_line, total_line, total_rows}
+use Rattle.query_shape.specs.Report.{node_line, total_line, total_rows}
 use Rattle.plan_build.proofs.Lines.{atoms-same, count-same, lines-more, nodes-counted, ordered-same, rows-counted, rows-same, shape-same, total-same}
 use Rattle.plan_build.proofs.reporting.report.Goals as goal
 

@@ -5,7 +5,7 @@ use Rattle.anyk_model.specs.Query.{Query, row_counts}
 use Rattle.anyk_model.specs.Table.{Table}
 use Rattle.query_bind.specs.Names.{item_at}
 use Rattle.query_bind.specs.Parts.{sum_of_all}
-use Rattle.query_parse.specs.Text.{name_text_of}
+use Rattle.query_grammar.specs.Text.{name_text_of}
 use Rattle.query_shape.specs.Shape.{Shape}
 
 -- nodes count from 1, and the first has the parent 0
