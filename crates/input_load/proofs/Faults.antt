@@ -1,8 +1,8 @@
 -- The faults of the parts as refusals of their stages.
-use Rattle.std.proofs.Common.{◌≡◌, inl, inr, ℕ, List, Option, Some, None, option_map, Err, ap, refl, sym, ◌≤◌, Ok, arith, subst, length, suc}
-use Rattle.query_parse.specs.declared.fault.ParseFault.{ParseFault}
-use Rattle.query_parse.specs.declared.fault.ParseFault.TheVariants as parse
-use Rattle.query_parse.specs.Parse.{Parses}
+use Rattle.std.proofs.Common.{◌≡◌, inl, inr, ℕ, List, Option, Some, None, option_map, Err, ap, refl, sym, ◌≤◌, Ok, arith, subst, length}
+use Rattle.query_grammar.specs.declared.fault.ParseFault.{ParseFault}
+use Rattle.query_grammar.specs.declared.fault.ParseFault.TheVariants as parse
+use Rattle.query_grammar.specs.Parse.{Parses}
 use Rattle.query_bind.specs.declared.fault.BindFault.{BindFault}
 use Rattle.query_bind.specs.declared.fault.BindFault.TheVariants as bind
 use Rattle.query_bind.specs.Answers.{Tells}
@@ -15,26 +15,19 @@ use Rattle.session_script.specs.declared.fault.ScriptFault.TheVariants as script
 use Rattle.session_script.specs.declared.step.Step.{Step}
 use Rattle.session_script.specs.Script.{Fails, steps_of}
 use Rattle.verdict.specs.Faults.{of_bind, of_flaw, of_parse, of_script}
-use Rattle.verdict.specs.Loading.{Bound, IsParse, steps_said, told_steps}
-use Rattle.verdict.specs.Found.{found_of}
+use Rattle.verdict.specs.Loading.{IsParse, Loaded, steps_said, told_steps}
 use Rattle.verdict.specs.Stages.{Is, unless}
 use Rattle.verdict.specs.Staged.{Pure}
 use Rattle.input_load.specs.Entries.{table_after}
-use Rattle.input_load.specs.Shown.{shape_answer, table_answer}
-use Rattle.verdict.specs.Verdict.{IsShaped}
-use Rattle.query_shape.specs.Shape.{IsShape, Shape, cyclic, too_many_rows as too_many_node_rows}
-use Rattle.query_shape.specs.Shown.{TellsFlaw}
-use Rattle.query_shape.specs.declared.fault.ShapeFault.{ShapeFault}
-use Rattle.query_shape.specs.declared.fault.ShapeFault.TheVariants as shape_fault
-use Rattle.hyper_graph.specs.Items.{items_of}
-use Rattle.query_parse.specs.Grammar.{IsItems, IsQuery, items, query}
-use Rattle.query_parse.specs.Reading.{Clauses}
-use Rattle.query_parse.specs.Tokens.{tokens_of}
-use Rattle.query_parse.specs.Lexeme.{Lexeme}
-use Rattle.query_parse.specs.declared.select.Equality.{Equality}
-use Rattle.query_parse.specs.declared.select.ItemRef.{ItemRef}
-use Rattle.query_parse.specs.declared.select.Select.{Select}
-use Rattle.query_parse.specs.Parse.{IsParsed}
+use Rattle.input_load.specs.Limits.{IsWithinLimits}
+use Rattle.input_load.specs.Shown.{table_answer}
+use Rattle.query_grammar.specs.Grammar.{IsItems, IsQuery, items, query}
+use Rattle.query_grammar.specs.Reading.{Clauses}
+use Rattle.query_grammar.specs.Lexeme.{Lexeme}
+use Rattle.query_grammar.specs.declared.select.Equality.{Equality}
+use Rattle.query_grammar.specs.declared.select.ItemRef.{ItemRef}
+use Rattle.query_grammar.specs.declared.select.Select.{Select}
+use Rattle.query_grammar.specs.Parse.{IsParsed}
 
 -- a fault of the parser
 pub parse_refused : (bytes : List ℕ) (fault : ParseFault) → Parses bytes (Err fault) → Pure (IsParse bytes) (Err (of_parse fault))
@@ -46,19 +39,19 @@ parse_refused bytes (parse.LimitRange at) h = (parse.LimitRange at, h, (λ e. cc
 parse_refused bytes parse.NoMemory h = tt
 
 -- the first fault of binding
-bind_fault_refused : (bound : Bound) (fault : BindFault) → Pure (Is (unless (Some (of_bind fault)) bound)) (Err (of_bind fault))
-bind_fault_refused bound (bind.DuplicateAlias item) = refl
-bind_fault_refused bound (bind.UnknownAlias at) = refl
-bind_fault_refused bound (bind.UnknownColumn at) = refl
-bind_fault_refused bound (bind.Ambiguous at) = refl
-bind_fault_refused bound (bind.BadWeight item row column) = refl
-bind_fault_refused bound (bind.RankRange key) = refl
-bind_fault_refused bound bind.NoMemory = tt
+bind_fault_refused : (loaded : Loaded) (fault : BindFault) → Pure (Is (unless (Some (of_bind fault)) loaded)) (Err (of_bind fault))
+bind_fault_refused loaded (bind.DuplicateAlias item) = refl
+bind_fault_refused loaded (bind.UnknownAlias at) = refl
+bind_fault_refused loaded (bind.UnknownColumn at) = refl
+bind_fault_refused loaded (bind.Ambiguous at) = refl
+bind_fault_refused loaded (bind.BadWeight item row column) = refl
+bind_fault_refused loaded (bind.RankRange key) = refl
+bind_fault_refused loaded bind.NoMemory = tt
 
-pub bind_refused : (first : Option BindFault) (bound : Bound) (fault : BindFault) → Tells first fault
-    → Pure (Is (unless (option_map of_bind first) bound)) (Err (of_bind fault))
-bind_refused first bound fault (inl e) = rw e tt
-bind_refused first bound fault (inr e) = rw e (bind_fault_refused bound fault)
+pub bind_refused : (first : Option BindFault) (loaded : Loaded) (fault : BindFault) → Tells first fault
+    → Pure (Is (unless (option_map of_bind first) loaded)) (Err (of_bind fault))
+bind_refused first loaded fault (inl e) = rw e tt
+bind_refused first loaded fault (inr e) = rw e (bind_fault_refused loaded fault)
 
 -- the first fault of a script
 pub script_told : (bytes : List ℕ) (steps : List Step) → steps_of bytes ≡ Ok steps → Pure (Is (steps_said bytes)) (Ok steps)
@@ -90,15 +83,6 @@ table_refused name old t (Some flaw) fault (inr e) =
     let is : fault_of flaw ≡ fault = cc in
     rw (sym is) (flaw_refused name old t flaw)
 
--- the structure that a query has, or its flaw
-pub shape_found : (bound : Bound) (shape : Shape) → IsShape bound.query bound.tables (Ok shape) → Pure (IsShaped bound) (Ok (found_of bound shape))
-shape_found bound shape is = record { shape = shape; is_shape = is; same = refl }
-
-pub shape_refused : (bound : Bound) (f : ShapeFault) → TellsFlaw bound.query bound.tables f → Pure (IsShaped bound) (Err (shape_answer f))
-shape_refused bound (shape_fault.Cyclic core) h = record { flaw = cyclic (items_of core); is_flaw = h; told = refl }
-shape_refused bound shape_fault.TooManyRows h = record { flaw = too_many_node_rows; is_flaw = h; told = refl }
-shape_refused bound shape_fault.NoMemory h = tt
-
 -- a query has an item
 some-items : {ts rest : List Lexeme} {r : List ItemRef × List Equality} → IsItems ts rest r → 1 ≤ length r.0
 some-items (items one others) = omega arith
@@ -106,7 +90,7 @@ some-items (items one others) = omega arith
 some-clauses : {ts : List Lexeme} {x : Clauses} → IsQuery ts x → 1 ≤ length x.0.items
 some-clauses (query s l f i w o n e) = some-items i
 
-pub some-parsed : (bytes : List ℕ) (select : Select) → IsParsed bytes select → 1 ≤ length select.items
-some-parsed bytes select h =
+pub parsed-limits : (bytes : List ℕ) (select : Select) → IsParsed bytes select → IsWithinLimits select
+parsed-limits bytes select h =
     let P : Select → Type 0 = λ s. 1 ≤ length s.items in
-    subst P (sym h.is) (some-clauses h.says.query)
+    record { some = subst P (sym h.is) (some-clauses h.says.query); items = h.items; keys = h.keys }

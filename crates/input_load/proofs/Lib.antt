@@ -2,6 +2,6 @@ pub mod Files
 pub mod Faults
 pub mod FirstUses
 pub mod Reading
-pub mod Following
+pub mod Scripts
 pub mod MadeShelf
 pub mod NoneMissing

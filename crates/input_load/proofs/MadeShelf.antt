@@ -1,5 +1,5 @@
 -- A shelf in memory that holds the files of a generated input.
-use Rattle.std.proofs.Common.{◌≡◌, ◌<◌, ◌∷◌, ◌++◌, [], ℕ, zero, suc, List, Vec, length, map, refl, sym, ap, ◌∙◌, arith, append_assoc, append-nil, string_bytes, Bool, true, not, ◌&&◌, inl, inr, ◌⊎◌}
+use Rattle.std.proofs.Common.{◌≡◌, ◌∷◌, ◌++◌, [], ℕ, List, Vec, length, map, refl, sym, ap, ◌∙◌, arith, append_assoc, append-nil, string_bytes, Bool, true, not, ◌&&◌, inl, inr, ◌⊎◌}
 use Rattle.std.specs.Global.{Global}
 use Rattle.std.specs.List.{list_any, zip}
 use Rattle.std.specs.Str.{bytes_eq}

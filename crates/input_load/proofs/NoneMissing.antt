@@ -1,5 +1,5 @@
 -- Over files that hold each that the words name, no file is missing.
-use Rattle.std.proofs.Common.{◌≡◌, ◌∷◌, ◌++◌, [], ℕ, Bool, true, false, IsTrue, if◌then◌else◌, is_some, List, Option, Some, None, Result, Ok, Err, option_map, nat_lt, length, unwrap_or, refl, sym, subst, arith, inl, inr, map}
+use Rattle.std.proofs.Common.{◌≡◌, ◌∷◌, ◌++◌, [], ℕ, Bool, true, false, IsTrue, if◌then◌else◌, is_some, List, Option, Some, None, Result, Ok, Err, option_map, nat_lt, length, unwrap_or, refl, sym, subst, arith, inl, inr}
 use Rattle.std.specs.List.{AllByRecursion, list_any}
 use Rattle.std.specs.Str.{bytes_eq}
 use Rattle.anyk_model.specs.Table.{Flaw, Table, flaw_of, no_header, too_many_columns, duplicate_name, too_many_rows, ragged, records_of}
@@ -9,21 +9,19 @@ use Rattle.outer_io.specs.Files.{Files, bytes_of}
 use Rattle.query_bind.specs.Bind.{bind_fault}
 use Rattle.query_bind.specs.declared.fault.BindFault.{BindFault}
 use Rattle.query_bind.specs.declared.fault.BindFault.TheVariants as bind
-use Rattle.query_parse.specs.declared.fault.ParseFault.{ParseFault}
-use Rattle.query_parse.specs.declared.fault.ParseFault.TheVariants as parse
-use Rattle.query_parse.specs.declared.select.ItemRef.{ItemRef}
-use Rattle.query_parse.specs.declared.select.Select.{Select}
-use Rattle.query_shape.specs.Shape.{Flaw as ShapeFlaw, cyclic, too_many_rows as too_many_node_rows}
+use Rattle.query_grammar.specs.declared.fault.ParseFault.{ParseFault}
+use Rattle.query_grammar.specs.declared.fault.ParseFault.TheVariants as parse
+use Rattle.query_grammar.specs.declared.select.ItemRef.{ItemRef}
+use Rattle.query_grammar.specs.declared.select.Select.{Select}
 use Rattle.refusal_lines.specs.Answer as answer
 use Rattle.refusal_lines.specs.Answer.{Answer}
 use Rattle.session_script.specs.declared.step.Step.{Step}
-use Rattle.verdict.specs.Faults.{of_bind, of_flaw, of_parse, of_shape}
-use Rattle.verdict.specs.Found.{Found, with_steps}
-use Rattle.verdict.specs.Loading.{Bound, IsParse, bound_in, file_in, file_with, first_uses, first_uses_after, known_file, most_bytes, short_enough, sound_table, steps_in, table_in, table_names, table_numbers, tables_in, unknown_table, unknown_with}
+use Rattle.verdict.specs.Faults.{of_bind, of_flaw, of_parse}
+use Rattle.verdict.specs.Loading.{IsParse, Loaded, bound_in, file_in, file_with, first_uses, first_uses_after, known_file, most_bytes, sound_table, steps_in, table_in, table_names, table_numbers, tables_in, unknown_table, unknown_with}
 use Rattle.verdict.specs.Made.{made_files}
 use Rattle.verdict.specs.Staged.{Causes, Fits, Pure, Shelved}
 use Rattle.verdict.specs.Stages.{Is, Then, followed, refused, then_by, unless}
-use Rattle.verdict.specs.Verdict.{IsBound, IsFollowed, IsRead, IsScripted, IsSelected, IsShaped, IsStructured, IsVerdictOn, Named}
+use Rattle.verdict.specs.Verdict.{IsBound, IsLoadedOn, IsRead, IsScripted, IsSelected, IsTabled, Named}
 
 -- the result is not that a file is missing
 abbrev pub NoneMissing : {A : Type 0} → Result A Answer → Type 0
@@ -86,23 +84,15 @@ table-none name bytes t (Some (duplicate_name column)) = tt
 table-none name bytes t (Some too_many_rows) = tt
 table-none name bytes t (Some (ragged row)) = tt
 
-bind-none : (bound : Bound) (fault : Option BindFault) → NoneMissing (unless (option_map of_bind fault) bound)
-bind-none bound None = tt
-bind-none bound (Some (bind.DuplicateAlias item)) = tt
-bind-none bound (Some (bind.UnknownAlias at)) = tt
-bind-none bound (Some (bind.UnknownColumn at)) = tt
-bind-none bound (Some (bind.Ambiguous at)) = tt
-bind-none bound (Some (bind.BadWeight item row column)) = tt
-bind-none bound (Some (bind.RankRange key)) = tt
-bind-none bound (Some bind.NoMemory) = tt
-
-shaped-none : (bound : Bound) (r : Result Found Answer) → IsShaped bound r → NoneMissing r
-shaped-none bound (Ok found) h = tt
-shaped-none bound (Err e) h = subst (λ (a : Answer). NoneMissing {A = Found} (Err a)) (sym h.told) (by h.flaw)
-  where
-    by : (f : ShapeFlaw) → NoneMissing {A = Found} (Err (of_shape f))
-    by (cyclic items) = tt
-    by too_many_node_rows = tt
+bind-none : (loaded : Loaded) (fault : Option BindFault) → NoneMissing (unless (option_map of_bind fault) loaded)
+bind-none loaded None = tt
+bind-none loaded (Some (bind.DuplicateAlias item)) = tt
+bind-none loaded (Some (bind.UnknownAlias at)) = tt
+bind-none loaded (Some (bind.UnknownColumn at)) = tt
+bind-none loaded (Some (bind.Ambiguous at)) = tt
+bind-none loaded (Some (bind.BadWeight item row column)) = tt
+bind-none loaded (Some (bind.RankRange key)) = tt
+bind-none loaded (Some bind.NoMemory) = tt
 
 -- ---- the tables that items use
 
@@ -161,45 +151,38 @@ known-is None select known e = (refl, cc)
 known-is (Some e) select known is = cc
 
 module _ (named : Named) (files : Files) (held : AllByRecursion (IsHeld files) named) where
-  structured-none : (select : Select) (tables : List Table) (r : Result Found Answer) → IsStructured select tables r → NoneMissing r
-  structured-none select tables r =
-      then-none (Is (bound_in select tables)) IsShaped r
-      (λ x is. is-none (bound_in select tables) x (bind-none _ (bind_fault select tables (table_numbers select.items))) is) (λ bound given y h. shaped-none bound y h)
+  bound-none : (select : Select) (tables : List Table) (steps : List Step) (r : Result Loaded Answer) → IsBound select tables steps r → NoneMissing r
+  bound-none select tables steps r = is-none (bound_in select tables steps) r (bind-none _ (bind_fault select tables (table_numbers select.items)))
 
-  bound-none : (select : Select) → unknown_table named select.items ≡ None → (r : Result Found Answer) → IsBound named files select r → NoneMissing r
-  bound-none select known r =
+  tabled-none : (select : Select) (steps : List Step) → unknown_table named select.items ≡ None → (r : Result Loaded Answer) → IsTabled named files select steps r → NoneMissing r
+  tabled-none select steps known r =
       let all = uses-all (IsNamed named) [] (table_names select.items) (named-all named select.items known) in
-      then-none (Is (tables_in files named (first_uses select.items))) (IsStructured select) r
+      then-none (Is (tables_in files named (first_uses select.items))) (λ tables. IsBound select tables steps) r
       (λ x is. is-none (tables_in files named (first_uses select.items)) x (tables-none files named (first_uses select.items) held all) is)
-      (λ tables given y h. structured-none select tables y h)
+      (λ tables given y h. bound-none select tables steps y h)
 
-  selected-none : (select : Select) (r : Result Found Answer) → IsSelected named files select r → NoneMissing r
-  selected-none select r =
-      then-none (Is (unless (unknown_table named select.items) select)) (IsBound named files) r
+  selected-none : (select : Select) (steps : List Step) (r : Result Loaded Answer) → IsSelected named files select steps r → NoneMissing r
+  selected-none select steps r =
+      then-none (Is (unless (unknown_table named select.items) select)) (λ known. IsTabled named files known steps) r
       (λ x is. is-none (unless (unknown_table named select.items) select) x (unknown-none named select.items select) is)
       (λ known given y h.
       let is = known-is (unknown_table named select.items) select known given in
-      bound-none known (subst (λ (s : Select). unknown_table named s.items ≡ None) (sym is.1) is.0) y h)
+      tabled-none known steps (subst (λ (s : Select). unknown_table named s.items ≡ None) (sym is.1) is.0) y h)
 
-  followed-none : (select : Select) (steps : List Step) (r : Result Found Answer) → IsFollowed named files select steps r → NoneMissing r
-  followed-none select steps r =
-      then-none (IsSelected named files select) (λ found. Is (Ok (with_steps steps found))) r (λ x h. selected-none select x h)
-      (λ found given y is. is-none (Ok (with_steps steps found)) y tt is)
-
-  scripted-none : (select : Select) (r : Result Found Answer) → IsScripted None named files select r → NoneMissing r
+  scripted-none : (select : Select) (r : Result Loaded Answer) → IsScripted None named files select r → NoneMissing r
   scripted-none select r =
-      then-none (Is (steps_in files None)) (IsFollowed named files select) r (λ x is. is-none (Ok []) x tt is) (λ steps given y h. followed-none select steps y h)
+      then-none (Is (steps_in files None)) (IsSelected named files select) r (λ x is. is-none (Ok []) x tt is) (λ steps given y h. selected-none select steps y h)
 
-  read-none : (bytes : List ℕ) (r : Result Found Answer) → IsRead None named files bytes r → NoneMissing r
+  read-none : (bytes : List ℕ) (r : Result Loaded Answer) → IsRead None named files bytes r → NoneMissing r
   read-none bytes r = then-none (IsParse bytes) (IsScripted None named files) r (parse-none bytes) (λ select given y h. scripted-none select y h)
 
-  pub verdict-none : (query : List ℕ) → IsTrue (is_some (bytes_of files query)) → (r : Result Found Answer) → IsVerdictOn query None named files r → NoneMissing r
-  verdict-none query is_held r =
+  pub loaded-none : (query : List ℕ) → IsTrue (is_some (bytes_of files query)) → (r : Result Loaded Answer) → IsLoadedOn query None named files r → NoneMissing r
+  loaded-none query is_held r =
       then-none (Is (file_in files query)) (IsRead None named files) r (λ x is. is-none (file_in files query) x (file-none query (bytes_of files query) is_held) is)
       (λ bytes given y h. read-none bytes y h)
 
-pub made-none : (number rows : ℕ) (r : Result Found Answer) → IsVerdictOn query_file None table_files (made_files number rows) r → NoneMissing r
-made-none number rows = verdict-none table_files (made_files number rows) (refl, (refl, (refl, (refl, tt)))) query_file refl
+pub made-none : (number rows : ℕ) (r : Result Loaded Answer) → IsLoadedOn query_file None table_files (made_files number rows) r → NoneMissing r
+made-none number rows = loaded-none table_files (made_files number rows) (refl, (refl, (refl, (refl, tt)))) query_file refl
 
 -- ---- a stage over files that are told, of which none is missing and none fails
 

@@ -1,4 +1,5 @@
 pub mod Entries
+pub mod Input
+pub mod Limits
 pub mod Shown
-pub mod Found
 pub mod Turns

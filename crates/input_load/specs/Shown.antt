@@ -1,20 +1,19 @@
 -- What the parts of loading answer, as results of stages.
-use Rattle.std.specs.Prelude.{ℕ, List, Result, Ok, Err}
-use Rattle.std.specs.Prelude.{Vec}
+use Rattle.std.specs.Prelude.{ℕ, List, Result, Ok, Err, Vec}
 use Rattle.std.specs.Global.{Global}
 use Rattle.csv_tables.specs.declared.fault.TableFault.{TableFault}
 use Rattle.csv_tables.specs.declared.fault.TableFault.TheVariants as table
 use Rattle.outer_io.specs.declared.reading.FileFault.{FileFault}
 use Rattle.outer_io.specs.declared.reading.FileFault.TheVariants as file
 use Rattle.anyk_model.specs.Table.{Table}
-use Rattle.query_parse.specs.declared.select.Select.{Select}
-use Rattle.query_shape.specs.declared.fault.ShapeFault.{ShapeFault}
-use Rattle.query_shape.specs.declared.fault.ShapeFault.TheVariants as shape
-use Rattle.hyper_graph.specs.Items.{items_of}
+use Rattle.query_grammar.specs.declared.select.Select.{Select}
 use Rattle.refusal_lines.specs.declared.refusal.Refusal.{Refusal}
 use Rattle.refusal_lines.specs.Answer as answer
 use Rattle.refusal_lines.specs.Answer.{Answer}
 use Rattle.refusal_lines.specs.Refused.{answer_of}
+use Rattle.session_script.specs.declared.step.Step.{Step}
+use Rattle.verdict.specs.Loading.{Loaded}
+use Rattle.input_load.specs.Input.{InputData, loaded_of}
 
 abbrev pub shown_select : Result Select Refusal → Result Select Answer
 shown_select (Ok select) = Ok select
@@ -47,7 +46,10 @@ abbrev pub shown_bytes : Result (Vec ℕ Global) Refusal → Result (List ℕ) A
 shown_bytes (Ok bytes) = Ok bytes.items
 shown_bytes (Err refusal) = Err (answer_of refusal)
 
-abbrev pub shape_answer : ShapeFault → Answer
-shape_answer (shape.Cyclic core) = answer.Cyclic (items_of core)
-shape_answer shape.TooManyRows = answer.TooManyNodeRows
-shape_answer shape.NoMemory = answer.NoMemory
+abbrev pub shown_steps : Result (Vec Step Global) Refusal → Result (List Step) Answer
+shown_steps (Ok steps) = Ok steps.items
+shown_steps (Err refusal) = Err (answer_of refusal)
+
+abbrev pub shown_input : Result InputData Refusal → Result Loaded Answer
+shown_input (Ok input) = Ok (loaded_of input)
+shown_input (Err refusal) = Err (answer_of refusal)

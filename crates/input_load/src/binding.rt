@@ -1,50 +1,63 @@
-//! The query bound to its tables.
-ghost use Rattle.std.specs.Prelude.{◌≡◌, ◌<◌, ◌≤◌, IfOk, length};
+//! An input, and the binding of its query to its tables.
+ghost use Rattle.std.specs.Prelude.{◌≡◌, ◌<◌, [], length};
 ghost use Rattle.std.specs.List.{AllByRecursion};
-ghost use Rattle.query_bind.specs.Weighed.{Fits};
 ghost use Rattle.refusal_lines.specs.Refused.{answer_of};
+ghost use Rattle.session_script.specs.Script.{KeepsRules};
 ghost use Rattle.verdict.specs.Faults.{of_bind};
-ghost use Rattle.verdict.specs.Loading.{bound_in, table_numbers};
-ghost use Rattle.verdict.specs.Stages.{Is};
+ghost use Rattle.verdict.specs.Loading.{table_numbers};
 ghost use Rattle.verdict.specs.Staged.{Pure};
-ghost use Rattle.input_load.specs.Found.{shown_query};
+ghost use Rattle.verdict.specs.Verdict.{IsBound};
+ghost use Rattle.input_load.specs.Limits.{IsWithinLimits};
+ghost use Rattle.input_load.specs.Shown.{shown_input};
 
 use csv_tables::Tables;
 use query_bind::{BindFault, Query, bind};
-use query_parse::select::Select;
-use query_shape::TreeShape;
+use query_grammar::select::Select;
 use refusal_lines::Refusal;
 use session_script::Step;
 use std::alloc::Global;
+use std::marker::Model;
 
-/// An accepted input: the tables, in the order of their first use, the query bound to them, its join tree, and the steps of the
-/// script, of which there are none where there is no script.
+/// An input up to its structure: the tables, in the order of their first use, the query bound to them, and the steps of the script,
+/// of which there are none if there is no script. The query fits the tables, and the steps keep the rules of scripts.
 #[derive(Drop)]
 pub struct Input {
     pub query: Query,
     pub tables: Tables,
-    pub shape: TreeShape,
-    pub steps: Vec<Step>,
+    pub script: Vec<Step>,
 }
 
-/// The query that the select means over the tables, or the refusal that its first fault is.
-pub(crate) fn bind_query<'a>(
+impl Model for Input {
+    ghost use Rattle.input_load.specs.Input.{InputData, IsSound};
+
+    ghost Value = { InputData };
+
+    ghost view = { λ a. record { query = a.query; tables = a.tables; steps = a.script.items } };
+
+    ghost invariant = { λ a.
+        IsSound (record { query = a.query; tables = a.tables; steps = a.script.items }) };
+}
+
+/// The input of the select over the tables, or the refusal that the first fault of binding is.
+pub(crate) fn bound_input<'a>(
     alloc: Global,
     select: &Select,
-    tables: &Tables,
+    tables: Tables,
     which: &[u32],
-) -> Result<Query, Refusal<'a>>
-    requires some { 1 ≤ length select.now.items }
-    requires items { length select.now.items ≤ 16 }
-    requires keys { length select.now.keys ≤ 8 }
+    script: Vec<Step>,
+) -> Result<Input, Refusal<'a>>
+    requires limits { IsWithinLimits select.now }
     requires numbers { which.now ≡ table_numbers select.now.items }
-    requires known { AllByRecursion (λ t. t < length tables.now) which.now }
-    ensures bound { Pure (Is (bound_in select.now tables.now)) (shown_query tables.now result) }
-    ensures fits { IfOk result (λ query. Fits query tables.now) }
-    ensures items { IfOk result (λ query. length query.query.items ≡ length select.now.items) }
+    requires known { AllByRecursion (λ t. t < length tables) which.now }
+    requires rules { KeepsRules [] script.items }
+    ensures { Pure (IsBound select.now tables script.items) (shown_input result) }
 {
-    match bind(alloc, select, tables, which) {
-        Ok(query) => Ok(query),
+    match bind(alloc, select, &tables, which) {
+        Ok(query) => Ok(Input {
+            query,
+            tables,
+            script,
+        }),
         Err(fault) => Err(bind_refusal(fault)),
     }
 }

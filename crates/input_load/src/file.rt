@@ -2,7 +2,7 @@
 ghost use Rattle.std.specs.Prelude.{◌≡◌, ◌≤◌, IfOk, length};
 ghost use Rattle.verdict.specs.Loading.{file_in};
 ghost use Rattle.verdict.specs.Stages.{Is};
-ghost use Rattle.verdict.specs.Staged.{Staged};
+ghost use Rattle.verdict.specs.Staged.{Staged, shelved};
 ghost use Rattle.refusal_lines.specs.Refused.{answer_of};
 ghost use Rattle.input_load.specs.Shown.{file_answer, shown_bytes};
 
@@ -18,8 +18,7 @@ pub(crate) fn load<'a, F: Shelf>(
     name: &'a str,
 ) -> Result<Vec<u8>, Refusal<'a>>
     ensures staged { Staged (λ files. Is (file_in files name.now)) (λ files file. file ≡ name.now)
-        (record { files = F.files shelf.old; misses = F.misses shelf.old; faults = F.faults shelf.old })
-        (record { files = F.files shelf.new; misses = F.misses shelf.new; faults = F.faults shelf.new }) (shown_bytes result) }
+        (shelved F.Shelf shelf.old) (shelved F.Shelf shelf.new) (shown_bytes result) }
     ensures short { IfOk result (λ bytes. length bytes.items ≤ 67108864) }
 {
     match read_file(alloc, shelf, name) {

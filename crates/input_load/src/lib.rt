@@ -1,6 +1,6 @@
 //! The input of a command, looked at in the order of its refusals: the query file, the script, a table that no word names, each
-//! table in the order of its first use, the query bound to its tables, and its structure. The files are those of a shelf, or those
-//! that are made from a number.
+//! table in the order of its first use, and the query bound to its tables. The files are those of a shelf, or those that are made
+//! from a number.
 #![tactic(auto)]
 
 mod binding;
@@ -10,7 +10,6 @@ mod input;
 mod made;
 mod query;
 mod script;
-mod structure;
 mod tables;
 mod uses;
 

@@ -1,23 +1,22 @@
 //! The query of the query file.
-ghost use Rattle.std.specs.Prelude.{◌≡◌, ◌≤◌, IfOk, length};
+ghost use Rattle.std.specs.Prelude.{◌≡◌, IfOk};
 ghost use Rattle.refusal_lines.specs.Refused.{answer_of};
 ghost use Rattle.verdict.specs.Faults.{of_parse};
 ghost use Rattle.verdict.specs.Loading.{IsParse};
 ghost use Rattle.verdict.specs.Staged.{Pure};
+ghost use Rattle.input_load.specs.Limits.{IsWithinLimits};
 ghost use Rattle.input_load.specs.Shown.{shown_select};
 
-use query_parse::fault::ParseFault;
-use query_parse::parse;
-use query_parse::select::Select;
+use query_grammar::fault::ParseFault;
+use query_grammar::parse;
+use query_grammar::select::Select;
 use refusal_lines::Refusal;
 use std::alloc::Global;
 
 /// The select that the bytes say, or the refusal that the parser's fault is.
 pub(crate) fn parse_query<'a>(alloc: Global, bytes: &[u8]) -> Result<Select, Refusal<'a>>
     ensures parsed { Pure (IsParse bytes.now) (shown_select result) }
-    ensures some { IfOk result (λ select. 1 ≤ length select.items) }
-    ensures items { IfOk result (λ select. length select.items ≤ 16) }
-    ensures keys { IfOk result (λ select. length select.keys ≤ 8) }
+    ensures limits { IfOk result IsWithinLimits }
 {
     match parse(alloc, bytes) {
         Ok(select) => Ok(select),

@@ -5,8 +5,8 @@ ghost use Rattle.session_script.specs.Script.{KeepsRules};
 ghost use Rattle.verdict.specs.Faults.{of_script};
 ghost use Rattle.verdict.specs.Loading.{steps_in, steps_said};
 ghost use Rattle.verdict.specs.Stages.{Is};
-ghost use Rattle.verdict.specs.Staged.{Pure, Staged};
-ghost use Rattle.input_load.specs.Found.{shown_steps};
+ghost use Rattle.verdict.specs.Staged.{Pure, Staged, shelved};
+ghost use Rattle.input_load.specs.Shown.{shown_steps};
 
 use crate::file::load;
 use outer_io::Shelf;
@@ -20,9 +20,9 @@ pub(crate) fn load_script<'a, F: Shelf>(
     script: Option<&'a str>,
     shelf: &mut F,
 ) -> Result<Vec<Step>, Refusal<'a>>
-    ensures staged { Staged (λ files. Is (steps_in files (option_map (λ name. name.now) script.entry))) (λ files file. option_map (λ name. name.now) script.entry ≡ Some file)
-        (record { files = F.files shelf.old; misses = F.misses shelf.old; faults = F.faults shelf.old })
-        (record { files = F.files shelf.new; misses = F.misses shelf.new; faults = F.faults shelf.new }) (shown_steps result) }
+    ensures staged { let name = option_map (λ name. name.now) script.entry in
+        Staged (λ files. Is (steps_in files name)) (λ files file. name ≡ Some file)
+        (shelved F.Shelf shelf.old) (shelved F.Shelf shelf.new) (shown_steps result) }
     ensures rules { IfOk result (λ steps. KeepsRules [] steps.items) }
 {
     let Some(name) = script else {

@@ -7,7 +7,7 @@ ghost use Rattle.rankings.specs.Order.{IsMember};
 ghost use Rattle.refusal_lines.specs.Refused.{answer_of};
 ghost use Rattle.verdict.specs.Loading.{files_read, sound_table, table_in, tables_in};
 ghost use Rattle.verdict.specs.Stages.{Is};
-ghost use Rattle.verdict.specs.Staged.{Pure, Staged};
+ghost use Rattle.verdict.specs.Staged.{Pure, Staged, shelved};
 ghost use Rattle.input_load.specs.Entries.{IsEntryOf, table_after, tables_of};
 ghost use Rattle.input_load.specs.Shown.{said_as, shown_tables, table_answer};
 
@@ -27,11 +27,11 @@ pub(crate) fn read_tables<'a, F: Shelf>(
     keys: Keys,
 ) -> Result<Tables, Refusal<'a>>
     requires { length entries.now ≤ 16 }
-    ensures staged { (named : List (List ℕ × List ℕ)) → AllByRecursion (IsEntryOf named) (map (λ e. named_pair e.now) entries.now)
-        → Staged (λ files. Is (tables_in files named (tables_of (map (λ e. named_pair e.now) entries.now))))
-        (λ files file. IsMember file (files_read files named (tables_of (map (λ e. named_pair e.now) entries.now))))
-        (record { files = F.files shelf.old; misses = F.misses shelf.old; faults = F.faults shelf.old })
-        (record { files = F.files shelf.new; misses = F.misses shelf.new; faults = F.faults shelf.new }) (shown_tables result) }
+    ensures staged { let words = map (λ e. named_pair e.now) entries.now in
+        (named : List (List ℕ × List ℕ)) → AllByRecursion (IsEntryOf named) words
+        → Staged (λ files. Is (tables_in files named (tables_of words)))
+        (λ files file. IsMember file (files_read files named (tables_of words)))
+        (shelved F.Shelf shelf.old) (shelved F.Shelf shelf.new) (shown_tables result) }
     ensures count { IfOk result (λ tables. length tables ≡ length entries.now) }
 {
     let mut tables = Tables::with_keys(alloc, keys);
@@ -51,9 +51,9 @@ fn read_table<'a, F: Shelf>(
     requires { length tables.old < 16 }
     ensures longer { OnOk result (length tables.new ≡ length tables.old + 1) }
     ensures staged { (named : List (List ℕ × List ℕ)) → IsEntryOf named (named_pair entry.now)
-        → Staged (λ files. Is (table_after tables.old (table_in files named (string_bytes entry.now.table)))) (λ files file. file ≡ string_bytes entry.now.file)
-        (record { files = F.files shelf.old; misses = F.misses shelf.old; faults = F.faults shelf.old })
-        (record { files = F.files shelf.new; misses = F.misses shelf.new; faults = F.faults shelf.new }) (said_as tables.new result) }
+        → Staged (λ files. Is (table_after tables.old (table_in files named (string_bytes entry.now.table))))
+        (λ files file. file ≡ string_bytes entry.now.file)
+        (shelved F.Shelf shelf.old) (shelved F.Shelf shelf.new) (said_as tables.new result) }
 {
     let bytes = load(alloc, shelf, entry.file.as_str())?;
     add_table(entry.table.as_bytes(), &bytes, tables)

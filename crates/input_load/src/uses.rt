@@ -11,7 +11,7 @@ ghost use Rattle.input_load.specs.Entries.{IsEntryOf, tables_of};
 ghost use Rattle.input_load.specs.Shown.{said_as};
 
 use cmd_words::Named;
-use query_parse::select::Select;
+use query_grammar::select::Select;
 use refusal_lines::Refusal;
 use std::alloc::Global;
 use step_counter::NoMemory;

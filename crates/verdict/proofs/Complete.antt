@@ -4,11 +4,11 @@ use Rattle.outer_io.specs.Counts.{Rose}
 use Rattle.outer_io.specs.Files.{Files}
 use Rattle.refusal_lines.specs.Answer as answer
 use Rattle.refusal_lines.specs.Answer.{Answer, status_of}
-use Rattle.verdict.specs.Words.{Command, Asked, no_command, built}
+use Rattle.verdict.specs.Words.{Asked, no_command, built}
 use Rattle.verdict.specs.Found.{Found}
 use Rattle.verdict.specs.Outcome.{Outside, Ended, GotAccepted, GotNothing, IsComplete, IsAnswer, IsCaused, IsCut, IsDoneWhereAccepted, IsRefusedWhereRefused, IsUnwrittenWhereRefused}
 use Rattle.verdict.specs.Verdict.{IsVerdict}
-use Rattle.verdict.proofs.One.{one_verdict}
+use Rattle.verdict.proofs.One.{one_verdict, usage_verdict}
 
 no_both : {A B : Type 0} {a : A} {b : Answer} → ◌≡◌ {A = Result A Answer} (Ok a) (Err b) → B
 no_both e = cc
@@ -22,18 +22,7 @@ pub complete_only : (asked : Asked) (told : Option Files) (old new : Outside)
 complete_only asked None old new h = tt
 complete_only no_command (Some files) old new h = absurd h
 complete_only (built command) (Some files) old new (found, accepted, written) =
-    λ refusal refused no_fault. no_both (one_verdict (built command) files _ _ accepted refused)
-
-abbrev Same : Asked → Asked → Type 0
-Same a b = a ≡ b
-
-differ-built-none : {A : Type 0} {k : Command} → Same (built k) no_command → A
-differ-built-none h = cc
-
--- words that are no command have that verdict alone
-usage_verdict : (files : Files) (asked : Asked) (result : Result Found Answer) → asked ≡ no_command → IsVerdict asked files result → result ≡ Err answer.Usage
-usage_verdict files no_command result e v = v
-usage_verdict files (built command) result e v = differ-built-none e
+    λ refusal is_refused no_fault. no_both (one_verdict (built command) files _ _ accepted is_refused)
 
 -- the refusal of a call that ended with it is the verdict's
 done_by : (asked : Asked) (files : Files) (old new : Outside) (a : Answer) → IsAnswer asked (Some files) a → IsCaused old new a
@@ -54,12 +43,12 @@ done_only asked (Some files) old new a h = done_by asked files old new a h.fits 
 refused_by : (asked : Asked) (files : Files) (old new : Outside) (a : Answer) → IsAnswer asked (Some files) a → IsCaused old new a
     → (refusal : Answer) → IsVerdict asked files (Err refusal) → (Rose old.read_faults new.read_faults → ⊥)
     → (status_of a ≡ status_of refusal) ⊎ (status_of a ≡ 12)
-refused_by asked files old new answer.Usage fits caused refusal refused read =
-    inl (ap status_of (sym (same_refusal (usage_verdict files asked (Err refusal) fits refused))))
-refused_by asked files old new (answer.ReadFault name) fits caused refusal refused read = absurd (read caused)
-refused_by asked files old new answer.WriteFault fits caused refusal refused read = no_both (one_verdict asked files _ _ fits.1 refused)
-refused_by asked files old new answer.NoMemory fits caused refusal refused read = inr refl
-refused_by asked files old new a fits caused refusal refused read = inl (ap status_of (same_refusal (one_verdict asked files _ _ fits refused)))
+refused_by asked files old new answer.Usage fits caused refusal is_refused read =
+    inl (ap status_of (sym (same_refusal (usage_verdict files asked (Err refusal) fits is_refused))))
+refused_by asked files old new (answer.ReadFault name) fits caused refusal is_refused read = absurd (read caused)
+refused_by asked files old new answer.WriteFault fits caused refusal is_refused read = no_both (one_verdict asked files _ _ fits.1 is_refused)
+refused_by asked files old new answer.NoMemory fits caused refusal is_refused read = inr refl
+refused_by asked files old new a fits caused refusal is_refused read = inl (ap status_of (same_refusal (one_verdict asked files _ _ fits is_refused)))
 
 -- and its status is the refusal's, where the input is refused
 pub refused_only : (asked : Asked) (told : Option Files) (old new : Outside) (a : Answer)
@@ -70,9 +59,9 @@ refused_only asked (Some files) old new a h = refused_by asked files old new a h
 -- where the output got a part of what an accepted input gives, no refusal is the verdict
 accepted_alone : {A : Type 0} (asked : Asked) (files : Files) (old new : Outside) → GotAccepted asked (Some files) old new
     → (refusal : Answer) → IsVerdict asked files (Err refusal) → A
-accepted_alone no_command files old new h refusal refused = absurd h
-accepted_alone (built command) files old new (found, accepted, got) refusal refused =
-    no_both (one_verdict (built command) files _ _ accepted refused)
+accepted_alone no_command files old new h refusal is_refused = absurd h
+accepted_alone (built command) files old new (found, accepted, got) refusal is_refused =
+    no_both (one_verdict (built command) files _ _ accepted is_refused)
 
 -- a complete output comes only where no refusal is the verdict
 pub complete_unrefused : (asked : Asked) (told : Option Files) (old new : Outside)
@@ -80,14 +69,14 @@ pub complete_unrefused : (asked : Asked) (told : Option Files) (old new : Outsid
 complete_unrefused asked None old new h = tt
 complete_unrefused no_command (Some files) old new h = absurd h
 complete_unrefused (built command) (Some files) old new (found, accepted, written) =
-    λ refusal refused. no_both (one_verdict (built command) files _ _ accepted refused)
+    λ refusal is_refused. no_both (one_verdict (built command) files _ _ accepted is_refused)
 
 unwritten_by : (asked : Asked) (files : Files) (old new : Outside) (a : Answer) → IsCut asked (Some files) old new a
     → (refusal : Answer) → IsVerdict asked files (Err refusal) → GotNothing old new
-unwritten_by asked files old new answer.WriteFault cut refusal refused = accepted_alone asked files old new cut refusal refused
-unwritten_by asked files old new answer.NoMemory (inl nothing) refusal refused = nothing
-unwritten_by asked files old new answer.NoMemory (inr accepted) refusal refused = accepted_alone asked files old new accepted refusal refused
-unwritten_by asked files old new a cut refusal refused = cut
+unwritten_by asked files old new answer.WriteFault cut refusal is_refused = accepted_alone asked files old new cut refusal is_refused
+unwritten_by asked files old new answer.NoMemory (inl nothing) refusal is_refused = nothing
+unwritten_by asked files old new answer.NoMemory (inr accepted) refusal is_refused = accepted_alone asked files old new accepted refusal is_refused
+unwritten_by asked files old new a cut refusal is_refused = cut
 
 -- where the input is refused, a call that ended with an answer has written nothing
 pub unwritten_only : (asked : Asked) (told : Option Files) (old new : Outside) (a : Answer)

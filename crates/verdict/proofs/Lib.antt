@@ -1,4 +1,5 @@
 pub mod One
 pub mod Staging
+pub mod Structure
 pub mod Complete
 pub mod Whole

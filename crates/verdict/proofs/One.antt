@@ -1,22 +1,23 @@
--- An input has one verdict at most.
+-- An input is loaded in one way at most, and has one verdict at most.
 use Rattle.std.proofs.Common.{◌≡◌, ◌≢◌, ℕ, List, Option, Result, Ok, Err, inl, inr, ap, subst, sym, ◌∙◌}
 use Rattle.outer_io.specs.Files.{Files}
-use Rattle.query_parse.specs.declared.fault.ParseFault.{ParseFault}
-use Rattle.query_parse.specs.declared.fault.ParseFault.TheVariants.{NoMemory as out_of_memory}
-use Rattle.query_parse.specs.declared.select.Select.{Select}
-use Rattle.query_parse.specs.Parse.{Agree}
-use Rattle.query_parse.proofs.Exactly.{parses_agree}
-use Rattle.query_shape.specs.Shape.{Flaw, IsShape, Shape}
+use Rattle.query_grammar.specs.declared.fault.ParseFault.{ParseFault}
+use Rattle.query_grammar.specs.declared.fault.ParseFault.TheVariants.{NoMemory as out_of_memory}
+use Rattle.query_grammar.specs.declared.select.Select.{Select}
+use Rattle.query_grammar.specs.Parse.{Agree}
+use Rattle.query_grammar.proofs.Exactly.{parses_agree}
+use Rattle.query_shape.specs.Shape.{Flaw, Shape}
 use Rattle.query_shape.proofs.OneShape.{one_shape}
 use Rattle.refusal_lines.specs.Answer.{Answer, Usage}
 use Rattle.verdict.specs.Made.{files_of}
-use Rattle.verdict.specs.Words.{no_command, built, command_words, command_script}
+use Rattle.verdict.specs.Words.{Asked, Command, no_command, built, command_words, command_script}
 use Rattle.verdict.specs.Faults.{of_parse, of_shape}
-use Rattle.verdict.specs.Laws.{OneVerdict}
-use Rattle.verdict.specs.Loading.{Bound, IsParse, bound_in}
-use Rattle.verdict.specs.Found.{found_of, with_steps}
+use Rattle.session_script.specs.declared.step.Step.{Step}
+use Rattle.verdict.specs.Laws.{OneLoading, OneVerdict}
+use Rattle.verdict.specs.Loading.{IsParse, Loaded, bound_in}
+use Rattle.verdict.specs.Found.{Found, found_of}
 use Rattle.verdict.specs.Stages.{Then, Is, refused, followed, AtMostOne}
-use Rattle.verdict.specs.Verdict.{Named, IsRead, IsScripted, IsSelected, IsBound, IsShaped}
+use Rattle.verdict.specs.Verdict.{Named, IsRead, IsScripted, IsSelected, IsShaped, IsTabled, IsVerdict}
 
 -- a stage that computes
 pub one_computed : {A : Type 0} (r : Result A Answer) → AtMostOne (Is r)
@@ -87,30 +88,45 @@ same_shape e = cc
 same_flaw : {a b : Flaw} → Shaped (Err a) (Err b) → a ≡ b
 same_flaw e = cc
 
-one_shaped : (bound : Bound) → AtMostOne (IsShaped bound)
-one_shaped bound (Ok a) (Ok b) h k =
-    let same = same_shape (one_shape bound.query bound.tables (Ok h.shape) (Ok k.shape) h.is_shape k.is_shape) in
-    ap Ok (h.same ∙ ap (found_of bound) same ∙ sym k.same)
-one_shaped bound (Ok a) (Err b) h k = no_shape (one_shape bound.query bound.tables (Ok h.shape) (Err k.flaw) h.is_shape k.is_flaw)
-one_shaped bound (Err a) (Ok b) h k = no_shape (one_shape bound.query bound.tables (Ok k.shape) (Err h.flaw) k.is_shape h.is_flaw)
-one_shaped bound (Err a) (Err b) h k =
-    let same = same_flaw (one_shape bound.query bound.tables (Err h.flaw) (Err k.flaw) h.is_flaw k.is_flaw) in
+one_shaped : (loaded : Loaded) → AtMostOne (IsShaped loaded)
+one_shaped loaded (Ok a) (Ok b) h k =
+    let same = same_shape (one_shape loaded.query loaded.tables (Ok h.shape) (Ok k.shape) h.is_shape k.is_shape) in
+    ap Ok (h.same ∙ ap (found_of loaded) same ∙ sym k.same)
+one_shaped loaded (Ok a) (Err b) h k = no_shape (one_shape loaded.query loaded.tables (Ok h.shape) (Err k.flaw) h.is_shape k.is_flaw)
+one_shaped loaded (Err a) (Ok b) h k = no_shape (one_shape loaded.query loaded.tables (Ok k.shape) (Err h.flaw) k.is_shape h.is_flaw)
+one_shaped loaded (Err a) (Err b) h k =
+    let same = same_flaw (one_shape loaded.query loaded.tables (Err h.flaw) (Err k.flaw) h.is_flaw k.is_flaw) in
     ap Err (h.told ∙ ap of_shape same ∙ sym k.told)
 
--- the whole
-one_bound : (named : Named) (files : Files) (select : Select) → AtMostOne (IsBound named files select)
-one_bound named files select = one_then _ _ (one_computed _) (λ tables. one_then _ _ (one_computed (bound_in select tables)) one_shaped)
+-- the stages of loading
+one_tabled : (named : Named) (files : Files) (select : Select) (steps : List Step) → AtMostOne (IsTabled named files select steps)
+one_tabled named files select steps = one_then _ _ (one_computed _) (λ tables. one_computed (bound_in select tables steps))
 
-one_selected : (named : Named) (files : Files) (select : Select) → AtMostOne (IsSelected named files select)
-one_selected named files select = one_then _ _ (one_computed _) (one_bound named files)
+one_selected : (named : Named) (files : Files) (select : Select) (steps : List Step) → AtMostOne (IsSelected named files select steps)
+one_selected named files select steps = one_then _ _ (one_computed _) (λ known. one_tabled named files known steps)
 
 one_scripted : (script : Option (List ℕ)) (named : Named) (files : Files) (select : Select) → AtMostOne (IsScripted script named files select)
-one_scripted script named files select =
-    one_then _ _ (one_computed _) (λ steps. one_then _ _ (one_selected named files select) (λ found. one_computed (Ok (with_steps steps found))))
+one_scripted script named files select = one_then _ _ (one_computed _) (one_selected named files select)
 
 one_read : (script : Option (List ℕ)) (named : Named) (files : Files) (bytes : List ℕ) → AtMostOne (IsRead script named files bytes)
 one_read script named files bytes = one_then _ _ (one_parse bytes) (one_scripted script named files)
 
+pub one_loading : OneLoading
+one_loading no_command files = one_computed (Err Usage)
+one_loading (built command) files = one_then _ _ (one_computed _) (one_read (command_script command) (command_words command).tables (files_of command files))
+
+-- the whole
 pub one_verdict : OneVerdict
-one_verdict no_command files = one_computed (Err Usage)
-one_verdict (built command) files = one_then _ _ (one_computed _) (one_read (command_script command) (command_words command).tables (files_of command files))
+one_verdict asked files = one_then _ _ (one_loading asked files) one_shaped
+
+-- the verdict on words that are no command
+abbrev Same : Asked → Asked → Type 0
+Same a b = a ≡ b
+
+differ-built-none : {A : Type 0} {k : Command} → Same (built k) no_command → A
+differ-built-none h = cc
+
+pub usage_verdict : (files : Files) (asked : Asked) (result : Result Found Answer) → asked ≡ no_command → IsVerdict asked files result → result ≡ Err Usage
+usage_verdict files no_command _ e (refused h) = refused_same h
+usage_verdict files no_command result e (followed h k) = absurd (no_both (sym h))
+usage_verdict files (built command) result e v = differ-built-none e

@@ -139,6 +139,18 @@ wider_staged {A} G K T V old new r gives turns s = record {
     by_result (Some files) (Ok a) h more = more files h
     by_result told (Err e) h more = wider_fits G T K V told e (λ files is k. more files k) (λ files name is k. turns files name k) h
 
+-- ---- a stage, and then one that looks at no file
+
+pub refused_before : {A B : Type 0} (G : Files → Result A Answer → Type 0) (T : Files → List ℕ → Type 0) (H : A → Result B Answer → Type 0) (old new : Shelved) (e : Answer)
+    → Staged G T old new (Err e) → Staged (λ files. Then (G files) H) T old new (Err e)
+refused_before G T H old new e = refusal_within G T (λ files. Then (G files) H) T old new e (λ files h. refused h) (λ files name h. h)
+
+pub found_before : {A B : Type 0} (G : Files → Result A Answer → Type 0) (T : Files → List ℕ → Type 0) (H : A → Result B Answer → Type 0) (old new : Shelved) (a : A) (r : Result B Answer)
+    → Staged G T old new (Ok a) → Pure (H a) r → Staged (λ files. Then (G files) H) T old new r
+found_before G T H old new a r s h =
+    found_within G T (λ files. H a) NoTurn (λ files. Then (G files) H) T old new new a r
+    (λ files g k. followed g k) (λ files name g no_turn. absurd no_turn) s (pure_staged (H a) new r h)
+
 -- ---- two stages that look at no file, one after the other
 
 pub pure_refused : {A B : Type 0} (G : Result A Answer → Type 0) (H : A → Result B Answer → Type 0) (e : Answer) → Pure G (Err e) → Pure (Then G H) (Err e)

@@ -1,7 +1,7 @@
 -- Which answer a fault of a part is; want of memory is none of the input's.
 use Rattle.std.specs.Prelude.{ℕ, List}
-use Rattle.query_parse.specs.declared.fault.ParseFault.{ParseFault}
-use Rattle.query_parse.specs.declared.fault.ParseFault.TheVariants as parse
+use Rattle.query_grammar.specs.declared.fault.ParseFault.{ParseFault}
+use Rattle.query_grammar.specs.declared.fault.ParseFault.TheVariants as parse
 use Rattle.session_script.specs.declared.fault.ScriptFault.{ScriptFault}
 use Rattle.session_script.specs.declared.fault.ScriptFault.TheVariants as script
 use Rattle.query_bind.specs.declared.fault.BindFault.{BindFault}

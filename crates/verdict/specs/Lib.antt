@@ -8,6 +8,7 @@ pub mod Verdict
 pub mod Output
 pub mod Session
 pub mod SessionCalls
+pub mod SessionBound
 pub mod Summary
 pub mod Outcome
 pub mod Bound

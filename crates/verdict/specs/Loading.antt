@@ -3,11 +3,11 @@ use Rattle.std.specs.Prelude.{◌≡◌, ◌≢◌, ℕ, nat_lt, if◌then◌els
 use Rattle.std.specs.List.{list_any, position_or_len}
 use Rattle.std.specs.Str.{bytes_eq}
 use Rattle.outer_io.specs.Files.{Files, bytes_of}
-use Rattle.query_parse.specs.declared.fault.ParseFault.{ParseFault}
-use Rattle.query_parse.specs.declared.fault.ParseFault.TheVariants.{NoMemory as out_of_memory}
-use Rattle.query_parse.specs.declared.select.ItemRef.{ItemRef}
-use Rattle.query_parse.specs.declared.select.Select.{Select}
-use Rattle.query_parse.specs.Parse.{IsParsed, Faults}
+use Rattle.query_grammar.specs.declared.fault.ParseFault.{ParseFault}
+use Rattle.query_grammar.specs.declared.fault.ParseFault.TheVariants.{NoMemory as out_of_memory}
+use Rattle.query_grammar.specs.declared.select.ItemRef.{ItemRef}
+use Rattle.query_grammar.specs.declared.select.Select.{Select}
+use Rattle.query_grammar.specs.Parse.{IsParsed, Faults}
 use Rattle.anyk_model.specs.Table.{Table, flaw_of, records_of, table_of}
 use Rattle.anyk_model.specs.Query.{Query}
 use Rattle.query_bind.specs.Bind.{bind_fault}
@@ -116,12 +116,15 @@ files_read files named (name ∷ names) = known_file named name ∷ go_on (table
 
 -- ---- the query bound to its tables
 
--- a query, and the tables that it is bound to
-pub record Bound : Type 0 where
+-- what is known of an input once its query is bound to its tables
+pub record Loaded : Type 0 where
   pub query : Query
   pub tables : List Table
+  -- those of the script, and none if there is no script
+  pub steps : List Step
 
-abbrev pub bound_in : Select → List Table → Result Bound Answer
-bound_in select tables =
+-- names, weights and ranges
+abbrev pub bound_in : Select → List Table → List Step → Result Loaded Answer
+bound_in select tables steps =
     unless (option_map of_bind (bind_fault select tables (table_numbers select.items)))
-    (record { query = bound_query select tables (table_numbers select.items); tables = tables })
+    (record { query = bound_query select tables (table_numbers select.items); tables = tables; steps = steps })

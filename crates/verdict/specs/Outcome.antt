@@ -4,7 +4,7 @@ use Rattle.std.specs.List.{list_any}
 use Rattle.std.specs.Io.KnownBytes.{Appends}
 use Rattle.outer_io.specs.Counts.{Rose}
 use Rattle.outer_io.specs.Files.{Files}
-use Rattle.query_parse.specs.declared.select.Select.{Select}
+use Rattle.query_grammar.specs.declared.select.Select.{Select}
 use Rattle.session_script.specs.declared.step.Step.{Step}
 use Rattle.rankings.specs.Order.{IsMember}
 use Rattle.refusal_lines.specs.Answer as answer

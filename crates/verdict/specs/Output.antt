@@ -2,7 +2,7 @@
 use Rattle.std.specs.Prelude.{ℕ, List, None}
 use Rattle.anyk_model.specs.Output.{Style, output_of, cut}
 use Rattle.anyk_model.specs.Ranking.{ranking_of}
-use Rattle.plan_report.specs.Report.{report_of}
+use Rattle.query_shape.specs.Report.{report_of}
 use Rattle.verdict.specs.Words.{Words, Command, run, plan, session, load}
 use Rattle.verdict.specs.Found.{Found}
 use Rattle.verdict.specs.Session.{session_text}

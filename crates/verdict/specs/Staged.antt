@@ -2,6 +2,7 @@
 use Rattle.std.specs.Prelude.{◌≡◌, ◌≤◌, ℕ, List, Option, IfSome, Result, Ok, Err}
 use Rattle.outer_io.specs.Counts.{Rose}
 use Rattle.outer_io.specs.Files.{Files}
+use Rattle.outer_io.specs.declared.shelf.Shelf.{Ghosts}
 use Rattle.refusal_lines.specs.Answer as answer
 use Rattle.refusal_lines.specs.Answer.{Answer}
 
@@ -10,6 +11,10 @@ pub record Shelved : Type 0 where
   pub files : Option Files
   pub misses : ℕ
   pub faults : ℕ
+
+-- the same of a shelf
+abbrev pub shelved : {S : Type 0} → Ghosts S → S → Shelved
+shelved counts shelf = record { files = counts.files shelf; misses = counts.misses shelf; faults = counts.faults shelf }
 
 -- where the files are told: the result is the stage's, or, where a read failed, the file is one that the stage reads
 abbrev pub Fits : {A : Type 0} → (Files → Result A Answer → Type 0) → (Files → List ℕ → Type 0) → Option Files → Result A Answer → Type 0

@@ -7,8 +7,8 @@ use Rattle.verdict.proofs.Staging.{found_then, pure_staged, refusal_then}
 use Rattle.input_load.specs.Turns.{IsScriptedTurn}
 use Rattle.input_load.proofs.input.read_input.Goals as goal
 
-pub returns-in_err-select-clause-staged : goal.returns-in_err-select-clause-staged
-returns-in_err-select-clause-staged g c =
+pub returns-in_err-select : goal.returns-in_err-select
+returns-in_err-select g c =
     let bytes = c.args.bytes.now in
     let named = map named_pair c.args.named.now in
     let script : Option (List ℕ) = option_map (λ name. name.now) c.args.script in
@@ -16,10 +16,10 @@ returns-in_err-select-clause-staged g c =
     rw e (refusal_then (λ files. IsParse bytes) NoTurn (λ select files. IsScripted script named files select) (λ select files. IsScriptedTurn script named files select)
     _ _ _ (pure_staged (IsParse bytes) _ _ c.in_err-select.ensures.parsed))
 
-pub returns-clause-staged : goal.returns-clause-staged
-returns-clause-staged g c =
+pub returns : goal.returns
+returns g c =
     let bytes = c.args.bytes.now in
     let named = map named_pair c.args.named.now in
     let script : Option (List ℕ) = option_map (λ name. name.now) c.args.script in
     found_then (λ files. IsParse bytes) NoTurn (λ select files. IsScripted script named files select) (λ select files. IsScriptedTurn script named files select)
-    _ _ _ c.in_ok-select.select _ (pure_staged (IsParse bytes) _ _ c.in_ok-select.ensures.parsed) c.script_input.ensures.staged
+    _ _ _ c.in_ok-select.select _ (pure_staged (IsParse bytes) _ _ c.in_ok-select.ensures.parsed) c.script_input.ensures

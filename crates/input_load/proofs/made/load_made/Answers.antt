@@ -5,9 +5,9 @@ use Rattle.outer_io.specs.Files.{Files}
 use Rattle.outer_io.specs.Holding.{Holding}
 use Rattle.verdict.specs.Made.{made_files}
 use Rattle.verdict.specs.Staged.{Fits, Shelved}
-use Rattle.verdict.specs.Verdict.{IsVerdictOn, Named}
+use Rattle.verdict.specs.Verdict.{IsLoadedOn, Named}
 use Rattle.input_load.specs.Turns.{IsTurn}
-use Rattle.input_load.specs.Found.{shown_input}
+use Rattle.input_load.specs.Shown.{shown_input}
 use Rattle.input_load.proofs.MadeShelf.{distinct-files}
 use Rattle.input_load.proofs.NoneMissing.{made-none, pure-told}
 use Rattle.input_load.proofs.made.load_made.Goals as goal
@@ -15,15 +15,15 @@ use Rattle.input_load.proofs.made.load_made.Goals as goal
 pub new-shelf-requires : goal.new-shelf-requires
 new-shelf-requires c = distinct-files _ c.args.made.now.number c.args.made.now.rows c.in_ok-made_shelf.ensures
 
-pub returns-clause-loaded : goal.returns-clause-loaded
-returns-clause-loaded c =
+pub returns : goal.returns
+returns c =
     let number = c.args.made.now.number in
     let rows = c.args.made.now.rows in
     let names : map named_pair c.as_slice.result.now ≡ table_files = ap (map named_pair) c.as_slice.ensures.value ∙ c.args.made.now.names in
     let held : c.new-shelf.result.files ≡ made_files number rows = ap (λ (s : Holding). s.files) c.new-shelf.ensures ∙ c.in_ok-made_shelf.ensures in
-    let P : Named → Type 0 = λ named. Fits (IsVerdictOn query_file None named) (IsTurn query_file None named) (Some c.new-shelf.result.files) (shown_input c.load_input.result) in
-    let Q : Files → Type 0 = λ files. Fits (IsVerdictOn query_file None table_files) (IsTurn query_file None table_files) (Some files) (shown_input c.load_input.result) in
+    let P : Named → Type 0 = λ named. Fits (IsLoadedOn query_file None named) (IsTurn query_file None named) (Some c.new-shelf.result.files) (shown_input c.load_input.result) in
+    let Q : Files → Type 0 = λ files. Fits (IsLoadedOn query_file None table_files) (IsTurn query_file None table_files) (Some files) (shown_input c.load_input.result) in
     let old : Shelved = record { files = Some c.new-shelf.result.files; misses = c.new-shelf.result.misses; faults = 0 } in
     let new : Shelved = record { files = Some c.load_input.new.shelf.files; misses = c.load_input.new.shelf.misses; faults = 0 } in
-    pure-told (IsVerdictOn query_file None table_files) (IsTurn query_file None table_files) (made_files number rows) old new (shown_input c.load_input.result)
-    (made-none number rows (shown_input c.load_input.result)) (subst Q held (subst P names c.load_input.ensures.staged.fits)) refl refl c.load_input.ensures.staged.caused
+    pure-told (IsLoadedOn query_file None table_files) (IsTurn query_file None table_files) (made_files number rows) old new (shown_input c.load_input.result)
+    (made-none number rows (shown_input c.load_input.result)) (subst Q held (subst P names c.load_input.ensures.fits)) refl refl c.load_input.ensures.caused

@@ -1,6 +1,6 @@
 use Rattle.std.proofs.Common.{◌≡◌, Err, rules}
 use Rattle.refusal_lines.specs.Refused.{answer_of}
-use Rattle.input_load.proofs.Following.{no-script, script-read, script-unread}
+use Rattle.input_load.proofs.Scripts.{no-script, script-read, script-unread}
 use Rattle.input_load.proofs.script.load_script.Goals as goal
 
 pub returns-in_default-clause-staged : goal.returns-in_default-clause-staged

@@ -3,7 +3,7 @@ use Rattle.std.specs.List.{AllByRecursion}
 use Rattle.cmd_words.specs.NamedPairs.{named_pair}
 use Rattle.rankings.specs.Order.{IsMember}
 use Rattle.verdict.specs.Loading.{files_read}
-use Rattle.verdict.specs.Staged.{Staged}
+use Rattle.verdict.specs.Staged.{Staged, shelved}
 use Rattle.input_load.specs.Entries.{IsEntryOf, tables_of}
 use Rattle.input_load.proofs.Reading.{IsReached}
 use Rattle.input_load.proofs.tables.read_tables.Given as goal
@@ -14,5 +14,4 @@ invariant-loop-entry g l =
     × ((named : List (List ℕ × List ℕ)) → AllByRecursion (IsEntryOf named) (map (λ e. named_pair e.now) l.entries)
     → Staged (IsReached named (map (λ e. named_pair e.now) l.entries) l.entry-index)
     (λ files file. IsMember file (files_read files named (tables_of (map (λ e. named_pair e.now) l.entries))))
-    (record { files = g.F.Shelf.files l.initial.shelf; misses = g.F.Shelf.misses l.initial.shelf; faults = g.F.Shelf.faults l.initial.shelf })
-    (record { files = g.F.Shelf.files l.shelf; misses = g.F.Shelf.misses l.shelf; faults = g.F.Shelf.faults l.shelf }) (Ok l.tables))
+    (shelved g.F.Shelf l.initial.shelf) (shelved g.F.Shelf l.shelf) (Ok l.tables))

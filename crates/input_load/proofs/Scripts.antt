@@ -1,34 +1,14 @@
--- What is found has the steps of the script with it.
+-- The script, if there is one.
 use Rattle.std.proofs.Common.{◌≡◌, ℕ, List, [], Option, Some, None, Result, Ok, Err, refl, sym, ap, ◌∙◌, arith}
 use Rattle.outer_io.specs.Files.{Files}
-use Rattle.query_parse.specs.declared.select.Select.{Select}
 use Rattle.session_script.specs.declared.step.Step.{Step}
 use Rattle.refusal_lines.specs.Answer.{Answer}
-use Rattle.verdict.specs.Found.{Found, with_steps}
 use Rattle.verdict.specs.Loading.{file_in, steps_in, steps_said}
 use Rattle.verdict.specs.Staged.{Fits, NoTurn, Pure, Shelved, Staged}
-use Rattle.verdict.specs.Stages.{Is, followed, refused, then_by}
-use Rattle.verdict.specs.Verdict.{IsFollowed, IsSelected, Named}
+use Rattle.verdict.specs.Stages.{Is, then_by}
 use Rattle.verdict.proofs.Staging.{found_within, pure_staged, refusal_within}
-use Rattle.input_load.specs.Turns.{IsSelectedTurn}
 
-module _ (named : Named) (select : Select) (steps : List Step) (old new : Shelved) where
-  pub followed-found : (found : Found) → Staged (λ files. IsSelected named files select) (λ files. IsSelectedTurn named files select) old new (Ok found)
-      → Staged (λ files. IsFollowed named files select steps) (λ files. IsSelectedTurn named files select) old new (Ok (with_steps steps found))
-  followed-found found s =
-      found_within (λ files. IsSelected named files select) (λ files. IsSelectedTurn named files select) (λ files. Is (Ok (with_steps steps found))) NoTurn
-      (λ files. IsFollowed named files select steps) (λ files. IsSelectedTurn named files select) old new new found (Ok (with_steps steps found))
-      (λ files given is. followed given is) (λ files name given no_turn. absurd no_turn) s (pure_staged (Is (Ok (with_steps steps found))) new (Ok (with_steps steps found)) refl)
-
-  pub followed-refused : (e : Answer) → Staged (λ files. IsSelected named files select) (λ files. IsSelectedTurn named files select) old new (Err e)
-      → Staged (λ files. IsFollowed named files select steps) (λ files. IsSelectedTurn named files select) old new (Err e)
-  followed-refused e s =
-      refusal_within (λ files. IsSelected named files select) (λ files. IsSelectedTurn named files select)
-      (λ files. IsFollowed named files select steps) (λ files. IsSelectedTurn named files select) old new e (λ files h. refused h) (λ files name h. h) s
-
--- ---- the script
-
--- where no file is named there are no steps
+-- if no file is named there are no steps
 pub no-script : (T : Files → List ℕ → Type 0) (s : Shelved) (steps : List Step) → steps ≡ [] → Staged (λ files. Is (steps_in files None)) T s s (Ok steps)
 no-script T s steps none = record {
   fits = by s.files;
