@@ -3,9 +3,11 @@
 
 mod answer;
 mod fields;
+mod printing;
 mod style;
 mod titles;
 
 pub use answer::{key_sum, line, write_line};
+pub use printing::{print_answer, print_header};
 pub use style::Style;
 pub use titles::header;

@@ -2,3 +2,4 @@ pub mod CoreItems
 pub mod Pieces
 pub mod Samples
 pub mod Sending
+pub mod Prints

@@ -3,3 +3,4 @@ pub mod Core
 pub mod Pieces
 pub mod Refused
 pub mod Sent
+pub mod Printed

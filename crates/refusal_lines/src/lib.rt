@@ -4,7 +4,9 @@
 mod line;
 mod memory;
 mod piece;
+mod printing;
 mod refusal;
 
 pub use line::write_line;
+pub use printing::print;
 pub use refusal::Refusal;

@@ -1,5 +1,5 @@
 -- The most steps of a run of a query.
-use Rattle.std.specs.Prelude.{◌≡◌, ◌+◌, ◌++◌, ◌≤◌, ℕ, List, Option, Some, Ok, drop, length, map}
+use Rattle.std.specs.Prelude.{◌≡◌, ◌+◌, ◌*◌, ◌++◌, ◌≤◌, ℕ, List, Option, Some, Ok, drop, length, map}
 use Rattle.anyk_model.specs.Table.{Table}
 use Rattle.anyk_model.specs.Query.{Query, row_counts}
 use Rattle.anyk_model.specs.Ranking.{ranking_of}
@@ -20,6 +20,11 @@ cost_over query tables shape calls = cost (length query.items) (total_of query t
 abbrev pub records_in : Query → List Table → Style → List ℕ → ℕ
 records_in query tables style part =
     whole_lines (map (line_text query tables style) (cut query.limit (ranking_of query tables))) (drop (length (header_text query tables style)) part)
+
+-- no more steps than the preparation of the query's plan may take
+abbrev pub IsPrepared : Query → List Table → ℕ → ℕ → Type 0
+IsPrepared query tables before now =
+    now ≤ before + 16 * (length query.items * length query.items * (1 + sum_of_all (row_counts query.items tables)))
 
 -- no more steps than the bound for the calls that the whole output asks for
 abbrev pub KeepsBound : Query → List Table → ℕ → ℕ → Type 0

@@ -1,10 +1,11 @@
 -- The key of a rank that stands for a combination of rows of a query, and the answer that it is seen as.
-use Rattle.std.specs.Prelude.{◌≡◌, ℕ, List, map}
+use Rattle.std.specs.Prelude.{◌≡◌, ℕ, List, length, map, take}
+use Rattle.std.specs.List.{AllByRecursion}
 use Rattle.tdp_model.specs.KeyTuple.{KeyOf}
 use Rattle.tdp_model.specs.KeyNumbers.{key_of_lists}
 use Rattle.tdp_core.specs.Seen.{Seen, answer_of}
 use Rattle.anyk_model.specs.Table.{Table}
-use Rattle.anyk_model.specs.Query.{Query, IsWitness, rank_of}
+use Rattle.anyk_model.specs.Query.{Query, IsCombination, IsWitness, rank_of, row_counts}
 
 -- the sums as they are compared, with zeros up to d of them, and each row number in the slot of its item
 abbrev pub witness_key : (d : ℕ) → Query → List Table → List ℕ → KeyOf d 16
@@ -23,3 +24,12 @@ answer_of_witness d query tables rows = answer_of d (witness_key d query tables 
 -- the answers that stand for combinations
 abbrev pub answers_of_ranking : (d : ℕ) → Query → List Table → List (List ℕ) → List Seen
 answers_of_ranking d query tables list = map (answer_of_witness d query tables) list
+
+-- the combinations that answers stand for: of each answer the rows of the query's items
+abbrev pub combinations_in : Query → List Seen → List (List ℕ)
+combinations_in query answers = map (λ (a : Seen). take (length query.items) a.rows) answers
+
+-- each answer stands for a combination of rows of the query's items
+abbrev pub AreCombinations : Query → List Table → List Seen → Type 0
+AreCombinations query tables answers =
+    AllByRecursion (λ (a : Seen). IsCombination (row_counts query.items tables) (take (length query.items) a.rows)) answers

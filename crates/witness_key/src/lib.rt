@@ -4,12 +4,13 @@
 #![tactic(auto)]
 
 ghost use Rattle.std.specs.Prelude.{◌≡◌, ◌≤◌, ◌↔◌, ℕ, List, length, map};
+ghost use Rattle.std.specs.List.{AllByRecursion};
 ghost use Rattle.rankings.specs.Order.{IsRanking};
 ghost use Rattle.tdp_model.specs.KeyTuple.{KeyOf, key_below};
 ghost use Rattle.anyk_model.specs.Table.{Table};
-ghost use Rattle.anyk_model.specs.Query.{Query};
+ghost use Rattle.anyk_model.specs.Query.{IsCombination, Query, row_counts};
 ghost use Rattle.anyk_model.specs.Ranking.{Precedes, ranking_of};
-ghost use Rattle.witness_key.specs.WitnessKey.{IsWitnessKey, witness_key};
+ghost use Rattle.witness_key.specs.WitnessKey.{AreCombinations, IsWitnessKey, answers_of_ranking, combinations_in, witness_key};
 
 /// Of two combinations the ranks stand in the order in which the query's own keys do.
 pub fn both_orders_agree()
@@ -30,4 +31,19 @@ pub fn rankings_agree()
     ensures { (d : ℕ) (query : Query) (tables : List Table) (keys : List (KeyOf d 16)) → length query.order ≤ d → length query.items ≤ 16
         → IsRanking (KeyOf d 16) (key_below d 16) (IsWitnessKey d query tables) keys
         → keys ≡ map (witness_key d query tables) (ranking_of query tables) }
+{}
+
+/// The combinations that the answers of a list of combinations stand for are that list.
+pub fn answers_tell_combinations()
+    ensures { (d : ℕ) (query : Query) (tables : List Table) (list : List (List ℕ)) → length query.items ≤ 16
+        → AllByRecursion (IsCombination (row_counts query.items tables)) list
+        → (combinations_in query (answers_of_ranking d query tables list) ≡ list)
+        × AreCombinations query tables (answers_of_ranking d query tables list) }
+{}
+
+/// The combinations that the answers of the ranking stand for are the ranking.
+pub fn ranking_tells_combinations()
+    ensures { (d : ℕ) (query : Query) (tables : List Table) → length query.items ≤ 16
+        → (combinations_in query (answers_of_ranking d query tables (ranking_of query tables)) ≡ ranking_of query tables)
+        × AreCombinations query tables (answers_of_ranking d query tables (ranking_of query tables)) }
 {}

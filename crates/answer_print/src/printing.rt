@@ -1,0 +1,51 @@
+//! The header, and the record of an answer, each by one write.
+ghost use Rattle.std.specs.Prelude.{length, take};
+ghost use Rattle.anyk_model.specs.Output.{header_text, line_text};
+ghost use Rattle.anyk_model.specs.Query.{IsCombination, row_counts};
+ghost use Rattle.answer_print.specs.Shown.{style_shown};
+ghost use Rattle.query_bind.specs.Weighed.{Fits};
+ghost use Rattle.refusal_lines.specs.Printed.{Printed};
+
+use crate::answer::write_line;
+use crate::style::Style;
+use crate::titles::header;
+use csv_tables::{RecordWriter, Tables};
+use outer_io::Sink;
+use query_bind::Query;
+use refusal_lines::{Refusal, print};
+use std::alloc::Global;
+
+/// Prints the header.
+pub fn print_header<'a, S: Sink>(
+    alloc: Global,
+    query: &Query,
+    tables: &Tables,
+    style: &Style<'_>,
+    out: &mut S,
+) -> Result<(), Refusal<'a>>
+    requires fits { Fits query.now tables.now }
+    ensures { Printed (S.written out.old) (S.written out.new) (S.faults out.old) (S.faults out.new)
+        (header_text query.now.query tables.now (style_shown style.now)) result }
+{
+    let text = header(alloc, query, tables, style)?;
+    print(out, &text)
+}
+
+/// Prints the record of the answer that has these rows, one for each item, counted from 1. `records` writes it first.
+pub fn print_answer<'a, S: Sink>(
+    alloc: Global,
+    records: &mut RecordWriter,
+    query: &Query,
+    tables: &Tables,
+    style: &Style<'_>,
+    rows: &[u32; 16],
+    out: &mut S,
+) -> Result<(), Refusal<'a>>
+    requires fits { Fits query.now tables.now }
+    requires rows { IsCombination (row_counts query.now.query.items tables.now) (take (length query.now.query.items) rows.now) }
+    ensures { Printed (S.written out.old) (S.written out.new) (S.faults out.old) (S.faults out.new)
+        (line_text query.now.query tables.now (style_shown style.now) (take (length query.now.query.items) rows.now)) result }
+{
+    write_line(alloc, records, query, tables, rows, style)?;
+    print(out, records.text())
+}

@@ -1,0 +1,42 @@
+//! The summary, by one write.
+ghost use Rattle.std.specs.Prelude.{◌≡◌, ◌+◌, ◌≤◌};
+ghost use Rattle.anyk_model.specs.Output.{cut};
+ghost use Rattle.query_bind.specs.Weighed.{Fits};
+ghost use Rattle.refusal_lines.specs.Printed.{Printed};
+ghost use Rattle.step_bounds.specs.Steps.{calls_for, steps_for};
+ghost use Rattle.verdict.specs.Summary.{summary_text};
+ghost use Rattle.witness_key.specs.WitnessKey.{AreCombinations, combinations_in};
+
+use crate::ends::take_ends;
+use crate::text::summary;
+use csv_tables::Tables;
+use outer_io::Sink;
+use query_bind::Query;
+use refusal_lines::{Refusal, print};
+use std::alloc::Global;
+use std::sync::ledger::Ledger;
+use step_counter::Steps;
+use tdp_core::Ranked;
+
+/// Takes the answers that the engine has left, as many as the limit allows, and prints their summary when all are known. `NoMemory`
+/// if memory is refused, and `WriteFault` if the write failed.
+pub fn print_summary<'a, E: Ranked, S: Sink, L: Ledger>(
+    alloc: Global,
+    query: &Query,
+    tables: &Tables,
+    engine: &mut E,
+    out: &mut S,
+    steps: &mut Steps<L>,
+) -> Result<(), Refusal<'a>>
+    requires fits { Fits query.now tables.now }
+    requires rows { AreCombinations query.now.query tables.now (E.rest engine.old) }
+    ensures printed { Printed (S.written out.old) (S.written out.new) (S.faults out.old) (S.faults out.new)
+        (summary_text query.now.query tables.now (cut query.now.query.limit (combinations_in query.now.query (E.rest engine.old)))) result }
+    ensures bounded { steps.new ≤ steps.old
+        + steps_for (λ n. E.share (E.size engine.old) (E.calls engine.old + n)) (calls_for query.now.query.limit (combinations_in query.now.query (E.rest engine.old))) }
+{
+    let _items = query.items();
+    let ends = take_ends(query.limit(), engine, steps)?;
+    let text = summary(alloc, query, tables, &ends)?;
+    print(out, &text)
+}

@@ -1,0 +1,187 @@
+-- Answers that an engine gave one by one, each printed.
+use Rattle.std.proofs.Common.{◌≡◌, ◌≤◌, ◌<◌, ◌+◌, ◌∷◌, ◌++◌, [], ℕ, zero, suc, List, length, map, take, drop, get_or, unwrap_or, is_some, true, IfSome, Option, Some, None, Ok, Err, sym, ap, subst, ◌∙◌, arith, append-nil, take-append-drop, inl, inr}
+use Rattle.std.proofs.lemmas.Bool.{cases_lt}
+use Rattle.std.proofs.lemmas.Grind.{flat_map-append}
+use Rattle.std.proofs.lemmas.List.{drop_all, drop_more, take-take, take_all, take_more}
+use Rattle.std.specs.List.{AllByRecursion, flat_map}
+use Rattle.std.specs.Io.KnownBytes.{Appends}
+use Rattle.std.proofs.KnownBytes.{Appends-trans}
+use Rattle.anyk_model.specs.Output.{cut}
+use Rattle.refusal_lines.specs.declared.refusal.Refusal.{Refusal}
+use Rattle.refusal_lines.specs.declared.refusal.Refusal.TheVariants as refusal
+use Rattle.tdp_core.specs.Seen.{counted}
+use Rattle.step_bounds.specs.Steps.{steps_for}
+use Rattle.step_bounds.proofs.Pacing.{steps-next}
+use Rattle.refusal_lines.specs.Printed.{Printed}
+use Rattle.refusal_lines.proofs.Prints.{printed-stopped, printed-then}
+
+-- the first i of a list were given and printed, the engine has the others left, and what is left has P
+pub record HasGiven {A B : Type 0} (P : B → Type 0) (f : A → List ℕ) (seen : B → A) (list : List A) (i : ℕ) (left : List B) (old now : Option (List ℕ)) (before faults : ℕ) : Type 0 where
+  pub rest : map seen left ≡ drop i list
+  pub all : AllByRecursion P left
+  pub within : i ≤ length list
+  pub sent : Appends old now (flat_map f (take i list))
+  pub later : before ≤ faults
+
+-- i calls were made, and took no more than their shares
+pub record HasCalled (share : List ℕ → ℕ → ℕ) (size : List ℕ) (calls i : ℕ) (size_now : List ℕ) (calls_now before now : ℕ) : Type 0 where
+  pub same : size_now ≡ size
+  pub few : calls_now ≤ calls + i
+  pub spent : now ≤ before + steps_for (λ n. share size (calls + n)) i
+
+module _ (share : List ℕ → ℕ → ℕ) (rises : (s : List ℕ) (c d : ℕ) → c ≤ d → share s c ≤ share s d) (size : List ℕ) (calls : ℕ) where
+  pub rises-from : (c d : ℕ) → c ≤ d → share size (calls + c) ≤ share size (calls + d)
+  rises-from c d h = rises size (calls + c) (calls + d) (omega (arith, h))
+
+  -- one call more
+  pub called-more : (i : ℕ) (size_now size_later : List ℕ) (calls_now calls_later before now later due : ℕ)
+      → HasCalled share size calls i size_now calls_now before now → due ≤ share size_now calls_now → later ≤ now + due
+      → calls_later ≡ counted calls_now → size_later ≡ size_now → HasCalled share size calls (i + 1) size_later calls_later before later
+  called-more i size_now size_later calls_now calls_later before now later due h within cost count kept =
+      let at_most : share size_now calls_now ≤ share size (calls + i) =
+      subst (λ s. share s calls_now ≤ share size (calls + i)) (sym h.same) (rises size calls_now (calls + i) h.few) in
+      record {
+        same = kept ∙ h.same;
+        few = let few = h.few in omega (arith, few, count, counted-few calls_now);
+        spent = steps-next (λ n. share size (calls + n)) rises-from i before now later h.spent (omega (arith, within, cost, at_most));
+      }
+    where
+      counted-few : (n : ℕ) → counted n ≤ n + 1
+      counted-few n = omega arith
+
+-- the answers so far, and the calls for them
+pub record HasPrinted {A B : Type 0} (P : B → Type 0) (f : A → List ℕ) (seen : B → A) (list : List A) (i : ℕ) (left : List B) (old now : Option (List ℕ)) (before faults : ℕ)
+    (share : List ℕ → ℕ → ℕ) (size : List ℕ) (calls : ℕ) (size_now : List ℕ) (calls_now started spent : ℕ) : Type 0 where
+  pub given : HasGiven P f seen list i left old now before faults
+  pub called : HasCalled share size calls i size_now calls_now started spent
+
+module _ {A B : Type 0} (P : B → Type 0) (f : A → List ℕ) (seen : B → A) (list : List A) (i : ℕ) where
+  -- an answer was given, so a member was left
+  pub one-left : (left : List B) (b : B) (rest : List B) → map seen left ≡ drop i list → left ≡ b ∷ rest → i < length list
+  one-left left b rest h e = elim (cases_lt i (length list)) [ inl inside ↦ inside | inr end ↦ none (drop_all i list end) ]
+    where
+      none : drop i list ≡ [] → i < length list
+      none empty = let impossible : seen b ∷ map seen rest ≡ [] = sym (ap (map seen) e) ∙ h ∙ empty in cc
+
+  -- none was given, so none was left
+  pub none-left : (left : List B) → map seen left ≡ drop i list → left ≡ [] → length list ≤ i
+  none-left left h e = elim (cases_lt i (length list)) [ inl inside ↦ some inside | inr end ↦ end ]
+    where
+      some : i < length list → length list ≤ i
+      some inside = by list i inside (sym h ∙ ap (map seen) e)
+        where
+          by : (xs : List A) (i : ℕ) → i < length xs → drop i xs ≡ [] → length xs ≤ i
+          by [] i inside empty = omega arith
+          by (x ∷ xs) zero inside empty = cc
+          by (x ∷ xs) (suc i) inside empty = let h = by xs i (omega arith) empty in omega (arith, h)
+
+  -- what is true of all that is left is true of the answer that is given
+  pub first-left : (left : List B) (b : B) (rest : List B) → AllByRecursion P left → left ≡ b ∷ rest → P b
+  first-left left b rest all e = let both : AllByRecursion P (b ∷ rest) = subst (AllByRecursion P) e all in both.0
+
+  module _ (x : A) (b : B) (left rest : List B) (h : map seen left ≡ drop i list) (e : left ≡ b ∷ rest) where
+    abbrev member : A
+    member = get_or list i x
+
+    split : seen b ∷ map seen rest ≡ member ∷ drop (i + 1) list
+    split = sym (ap (map seen) e) ∙ h ∙ drop_more list i x (one-left left b rest h e)
+
+    given-is : seen b ≡ member
+    given-is = let s : seen b ∷ map seen rest ≡ member ∷ drop (i + 1) list = split in cc
+
+    rest-is : map seen rest ≡ drop (i + 1) list
+    rest-is = let s : seen b ∷ map seen rest ≡ member ∷ drop (i + 1) list = split in cc
+
+    more-text : flat_map f (take (i + 1) list) ≡ flat_map f (take i list) ++ f member
+    more-text = ap (flat_map f) (take_more list i x (one-left left b rest h e)) ∙ flat_map-append f (take i list) (member ∷ [])
+        ∙ ap (λ (l : List ℕ). flat_map f (take i list) ++ l) (append-nil (f member))
+
+    pub given-more : (old mid now : Option (List ℕ)) (before m n : ℕ) → HasGiven P f seen list i left old mid before m → Appends mid now (f (seen b)) → m ≤ n
+        → HasGiven P f seen list (i + 1) rest old now before n
+    given-more old mid now before m n g one later = record {
+      rest = rest-is;
+      all = let both : AllByRecursion P (b ∷ rest) = subst (AllByRecursion P) e g.all in both.1;
+      within = let inside = one-left left b rest h e in omega (arith, inside);
+      sent = subst (λ (text : List ℕ). Appends old now text) (sym more-text)
+          (Appends-trans old mid now (flat_map f (take i list)) (f member) g.sent (subst (λ (a : A). Appends mid now (f a)) given-is one));
+      later = let first = g.later in omega (arith, first, later);
+    }
+
+    -- the text of the members that a limit past i leaves begins with those up to i and the next
+    part-of : (limit : Option ℕ) → IfSome limit (λ n. i < n) → (more : List ℕ) × (flat_map f (cut limit list) ≡ (flat_map f (take i list) ++ f member) ++ more)
+    part-of None low = (
+      flat_map f (drop (i + 1) list),
+      sym (ap (flat_map f) (take-append-drop (i + 1) list)) ∙ flat_map-append f (take (i + 1) list) (drop (i + 1) list)
+          ∙ ap (λ (l : List ℕ). l ++ flat_map f (drop (i + 1) list)) more-text,
+    )
+    part-of (Some n) low =
+        let chosen = take n list in (
+          flat_map f (drop (i + 1) chosen),
+          sym (ap (flat_map f) (take-append-drop (i + 1) chosen)) ∙ flat_map-append f (take (i + 1) chosen) (drop (i + 1) chosen)
+              ∙ ap (λ (l : List ℕ). l ++ flat_map f (drop (i + 1) chosen)) (ap (flat_map f) (take-take (i + 1) n list (omega arith)) ∙ more-text),
+        )
+
+    -- the record of the next member was cut short
+    pub cut-short : (limit : Option ℕ) (old mid now : Option (List ℕ)) (before m n : ℕ) (e : Refusal) → IfSome limit (λ n. i < n)
+        → HasGiven P f seen list i left old mid before m → Printed mid now m n (f (seen b)) (Err e)
+        → Printed old now before n (flat_map f (cut limit list)) (Err e)
+    cut-short limit old mid now before m n e low g one =
+        let parts = part-of limit low in
+        subst (λ (text : List ℕ). Printed old now before n text (Err e)) (sym parts.1)
+        (printed-stopped old now before n (flat_map f (take i list) ++ f member) parts.0 e
+        (printed-then old mid now before m n (flat_map f (take i list)) (f member) (Err e) g.sent g.later
+        (subst (λ (a : A). Printed mid now m n (f a) (Err e)) given-is one)))
+
+  -- the text of the members up to i is at the front of that of those that a limit from i on leaves
+  front-of : (limit : Option ℕ) → IfSome limit (λ n. i ≤ n) → (more : List ℕ) × (flat_map f (cut limit list) ≡ flat_map f (take i list) ++ more)
+  front-of None low =
+      (flat_map f (drop i list), sym (ap (flat_map f) (take-append-drop i list)) ∙ flat_map-append f (take i list) (drop i list))
+  front-of (Some n) low =
+      let chosen = take n list in (
+        flat_map f (drop i chosen),
+        sym (ap (flat_map f) (take-append-drop i chosen)) ∙ flat_map-append f (take i chosen) (drop i chosen)
+            ∙ ap (λ (l : List A). flat_map f l ++ flat_map f (drop i chosen)) (take-take i n list low),
+      )
+
+  -- memory ran out before the next record
+  pub stopped-short : (limit : Option ℕ) (left : List B) (old now : Option (List ℕ)) (before faults : ℕ) → IfSome limit (λ n. i ≤ n)
+      → HasGiven P f seen list i left old now before faults → Printed old now before faults (flat_map f (cut limit list)) (Err refusal.NoMemory)
+  stopped-short limit left old now before faults low g = record {
+    whole = tt;
+    prefix = (flat_map f (take i list), g.sent, front-of limit low);
+    cause = tt;
+    later = g.later;
+  }
+
+  all-text : (limit : Option ℕ) → IfSome limit (λ n. i ≤ n) → length list ≤ i → take i list ≡ cut limit list
+  all-text None low end = take_all i list end
+  all-text (Some n) low end = take_all i list end ∙ sym (take_all n list (omega arith))
+
+  -- the engine has none left
+  pub printed-all : (limit : Option ℕ) (left : List B) (old now : Option (List ℕ)) (before faults : ℕ) → IfSome limit (λ n. i ≤ n) → left ≡ []
+      → HasGiven P f seen list i left old now before faults → Printed old now before faults (flat_map f (cut limit list)) (Ok tt)
+  printed-all limit left old now before faults low empty g =
+      let same = ap (flat_map f) (all-text limit low (none-left left g.rest empty)) in
+      let all = subst (λ (text : List ℕ). Appends old now text) same g.sent in
+      record { whole = all; prefix = (flat_map f (cut limit list), all, ([], sym (append-nil (flat_map f (cut limit list))))); cause = tt; later = g.later }
+
+  -- the limit is reached
+  pub printed-limit : (limit : Option ℕ) (left : List B) (old now : Option (List ℕ)) (before faults : ℕ) → limit ≡ Some i
+      → HasGiven P f seen list i left old now before faults → Printed old now before faults (flat_map f (cut limit list)) (Ok tt)
+  printed-limit limit left old now before faults reached g =
+      let all = subst (λ (o : Option ℕ). Appends old now (flat_map f (cut o list))) (sym reached) g.sent in
+      record { whole = all; prefix = (flat_map f (cut limit list), all, ([], sym (append-nil (flat_map f (cut limit list))))); cause = tt; later = g.later }
+
+-- a number below what a limit allows
+pub limit-below : (limit : Option ℕ) (i most greatest : ℕ) → most ≡ unwrap_or limit greatest → i < most → IfSome limit (λ n. i < n)
+limit-below None i most greatest is below = tt
+limit-below (Some n) i most greatest is below = omega (arith, is, below)
+
+pub limit-within : (limit : Option ℕ) (i most greatest : ℕ) → most ≡ unwrap_or limit greatest → i < most → IfSome limit (λ n. i ≤ n)
+limit-within None i most greatest is below = tt
+limit-within (Some n) i most greatest is below = omega (arith, is, below)
+
+-- the limit that a loop met
+pub limit-reached : (limit : Option ℕ) (i most greatest : ℕ) → most ≡ unwrap_or limit greatest → is_some limit ≡ true → most ≤ i → i ≤ most → limit ≡ Some i
+limit-reached None i most greatest is some end within = cc
+limit-reached (Some n) i most greatest is some end within = ap Some (omega (arith, is, end, within))

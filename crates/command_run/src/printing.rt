@@ -1,0 +1,77 @@
+//! The header and the answers that an engine has left, each by one write.
+ghost use Rattle.std.specs.Prelude.{◌≡◌, ◌+◌, ◌++◌, ◌≤◌, IfOk, List, Some, drop, length, map, take, ℕ};
+ghost use Rattle.std.specs.List.{flat_map};
+ghost use Rattle.anyk_model.specs.Output.{cut, header_text, line_text, output_of};
+ghost use Rattle.answer_print.specs.Shown.{style_shown};
+ghost use Rattle.query_bind.specs.Weighed.{Fits};
+ghost use Rattle.witness_key.specs.WitnessKey.{AreCombinations, combinations_in};
+ghost use Rattle.step_bounds.specs.Steps.{Paced, calls_for, steps_for, whole_lines};
+ghost use Rattle.refusal_lines.specs.Printed.{Printed};
+
+use answer_print::{Style, print_answer, print_header};
+use csv_tables::{RecordWriter, Tables};
+use outer_io::Sink;
+use query_bind::Query;
+use refusal_lines::Refusal;
+use std::alloc::Global;
+use std::sync::ledger::Ledger;
+use step_counter::Steps;
+use tdp_core::Ranked;
+
+/// Prints the header, and then the answers that the engine has left, as many as the limit allows. `NoMemory` if memory is refused,
+/// and `WriteFault` if a write failed.
+pub fn print_ranking<'a, E: Ranked, S: Sink, L: Ledger>(
+    alloc: Global,
+    query: &Query,
+    tables: &Tables,
+    style: &Style<'_>,
+    engine: &mut E,
+    out: &mut S,
+    steps: &mut Steps<L>,
+) -> Result<(), Refusal<'a>>
+    requires fits { Fits query.now tables.now }
+    requires rows { AreCombinations query.now.query tables.now (E.rest engine.old) }
+    ensures printed { Printed (S.written out.old) (S.written out.new) (S.faults out.old) (S.faults out.new)
+        (output_of query.now.query tables.now (style_shown style.now) (cut query.now.query.limit (combinations_in query.now.query (E.rest engine.old)))) result }
+    ensures bounded { steps.new ≤ steps.old
+        + steps_for (λ n. E.share (E.size engine.old) (E.calls engine.old + n)) (calls_for query.now.query.limit (combinations_in query.now.query (E.rest engine.old))) }
+    ensures prompt { (start part : List ℕ) → S.written out.old ≡ Some start → S.written out.new ≡ Some (start ++ part) → steps.new ≤ steps.old
+        + steps_for (λ n. E.share (E.size engine.old) (E.calls engine.old + n)) (whole_lines
+        (map (line_text query.now.query tables.now (style_shown style.now)) (cut query.now.query.limit (combinations_in query.now.query (E.rest engine.old))))
+        (drop (length (header_text query.now.query tables.now (style_shown style.now))) part) + 1) }
+{
+    print_header(alloc, query, tables, style, out)?;
+    print_answers(alloc, query, tables, style, engine, out, steps)
+}
+
+// The answers, until the limit or the engine's end.
+fn print_answers<'a, E: Ranked, S: Sink, L: Ledger>(
+    alloc: Global,
+    query: &Query,
+    tables: &Tables,
+    style: &Style<'_>,
+    engine: &mut E,
+    out: &mut S,
+    steps: &mut Steps<L>,
+) -> Result<(), Refusal<'a>>
+    requires fits { Fits query.now tables.now }
+    requires rows { AreCombinations query.now.query tables.now (E.rest engine.old) }
+    ensures printed { Printed (S.written out.old) (S.written out.new) (S.faults out.old) (S.faults out.new)
+        (flat_map (line_text query.now.query tables.now (style_shown style.now)) (cut query.now.query.limit (combinations_in query.now.query (E.rest engine.old)))) result }
+    ensures paced { Paced (λ n. E.share (E.size engine.old) (E.calls engine.old + n))
+        (map (line_text query.now.query tables.now (style_shown style.now)) (cut query.now.query.limit (combinations_in query.now.query (E.rest engine.old))))
+        (calls_for query.now.query.limit (combinations_in query.now.query (E.rest engine.old))) (S.written out.old) (S.written out.new) steps.old steps.new }
+{
+    let most = query.limit().unwrap_or(u64::MAX);
+    let mut records = RecordWriter::new(alloc);
+    for _given in 0..most {
+        let Some(answer) = engine.next(steps)? else {
+            return Ok(());
+        };
+        print_answer(alloc, &mut records, query, tables, style, &answer.rows, out)?;
+    }
+    if query.limit().is_none() {
+        return Err(Refusal::NoMemory);
+    }
+    Ok(())
+}

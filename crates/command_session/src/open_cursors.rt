@@ -1,0 +1,134 @@
+//! The open cursors by name.
+ghost use Rattle.std.specs.Prelude.{◌≡◌, IfErr, IsSome, None, OnOk, Some, position};
+ghost use Rattle.refusal_lines.specs.Answer as answer;
+ghost use Rattle.refusal_lines.specs.Refused.{answer_of};
+ghost use Rattle.verdict.specs.Session.{Places, with_cursor};
+ghost use Rattle.command_session.specs.Held.{IsHeld, is_named};
+
+use cursor_set::{CursorId, Cursors, MAX_OPEN};
+use refusal_lines::Refusal;
+use tdp_core::Ranked;
+
+/// A cursor that is open: its name, and its place in the list, from 0.
+#[derive(Clone, Copy, Drop)]
+pub(crate) struct OpenCursor<'s> {
+    pub(crate) name: &'s [u8],
+    pub(crate) place: u64,
+}
+
+/// The open cursors, each at the number that it has in the set.
+pub(crate) type OpenCursors<'s> = [Option<OpenCursor<'s>>; MAX_OPEN];
+
+/// The number of the cursor of this name.
+pub(crate) fn number_of(cursors: &OpenCursors<'_>, name: &[u8]) -> Option<usize>
+    ensures { result ≡ position (is_named name.now) cursors.now }
+{
+    cursors.iter().position(|cursor| is_named(cursor, name))
+}
+
+fn is_named(cursor: &Option<OpenCursor<'_>>, name: &[u8]) -> bool
+    ensures { result ≡ is_named name.now cursor.now }
+{
+    match cursor {
+        Some(cursor) => cursor.name == name,
+        None => false,
+    }
+}
+
+/// Opens a cursor of a new name at the list's start.
+pub(crate) fn open<'a, 's, E: Ranked>(
+    set: &mut Cursors<E>,
+    cursors: &mut OpenCursors<'s>,
+    name: &'s [u8],
+) -> Result<(), Refusal<'a>>
+    ensures held { (places : Places) → IsHeld set.old cursors.old places → places name.entry.now ≡ None
+        → OnOk result (IsHeld set.new cursors.new (with_cursor places name.entry.now (Some 0))) }
+    ensures memory { IfErr result (λ refusal. answer_of refusal ≡ answer.NoMemory) }
+    ensures answers { set.new.answers ≡ set.old.answers }
+    ensures only { set.new ≡ record set.old { places = set.new.places } }
+{
+    let Ok(id) = set.open() else {
+        return Err(Refusal::NoMemory);
+    };
+    cursors[id.number] = Some(OpenCursor { name, place: 0 });
+    Ok(())
+}
+
+/// Opens a cursor of a new name at the place of another.
+pub(crate) fn fork<'a, 's, E: Ranked>(
+    set: &mut Cursors<E>,
+    cursors: &mut OpenCursors<'s>,
+    name: &[u8],
+    new: &'s [u8],
+) -> Result<(), Refusal<'a>>
+    ensures held { (places : Places) → IsHeld set.old cursors.old places → IsSome (places name.now) → places new.entry.now ≡ None
+        → OnOk result (IsHeld set.new cursors.new (with_cursor places new.entry.now (places name.now))) }
+    ensures memory { IfErr result (λ refusal. answer_of refusal ≡ answer.NoMemory) }
+    ensures answers { set.new.answers ≡ set.old.answers }
+    ensures only { set.new ≡ record set.old { places = set.new.places } }
+{
+    let Some(number) = number_of(cursors, name) else {
+        return Ok(());
+    };
+    let Some(cursor) = cursors[number] else {
+        return Ok(());
+    };
+    let Ok(id) = set.fork(CursorId { number }) else {
+        return Err(Refusal::NoMemory);
+    };
+    cursors[id.number] = Some(OpenCursor {
+        name: new,
+        place: cursor.place,
+    });
+    Ok(())
+}
+
+/// Takes a cursor back to the list's start.
+pub(crate) fn rewind<'a, E: Ranked>(
+    set: &mut Cursors<E>,
+    cursors: &mut OpenCursors<'_>,
+    name: &[u8],
+) -> Result<(), Refusal<'a>>
+    ensures held { (places : Places) → IsHeld set.old cursors.old places → IsSome (places name.now)
+        → OnOk result (IsHeld set.new cursors.new (with_cursor places name.now (Some 0))) }
+    ensures memory { IfErr result (λ refusal. answer_of refusal ≡ answer.NoMemory) }
+    ensures answers { set.new.answers ≡ set.old.answers }
+    ensures only { set.new ≡ record set.old { places = set.new.places } }
+{
+    let Some(number) = number_of(cursors, name) else {
+        return Ok(());
+    };
+    let Some(cursor) = cursors[number] else {
+        return Ok(());
+    };
+    let Ok(()) = set.rewind(CursorId { number }) else {
+        return Ok(());
+    };
+    cursors[number] = Some(OpenCursor {
+        name: cursor.name,
+        place: 0,
+    });
+    Ok(())
+}
+
+/// Closes a cursor.
+pub(crate) fn close<'a, E: Ranked>(
+    set: &mut Cursors<E>,
+    cursors: &mut OpenCursors<'_>,
+    name: &[u8],
+) -> Result<(), Refusal<'a>>
+    ensures held { (places : Places) → IsHeld set.old cursors.old places → IsSome (places name.now)
+        → OnOk result (IsHeld set.new cursors.new (with_cursor places name.now None)) }
+    ensures memory { IfErr result (λ refusal. answer_of refusal ≡ answer.NoMemory) }
+    ensures answers { set.new.answers ≡ set.old.answers }
+    ensures only { set.new ≡ record set.old { places = set.new.places } }
+{
+    let Some(number) = number_of(cursors, name) else {
+        return Ok(());
+    };
+    let Ok(()) = set.close(CursorId { number }) else {
+        return Ok(());
+    };
+    cursors[number] = None;
+    Ok(())
+}
