@@ -1,4 +1,5 @@
-//! Ranked enumeration of join answers, on the files and the streams of the system.
+//! The program `anyk`: passes the command line, the files and the standard streams of the system to `anyk_top`, and
+//! exits with the status that it returns.
 #![tactic(auto)]
 
 use anyk_top::run_uncounted;
@@ -12,10 +13,10 @@ use std::marker::Brand;
 use std::process::ExitCode;
 use std::sync::ledger::Blank;
 
-/// The status where memory for the words is refused.
+/// The exit status if memory for the arguments is refused.
 const NO_MEMORY: u8 = 12;
 
-/// The status where the system does not give the words as text.
+/// The exit status if an argument is not valid text.
 const NO_TEXT: u8 = 16;
 
 fn main(rt: HostRuntime) -> ExitCode {
@@ -39,8 +40,8 @@ fn main(rt: HostRuntime) -> ExitCode {
     }
 }
 
-// Keys drawn at random, so that nobody who writes the files can choose texts that collide, or the known ones where the system gives no
-// random words.
+// Keys drawn at random, so that nobody who writes the files can choose texts that collide. If the system gives no
+// random words, the known keys are used.
 fn keys(rt: &HostRuntime) -> Keys {
     match RandomState::new(rt) {
         Ok(state) => Keys::Drawn(state),
@@ -48,7 +49,7 @@ fn keys(rt: &HostRuntime) -> Keys {
     }
 }
 
-// The words after the program's name, or the status that there is without them.
+// The arguments after the program's name, or the exit status if they cannot be had.
 fn words(rt: &HostRuntime) -> Result<Vec<String>, u8> {
     let words = match env::args(rt) {
         Ok(args) => args.skip(1).collect(rt.alloc()),

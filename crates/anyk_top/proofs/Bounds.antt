@@ -1,11 +1,19 @@
 -- The steps of a command, where its input is accepted.
-use Rattle.std.proofs.Common.{◌≡◌, ◌≤◌, ◌+◌, ℕ, List, Option, Some, None, Ok, Err, sym, subst, arith}
+use Rattle.std.proofs.Common.{◌≡◌, ◌≤◌, ◌+◌, ◌*◌, ℕ, List, length, Option, Some, None, Ok, subst, arith}
+use Rattle.std.proofs.lemmas.Nat.{mul-le}
+use Rattle.anyk_model.specs.Query.{row_counts}
+use Rattle.anyk_model.specs.Ranking.{ranking_of}
 use Rattle.outer_io.specs.Files.{Files}
+use Rattle.query_bind.specs.Parts.{sum_of_all}
+use Rattle.rank_key.specs.Bits.{bit_length}
+use Rattle.step_bounds.specs.Bounded.{IsPrepared, cost_over, total_of}
+use Rattle.verdict.specs.SessionCalls.{session_reach}
 use Rattle.verdict.specs.Bound.{IsBounded, IsPaced, IsPrompt, IsWithin}
 use Rattle.verdict.specs.Found.{Found}
 use Rattle.verdict.specs.Verdict.{IsVerdict}
 use Rattle.verdict.specs.Words.{Asked, Command, no_command, built, run, plan, session, load}
 use Rattle.verdict.proofs.One.{one_verdict}
+use Rattle.anyk_top.specs.Planned.{IsEarlyWithin}
 use Rattle.anyk_top.proofs.Ends.{Accepts}
 
 -- an input that is told has one verdict
@@ -47,3 +55,39 @@ pub prompt-found : (command : Command) (told : Option Files) (found : Found) (ol
 prompt-found command None found old new before now accepts h = tt
 prompt-found command (Some files) found old new before now accepts h = λ other verdict.
     subst (λ f. IsPaced command f old new before now) (found-is command files found other accepts verdict) h
+
+-- ---- the steps of a preparation, as part of all
+
+prepared-cost : (l t b x : ℕ) → t ≤ b → 16 * (l * l * (1 + t)) ≤ 64 * (l * l) * (1 + b + x)
+prepared-cost l t b x h = let more = mul-le (l * l) (1 + t) (l * l) (1 + b + x) (omega arith) (omega (arith, h)) in omega (arith, more)
+
+pub prepared-over : (found : Found) (before now calls : ℕ) → IsPrepared found.query found.tables before now
+    → now ≤ before + cost_over found.query found.tables found.shape calls
+prepared-over found before now calls h =
+    let l : ℕ = length found.query.items in
+    let b : ℕ = total_of found.query found.tables found.shape in
+    let more = prepared-cost l (sum_of_all (row_counts found.query.items found.tables)) b (calls * (1 + bit_length (b + calls * l))) (omega arith) in
+    omega (arith, h, more)
+
+within-prepared : (command : Command) (found : Found) (before now : ℕ) → IsPrepared found.query found.tables before now → IsWithin command found before now
+within-prepared (run words) found before now h = prepared-over found before now _ h
+within-prepared (plan words) found before now h = prepared-over found before now 0 h
+within-prepared (session script words) found before now h =
+    let least = prepared-over found before now (session_reach found.query.limit (ranking_of found.query found.tables) found.steps) h in omega (arith, least)
+within-prepared (load number rows) found before now h = prepared-over found before now _ h
+
+paced-prepared : (command : Command) (found : Found) (old new : Option (List ℕ)) (before now : ℕ) → IsPrepared found.query found.tables before now
+    → IsPaced command found old new before now
+paced-prepared (run words) found old new before now h = λ start part is_old is_new. prepared-over found before now _ h
+paced-prepared (plan words) found old new before now h = tt
+paced-prepared (session script words) found old new before now h = tt
+paced-prepared (load number rows) found old new before now h = tt
+
+pub bounded-early : (command : Command) (told : Option Files) (before now : ℕ) → IsEarlyWithin command told before now → IsBounded (built command) told before now
+bounded-early command None before now h = tt
+bounded-early command (Some files) before now h = λ found verdict. within-prepared command found before now (h found verdict)
+
+pub prompt-early : (command : Command) (told : Option Files) (old new : Option (List ℕ)) (before now : ℕ) → IsEarlyWithin command told before now
+    → IsPrompt (built command) told old new before now
+prompt-early command None old new before now h = tt
+prompt-early command (Some files) old new before now h = λ found verdict. paced-prepared command found old new before now (h found verdict)

@@ -1,9 +1,9 @@
 -- How a call ended, from what its parts answer.
-use Rattle.std.proofs.Common.{◌≡◌, ℕ, List, Option, Some, None, IfSome, Result, Ok, Err, OnOk, IfErr, inl, inr, refl, sym, subst}
+use Rattle.std.proofs.Common.{◌≡◌, [], ℕ, List, Option, Some, None, IfSome, Result, Ok, Err, OnOk, IfErr, inl, inr, refl, sym, subst}
 use Rattle.std.specs.Io.KnownBytes.{Appends}
 use Rattle.outer_io.specs.Files.{Files}
 use Rattle.outer_io.specs.declared.writing.Unwritten.{Unwritten}
-use Rattle.query_parse.specs.declared.select.Select.{Select}
+use Rattle.query_grammar.specs.declared.select.Select.{Select}
 use Rattle.rankings.specs.Order.{IsMember}
 use Rattle.refusal_lines.specs.declared.refusal.Refusal.{Refusal}
 use Rattle.refusal_lines.specs.Answer as answer
@@ -15,16 +15,15 @@ use Rattle.verdict.specs.Found.{Found}
 use Rattle.verdict.specs.Loading.{files_read, first_uses, unknown_table}
 use Rattle.verdict.specs.Outcome.{GotAccepted, GotNothing, HasLine, IsAnswer, IsCaused, IsComplete, IsCut, IsTurn, IsTurnOf, Outcome, Outside, query_turn, script_turn, table_turn}
 use Rattle.verdict.specs.Output.{output}
-use Rattle.verdict.specs.Made.{made_files}
 use Rattle.verdict.specs.Staged.{Fits, Pure, Shelved, Staged, first_turn, second_turn}
 use Rattle.verdict.specs.Stages.{unless}
-use Rattle.verdict.specs.Verdict.{IsVerdict, IsVerdictOn}
-use Rattle.verdict.specs.Words.{Asked, Command, Words, no_command, built, run, plan, session, load, made_words}
+use Rattle.verdict.specs.Verdict.{IsVerdict}
+use Rattle.verdict.specs.Words.{Asked, Command, Words, no_command, built, run, plan, session, load}
 use Rattle.verdict.proofs.Whole.{done_outcome, ended_outcome}
 use Rattle.anyk_top.specs.Asked.{IsEarly}
 use Rattle.anyk_top.specs.Finished.{Finished, HasSent}
-use Rattle.anyk_top.specs.Looked.{IsLooked}
-use Rattle.ranking_print.specs.Printed.{IsPrintCause}
+use Rattle.anyk_top.specs.Judged.{IsJudged}
+use Rattle.refusal_lines.specs.Printed.{IsPrintCause}
 
 -- ---- the line of a refusal
 
@@ -95,7 +94,7 @@ early-outcome asked told old new refusal status early nothing (is, sent) =
     let P : ℕ → Type 0 = Outcome asked told old new in
     subst P (sym is) (early-answer asked told old new (answer_of refusal) early nothing (has-line old new (line_of (answer_of refusal)) sent))
 
--- ---- how looking at the input ends
+-- ---- how judging the input ends
 
 unless-ok : {A : Type 0} (o : Option Answer) (a k : A) → Ok k ≡ unless o a → (o ≡ None) × (k ≡ a)
 unless-ok None a k e = (refl, cc)
@@ -130,11 +129,11 @@ anywhere : {A : Type 0} (told : Option Files) → A → IfSome told (λ files. A
 anywhere None a = tt
 anywhere (Some files) a = a
 
-pub looked-accepts : (command : Command) (old new : Shelved) (found : Found) → IsLooked command old new (Ok found) → Accepts command old.files found
-looked-accepts (run words) old new found h = h.fits
-looked-accepts (plan words) old new found h = h.fits
-looked-accepts (session script words) old new found h = h.fits
-looked-accepts (load number rows) old new found h = anywhere old.files h.0
+pub judged-accepts : (command : Command) (old new : Shelved) (found : Found) → IsJudged command old new (Ok found) → Accepts command old.files found
+judged-accepts (run words) old new found h = h.fits
+judged-accepts (plan words) old new found h = h.fits
+judged-accepts (session script words) old new found h = h.fits
+judged-accepts (load number rows) old new found h = anywhere old.files h.0
 
 -- a refusal that is no word of the outside is the verdict
 fits-answer : (asked : Asked) (G : Files → Result Found Answer → Type 0) (T : Files → List ℕ → Type 0) (told : Option Files) (a : Answer)
@@ -155,16 +154,16 @@ pure-answer asked G told answer.WriteFault gives h = absurd h
 pure-answer asked G told answer.NoMemory gives h = tt
 pure-answer asked G told a gives h = gives h
 
-pub looked-answer : (command : Command) (old new : Shelved) (a : Answer) → IsLooked command old new (Err a) → IsAnswer (built command) old.files a
-looked-answer (run words) old new a h =
-    fits-answer (built (run words)) (IsVerdictOn words.query None words.tables) (IsLoadTurn words.query None words.tables) old.files a (λ g. g) (turn-told words None old.files) h.fits
-looked-answer (plan words) old new a h =
-    fits-answer (built (plan words)) (IsVerdictOn words.query None words.tables) (IsLoadTurn words.query None words.tables) old.files a (λ g. g) (turn-told words None old.files) h.fits
-looked-answer (session script words) old new a h =
-    fits-answer (built (session script words)) (IsVerdictOn words.query (Some script) words.tables) (IsLoadTurn words.query (Some script) words.tables) old.files a (λ g. g)
+pub judged-answer : (command : Command) (old new : Shelved) (a : Answer) → IsJudged command old new (Err a) → IsAnswer (built command) old.files a
+judged-answer (run words) old new a h =
+    fits-answer (built (run words)) (IsVerdict (built (run words))) (IsLoadTurn words.query None words.tables) old.files a (λ g. g) (turn-told words None old.files) h.fits
+judged-answer (plan words) old new a h =
+    fits-answer (built (plan words)) (IsVerdict (built (plan words))) (IsLoadTurn words.query None words.tables) old.files a (λ g. g) (turn-told words None old.files) h.fits
+judged-answer (session script words) old new a h =
+    fits-answer (built (session script words)) (IsVerdict (built (session script words))) (IsLoadTurn words.query (Some script) words.tables) old.files a (λ g. g)
     (turn-told words (Some script) old.files) h.fits
-looked-answer (load number rows) old new a h =
-    pure-answer (built (load number rows)) (IsVerdictOn made_words.query None made_words.tables (made_files number rows)) old.files a (anywhere old.files) h.0
+judged-answer (load number rows) old new a h =
+    pure-answer (built (load number rows)) (IsVerdict (built (load number rows)) []) old.files a (anywhere old.files) h.0
 
 -- the counts of the shelf, as the outside has them
 abbrev shelf_of : Option Files → Outside → Shelved
@@ -183,15 +182,15 @@ pure-caused G old new (answer.NoFile name) h = absurd h
 pure-caused G old new (answer.ReadFault name) h = absurd h
 pure-caused G old new a h = tt
 
-pub looked-caused : (command : Command) (old new : Outside) (files files' : Option Files) (a : Answer) → IsLooked command (shelf_of files old) (shelf_of files' new) (Err a) → IsCaused old new a
-looked-caused (run words) old new files files' a h =
-    staged-caused (IsVerdictOn words.query None words.tables) (IsLoadTurn words.query None words.tables) old new files files' a h
-looked-caused (plan words) old new files files' a h =
-    staged-caused (IsVerdictOn words.query None words.tables) (IsLoadTurn words.query None words.tables) old new files files' a h
-looked-caused (session script words) old new files files' a h =
-    staged-caused (IsVerdictOn words.query (Some script) words.tables) (IsLoadTurn words.query (Some script) words.tables) old new files files' a h
-looked-caused (load number rows) old new files files' a h =
-    pure-caused (IsVerdictOn made_words.query None made_words.tables (made_files number rows)) old new a h.0
+pub judged-caused : (command : Command) (old new : Outside) (files files' : Option Files) (a : Answer) → IsJudged command (shelf_of files old) (shelf_of files' new) (Err a) → IsCaused old new a
+judged-caused (run words) old new files files' a h =
+    staged-caused (IsVerdict (built (run words))) (IsLoadTurn words.query None words.tables) old new files files' a h
+judged-caused (plan words) old new files files' a h =
+    staged-caused (IsVerdict (built (plan words))) (IsLoadTurn words.query None words.tables) old new files files' a h
+judged-caused (session script words) old new files files' a h =
+    staged-caused (IsVerdict (built (session script words))) (IsLoadTurn words.query (Some script) words.tables) old new files files' a h
+judged-caused (load number rows) old new files files' a h =
+    pure-caused (IsVerdict (built (load number rows)) []) old new a h.0
 
 -- it writes nothing
 fits-cut : (asked : Asked) (G : Files → Result Found Answer → Type 0) (T : Files → List ℕ → Type 0) (told : Option Files) (old new : Outside) (a : Answer)
@@ -205,15 +204,15 @@ pure-cut asked G told old new answer.WriteFault h nothing = absurd h
 pure-cut asked G told old new answer.NoMemory h nothing = inl nothing
 pure-cut asked G told old new a h nothing = nothing
 
-pub looked-cut : (command : Command) (s t : Shelved) (old new : Outside) (a : Answer) → IsLooked command s t (Err a) → GotNothing old new → IsCut (built command) s.files old new a
-looked-cut (run words) s t old new a h =
-    fits-cut (built (run words)) (IsVerdictOn words.query None words.tables) (IsLoadTurn words.query None words.tables) s.files old new a h.fits
-looked-cut (plan words) s t old new a h =
-    fits-cut (built (plan words)) (IsVerdictOn words.query None words.tables) (IsLoadTurn words.query None words.tables) s.files old new a h.fits
-looked-cut (session script words) s t old new a h =
-    fits-cut (built (session script words)) (IsVerdictOn words.query (Some script) words.tables) (IsLoadTurn words.query (Some script) words.tables) s.files old new a h.fits
-looked-cut (load number rows) s t old new a h =
-    pure-cut (built (load number rows)) (IsVerdictOn made_words.query None made_words.tables (made_files number rows)) s.files old new a h.0
+pub judged-cut : (command : Command) (s t : Shelved) (old new : Outside) (a : Answer) → IsJudged command s t (Err a) → GotNothing old new → IsCut (built command) s.files old new a
+judged-cut (run words) s t old new a h =
+    fits-cut (built (run words)) (IsVerdict (built (run words))) (IsLoadTurn words.query None words.tables) s.files old new a h.fits
+judged-cut (plan words) s t old new a h =
+    fits-cut (built (plan words)) (IsVerdict (built (plan words))) (IsLoadTurn words.query None words.tables) s.files old new a h.fits
+judged-cut (session script words) s t old new a h =
+    fits-cut (built (session script words)) (IsVerdict (built (session script words))) (IsLoadTurn words.query (Some script) words.tables) s.files old new a h.fits
+judged-cut (load number rows) s t old new a h =
+    pure-cut (built (load number rows)) (IsVerdict (built (load number rows)) []) s.files old new a h.0
 
 -- ---- how printing ends
 

@@ -1,2 +1,5 @@
+pub mod RunBounds
+pub mod Left
 pub mod Ends
+pub mod Judging
 pub mod Bounds

@@ -1,4 +1,5 @@
 pub mod Asked
 pub mod Finished
 pub mod Requests
-pub mod Looked
+pub mod Judged
+pub mod Planned

@@ -1,35 +1,38 @@
-//! The commands, each over the input that its words name.
-ghost use Rattle.std.specs.Prelude.{◌≤◌, [], IfErr, None, Ok, OnOk, length};
-ghost use Rattle.input_load.specs.Found.{found_in};
-ghost use Rattle.plan_report.specs.Stored.{IsStored};
+//! A command, from its input to its output.
+ghost use Rattle.std.specs.Prelude.{◌≤◌, [], IfErr, None, OnOk, ℕ};
+ghost use Rattle.plan_build.specs.Plan.{IsPlan, shape_of};
+ghost use Rattle.plan_build.specs.RankedPlan.{IsRankedPlan};
 ghost use Rattle.query_bind.specs.Weighed.{Fits};
-ghost use Rattle.query_shape.specs.Shape.{IsShape};
-ghost use Rattle.query_shape.specs.Shown.{shape_shown};
+ghost use Rattle.refusal_lines.specs.Printed.{Printed};
 ghost use Rattle.refusal_lines.specs.Refused.{answer_of};
 ghost use Rattle.session_script.specs.Script.{KeepsRules};
+ghost use Rattle.step_bounds.specs.Bounded.{IsPrepared};
 ghost use Rattle.verdict.specs.Bound.{IsBounded, IsPaced, IsPrompt, IsWithin};
 ghost use Rattle.verdict.specs.Outcome.{IsAnswer, IsCaused, IsComplete, IsCut};
 ghost use Rattle.verdict.specs.Output.{output};
 ghost use Rattle.verdict.specs.Words.{built};
-ghost use Rattle.ranking_print.specs.Printed.{Printed};
+ghost use Rattle.anyk_top.specs.Planned.{found_by, found_in};
 ghost use Rattle.anyk_top.specs.Requests.{command_of};
 
-use crate::engine::kind_of;
-use crate::looking::look_at;
+use crate::load::print_load;
 use crate::plan::print_report;
+use crate::planning::{Planned, plan_request};
 use crate::request::Request;
 use crate::run::print_run;
 use crate::session::print_script;
+use csv_tables::Tables;
 use hash_keys::Keys;
-use input_load::Input;
 use outer_io::{Shelf, Sink};
-use query_run::run_load;
+use plan_build::{Plan, RankedPlan};
+use query_bind::Query;
+use rank_key::Rank;
 use refusal_lines::Refusal;
+use session_script::Step;
 use std::alloc::Global;
 use std::sync::ledger::Ledger;
 use step_counter::Steps;
 
-/// Reads the input that the words name, or makes it, and prints the command's output.
+/// Reads the input that the words name, or makes it, plans its query, and prints the command's output.
 pub(crate) fn answer<'a, F: Shelf, S: Sink, L: Ledger>(
     alloc: Global,
     request: &'a Request,
@@ -51,45 +54,68 @@ pub(crate) fn answer<'a, F: Shelf, S: Sink, L: Ledger>(
     ensures bounded { IsBounded (built (command_of request.now)) (F.files shelf.old) steps.old steps.new }
     ensures prompt { IsPrompt (built (command_of request.now)) (F.files shelf.old) (S.written out.old) (S.written out.new) steps.old steps.new }
 {
-    let input = look_at(alloc, request, shelf, keys)?;
-    print_output(alloc, request, &input, out, steps)
+    let planned = plan_request(alloc, request, shelf, keys, steps)?;
+    print_planned(alloc, request, &planned, out, steps)
 }
 
-fn print_output<'a, S: Sink, L: Ledger>(
+// Prints by the ranks of the plan.
+fn print_planned<'a, S: Sink, L: Ledger>(
     alloc: Global,
     request: &Request,
-    input: &Input,
+    planned: &Planned,
     out: &mut S,
     steps: &mut Steps<L>,
 ) -> Result<(), Refusal<'a>>
-    requires fits { Fits input.now.query input.now.tables }
-    requires stored { IsStored input.now.query.query input.now.shape }
-    requires rules { KeepsRules [] input.now.steps.items }
-    requires some { 1 ≤ length input.now.query.query.items }
-    requires shape { IsShape input.now.query.query input.now.tables (Ok (shape_shown input.now.shape)) }
-    ensures printed { Printed (S.written out.old) (S.written out.new) (S.faults out.old) (S.faults out.new) (output (command_of request.now) (found_in input.now)) result }
-    ensures bounded { IsWithin (command_of request.now) (found_in input.now) steps.old steps.new }
-    ensures paced { IsPaced (command_of request.now) (found_in input.now) (S.written out.old) (S.written out.new) steps.old steps.new }
+    requires plan { IsRankedPlan planned.now.input.query planned.now.input.tables planned.now.plan }
+    ensures printed { Printed (S.written out.old) (S.written out.new) (S.faults out.old) (S.faults out.new)
+        (output (command_of request.now) (found_in planned.now)) result }
+    ensures bounded { (before : ℕ) → IsPrepared planned.now.input.query.query planned.now.input.tables before steps.old
+        → IsWithin (command_of request.now) (found_in planned.now) before steps.new }
+    ensures paced { (before : ℕ) → IsPrepared planned.now.input.query.query planned.now.input.tables before steps.old
+        → IsPaced (command_of request.now) (found_in planned.now) (S.written out.old) (S.written out.new) before steps.new }
+{
+    let Planned { input, plan } = planned;
+    let query = &input.query;
+    let tables = &input.tables;
+    let script = input.script.as_slice();
+    match plan {
+        RankedPlan::Sum(plan) => print_output(
+            alloc, request, plan, query, tables, script, out, steps,
+        ),
+        RankedPlan::Lex(plan) => print_output(
+            alloc, request, plan, query, tables, script, out, steps,
+        ),
+    }
+}
+
+// Prints what the command wants of the plan.
+fn print_output<'a, R: Rank, S: Sink, L: Ledger>(
+    alloc: Global,
+    request: &Request,
+    plan: &Plan<R>,
+    query: &Query,
+    tables: &Tables,
+    script: &[Step],
+    out: &mut S,
+    steps: &mut Steps<L>,
+) -> Result<(), Refusal<'a>>
+    requires fits { Fits query.now tables.now }
+    requires rules { KeepsRules [] script.now }
+    requires plan { IsPlan R.KEYS R.key query.now tables.now plan.now }
+    ensures printed { Printed (S.written out.old) (S.written out.new) (S.faults out.old) (S.faults out.new)
+        (output (command_of request.now) (found_by query.now tables.now script.now (shape_of plan.now))) result }
+    ensures bounded { (before : ℕ) → IsPrepared query.now.query tables.now before steps.old
+        → IsWithin (command_of request.now) (found_by query.now tables.now script.now (shape_of plan.now)) before steps.new }
+    ensures paced { (before : ℕ) → IsPrepared query.now.query tables.now before steps.old
+        → IsPaced (command_of request.now) (found_by query.now tables.now script.now (shape_of plan.now))
+        (S.written out.old) (S.written out.new) before steps.new }
 {
     match request {
-        Request::Run(words) => print_run(alloc, words, &input.query, &input.tables, out, steps),
-        Request::Plan(_) => print_report(alloc, &input.query, &input.tables, &input.shape, out),
-        Request::Session(_, words) => print_script(
-            alloc,
-            words,
-            &input.query,
-            &input.tables,
-            input.steps.as_slice(),
-            out,
-            steps,
-        ),
-        Request::Load(engine, _) => run_load(
-            alloc,
-            kind_of(*engine),
-            &input.query,
-            &input.tables,
-            out,
-            steps,
-        ),
+        Request::Run(words) => print_run(alloc, words, plan, query, tables, out, steps),
+        Request::Plan(_) => print_report(alloc, plan, query, tables, out),
+        Request::Session(_, words) => {
+            print_script(alloc, words, plan, query, tables, script, out, steps)
+        }
+        Request::Load(engine, _) => print_load(alloc, *engine, plan, query, tables, out, steps),
     }
 }

@@ -1,14 +1,9 @@
 //! The input of a command.
-ghost use Rattle.std.specs.Prelude.{◌≤◌, [], IfOk, Ok, length, map, option_map, string_bytes};
+ghost use Rattle.std.specs.Prelude.{map, option_map, string_bytes};
 ghost use Rattle.cmd_words.specs.Said.{seen_words};
-ghost use Rattle.input_load.specs.Found.{shown_input};
-ghost use Rattle.plan_report.specs.Stored.{IsStored};
-ghost use Rattle.query_bind.specs.Weighed.{Fits};
-ghost use Rattle.query_shape.specs.Shape.{IsShape};
-ghost use Rattle.query_shape.specs.Shown.{shape_shown};
-ghost use Rattle.session_script.specs.Script.{KeepsRules};
+ghost use Rattle.input_load.specs.Shown.{shown_input};
 ghost use Rattle.anyk_top.specs.Asked.{words_of};
-ghost use Rattle.anyk_top.specs.Looked.{IsLooked, IsLookedUp};
+ghost use Rattle.anyk_top.specs.Judged.{IsLooked, IsLookedUp};
 ghost use Rattle.anyk_top.specs.Requests.{command_of};
 
 use crate::request::Request;
@@ -26,14 +21,9 @@ pub(crate) fn look_at<'a, F: Shelf>(
     shelf: &mut F,
     keys: Keys,
 ) -> Result<Input, Refusal<'a>>
-    ensures looked { IsLooked (command_of request.now)
+    ensures { IsLooked (command_of request.now)
         (record { files = F.files shelf.old; misses = F.misses shelf.old; faults = F.faults shelf.old })
         (record { files = F.files shelf.new; misses = F.misses shelf.new; faults = F.faults shelf.new }) (shown_input result) }
-    ensures fits { IfOk result (λ input. Fits input.query input.tables) }
-    ensures stored { IfOk result (λ input. IsStored input.query.query input.shape) }
-    ensures some { IfOk result (λ input. 1 ≤ length input.query.query.items) }
-    ensures shape { IfOk result (λ input. IsShape input.query.query input.tables (Ok (shape_shown input.shape))) }
-    ensures rules { IfOk result (λ input. KeepsRules [] input.steps.items) }
 {
     match request {
         Request::Run(words) => look_up(alloc, words, None, shelf, keys),
@@ -57,14 +47,9 @@ fn look_up<'a, F: Shelf>(
     shelf: &mut F,
     keys: Keys,
 ) -> Result<Input, Refusal<'a>>
-    ensures looked { IsLookedUp (words_of (seen_words words.now)) (option_map (λ name. name.now) script.entry)
+    ensures { IsLookedUp (words_of (seen_words words.now)) (option_map (λ name. name.now) script.entry)
         (record { files = F.files shelf.old; misses = F.misses shelf.old; faults = F.faults shelf.old })
         (record { files = F.files shelf.new; misses = F.misses shelf.new; faults = F.faults shelf.new }) (shown_input result) }
-    ensures fits { IfOk result (λ input. Fits input.query input.tables) }
-    ensures stored { IfOk result (λ input. IsStored input.query.query input.shape) }
-    ensures some { IfOk result (λ input. 1 ≤ length input.query.query.items) }
-    ensures shape { IfOk result (λ input. IsShape input.query.query input.tables (Ok (shape_shown input.shape))) }
-    ensures rules { IfOk result (λ input. KeepsRules [] input.steps.items) }
 {
     load_input(
         alloc,

@@ -1,32 +1,28 @@
 //! The command `plan`.
-ghost use Rattle.plan_report.specs.Report.{report_of};
-ghost use Rattle.plan_report.specs.Stored.{IsStored};
-ghost use Rattle.query_bind.specs.Weighed.{Fits};
-ghost use Rattle.query_shape.specs.Shown.{shape_shown};
-ghost use Rattle.ranking_print.specs.Printed.{Printed};
+ghost use Rattle.plan_build.specs.Plan.{IsPlan, shape_of};
+ghost use Rattle.query_shape.specs.Report.{report_of};
+ghost use Rattle.refusal_lines.specs.Printed.{Printed};
 
 use csv_tables::Tables;
 use outer_io::Sink;
-use plan_report::report;
+use plan_build::{Plan, report};
 use query_bind::Query;
-use query_shape::TreeShape;
-use ranking_print::print;
-use refusal_lines::Refusal;
+use rank_key::Rank;
+use refusal_lines::{Refusal, print};
 use std::alloc::Global;
 
-/// Prints the report of the query's join tree, by one write.
-pub(crate) fn print_report<'a, S: Sink>(
+/// Prints the report of the plan's join tree.
+pub(crate) fn print_report<'a, R: Rank, S: Sink>(
     alloc: Global,
+    plan: &Plan<R>,
     query: &Query,
     tables: &Tables,
-    shape: &TreeShape,
     out: &mut S,
 ) -> Result<(), Refusal<'a>>
-    requires fits { Fits query.now tables.now }
-    requires stored { IsStored query.now.query shape.now }
+    requires plan { IsPlan R.KEYS R.key query.now tables.now plan.now }
     ensures { Printed (S.written out.old) (S.written out.new) (S.faults out.old) (S.faults out.new)
-        (report_of query.now.query tables.now (shape_shown shape.now)) result }
+        (report_of query.now.query tables.now (shape_of plan.now)) result }
 {
-    let text = report(alloc, query, tables, shape)?;
+    let text = report(alloc, plan, query, tables)?;
     print(out, &text)
 }

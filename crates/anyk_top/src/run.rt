@@ -1,56 +1,59 @@
 //! The command `run`.
-ghost use Rattle.std.specs.Prelude.{◌≤◌, Ok, length};
+ghost use Rattle.std.specs.Prelude.{◌≤◌, ℕ};
 ghost use Rattle.anyk_model.specs.Output.{cut, output_of};
 ghost use Rattle.anyk_model.specs.Ranking.{ranking_of};
 ghost use Rattle.cmd_words.specs.Said.{seen_words};
+ghost use Rattle.plan_build.specs.Plan.{IsPlan};
 ghost use Rattle.query_bind.specs.Weighed.{Fits};
-ghost use Rattle.query_shape.specs.Shape.{IsShape, Shape};
-ghost use Rattle.step_bounds.specs.Bounded.{KeepsBound, KeepsPace};
+ghost use Rattle.refusal_lines.specs.Printed.{Printed};
+ghost use Rattle.step_bounds.specs.Bounded.{IsPrepared, KeepsBound, KeepsPace};
 ghost use Rattle.verdict.specs.Output.{style_of};
 ghost use Rattle.anyk_top.specs.Asked.{words_of};
-ghost use Rattle.ranking_print.specs.Printed.{Printed};
 
 use crate::engine::kind_of;
 use answer_print::Style;
+use bumpalo::Bump;
 use cmd_words::Words;
+use command_run::print_ranking;
 use csv_tables::Tables;
+use engine_choice::choose_engine;
 use outer_io::Sink;
+use plan_build::Plan;
 use query_bind::Query;
-use query_run::run_query;
+use rank_key::Rank;
 use refusal_lines::Refusal;
 use std::alloc::Global;
 use std::sync::ledger::Ledger;
 use step_counter::Steps;
 
-/// Prints the first members of the query's ranking, as many as the limit allows.
-pub(crate) fn print_run<'a, S: Sink, L: Ledger>(
+/// Prints the header, and then the first answers of the query, as many as the limit allows, each as soon as it is known.
+pub(crate) fn print_run<'a, R: Rank, S: Sink, L: Ledger>(
     alloc: Global,
     words: &Words,
+    plan: &Plan<R>,
     query: &Query,
     tables: &Tables,
     out: &mut S,
     steps: &mut Steps<L>,
 ) -> Result<(), Refusal<'a>>
     requires fits { Fits query.now tables.now }
-    requires some { 1 ≤ length query.now.query.items }
-    requires shaped { (shape : Shape) × IsShape query.now.query tables.now (Ok shape) }
+    requires plan { IsPlan R.KEYS R.key query.now tables.now plan.now }
     ensures printed { Printed (S.written out.old) (S.written out.new) (S.faults out.old) (S.faults out.new)
-        (output_of query.now.query tables.now (style_of (words_of (seen_words words.now))) (cut query.now.query.limit (ranking_of query.now.query tables.now))) result }
-    ensures bounded { KeepsBound query.now.query tables.now steps.old steps.new }
-    ensures paced { KeepsPace query.now.query tables.now (style_of (words_of (seen_words words.now))) (S.written out.old) (S.written out.new) steps.old steps.new }
+        (output_of query.now.query tables.now (style_of (words_of (seen_words words.now)))
+        (cut query.now.query.limit (ranking_of query.now.query tables.now))) result }
+    ensures bounded { (before : ℕ) → IsPrepared query.now.query tables.now before steps.old
+        → KeepsBound query.now.query tables.now before steps.new }
+    ensures paced { (before : ℕ) → IsPrepared query.now.query tables.now before steps.old
+        → KeepsPace query.now.query tables.now (style_of (words_of (seen_words words.now)))
+        (S.written out.old) (S.written out.new) before steps.new }
 {
     let style = Style {
         ranks: words.ranks,
         rows: words.rows,
         cursor: None,
     };
-    run_query(
-        alloc,
-        kind_of(words.engine),
-        query,
-        tables,
-        &style,
-        out,
-        steps,
-    )
+    let arena = Bump::new(alloc);
+    let kind = kind_of(words.engine);
+    let mut engine = choose_engine(alloc, kind, plan.tree(), &arena, steps)?;
+    print_ranking(alloc, query, tables, &style, &mut engine, out, steps)
 }

@@ -1,34 +1,41 @@
 //! The command `session`.
-ghost use Rattle.std.specs.Prelude.{◌≤◌, [], Ok, length};
+ghost use Rattle.std.specs.Prelude.{◌≤◌, [], ℕ};
 ghost use Rattle.anyk_model.specs.Output.{cut};
 ghost use Rattle.anyk_model.specs.Ranking.{ranking_of};
 ghost use Rattle.cmd_words.specs.Said.{seen_words};
+ghost use Rattle.plan_build.specs.Plan.{IsPlan};
 ghost use Rattle.query_bind.specs.Weighed.{Fits};
-ghost use Rattle.query_run.specs.SessionBound.{KeepsSessionBound};
-ghost use Rattle.query_shape.specs.Shape.{IsShape, Shape};
-ghost use Rattle.ranking_print.specs.Printed.{Printed};
+ghost use Rattle.refusal_lines.specs.Printed.{Printed};
 ghost use Rattle.session_script.specs.Script.{KeepsRules};
+ghost use Rattle.step_bounds.specs.Bounded.{IsPrepared};
 ghost use Rattle.verdict.specs.Output.{style_of};
 ghost use Rattle.verdict.specs.Session.{session_text};
+ghost use Rattle.verdict.specs.SessionBound.{KeepsSessionBound};
 ghost use Rattle.anyk_top.specs.Asked.{words_of};
 
 use crate::engine::kind_of;
 use answer_print::Style;
+use bumpalo::Bump;
 use cmd_words::Words;
+use command_session::print_session;
 use csv_tables::Tables;
+use engine_choice::choose_engine;
 use outer_io::Sink;
+use plan_build::Plan;
 use query_bind::Query;
-use query_run::run_session;
+use rank_key::Rank;
 use refusal_lines::Refusal;
 use session_script::Step;
 use std::alloc::Global;
 use std::sync::ledger::Ledger;
 use step_counter::Steps;
 
-/// Prints what the steps of the script print of the query's ranking, as far as the limit allows.
-pub(crate) fn print_script<'a, S: Sink, L: Ledger>(
+/// Prints the header with the title of the cursors' names, and then what the steps of the script print of the query's answers, as
+/// far as the limit allows.
+pub(crate) fn print_script<'a, R: Rank, S: Sink, L: Ledger>(
     alloc: Global,
     words: &Words,
+    plan: &Plan<R>,
     query: &Query,
     tables: &Tables,
     script: &[Step],
@@ -36,26 +43,21 @@ pub(crate) fn print_script<'a, S: Sink, L: Ledger>(
     steps: &mut Steps<L>,
 ) -> Result<(), Refusal<'a>>
     requires fits { Fits query.now tables.now }
-    requires some { 1 ≤ length query.now.query.items }
-    requires shaped { (shape : Shape) × IsShape query.now.query tables.now (Ok shape) }
+    requires plan { IsPlan R.KEYS R.key query.now tables.now plan.now }
     requires rules { KeepsRules [] script.now }
     ensures printed { Printed (S.written out.old) (S.written out.new) (S.faults out.old) (S.faults out.new)
-        (session_text query.now.query tables.now (style_of (words_of (seen_words words.now))) (cut query.now.query.limit (ranking_of query.now.query tables.now)) script.now) result }
-    ensures bounded { KeepsSessionBound query.now.query tables.now script.now steps.old steps.new }
+        (session_text query.now.query tables.now (style_of (words_of (seen_words words.now)))
+        (cut query.now.query.limit (ranking_of query.now.query tables.now)) script.now) result }
+    ensures bounded { (before : ℕ) → IsPrepared query.now.query tables.now before steps.old
+        → KeepsSessionBound query.now.query tables.now script.now before steps.new }
 {
     let style = Style {
         ranks: words.ranks,
         rows: words.rows,
         cursor: None,
     };
-    run_session(
-        alloc,
-        kind_of(words.engine),
-        query,
-        tables,
-        &style,
-        script,
-        out,
-        steps,
-    )
+    let arena = Bump::new(alloc);
+    let kind = kind_of(words.engine);
+    let engine = choose_engine(alloc, kind, plan.tree(), &arena, steps)?;
+    print_session(alloc, query, tables, &style, engine, script, out, steps)
 }

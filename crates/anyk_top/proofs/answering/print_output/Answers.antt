@@ -1,15 +1,28 @@
-use Rattle.query_shape.specs.Shown.{shape_shown}
+use Rattle.plan_build.specs.Plan.{shape_of}
+use Rattle.plan_build.proofs.ShapeIs.{plan-shape}
+use Rattle.anyk_top.specs.Planned.{found_by}
+use Rattle.anyk_top.proofs.Bounds.{prepared-over}
 use Rattle.anyk_top.proofs.answering.print_output.Goals as goal
 
 pub returns-in-Run-clause-bounded : goal.returns-in-Run-clause-bounded
-returns-in-Run-clause-bounded g c = rw c.in-Run.is (c.print_run.ensures.bounded (shape_shown c.args.input.now.shape) c.requires.shape)
+returns-in-Run-clause-bounded g c =
+    let has = plan-shape g.R.Rank.KEYS g.R.Rank.key c.args.query.now c.args.tables.now c.args.plan.now c.requires.plan in
+    rw c.in-Run.is (λ before prepared. c.print_run.ensures.bounded before prepared (shape_of c.args.plan.now) has)
 
 pub returns-in-Run-clause-paced : goal.returns-in-Run-clause-paced
-returns-in-Run-clause-paced g c = rw c.in-Run.is (c.print_run.ensures.paced (shape_shown c.args.input.now.shape) c.requires.shape)
+returns-in-Run-clause-paced g c =
+    let has = plan-shape g.R.Rank.KEYS g.R.Rank.key c.args.query.now c.args.tables.now c.args.plan.now c.requires.plan in
+    rw c.in-Run.is (λ before prepared. c.print_run.ensures.paced before prepared (shape_of c.args.plan.now) has)
 
 pub returns-in-Session-clause-bounded : goal.returns-in-Session-clause-bounded
 returns-in-Session-clause-bounded g c =
-    rw c.in-Session.is (rw c.as_slice.ensures.value at (c.print_script.ensures.bounded (shape_shown c.args.input.now.shape) c.requires.shape))
+    let has = plan-shape g.R.Rank.KEYS g.R.Rank.key c.args.query.now c.args.tables.now c.args.plan.now c.requires.plan in
+    rw c.in-Session.is (λ before prepared. c.print_script.ensures.bounded before prepared (shape_of c.args.plan.now) has)
 
 pub returns-in-Load-clause-bounded : goal.returns-in-Load-clause-bounded
-returns-in-Load-clause-bounded g c = rw c.in-Load.is (c.run_load.ensures.bounded (shape_shown c.args.input.now.shape) c.requires.shape)
+returns-in-Load-clause-bounded g c =
+    let has = plan-shape g.R.Rank.KEYS g.R.Rank.key c.args.query.now c.args.tables.now c.args.plan.now c.requires.plan in
+    rw c.in-Load.is (λ before prepared. c.print_load.ensures.bounded before prepared (shape_of c.args.plan.now) has)
+
+pub returns-in-Plan-clause-bounded : goal.returns-in-Plan-clause-bounded
+returns-in-Plan-clause-bounded g c = rw c.in-Plan.is (λ before prepared. prepared-over (found_by c.args.query.now c.args.tables.now c.args.script.now (shape_of c.args.plan.now)) before _ 0 prepared)

@@ -1,6 +1,6 @@
 use Rattle.std.proofs.Common.{◌≡◌, Err, rules}
 use Rattle.refusal_lines.specs.declared.refusal.Refusal.TheVariants as refusal
-use Rattle.ranking_print.proofs.Prints.{unprinted}
+use Rattle.refusal_lines.proofs.Prints.{unprinted}
 use Rattle.anyk_top.proofs.plan.print_report.Goals as goal
 
 pub returns-in_err-text : goal.returns-in_err-text

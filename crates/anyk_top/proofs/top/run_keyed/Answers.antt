@@ -6,7 +6,7 @@ use Rattle.anyk_top.proofs.Bounds.{bounded-still, prompt-still}
 use Rattle.verdict.specs.Outcome.{Outside}
 use Rattle.anyk_top.specs.Requests.{command_of}
 use Rattle.anyk_top.proofs.Ends.{early-outcome, built-outcome}
-use Rattle.ranking_print.proofs.Prints.{appends-nothing}
+use Rattle.refusal_lines.proofs.Prints.{appends-nothing}
 use Rattle.anyk_top.proofs.top.run_keyed.Goals as goal
 
 pub returns-in-Ok-clause-outcome : goal.returns-in-Ok-clause-outcome

@@ -1,33 +1,18 @@
 -- The steps of a run, from those of its plan, its engine and its calls.
-use Rattle.std.proofs.Common.{◌≡◌, ◌≤◌, ◌<◌, ◌+◌, ◌*◌, ◌-◌, ◌∷◌, [], ◌++◌, ℕ, zero, suc, List, Bool, true, false, cond, nat_lt, length, map, Ok, Err, Option, Some, refl, sym, ap, subst, ◌∙◌, arith}
+use Rattle.std.proofs.Common.{◌≡◌, ◌≤◌, ◌+◌, ◌*◌, ℕ, List, Bool, true, false, cond, nat_lt, length, ap, subst, arith}
 use Rattle.std.proofs.lemmas.Nat.{mul-le}
 use Rattle.anyk_model.specs.Table.{Table}
 use Rattle.anyk_model.specs.Query.{Query, row_counts}
-use Rattle.anyk_model.specs.Ranking.{ranking_of}
-use Rattle.anyk_model.specs.Output.{Style}
 use Rattle.query_bind.specs.Parts.{sum_of_all}
-use Rattle.query_bind.specs.Weighed.{BoundQuery}
-use Rattle.query_shape.specs.Shape.{Flaw, IsShape, Shape}
-use Rattle.query_shape.proofs.OneShape.{one_shape}
+use Rattle.query_shape.specs.Shape.{Shape}
 use Rattle.rank_key.specs.Bits.{bit_length}
 use Rattle.tdp_model.specs.KeyTuple.{KeyOf}
-use Rattle.tdp_core.specs.Seen.{Seen, answer_of, answers_of}
 use Rattle.tdp_core.specs.TreeData.{NodeData, group_count, row_count}
 use Rattle.tdp_core.specs.Shares.{most_steps, share_of, size_of}
-use Rattle.witness_key.specs.WitnessKey.{answer_of_witness, answers_of_ranking, witness_key}
-use Rattle.step_bounds.specs.Steps.{cost, steps_for}
+use Rattle.step_bounds.specs.Steps.{steps_for}
 use Rattle.step_bounds.proofs.Shares.{shares}
-use Rattle.plan_build.specs.Plan.{IsPlan, PlanData}
+use Rattle.plan_build.specs.Plan.{PlanData}
 use Rattle.step_bounds.specs.Bounded.{cost_over, total_of}
-
--- the answers of the ranking of witnesses, by their keys
-pub answers-agree : (d : ℕ) (query : Query) (tables : List Table) (ranking : List (List ℕ)) (ks : List (KeyOf d 16)) → ks ≡ map (witness_key d query tables) ranking
-    → answers_of d ks ≡ answers_of_ranking d query tables ranking
-answers-agree d query tables ranking ks same = ap (answers_of d) same ∙ by ranking
-  where
-    by : (list : List (List ℕ)) → answers_of d (map (witness_key d query tables) list) ≡ answers_of_ranking d query tables list
-    by [] = refl
-    by (rows ∷ list) = λ i. answer_of d (witness_key d query tables rows) ∷ by list i
 
 -- a call's share is within the share of the bound
 share-within : (m n g c : ℕ) → most_steps m n g c ≤ 24 * (m * (1 + bit_length (n + (c + 1) * m)))
@@ -45,14 +30,6 @@ module _ {R : Type 0} (d : ℕ) (key : R → KeyOf d 16) (query : Query) (tables
   abbrev table_total : ℕ
   table_total = sum_of_all (row_counts query.items tables)
 
-  -- where memory ran out before there was an engine
-  pub early : (before now calls : ℕ) → now ≤ before + 16 * (length query.items * length query.items * (1 + table_total)) → now ≤ before + cost_over query tables shape calls
-  early before now calls h =
-      let b = total_of query tables shape in
-      let more = prepared-within (length query.items) table_total b (omega arith) in
-      let all = shares (length query.items) b 0 calls (λ k. 0) some (omega arith) (λ k. omega arith) in
-      omega (arith, h, more, all)
-
   module _ (plan : PlanData R) (m_same : length plan.tree ≡ length query.items) (n_few : row_count plan.tree ≤ total_of query tables shape) where
     -- where it ran out for the engine
     pub started : (before prepared now calls : ℕ) → prepared ≤ before + 16 * (length query.items * length query.items * (1 + table_total))
@@ -65,7 +42,7 @@ module _ {R : Type 0} (d : ℕ) (key : R → KeyOf d 16) (query : Query) (tables
         omega (arith, first, second, more, all, engine)
 
     -- with so many calls
-    pub called : (before prepared made now calls : ℕ) → prepared ≤ before + 16 * (length query.items * length query.items * (1 + table_total))
+    called : (before prepared made now calls : ℕ) → prepared ≤ before + 16 * (length query.items * length query.items * (1 + table_total))
         → made ≤ prepared + 16 * (length plan.tree * (1 + row_count plan.tree)) → now ≤ made + steps_for (λ n. share_of (size_of plan.tree) (0 + n)) calls
         → now ≤ before + cost_over query tables shape calls
     called before prepared made now calls first second third =
@@ -92,17 +69,3 @@ module _ {R : Type 0} (d : ℕ) (key : R → KeyOf d 16) (query : Query) (tables
         called before prepared made now calls first second
         (subst (λ t. now ≤ made + steps_for (λ n. share_of (size_of t) (0 + n)) calls) same
         (subst (λ k. now ≤ made + steps_for (λ n. share_of (size_of tree) (k + n)) calls) none third))
-
--- a query has one shape
-pub shape-is : (query : Query) (tables : List Table) (x y : Shape) → IsShape query tables (Ok x) → IsShape query tables (Ok y) → x ≡ y
-shape-is query tables x y a b = let e = one_shape query tables (Ok x) (Ok y) a b in cc
-
-pub has-no-flaw : {A : Type 0} (query : Query) (tables : List Table) (x : Shape) (flaw : Flaw) → IsShape query tables (Ok x) → IsShape query tables (Err flaw) → A
-has-no-flaw query tables x flaw a b = let e = one_shape query tables (Ok x) (Err flaw) a b in cc
-
--- the rows of the tree are among the rows that are counted
-pub rows-counted : {R : Type 0} (d : ℕ) (key : R → KeyOf d 16) (bound : BoundQuery) (tables : List Table) (plan : PlanData R) (is : IsPlan d key bound tables plan)
-    (shape : Shape) → IsShape bound.query tables (Ok shape) → row_count plan.tree ≤ total_of bound.query tables shape
-rows-counted d key bound tables plan is shape has =
-    let same = shape-is bound.query tables is.shape shape is.is_shape has in
-    subst (λ s. row_count plan.tree ≤ total_of bound.query tables s) same (let few = is.fewer in omega (arith, few))
