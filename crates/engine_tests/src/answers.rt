@@ -1,10 +1,10 @@
-//! What an engine gives, compared with the rows of items 0 to 3.
+//! Compares what an engine returns with the rows of items 0 to 3.
 
 use std::sync::ledger::Ledger;
 use step_counter::{NoMemory, Steps};
 use tdp_core::Ranked;
 
-/// The rows of all items, where no other item has one.
+/// The rows of all items, if only these four have one.
 pub(crate) fn of_four(rows: &[u32; 4]) -> [u32; 16] {
     [
         rows[0], rows[1], rows[2], rows[3], 0, 0, 0, 0, 0, 0, 0, 0, 0, 0, 0, 0,
@@ -23,7 +23,7 @@ fn next_has<E: Ranked, L: Ledger>(
     }
 }
 
-/// Whether the answers have these rows, and no other comes.
+/// Whether the answers have these rows, and there are no others.
 pub(crate) fn gives_all<E: Ranked, L: Ledger>(
     engine: &mut E,
     expected: &[[u32; 4]],

@@ -4,7 +4,7 @@ ghost use Rattle.std.proofs.Common.{rules};
 ghost use Rattle.tdp_model.specs.KeyNumbers.{numbers};
 
 use cursor_set::laws::{Driven, drive};
-use cursor_set::{CursorFault, CursorId, Cursors, MOST_OPEN};
+use cursor_set::{CursorFault, CursorId, Cursors, MAX_OPEN};
 use rank_key::{Rank, SumRank};
 use std::alloc::Global;
 use std::marker::Brand;
@@ -81,7 +81,7 @@ fn cursors_over<R: Rank>(
     Ok(Cursors::new(alloc, engine))
 }
 
-// The first row number of a cursor's next answer.
+// The row number of the first item in a cursor's next answer.
 fn next_row<E: Ranked, L: Ledger>(
     cursors: &mut Cursors<E>,
     id: CursorId,
@@ -93,7 +93,7 @@ fn next_row<E: Ranked, L: Ledger>(
     }
 }
 
-// Whether a cursor gives these rows, and its end where there is none.
+// Whether a cursor returns these rows, and then its end.
 fn gives<E: Ranked, L: Ledger>(
     cursors: &mut Cursors<E>,
     id: CursorId,
@@ -108,7 +108,7 @@ fn gives<E: Ranked, L: Ledger>(
     true
 }
 
-// Whether two cursors of which the second was forked from the first at place 2 of 3 move apart.
+// Whether two cursors move apart, the second of which was forked from the first at place 2 of 3.
 fn move_apart<E: Ranked, L: Ledger>(
     cursors: &mut Cursors<E>,
     a: CursorId,
@@ -122,7 +122,7 @@ fn move_apart<E: Ranked, L: Ledger>(
         && gives(cursors, b, &[Some(0)], steps)
 }
 
-// Whether each call on a cursor says that it is not open.
+// Whether each call on a cursor returns that it is not open.
 fn is_unknown<E: Ranked, L: Ledger>(
     cursors: &mut Cursors<E>,
     id: CursorId,
@@ -135,7 +135,7 @@ fn is_unknown<E: Ranked, L: Ledger>(
         && cursors.close(id) == Err(unknown)
 }
 
-// Whether the first cursor is closed and opened again, and the second, at place 1, is left alone.
+// Whether the first cursor is closed and opened again, and the second, at place 1, does not move.
 fn closes_and_opens<E: Ranked, L: Ledger>(
     cursors: &mut Cursors<E>,
     a: CursorId,
@@ -148,7 +148,7 @@ fn closes_and_opens<E: Ranked, L: Ledger>(
         && gives(cursors, b, &[Some(1)], steps)
 }
 
-// Whether cursors over three answers move as they are told.
+// Whether cursors over three answers move as the calls say.
 fn move_over_three<E: Ranked, L: Ledger>(
     cursors: &mut Cursors<E>,
     steps: &mut Steps<L>,
@@ -174,7 +174,7 @@ fn cursors_move<R: Rank, L: Ledger>(
     Ok(move_over_three(&mut cursors, &mut steps))
 }
 
-// Whether so many cursors can be opened.
+// Whether this many cursors can be opened.
 fn open_all<E: Ranked>(cursors: &mut Cursors<E>, count: usize) -> bool {
     for _ in 0..count {
         if cursors.open().is_err() {
@@ -184,18 +184,18 @@ fn open_all<E: Ranked>(cursors: &mut Cursors<E>, count: usize) -> bool {
     true
 }
 
-// Whether a closed cursor is unknown, and opened again by its name.
+// Whether a closed cursor is unknown, and is opened again under the same number.
 fn reopens<E: Ranked>(cursors: &mut Cursors<E>, first: CursorId) -> bool {
     cursors.close(first) == Ok(())
         && cursors.fork(first) == Err(CursorFault::Unknown(first))
         && cursors.open() == Ok(first)
 }
 
-// Whether as many cursors can be open as there may be, and no more.
+// Whether the greatest allowed number of cursors can be open, and no more.
 fn open_as_many_as_can_be<E: Ranked>(cursors: &mut Cursors<E>) -> Result<bool, CursorFault> {
     let first = cursors.open()?;
     Ok(
-        open_all(cursors, MOST_OPEN - 1)
+        open_all(cursors, MAX_OPEN - 1)
             && cursors.open() == Err(CursorFault::TooMany)
             && cursors.fork(first) == Err(CursorFault::TooMany)
             && reopens(cursors, first),
@@ -207,7 +207,7 @@ fn cursors_open<R: Rank>(alloc: Global) -> Result<Result<bool, CursorFault>, NoM
     Ok(open_as_many_as_can_be(&mut cursors))
 }
 
-// Drives a cursor from the front of the list.
+// Drives a cursor from the start of the list.
 fn drive_from_the_front<E: Ranked, L: Ledger>(
     cursors: &mut Cursors<E>,
     members: u64,
@@ -218,7 +218,8 @@ fn drive_from_the_front<E: Ranked, L: Ledger>(
     Ok(drive(cursors, id, members, refusals, steps))
 }
 
-// How many members and refusals a cursor is driven by, and how many answers and refusals it meets, and whether the end.
+// The members and refusals up to which a cursor is driven, the answers and refusals that it meets, and whether it meets
+// the end.
 const DRIVES: &[(u64, u64, u64, u64, bool)] = &[
     (3, 1, 0, 2, false),
     (3, 1, 3, 1, false),
@@ -227,7 +228,7 @@ const DRIVES: &[(u64, u64, u64, u64, bool)] = &[
     (5, 0, 5, 0, false),
 ];
 
-// Whether one cursor after another over five answers, of which the first three calls are refused, is driven so far.
+// Whether cursors over five answers, one after another, are driven that far if the first three calls are refused.
 fn are_driven<E: Ranked, L: Ledger>(cursors: &mut Cursors<E>, steps: &mut Steps<L>) -> bool {
     for (members, refusals, given, refused, ended) in DRIVES {
         let driven = Driven {

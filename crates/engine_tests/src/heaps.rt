@@ -1,4 +1,4 @@
-//! Entries of heaps leave in order of rank.
+//! Entries leave heaps in order of rank.
 ghost use Rattle.std.specs.Prelude.{◌≡◌, ◌<◌};
 
 use rank_key::{LexRank, Rank, SumRank};
@@ -28,7 +28,7 @@ fn entry<R: Rank>(made: Made) -> Entry<R, Made>
     }
 }
 
-// As many entries as `count` says, in no order.
+// This many entries, in no order.
 fn entries_of<R: Rank>(alloc: Global, count: u32) -> Result<Vec<Entry<R, Made>>, NoMemory>
     requires { 0 < R.KEYS }
 {
@@ -41,7 +41,7 @@ fn entries_of<R: Rank>(alloc: Global, count: u32) -> Result<Vec<Entry<R, Made>>,
     Ok(entries)
 }
 
-// Whether so many entries come out, each before the next.
+// Whether this many entries come out, each before the next.
 fn ascends<R: Rank, L: Ledger>(
     heap: &mut HeapOf<R, Made, Global>,
     count: usize,
@@ -60,7 +60,7 @@ fn ascends<R: Rank, L: Ledger>(
     true
 }
 
-// Whether just so many entries come out, each before the next.
+// Whether exactly this many entries come out, each before the next.
 fn drains<R: Rank, L: Ledger>(
     heap: &mut HeapOf<R, Made, Global>,
     count: usize,
@@ -111,7 +111,7 @@ fn pushed<R: Rank, L: Ledger>(
     Ok(drains(&mut heap, count as usize, steps))
 }
 
-// Whether entries of each size leave in order of rank, made a heap at once and pushed one by one.
+// Whether entries of each size leave in order of rank, both if made into a heap at once and if pushed one by one.
 fn all_drain<R: Rank, L: Ledger>(alloc: Global, steps: &mut Steps<L>) -> Result<bool, NoMemory>
     requires keys { 0 < R.KEYS }
 {
@@ -133,7 +133,7 @@ fn leave_in_order<R: Rank, L: Ledger>(alloc: Global, blank: Blank) -> Result<boo
     all_drain::<R, L>(alloc, &mut steps)
 }
 
-// What is put in place of the top of two entries, the top that leaves, and the one that stands there then.
+// What replaces the top of two entries, the top that leaves, and the top that is there then.
 const REPLACED: &[(Made, Made, Made)] = &[
     ((9, 1), (2, 1), (7, 1)),
     ((7, 2), (7, 1), (7, 2)),
@@ -148,7 +148,7 @@ fn has_top(heap: &HeapOf<SumRank, Made, Global>, made: Made) -> bool {
     }
 }
 
-// Whether another entry in place of the top of two lets the old one leave, and the new top is there.
+// Whether a replaced top of two entries leaves, and the new top is there.
 fn replaces<L: Ledger>(
     heap: &mut HeapOf<SumRank, Made, Global>,
     made: Made,

@@ -1,6 +1,6 @@
-//! Tests of tree problems and of what gives their answers: ranks, heaps, linked entries, the trees themselves, anyK-part, anyK-rec
-//! with the streams below it, and cursors over an engine. They are worked examples over the public calls of those crates, in a crate of their own so that none of
-//! those is proved twice for its tests.
+//! Tests of tree problems and of what enumerates their answers: ranks, heaps, linked entries, the trees themselves,
+//! anyK-part, anyK-rec with the streams below it, and cursors over an engine. They are worked examples over the public
+//! calls of those crates. They have a crate of their own, so that none of those is proved twice for its tests.
 #![tactic(auto)]
 
 #[cfg(test)]

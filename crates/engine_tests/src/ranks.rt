@@ -8,7 +8,7 @@ use std::sync::ledger::{Blank, Ledger};
 use std::test::Fail;
 use step_counter::Steps;
 
-// Sees that the first key is before the second, and the second not before the first.
+// Fails the test unless the first key is before the second, and the second not before the first.
 fn expect_before<R: Rank, L: Ledger>(rt: &impl Abort, a: R, b: R, steps: &mut Steps<L>) {
     assert!(rt; R::less(&a, &b, steps));
     assert!(rt; !R::less(&b, &a, steps));

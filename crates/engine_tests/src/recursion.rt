@@ -14,7 +14,7 @@ use std::test::Fail;
 use step_counter::{NoMemory, Steps};
 use tdp_core::Tree;
 
-// Whether its two answers come, and then none.
+// Whether its two answers come, and then the end.
 fn gives_two<A: Allocator + Clone, L: Ledger>(
     alloc: A,
     tree: &Tree<SumRank>,

@@ -1,3 +1,4 @@
+//! The answers of a small tree from anyK-part, and the candidates that are left.
 ghost use Rattle.std.specs.Prelude.{◌≡◌, ℕ, ◌<◌, ◌≤◌, [], ◌∷◌, replicate, IfOk};
 ghost use Rattle.tdp_core.specs.TreeData.{node_data};
 ghost use Rattle.tdp_core.specs.WellFormed.{IsTieFreeTree};
@@ -88,7 +89,7 @@ fn inner_parts<R: Rank>(
     })
 }
 
-/// A leaf of two rows, of which the second is the lesser.
+/// A leaf of two rows; the second is the lesser.
 fn pair_parts<R: Rank>(alloc: Global, first: R, second: R) -> Result<NodeParts<R>, NoMemory>
     ensures { IfOk result (λ p. node_data p ≡ record { shape = record { parent = 0; item = 0; caps = replicate 8 10 }; rows = record { rank = first; row = 1 } ∷ record { rank = second; row = 2 } ∷ []; to_child = [] ∷ [] ∷ []; groups = (1 ∷ 0 ∷ []) ∷ []; best = first ∷ second ∷ [] }) }
 {
@@ -101,7 +102,7 @@ fn pair_parts<R: Rank>(alloc: Global, first: R, second: R) -> Result<NodeParts<R
     })
 }
 
-/// A leaf of four rows, of which the second is the least and the first less than the fourth.
+/// A leaf of four rows; the second is the least, and the first is less than the fourth.
 fn wide_parts<R: Rank>(
     alloc: Global,
     first: R,
@@ -134,8 +135,8 @@ fn wide_parts<R: Rank>(
     })
 }
 
-/// A root of item 1 and weight 5, above a leaf of item 0 and weights 3 and 0, and above a node of item 3 and weight 1, which
-/// stands above a leaf of item 2 and weights 4, 2, 7 and 5.
+/// A root of item 1 and weight 5. Below it are a leaf of item 0 with weights 3 and 0, and a node of item 3 with weight
+/// 1, which has below it a leaf of item 2 with weights 4, 2, 7 and 5.
 fn small_tree<R: Rank, L: Ledger>(alloc: Global, steps: &mut Steps<L>) -> Result<Tree<R>, NoMemory>
     requires { 1 ≤ R.KEYS }
     ensures { IfOk result (λ t. IsTieFreeTree t) }
@@ -158,7 +159,7 @@ fn small_tree<R: Rank, L: Ledger>(alloc: Global, steps: &mut Steps<L>) -> Result
     Ok(Tree::from_parts(four(alloc, root, node, pair, wide)?))
 }
 
-/// A tree of one node without rows, which has no solution.
+/// A tree of one node without rows. It has no solution.
 fn empty_tree<R: Rank>(alloc: Global) -> Result<Tree<R>, NoMemory>
     ensures { IfOk result (λ t. IsTieFreeTree t) }
 {
@@ -172,7 +173,7 @@ fn empty_tree<R: Rank>(alloc: Global) -> Result<Tree<R>, NoMemory>
     Ok(Tree::from_parts(one(alloc, root)?))
 }
 
-/// Whether the answers have these rows, and candidates wait as long as there are answers.
+/// Whether the answers have these rows, and there are candidates as long as there are answers.
 fn gives<R: Rank, L: Ledger>(
     alloc: Global,
     tree: &Tree<R>,

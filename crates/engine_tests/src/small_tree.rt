@@ -1,4 +1,4 @@
-//! A small tree.
+//! A small tree for the tests of both engines.
 ghost use Rattle.std.specs.Prelude.{◌≡◌, ◌<◌, [], ◌∷◌, length, IfOk};
 ghost use Rattle.tdp_core.specs.TreeData.{node_data, child_count, group_count};
 ghost use Rattle.tdp_core.specs.WellFormed.{IsTieFreeTree};
@@ -76,7 +76,7 @@ fn leaf_parts<R: Rank>(alloc: Global, later: R, sooner: R) -> Result<NodeParts<R
     })
 }
 
-/// A root with one row, above a child with two rows, of which the second is the lesser.
+/// A root with one row, above a child with two rows; the second is the lesser.
 pub(crate) fn small_tree<R: Rank, L: Ledger>(
     alloc: Global,
     steps: &mut Steps<L>,

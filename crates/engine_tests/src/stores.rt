@@ -1,4 +1,4 @@
-//! A store of linked entries beside one vector.
+//! A store of linked entries compared with one vector.
 ghost use Rattle.std.specs.Prelude.{◌≡◌, ℕ, ◌<◌, ◌≤◌, length, slice_index, EachIndex, OnOk};
 
 use bumpalo::Bump;
@@ -31,8 +31,7 @@ fn fill<A: Allocator + Clone, L: Ledger>(
 /// What a store has to hold, in one vector: each entry's value, and the place of its next entry.
 type Plain = Vec<(u64, Option<usize>)>;
 
-// Lets the entry at one place be followed by that at another, in the store and in the vector, where
-// none follows it yet.
+// Links the entry at one place to that at another, in the store and in the vector, if none follows it yet.
 fn link_both<A: Allocator + Clone, L: Ledger>(
     store: &mut Store<u64, A>,
     plain: &mut Plain,
@@ -73,7 +72,7 @@ fn agree<A: Allocator + Clone, L: Ledger>(
     store.len() == plain.len()
 }
 
-// Pushes three entries, and links two that are there.
+// Pushes three entries, and links two pairs of those in the store.
 fn grow<A: Allocator + Clone, L: Ledger>(
     store: &mut Store<u64, A>,
     plain: &mut Plain,
@@ -93,7 +92,7 @@ fn grow<A: Allocator + Clone, L: Ledger>(
     Ok(())
 }
 
-// Whether a store and a vector that grow side by side agree.
+// Whether a store and a vector that grow together agree.
 fn agree_after<A: Allocator + Clone, L: Ledger>(
     store: &mut Store<u64, A>,
     alloc: Global,
@@ -144,7 +143,7 @@ fn counts_up<A: Allocator + Clone, L: Ledger>(
     true
 }
 
-// Whether so many entries of a store that has none are read back.
+// Whether this many entries, pushed into an empty store, are read back.
 fn reads_back<A: Allocator + Clone, L: Ledger>(
     store: &mut Store<u64, A>,
     alloc: Global,

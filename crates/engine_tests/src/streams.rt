@@ -15,7 +15,7 @@ use step_counter::{NoMemory, Steps};
 use suffix_streams::Streams;
 use tdp_core::Tree;
 
-// Whether the root has two solutions with these rows, and then none.
+// Whether the root has two solutions with these rows, and then no more.
 fn has_two<A: Allocator + Clone, L: Ledger>(
     streams: &mut Streams<'_, SumRank, A>,
     steps: &mut Steps<L>,

@@ -178,7 +178,7 @@ fn adds<R: Rank, L: Ledger>(tree: &Tree<R>, node: u32, row: u32, steps: &mut Ste
     R::less(&own, &best, steps)
 }
 
-// Whether the best of each row of a node is at least the row's own rank, and more as is said.
+// Whether the best of each row of a node is greater than the row's own rank exactly in the rows that `more` marks.
 fn has_adds<R: Rank, L: Ledger>(
     tree: &Tree<R>,
     node: u32,
@@ -205,7 +205,7 @@ fn has_two_nodes<R: Rank>(tree: &Tree<R>) -> bool
     tree.live() && tree.nodes() == 2 && tree.shape(1).parent == 0 && tree.child_place(1) == 0
 }
 
-// Whether the small tree is read.
+// Whether the small tree is read back.
 fn is_small<R: Rank, L: Ledger>(tree: &Tree<R>, steps: &mut Steps<L>) -> bool
     requires nodes { length tree.now ≡ 2 }
     requires child { child_count tree.now 0 ≡ 1 }

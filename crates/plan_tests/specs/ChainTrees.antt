@@ -7,7 +7,7 @@ use Rattle.tdp_core.specs.RawData.{shape_children}
 abbrev pub chain_children : ℕ → ℕ
 chain_children v = cond (nat_lt v 2) 1 0
 
--- the shapes of three such nodes
+-- the shapes of three nodes in a chain
 pub record IsChain (shapes : List NodeShape) : Type 0 where
   pub nodes : length shapes ≡ 3
   pub children : (v : ℕ) → v < 3 → shape_children shapes v ≡ chain_children v

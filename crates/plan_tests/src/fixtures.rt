@@ -7,7 +7,7 @@ ghost use Rattle.tdp_core.specs.WellFormed.{IsTieFreeTree};
 use csv_tables::{TableFault, Tables};
 use plan_build::{Plan, prepare};
 use query_bind::{Query, bind};
-use query_parse::{Select, parse};
+use query_grammar::{Select, parse};
 use rank_key::Rank;
 use std::alloc::Global;
 use std::sync::ledger::Ledger;
@@ -36,7 +36,8 @@ pub(crate) fn read_two(tables: &mut Tables, files: Files) -> Result<(), TableFau
     Ok(())
 }
 
-// The query over the tables, which are those of its items in their order, where it has as many items and few keys.
+// The query bound to the tables; `which` names the table of each item. `None` if `which` has another length than its
+// items, or if it cannot be bound.
 fn bound(alloc: Global, tables: &Tables, select: &Select, which: &[u32]) -> Option<Query>
     requires few { length which.now ≤ 16 }
     requires known { AllByRecursion (λ t. t < length tables.now) which.now }
@@ -49,7 +50,7 @@ fn bound(alloc: Global, tables: &Tables, select: &Select, which: &[u32]) -> Opti
     bind(alloc, select, tables, which).ok()
 }
 
-// The same of the query of this text.
+// The same for the query of this text.
 fn bound_text(alloc: Global, tables: &Tables, text: &[u8], which: &[u32]) -> Option<Query>
     requires few { length which.now ≤ 16 }
     requires known { AllByRecursion (λ t. t < length tables.now) which.now }
@@ -61,7 +62,7 @@ fn bound_text(alloc: Global, tables: &Tables, text: &[u8], which: &[u32]) -> Opt
     }
 }
 
-/// The query of this text over the tables, where it has at most so many keys.
+/// The query of this text bound to the tables, if it has at most this many keys.
 pub(crate) fn query_of(
     alloc: Global,
     tables: &Tables,

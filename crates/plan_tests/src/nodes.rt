@@ -1,4 +1,4 @@
-//! The raw trees of two tables, by the columns in which rows are to agree.
+//! The raw trees of two tables, by the columns in which rows must agree.
 ghost use Rattle.std.specs.Prelude.{◌≡◌, ◌<◌, ◌≤◌, IfSome, List, length};
 ghost use Rattle.anyk_model.specs.Table.{Table};
 ghost use Rattle.query_bind.specs.Weighed.{Fits};
@@ -25,7 +25,7 @@ fn tree_of_query(query: &Query) -> Option<JoinTree>
     tree_shape(query).ok()
 }
 
-// Whether the second and the third row of the second of two nodes have the first row's link.
+// Whether the second and the third row of the second of two nodes have the link of its first row.
 fn alike<R: Rank>(tree: &RawTree<R>) -> Option<(bool, bool)> {
     if tree.nodes() != 2 || tree.len(1) != 3 {
         return None;
@@ -34,7 +34,7 @@ fn alike<R: Rank>(tree: &RawTree<R>) -> Option<(bool, bool)> {
     Some((tree.own(1, 1) == first, tree.own(1, 2) == first))
 }
 
-/// How many rows each of two nodes has, how many these are together, and which rows of the second are alike.
+/// The rows of each of two nodes, the rows of both, and which rows of the second are alike.
 type Counts = (u64, u64, u64, (bool, bool));
 
 fn counts<R: Rank>(built: &Built<R>) -> Option<Counts> {
@@ -44,7 +44,7 @@ fn counts<R: Rank>(built: &Built<R>) -> Option<Counts> {
     Some((*first, *second, built.used, alike(&built.tree)?))
 }
 
-// These counts of a query within a budget.
+// These counts for a query within a budget.
 fn counts_of<R: Rank, L: Ledger>(
     alloc: Global,
     query: &Query,
@@ -63,7 +63,7 @@ fn counts_of<R: Rank, L: Ledger>(
     Ok(counts(&built))
 }
 
-// The same of the query of this text over R and S.
+// The same for the query of this text over R and S.
 fn counts_of_text<R: Rank, L: Ledger>(
     alloc: Global,
     tables: &Tables,

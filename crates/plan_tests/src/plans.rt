@@ -15,8 +15,8 @@ use step_counter::Steps;
 use tdp_core::Tree;
 use tree_dp::first;
 
-// Whether a rank has the sum 3. A key with the sum 3 and without rows is less than each of an answer with this sum, and a key with
-// the sum 4 is greater.
+// Whether a rank has the sum 3: a key with the sum 3 and without rows is less than it, and a key with the sum 4 is
+// greater.
 fn is_three<R: Rank, L: Ledger>(rank: &R, steps: &mut Steps<L>) -> bool
     requires keys { 1 ≤ R.KEYS }
 {

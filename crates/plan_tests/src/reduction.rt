@@ -111,7 +111,7 @@ fn has_named<R: Rank>(parts: &NodeParts<R>, named: &[u32]) -> bool {
     true
 }
 
-// Row 2 of the second node has no partner, so that row 6 of the root has none either.
+// Row 2 of the second node has no partner, and so row 6 of the root has none either.
 fn link_partly<R: Rank>(tree: &mut RawTree<R>) -> Result<(), NoMemory>
     requires chain { IsChain tree.old.shapes }
     requires empty { row_total tree.old ≡ 0 }

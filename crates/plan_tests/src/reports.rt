@@ -1,18 +1,70 @@
-//! The reports of a path, and of a table that is joined to itself.
+//! The reports of two tables that share a column, and of a table that is joined to itself.
 ghost use Rattle.std.specs.Prelude.{◌≡◌, ◌<◌, ◌≤◌, length};
 ghost use Rattle.std.specs.List.{AllByRecursion};
+ghost use Rattle.query_bind.specs.Weighed.{Fits};
+ghost use Rattle.plan_build.specs.Plan.{IsPlan};
+ghost use Rattle.plan_build.specs.RankedPlan.{IsRankedPlan};
 
 use crate::fixtures::{TWO, query_of, read_two};
 use csv_tables::Tables;
-use plan_build::{prepare, report};
-use rank_key::{Rank, SumRank};
+use plan_build::{Plan, RankedPlan, prepare_ranked, report};
+use query_bind::Query;
+use rank_key::Rank;
 use std::alloc::Global;
 use std::marker::Brand;
 use std::sync::ledger::{Blank, Ledger};
 use step_counter::Steps;
 
-// Whether the report of the query of this text is the expected one.
-fn is_reported<R: Rank, L: Ledger>(
+// Whether the plan's report is the expected one.
+fn has_report<R: Rank>(
+    alloc: Global,
+    plan: &Plan<R>,
+    query: &Query,
+    tables: &Tables,
+    expected: &[u8],
+) -> bool
+    requires plan { IsPlan R.KEYS R.key query.now tables.now plan.now }
+{
+    match report(alloc, plan, query, tables) {
+        Ok(lines) => lines.as_slice() == expected,
+        Err(_) => false,
+    }
+}
+
+// The same, by whichever ranks it is.
+fn is_reported(
+    alloc: Global,
+    plan: &RankedPlan,
+    query: &Query,
+    tables: &Tables,
+    expected: &[u8],
+) -> bool
+    requires plan { IsRankedPlan query.now tables.now plan.now }
+{
+    match plan {
+        RankedPlan::Sum(plan) => has_report(alloc, plan, query, tables, expected),
+        RankedPlan::Lex(plan) => has_report(alloc, plan, query, tables, expected),
+    }
+}
+
+// The same of the plan of this query.
+fn reports_query<L: Ledger>(
+    alloc: Global,
+    query: &Query,
+    tables: &Tables,
+    expected: &[u8],
+    steps: &mut Steps<L>,
+) -> bool
+    requires fits { Fits query.now tables.now }
+{
+    match prepare_ranked(alloc, query, tables, steps) {
+        Ok(plan) => is_reported(alloc, &plan, query, tables, expected),
+        Err(_) => false,
+    }
+}
+
+// The same of the query of this text.
+fn reports_text<L: Ledger>(
     alloc: Global,
     tables: &Tables,
     text: &[u8],
@@ -22,22 +74,15 @@ fn is_reported<R: Rank, L: Ledger>(
 ) -> bool
     requires few { length which.now ≤ 16 }
     requires known { AllByRecursion (λ t. t < length tables.now) which.now }
-    requires keys { 1 ≤ R.KEYS }
 {
-    let Some(query) = query_of(alloc, tables, text, which, 1) else {
-        return false;
-    };
-    let Ok(plan) = prepare::<R, L>(alloc, &query, tables, steps) else {
-        return false;
-    };
-    match report(alloc, &plan, &query, tables) {
-        Ok(lines) => lines.as_slice() == expected,
-        Err(_) => false,
+    match query_of(alloc, tables, text, which, 8) {
+        Some(query) => reports_query(alloc, &query, tables, expected, steps),
+        None => false,
     }
 }
 
 // The same over R and S.
-fn reports<R: Rank, L: Ledger>(
+fn reports<L: Ledger>(
     alloc: Global,
     text: &[u8],
     which: &[u32],
@@ -46,7 +91,6 @@ fn reports<R: Rank, L: Ledger>(
 ) -> bool
     requires few { length which.now ≤ 16 }
     requires known { AllByRecursion (λ t. t < 2) which.now }
-    requires keys { 1 ≤ R.KEYS }
     requires name { blank.name ≡ L.name }
     requires parts { blank.parts ≡ L.parts }
     requires some_part { 0 < blank.parts }
@@ -56,20 +100,34 @@ fn reports<R: Rank, L: Ledger>(
     if read_two(&mut tables, TWO).is_err() {
         return false;
     }
-    is_reported::<R, L>(alloc, &tables, text, which, expected, &mut steps)
+    reports_text(alloc, &tables, text, which, expected, &mut steps)
 }
 
 #[test]
 fn reports_a_path(rt: HostRuntime) {
     let text = b"select R.a, S.c from R, S where R.b = S.b order by R.w + S.w";
     let path = b"node 1 parent 0 rows 3 item R\nnode 2 parent 1 rows 3 item S\ntotal 12\n";
-    assert!(rt; reports::<SumRank, Brand>(rt.alloc(), text, &[0, 1], path, Blank::new(1)));
+    assert!(rt; reports::<Brand>(rt.alloc(), text, &[0, 1], path, Blank::new(1)));
 }
 
-// One table counts once for each item, and rows without the constant are no node rows.
+#[test]
+fn reports_a_path_by_two_keys(rt: HostRuntime) {
+    let text = b"select R.a, S.c from R, S where R.b = S.b order by R.w, S.w";
+    let path = b"node 1 parent 0 rows 3 item R\nnode 2 parent 1 rows 3 item S\ntotal 12\n";
+    assert!(rt; reports::<Brand>(rt.alloc(), text, &[0, 1], path, Blank::new(1)));
+}
+
+// A table counts once for each item, and rows that fail the test by the constant are not node rows.
 #[test]
 fn reports_a_table_joined_to_itself(rt: HostRuntime) {
     let text = b"select \"x y\".a from R \"x y\", R b where \"x y\".b = b.b and b.a = '2'";
     let twice = b"node 1 parent 0 rows 3 item \"x y\"\nnode 2 parent 1 rows 1 item b\ntotal 10\n";
-    assert!(rt; reports::<SumRank, Brand>(rt.alloc(), text, &[0, 0], twice, Blank::new(1)));
+    assert!(rt; reports::<Brand>(rt.alloc(), text, &[0, 0], twice, Blank::new(1)));
+}
+
+#[test]
+fn reports_the_rows_with_a_constant(rt: HostRuntime) {
+    let text = b"select R.a from R, S where R.a = S.c and S.b = 'y'";
+    let one = b"node 1 parent 0 rows 3 item R\nnode 2 parent 1 rows 1 item S\ntotal 10\n";
+    assert!(rt; reports::<Brand>(rt.alloc(), text, &[0, 1], one, Blank::new(1)));
 }

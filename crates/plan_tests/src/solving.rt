@@ -14,7 +14,7 @@ use tdp_core::{NodeRow, NodeShape, RawTree, Tree};
 use tree_dp::{first, solve};
 
 /// A root with two children, without rows.
-fn branching<R: Rank>(alloc: Global) -> Result<RawTree<R>, NoMemory>
+pub(crate) fn branching<R: Rank>(alloc: Global) -> Result<RawTree<R>, NoMemory>
     ensures sample { IfOk result IsSample }
     ensures empty { IfOk result (λ t. row_total t ≡ 0) }
 {
@@ -38,7 +38,7 @@ fn branching<R: Rank>(alloc: Global) -> Result<RawTree<R>, NoMemory>
 }
 
 /// Appends a row with one sum, whose number is its place at the node.
-fn add<R: Rank>(
+pub(crate) fn add<R: Rank>(
     tree: &mut RawTree<R>,
     node: u32,
     sum: i128,
@@ -59,7 +59,7 @@ fn add<R: Rank>(
     tree.add_row(node, NodeRow { rank, row: number }, own, children)
 }
 
-// The solutions get the sums 5 + 4 + 3, 5 + 2 + 3 and 1 + 9 + 3, each twice.
+// The solutions have the sums 5 + 4 + 3, 5 + 2 + 3 and 1 + 9 + 3, each twice.
 fn add_six_solutions<R: Rank>(tree: &mut RawTree<R>) -> Result<(), NoMemory>
     requires keys { 1 ≤ R.KEYS }
     requires sample { IsSample tree.old }
@@ -106,7 +106,7 @@ fn no_solution<R: Rank>(alloc: Global) -> Result<RawTree<R>, NoMemory>
 }
 
 /// The tree that a raw one is reduced to and solved as.
-fn tree_of<R: Rank, L: Ledger>(
+pub(crate) fn tree_of<R: Rank, L: Ledger>(
     alloc: Global,
     raw: RawTree<R>,
     steps: &mut Steps<L>,

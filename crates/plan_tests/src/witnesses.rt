@@ -15,8 +15,8 @@ use std::sync::ledger::{Blank, Ledger};
 use step_counter::{NoMemory, Steps};
 use tdp_core::{Ranked, Tree};
 
-// Whether the first items have these rows in the answers, and no other comes.
-fn gives_all<E: Ranked, L: Ledger>(
+/// Whether the first items have these rows in the answers, and no other comes.
+pub(crate) fn gives_all<E: Ranked, L: Ledger>(
     engine: &mut E,
     expected: &[[u32; 4]],
     steps: &mut Steps<L>,
@@ -29,7 +29,7 @@ fn gives_all<E: Ranked, L: Ledger>(
     Ok(engine.next(steps)?.is_none())
 }
 
-// The same of the engine by regions, with candidates that wait as long as there are answers.
+// The same for the engine by regions, with candidates as long as there are answers.
 fn is_emptied<R: Rank, L: Ledger>(
     engine: &mut Part<'_, R, Global>,
     expected: &[[u32; 4]],
@@ -55,7 +55,7 @@ fn regions_give<R: Rank, L: Ledger>(
     is_emptied(&mut engine, expected, steps)
 }
 
-// Whether the engine by recursion over the tree, in an arena, gives these answers.
+// Whether the engine by recursion over the tree, in an arena, returns these answers.
 fn recursion_gives<R: Rank, L: Ledger>(
     arena: &Bump,
     tree: &Tree<R>,
@@ -175,8 +175,8 @@ fn gives_none_where_none_holds(rt: HostRuntime) {
     assert!(rt; gives::<SumRank, Brand>(alloc, TWO, text, &[0], &rows, Blank::new(1)));
 }
 
-// One row of B, of weight 5, goes with two of A, of weights 3 and 0, and with one of D, of weight 1, which goes with four of C, of
-// weights 4, 2, 7 and 5.
+// One row of B, of weight 5, is joined with two of A, of weights 3 and 0, and with one of D, of weight 1, which is
+// joined with four of C, of weights 4, 2, 7 and 5.
 const OF_FOUR_ITEMS: Files = (
     "k,l,v,w\nx,q,4,3\nx,q,2,0\ny,q,7,0\ny,q,5,0\n",
     "k,l,m,w\nx,n,j,5\nz,q,j,1\n",

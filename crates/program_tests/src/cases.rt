@@ -1,10 +1,12 @@
 //! A call of the program over files in memory, and what is to come of it.
-use anyk_top::run_uncounted;
-use hash_keys::Keys;
+ghost use Rattle.std.specs.Prelude.{◌≡◌, ◌<◌};
+
+use anyk_top::run_words;
 use outer_io::{MemFile, MemShelf, MemSink, have_distinct_names};
 use std::alloc::{AllocError, Global};
 use std::marker::Brand;
-use std::sync::ledger::Blank;
+use std::sync::ledger::{Blank, Ledger};
+use step_counter::Steps;
 
 pub(super) const LEFT: &str = "a,b,w\n1,x,3\n2,y,1\n3,x,1\n";
 
@@ -105,6 +107,23 @@ fn sink_of(alloc: Global, most: usize, fails: u64, stuck: u64) -> Result<MemSink
         .ok_or(AllocError)
 }
 
+// The status of the call of these words.
+fn status_of<L: Ledger>(
+    alloc: Global,
+    words: &[String],
+    shelf: &mut MemShelf,
+    out: &mut MemSink,
+    err: &mut MemSink,
+    blank: Blank,
+) -> u8
+    requires name { blank.name ≡ L.name }
+    requires parts { blank.parts ≡ L.parts }
+    requires share { 0 < L.parts }
+{
+    let mut steps: Steps<L> = Steps::new(blank);
+    run_words(alloc, words, shelf, out, err, &mut steps)
+}
+
 // Whether the call of these words comes out as the case says.
 fn comes_out(
     alloc: Global,
@@ -114,15 +133,7 @@ fn comes_out(
     out: &mut MemSink,
     err: &mut MemSink,
 ) -> bool {
-    let status = run_uncounted::<MemShelf, MemSink, MemSink, Brand>(
-        alloc,
-        words,
-        shelf,
-        out,
-        err,
-        Keys::Known,
-        Blank::new(1),
-    );
+    let status = status_of::<Brand>(alloc, words, shelf, out, err, Blank::new(1));
     status == case.status
         && out.bytes() == case.out.as_bytes()
         && err.bytes() == case.err.as_bytes()

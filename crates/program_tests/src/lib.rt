@@ -7,7 +7,11 @@ mod answers;
 #[cfg(test)]
 mod cases;
 #[cfg(test)]
+mod chains;
+#[cfg(test)]
 mod faults;
+#[cfg(test)]
+mod large;
 #[cfg(test)]
 mod loads;
 #[cfg(test)]

@@ -34,6 +34,16 @@ const OF_MOVES: &[Case<'static>] = &[
         out: "cursor,a,c,rank1,row1,row2\na,2,q,3,2,2\na,3,q,5,3,3\na\na\n",
         ..SESSION
     },
+    Case {
+        query: LIMITED,
+        files: &[
+            ("R.csv", LEFT),
+            ("S.csv", RIGHT),
+            ("s.txt", "open a\nnext a 0\nnext a 9\nnext a 9\n"),
+        ],
+        out: "cursor,a,c\na,2,q\na,3,q\na\na\n",
+        ..SESSION
+    },
     // Forks at the end stand there, and going back leads from it to the front.
     Case {
         files: &[

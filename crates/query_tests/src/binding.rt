@@ -1,4 +1,4 @@
-//! What queries are bound to, and why some are not.
+//! What queries are bound to, and why some cannot be bound.
 ghost use Rattle.std.specs.Prelude.{◌≡◌, ◌<◌, ◌≤◌, length};
 ghost use Rattle.std.specs.List.{AllByRecursion};
 ghost use Rattle.query_bind.specs.Weighed.{Fits};
@@ -6,7 +6,7 @@ ghost use Rattle.query_bind.specs.Weighed.{Fits};
 use crate::fixtures::{R, S, parse_small, read_two};
 use csv_tables::Tables;
 use query_bind::{BindFault, Query, bind};
-use query_parse::select::Select;
+use query_grammar::select::Select;
 use std::alloc::Global;
 
 const PAIRS: &[u8] = b"p,q\n1,1\n1,2\n";
@@ -19,7 +19,7 @@ const LEAST: &[u8] = b"a,b,w\n1,x,-170141183460469231731687303715884105728\n";
 
 const SUM: &[u8] = b"select R.a from R, S where R.b = S.b order by R.w + S.w";
 
-// What a bound query tells.
+// What a bound query returns.
 #[derive(Clone, Copy)]
 struct Bound {
     // How many items, keys and variables there are.
@@ -82,7 +82,7 @@ fn passes(query: &Query, tables: &Tables, item: u32, row: u32) -> bool
     table < tables.count() && row <= tables.len(table) && query.passes(tables, item, row)
 }
 
-// What the last row of an item adds to a key, or 0 where there is none.
+// What the last row of an item adds to a key, or 0 if there is none.
 fn part(query: &Query, tables: &Tables, item: u32, key: u32) -> i128
     requires { Fits query.now tables.now }
 {
@@ -96,7 +96,7 @@ fn part(query: &Query, tables: &Tables, item: u32, key: u32) -> i128
     query.part(tables, item, tables.len(table), key)
 }
 
-// The most that a row of an item adds to a key, or 0 where there is no such item or key.
+// The most that a row of an item adds to a key, or 0 if there is no such item or key.
 fn cap(query: &Query, _tables: &Tables, item: u32, key: u32) -> u128
     requires { Fits query.now _tables.now }
 {
@@ -150,7 +150,7 @@ fn tell(alloc: Global, query: &Query, tables: &Tables) -> Bound
     }
 }
 
-// What a query tells that is bound to these tables, or why it is refused.
+// What a query bound to these tables returns, or why it is refused.
 fn told_of(
     alloc: Global,
     select: &Select,
@@ -196,7 +196,7 @@ fn told(
     told_over(alloc, &tables, text, which)
 }
 
-// What the query tells, if it can be bound.
+// What the query returns, if it can be bound.
 fn told_if_bound(alloc: Global, files: (&[u8], &[u8]), text: &[u8], which: &[u32]) -> Option<Bound>
     requires few { length which.now ≤ 16 }
     requires known { AllByRecursion (λ t. t < 2) which.now }
@@ -216,7 +216,8 @@ fn binds_two_tables(rt: HostRuntime) {
     assert!(rt; told.columns == columns);
     assert!(rt; told.variables == [[Some((0, 1)), None], [Some((0, 0)), None], [None; 2]]);
     assert!(rt; told.graph == [3, 0, 0] && told.passes[0] == [true, true]);
-    // An item's rows add nothing to a key that has no column of the item, and a column that is named twice counts twice.
+    // An item's rows add nothing to a key that has no column of the item, and a column that is named twice counts
+    // twice.
     assert!(rt; told.parts == [[-1, 0, 2], [0, 4, 0]]);
     assert!(rt; told.caps == [[3, 0, 6], [0, 5, 0]]);
 }
@@ -278,14 +279,14 @@ fn a_class_within_one_item_is_no_variable(rt: HostRuntime) {
 
 #[test]
 fn takes_constants_as_filters(rt: HostRuntime) {
-    // The constant holds in both items, and their class is no variable.
+    // The constant holds in both items, and their class is not a variable.
     let text = b"select R.a from R, S where R.b = S.b and S.b = 'x'";
     let Some(both) = told_if_bound(rt.alloc(), (R, S), text, &[0, 1]) else {
         panic!(rt; "not bound");
     };
     assert!(rt; both.counts[2] == 0);
     assert!(rt; both.passes == [[true, false], [true, false], [false, false]]);
-    // Two different constants leave no row, and are no fault.
+    // Two different constants leave no row, and are not a fault.
     let text = b"select R.a from R where R.b = 'x' and R.b = 'y'";
     let Some(none) = told_if_bound(rt.alloc(), (R, S), text, &[0]) else {
         panic!(rt; "not bound");
@@ -329,7 +330,7 @@ fn refuses_weights_and_their_sums(rt: HostRuntime) {
     let text = b"select a from R, S order by R.w";
     let fault = fault_of(rt.alloc(), (LEAST, S), text);
     assert!(rt; fault == Some(BindFault::RankRange(1)));
-    // Twice the greatest weight is past the range.
+    // Twice the greatest weight is out of range.
     let text = b"select a from R, S order by R.w desc, R.w + R.w";
     let fault = fault_of(rt.alloc(), (GREATEST, S), text);
     assert!(rt; fault == Some(BindFault::RankRange(2)));

@@ -1,5 +1,5 @@
-//! Equality of queries.
-use query_parse::{Select, parse};
+//! When two queries are equal.
+use query_grammar::{Select, parse};
 use std::alloc::Global;
 
 const QUERY: &str =
@@ -8,7 +8,7 @@ const QUERY: &str =
 const SPREAD: &str =
     "select R . a ,\tS.c\nfrom R,S as T\r\nwhere R.b=T.b and T.c='x'\n order by R.w-T.w desc,  R.a limit  3 ";
 
-// Each with another name, constant, sign, direction or limit.
+// Each differs in a name, a constant, a sign, a direction or a limit.
 const OTHERS: &[&str] = &[
     "select R.A, S.c from R, S as T where R.b = T.b and T.c = 'x' order by R.w - T.w desc, R.a limit 3",
     "select R.a, S.c from R, S as T where R.b = T.b and T.c = 'y' order by R.w - T.w desc, R.a limit 3",
@@ -19,7 +19,7 @@ const OTHERS: &[&str] = &[
     "select * from R, S as T where R.b = T.b and T.c = 'x' order by R.w - T.w desc, R.a limit 3",
 ];
 
-// Whether the text is this query, if it is a query.
+// Whether the text is this query. `None` if it is not a query.
 fn is_query(alloc: Global, query: &Select, text: &str) -> Option<bool> {
     match parse(alloc, text.as_bytes()) {
         Ok(other) => Some(*query == other),
@@ -51,13 +51,13 @@ fn others_differ(alloc: Global) -> bool {
     }
 }
 
-/// Two texts that differ in blanks alone say one query, which keeps other offsets.
+/// Two texts that differ only in blanks are equal queries, which keep their own offsets.
 #[test]
 fn blanks_make_no_other_query(rt: HostRuntime) {
     assert!(rt; is_spread(rt.alloc()));
 }
 
-/// A query with another name, constant, sign, direction or limit is another.
+/// A query with another name, constant, sign, direction or limit is another query.
 #[test]
 fn other_parts_make_another_query(rt: HostRuntime) {
     assert!(rt; others_differ(rt.alloc()));

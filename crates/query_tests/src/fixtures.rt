@@ -2,8 +2,8 @@
 ghost use Rattle.std.specs.Prelude.{◌≡◌, ◌≤◌, [], length, IfSome, OnOk};
 
 use csv_tables::{TableFault, Tables};
-use query_parse::parse;
-use query_parse::select::Select;
+use query_grammar::parse;
+use query_grammar::select::Select;
 use std::alloc::Global;
 
 pub(crate) const R: &[u8] = b"a,b,w\n1,x,3\n2,y,1\n3,x,1\n";
@@ -23,7 +23,7 @@ pub(crate) fn read_two(tables: &mut Tables, files: (&[u8], &[u8])) -> Result<(),
     Ok(())
 }
 
-/// A query of so many items, and at least one, that can be bound.
+/// A query with this many items, and at least one, that can be bound.
 pub(crate) fn parse_small(alloc: Global, text: &[u8], items: usize) -> Option<Select>
     requires few { items ≤ 16 }
     ensures some { IfSome result (λ made. 1 ≤ length made.items) }

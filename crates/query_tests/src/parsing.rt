@@ -10,7 +10,7 @@ fn has_fault(alloc: Global, query: &[u8], fault: &ParseFault) -> bool {
     }
 }
 
-// The same of a text of so many spaces.
+// The same for a text of this many spaces.
 fn have_fault(alloc: Global, spaces: usize, fault: &ParseFault) -> Result<bool, AllocError> {
     let text = vec![in alloc; b' '; spaces]?;
     Ok(has_fault(alloc, text.as_slice(), fault))
@@ -45,7 +45,7 @@ const FAULTS: &[(&str, ParseFault)] = &[
     ),
 ];
 
-// The place of the first text that has another fault.
+// The place of the first text that has another fault, or none.
 fn first_failing(alloc: Global, texts: &[(&str, ParseFault)]) -> Option<usize> {
     for (i, (query, fault)) in texts.iter().enumerate() {
         if !has_fault(alloc, query.as_bytes(), fault) {
@@ -63,7 +63,7 @@ fn faults_have_their_places(rt: HostRuntime) {
     assert!(rt; have_fault(alloc, 65_536, &ParseFault::Syntax(65_536)) == Ok(true));
 }
 
-// Where the selected columns and the items begin, where there are two of each.
+// Where the selected columns and the items begin, if there are two of each.
 fn places(select: &Select) -> Option<[u32; 4]> {
     let SelectList::Columns(list) = &select.list else {
         return None;
@@ -109,7 +109,7 @@ fn a_query_is_read(rt: HostRuntime) {
     assert!(rt; is_read(rt.alloc()));
 }
 
-// Whether this text is what is written of a query.
+// Whether this is the text that a query is written as.
 fn has_text(alloc: Global, query: &Select, wanted: &str) -> bool {
     match text(alloc, query) {
         Ok(written) => written.as_slice() == wanted.as_bytes(),
@@ -117,7 +117,7 @@ fn has_text(alloc: Global, query: &Select, wanted: &str) -> bool {
     }
 }
 
-// The same of the query of a text.
+// The same for the query of a text.
 fn is_written_as(alloc: Global, query: &str, wanted: &str) -> bool {
     match parse(alloc, query.as_bytes()) {
         Ok(select) => has_text(alloc, &select, wanted),
@@ -144,7 +144,7 @@ const WRITTEN: &[(&str, &str)] = &[
     ),
 ];
 
-// The place of the first query that is written otherwise, or whose text is not written as it is.
+// The place of the first query that is written in another way, or whose text is not written as it is.
 fn first_written_otherwise(alloc: Global, queries: &[(&str, &str)]) -> Option<usize> {
     for (i, (query, wanted)) in queries.iter().enumerate() {
         if !is_written_as(alloc, query, wanted) || !is_written_as(alloc, wanted, wanted) {
@@ -175,7 +175,7 @@ fn is_name_written_as(alloc: Global, name: &str, wanted: &str) -> bool {
     }
 }
 
-// The place of the first name that is written otherwise.
+// The place of the first name that is written in another way.
 fn first_name_otherwise(alloc: Global, names: &[(&str, &str)]) -> Option<usize> {
     for (i, (name, wanted)) in names.iter().enumerate() {
         if !is_name_written_as(alloc, name, wanted) {

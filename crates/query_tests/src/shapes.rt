@@ -1,33 +1,27 @@
-//! A path, a constant, and a triangle.
+//! A path, two items that share one column, and a triangle.
 ghost use Rattle.std.specs.Prelude.{◌≡◌, ◌<◌, ◌≤◌, length};
 ghost use Rattle.std.specs.List.{AllByRecursion};
 
 use crate::fixtures::{R, S, parse_small, read_two};
 use csv_tables::Tables;
+use join_tree::JoinTree;
 use query_bind::bind;
-use query_parse::select::Select;
-use query_shape::{ShapeFault, TreeShape, shape_of};
+use query_grammar::select::Select;
+use query_shape::{ShapeFault, tree_shape};
 use std::alloc::Global;
 
-// The number of nodes, the first two items, the parent of the second, and how many rows the first two have.
-fn told(shape: &TreeShape) -> [u32; 6] {
-    [
-        shape.tree.count,
-        shape.tree.atom[0],
-        shape.tree.atom[1],
-        shape.tree.parent[1],
-        shape.node_rows[0],
-        shape.node_rows[1],
-    ]
+// The number of nodes, the first two items, and the parent of the second.
+fn told(tree: &JoinTree) -> [u32; 4] {
+    [tree.count, tree.atom[0], tree.atom[1], tree.parent[1]]
 }
 
-// What the shape of a query tells, where it can be bound.
-fn shape_of_select(
+// What the join tree of a query tells, where it can be bound.
+fn tree_of_select(
     alloc: Global,
     tables: &Tables,
     select: &Select,
     which: &[u32],
-) -> Option<Result<[u32; 6], ShapeFault>>
+) -> Option<Result<[u32; 4], ShapeFault>>
     requires some { 1 ≤ length select.now.items }
     requires items { length select.now.items ≤ 16 }
     requires keys { length select.now.keys ≤ 8 }
@@ -37,46 +31,45 @@ fn shape_of_select(
     let Ok(query) = bind(alloc, select, tables, which) else {
         return None;
     };
-    match shape_of(&query, tables) {
-        Ok(shape) => Some(Ok(told(&shape))),
+    match tree_shape(&query) {
+        Ok(tree) => Some(Ok(told(&tree))),
         Err(fault) => Some(Err(fault)),
     }
 }
 
 // The same of the query of a text.
-fn shape_of_text(
+fn tree_of_text(
     alloc: Global,
     tables: &Tables,
     text: &[u8],
     which: &[u32],
-) -> Option<Result<[u32; 6], ShapeFault>>
+) -> Option<Result<[u32; 4], ShapeFault>>
     requires two { length tables.now ≡ 2 }
     requires few { length which.now ≤ 16 }
     requires known { AllByRecursion (λ t. t < 2) which.now }
 {
     let select = parse_small(alloc, text, which.len())?;
-    shape_of_select(alloc, tables, &select, which)
+    tree_of_select(alloc, tables, &select, which)
 }
 
 // The same over R and S.
-fn shape(alloc: Global, text: &[u8], which: &[u32]) -> Option<Result<[u32; 6], ShapeFault>>
+fn tree(alloc: Global, text: &[u8], which: &[u32]) -> Option<Result<[u32; 4], ShapeFault>>
     requires few { length which.now ≤ 16 }
     requires known { AllByRecursion (λ t. t < 2) which.now }
 {
     let mut tables = Tables::new(alloc);
     read_two(&mut tables, (R, S)).ok()?;
-    shape_of_text(alloc, &tables, text, which)
+    tree_of_text(alloc, &tables, text, which)
 }
 
 #[test]
-fn shapes_queries(rt: HostRuntime) {
+fn hangs_items_into_trees(rt: HostRuntime) {
     let text = b"select R.a, S.c from R, S where R.b = S.b order by R.w, S.w";
-    assert!(rt; shape(rt.alloc(), text, &[0, 1]) == Some(Ok([2, 0, 1, 0, 3, 3])));
-    // Rows without the constant do not count.
+    assert!(rt; tree(rt.alloc(), text, &[0, 1]) == Some(Ok([2, 0, 1, 0])));
     let text = b"select R.a from R, S where R.a = S.c and S.b = 'y'";
-    assert!(rt; shape(rt.alloc(), text, &[0, 1]) == Some(Ok([2, 0, 1, 0, 3, 1])));
+    assert!(rt; tree(rt.alloc(), text, &[0, 1]) == Some(Ok([2, 0, 1, 0])));
     // No item of a triangle is an ear.
     let text = b"select A.a from R A, R B, R C where A.a = B.b and B.a = C.b and C.a = A.b";
     let cycle = ShapeFault::Cyclic(0b111);
-    assert!(rt; shape(rt.alloc(), text, &[0, 0, 0]) == Some(Err(cycle)));
+    assert!(rt; tree(rt.alloc(), text, &[0, 0, 0]) == Some(Err(cycle)));
 }

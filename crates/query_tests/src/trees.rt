@@ -10,7 +10,7 @@ use std::alloc::Global;
 use std::test::Fail;
 use step_counter::NoMemory;
 
-// The ears of the graph of so many atoms with these sets.
+// The ears of the graph of this many atoms with these sets.
 fn ears_of(alloc: Global, atoms: u32, sets: &[u16]) -> Result<Ears, NoMemory>
     requires some { 1 ≤ atoms }
     requires few { atoms ≤ 16 }
@@ -40,7 +40,7 @@ fn cycles_have_none(rt: HostRuntime) -> Result<(), Fail> {
     Ok(())
 }
 
-/// A path of three relations, seen from its last one.
+/// A path of three relations, with its last one as the root.
 #[test]
 fn reroots_a_path(rt: HostRuntime) -> Result<(), Fail> {
     let found = tree_of(&ears_of(rt.alloc(), 3, &[0b011, 0b110])?).ok_or("no tree")?;
@@ -53,7 +53,7 @@ fn reroots_a_path(rt: HostRuntime) -> Result<(), Fail> {
     Ok(())
 }
 
-// The atom that is reached from this one by going up four times.
+// The atom that is reached from this one by going to the parent four times.
 fn root_of(parents: &[u32; 4], atom: u32) -> u32 {
     let mut at = atom;
     for _ in 0..4 {
@@ -75,7 +75,7 @@ fn is_in(set: u16, atom: u32) -> bool {
     set >> (atom % 4) & 1 == 1
 }
 
-// Whether a set of atoms is empty or connected in this tree: it has one link fewer than atoms.
+// Whether a set of atoms is empty or connected in this tree: then it has one link fewer than atoms.
 fn is_connected(parents: &[u32; 4], set: u16) -> bool {
     let mut atoms: u32 = 0;
     let mut links: u32 = 0;
@@ -91,7 +91,7 @@ fn is_connected(parents: &[u32; 4], set: u16) -> bool {
     atoms <= links.saturating_add(1)
 }
 
-// For each set of the four atoms whether it is empty or connected in this tree.
+// For each set of the four atoms, whether it is empty or connected in this tree.
 fn connected_sets(parents: &[u32; 4]) -> [bool; 16] {
     let mut connected = [false; 16];
     for set in 0..16u16 {
@@ -100,7 +100,7 @@ fn connected_sets(parents: &[u32; 4]) -> [bool; 16] {
     connected
 }
 
-// Those sets, of each tree of four atoms. A number of four digits to the base 4 names the parent of each atom.
+// The connected sets of each tree of four atoms. A number of four digits to the base 4 names the parent of each atom.
 fn all_trees(alloc: Global) -> Result<Vec<[bool; 16]>, NoMemory> {
     let mut trees = Vec::new(alloc);
     for number in 0..256u32 {
@@ -138,7 +138,7 @@ fn parents_of(tree: &JoinTree) -> [u32; 4] {
     parents
 }
 
-// Whether the tree of these variables is a join tree, or there is none where no tree is one.
+// Whether the tree of these variables is a join tree, or there is none and no tree is one.
 fn is_right(alloc: Global, trees: &[[bool; 16]], x: u16, y: u16, z: u16) -> Result<bool, NoMemory>
     requires x { x < 16 }
     requires y { y < 16 }
@@ -152,8 +152,8 @@ fn is_right(alloc: Global, trees: &[[bool; 16]], x: u16, y: u16, z: u16) -> Resu
     Ok(is_tree(&parents) && connects(&connected_sets(&parents), sets))
 }
 
-/// For every graph of four atoms and three variables a tree is found exactly where some list of parents
-/// is a join tree, and the tree found is one.
+/// For every graph of four atoms and three variables a tree is found exactly if some list of parents is a join tree,
+/// and the tree found is one.
 #[test]
 fn finds_a_tree_where_one_is(rt: HostRuntime) -> Result<(), Fail> {
     let trees = all_trees(rt.alloc())?;

@@ -5,7 +5,7 @@ ghost use Rattle.query_bind.specs.Weighed.{Fits};
 
 use csv_tables::{TableFault, Tables};
 use query_bind::{Query, bind};
-use query_parse::{Select, parse};
+use query_grammar::{Select, parse};
 use std::alloc::Global;
 
 pub(crate) const R: &str = "a,b,w\n1,x,3\n2,y,1\n3,x,1\n";
@@ -25,7 +25,8 @@ pub(crate) fn read_two(tables: &mut Tables, first: &str, second: &str) -> Result
     Ok(())
 }
 
-// The query over the tables, which are those of its items in their order, where it has as many items and few keys.
+// The query bound to the tables; `which` names the table of each item. `None` if `which` has another length than its
+// items, or if it cannot be bound.
 fn bound(alloc: Global, tables: &Tables, select: &Select, which: &[u32]) -> Option<Query>
     requires { AllByRecursion (λ t. t < length tables.now) which.now }
     ensures { IfSome result (λ query. Fits query tables.now) }
@@ -37,7 +38,7 @@ fn bound(alloc: Global, tables: &Tables, select: &Select, which: &[u32]) -> Opti
     bind(alloc, select, tables, which).ok()
 }
 
-/// The query of this text over the tables, which are those of its items in their order.
+/// The query of this text bound to the tables; `which` names the table of each item.
 pub(crate) fn query_of(alloc: Global, tables: &Tables, text: &str, which: &[u32]) -> Option<Query>
     requires { AllByRecursion (λ t. t < length tables.now) which.now }
     ensures { IfSome result (λ query. Fits query tables.now) }

@@ -1,5 +1,5 @@
 //! Tests of what is read and of what is written: files and sinks, the words of the command line, scripts, tables, those that `load`
-//! makes, digits, the records and reports of the output, and the lines of refusals. They are worked examples over the public calls
+//! makes, digits, the records of the output, and the lines of refusals. They are worked examples over the public calls
 //! of those crates, in a crate of their own so that none of those is proved twice for its tests.
 #![tactic(auto)]
 
@@ -15,8 +15,6 @@ mod outside;
 mod records;
 #[cfg(test)]
 mod refusals;
-#[cfg(test)]
-mod reports;
 #[cfg(test)]
 mod scripts;
 #[cfg(test)]

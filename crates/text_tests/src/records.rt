@@ -1,4 +1,4 @@
-//! The worked examples.
+//! Answers as records: the header and a line of worked examples.
 ghost use Rattle.std.specs.Prelude.{◌≡◌, IsTrue, length, take};
 ghost use Rattle.anyk_model.specs.Query.{IsCombination, row_counts};
 ghost use Rattle.query_bind.specs.Weighed.{Fits};
@@ -91,7 +91,7 @@ fn is_printed(alloc: Global, query: &Query, tables: &Tables, case: &Case) -> boo
         && writes_line(alloc, query, tables, &rows, case)
 }
 
-// The same of the query of the case's text.
+// The same for the query of the case's text.
 fn prints_over(alloc: Global, tables: &Tables, case: &Case) -> bool
     requires { length tables.now ≡ 2 }
 {
@@ -101,13 +101,13 @@ fn prints_over(alloc: Global, tables: &Tables, case: &Case) -> bool
     }
 }
 
-// The same of the tables of the case's texts.
+// The same for the tables of the case's texts.
 fn prints(alloc: Global, case: &Case) -> bool {
     let mut tables = Tables::new(alloc);
     read_two(&mut tables, case.first, case.second).is_ok() && prints_over(alloc, &tables, case)
 }
 
-// The place of the first case that is printed otherwise.
+// The place of the first case that is printed in another way.
 fn first_failing(alloc: Global, cases: &[Case]) -> Option<usize> {
     for (i, case) in cases.iter().enumerate() {
         if !prints(alloc, case) {

@@ -1,4 +1,4 @@
-//! The lines, as text.
+//! The lines of refusals, as text.
 use outer_io::{MemSink, Unwritten};
 use refusal_lines::{Refusal, write_line};
 use std::alloc::{AllocError, Global};
@@ -6,13 +6,13 @@ use std::alloc::{AllocError, Global};
 /// A refusal with its status and its line.
 type Row = (Refusal<'static>, u8, &'static str);
 
-// Whether a sink gets this line, and the status is the row's.
+// Whether a sink gets this line, and the status is that of the row.
 fn writes(err: &mut MemSink, row: &Row) -> bool {
     let (refusal, status, line) = *row;
     write_line(err, refusal).is_ok() && err.bytes() == line.as_bytes() && refusal.status() == status
 }
 
-// The same of a sink that takes so many bytes a call.
+// The same for a sink that takes this many bytes a call.
 fn writes_by(alloc: Global, row: &Row, most: usize) -> bool {
     match MemSink::new(alloc, 200, most, Vec::new(alloc), Vec::new(alloc)) {
         Ok(mut err) => writes(&mut err, row),
@@ -20,7 +20,7 @@ fn writes_by(alloc: Global, row: &Row, most: usize) -> bool {
     }
 }
 
-// The place of the first row whose line is written otherwise, whole or three bytes a call.
+// The place of the first row whose line is written in another way, whole or three bytes a call.
 fn first_failing(alloc: Global, rows: &[Row]) -> Option<usize> {
     for (i, row) in rows.iter().enumerate() {
         if !writes_by(alloc, row, 200) || !writes_by(alloc, row, 3) {

@@ -84,7 +84,7 @@ fn fault_of(alloc: Global, script: &str) -> Option<ScriptFault> {
     read_script(alloc, script.as_bytes()).err()
 }
 
-// The place of the first script that is read otherwise.
+// The place of the first script that is read in another way.
 fn first_failing(alloc: Global, scripts: &[Read]) -> Option<usize> {
     for (i, (script, fault)) in scripts.iter().enumerate() {
         if fault_of(alloc, script) != *fault {
@@ -99,7 +99,7 @@ fn faults_have_their_lines(rt: HostRuntime) {
     assert_eq!(rt; first_failing(rt.alloc(), READ), None);
 }
 
-// Opens so many cursors, and ends with one more line.
+// Opens this many cursors, and ends with one more line.
 fn opened(alloc: Global, cursors: u32, last: &str) -> Result<String, AllocError> {
     let mut script = String::new(alloc);
     for cursor in 0..cursors {
@@ -119,7 +119,7 @@ fn fault_of_many(
     Ok(fault_of(alloc, script.as_str()))
 }
 
-// So many comments.
+// This many comments.
 fn comments(alloc: Global, lines: u32) -> Result<String, AllocError> {
     let mut script = String::new(alloc);
     for _ in 0..lines {
@@ -128,7 +128,7 @@ fn comments(alloc: Global, lines: u32) -> Result<String, AllocError> {
     Ok(script)
 }
 
-// The fault of a script of so many comments.
+// The fault of a script of this many comments.
 fn fault_of_comments(alloc: Global, lines: u32) -> Result<Option<ScriptFault>, AllocError> {
     let script = comments(alloc, lines)?;
     Ok(fault_of(alloc, script.as_str()))

@@ -1,4 +1,4 @@
-//! Tests of what no clause says: worked files, and that each call succeeds with ample memory.
+//! Tables: worked files, and that each call succeeds with ample memory, which no clause says.
 use csv_tables::{RecordWriter, TableFault, Tables, line};
 use std::alloc::Global;
 
@@ -14,7 +14,7 @@ enum Call {
     Field(Place, &'static str),
     Weight(Place, Option<i128>),
     Number(Place, u32),
-    // Whether two fields have one number.
+    // Whether two fields have the same number.
     Same(Place, Place, bool),
 }
 
@@ -27,14 +27,14 @@ fn read(tables: &mut Tables, bytes: &[u8]) -> Result<u32, TableFault> {
     }
 }
 
-// Whether there is such a column, with this name.
+// Whether there is such a column, and it has this name.
 fn has_name(tables: &Tables, table: u32, column: u32, text: &str) -> bool {
     table < tables.count()
         && column < tables.width(table)
         && tables.name(table, column) == text.as_bytes()
 }
 
-// Whether there is such a field, with these bytes.
+// Whether there is such a field, and it has these bytes.
 fn has_field(tables: &Tables, (table, row, column): Place, text: &str) -> bool {
     table < tables.count()
         && 1 <= row
@@ -43,7 +43,7 @@ fn has_field(tables: &Tables, (table, row, column): Place, text: &str) -> bool {
         && tables.field(table, row, column) == text.as_bytes()
 }
 
-// Whether there is such a field, with this weight or none.
+// Whether there is such a field, and it has this weight, or none.
 fn has_weight(tables: &Tables, (table, row, column): Place, weight: Option<i128>) -> bool {
     table < tables.count()
         && 1 <= row
@@ -65,7 +65,7 @@ fn number(tables: &Tables, (table, row, column): Place) -> Option<u32> {
     }
 }
 
-// Whether there are such fields, and they have one number, or not.
+// Whether there are such fields, and whether they have the same number is as given.
 fn are_same(tables: &Tables, first: Place, second: Place, same: bool) -> bool {
     match (number(tables, first), number(tables, second)) {
         (Some(first), Some(second)) => (first == second) == same,
@@ -85,7 +85,7 @@ fn returns(tables: &mut Tables, call: Call) -> bool {
     }
 }
 
-// The place of the first call that returns something else, made on tables one after the other.
+// The place of the first call, made on tables one after another, that returns something else.
 fn first_failing_on(tables: &mut Tables, calls: &[Call]) -> Option<usize> {
     for (i, call) in calls.iter().enumerate() {
         if !returns(tables, *call) {
@@ -95,7 +95,7 @@ fn first_failing_on(tables: &mut Tables, calls: &[Call]) -> Option<usize> {
     None
 }
 
-// The same, beginning without a table.
+// The same, starting without a table.
 fn first_failing(alloc: Global, calls: &[Call]) -> Option<usize> {
     first_failing_on(&mut Tables::new(alloc), calls)
 }
@@ -125,10 +125,10 @@ fn reads_tables(rt: HostRuntime) {
     assert_eq!(rt; first_failing(rt.alloc(), OF_TWO_TABLES), None);
 }
 
-// Of 64 commas, and so 65 columns.
+// A header of 64 commas, and so of 65 columns.
 const TOO_WIDE: &str = ",,,,,,,,,,,,,,,,,,,,,,,,,,,,,,,,,,,,,,,,,,,,,,,,,,,,,,,,,,,,,,,,\n1\n";
 
-// Of one comma less.
+// A header with one comma less.
 const WIDE: &str = ",,,,,,,,,,,,,,,,,,,,,,,,,,,,,,,,,,,,,,,,,,,,,,,,,,,,,,,,,,,,,,,\n1\n";
 
 const OF_FLAWS: &[Call] = &[
@@ -173,7 +173,7 @@ const OF_WEIGHTS: &[Call] = &[
     Call::Weight((0, 5, 0), None),
     Call::Weight((0, 6, 0), None),
     Call::Weight((0, 7, 0), Some(i128::MIN)),
-    // 39 digits are a weight, and 40 are none.
+    // 39 digits are a weight, and 40 are not.
     Call::Read(
         "w\n000000000000000000000000000000000000005\n0000000000000000000000000000000000000005\n",
         Ok(1),
@@ -227,7 +227,7 @@ fn are_written(records: &mut RecordWriter, wanted: &[Record]) -> bool {
     true
 }
 
-// Whether the records are written so many times.
+// Whether the records are written this many times.
 fn are_written_often(records: &mut RecordWriter, times: u32) -> bool {
     for _ in 0..times {
         if !are_written(records, RECORDS) {
@@ -237,7 +237,7 @@ fn are_written_often(records: &mut RecordWriter, times: u32) -> bool {
     true
 }
 
-// Whether records are written one after the other, together more than a writer keeps of earlier ones.
+// Whether records are written one after another that are together longer than what a writer keeps of earlier ones.
 fn writes_many(alloc: Global) -> bool {
     let mut records = RecordWriter::new(alloc);
     records.text().is_empty() && are_written_often(&mut records, 600)

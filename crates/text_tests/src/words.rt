@@ -10,7 +10,7 @@ fn words(alloc: Global, texts: &[&str]) -> Result<Vec<String>, AllocError> {
     Ok(all)
 }
 
-/// What the words of a command say.
+/// What the arguments of a command say.
 #[derive(Clone, Copy)]
 struct Said {
     engine: Engine,
@@ -74,7 +74,7 @@ fn is_command(command: &Command, read: &Read) -> bool {
     }
 }
 
-/// The words of a command, and the command.
+/// The arguments of a command, and the command.
 type Line = (&'static [&'static str], Read);
 
 const PLAIN: Said = Said {
@@ -87,7 +87,7 @@ const PLAIN: Said = Said {
 };
 
 const COMMANDS: &[Line] = &[
-    // Options stand before, between and after the other words, and the first `=` ends the table's name.
+    // Options are before, between and after the other arguments, and the first `=` ends the table's name.
     (
         &["run", "--engine=rec", "q.sql", "R=a", "--ranks", "S=b=c"],
         Read::Run(Said {
@@ -119,7 +119,7 @@ const COMMANDS: &[Line] = &[
     ),
 ];
 
-// Whether the words are this command.
+// Whether the arguments are this command.
 fn are_read(alloc: Global, words: &[String], read: &Read) -> bool {
     match read_words(alloc, words) {
         Ok(command) => is_command(&command, read),
@@ -127,13 +127,13 @@ fn are_read(alloc: Global, words: &[String], read: &Read) -> bool {
     }
 }
 
-// The same of these texts.
+// The same for these texts.
 fn is_read(alloc: Global, texts: &[&str], read: &Read) -> Result<bool, AllocError> {
     let line = words(alloc, texts)?;
     Ok(are_read(alloc, line.as_slice(), read))
 }
 
-// The place of the first line that is read otherwise.
+// The place of the first line that is read in another way.
 fn first_failing(alloc: Global, lines: &[Line]) -> Result<Option<usize>, AllocError> {
     for (i, (texts, read)) in lines.iter().enumerate() {
         if !is_read(alloc, texts, read)? {
@@ -160,7 +160,7 @@ fn is_refused(alloc: Global, texts: &[&str]) -> Result<bool, AllocError> {
     Ok(is_usage(alloc, line.as_slice()))
 }
 
-// The place of the first line that is refused, or is not.
+// The place of the first line that is refused, or that is not refused.
 fn first_of(alloc: Global, lines: &[&[&str]], refused: bool) -> Result<Option<usize>, AllocError> {
     for (i, texts) in lines.iter().enumerate() {
         if is_refused(alloc, texts)? == refused {

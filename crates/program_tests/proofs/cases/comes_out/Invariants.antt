@@ -1,4 +1,4 @@
 use Rattle.program_tests.proofs.cases.comes_out.Given as goal
 
-abbrev pub ghosts-run_uncounted : goal.ghosts-run_uncounted
-ghosts-run_uncounted a = record { name = a.blank.name; parts = a.blank.parts }
+abbrev pub ghosts-status_of : goal.ghosts-status_of
+ghosts-status_of a = record { name = a.blank.name; parts = a.blank.parts }
