@@ -23,7 +23,7 @@ IsRanking query tables list = order.IsRanking (List ℕ) (Precedes query tables)
 
 -- ---- the same as a list that computes
 
--- all combinations of rows, where the items have this many
+-- all combinations of rows, if the items have this many
 abbrev pub combinations : List ℕ → List (List ℕ)
 combinations [] = [] ∷ []
 combinations (count ∷ counts) = flat_map (λ row. map (λ rows. row ∷ rows) (combinations counts)) (range_with_len 1 count)

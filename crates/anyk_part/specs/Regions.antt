@@ -1,4 +1,4 @@
--- What the candidates stand for, and what the queue of them is.
+-- What the candidates mean, and what the queue of them is.
 use Rattle.std.specs.Prelude.{◌≡◌, ℕ, ◌+◌, ◌-◌, ◌*◌, ◌<◌, ◌≤◌, suc, List, length, map}
 use Rattle.std.specs.List.{All, sum_by}
 use Rattle.stream_store.specs.declared.entry.Linked.{Linked}
@@ -41,7 +41,7 @@ module _ {R : Type 0} where
   abbrev pub candidates_of : List (Linked Link) → ℕ → List (Entry R Candidate) → List (RankedRegion R)
   candidates_of links m es = map (λ e. record { region = region_of links m e.tag; rank = e.rank }) es
 
-  -- the regions of the candidates
+  -- the regions of these candidates
   abbrev pub regions : List (RankedRegion R) → List Region
   regions cs = map (λ c. c.region) cs
 
@@ -53,7 +53,7 @@ module _ {R : Type 0} where
   abbrev pub Reached : List (NodeData R) → ℕ → List ℕ → Type 0
   Reached t = IsReached (length t) (λ v r. r < rows t v)
 
-  -- the region of the solutions that begin with the rows, and whose next row stands in the subtree of a place
+  -- the region of the solutions that begin with the rows, and whose next row is in the subtree of a place
   abbrev pub region_at : List (NodeData R) → List ℕ → ℕ → Region
   region_at t pre place = record { chosen = pre; place = place; left = length t - suc (length pre) }
 

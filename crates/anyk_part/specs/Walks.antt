@@ -15,7 +15,7 @@ use Rattle.anyk_part.specs.declared.candidate.Walk.{Walk}
 use Rattle.anyk_part.specs.Chains.{chain, IsChain}
 use Rattle.anyk_part.specs.Regions.{followers, Reached, least, region_at, held_by, IsEntry}
 
--- the best solution that begins with `pre` and then the member at a place, where n rows are left
+-- the best solution that begins with `pre` and then the member at a place, with n rows to follow
 unfoldable pub best_from : (List ℕ → List ℕ) → ℕ → List ℕ → ℕ → List ℕ
 best_from members zero pre place = pre
 best_from members (suc n) pre place = completion members n (pre ++ (slice_index (members pre) place ∷ []))
@@ -27,7 +27,7 @@ divided_from members (suc n) pre place =
     (record { chosen = pre; place = 2 * place + 1; left = n })
     ∷ ((record { chosen = pre; place = 2 * place + 2; left = n }) ∷ deviations members n (pre ++ (slice_index (members pre) place ∷ [])))
 
--- n, where the queue's top stood before and stands no longer
+-- n if the queue's top was there before and is no longer there, else 0
 abbrev pub gone : Bool → Bool → ℕ → ℕ
 gone stood stands n = cond stood (cond stands 0 n) 0
 
@@ -61,7 +61,8 @@ module _ {R : Type 0} (d : ℕ) (key : R → KeyOf d 16) (t : List (NodeData R))
   abbrev pub row_at : Walk → List (Linked Link) → ℕ
   row_at w links = slice_index (followers t (chain links w.node w.before)) w.place
 
-  -- The row of the walk's node is chosen, and the candidates that deviate from it stand beside the entries that were there before.
+  -- The row of the walk's node is chosen, and the candidates that deviate from it are beside the entries that were
+  -- there before.
   pub record IsChoice (w : Walk) (links : List (Linked Link)) (chosen : List ℕ) (before : List (Entry R Candidate)) (c : Choice)
       (rows : List ℕ) (entries : List (Entry R Candidate)) : Type 0 where
     pub row : c.row ≡ row_at w links

@@ -1,3 +1,4 @@
+//! The queue of candidates, and the division of the region at its top by that region's best answer.
 ghost use Rattle.std.specs.Prelude.{◌≡◌, ℕ, ◌+◌, ◌-◌, ◌*◌, ◌^◌, ◌<◌, ◌≤◌, Bool, true, false, List, [], ◌∷◌, cond, ◌++◌, length, take, slice_index_or, OnOk, OnErr, IsSome, IfSome, ◌↔◌};
 ghost use Rattle.std.specs.List.{All};
 ghost use Rattle.std.specs.List.Sorted.{IsPermutation};
@@ -47,7 +48,7 @@ impl<R: Rank, A: Allocator + Clone> Frontier<R, A> {
         Some((entry.rank, walk))
     }
 
-    /// Room for all that one answer over this many nodes can add.
+    /// Makes room for all that one answer over this many nodes can add. Returns `NoMemory` if memory is refused.
     pub fn make_room(&mut self, nodes: u32) -> Result<(), NoMemory>
         requires { nodes ≤ 16 }
         ensures entries { self.new.queue.entries ≡ self.old.queue.entries }
@@ -59,7 +60,7 @@ impl<R: Rank, A: Allocator + Clone> Frontier<R, A> {
         self.links.reserve(nodes as usize)
     }
 
-    /// The first rows of a solution, by node, of which the last is named.
+    /// The first rows of a solution, by node; `last` names the last of them.
     pub fn prefix<L: Ledger>(
         &self,
         count: u32,
@@ -85,7 +86,7 @@ impl<R: Rank, A: Allocator + Clone> Frontier<R, A> {
         chosen
     }
 
-    /// Puts a candidate in the place of the queue's top, or beside the others once the top is gone.
+    /// Puts a candidate in place of the queue's top, or beside the others if the top is already gone.
     fn put<L: Ledger>(
         &mut self,
         rank: R,
@@ -110,8 +111,8 @@ impl<R: Rank, A: Allocator + Clone> Frontier<R, A> {
         }
     }
 
-    /// Puts in the candidate at one place of a site, where the group reaches that far. It answers
-    /// whether the queue's top still stands.
+    /// Puts in the candidate at one place of a site, if the group reaches that far. Returns whether the region being
+    /// divided is still at the top of the queue.
     fn offer<L: Ledger>(
         &mut self,
         tree: &Tree<R>,
@@ -241,8 +242,8 @@ impl<R: Rank, A: Allocator + Clone> Frontier<R, A> {
         }
     }
 
-    /// Chooses the best rows from the start of the top's region on, and puts the candidates that
-    /// deviate from them in the top's place.
+    /// Chooses the best rows from the start of the top's region on, and replaces the top by the candidates that deviate
+    /// from them.
     pub fn divide<L: Ledger>(
         &mut self,
         tree: &Tree<R>,

@@ -1,3 +1,4 @@
+//! The engine by regions: `next` takes the best candidate, divides its region and returns the answer.
 ghost use Rattle.std.specs.Prelude.{◌≡◌, ℕ, ◌+◌, ◌-◌, ◌*◌, ◌<◌, ◌≤◌, List, [], length, IfOk};
 ghost use Rattle.stream_store.specs.declared.entry.Linked.{Linked};
 ghost use Rattle.std.specs.List.{All};
@@ -23,11 +24,13 @@ use stream_store::Store;
 use take2_heap::HeapOf;
 use tdp_core::{Answer, Ranked, Tree};
 
-/// The answers of a tree in order of rank, seen as the tree, the candidates in heap order and the number of calls so far.
+/// The answers of a tree in order of rank. Contracts see the tree, the candidates in heap order and the number of calls
+/// so far.
 ///
-/// A candidate is a region of the answers that are left, with the least of their ranks. Each call of `next` takes at most
-/// 24 * m * (1 + b) steps, where m is the number of nodes and b the number of binary digits of N + (calls + 1) * m, N being the
-/// number of rows of all nodes. Over a tree without a solution it takes none. A refused call leaves the answers as they were.
+/// A candidate is a region of the answers that are left, with the least of their ranks. Each call of `next` takes at
+/// most 24 * m * (1 + b) steps, where m is the number of nodes, N the number of rows of all nodes, and b the number of
+/// binary digits of N + (calls + 1) * m. Over a tree without a solution it takes none. If a call is refused memory, the
+/// answers are as they were.
 #[derive(Drop)]
 pub struct Part<'t, R: Rank, A: Allocator + Clone> {
     tree: &'t Tree<R>,
@@ -49,7 +52,7 @@ impl<'t, R: Rank, A: Allocator + Clone> Model for Part<'t, R, A> {
     ghost invariant = { λ s. IsPart R.KEYS R.key s.tree.now s.frontier.links.entries s.frontier.queue.entries s.calls × ArePlaces s.tree.now s.places };
 }
 
-/// The queue of one candidate with every solution, empty where the tree has none.
+/// The queue with one candidate that holds every solution; empty if the tree has none.
 fn first_queue<R: Rank, A: Allocator, L: Ledger>(
     alloc: A,
     tree: &Tree<R>,
@@ -77,8 +80,8 @@ fn first_queue<R: Rank, A: Allocator, L: Ledger>(
 }
 
 impl<'t, R: Rank, A: Allocator + Clone> Part<'t, R, A> {
-    /// All answers of this tree. It takes at most 16 * m * (1 + N) steps over m nodes that have N rows in all, and gives `NoMemory`
-    /// where memory is refused.
+    /// Creates the engine over this tree, before its first answer. It takes at most 16 * m * (1 + N) steps for m nodes
+    /// with N rows in all, and returns `NoMemory` if memory is refused.
     pub fn new<L: Ledger>(
         alloc: A,
         tree: &'t Tree<R>,
@@ -101,8 +104,8 @@ impl<'t, R: Rank, A: Allocator + Clone> Part<'t, R, A> {
         })
     }
 
-    /// How many candidates there are: regions that share no answer and together hold exactly the answers that are left, each with
-    /// the least rank of its region.
+    /// The number of candidates. They are regions that share no answer and together hold exactly the answers that are
+    /// left, each with the least rank of its region.
     pub fn candidates(&self) -> usize
         ensures count { result ≡ length self.now.candidates }
         ensures left { HoldTheRest R.KEYS R.key self.now.tree self.now.candidates }

@@ -1,3 +1,4 @@
+//! The rows of one solution: the group at each node, and the row numbers by item.
 ghost use Rattle.std.specs.Prelude.{◌≡◌, ℕ, ◌+◌, ◌<◌, ◌≤◌, length, take, slice_index};
 ghost use Rattle.tdp_model.specs.KeyTuple.{key_add, key_none};
 ghost use Rattle.tdp_model.specs.TreeProblem.{rows_key};

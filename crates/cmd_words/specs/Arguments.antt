@@ -1,10 +1,10 @@
--- The arguments of each command, as `clap` sees them.
+-- The options and arguments of each command, as `clap` sees them.
 use Rattle.std.specs.Prelude.{ℕ, List, Some, true, codes, [], ◌∷◌}
 use Rattle.clap.specs.Walk.{Rule}
 use Rattle.clap.specs.Simple.{App, new_app, new_rule, with_rule}
 use Rattle.clap.specs.declared.builder.action.ArgAction.TheVariants.{Set, Append, SetTrue}
 
--- `--engine E`, which is `part` where it is not given
+-- `--engine E`, which is `part` if it is not given
 abbrev pub engine_rule : Rule
 engine_rule = record (new_rule (codes "engine")) { long = Some (codes "engine"); action = Some Set; defaults = codes "part" ∷ [] }
 
@@ -12,7 +12,7 @@ engine_rule = record (new_rule (codes "engine")) { long = Some (codes "engine");
 abbrev pub flag_rule : List ℕ → Rule
 flag_rule name = record (new_rule name) { long = Some name; action = Some SetTrue }
 
--- an option of this name with one value, which has to be given
+-- a required option of this name, with one value
 abbrev pub required_rule : List ℕ → Rule
 required_rule name = record (new_rule name) { long = Some name; action = Some Set; required = true }
 

@@ -1,4 +1,4 @@
--- The command that the words are.
+-- The command that the arguments give.
 use Rattle.std.specs.Prelude.{ℕ, List, [], ◌∷◌, Option, None, codes, if◌then◌else◌, option_map}
 use Rattle.std.specs.Str.{bytes_eq}
 use Rattle.clap.specs.Faults.{fault_of}
@@ -12,19 +12,19 @@ use Rattle.cmd_words.specs.declared.command.Engine.{Engine}
 use Rattle.cmd_words.specs.declared.command.Command.{Command}
 use Rattle.cmd_words.specs.declared.command.Command.TheVariants.{Run, Session, Plan, Load}
 
--- a command and what its words say
+-- a command and what its arguments say
 pub data CommandSaid : Type 0 where
   run_said : WordsSaid → CommandSaid
   session_said : WordsSaid → CommandSaid
   plan_said : WordsSaid → CommandSaid
   load_said : Engine → ℕ → ℕ → CommandSaid
 
--- the value, where there is no fault
+-- the value, if there is no fault
 abbrev pub if_no : {T : Type 0} → Kinds → Option T → Option T
 if_no [] value = value
 if_no (fault ∷ faults) value = None
 
--- what the matches of the words say, where `clap` takes the words for this command
+-- what the matches say, if `clap` takes the arguments for this command
 abbrev pub if_taken : {T : Type 0} → App → List (List ℕ) → (List Row → Option T) → Option T
 if_taken app words said = if_no (fault_of app words) (said (matches_of app words))
 
@@ -40,7 +40,7 @@ plan_of words = if_taken plan_app words (λ rows. said_by (plan_texts (texts_of 
 unfoldable pub load_of : List (List ℕ) → Option (Engine × ℕ × ℕ)
 load_of words = if_taken load_app words load_by
 
--- what the words say to the command that their first word names
+-- what the arguments say to the command that the first of them names
 abbrev pub said_to : List ℕ → List (List ℕ) → Option CommandSaid
 said_to first words =
     if bytes_eq first (codes "run") then option_map run_said (run_of words)
@@ -49,7 +49,7 @@ said_to first words =
     else if bytes_eq first (codes "load") then option_map (λ p. load_said p.0 p.1 p.2) (load_of words)
     else None
 
--- the command that the words are, and none where they are no command
+-- the command that the arguments give, and none if they give none
 abbrev pub said_of : List (List ℕ) → Option CommandSaid
 said_of [] = None
 said_of (first ∷ others) = said_to first (first ∷ others)
@@ -60,7 +60,7 @@ seen_command (Session words) = session_said (seen_words words)
 seen_command (Plan words) = plan_said (seen_words words)
 seen_command (Load engine number rows) = load_said engine number rows
 
--- the numbers of `load` are where it wants them
+-- the numbers of `load` are in its range
 abbrev pub KeepsRange : Command → Type 0
 KeepsRange (Run words) = Unit {0}
 KeepsRange (Session words) = Unit {0}

@@ -11,7 +11,7 @@ use Rattle.cmd_words.specs.declared.command.Engine.{Engine}
 use Rattle.cmd_words.specs.declared.command.Engine.TheVariants.{Part, Rec}
 use Rattle.cmd_words.specs.declared.command.Words.{Words}
 
--- what the words of `run`, `session` or `plan` say; the script is there on `session` alone
+-- what the arguments of `run`, `session` or `plan` say; only `session` has a script
 pub record WordsSaid : Type 0 where
   pub engine : Engine
   pub ranks : Bool
@@ -56,7 +56,7 @@ abbrev pub is_set : Option (List ℕ) → Bool
 is_set None = false
 is_set (Some text) = bytes_eq text (codes "true")
 
--- the tables and their files, where each word is TABLE=FILE and no two name one table
+-- the tables and their files, if each argument is TABLE=FILE and no two name the same table
 abbrev pub tables_of : Option (List (List ℕ)) → Option (List (List ℕ × List ℕ))
 tables_of None = None
 tables_of (Some words) = if are_pairs words && are_distinct (pairs_of words) then Some (pairs_of words) else None
@@ -68,7 +68,7 @@ said ranks rows script (Some engine) (Some query) None = None
 said ranks rows script (Some engine) None tables = None
 said ranks rows script None query tables = None
 
--- what the texts say, and none where they say nothing
+-- what the texts say, and none if they say nothing
 abbrev pub said_by : Texts → Option WordsSaid
 said_by texts = said (is_set texts.ranks) (is_set texts.rows) texts.script (engine_of texts.engine) texts.query (tables_of texts.tables)
 

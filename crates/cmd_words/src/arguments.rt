@@ -1,4 +1,4 @@
-//! The arguments of each command, for `clap`.
+//! The options and positional arguments of each command, as `clap` takes them.
 
 ghost use Rattle.std.specs.Prelude.{◌≡◌, false, IfOk};
 ghost use Rattle.clap.specs.Simple.{app_of, with_rule};
@@ -26,7 +26,7 @@ fn flag<'a>(alloc: Global, name: &'a str) -> Arg<'a>
     Arg::new(alloc, name).long(name).action(ArgAction::SetTrue)
 }
 
-// An option with a value, which has to be given.
+// A required option with a value.
 fn required<'a>(alloc: Global, name: &'a str) -> Arg<'a>
     ensures rule { rule_of result ≡ required_rule name.entry.now }
     ensures local { result.global ≡ false }
@@ -55,14 +55,14 @@ fn tables<'a>(alloc: Global) -> Arg<'a>
         .action(ArgAction::Append)
 }
 
-// The command with QUERYFILE and TABLE=FILE after its other arguments.
+// The command with QUERYFILE and TABLE=FILE after its options.
 fn with_files<'a>(alloc: Global, command: Parser<'a>) -> Result<Parser<'a>, AllocError>
     ensures { IfOk result (λ whole. app_of whole ≡ with_files (app_of command.entry)) }
 {
     command.arg(query(alloc))?.arg(tables(alloc))
 }
 
-/// The arguments of `run`.
+/// What `run` takes. `AllocError` if memory is refused.
 pub fn run_command<'a>(alloc: Global) -> Result<Parser<'a>, AllocError>
     ensures { IfOk result (λ command. app_of command ≡ run_app) }
 {
@@ -73,7 +73,7 @@ pub fn run_command<'a>(alloc: Global) -> Result<Parser<'a>, AllocError>
     with_files(alloc, options)
 }
 
-/// The arguments of `session`.
+/// What `session` takes. `AllocError` if memory is refused.
 pub fn session_command<'a>(alloc: Global) -> Result<Parser<'a>, AllocError>
     ensures { IfOk result (λ command. app_of command ≡ session_app) }
 {
@@ -85,14 +85,14 @@ pub fn session_command<'a>(alloc: Global) -> Result<Parser<'a>, AllocError>
     with_files(alloc, options)
 }
 
-/// The arguments of `plan`.
+/// What `plan` takes. `AllocError` if memory is refused.
 pub fn plan_command<'a>(alloc: Global) -> Result<Parser<'a>, AllocError>
     ensures { IfOk result (λ command. app_of command ≡ plan_app) }
 {
     with_files(alloc, Parser::new(alloc, "plan"))
 }
 
-/// The arguments of `load`.
+/// What `load` takes. `AllocError` if memory is refused.
 pub fn load_command<'a>(alloc: Global) -> Result<Parser<'a>, AllocError>
     ensures { IfOk result (λ command. app_of command ≡ load_app) }
 {

@@ -1,30 +1,30 @@
-//! Commands.
+//! The commands, and what their arguments say.
 
 use crate::pairs::Named;
 
 /// Which engine enumerates the answers.
 #[derive(Clone, Copy, Debug, PartialEq, Eq, Drop)]
 pub enum Engine {
-    /// The one that divides the answers that are left into parts.
+    /// The engine by regions, which divides the answers that are left.
     Part,
-    /// The one that ranks the answers below each row.
+    /// The engine by recursion, which ranks the answers below each row.
     Rec,
 }
 
-/// What the words of `run`, `session` or `plan` say. An option that a command lacks has its default.
+/// What the arguments of `run`, `session` or `plan` say. An option that a command does not have keeps its default.
 #[derive(Drop)]
 pub struct Words {
-    /// `--engine`, or `part` where it is not given.
+    /// `--engine`, or `part` if it is not given.
     pub engine: Engine,
     /// Whether `--ranks` is given.
     pub ranks: bool,
     /// Whether `--rows` is given.
     pub rows: bool,
-    /// `--script`, which is there on `session` alone.
+    /// `--script`, which only `session` has.
     pub script: Option<String>,
     /// The file of the query.
     pub query: String,
-    /// The tables in the order of the words, no two of one name.
+    /// The tables in the order of the arguments; no two have the same name.
     pub tables: Vec<Named>,
 }
 
@@ -33,11 +33,11 @@ pub struct Words {
 pub enum Command {
     /// Writes the answers of a query.
     Run(Words),
-    /// Reads answers of a query as a script says.
+    /// Prints answers of a query as a script says.
     Session(Words),
     /// Shows the join tree of a query.
     Plan(Words),
-    /// Runs a query over generated tables: the engine, the number from 0 to 2147483647 and the rows of each
-    /// table, from 1 to 100000.
+    /// Runs a query over generated tables: the engine, the generator's number from 0 to 2,147,483,647, and the rows of
+    /// each table, from 1 to 100,000.
     Load(Engine, u32, u32),
 }

@@ -1,14 +1,14 @@
-//! Why words were not read.
+//! Why a command line was rejected.
 
 ghost use Rattle.std.specs.Prelude.{◌≡◌};
 ghost use Rattle.cmd_words.specs.declared.fault.WordsFault.TheVariants.{NoMemory};
 
 use std::alloc::{AllocError, AllocFailed};
 
-/// Why words were not read.
+/// Why a command line was rejected.
 #[derive(Clone, Copy, Debug, PartialEq, Eq, Drop)]
 pub enum WordsFault {
-    /// The words are no command.
+    /// The arguments do not form a command.
     Usage,
     /// Memory was refused.
     NoMemory,

@@ -1,6 +1,6 @@
-//! The command that the words after the program's name are.
+//! The command that the arguments after the program's name give.
 //!
-//! The first word names the command, and `clap` reads the others. A clause says what they mean in terms of
+//! The first argument names the command, and `clap` reads the others. The clauses say what they mean in terms of
 //! `clap`'s own definitions of what it takes (`fault_of`) and of the values that it gives (`matches_of`).
 #![tactic(auto)]
 

@@ -1,4 +1,4 @@
-//! What `clap` makes of the words.
+//! What `clap` makes of the command line.
 
 ghost use Rattle.std.specs.Prelude.{◌≡◌, [], map, true, IfOk, IsErrOf};
 ghost use Rattle.std.specs.String.{string_bytes};
@@ -12,7 +12,8 @@ use crate::WordsFault;
 use clap::error::ErrorKind;
 use clap::{ArgMatches, Command as Parser, Error};
 
-/// The matches of the words, of which the first names the command.
+/// The matches of the arguments, the first of which names the command. `Usage` if `clap` rejects them, and `NoMemory`
+/// if memory is refused.
 pub fn parsed<'a>(command: Parser<'a>, words: &'a [String]) -> Result<ArgMatches<'a>, WordsFault>
     requires simple { is_simple (app_of command) ≡ true }
     requires free { is_simple_and_free (app_of command) ≡ true }

@@ -1,4 +1,4 @@
-//! The words of each command.
+//! From the arguments to a command.
 
 ghost use Rattle.std.specs.Prelude.{◌≡◌, Some, None, map, IfOk, IsErrOf};
 ghost use Rattle.std.specs.String.{string_bytes};
@@ -13,10 +13,10 @@ use crate::parse::parsed;
 use crate::texts::{Texts, read_load_texts, read_session_texts, read_texts, texts_of};
 use std::alloc::Global;
 
-/// The command that the words after the program's name are. `Usage` comes exactly where they are no
-/// command: where the first word is none of `run`, `session`, `plan` and `load`, where `clap` refuses the
-/// others, asks for help included, where a TABLE=FILE word has nothing before or after its first `=`, or
-/// where two of them name one table.
+/// The command that the arguments after the program's name give. `Usage` exactly if they give none: if the first is
+/// none of `run`, `session`, `plan` and `load`, if `clap` rejects the others (a request for help is also rejected), if
+/// a TABLE=FILE argument has nothing before or after its first `=`, or if two of them name the same table. `NoMemory`
+/// if memory is refused.
 pub fn read_words(alloc: Global, words: &[String]) -> Result<Command, WordsFault>
     ensures words { IfOk result (λ command. said_of (map string_bytes words.now) ≡ Some (seen_command command)) }
     ensures usage { IsErrOf result WordsFault.Usage → said_of (map string_bytes words.now) ≡ None }
@@ -28,7 +28,7 @@ pub fn read_words(alloc: Global, words: &[String]) -> Result<Command, WordsFault
     }
 }
 
-// What the words say to the command that this word names.
+// What the arguments say to the command of this name.
 fn read_command(alloc: Global, name: &str, words: &[String]) -> Result<Command, WordsFault>
     ensures words { IfOk result (λ command. said_to name.now (map string_bytes words.now) ≡ Some (seen_command command)) }
     ensures usage { IsErrOf result WordsFault.Usage → said_to name.now (map string_bytes words.now) ≡ None }

@@ -1,4 +1,4 @@
-//! The texts of the arguments, and what they say.
+//! The values of options and arguments as text, and what they say.
 
 ghost use Rattle.std.specs.Prelude.{◌≡◌, ◌≤◌, Some, None, map, option_and_then, option_map, IfOk, IfSome, IsErrOf};
 ghost use Rattle.std.specs.String.{string_bytes};
@@ -14,7 +14,7 @@ use crate::pairs::{Named, name_distinct_tables, read_pairs};
 use clap::ArgMatches;
 use std::alloc::{AllocError, Global};
 
-/// The texts of the arguments of `run`, `session` and `plan`.
+/// The values of the options and arguments of `run`, `session` and `plan`, as text.
 #[derive(Clone, Copy, Drop)]
 pub struct Texts<'m, 'a> {
     pub engine: Option<&'a str>,
@@ -25,7 +25,7 @@ pub struct Texts<'m, 'a> {
     pub tables: Option<&'m [&'a str]>,
 }
 
-/// The texts that the matches hold.
+/// The values that the matches hold.
 pub fn texts_of<'m, 'a>(matches: &'m ArgMatches<'a>) -> Texts<'m, 'a>
     ensures { seen_texts result ≡ texts_of (rows_of (found_of matches.entry.now)) }
 {
@@ -39,7 +39,7 @@ pub fn texts_of<'m, 'a>(matches: &'m ArgMatches<'a>) -> Texts<'m, 'a>
     }
 }
 
-/// What the texts say.
+/// What the values say. `Usage` if they say nothing, and `NoMemory` if memory is refused.
 pub fn read_texts(alloc: Global, texts: Texts<'_, '_>) -> Result<Words, WordsFault>
     ensures words { IfOk result (λ said. said_by (seen_texts texts.entry) ≡ Some (seen_words said)) }
     ensures usage { IsErrOf result WordsFault.Usage → said_by (seen_texts texts.entry) ≡ None }
@@ -61,7 +61,8 @@ pub fn read_texts(alloc: Global, texts: Texts<'_, '_>) -> Result<Words, WordsFau
     })
 }
 
-/// What the texts of `session` say, which has a script.
+/// What the values of `session` say, which has a script. `Usage` if they say nothing, and `NoMemory` if memory is
+/// refused.
 pub fn read_session_texts(alloc: Global, texts: Texts<'_, '_>) -> Result<Words, WordsFault>
     ensures words { IfOk result (λ said. session_by (seen_texts texts.entry) ≡ Some (seen_words said)) }
     ensures usage { IsErrOf result WordsFault.Usage → session_by (seen_texts texts.entry) ≡ None }
@@ -115,7 +116,8 @@ fn read_engine(text: Option<&str>) -> Option<Engine>
     }
 }
 
-/// What the matches of `load` say: the engine, the number and the rows.
+/// What the matches of `load` say: the engine, the generator's number and the rows of each table. `Usage` if they say
+/// nothing.
 pub fn read_load_texts(matches: &ArgMatches<'_>) -> Result<(Engine, u32, u32), WordsFault>
     ensures words { IfOk result (λ said. load_by (rows_of (found_of matches.now)) ≡ Some (said.0, said.1, said.2)) }
     ensures usage { IsErrOf result WordsFault.Usage → load_by (rows_of (found_of matches.now)) ≡ None }
@@ -149,7 +151,7 @@ fn read_load_options(
     Ok((engine, number, rows))
 }
 
-// The whole number that a text is, where it lies from `low` to `high`.
+// The whole number that a text is, if it is from `low` to `high`.
 fn read_number(text: Option<&str>, low: u32, high: u32) -> Option<u32>
     ensures value { result ≡ option_and_then (number_in low high) (option_map (λ s. s.now) text.entry) }
     ensures low { IfSome result (λ number. low ≤ number) }
@@ -161,7 +163,7 @@ fn read_number(text: Option<&str>, low: u32, high: u32) -> Option<u32>
     }
 }
 
-// Decimal digits without a sign or a needless zero before them are a number.
+// Decimal digits are a number if no sign and no leading zero is before them.
 fn number_in(text: &str, low: u32, high: u32) -> Option<u32>
     ensures value { result ≡ number_in low high text.now }
     ensures low { IfSome result (λ number. low ≤ number) }
@@ -176,7 +178,7 @@ fn number_in(text: &str, low: u32, high: u32) -> Option<u32>
     }
 }
 
-// Whether no `+` stands first, and no `0` before another digit.
+// Whether the text begins with no `+`, and with no `0` before another digit.
 fn begins_plainly(text: &str) -> bool
     ensures { result ≡ begins_plainly text.now }
 {

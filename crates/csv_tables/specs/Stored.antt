@@ -9,7 +9,7 @@ abbrev pub fields_in : List Fields → Fields
 fields_in [] = []
 fields_in (row ∷ rows) = row ++ fields_in rows
 
--- a list cut into so many rows of one width
+-- a list cut into this many rows of one width
 abbrev pub cut_rows : {A : Type 0} → ℕ → ℕ → List A → List (List A)
 cut_rows width zero xs = []
 cut_rows width (suc count) xs = take width xs ∷ cut_rows width count (drop width xs)

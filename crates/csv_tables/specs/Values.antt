@@ -11,7 +11,7 @@ use Rattle.anyk_model.specs.Table.{Fields, Table}
 abbrev pub lists_of : List (Vec ℕ Global) → List (List ℕ)
 lists_of keys = map (λ (v : Vec ℕ Global). v.items) keys
 
--- below this number each belongs to the field that writes it, and from it on each belongs to a text
+-- each number below this one belongs to the field that writes it, and each from it on belongs to a text
 abbrev pub first_text : ℕ
 first_text = 2 ^ 31
 
@@ -46,7 +46,7 @@ with_tables texts (table ∷ tables) = with_tables (with_rows texts table.rows) 
 abbrev pub number_in : List (List ℕ) → List ℕ → ℕ
 number_in texts field = unwrap_or (own_number field) (first_text + position_or_len (bytes_eq field) texts)
 
--- the number of a field among those of tables, whose texts are in the order in which they first stand
+-- the number of a field among those of tables, whose texts are in the order in which they first occur
 abbrev pub number_of : List Table → List ℕ → ℕ
 number_of tables field = number_in (with_tables [] tables) field
 
@@ -54,7 +54,7 @@ number_of tables field = number_in (with_tables [] tables) field
 abbrev pub text_at : List (List ℕ) → ℕ → List ℕ
 text_at texts n = get_or texts n []
 
--- n is the number of a place among the texts, at which the field stands
+-- n is the number of a place among the texts, and the field is there
 pub record IsPlaced (texts : List (List ℕ)) (field : List ℕ) (n : ℕ) : Type 0 where
   pub place : ℕ
   pub number : n ≡ first_text + place
@@ -79,6 +79,6 @@ pub record Adds (texts : List (List ℕ)) (old new : List ℕ) (fields : Fields)
   pub behind : new ≡ old ++ numbers
   pub stand : StandsFor texts numbers fields
 
--- more texts stand after the old ones
+-- new texts are added after the old ones
 abbrev pub Extends : List (List ℕ) → List (List ℕ) → Type 0
 Extends old new = (more : List (List ℕ)) × (new ≡ old ++ more)

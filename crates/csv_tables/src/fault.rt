@@ -1,19 +1,19 @@
-//! Why the bytes of a file are no table.
+//! Why the bytes of a file are not a table.
 use std::alloc::{AllocError, AllocFailed};
 use step_counter::NoMemory;
 
-/// Why the bytes of a file are no table, in the order in which a file is tested. Columns and rows count from 1.
+/// Why the bytes of a file are not a table, in the order in which a file is tested. Columns and rows count from 1.
 #[derive(Clone, Copy, Debug, PartialEq, Eq)]
 pub enum TableFault {
     /// The file has no record.
     NoHeader,
     /// The header has more than 64 fields.
     TooManyColumns,
-    /// The column with this number has the name of an earlier one.
+    /// The column with this number has the same name as an earlier one.
     DuplicateName(u32),
     /// There are more than 1,048,576 rows.
     TooManyRows,
-    /// The row with this number has another number of fields than the header.
+    /// The row with this number has more or fewer fields than the header.
     Ragged(u32),
     /// Memory was refused.
     NoMemory,

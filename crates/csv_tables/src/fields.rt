@@ -1,4 +1,4 @@
-//! The bytes of many fields, in one vector.
+//! The bytes of many fields in one vector.
 ghost use Rattle.std.specs.Prelude.{◌≡◌, ◌<◌, ◌∷◌, ◌++◌, [], OnErr, OnOk, get_or, length};
 ghost use Rattle.csv.specs.Records.{prev};
 
@@ -6,7 +6,7 @@ use std::alloc::Global;
 use std::marker::Model;
 use step_counter::NoMemory;
 
-/// Fields one after another, each known by the place at which it ends.
+/// Fields one after another; each is found by the place where it ends.
 #[derive(Drop)]
 pub(crate) struct FieldList {
     bytes: Vec<u8>,
@@ -25,7 +25,7 @@ impl Model for FieldList {
 }
 
 impl FieldList {
-    /// No field. Takes no memory.
+    /// An empty list. Takes no memory.
     pub(crate) fn new(alloc: Global) -> FieldList
         ensures { result ≡ [] }
     {
@@ -35,7 +35,7 @@ impl FieldList {
         }
     }
 
-    /// Adds a field at the end.
+    /// Adds a field at the end. After a refusal of memory the list is as before.
     pub(crate) fn push(&mut self, field: &[u8]) -> Result<(), NoMemory>
         ensures added { OnOk result (self.new ≡ self.old ++ field.now ∷ []) }
         ensures err { OnErr result (self.new ≡ self.old) }
@@ -49,7 +49,7 @@ impl FieldList {
         Ok(())
     }
 
-    /// The field at a place, from 0 on.
+    /// The field at a place, counted from 0.
     pub(crate) fn get(&self, place: usize) -> &[u8]
         requires { place < length self.now }
         ensures { result.now ≡ get_or self.now place [] }
@@ -59,7 +59,7 @@ impl FieldList {
     }
 }
 
-/// Where the field at a place starts and ends.
+/// Where the field at a place starts, and where it ends.
 fn bounds(ends: &[u32], place: usize) -> (usize, usize)
     requires { place < length ends.now }
     ensures start { result.0 ≡ prev 0 ends.now place }

@@ -3,17 +3,17 @@ ghost use Rattle.std.specs.Prelude.{◌≡◌, ◌≤◌, MatchOption, length};
 ghost use Rattle.std.specs.Str.Parse.{AllDigits, digits_value};
 ghost use Rattle.csv_tables.specs.Values.{own_number};
 
-/// The number of the first text. Below it each number belongs to the field that writes it.
+/// The number of the first text. Each number below it belongs to the field that writes it.
 pub(crate) const FIRST_TEXT: u32 = 2_147_483_648;
 
 /// The most digits of a number below `FIRST_TEXT`.
-const MOST_DIGITS: usize = 10;
+const MAX_DIGITS: usize = 10;
 
 /// The number that a field writes as a decimal without a sign and without leading zeros, if it is below `FIRST_TEXT`.
 pub(crate) fn own_number(field: &[u8]) -> Option<u32>
     ensures { result ≡ own_number field.now }
 {
-    if field.is_empty() || field.len() > MOST_DIGITS {
+    if field.is_empty() || field.len() > MAX_DIGITS {
         return None;
     }
     if field[0] == b'0' && field.len() > 1 {

@@ -15,13 +15,13 @@ use csv::ByteRecord;
 use std::alloc::Global;
 use step_counter::NoMemory;
 
-/// The most columns that a table may have.
-const MOST_COLUMNS: usize = 64;
+/// The greatest number of columns of a table.
+const MAX_COLUMNS: usize = 64;
 
-/// The most rows that a table may have.
-const MOST_ROWS: usize = 1_048_576;
+/// The greatest number of rows of a table.
+const MAX_ROWS: usize = 1_048_576;
 
-/// Whether these may be the names of a table's columns, of which it may have so many.
+/// Tests the names of a table's columns: there are not too many, and no two are the same.
 fn check_names(names: &[Vec<u8>]) -> Result<(), TableFault>
     requires { length names.now ≤ 64 }
     ensures { result ≡ refusal (header_flaw (lists_of names.now)) }
@@ -34,11 +34,12 @@ fn check_names(names: &[Vec<u8>]) -> Result<(), TableFault>
     Ok(())
 }
 
-/// Whether the record may be the row with this number.
+/// Tests whether this record may be the row with this number, from 1: there are not too many rows, and it has `width`
+/// fields.
 fn check_row(width: usize, number: usize, row: &ByteRecord) -> Result<(), TableFault>
     ensures { result ≡ refusal (row_flaw width number (fields_of row.now)) }
 {
-    if number > MOST_ROWS {
+    if number > MAX_ROWS {
         return Err(TableFault::TooManyRows);
     }
     if row.len() != width {
@@ -61,7 +62,7 @@ fn copy_fields(alloc: Global, row: &ByteRecord) -> Result<Vec<Vec<u8>>, NoMemory
     Ok(copies)
 }
 
-/// The names of the columns, from the first of the records that are left.
+/// The names of the columns, from the first record that is left.
 fn read_names(alloc: Global, records: &mut Records<'_>) -> Result<Vec<Vec<u8>>, TableFault>
     ensures names { IfOk result (λ names. records.old ≡ lists_of names.items ∷ records.new) }
     ensures sound { IfOk result (λ names. header_flaw (lists_of names.items) ≡ None) }
@@ -71,7 +72,7 @@ fn read_names(alloc: Global, records: &mut Records<'_>) -> Result<Vec<Vec<u8>>, 
     if !records.next(&mut header)? {
         return Err(TableFault::NoHeader);
     }
-    if header.len() > MOST_COLUMNS {
+    if header.len() > MAX_COLUMNS {
         return Err(TableFault::TooManyColumns);
     }
     let names = copy_fields(alloc, &header)?;
@@ -111,7 +112,7 @@ fn read_rows(
     Err(TableFault::NoMemory)
 }
 
-/// The table of the bytes of a file, with the numbers of its fields.
+/// The table of the bytes of a file, with the numbers of its fields. The fault is that of `Tables::read`.
 pub(crate) fn read_table(
     alloc: Global,
     texts: &mut Texts,

@@ -8,7 +8,7 @@ use std::alloc::Global;
 use std::marker::Model;
 use step_counter::NoMemory;
 
-/// The records of a text that are still to be read. After an error there are none.
+/// The records of a text that are not read yet. After an error there are none.
 #[derive(Drop)]
 pub(crate) struct Records<'a> {
     reader: Reader<&'a [u8]>,
@@ -27,7 +27,7 @@ impl<'a> Model for Records<'a> {
 }
 
 impl<'a> Records<'a> {
-    /// All records of a text, the first as the others, each with as many fields as it has.
+    /// All records of a text. The first is not special, and records may have different numbers of fields.
     pub(crate) fn new(alloc: Global, text: &'a [u8]) -> Self
         ensures { result ≡ records_of text.now }
     {
@@ -39,7 +39,7 @@ impl<'a> Records<'a> {
         }
     }
 
-    /// Puts the next record into `row`, and tells whether there was one.
+    /// Reads the next record into `row`, and returns whether there was one. `NoMemory` if memory is refused.
     pub(crate) fn next(&mut self, row: &mut ByteRecord) -> Result<bool, NoMemory>
         ensures { IfOk result (λ found. MatchBool found (self.old ≡ fields_of row.new ∷ self.new) (self.old ≡ [])) }
     {

@@ -1,7 +1,7 @@
 //! A table as it is stored.
 use crate::fields::FieldList;
 
-/// The rows of a table, their fields and a number for each: the first row's from left to right, then the next row's.
+/// The rows of a table: their fields, and a number for each field, row by row from left to right.
 #[derive(Drop)]
 pub(crate) struct StoredRows {
     pub(crate) count: usize,

@@ -15,7 +15,7 @@ use hash_keys::Keys;
 use std::alloc::Global;
 use std::marker::Model;
 
-/// The tables of a query, in the order in which they were read, numbered from 0 on.
+/// The tables of a query in the order in which they were read, numbered from 0.
 #[derive(Drop)]
 pub struct Tables {
     texts: Texts,
@@ -41,14 +41,14 @@ impl Tables {
     ghost use Rattle.std.specs.List.{AllByRecursion};
     ghost use Rattle.csv_tables.specs.Tables.{IsSound};
 
-    /// No tables, to be hashed with known keys. Takes no memory.
+    /// No tables, which will be hashed with known keys. Takes no memory.
     pub fn new(alloc: Global) -> Tables
         ensures { result ≡ [] }
     {
         Tables::with_keys(alloc, Keys::Known)
     }
 
-    /// No tables, to be hashed with these keys. Takes no memory.
+    /// No tables, which will be hashed with these keys. Takes no memory.
     pub fn with_keys(alloc: Global, keys: Keys) -> Tables
         ensures { result ≡ [] }
     {
@@ -65,10 +65,10 @@ impl Tables {
         self.keys
     }
 
-    /// Adds the table of the bytes of a csv file, and answers its number, from 0 on.
+    /// Adds the table of the bytes of a csv file, and returns its number, from 0.
     ///
-    /// A fault is the first in the file: what is wrong with the header, in the order of `TableFault`, and then what is wrong
-    /// with the first row that is not as the others. `NoMemory` may come at any time. After a refusal the tables are as before.
+    /// The fault is the first in the file: a fault of the header, in the order of `TableFault`, or else of the first
+    /// bad row. `NoMemory` may be returned at any point. After any error the tables are as before.
     pub fn read(&mut self, bytes: &[u8]) -> Result<u32, TableFault>
         requires few { length self.old < 16 }
         requires size { length bytes.now ≤ 67108864 }
@@ -94,7 +94,7 @@ impl Tables {
         Ok(number)
     }
 
-    /// How many tables there are.
+    /// The number of tables.
     pub fn count(&self) -> u32
         ensures count { result ≡ length self.now }
         ensures limit { result ≤ 16 }
@@ -103,7 +103,7 @@ impl Tables {
         self.tables.len() as u32
     }
 
-    /// How many rows a table has, the header not among them.
+    /// The number of rows of a table, without the header.
     pub fn len(&self, table: u32) -> u32
         requires { table < length self.now }
         ensures rows { result ≡ length (table_at self.now table).rows }
@@ -112,7 +112,7 @@ impl Tables {
         self.tables[table as usize].rows.count as u32
     }
 
-    /// How many columns a table has.
+    /// The number of columns of a table.
     pub fn width(&self, table: u32) -> u32
         requires { table < length self.now }
         ensures columns { result ≡ length (table_at self.now table).names }
@@ -130,8 +130,8 @@ impl Tables {
         self.tables[table as usize].names[column as usize].as_slice()
     }
 
-    /// The number of a field, the same for two fields of any tables exactly where their bytes are. Tables and columns count from
-    /// 0, and rows from 1.
+    /// The number of a field, the same for two fields of any tables exactly if their bytes are the same. Tables and
+    /// columns count from 0, and rows from 1.
     pub fn value(&self, table: u32, row: u32, column: u32) -> u32
         requires table { table < length self.now }
         requires first { 1 ≤ row }
@@ -159,8 +159,8 @@ impl Tables {
             .get((row as usize - 1) * width + column as usize)
     }
 
-    /// The weight that a field writes: 0 where it is empty, else an optional `+` or `-` and 1 to 39 digits, where that fits an `i128`.
-    /// Any other field gives `None`. Tables and columns count from 0, and rows from 1.
+    /// The weight that a field writes: 0 if it is empty, else an optional `+` or `-` and 1 to 39 digits, if the number
+    /// fits an `i128`. `None` for any other field. Tables and columns count from 0, and rows from 1.
     pub fn weight(&self, table: u32, row: u32, column: u32) -> Option<i128>
         requires table { table < length self.now }
         requires first { 1 ≤ row }
@@ -176,7 +176,8 @@ impl Tables {
     }
 }
 
-/// The numbers that `Tables::value` gives tell fields apart: no other text has the number of a field. Rows count from 0 here.
+/// The numbers that `Tables::value` returns tell fields apart: two fields with the same number have the same bytes.
+/// Rows count from 0 here.
 pub fn numbers_tell()
     ensures { (tables : List Table) (t row column : ℕ) (text : List ℕ) → t < length tables → row < length (table_at tables t).rows
         → column < length (get_or (table_at tables t).rows row [])

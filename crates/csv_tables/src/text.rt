@@ -1,4 +1,4 @@
-//! A text as the key of a set, which hashes it by one write of its bytes.
+//! A text as the key of a set, which hashes it with one write of its bytes.
 ghost use Rattle.std.specs.Prelude.{◌≡◌, ◌∷◌, [], IfOk, List, ℕ};
 ghost use Rattle.std.proofs.Common.{ap};
 ghost use Rattle.std.specs.Cmp.{partial_equiv_from_equiv};
@@ -11,7 +11,7 @@ use std::hash::{Hash, Hasher};
 use std::marker::Model;
 use step_counter::NoMemory;
 
-/// A text. Up to 16 bytes lie in it, and more in memory of its own.
+/// A text. Up to 16 bytes are kept in place, more on the heap.
 #[derive(Drop)]
 pub(crate) struct Text {
     bytes: SmallVec<u8, 16>,

@@ -40,14 +40,14 @@ impl Texts {
         }
     }
 
-    /// How many texts there are.
+    /// The number of texts.
     pub(crate) fn len(&self) -> usize
         ensures { result ≡ length self.now }
     {
         self.set.len()
     }
 
-    /// The number of a field, which is put last among the texts where it is new there.
+    /// The number of a field. A new text is added after the others.
     pub(crate) fn number(&mut self, field: &[u8]) -> Result<u32, NoMemory>
         ensures texts { OnOk result (self.new ≡ with_field self.old field.now) }
         ensures number { IfOk result (IsNumber self.new field.now) }
@@ -63,7 +63,7 @@ impl Texts {
         Ok(FIRST_TEXT + place as u32)
     }
 
-    // The place of a text, which is put last where it is new.
+    // The place of a text, from 0. A new text is added after the others.
     fn put(&mut self, text: &[u8]) -> Result<usize, NoMemory>
         ensures texts { OnOk result (self.new ≡ with_text self.old text.now) }
         ensures within { IfOk result (λ n. n < length self.new) }
@@ -75,7 +75,7 @@ impl Texts {
         Ok(place)
     }
 
-    /// Puts the numbers of the fields of a row after those in `cells`, and the fields after those in `fields`.
+    /// Appends the numbers of a row's fields to `cells`, and the fields to `fields`.
     pub(crate) fn number_row(
         &mut self,
         row: &ByteRecord,
@@ -97,7 +97,7 @@ impl Texts {
         Ok(())
     }
 
-    /// Keeps so many of the first texts.
+    /// Keeps only the first `len` texts.
     pub(crate) fn truncate(&mut self, len: usize)
         ensures { self.new ≡ take len self.old }
     {

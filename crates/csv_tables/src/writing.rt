@@ -8,11 +8,11 @@ use std::alloc::Global;
 use std::marker::Model;
 use step_counter::NoMemory;
 
-/// The most bytes of earlier records that a writer keeps. Above them a fresh one takes its place.
-const MOST_KEPT: usize = 16_384;
+/// The greatest number of bytes of earlier records that a writer keeps. If it has more, a fresh writer replaces it.
+const MAX_KEPT: usize = 16_384;
 
-/// Writes records one after the other, as `csv` writes them by default, each with its line end. It is seen as the text of the record
-/// that was written last.
+/// Writes records one after another, as `csv` writes them by default, each with its line end. Contracts see the text of
+/// the record that was written last.
 #[derive(Drop)]
 pub struct RecordWriter {
     writer: Writer<Vec<u8>>,
@@ -33,7 +33,7 @@ impl Model for RecordWriter {
 }
 
 impl RecordWriter {
-    /// No record yet. Takes no memory.
+    /// A writer without a record. Takes no memory.
     pub fn new(alloc: Global) -> RecordWriter
         ensures { result ≡ [] }
     {
@@ -44,12 +44,12 @@ impl RecordWriter {
         }
     }
 
-    /// Writes a record of these fields. The one before is given up. Where memory is refused, it is left open what is seen, and
-    /// further records can be written.
+    /// Writes a record of these fields, which replaces the one before. `NoMemory` if memory is refused; `text` is then
+    /// unspecified, and further records can be written.
     pub fn write(&mut self, fields: &[&[u8]]) -> Result<(), NoMemory>
         ensures { OnOk result (self.new ≡ record_text (map (λ f. f.now) fields.now)) }
     {
-        if self.writer.get_ref().len() > MOST_KEPT {
+        if self.writer.get_ref().len() > MAX_KEPT {
             self.writer = new_writer(self.alloc);
         }
         self.start = self.writer.get_ref().len();
@@ -79,7 +79,7 @@ fn new_writer(alloc: Global) -> Writer<Vec<u8>>
         .from_writer(Vec::new(alloc))
 }
 
-// Writes a record of these fields behind the earlier ones. Nothing is known of the writer where memory is refused.
+// Writes a record of these fields after the earlier ones. Nothing is known of the writer if memory is refused.
 fn append_record(writer: &mut Writer<Vec<u8>>, fields: &[&[u8]]) -> Result<(), NoMemory>
     requires { IsBetween writer.old }
     ensures between { OnOk result (IsBetween writer.new) }
@@ -94,7 +94,7 @@ fn append_record(writer: &mut Writer<Vec<u8>>, fields: &[&[u8]]) -> Result<(), N
     Ok(())
 }
 
-/// A record of these fields as `csv` writes it by default, with its line end.
+/// A record of these fields as `csv` writes it by default, with its line end. `NoMemory` if memory is refused.
 pub fn line(alloc: Global, fields: &[&[u8]]) -> Result<Vec<u8>, NoMemory>
     ensures { IfOk result (λ v. v.items ≡ record_text (map (λ f. f.now) fields.now)) }
 {

@@ -14,7 +14,7 @@ pub record CursorSet : Type 0 where
   pub places : List (Option ℕ)
   -- how many calls were refused memory, at most 2 ^ 64 - 1
   pub refused : ℕ
-  -- how often the engine was called, and the most steps of its coming call
+  -- how often the engine was called, and the greatest number of steps of its next call
   pub calls : ℕ
   pub due : ℕ
   -- what the engine's bound on steps depends on beside the calls

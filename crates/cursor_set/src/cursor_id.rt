@@ -1,6 +1,7 @@
+//! The names of cursors, and why calls on a set of them are refused.
 ghost use Rattle.std.specs.Prelude.{◌<◌};
 
-/// Names a cursor of a set by its number, from 0.
+/// A cursor of a set, by its number, from 0.
 #[derive(Clone, Copy, Debug, PartialEq, Eq)]
 pub struct CursorId {
     pub number: usize,
@@ -12,7 +13,7 @@ pub struct CursorId {
 pub enum CursorFault {
     /// That cursor is not open.
     Unknown(CursorId),
-    /// As many cursors are open as can be.
+    /// The greatest number of cursors is open.
     TooMany,
     /// Memory was refused.
     NoMemory,

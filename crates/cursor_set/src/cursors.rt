@@ -1,3 +1,4 @@
+//! The set of cursors: opening, moving, forking, rewinding and closing.
 ghost use Rattle.std.specs.Prelude.{◌≡◌, ℕ, ◌+◌, ◌≤◌, ◌<◌, Some, None, Ok, Err, false, true, replicate, IfOk, IfErr, IfSome, IfNone, OnErr, slice_get, length, position, is_none, IsSome, IsSomeAnd};
 ghost use Rattle.tdp_model.specs.KeyNumbers.{numbers};
 ghost use Rattle.cursor_set.specs.CursorSet.{CursorSet, Keeps, IsKnownAt, ArePlacesKnown, place_of, first_free, seen_of, with_place};
@@ -11,18 +12,18 @@ use std::sync::ledger::Ledger;
 use step_counter::Steps;
 use tdp_core::{Answer, Ranked};
 
-/// How many cursors may be open at once.
-pub const MOST_OPEN: usize = 64;
+/// The greatest number of cursors that may be open at once.
+pub const MAX_OPEN: usize = 64;
 
-/// Cursors over the answers of one engine, which is asked for each answer once. A cursor is a place in
-/// the list of all answers, from 0. The set counts its calls that were refused memory, up to the last
-/// value of 64 bits.
+/// Cursors over the answers of one engine, which is called once for each answer. A cursor is a place in the list of all
+/// answers, from 0. The set also counts its calls that were refused memory; the count stays at 2^64 - 1 once it gets
+/// there.
 #[derive(Drop)]
 pub struct Cursors<E: Ranked> {
     engine: E,
     found: Vec<Answer<E::Key>>,
     ended: bool,
-    places: [Option<usize>; MOST_OPEN],
+    places: [Option<usize>; MAX_OPEN],
     refused: u64,
 }
 
@@ -39,7 +40,7 @@ impl<E: Ranked> Model for Cursors<E> {
 }
 
 impl<E: Ranked> Cursors<E> {
-    /// A set over the answers that `engine` has left, with no open cursor.
+    /// A set over the answers that `engine` has left, with no open cursor. Takes no memory.
     pub fn new(alloc: Global, engine: E) -> Cursors<E>
         ensures set { result ≡ record { answers = E.rest engine; known = 0; ended = false; places = replicate 64 None; refused = 0; calls = E.calls engine; due = E.due engine; size = E.size engine } }
     {
@@ -47,19 +48,20 @@ impl<E: Ranked> Cursors<E> {
             engine,
             found: Vec::new(alloc),
             ended: false,
-            places: [None; MOST_OPEN],
+            places: [None; MAX_OPEN],
             refused: 0,
         }
     }
 
-    /// How many calls on this set were refused memory. It stays at the last value of 64 bits.
+    /// The number of calls on this set that were refused memory, at most 2^64 - 1.
     pub fn refused(&self) -> u64
         ensures count { result ≡ self.now.refused }
     {
         self.refused
     }
 
-    /// Opens the least number that is not open, at place 0. `TooMany` where all are open.
+    /// Opens the cursor with the least number that is not open, at place 0. The one error is `TooMany`, if all are
+    /// open.
     pub fn open(&mut self) -> Result<CursorId, CursorFault>
         ensures opened { IfOk result (λ id. (first_free self.old ≡ Some id.number) × (self.new ≡ with_place self.old id.number (Some 0))) }
         ensures place { IfOk result (λ id. place_of self.new id.number ≡ Some 0) }
@@ -70,9 +72,9 @@ impl<E: Ranked> Cursors<E> {
         Ok(CursorId { number })
     }
 
-    /// The answer at a cursor's place, which moves on by one, or None at the list's end, where the
-    /// cursor stays. `Unknown` where the cursor is not open. The engine is called, and `NoMemory` can
-    /// come, only where no cursor has been at this place before.
+    /// The answer at a cursor's place, which then moves on by one. At the end of the list it is `None`, and the cursor
+    /// stays. `Unknown` if the cursor is not open. The engine is called, and `NoMemory` can be returned, only if no
+    /// cursor has been at this place before.
     pub fn next<L: Ledger>(
         &mut self,
         id: CursorId,
@@ -116,8 +118,8 @@ impl<E: Ranked> Cursors<E> {
         }
     }
 
-    /// Opens the least number that is not open, at the place of another cursor. `Unknown` where that
-    /// cursor is not open, else `TooMany` where all are.
+    /// Opens the cursor with the least number that is not open, at the place of another cursor. `Unknown` if that
+    /// cursor is not open, else `TooMany` if all are open.
     pub fn fork(&mut self, id: CursorId) -> Result<CursorId, CursorFault>
         ensures forked { IfOk result (λ copy. IsSome (place_of self.old id.number) × (first_free self.old ≡ Some copy.number) × (self.new ≡ with_place self.old copy.number (place_of self.old id.number))) }
         ensures place { IfOk result (λ copy. place_of self.new copy.number ≡ place_of self.old id.number) }
@@ -129,7 +131,7 @@ impl<E: Ranked> Cursors<E> {
         Ok(CursorId { number })
     }
 
-    /// Moves a cursor to place 0. `Unknown` where it is not open.
+    /// Moves a cursor to place 0. `Unknown` if it is not open.
     pub fn rewind(&mut self, id: CursorId) -> Result<(), CursorFault>
         ensures rewound { IfOk result (λ _. IsSome (place_of self.old id.number) × (self.new ≡ with_place self.old id.number (Some 0))) }
         ensures place { IfOk result (λ _. place_of self.new id.number ≡ Some 0) }
@@ -140,7 +142,7 @@ impl<E: Ranked> Cursors<E> {
         Ok(())
     }
 
-    /// Closes a cursor, and frees its number. `Unknown` where it is not open.
+    /// Closes a cursor, whose number is then free. `Unknown` if it is not open.
     pub fn close(&mut self, id: CursorId) -> Result<(), CursorFault>
         ensures closed { IfOk result (λ _. IsSome (place_of self.old id.number) × (self.new ≡ with_place self.old id.number None)) }
         ensures refused { IfErr result (λ e. (e ≡ CursorFault.Unknown id) × (place_of self.old id.number ≡ None) × (self.new ≡ self.old)) }

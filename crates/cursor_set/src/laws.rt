@@ -1,4 +1,4 @@
-//! What may be relied on in any list of calls, as functions whose contracts say it.
+//! What callers may rely on in any list of calls, as functions whose contracts state it.
 
 ghost use Rattle.std.specs.Prelude.{◌≡◌, ℕ, ◌+◌, ◌-◌, ◌^◌, ◌<◌, ◌≤◌, ◌⊎◌, Some, false, true, length, min};
 ghost use Rattle.cursor_set.specs.CursorSet.{IsOpen, Keeps, place_of, with_place};
@@ -12,16 +12,16 @@ use tdp_core::Ranked;
 /// How far a cursor was driven.
 #[derive(Clone, Copy, Debug, PartialEq, Eq)]
 pub struct Driven {
-    /// How many answers it was given.
+    /// The number of answers it returned.
     pub given: u64,
-    /// How many calls were refused memory.
+    /// The number of calls that were refused memory.
     pub refused: u64,
-    /// Whether it met the list's end.
+    /// Whether it came to the end of the list.
     pub ended: bool,
 }
 
-/// Moves an open cursor on until `members` answers were given, the end was met, or more than `refusals`
-/// calls were refused memory; where `refusals` is the greatest number, until as many were refused.
+/// Moves an open cursor on until `members` answers were returned, the end was met, or more than `refusals` calls were
+/// refused memory. If `refusals` is the greatest `u64`, it stops when that many were refused.
 pub fn drive<E: Ranked, L: Ledger>(
     cursors: &mut Cursors<E>,
     id: CursorId,

@@ -1,4 +1,4 @@
-//! The engine that is asked for.
+//! The engine that was asked for.
 ghost use Rattle.std.specs.Prelude.{◌≡◌, ◌+◌, ◌*◌, ◌≤◌, IfOk, List, length};
 ghost use Rattle.tdp_model.specs.KeyTuple.{KeyOf};
 ghost use Rattle.tdp_core.specs.Seen.{answers_of};
@@ -19,15 +19,15 @@ use std::sync::ledger::Ledger;
 use step_counter::{NoMemory, Steps};
 use tdp_core::{Answer, Ranked, Tree};
 
-/// One of the engines over a tree. What the second finds stands in an arena, which outlives it.
+/// One of the two engines over a tree. What the engine by recursion finds is in an arena, which outlives it.
 #[derive(Drop)]
 pub enum ChosenEngine<'t, R: Rank> {
     Part(Part<'t, R, Global>),
     Rec(Rec<'t, R, &'t Bump>),
 }
 
-/// The engine of this kind over the tree, of which no answer was taken yet. It takes at most 16 * m * (1 + N) steps over m nodes that
-/// have N rows in all, and gives `NoMemory` where memory is refused.
+/// Creates the named engine over `tree`, before its first answer. It takes at most 16 * m * (1 + N) steps for m nodes
+/// with N rows in all, and returns `NoMemory` if memory is refused.
 pub fn choose_engine<'t, R: Rank, L: Ledger>(
     alloc: Global,
     kind: EngineKind,

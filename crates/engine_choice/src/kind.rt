@@ -3,8 +3,8 @@
 /// Which engine enumerates the answers.
 #[derive(Clone, Copy, Debug, PartialEq, Eq, Drop)]
 pub enum EngineKind {
-    /// The one that divides the answers that are left into parts.
+    /// The engine by regions, which divides the answers that are left.
     Part,
-    /// The one that ranks the answers below each row.
+    /// The engine by recursion, which ranks the answers below each row.
     Rec,
 }

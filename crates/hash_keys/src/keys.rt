@@ -4,7 +4,7 @@ use std::hash::{BuildHasher, DefaultHasher, RandomState};
 /// The keys that a hash table hashes with.
 #[derive(Clone, Copy)]
 pub enum Keys {
-    /// The same at each run. For tables whose content nobody outside chooses.
+    /// The same in each run. For tables whose content no stranger chooses.
     Known,
     /// Drawn at random for this run.
     Drawn(RandomState),

@@ -28,7 +28,7 @@ pub fn all_below(count: u32) -> u16
     u16::MAX >> (16 - count)
 }
 
-/// The least atom of a set, and 16 where it is empty.
+/// The least atom of a set, or 16 if it is empty.
 pub fn least(set: u16) -> u32
     ensures found { result < 16 → IsIn set result }
     ensures least { (a : ℕ) → IsIn set a → result ≤ a }

@@ -28,7 +28,7 @@ impl Model for Graph {
     ghost invariant = { λ g. IsGraph (record { atoms = g.atom_count; vars = g.sets.items }) };
 }
 
-// Whether the variable of this set is in `f`, if `a` shares it with one of the others.
+// Whether `f` has the variable of this set, if `a` shares it with one of the others; true if it does not.
 fn keeps(set: u16, others: u16, a: u32, f: u32) -> bool
     requires a_in { a < 16 }
     requires f_in { f < 16 }
@@ -37,7 +37,7 @@ fn keeps(set: u16, others: u16, a: u32, f: u32) -> bool
     contains(set, f) || !contains(set, a) || !intersects(set, others)
 }
 
-// Whether each atom of the set but the first has its parent in it.
+// Whether each atom of the set but the first has its parent in the set.
 fn is_connected(set: u16, parents: &[u32]) -> bool
     requires few { length parents.now ≤ 16 }
     requires first { ParentsFirst parents.now }
@@ -54,8 +54,8 @@ fn is_connected(set: u16, parents: &[u32]) -> bool
 }
 
 impl Graph {
-    /// A graph of 1 to 16 atoms. For each variable `vars` has the set of the atoms that have it, atom 0 as
-    /// the lowest bit. The one error is that memory is refused.
+    /// A graph of 1 to 16 atoms. For each variable, `vars` has the set of the atoms that have it; atom 0 is the lowest
+    /// bit. `NoMemory` if memory is refused, and no other error.
     pub fn new(alloc: Global, atoms: u32, vars: &[u16]) -> Result<Graph, NoMemory>
         requires some { 1 ≤ atoms }
         requires few { atoms ≤ 16 }
@@ -69,7 +69,7 @@ impl Graph {
         })
     }
 
-    /// How many atoms there are.
+    /// The number of atoms.
     pub fn atoms(&self) -> u32
         ensures count { result ≡ self.now.atoms }
         ensures some { 1 ≤ result }
@@ -78,14 +78,14 @@ impl Graph {
         self.atom_count
     }
 
-    /// For each variable the set of the atoms that have it, atom 0 as the lowest bit.
+    /// For each variable the set of the atoms that have it; atom 0 is the lowest bit.
     pub fn vars(&self) -> &[u16]
         ensures { result.now ≡ self.now.vars }
     {
         &self.sets
     }
 
-    /// Whether some variable is in both atoms.
+    /// Whether the two atoms have a variable in common.
     pub fn shared(&self, a: u32, b: u32) -> bool
         requires a_in { a < self.now.atoms }
         requires b_in { b < self.now.atoms }
@@ -99,9 +99,8 @@ impl Graph {
         false
     }
 
-    /// The least other live atom that has every variable which the live atom `a` shares with any other live
-    /// atom, and `None` exactly where there is none, so where `a` is no ear. Bits of `live` beyond the atoms
-    /// are passed over.
+    /// The least other live atom that has every variable which the live atom `a` shares with any other live atom.
+    /// `None` exactly if there is none, that is, if `a` is not an ear. Bits of `live` beyond the atoms are ignored.
     pub fn is_ear(&self, a: u32, live: u16) -> Option<u32>
         requires { IsLiveIn self.now live a }
         ensures { MatchOption result ((f : ℕ) → Covers (HasVar self.now) (IsLiveIn self.now live) a f → ⊥) (λ f. CoversFirst (HasVar self.now) (IsLiveIn self.now live) a f) }
@@ -133,8 +132,8 @@ impl Graph {
         true
     }
 
-    /// Whether every atom on the path between two atoms of a variable has it too, in a tree over the atoms
-    /// with each atom after its parent.
+    /// Whether every atom on the path between two atoms of a variable has it too, in a tree over the atoms. In
+    /// `parents` each atom is after its parent.
     pub fn connected(&self, var: u32, parents: &[u32]) -> bool
         requires var_in { var < length self.now.vars }
         requires each { length parents.now ≡ self.now.atoms }

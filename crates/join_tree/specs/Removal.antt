@@ -13,7 +13,7 @@ pub record IsStep (Has : ℕ → ℕ → Type 0) (Live : ℕ → Type 0) (e f : 
   pub cover : CoversFirst Has Live e f
   pub greatest : (d : ℕ) → e < d → IsEar Has Live d → ⊥
 
--- the first `removed` atoms of `order` are removed one after another, each below its parent, and `core` is left
+-- the first `removed` atoms of `order` are removed one after another, each below its parent, and `core` is what is left
 pub record IsRun (graph : Hypergraph) (parent order : List ℕ) (removed core : ℕ) : Type 0 where
   pub steps : (k : ℕ) → k < removed → IsStep (HasVar graph) (IsLive graph.atoms order k) (slice_index order k) (slice_index parent (slice_index order k))
   pub left : (a : ℕ) → IsIn core a ↔ IsLive graph.atoms order removed a

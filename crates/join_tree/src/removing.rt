@@ -9,7 +9,7 @@ ghost use Rattle.join_tree.specs.Removal.{HasOne, IsAnyRemoval, IsRemoval, IsSte
 use crate::outcome::Ears;
 use hyper_graph::{Graph, all_below, contains, without};
 
-// The least atom that covers `ear`, if it is a live ear.
+// The least atom that covers `ear`, if `ear` is a live ear.
 fn parent_of(graph: &Graph, live: u16, ear: u32) -> Option<u32>
     requires within { ear < graph.now.atoms }
     requires few { ear < 16 }
@@ -34,9 +34,9 @@ fn greatest_ear(graph: &Graph, live: u16) -> Option<(u32, u32)>
     None
 }
 
-/// Removes ears as long as there are two atoms and one of them is an ear: the greatest ear first, each
-/// below the least atom that has the variables which it shares. One atom is left exactly where a join
-/// tree exists, and no other order of removal would leave one where this one does not.
+/// Removes ears as long as there are two atoms and one of them is an ear: the greatest ear first, each below the least
+/// atom that has the variables which it shares. One atom is left exactly if a join tree exists, and no other order of
+/// removal would leave one if this one does not. Takes no memory.
 pub fn ears(graph: &Graph) -> Ears
     ensures removal { IsRemoval graph.now result.parent result.order result.removed result.core }
     ensures one { HasOne result.core ↔ HasJoinTree graph.now }

@@ -7,9 +7,8 @@ ghost use Rattle.join_tree.specs.Rerooting.{IsTree, HasAtom, IsSameTree, IsRenum
 
 use crate::tree::JoinTree;
 
-/// The same tree with this atom as its root: the same atoms, and two of them are parent and child, in
-/// one direction or the other, exactly where they were. So it is a join tree of each graph of which
-/// the given tree is one.
+/// The same tree with this atom as its root. It has the same atoms, and two of them are parent and child, in either
+/// direction, exactly if they were before. So it is a join tree of each graph of which `tree` is one. Takes no memory.
 pub fn reroot(tree: &JoinTree, atom: u32) -> JoinTree
     requires tree { IsTree tree.now.count tree.now.atom tree.now.parent }
     requires there { HasAtom tree.now.count tree.now.atom atom }
@@ -73,7 +72,7 @@ fn raise(tree: &JoinTree, child: u32) -> JoinTree
     raised
 }
 
-// The number before of what is node `k` now.
+// The number that node `k` had before.
 fn number_before(child: u32, k: u32) -> u32
     ensures { result ≡ old_node child k }
 {
@@ -86,7 +85,7 @@ fn number_before(child: u32, k: u32) -> u32
     }
 }
 
-// The number now of what was node `k` before.
+// The number that node `k` has now.
 fn number_after(child: u32, k: u32) -> u32
     ensures { result ≡ new_node child k }
 {
@@ -99,7 +98,7 @@ fn number_after(child: u32, k: u32) -> u32
     }
 }
 
-// The parent now of what is node `k` now.
+// The parent that node `k` has now.
 fn parent_after(parents: &[u32; 16], child: u32, k: u32) -> u32
     requires child { child < 16 }
     requires within { k < 16 }

@@ -1,4 +1,4 @@
-//! The tree of a removal.
+//! The join tree that ear removal gives.
 
 ghost use Rattle.std.specs.Prelude.{◌≡◌, ℕ, ◌+◌, ◌<◌, ◌≤◌, length, take, MatchOption, IfSome};
 ghost use Rattle.hyper_graph.specs.Graph.{Hypergraph, IsIn};
@@ -9,10 +9,10 @@ ghost use Rattle.join_tree.specs.Removal.{HasOne, IsRemoval, IsTreeOf};
 use crate::outcome::Ears;
 use hyper_graph::{least, without};
 
-/// A join tree. Its nodes are numbered from 0 on, with parents first, and node 0 is its own parent.
+/// A join tree. Its nodes are numbered from 0, parents first, and node 0 is its own parent.
 #[derive(Clone, Copy, Debug, PartialEq, Eq)]
 pub struct JoinTree {
-    /// How many nodes there are.
+    /// The number of nodes.
     pub count: u32,
     /// The atom of each node.
     pub atom: [u32; 16],
@@ -20,9 +20,8 @@ pub struct JoinTree {
     pub parent: [u32; 16],
 }
 
-/// The join tree of a graph whose ears were removed, with the last atom left as its root and the others
-/// in the reverse of the order in which they were removed. It is `None` exactly where the graph has no
-/// join tree.
+/// The join tree of a graph whose ears were removed. The last atom left is its root, and the others are in the reverse
+/// of the order in which they were removed. `None` exactly if the graph has no join tree.
 pub fn tree_of(ears: &Ears) -> Option<JoinTree>
     requires { (graph : Hypergraph) × IsRemoval graph ears.now.parent ears.now.order ears.now.removed ears.now.core }
     ensures tree { (graph : Hypergraph) → IsRemoval graph ears.now.parent ears.now.order ears.now.removed ears.now.core →
@@ -35,7 +34,7 @@ pub fn tree_of(ears: &Ears) -> Option<JoinTree>
     Some(hang(ears, root))
 }
 
-// The one atom of a set, if it has just one.
+// The one atom of a set, if it has exactly one.
 fn only_atom(set: u16) -> Option<u32>
     ensures { MatchOption result (HasOne set → ⊥) (λ a. IsIn set a × ((b : ℕ) → IsIn set b → b ≡ a)) }
 {

@@ -1,4 +1,4 @@
-//! The tables of a number.
+//! The tables of `load`, made from a number, and their query.
 
 ghost use Rattle.std.specs.Prelude.{◌≡◌, ◌+◌, ◌*◌, ◌^◌, ◌<◌, ◌≤◌, ◌++◌, map, IfOk, codes};
 ghost use Rattle.std.specs.String.{string_bytes};
@@ -11,7 +11,7 @@ use step_counter::NoMemory;
 pub const LOAD_QUERY: &str =
     "select P1.a, P4.e from P1, P2, P3, P4 where P1.b = P2.b and P2.c = P3.c and P3.d = P4.d order by P1.w + P2.w + P3.w + P4.w limit 100";
 
-/// The bytes of the file of `LOAD_QUERY`.
+/// The bytes of the file of `LOAD_QUERY`. `NoMemory` if memory is refused.
 pub fn query_of(alloc: Global) -> Result<Vec<u8>, NoMemory>
     ensures { IfOk result (λ bytes. bytes.items ≡ load_query) }
 {
@@ -19,7 +19,7 @@ pub fn query_of(alloc: Global) -> Result<Vec<u8>, NoMemory>
     Ok(text.into_bytes())
 }
 
-/// The generator's state: the number that it began with, or the last draw.
+/// The generator's state: the number that it started with, or the last draw.
 #[derive(Drop)]
 struct Draws {
     last: u32,
@@ -52,7 +52,7 @@ fn push_row(text: &mut String, modulus: u32, draws: &mut Draws) -> Result<(), Al
     writeln!(text, "{first},{second},{weight}")
 }
 
-/// A header, and so many rows.
+/// A header, and `rows` rows.
 #[tactic(auto, unfolding(crate::specs::Input::draw, crate::specs::Input::rows_text))]
 fn table(
     alloc: Global,
@@ -72,8 +72,8 @@ fn table(
     Ok(text.into_bytes())
 }
 
-/// The files of the tables P1 to P4, made in this order with so many rows each, from this number. Their join fields are
-/// below one more than a hundredth of the rows.
+/// The files of the tables P1 to P4, made in this order with `rows` rows each, from this number. The values of their
+/// join fields are at most a hundredth of `rows`. `NoMemory` if memory is refused.
 pub fn tables_of(alloc: Global, number: u32, rows: u32) -> Result<Vec<Vec<u8>>, NoMemory>
     requires small { number < 2 ^ 31 }
     requires some_rows { 1 ≤ rows }

@@ -1,4 +1,4 @@
--- The columns in which the rows of a node and those of its parent are to agree.
+-- The columns in which the rows of a node and of its parent must agree.
 use Rattle.std.specs.Prelude.{◌≡◌, ◌<◌, ℕ, List, [], length, slice_index, slice_index_or}
 use Rattle.join_tree.specs.declared.tree.JoinTree.{JoinTree}
 use Rattle.query_bind.specs.Classes.{HasVariable}
@@ -11,14 +11,14 @@ pub record IsColumnPair (bound : BoundQuery) (i j p q : ℕ) : Type 0 where
   pub own : HasVariable bound.query.equalities bound.variables i number p
   pub other : HasVariable bound.query.equalities bound.variables j number q
 
--- the columns stand at one place of the two lists
+-- the columns are at one place of the two lists
 pub record StandTogether (own other : List ℕ) (p q : ℕ) : Type 0 where
   pub place : ℕ
   pub within : place < length own
   pub first : slice_index own place ≡ p
   pub second : slice_index other place ≡ q
 
--- of each variable of some that both items have the column in each
+-- the columns of each wanted variable that both items have, in each of the two items
 pub record AreShared (bound : BoundQuery) (i j : ℕ) (Wanted : ℕ × ℕ → Type 0) (own other : List ℕ) : Type 0 where
   pub same : length own ≡ length other
   pub sound : (k : ℕ) → k < length own → IsColumnPair bound i j (slice_index own k) (slice_index other k)

@@ -35,7 +35,7 @@ abbrev pub IsListNumber : List (List (ℕ × ℕ)) → ℕ → ℕ → ℕ → L
 IsListNumber names q first n [] = n ≡ first
 IsListNumber names q first n (value ∷ rest) = (m : ℕ) × IsNumbered names q m (first, value) × IsListNumber names q m n rest
 
--- the link of a list of values at node q: 0 where there is none, and else the number of the list
+-- the link of a list of values at node q: 0 if there is none, and else the number of the list
 abbrev pub IsLink : List (List (ℕ × ℕ)) → ℕ → ℕ → List ℕ → Type 0
 IsLink names q n [] = n ≡ 0
 IsLink names q n (value ∷ rest) = IsListNumber names q value n rest

@@ -72,11 +72,11 @@ module _ (bound : BoundQuery) (tables : List Table) where
     pub rows : (v : ℕ) → v < join.count → AreNodeRows bound.query tables (item_of join v) (map (λ x. x.row.row) (rows_at tree v))
     pub ranks : (v r : ℕ) → v < join.count → r < raw_len tree v
         → raw_rank tree d key v r ≡ row_key d (row_parts (item_of join v) (raw_number tree v r)) (item_of join v) (raw_number tree v r)
-    -- a row of a node and a row of its parent have one link exactly where they agree on the variables that both items have
+    -- a row of a node and a row of its parent have one link exactly if they agree on the variables that both items have
     pub links : (q i r : ℕ) → 0 < q → q < join.count → i < raw_len tree q → r < raw_len tree (parent_of join q)
         → (own_link tree q i ≡ child_link tree (parent_of join q) r (shape_child_place tree.shapes q))
         ↔ RowsAgree (item_of join q) (item_of join (parent_of join q)) (raw_number tree q i) (raw_number tree (parent_of join q) r)
-    -- and so have two rows of the node
+    -- and two rows of the node exactly if they agree on them
     pub own_links : (q i j : ℕ) → 0 < q → q < join.count → i < raw_len tree q → j < raw_len tree q
         → (own_link tree q i ≡ own_link tree q j)
         ↔ RowsAlike (item_of join q) (item_of join (parent_of join q)) (raw_number tree q i) (raw_number tree q j)
@@ -87,6 +87,6 @@ module _ (bound : BoundQuery) (tables : List Table) where
     pub of_nodes : AreRowsOfNodes join rows
     pub past : budget < sum_by length rows
 
-  -- a fault that may be answered
+  -- a fault that may be returned
   abbrev pub TellsFault : JoinTree → ℕ → BuildFault → Type 0
   TellsFault join budget answer = (answer ≡ fault.NoMemory) ⊎ ((answer ≡ fault.TooManyRows budget) × PassesBudget join budget)

@@ -1,4 +1,4 @@
-//! What building answers.
+//! The result of building.
 
 use rank_key::Rank;
 use step_counter::NoMemory;
@@ -9,16 +9,16 @@ use tdp_core::RawTree;
 pub struct Built<R: Rank> {
     /// The nodes of the join tree in its order, each with the rows of its item that pass.
     pub tree: RawTree<R>,
-    /// How many rows each node has.
+    /// The number of rows of each node.
     pub rows_of: Vec<u64>,
-    /// How many these are together.
+    /// The number of rows of all nodes.
     pub used: u64,
 }
 
 /// Why there is no raw tree.
 #[derive(Clone, Copy, Debug, PartialEq, Eq)]
 pub enum BuildFault {
-    /// The nodes have more rows, all together, than this budget.
+    /// All nodes together have more rows than this budget.
     TooManyRows(u64),
     NoMemory,
 }

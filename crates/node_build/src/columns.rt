@@ -1,4 +1,4 @@
-//! The columns in which the rows of a node and those of its parent are to agree.
+//! The columns in which the rows of a node and of its parent must agree.
 ghost use Rattle.std.specs.Prelude.{◌<◌, ℕ, List, length, IfOk, IfSome, IfNone};
 ghost use Rattle.anyk_model.specs.Table.{Table};
 ghost use Rattle.rankings.specs.Order.{IsMember};
@@ -13,8 +13,8 @@ use query_bind::Query;
 use std::alloc::Global;
 use step_counter::NoMemory;
 
-/// For each node past the first the columns of its item, and for each of these the column of the same variable in the item of
-/// its parent.
+/// For each node after the first, the columns of its item, and for each of these the column of the same variable in its
+/// parent's item.
 #[derive(Drop)]
 pub(crate) struct Columns {
     pub own: Vec<Vec<u32>>,
@@ -34,7 +34,7 @@ fn place_of(variables: &[(u32, u32)], number: u32) -> Option<u32>
     None
 }
 
-// The columns of the variables that two items have.
+// The columns of the variables that both items have.
 fn shared_columns(
     alloc: Global,
     query: &Query,

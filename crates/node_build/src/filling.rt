@@ -20,7 +20,7 @@ use std::sync::ledger::Ledger;
 use step_counter::{NoMemory, Steps};
 use tdp_core::RawTree;
 
-/// The raw tree with these rows of each node.
+/// The raw tree with these rows of each node. `NoMemory` if memory is refused.
 pub(crate) fn filled_tree<R: Rank, L: Ledger>(
     alloc: Global,
     query: &Query,

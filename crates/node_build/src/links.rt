@@ -1,4 +1,4 @@
-//! Links: for values that a row has in some columns one number, the same for two rows exactly where the values are.
+//! Links: one number for the values that a row has in some columns, the same for two rows exactly if the values are.
 ghost use Rattle.std.specs.Prelude.{◌≡◌, ◌<◌, ◌≤◌, ◌+◌, ℕ, [], length, slice_index, replicate, vec_len, IfOk, OnOk};
 ghost use Rattle.anyk_model.specs.Table.{table_at};
 ghost use Rattle.node_build.specs.Links.{AreMore, IsLink, IsListNumber, IsNumbered, names_of, values_in};
@@ -10,11 +10,11 @@ use std::alloc::Global;
 use std::sync::ledger::Ledger;
 use step_counter::{NoMemory, Steps};
 
-/// For each node pairs of numbers, by which the lists of several values are numbered that its rows and those of its parent have
-/// where they are to agree. A node whose rows are to agree in one column, or in none, has no pairs.
+/// For each node, pairs of numbers, by which lists of several values are numbered: those that its rows and its parent's
+/// rows have in the columns where they must agree. A node whose rows must agree in one column or in none has no pairs.
 pub(crate) type Links = Vec<IndexSet<(u32, u32), Keys>>;
 
-/// No pairs, for so many nodes. They are hashed with these keys.
+/// No pairs, for this many nodes. They are hashed with these keys.
 pub(crate) fn no_links(alloc: Global, nodes: u32, keys: Keys) -> Result<Links, NoMemory>
     ensures { IfOk result (λ links. names_of links.items ≡ replicate nodes []) }
 {
@@ -25,7 +25,7 @@ pub(crate) fn no_links(alloc: Global, nodes: u32, keys: Keys) -> Result<Links, N
     Ok(links)
 }
 
-// The place of a pair among those of a node, to which it is added where it is not one of them.
+// The place of a pair among those of a node. A new pair is added.
 fn pair_number(links: &mut Links, node: usize, pair: (u32, u32)) -> Result<u32, NoMemory>
     requires { node < vec_len links.old }
     ensures more { OnOk result (AreMore (names_of links.old.items) (names_of links.new.items)) }
@@ -65,8 +65,8 @@ fn list_number(
     Ok(number)
 }
 
-/// The link at a node of the values that a row has in some columns: the value itself where it is one, 0 where there is none, and
-/// the number of their list where they are several.
+/// The link at a node of the values that a row has in some columns: the value itself if there is one, 0 if there is
+/// none, and the number of their list if there are several. It counts one step.
 pub(crate) fn link<L: Ledger>(
     tables: &Tables,
     table: u32,

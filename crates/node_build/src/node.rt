@@ -24,7 +24,7 @@ use std::sync::ledger::Ledger;
 use step_counter::{NoMemory, Steps};
 use tdp_core::{NodeRow, RawTree};
 
-// Puts the links that a row of a node names for the node's children into `named`. What was in it goes.
+// Replaces the content of `named` by the links that a row of a node names for the node's children.
 fn child_links<L: Ledger>(
     query: &Query,
     tables: &Tables,
@@ -61,7 +61,8 @@ fn child_links<L: Ledger>(
     Ok(())
 }
 
-// Adds a row of a node to the tree, with its links. `named` is for the links that it names, and what was in it goes.
+// Adds a row of a node to the tree, with its links. `named` is room for the links that it names; its content is
+// replaced.
 fn add_row<R: Rank, L: Ledger>(
     query: &Query,
     tables: &Tables,
@@ -98,7 +99,7 @@ fn add_row<R: Rank, L: Ledger>(
     tree.add_row(node, NodeRow { rank, row }, own_link, named.as_slice())
 }
 
-/// Adds the rows of a node to the tree, with their links.
+/// Adds the rows of a node to the tree, with their links. `NoMemory` if memory is refused.
 pub(crate) fn add_rows<R: Rank, L: Ledger>(
     alloc: Global,
     query: &Query,

@@ -53,7 +53,7 @@ pub(crate) fn rows_of_nodes(
     Ok(rows)
 }
 
-/// How many rows each node has.
+/// The number of rows of each node.
 pub(crate) fn counts_of(alloc: Global, rows: &[Vec<u32>]) -> Result<Vec<u64>, NoMemory>
     ensures { IfOk result (λ counts. counts.items ≡ map length (lists_of rows.now)) }
 {

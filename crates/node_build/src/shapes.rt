@@ -15,16 +15,16 @@ use std::alloc::Global;
 use step_counter::NoMemory;
 use tdp_core::NodeShape;
 
-/// The most order keys that a query has.
-const MOST_KEYS: usize = 8;
+/// The greatest number of order keys of a query.
+const MAX_KEYS: usize = 8;
 
-// The caps of an item, key by key, with zeros behind them.
-fn caps_of(query: &Query, item: u32) -> [u128; MOST_KEYS]
+// The caps of an item, key by key; the unused places are 0.
+fn caps_of(query: &Query, item: u32) -> [u128; MAX_KEYS]
     requires fits { (tables : List Table) × Fits query.now tables }
     requires item { item < length query.now.query.items }
     ensures { (tables : List Table) → Fits query.now tables → (i : ℕ) → slice_index result i ≡ cap_at query.now tables item i }
 {
-    let mut caps = [0; MOST_KEYS];
+    let mut caps = [0; MAX_KEYS];
     for key in 0..query.keys() {
         caps[key as usize] = query.cap(item, key);
     }
@@ -53,15 +53,15 @@ pub(crate) fn shapes_of(
     Ok(shapes)
 }
 
-// The parts of a row, key by key, in the first places.
-fn parts_of(query: &Query, tables: &Tables, item: u32, row: u32) -> [i128; MOST_KEYS]
+// The parts of a row, key by key; the unused places are 0.
+fn parts_of(query: &Query, tables: &Tables, item: u32, row: u32) -> [i128; MAX_KEYS]
     requires fits { Fits query.now tables.now }
     requires item { item < length query.now.query.items }
     requires first { 1 ≤ row }
     requires row { row ≤ length (table_in tables.now query.now.query.items item).rows }
     ensures { take (length query.now.query.order) result ≡ row_parts query.now tables.now item row }
 {
-    let mut parts = [0; MOST_KEYS];
+    let mut parts = [0; MAX_KEYS];
     for key in 0..query.keys() {
         parts[key as usize] = query.part(tables, item, row, key);
     }

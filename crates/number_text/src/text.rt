@@ -1,19 +1,19 @@
-//! The text of a number, kept in place.
+//! The text of a number, kept in place. The kit's crate `itoa` writes the digits.
 ghost use Rattle.std.specs.Prelude.{◌≡◌, decimal};
 ghost use Rattle.std.specs.Fmt.{signed_decimal};
 
 use itoa::Integer;
 use std::marker::Model;
 
-/// The most bytes that a text has: those of the least `i128`.
+/// The number of bytes of the longest text, that of the least `i128`.
 const MOST: usize = 40;
 
-/// The text of a number: its decimal digits, without leading zeros, and `-` before a negative one. It takes no memory, and is seen as
-/// its bytes.
+/// The text of a number: its decimal digits, without leading zeros, and `-` before a negative one. It takes no memory.
+/// Contracts see its bytes.
 #[derive(Drop)]
 pub struct NumberText {
     bytes: [u8; MOST],
-    // Where the text begins. It reaches to the end.
+    // Where the text begins. It ends where the buffer does.
     start: usize,
 }
 
@@ -28,7 +28,7 @@ impl Model for NumberText {
 }
 
 impl NumberText {
-    /// The text of a number.
+    /// The text of a number that is not negative.
     pub fn of(number: u32) -> NumberText
         ensures { result ≡ decimal number }
     {

@@ -19,11 +19,11 @@ has_number numbers n = list_any (λ number. number == n) numbers
 abbrev pub fails_next : FailingShelf → Bool
 fails_next s = has_number s.failing (saturating s.calls 1)
 
--- the shelf behind a call that fails, which left it holding this
+-- the shelf after a call that fails, which left it holding this
 abbrev pub failed_with : FailingShelf → Holding → FailingShelf
 failed_with s holding = record { holding = holding; failing = s.failing; calls = saturating s.calls 1; faults = saturating s.faults 1 }
 
--- the shelf behind a call that does not fail, which left it holding this
+-- the shelf after a call that does not fail, which left it holding this
 abbrev pub went_with : FailingShelf → Holding → FailingShelf
 went_with s holding = record { holding = holding; failing = s.failing; calls = saturating s.calls 1; faults = s.faults }
 
@@ -31,7 +31,7 @@ went_with s holding = record { holding = holding; failing = s.failing; calls = s
 abbrev pub closed : Holding → Holding
 closed h = record { files = h.files; rest = []; misses = h.misses; taken = h.taken }
 
--- behind a call of `open` that does not fail: the file of the name is open, or none and a miss is counted
+-- after a call of `open` that does not fail: the file of the name is open, or none and a miss is counted
 abbrev pub opened : Holding → List ℕ → Holding
 opened h name = record {
   files = h.files;
@@ -40,15 +40,15 @@ opened h name = record {
   taken = h.taken;
 }
 
--- behind a read of n bytes
+-- after a read of n bytes
 abbrev pub read_on : Holding → ℕ → Holding
 read_on h n = record { files = h.files; rest = drop n h.rest; misses = h.misses; taken = saturating h.taken n }
 
--- behind a call of `open`
+-- after a call of `open`
 abbrev pub after_open : FailingShelf → List ℕ → FailingShelf
 after_open s name = if fails_next s then failed_with s (closed s.holding) else went_with s (opened s.holding name)
 
--- behind a call of `read` with room for n bytes
+-- after a call of `read` with room for n bytes
 abbrev pub after_read : FailingShelf → ℕ → FailingShelf
 after_read s n = if fails_next s then failed_with s s.holding else went_with s (read_on s.holding (min n (length s.holding.rest)))
 
@@ -64,7 +64,7 @@ pub record FailingSink : Type 0 where
   pub calls : ℕ
   pub faults : ℕ
 
--- how many of n bytes the next call takes, or none where it fails
+-- how many of n bytes the next call takes, or none if it fails
 abbrev pub answer_to : FailingSink → ℕ → Option ℕ
 answer_to s n =
     if has_number s.failing (saturating s.calls 1) then None
@@ -80,7 +80,7 @@ taken_of s n = unwrap_or (answer_to s n) 0
 abbrev pub is_fault : FailingSink → ℕ → Bool
 is_fault s n = not (is_some (answer_to s n)) || (taken_of s n == 0 && nat_lt 0 n)
 
--- behind a call of `write` with this piece
+-- after a call of `write` with this piece
 abbrev pub after_write : FailingSink → List ℕ → FailingSink
 after_write s piece = record {
   bytes = s.bytes ++ take (taken_of s (length piece)) piece;

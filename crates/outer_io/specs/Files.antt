@@ -12,21 +12,21 @@ abbrev pub bytes_of : Files → List ℕ → Option (List ℕ)
 bytes_of [] name = None
 bytes_of (file ∷ files) name = if bytes_eq file.0 name then Some file.1 else bytes_of files name
 
--- where the files are told: there is one of this name, and it has these bytes
+-- if the files are known: there is one of this name, and it has these bytes
 abbrev pub HasFile : Option Files → List ℕ → Option (List ℕ) → Type 0
 HasFile None name bytes = Unit {0}
 HasFile (Some files) name bytes = (bytes ≡ bytes_of files name) × IsSome bytes
 
--- where the files are told: there is none of this name
+-- if the files are known: there is none of this name
 abbrev pub LacksFile : Option Files → List ℕ → Type 0
 LacksFile None name = Unit {0}
 LacksFile (Some files) name = bytes_of files name ≡ None
 
--- the files are told, and the one of this name has more than n bytes
+-- the files are known, and the one of this name has more than n bytes
 abbrev pub HasLongFile : ℕ → Option Files → List ℕ → Type 0
 HasLongFile n files name = (all : Files) × (bytes : List ℕ) × (files ≡ Some all) × (bytes_of all name ≡ Some bytes) × (n < length bytes)
 
--- where the files are told: the one of this name has more than n bytes
+-- if the files are known: the one of this name has more than n bytes
 abbrev pub IsNoShortFile : ℕ → Option Files → List ℕ → Type 0
 IsNoShortFile n None name = Unit {0}
 IsNoShortFile n (Some all) name = (bytes : List ℕ) × (bytes_of all name ≡ Some bytes) × (n < length bytes)

@@ -1,4 +1,4 @@
-//! Files in memory, with the place of the open one. Both shelves in memory stand on it.
+//! Files in memory, and the reading place in the open one. Both shelves in memory are made of this.
 
 ghost use Rattle.std.specs.Prelude.{◌≡◌, ◌≤◌, ◌<◌, [], Some, None, IfSome, length, take, drop, min, map, unwrap_or, is_some, ◌++◌, ◌+◌, ◌-◌, if◌then◌else◌, MatchOption};
 ghost use Rattle.std.specs.List.{list_any, position};
@@ -17,7 +17,7 @@ pub struct MemFile {
     pub bytes: Vec<u8>,
 }
 
-/// Whether no two of the files have one name.
+/// Whether no two of the files have the same name.
 pub fn have_distinct_names(files: &[MemFile]) -> bool
     ensures { result ≡ are_distinct files.now }
 {
@@ -35,7 +35,7 @@ fn has_name(files: &[MemFile], name: &str) -> bool
     files.iter().any(|file| file.name.as_str() == name)
 }
 
-/// Files, of which at most one is open, with how often one was missing and how many bytes were read.
+/// Files, of which at most one is open, with the number of misses and of bytes read.
 #[derive(Drop)]
 pub struct Held {
     files: Vec<MemFile>,
@@ -62,6 +62,7 @@ impl Model for Held {
 }
 
 impl Held {
+    /// These files, none open, with both counts at 0.
     pub fn new(files: Vec<MemFile>) -> Held
         ensures { result ≡ record { files = map entry_of files.items; rest = []; misses = 0; taken = 0 } }
     {
@@ -74,7 +75,7 @@ impl Held {
         }
     }
 
-    /// Opens a file, or closes the open one and counts a miss.
+    /// Opens a file, or closes the open one and counts a miss. Returns whether there is such a file.
     pub fn open(&mut self, name: &str) -> bool
         ensures found { result ≡ is_some (bytes_of self.old.files name.now) }
         ensures after { self.new ≡ record self.old {
@@ -104,7 +105,7 @@ impl Held {
         self.open = None;
     }
 
-    /// Moves as much of the rest as there is room for.
+    /// Moves as much of the rest into the buffer as fits, and returns how much.
     pub fn read(&mut self, buf: &mut [u8]) -> usize
         ensures count { result ≡ min (length buf.old) (length self.old.rest) }
         ensures moved { buf.new ≡ take result self.old.rest ++ drop result buf.old }
@@ -123,7 +124,7 @@ impl Held {
     }
 }
 
-// Where the first file of this name stands.
+// The place of the first file of this name, from 0.
 fn place_of(files: &[MemFile], name: &str) -> Option<usize>
     ensures { MatchOption result (bytes_of (map entry_of files.now) name.now ≡ None)
         (λ place. bytes_of (map entry_of files.now) name.now ≡ Some (rest_at files.now (Some place) 0)) }
@@ -137,7 +138,7 @@ fn first_named(files: &[MemFile], name: &str) -> Option<usize>
     files.iter().position(|file| file.name.as_str() == name)
 }
 
-// What is left of the open file, behind the place.
+// What is left of the open file, after the reading place.
 fn rest_of(files: &[MemFile], place: Option<usize>, at: usize) -> &[u8]
     ensures { result.now ≡ rest_at files.now place at }
 {

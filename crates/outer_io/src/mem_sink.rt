@@ -11,7 +11,7 @@ use std::alloc::Global;
 use std::marker::Model;
 use step_counter::NoMemory;
 
-/// A sink in memory with room for so many bytes. It takes at most `most` bytes a call, and counts its
+/// A sink in memory with room for a given number of bytes. It takes at most `most` bytes in a call, and counts its
 /// calls from 1: it fails at those whose numbers are in `failing`, and takes nothing at those in `zeros`.
 #[derive(Drop)]
 pub struct MemSink {
@@ -45,7 +45,8 @@ impl Model for MemSink {
 }
 
 impl MemSink {
-    /// Takes the room from memory, so that no call of `write` needs any.
+    /// An empty sink, with memory for all of `room`, so that no call of `write` takes any. `NoMemory` if that is
+    /// refused.
     pub fn new(
         alloc: Global,
         room: usize,
@@ -74,14 +75,14 @@ impl MemSink {
         })
     }
 
-    /// What was written.
+    /// The bytes that were written.
     pub fn bytes(&self) -> &[u8]
         ensures { result.now ≡ self.now.bytes }
     {
         &self.bytes
     }
 
-    // Counts a call, and tells how many of so many bytes it takes.
+    // Counts a call, and returns how many of `len` bytes it takes, or `None` if it fails.
     fn answer(&mut self, len: usize) -> Option<usize>
         ensures answer { result ≡ answer_to self.old len }
         ensures after { self.new ≡ record self.old { calls = saturating self.old.calls 1 } }
@@ -108,7 +109,7 @@ impl MemSink {
         self.faults = self.faults.saturating_add(1);
     }
 
-    // Takes all of a piece for which there is room.
+    // Takes all of a piece, for which there is room.
     fn take(&mut self, piece: &[u8])
         requires { length piece.now ≤ self.old.room }
         ensures { self.new ≡ record self.old { bytes = self.old.bytes ++ piece.now; room = self.old.room - length piece.now } }

@@ -1,4 +1,4 @@
-//! Shelves in memory: for tests, and for files that are made and not read.
+//! Shelves in memory: for tests, and for files that are made rather than read.
 
 ghost use Rattle.std.specs.Prelude.{◌≡◌, ◌≤◌, ◌↔◌, [], Some, map, length, min, IfOk, IsErr, IsErrOf, IsTrue, OnErr, OnOk, if◌then◌else◌};
 ghost use Rattle.std.specs.Io.KnownBytes.{ReadConsumes};
@@ -12,8 +12,8 @@ use crate::held::{Held, MemFile};
 use crate::{ReadFailed, Shelf, ShelfFault};
 use std::marker::Model;
 
-/// A shelf in memory that fails at the calls whose numbers it was given. `open` and `read` are
-/// counted together, from 1.
+/// A shelf in memory that fails at the calls whose numbers are in `failing`. Calls of `open` and `read` are counted
+/// together, from 1.
 #[derive(Drop)]
 pub struct MemShelf {
     held: Held,
@@ -36,7 +36,7 @@ impl Model for MemShelf {
 }
 
 impl MemShelf {
-    /// A shelf of these files, which have distinct names. No file is open, and all counts are 0.
+    /// A shelf of these files, whose names must be distinct. No file is open, and all counts are 0.
     pub fn new(files: Vec<MemFile>, failing: Vec<u64>) -> MemShelf
         requires { IsTrue (are_distinct files.items) }
         ensures { result ≡ record {
@@ -54,7 +54,7 @@ impl MemShelf {
         }
     }
 
-    // Counts a call, and tells whether it fails.
+    // Counts a call, and returns whether it fails.
     fn fails(&mut self) -> bool
         ensures fails { result ≡ has_number self.old.failing (saturating self.old.calls 1) }
         ensures after { self.new ≡ record self.old {
@@ -145,7 +145,7 @@ impl Model for PureShelf {
 }
 
 impl PureShelf {
-    /// A shelf of these files, which have distinct names. No file is open, and all counts are 0.
+    /// A shelf of these files, whose names must be distinct. No file is open, and all counts are 0.
     pub fn new(files: Vec<MemFile>) -> PureShelf
         requires { IsTrue (are_distinct files.items) }
         ensures { result ≡ record { files = map entry_of files.items; rest = []; misses = 0; taken = 0 } }

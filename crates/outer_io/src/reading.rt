@@ -1,4 +1,4 @@
-//! A whole file from a shelf.
+//! Reading a whole file from a shelf.
 
 ghost use Rattle.std.specs.Prelude.{◌≡◌, ◌≤◌, ◌<◌, ◌+◌, ◌⊎◌, Some, length, take, drop, vec_len, IfOk, IfSome, IsErrOf, OnErr, OnOk};
 ghost use Rattle.std.specs.Io.{ReadsAtMost};
@@ -10,7 +10,7 @@ ghost use Rattle.outer_io.specs.Files.{HasFile, HasLongFile, IsNoShortFile, Lack
 use crate::{ReadFailed, Shelf, ShelfFault};
 use std::alloc::{AllocError, Global};
 
-/// No file longer than this is read, in bytes.
+/// The greatest length of a file that is read, in bytes.
 pub const MAX_FILE_BYTES: usize = 67_108_864;
 
 /// The number of bytes that the first read asks for.
@@ -48,8 +48,9 @@ impl From<ReadFailed> for FileFault {
     }
 }
 
-/// The bytes of a file, read to its end. `Missing` comes where the shelf has no file of the name, `Failed` where
-/// the shelf failed, `TooLarge` where the file is longer than `MAX_FILE_BYTES`. The shelf's files stay as they were.
+/// The bytes of a file, read to its end. `Missing` if the shelf has no file of the name, `Failed` if the shelf failed,
+/// `TooLarge` if the file is longer than `MAX_FILE_BYTES`, and `NoMemory` if memory is refused. The shelf's files stay
+/// as they were.
 pub fn read_file<F: Shelf>(alloc: Global, shelf: &mut F, name: &str) -> Result<Vec<u8>, FileFault>
     ensures files { F.files shelf.new ≡ F.files shelf.old }
     ensures bytes { IfOk result (λ bytes. HasFile (F.files shelf.old) name.now (Some bytes.items)) }
@@ -100,7 +101,7 @@ fn read_to_end<F: Shelf>(alloc: Global, shelf: &mut F) -> Result<Vec<u8>, FileFa
     }
 }
 
-// One read after the first `filled` bytes. Room is made first, so that a refusal of memory loses no byte.
+// One read after the first `filled` bytes. Room is made before it, so that no byte is lost if memory is refused.
 fn read_more<F: Shelf>(
     shelf: &mut F,
     bytes: &mut Vec<u8>,
@@ -125,7 +126,8 @@ fn read_more<F: Shelf>(
     Ok(read_at(shelf, bytes.as_mut_slice(), filled)?)
 }
 
-// Makes the vector longer than `filled` by zeros, where it is not. What an earlier read left unfilled is used first.
+// Makes the vector longer than `filled`, by zeros, unless it is already. Room that an earlier read left unfilled is
+// used first.
 fn make_room(bytes: &mut Vec<u8>, filled: usize) -> Result<(), AllocError>
     requires { filled ≤ vec_len bytes.old }
     ensures front { take filled bytes.new.items ≡ take filled bytes.old.items }
@@ -137,7 +139,7 @@ fn make_room(bytes: &mut Vec<u8>, filled: usize) -> Result<(), AllocError>
     Ok(())
 }
 
-// One read into the bytes from the place on.
+// One read into the bytes after the place `at`.
 fn read_at<F: Shelf>(shelf: &mut F, bytes: &mut [u8], at: usize) -> Result<usize, ReadFailed>
     requires { at < length bytes.old }
     ensures files { F.files shelf.new ≡ F.files shelf.old }
@@ -155,7 +157,7 @@ fn read_at<F: Shelf>(shelf: &mut F, bytes: &mut [u8], at: usize) -> Result<usize
     read_front(shelf, &mut bytes[at..])
 }
 
-// One read, with what it says of a read and of the end apart.
+// One read, with separate clauses for the bytes and for the end.
 fn read_front<F: Shelf>(shelf: &mut F, bytes: &mut [u8]) -> Result<usize, ReadFailed>
     ensures files { F.files shelf.new ≡ F.files shelf.old }
     ensures bound { ReadsAtMost result bytes.new }

@@ -14,28 +14,28 @@ pub enum ShelfFault {
     Failed,
 }
 
-/// The shelf could not read on. The open file stands where it stood.
+/// The shelf could not read on. The open file is still at the same place.
 #[derive(Clone, Copy, Debug, PartialEq, Eq, Drop)]
 pub struct ReadFailed;
 
 /// Files by name. One at a time is open, and is read from its start.
 pub trait Shelf {
-    /// The files, where the shelf tells them.
+    /// The files, if the shelf's contents are known.
     ghost files: { Self → Option Files };
 
-    /// What is left of the open file, where the shelf tells it. Where no file is open it is empty.
+    /// What is left of the open file, if the shelf's contents are known. It is empty if no file is open.
     ghost rest: { Self → Option (List ℕ) };
 
-    /// How often a file was not there.
+    /// How often there was no file of a name.
     ghost misses: { Self → ℕ };
 
     /// How often the shelf failed.
     ghost faults: { Self → ℕ };
 
-    /// How many bytes were read.
+    /// The number of bytes that were read.
     ghost taken: { Self → ℕ };
 
-    /// Opens a file at its start, and gives up the one that was open. After a refusal none is open.
+    /// Opens a file at its start, and closes the one that was open. After an error none is open.
     fn open(&mut self, name: &str) -> Result<(), ShelfFault>
         ensures files { files self.new ≡ files self.old }
         ensures opened { OnOk result (HasFile (files self.old) name.now (rest self.new)) }
@@ -47,8 +47,8 @@ pub trait Shelf {
         ensures faults { faults self.old ≤ faults self.new }
         ensures taken { taken self.new ≡ taken self.old };
 
-    /// Moves the next bytes of the open file into the front of the buffer, and tells how many. There are none
-    /// only at the file's end, where no file is open, or where the buffer is empty.
+    /// Moves the next bytes of the open file to the front of the buffer, and returns how many. It returns 0 only at the
+    /// file's end, if no file is open, or if the buffer is empty.
     fn read(&mut self, buf: &mut [u8]) -> Result<usize, ReadFailed>
         ensures files { files self.new ≡ files self.old }
         ensures within { IfOk result (λ n. n ≤ length buf.new) }

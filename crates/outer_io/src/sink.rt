@@ -10,13 +10,13 @@ pub struct WriteFailed;
 
 /// A place that takes bytes.
 pub trait Sink {
-    /// The bytes that were written, where the sink tells them.
+    /// The bytes that were written, if they are known.
     ghost written: { Self → Option (List ℕ) };
 
     /// How often the sink failed.
     ghost faults: { Self → ℕ };
 
-    /// Takes some of the front of the bytes, and tells how many. It takes none of some only at a fault.
+    /// Takes some of the first bytes, and returns how many. It returns 0 for some bytes only at a fault.
     fn write(&mut self, bytes: &[u8]) -> Result<usize, WriteFailed>
         ensures within { IfOk result (λ n. n ≤ length bytes.now) }
         ensures written { WriteAppends (written self.old) (written self.new) result bytes.now }

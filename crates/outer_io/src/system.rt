@@ -1,5 +1,8 @@
-//! The files, the standard output and the standard error of the system: the few lines over std that no
-//! clause describes. They tell no content, and count their faults. A call that a signal interrupts is made again.
+//! The files, standard output and standard error of the system, over `std`.
+//!
+//! They keep the contracts of `Shelf` and `Sink`, but what a file has and what a stream has taken is not known to
+//! contracts here: `files`, `rest` and `written` are `None`. Misses, faults and bytes read are counted. A read or a
+//! write that a signal interrupts is made again, up to `TRIES` times in all.
 
 ghost use Rattle.std.specs.Io.{ReadsAtMost, WritesAtMost};
 
@@ -7,7 +10,7 @@ use crate::{ReadFailed, Shelf, ShelfFault, Sink, WriteFailed};
 use std::fs::{self, File};
 use std::io::{self, ErrorKind, Read, Write};
 
-/// How often a read or a write is tried, if a signal interrupts each.
+/// How often a read or a write is tried if a signal interrupts each try.
 const TRIES: u32 = 10_000;
 
 /// The files of the system.
@@ -21,7 +24,7 @@ pub struct FileShelf {
 }
 
 impl FileShelf {
-    /// With no file open, and all counts at 0.
+    /// The files of the system, none open, with all counts at 0.
     pub fn new(rt: HostRuntime) -> FileShelf {
         FileShelf {
             rt,
@@ -90,7 +93,7 @@ pub struct StdSink<W> {
 }
 
 impl<W: Write> StdSink<W> {
-    /// Over this stream, with no fault so far.
+    /// A sink over this stream, with no fault so far.
     pub fn new(stream: W) -> StdSink<W> {
         StdSink { stream, faults: 0 }
     }
@@ -119,7 +122,7 @@ impl<W: Write> Sink for StdSink<W> {
     }
 }
 
-// One read that no signal interrupts. A read that is interrupted has moved nothing.
+// One read, made again if a signal interrupts it, up to `TRIES` times. An interrupted read has moved nothing.
 fn read_again<R: Read>(from: &mut R, buf: &mut [u8]) -> io::Result<usize>
     ensures { ReadsAtMost result buf.new }
 {
@@ -132,7 +135,7 @@ fn read_again<R: Read>(from: &mut R, buf: &mut [u8]) -> io::Result<usize>
     from.read(buf)
 }
 
-// One write that no signal interrupts. A write that is interrupted has taken nothing.
+// One write, made again if a signal interrupts it, up to `TRIES` times. An interrupted write has taken nothing.
 fn write_again<W: Write>(to: &mut W, bytes: &[u8]) -> io::Result<usize>
     ensures { WritesAtMost result bytes.now }
 {

@@ -1,3 +1,4 @@
+//! Ranks as arrays of a fixed number of sums and 16 slots.
 ghost use Rattle.std.specs.Prelude.{◌≡◌, ℕ, ◌+◌, ◌-◌, ◌^◌, ◌<◌, ◌≤◌, ℤ, pos, length, ◌++◌, map, All, FitsSigned};
 ghost use Rattle.std.specs.Int.{FitsUnsigned, w32, w128};
 ghost use Rattle.tdp_model.specs.KeyNumbers.{plus, key_of_lists};
@@ -8,7 +9,7 @@ use std::cmp::Ordering;
 use std::sync::ledger::Ledger;
 use step_counter::Steps;
 
-/// A rank with `N` sums, which lie before the slots and are compared first.
+/// A rank with `N` sums, which are before the slots and are compared first.
 #[derive(Clone, Copy)]
 pub struct FixedRank<const N: usize> {
     sums: [i128; N],
@@ -17,10 +18,10 @@ pub struct FixedRank<const N: usize> {
     ghost slots_len: { length slots ≡ 16 },
 }
 
-/// A rank with one sum, for orders by one key or by none.
+/// A rank with one sum, for an order by one key or by none.
 pub type SumRank = FixedRank<1>;
 
-/// A rank with eight sums, for orders by up to eight keys, of which earlier ones weigh more.
+/// A rank with eight sums, for an order by two to eight keys. Earlier keys are compared first.
 pub type LexRank = FixedRank<8>;
 
 fn add_sums(to: &mut [i128], from: &[i128])

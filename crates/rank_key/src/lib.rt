@@ -1,10 +1,10 @@
 //! Ranks: the keys by which answers are ordered, as values that are only added, exchanged and compared, in counted steps.
 //!
 //! A rank has one sum for each order key and then 16 row slots, one for each item of a query. Ranks are compared
-//! lexicographically, so that two answers with equal sums are ordered by their row numbers. What makes an order by sums fit
-//! for ranked enumeration is that it is total and that adding keeps it (Tziavelis et al., "Optimal Algorithms for Ranked
-//! Enumeration of Answers to Full Conjunctive Queries", PVLDB 2020): `rank_laws` shows these laws to generic callers.
-//! The number of binary digits of a count, by which the steps of a heap are bounded, stands here too.
+//! lexicographically, so that two answers with equal sums are ordered by their row numbers. An order by sums is fit for
+//! ranked enumeration because it is total and adding keeps it (Tziavelis et al., "Optimal Algorithms for Ranked
+//! Enumeration of Answers to Full Conjunctive Queries", PVLDB 2020): `rank_laws` states these laws for generic callers.
+//! The number of binary digits of a count, which bounds the steps of a heap, is here too.
 #![tactic(auto)]
 
 mod binary_digits;

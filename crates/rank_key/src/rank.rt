@@ -1,3 +1,4 @@
+//! What a rank can do: joining, exchanging a part and comparing, one counted step each.
 ghost use Rattle.std.specs.Prelude.{◌≡◌, ℕ, ◌+◌, ◌<◌, ◌≤◌, ℤ, List, length};
 ghost use Rattle.tdp_model.specs.KeyTuple.{KeyOf, key_add, key_none};
 ghost use Rattle.tdp_model.specs.KeyNumbers.{key_less};
@@ -6,44 +7,44 @@ ghost use Rattle.rank_key.specs.Keys.{KeyFits, CanSwap, row_key};
 use std::sync::ledger::Ledger;
 use step_counter::Steps;
 
-/// How many row slots each rank has.
+/// The number of row slots of a rank.
 pub const SLOTS: usize = 16;
 
-/// A rank, seen as its key: `KEYS` sums and then 16 row slots. Beside the calls of this trait nothing reads a rank, and none of
-/// them takes memory.
+/// A rank. Contracts see its key: `KEYS` sums and then 16 row slots. Ranks are used through the calls of this trait
+/// alone, and none of them takes memory.
 pub trait Rank: Copy {
     ghost KEYS: { ℕ };
 
     ghost key: { Self → KeyOf KEYS 16 };
 
-    /// How many sums a rank has.
+    /// The number of sums of a rank.
     const KEYS: usize;
 
     /// The neutral element of `join`.
     fn zero() -> Self
         ensures { key result ≡ key_none KEYS 16 };
 
-    /// The rank of one row: its sums, of which missing ones are 0, and its number in its slot, counted from 0. The other slots
-    /// are 0.
+    /// The rank of one row: its sums, of which missing ones are 0, and its number in its slot. Slots count from 0, and
+    /// the other slots are 0.
     fn of_row(sums: &[i128], slot: u32, row: u32) -> Self
         requires sums { length sums.now ≤ KEYS }
         requires slot { slot < 16 }
         ensures { key result ≡ row_key KEYS sums.now slot row };
 
-    /// The sum of two ranks, number by number. It takes one step, and asks that the result fits.
+    /// The sum of two ranks, number by number. It takes one step. The result must fit.
     fn join<L: Ledger>(a: Self, b: Self, steps: &mut Steps<L>) -> Self
         requires { KeyFits KEYS (key_add KEYS 16 (key a) (key b)) }
         ensures sum { key result ≡ key_add KEYS 16 (key a) (key b) }
         ensures counted { steps.new ≡ steps.old + 1 };
 
-    /// `total` with `new` in the place of its part `old`, that is total - old + new. It takes one step, and asks that what is left
-    /// without `old` fits, and the result.
+    /// `total` with `new` in place of its part `old`, that is total - old + new. It takes one step. Both what is left
+    /// without `old` and the result must fit.
     fn swap<L: Ledger>(total: Self, old: Self, new: Self, steps: &mut Steps<L>) -> Self
         requires { CanSwap KEYS (key total) (key old) (key new) }
         ensures swapped { (rest : KeyOf KEYS 16) → key total ≡ key_add KEYS 16 rest (key old) → key result ≡ key_add KEYS 16 rest (key new) }
         ensures counted { steps.new ≡ steps.old + 1 };
 
-    /// Whether `a` is before `b`: in lexicographic order, the sums first. It takes one step.
+    /// Whether `a` is before `b` in lexicographic order, the sums first. It takes one step.
     fn less<L: Ledger>(a: &Self, b: &Self, steps: &mut Steps<L>) -> bool
         ensures order { result ≡ key_less KEYS 16 (key a.now) (key b.now) }
         ensures counted { steps.new ≡ steps.old + 1 };

@@ -1,3 +1,4 @@
+//! The laws of joining and exchanging.
 ghost use Rattle.std.specs.Prelude.{◌≡◌, ℕ, ◌+◌, ◌≤◌};
 ghost use Rattle.std.specs.declared.cmp.Ordering.TheVariants.{Less, Equal, Greater};
 ghost use Rattle.tdp_model.specs.KeyTuple.{KeyOf, key_add, key_below};
@@ -48,7 +49,7 @@ pub fn grouped_both_ways<R: Rank, L: Ledger>(a: R, b: R, c: R, steps: &mut Steps
     (from_left, from_right)
 }
 
-/// Whether one rank is before another once the same rank is joined to both: as it is without that rank.
+/// Whether one rank is before another after the same rank is joined to both: exactly if it was before.
 pub fn less_joined<R: Rank, L: Ledger>(a: R, b: R, part: R, steps: &mut Steps<L>) -> bool
     requires first { KeyFits R.KEYS (key_add R.KEYS 16 (R.key a) (R.key part)) }
     requires second { KeyFits R.KEYS (key_add R.KEYS 16 (R.key b) (R.key part)) }
@@ -60,7 +61,7 @@ pub fn less_joined<R: Rank, L: Ledger>(a: R, b: R, part: R, steps: &mut Steps<L>
     R::less(&first, &second, steps)
 }
 
-/// How two ranks stand to each other once the same rank is joined to both: what it says holds without that rank too.
+/// How two ranks compare after the same rank is joined to both. The result holds without that rank too.
 pub fn compare_joined<R: Rank, L: Ledger>(a: R, b: R, part: R, steps: &mut Steps<L>) -> Ordering
     requires first { KeyFits R.KEYS (key_add R.KEYS 16 (R.key a) (R.key part)) }
     requires second { KeyFits R.KEYS (key_add R.KEYS 16 (R.key b) (R.key part)) }
@@ -74,7 +75,7 @@ pub fn compare_joined<R: Rank, L: Ledger>(a: R, b: R, part: R, steps: &mut Steps
     compare(&first, &second, steps)
 }
 
-/// A rest joined with an old part, and then the new part put in the old one's place: the rest joined with the new part.
+/// A rest joined with an old part, and then the new part in place of the old one: the rest joined with the new part.
 pub fn swapped<R: Rank, L: Ledger>(rest: R, old: R, new: R, steps: &mut Steps<L>) -> R
     requires rest { KeyFits R.KEYS (R.key rest) }
     requires before { KeyFits R.KEYS (key_add R.KEYS 16 (R.key rest) (R.key old)) }
@@ -86,7 +87,7 @@ pub fn swapped<R: Rank, L: Ledger>(rest: R, old: R, new: R, steps: &mut Steps<L>
     R::swap(total, old, new, steps)
 }
 
-/// A total with a part put in another's place, and that taken back: the total again.
+/// A total with one part replaced by another, and that undone: the total again.
 pub fn swapped_back<R: Rank, L: Ledger>(total: R, old: R, new: R, steps: &mut Steps<L>) -> R
     requires swaps { CanSwap R.KEYS (R.key total) (R.key old) (R.key new) }
     requires total { KeyFits R.KEYS (R.key total) }

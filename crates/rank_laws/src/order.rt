@@ -1,3 +1,4 @@
+//! The laws of comparing.
 ghost use Rattle.std.specs.Prelude.{◌≡◌, ℕ, ◌+◌, ◌≤◌, true, false};
 ghost use Rattle.std.specs.declared.cmp.Ordering.TheVariants.{Less, Equal, Greater};
 ghost use Rattle.tdp_model.specs.KeyTuple.{KeyOf, key_below};
@@ -8,7 +9,7 @@ use std::cmp::Ordering;
 use std::sync::ledger::Ledger;
 use step_counter::Steps;
 
-/// Whether a rank is before itself.
+/// Whether a rank is before itself; it never is.
 pub fn is_before_itself<R: Rank, L: Ledger>(rank: &R, steps: &mut Steps<L>) -> bool
     ensures irreflexive { result ≡ false }
     ensures counted { steps.new ≡ steps.old + 1 }
@@ -16,7 +17,7 @@ pub fn is_before_itself<R: Rank, L: Ledger>(rank: &R, steps: &mut Steps<L>) -> b
     R::less(rank, rank, steps)
 }
 
-/// Whether the second of two ranks is before the first, which is before the second.
+/// Whether the second of two ranks is before the first, given that the first is before the second; it never is.
 pub fn is_before_previous<R: Rank, L: Ledger>(first: &R, second: &R, steps: &mut Steps<L>) -> bool
     requires { key_less R.KEYS 16 (R.key first.now) (R.key second.now) ≡ true }
     ensures asymmetric { result ≡ false }
@@ -25,7 +26,7 @@ pub fn is_before_previous<R: Rank, L: Ledger>(first: &R, second: &R, steps: &mut
     R::less(second, first, steps)
 }
 
-/// Whether the first of three ranks, each of which is before the next, is before the last.
+/// Whether the first of three ranks is before the last, given that each is before the next; it always is.
 pub fn is_before_last<R: Rank, L: Ledger>(
     first: &R,
     second: &R,
@@ -40,7 +41,7 @@ pub fn is_before_last<R: Rank, L: Ledger>(
     R::less(first, third, steps)
 }
 
-/// How two ranks stand to each other. One of the three answers always holds, and `Equal` means one key.
+/// How two ranks compare. One of the three results always holds, and `Equal` means that their keys are equal.
 pub fn compare<R: Rank, L: Ledger>(a: &R, b: &R, steps: &mut Steps<L>) -> Ordering
     ensures less { result ≡ Less → key_below R.KEYS 16 (R.key a.now) (R.key b.now) }
     ensures equal { result ≡ Equal → R.key a.now ≡ R.key b.now }

@@ -1,10 +1,10 @@
--- Trees whose rows stand in groups that have no order yet.
+-- Trees whose rows are in groups that have no order yet.
 use Rattle.std.specs.Prelude.{◌≡◌, ℕ, ◌<◌, List, [], length}
 use Rattle.tdp_model.specs.KeyTuple.{KeyOf}
 use Rattle.tdp_core.specs.TreeData.{NodeData, node_at}
 use Rattle.tdp_core.specs.WellFormed.{IsLaidOut}
 
--- A tree that is laid out, without the least keys, which are not there yet.
+-- A tree that is laid out, without the least keys, which are not known yet.
 pub record IsGrouped {R : Type 0} (d : ℕ) (key : R → KeyOf d 16) (t : List (NodeData R)) : Type 0 where
   pub laid_out : IsLaidOut d key t
   pub open laid_out use *

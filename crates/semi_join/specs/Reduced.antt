@@ -13,8 +13,8 @@ use Rattle.semi_join.specs.Grouped.{IsGrouped}
 abbrev pub ShareGroup : {R : Type 0} → List (NodeData R) → ℕ → ℕ → ℕ → Type 0
 ShareGroup t v i j = (g : ℕ) × Contains (members t v g) i × Contains (members t v g) j
 
--- The parts have the rows of the raw tree that extend to a solution of their subtree, in groups by their own links. `kept` tells
--- for each node which rows these are, so that row i of the parts is row `slice_index (kept v) i` of the raw tree.
+-- The parts have the rows of the raw tree that extend to a solution of their subtree, in groups by their own links.
+-- `kept` says for each node which rows these are: row i of the parts is row `slice_index (kept v) i` of the raw tree.
 pub record IsReduced {R : Type 0} (d : ℕ) (key : R → KeyOf d 16) (raw : RawData R) (parts : List (NodeData R)) : Type 0 where
   pub shapes : map (λ n. n.shape) parts ≡ raw.shapes
   pub kept : ℕ → List ℕ

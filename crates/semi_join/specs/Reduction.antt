@@ -18,8 +18,8 @@ links_of (Direct links) = links
 abbrev pub AreFew : List (List ℕ) → Type 0
 AreFew = All (λ links. length links ≤ 4194304)
 
--- The rows with one own link make one group, and each row stands in its group once. `owns` has the own link of each row, and
--- `links` that of each group.
+-- The rows with one own link make one group, and each row is in its group once. `owns` has the own link of each row,
+-- and `links` that of each group.
 pub record IsGrouping (owns links : List ℕ) (groups : List (List ℕ)) : Type 0 where
   pub size : length groups ≡ length links
   pub distinct : (i j : ℕ) → i < length links → j < length links → slice_index links i ≡ slice_index links j → i ≡ j
@@ -67,7 +67,7 @@ module _ {R : Type 0} (raw : RawData R) (v : ℕ) (later : List (List ℕ)) wher
   abbrev pub groups_named : ℕ → List ℕ
   groups_named i = map (λ c. position_or_len (nat_eq (child_link raw v i c)) (child_links c)) (range_with_len 0 (length (child_nodes raw v)))
 
-  -- the rows that stay
+  -- the rows that are kept
   abbrev pub kept_rows : List ℕ
   kept_rows = filter has_partners (range_with_len 0 (raw_len raw v))
 

@@ -1,4 +1,4 @@
-//! Links that are small numbers, with a table that has the number of each.
+//! Links that are small numbers, found by a table that has the number of each.
 ghost use Rattle.std.specs.Prelude.{◌≡◌, ◌<◌, ◌≤◌, ◌^◌, ℕ, [], OnOk, IfOk, length, nat_eq, position, slice_index, vec_len};
 ghost use Rattle.indexmap.specs.IndexSet.{insert_key};
 
@@ -6,11 +6,11 @@ use std::alloc::Global;
 use std::marker::Model;
 use step_counter::NoMemory;
 
-/// Links that are small numbers. They are seen as a list: the number of a link is its place there.
+/// Links that are small numbers. Contracts see them as a list: the number of a link is its place there, from 0.
 #[derive(Drop)]
 pub(crate) struct DirectLinks {
     links: Vec<u32>,
-    /// For each link its number and one more, and 0 where a link is not there.
+    /// For each link its number plus 1, and 0 for a link that is not there.
     table: Vec<u32>,
 }
 
@@ -26,7 +26,7 @@ impl Model for DirectLinks {
 }
 
 impl DirectLinks {
-    /// No links, and a table for those up to the greatest one.
+    /// No links, and a table for links up to the greatest one. `NoMemory` if memory is refused.
     pub(crate) fn new(alloc: Global, greatest: u32) -> Result<DirectLinks, NoMemory>
         ensures { IfOk result (λ d. d ≡ []) }
     {
@@ -37,14 +37,14 @@ impl DirectLinks {
         })
     }
 
-    /// How many links there are.
+    /// The number of links.
     pub(crate) fn len(&self) -> usize
         ensures { result ≡ length self.now }
     {
         self.links.len()
     }
 
-    /// The number of a link, if it is there.
+    /// The number of a link, or `None` if it is not there.
     pub(crate) fn number_of(&self, link: u32) -> Option<usize>
         ensures { result ≡ position (nat_eq link) self.now }
     {
@@ -56,7 +56,7 @@ impl DirectLinks {
         if after == 0 { None } else { Some(after - 1) }
     }
 
-    /// The number of a link, which goes last where it is not there yet. A table that is too short for it grows.
+    /// The number of a link. A new link is added after the others, and a table that is too short for it grows.
     pub(crate) fn insert(&mut self, link: u32) -> Result<u32, NoMemory>
         requires { length self.old ≤ 4194304 }
         ensures links { OnOk result (self.new ≡ insert_key nat_eq self.old link) }
@@ -76,7 +76,7 @@ impl DirectLinks {
     }
 }
 
-/// Makes a table long enough to have this place. What is new in it is 0.
+/// Makes a table long enough to have this place. New places in it are 0.
 fn reach(table: &mut Vec<u32>, place: usize) -> Result<(), NoMemory>
     requires { place < 2 ^ 32 }
     ensures within { OnOk result (place < vec_len table.new) }

@@ -1,4 +1,4 @@
-//! The links of a node's groups, each with the number of its group.
+//! The links of a node's groups, with the number of each one's group.
 ghost use Rattle.std.specs.Prelude.{◌≡◌, ◌<◌, ◌≤◌, [], OnOk, IfOk, length, nat_eq, position, slice_index};
 ghost use Rattle.indexmap.specs.IndexSet.{insert_key};
 ghost use Rattle.semi_join.specs.Reduction.{links_of};
@@ -9,8 +9,8 @@ use indexmap::IndexSet;
 use std::alloc::Global;
 use step_counter::NoMemory;
 
-/// The links of the groups of a node. They are numbered in the order in which they came, and the number of a link is that of its
-/// group.
+/// The links of the groups of a node, numbered from 0 in the order in which they came. The number of a link is that of
+/// its group.
 #[derive(Drop)]
 pub(crate) enum GroupLinks {
     /// Links that may be any numbers.
@@ -20,8 +20,8 @@ pub(crate) enum GroupLinks {
 }
 
 impl GroupLinks {
-    /// No links, of a node with so many rows and this greatest link. They are found by a table where that is short beside the
-    /// rows, and else by hashing with these keys.
+    /// No links, for a node with this many rows and this greatest link. They are found by a table if it is short
+    /// compared with the rows, and else by hashing with these keys.
     pub(crate) fn new(
         alloc: Global,
         keys: Keys,
@@ -37,7 +37,7 @@ impl GroupLinks {
         Ok(GroupLinks::Hashed(IndexSet::with_hasher(alloc, keys)))
     }
 
-    /// How many links there are.
+    /// The number of links.
     pub(crate) fn len(&self) -> usize
         ensures { result ≡ length (links_of self.now) }
     {
@@ -47,7 +47,7 @@ impl GroupLinks {
         }
     }
 
-    /// The number of a link, if it is there.
+    /// The number of a link, or `None` if it is not there.
     pub(crate) fn number_of(&self, link: u32) -> Option<usize>
         ensures { result ≡ position (nat_eq link) (links_of self.now) }
     {
@@ -57,7 +57,7 @@ impl GroupLinks {
         }
     }
 
-    /// The number of a link, which goes last where it is not there yet.
+    /// The number of a link. A new link is added after the others.
     pub(crate) fn insert(&mut self, link: u32) -> Result<u32, NoMemory>
         requires { length (links_of self.old) ≤ 4194304 }
         ensures links { OnOk result (links_of self.new ≡ insert_key nat_eq (links_of self.old) link) }

@@ -1,8 +1,7 @@
 //! Bottom-up reduction of a tree problem to the rows that extend to a solution of their subtree.
 //!
-//! This is the bottom-up half of the semi-join program of Yannakakis, "Algorithms for Acyclic Database
-//! Schemes", VLDB 1981: a row goes where for some child of its node no row that is left has the link
-//! that it names.
+//! This is the bottom-up half of the semi-join program of Yannakakis, "Algorithms for Acyclic Database Schemes", VLDB
+//! 1981: a row is dropped if for some child of its node no remaining row has the link that it names.
 #![tactic(auto)]
 
 mod direct_links;

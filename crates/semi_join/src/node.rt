@@ -1,4 +1,4 @@
-//! The rows of one node that stay, in groups.
+//! The rows of one node that are kept, in groups.
 ghost use Rattle.std.specs.Prelude.{◌≡◌, ◌+◌, ◌*◌, ◌<◌, ◌≤◌, [], ◌∷◌, ◌++◌, true, false, map, length, IfOk, IfSome, IfNone, OnOk, Some, nat_eq};
 ghost use Rattle.indexmap.specs.IndexSet.{insert_key};
 ghost use Rattle.tdp_core.specs.RawData.{AreShapes, raw_len, raw_row_at, row_total};
@@ -17,11 +17,11 @@ use tdp_core::{Groups, NodeParts, NodeRow, RawTree};
 #[derive(Drop)]
 pub(crate) struct GroupedNode<R> {
     pub parts: NodeParts<R>,
-    /// The link of each group: the place of a link is the number of its group.
+    /// The link of each group; its place is the number of the group.
     pub links: GroupLinks,
 }
 
-/// The rows of a node that stay, before they are put into groups.
+/// The rows of a node that are kept, before they are put into groups.
 #[derive(Drop)]
 struct KeptRows<R> {
     rows: Vec<NodeRow<R>>,
@@ -33,8 +33,8 @@ struct KeptRows<R> {
     links: GroupLinks,
 }
 
-/// The node with the rows that stay. `later` has the links of the groups of each later node, in the
-/// order of the nodes.
+/// The node with the rows that are kept. `later` has the links of the groups of each later node, in the order of the
+/// nodes.
 pub(crate) fn reduce_node<R: Rank, L: Ledger>(
     alloc: Global,
     raw: &RawTree<R>,
@@ -67,7 +67,7 @@ pub(crate) fn reduce_node<R: Rank, L: Ledger>(
     })
 }
 
-/// The rows of a node that stay, each with the number of its group.
+/// The rows of a node that are kept, each with the number of its group.
 fn keep_rows<R: Rank, L: Ledger>(
     alloc: Global,
     raw: &RawTree<R>,
@@ -115,7 +115,7 @@ fn no_rows<R: Rank>(alloc: Global, raw: &RawTree<R>, node: u32) -> Result<KeptRo
     })
 }
 
-/// The greatest link by which a row of a node is put into its group, 0 where it has no rows.
+/// The greatest link by which a row of a node is put into its group; 0 if it has no rows.
 fn greatest_link<R: Rank>(raw: &RawTree<R>, node: u32) -> u32
     requires { node < length raw.now.shapes }
 {
@@ -126,7 +126,7 @@ fn greatest_link<R: Rank>(raw: &RawTree<R>, node: u32) -> u32
     greatest
 }
 
-/// Puts one more row after the others, with the number of the group of its link, which is made where there is none yet.
+/// Appends a row, with the number of the group of its link. A link that is new makes a new group.
 fn keep_row<R: Rank, L: Ledger>(
     kept: &mut KeptRows<R>,
     row: NodeRow<R>,
@@ -164,7 +164,7 @@ fn children_of<R: Rank>(alloc: Global, raw: &RawTree<R>, node: u32) -> Result<Ve
     Ok(children)
 }
 
-/// The link by which a row is put into its group: its own link, and at the root one for all rows.
+/// The link by which a row is put into its group: its own link, and at the root the same one for all rows.
 fn group_link_of<R: Rank>(raw: &RawTree<R>, node: u32, i: u32) -> u32
     requires node { node < length raw.now.shapes }
     requires row { i < raw_len raw.now node }
@@ -173,7 +173,7 @@ fn group_link_of<R: Rank>(raw: &RawTree<R>, node: u32, i: u32) -> u32
     if node == 0 { 0 } else { raw.own(node, i) }
 }
 
-/// The numbers of the groups that a row names, and None where no row is left of one of them.
+/// The numbers of the groups that a row names, or `None` if one of them has no row left.
 fn child_groups<R: Rank, L: Ledger>(
     alloc: Global,
     raw: &RawTree<R>,

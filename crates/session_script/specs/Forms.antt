@@ -7,7 +7,7 @@ use Rattle.session_script.specs.declared.fault.ScriptFault.TheVariants.{TooManyL
 use Rattle.session_script.specs.Names.{is_name}
 use Rattle.session_script.specs.Words.{is_skipped, is_count, decimal_value}
 
--- exactly one space stands between two parts
+-- exactly one space is between two parts
 pub data Says : List ℕ → Step → Type 0 where
   opens : {name : List ℕ} → IsTrue (is_name name) → Says (codes "open " ++ name) (Open name)
   moves : {name : List ℕ} (digits : List ℕ) → IsTrue (is_name name) → IsTrue (is_count digits) → Says (codes "next " ++ (name ++ 32 ∷ digits)) (Next name (decimal_value digits))
@@ -15,7 +15,7 @@ pub data Says : List ℕ → Step → Type 0 where
   rewinds : {name : List ℕ} → IsTrue (is_name name) → Says (codes "rewind " ++ name) (Rewind name)
   closes : {name : List ℕ} → IsTrue (is_name name) → Says (codes "close " ++ name) (Close name)
 
--- the step that the line says, and None where it says none
+-- the step that the line says, and None if it says none
 abbrev pub IsSaid : List ℕ → Option Step → Type 0
 IsSaid line None = (step : Step) → Says line step → ⊥
 IsSaid line (Some step) = Says line step

@@ -6,10 +6,10 @@ ghost use Rattle.session_script.specs.Names.{is_name_byte, name_of};
 
 use std::marker::Model;
 
-/// The greatest length of a name, in bytes.
+/// The length of the longest name, in bytes.
 pub const MAX_NAME_BYTES: usize = 32;
 
-/// The name of a cursor: 1 to 32 letters, digits and `_`, in ASCII.
+/// The name of a cursor: 1 to 32 ASCII letters, digits and `_`.
 #[derive(Debug, Drop)]
 pub struct Name {
     bytes: [u8; 32],
@@ -34,7 +34,7 @@ impl Name {
         &self.bytes[..self.len]
     }
 
-    /// The name that these bytes are, if they are one.
+    /// These bytes as a name, or `None` if they are not one.
     pub(crate) fn read(text: &[u8]) -> Option<Name>
         ensures { result ≡ name_of text.now }
     {

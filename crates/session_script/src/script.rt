@@ -16,7 +16,7 @@ use std::alloc::Global;
 /// The greatest number of lines.
 pub const MAX_LINES: usize = 10000;
 
-/// The step of one line, and the cursors that are open behind it.
+/// The step of one line, and the cursors that are open after it.
 #[tactic(auto, unfolding(crate::specs::Script::turn))]
 fn read_step(names: &mut Vec<Name>, line: &[u8], number: u32) -> Result<Step, ScriptFault>
     ensures value { MatchResult result (λ s. turn number names.old.items line.now ≡ Ok s) (λ e. Fails (turn number names.old.items line.now) e) }
@@ -52,16 +52,17 @@ fn read_steps(alloc: Global, bytes: &[u8]) -> Result<Vec<Step>, ScriptFault>
     Ok(steps)
 }
 
-/// The steps of a script, in the order of its lines. A line feed ends a line, a carriage return before it is dropped, and
-/// the last line may lack its end. Empty lines and lines that begin with `#` are skipped.
+/// The steps of a script, in the order of its lines. A line feed ends a line, a carriage return before it is dropped,
+/// and the last line may lack its end. Empty lines and lines that begin with `#` are skipped. The fault is that of the
+/// first line that breaks a rule, or `TooManyLines`; `NoMemory` if memory is refused.
 pub fn read_script(alloc: Global, bytes: &[u8]) -> Result<Vec<Step>, ScriptFault>
-    // The steps that the text says, or why it says none.
+    // The steps that the text says, or the reason why it says none.
     ensures value { MatchResult result (λ v. steps_of bytes.now ≡ Ok v.items) (λ e. Fails (steps_of bytes.now) e) }
-    // Each line says its step, but for those that are empty or comments.
+    // Each line that is neither empty nor a comment says its step.
     ensures says { IfOk result (λ v. SayEach (said_lines (lines bytes.now)) v.items) }
-    // A bad line is one that no form of a step fits, and all lines before it say steps.
+    // A bad line is one that has no form of a step, and all lines before it say steps.
     ensures bad_line { IfErr result (λ e. NamesBadLine (lines bytes.now) e) }
-    // Each name is open where it is used, and never more than 64 are.
+    // Each name is open when it is used, and never more than 64 are.
     ensures keeps_rules { IfOk result (λ v. KeepsRules [] v.items) }
 {
     if count_lines(bytes) > MAX_LINES {

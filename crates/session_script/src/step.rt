@@ -5,14 +5,14 @@ use crate::name::Name;
 /// What one line of a script does.
 #[derive(Debug, Drop)]
 pub enum Step {
-    /// Opens a cursor of this name at the list's start.
+    /// Opens a cursor of this name at the start of the list.
     Open(Name),
-    /// Prints up to so many members from the cursor's place on, and moves it behind them.
+    /// Prints up to this many members from the cursor's place on, and moves it past them.
     Next(Name, u64),
     /// Opens a cursor of the second name at the place of the first.
     Fork(Name, Name),
-    /// Takes the cursor back to the list's start.
+    /// Moves the cursor back to the start of the list.
     Rewind(Name),
-    /// Gives up the cursor.
+    /// Closes the cursor.
     Close(Name),
 }

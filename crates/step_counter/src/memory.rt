@@ -1,6 +1,7 @@
+//! The error of a refused allocation.
 use std::alloc::{AllocError, AllocFailed};
 
-/// Memory was refused. It has one value and no cause, and comes from whatever answer of the allocator by `?`.
+/// Memory was refused. It has one value and no cause. `?` makes it of each error that the allocator returns.
 #[derive(Clone, Copy, Debug, PartialEq, Eq)]
 pub struct NoMemory;
 

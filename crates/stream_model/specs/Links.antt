@@ -12,7 +12,7 @@ owned (v ∷ vs) (h ∷ gs) q g = cond (nat_eq v q) (cond (nat_eq h g) 1 0) 0 + 
 abbrev pub place_in : List ℕ → List ℕ → ℕ → ℕ
 place_in vs gs i = owned (take i vs) (take i gs) (slice_index vs i) (slice_index gs i)
 
--- what follows entry i: the entry at the next place of its list, or none where it is the last
+-- what follows entry i: the entry at the next place of its list, or none if it is the last
 abbrev pub IsLinkedAt : List ℕ → List ℕ → ℕ → Option ℕ → Type 0
 IsLinkedAt vs gs i (Some n) = (n < length vs) × (slice_index vs n ≡ slice_index vs i) × (slice_index gs n ≡ slice_index gs i) × (place_in vs gs n ≡ place_in vs gs i + 1)
 IsLinkedAt vs gs i None = place_in vs gs i + 1 ≡ owned vs gs (slice_index vs i) (slice_index gs i)

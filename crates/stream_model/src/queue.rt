@@ -1,3 +1,4 @@
+//! The step of a queue in code.
 ghost use Rattle.std.specs.Prelude.{◌≡◌, ℕ, ◌+◌, ◌*◌, ◌<◌, ◌≤◌, ◌++◌, ◌∷◌, length, slice_index_or, OnOk};
 ghost use Rattle.std.specs.List.Sorted.{IsPermutation};
 ghost use Rattle.rank_key.specs.Bits.{bit_length};
@@ -11,8 +12,8 @@ use std::sync::ledger::Ledger;
 use step_counter::Steps;
 use take2_heap::{Entry, HeapOf};
 
-/// Passes the top of a queue: the one or two entries that follow it, where there are any, stand in its place. It takes no memory,
-/// and at most 2 * b + c steps for n entries, where n has b binary digits and n + 1 has c.
+/// Passes the top of a queue: the one or two entries that follow it, if there are any, take its place. It takes no
+/// memory, and at most 2 * b + c steps for n entries, where n has b binary digits and n + 1 has c.
 pub fn pass_top<R: Rank, T: Copy, A: Allocator, L: Ledger>(
     queue: &mut HeapOf<R, T, A>,
     next: Option<Entry<R, T>>,

@@ -1,6 +1,7 @@
+//! Entries of a store, and their names.
 use std::marker::Model;
 
-/// Names an entry of a store, and is seen as its place there, from 0.
+/// The name of an entry of a store. Contracts see its place there, from 0.
 #[derive(Clone, Copy, Debug, PartialEq, Eq)]
 pub struct EntryId {
     pub(crate) place: u32,
@@ -16,7 +17,7 @@ impl Model for EntryId {
     ghost inverse = { λ n. record { place = n } };
 }
 
-/// An entry: a value, and the entry that follows it, once that is set.
+/// An entry: a value, and the entry that follows it, if that is set.
 #[derive(Drop)]
 pub struct Linked<T> {
     pub value: T,

@@ -1,3 +1,4 @@
+//! The store: reserving room, adding entries and linking them.
 ghost use Rattle.std.specs.Prelude.{◌≡◌, ℕ, ◌+◌, ◌-◌, ◌^◌, ◌<◌, ◌≤◌, [], ◌∷◌, ◌++◌, length, slice_index_or, slice_set, IfOk, IfErr, OnOk, OnErr, IsOk};
 ghost use Rattle.stream_store.specs.declared.entry.Linked.{Linked};
 ghost use Rattle.stream_store.specs.Buckets.{joined, AreFilled, whole_room};
@@ -9,20 +10,20 @@ use std::marker::Model;
 use std::sync::ledger::Ledger;
 use step_counter::{NoMemory, Steps};
 
-/// The most entries for which room is made, so that the place of each fits 32 bits.
+/// The greatest number of entries for which room is made, so that the place of each fits 32 bits.
 const MOST: usize = u32::MAX as usize;
 
 /// A list of linked entries, and the number of entries for which room is reserved.
 ///
-/// Bucket number k has room for 16 * 2^k entries. It is made once with all its room, and no entry
-/// in it is ever moved. Buckets that were made before a later one was refused stay for later use.
-/// No room is made past 2^32 - 1 entries, which is refused as memory is.
+/// Bucket number k has room for 16 * 2^k entries. It gets all its memory at once, and no entry in it is ever moved.
+/// Buckets that were made before a later one was refused are kept for later use. Room for more than 2^32 - 1 entries is
+/// refused as memory is.
 #[derive(Drop)]
 pub struct Store<T, A: Allocator + Clone> {
     buckets: Vec<Vec<Linked<T>, A>, A>,
-    /// The room of all buckets.
+    /// The room of all buckets, in entries.
     made: usize,
-    /// The room that is reserved, from the first place on.
+    /// The room that is reserved, in entries, from the first place on.
     room: usize,
     len: usize,
 }
@@ -40,7 +41,7 @@ impl<T, A: Allocator + Clone> Model for Store<T, A> {
 }
 
 impl<T, A: Allocator + Clone> Store<T, A> {
-    /// An empty store without room, whose memory will come from `alloc`.
+    /// An empty store without room, which will take its memory from `alloc`.
     pub fn new(alloc: A) -> Store<T, A>
         ensures entries { result.entries ≡ [] }
         ensures spare { result.spare ≡ 0 }
@@ -53,14 +54,14 @@ impl<T, A: Allocator + Clone> Store<T, A> {
         }
     }
 
-    /// How many entries there are.
+    /// The number of entries.
     pub fn len(&self) -> usize
         ensures { result ≡ length self.now.entries }
     {
         self.len
     }
 
-    /// Makes room for at least `count` more entries, or leaves the store as it was.
+    /// Makes room for at least `count` more entries. After `NoMemory` the store is as it was.
     pub fn reserve(&mut self, count: usize) -> Result<(), NoMemory>
         ensures entries { self.new.entries ≡ self.old.entries }
         ensures ok { OnOk result (count ≤ self.new.spare) }
@@ -79,7 +80,7 @@ impl<T, A: Allocator + Clone> Store<T, A> {
         self.room - self.len
     }
 
-    /// Adds an entry in room that was reserved, without a next entry. It takes one step and no memory.
+    /// Adds an entry in reserved room, without a next entry. It takes one step and no memory.
     pub fn push_reserved<L: Ledger>(&mut self, value: T, steps: &mut Steps<L>) -> EntryId
         requires { 0 < self.old.spare }
         ensures id { result ≡ length self.old.entries }
@@ -98,8 +99,8 @@ impl<T, A: Allocator + Clone> Store<T, A> {
         }
     }
 
-    /// Adds an entry without a next entry. Where memory is refused it hands the value back, and the
-    /// store is as it was. It takes one step, refused or not.
+    /// Adds an entry without a next entry. If memory is refused it returns the value, and the store is as it was. It
+    /// takes one step in either case.
     pub fn push<L: Ledger>(
         &mut self,
         value: T,
@@ -140,7 +141,7 @@ impl<T, A: Allocator + Clone> Store<T, A> {
         &self.entry(id).value
     }
 
-    /// The entry that follows an entry of this store, None where none was set. It takes one step.
+    /// The entry that follows an entry of this store, or `None` if none is set. It takes one step.
     pub fn next_of<L: Ledger>(&self, id: EntryId, steps: &mut Steps<L>) -> Option<EntryId>
         requires { id < length self.now.entries }
         ensures next { (d : Linked T) → (slice_index_or self.now.entries id d).next ≡ result }
@@ -150,7 +151,7 @@ impl<T, A: Allocator + Clone> Store<T, A> {
         self.entry(id).next
     }
 
-    /// Sets the entry that follows an entry, which is done at most once for each. It takes one step.
+    /// Sets the entry that follows an entry, which is possible once for each. It takes one step.
     pub fn set_next<L: Ledger>(&mut self, id: EntryId, to: EntryId, steps: &mut Steps<L>)
         requires id { id < length self.old.entries }
         requires to { to < length self.old.entries }

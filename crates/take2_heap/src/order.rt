@@ -1,3 +1,4 @@
+//! Orders of items by their keys.
 ghost use Rattle.std.specs.Prelude.{◌≡◌, ℕ, ◌+◌};
 ghost use Rattle.tdp_model.specs.KeyTuple.{KeyOf};
 ghost use Rattle.tdp_model.specs.KeyNumbers.{key_less};
@@ -8,7 +9,7 @@ use rank_key::Rank;
 use std::sync::ledger::Ledger;
 use step_counter::Steps;
 
-/// An order of items by their keys, which may lie elsewhere, as in a table of ranks. It need not have a key for each item.
+/// An order of items by their keys, which may be elsewhere, as in a table of ranks. An item may have no key.
 pub trait KeyOrder<X> {
     ghost KEYS: { ℕ };
 
@@ -16,7 +17,7 @@ pub trait KeyOrder<X> {
 
     ghost key: { Self → X → KeyOf KEYS 16 };
 
-    /// Whether item `a` is before `b`, each of which has a key. It takes one step.
+    /// Whether item `a` is before `b`. Both must have keys. It takes one step.
     fn less<L: Ledger>(&self, a: &X, b: &X, steps: &mut Steps<L>) -> bool
         requires first { has_key self.now a.now }
         requires second { has_key self.now b.now }

@@ -3,7 +3,7 @@ use Rattle.std.specs.Prelude.{ℕ, ◌+◌, ◌*◌, cond, nat_lt, List, [], ◌
 use Rattle.rank_key.specs.Bits.{bit_length}
 use Rattle.tdp_core.specs.TreeData.{NodeData, group_count, row_count}
 
--- what the bound depends on beside the number of calls: the number of nodes, that of all rows, and that of the root's groups
+-- what the bound depends on beside the number of calls: the number of nodes, of all rows, and of the root's groups
 abbrev pub size_of : {R : Type 0} → List (NodeData R) → List ℕ
 size_of t = length t ∷ (row_count t ∷ (group_count t 0 ∷ []))
 

@@ -1,4 +1,4 @@
--- Solutions of a tree problem: one row for each node, such that each row stands below the row of its node's parent.
+-- Solutions of a tree problem: one row for each node, each linked to the row of its node's parent.
 use Rattle.std.specs.Prelude.{◌≡◌, ℕ, ◌<◌, ◌⊎◌, List, Contains, length}
 use Rattle.rankings.specs.Order.{IsRanking}
 use Rattle.tdp_model.specs.Below.{is_below}
@@ -8,7 +8,8 @@ use Rattle.tdp_model.specs.TreeProblem.{sum_from, RowHas, SolutionHas}
 use Rattle.tdp_core.specs.RawData.{RawData, raw_len, raw_number, raw_rank, own_link, child_link, shape_parent, shape_child_place}
 use Rattle.tdp_core.specs.TreeData.{NodeData, parent, group, rank}
 
--- m nodes, and a relation: row i of node q stands below row r of q's parent. At the root each row stands below any number.
+-- m nodes, and a relation: row i of node q is linked to row r of q's parent. At the root each row is linked to any
+-- number.
 module _ (m : ℕ) (parent : ℕ → ℕ) (Linked : ℕ → ℕ → ℕ → Type 0) where
   -- `rows` has one row for each node
   abbrev pub IsSolution : (ℕ → ℕ) → Type 0
@@ -18,7 +19,7 @@ module _ (m : ℕ) (parent : ℕ → ℕ) (Linked : ℕ → ℕ → ℕ → Type
   abbrev pub IsSubtreeSolution : ℕ → (ℕ → ℕ) → Type 0
   IsSubtreeSolution v rows = (q : ℕ) → v < q → q < m → 0 < is_below parent v q → Linked q (rows (parent q)) (rows q)
 
-  -- row r of node v stands in a solution of its subtree
+  -- row r of node v is in a solution of its subtree
   abbrev pub Extends : ℕ → ℕ → Type 0
   Extends v r = (rows : ℕ → ℕ) × (rows v ≡ r) × IsSubtreeSolution v rows
 

@@ -1,3 +1,4 @@
+//! Answers, and what an engine is.
 ghost use Rattle.std.specs.Prelude.{◌≡◌, ℕ, ◌+◌, ◌≤◌, List, [], ◌∷◌, IfOk, IfSome, IfNone, OnErr};
 ghost use Rattle.tdp_model.specs.KeyNumbers.{numbers};
 ghost use Rattle.tdp_core.specs.Seen.{Seen, counted};
@@ -13,8 +14,8 @@ pub struct Answer<R> {
     pub rank: R,
 }
 
-/// What gives answers one by one. It is seen as the answers that are left, the number of calls so
-/// far, which stays at its last value, and the most steps that the coming call may take.
+/// An engine: it returns answers one by one. Contracts see the answers that are left, the number of calls so far, which
+/// stays at its last value of 64 bits, and the greatest number of steps of the next call.
 pub trait Ranked {
     type Key: Rank;
 
@@ -24,13 +25,13 @@ pub trait Ranked {
 
     ghost due: { Self → ℕ };
 
-    // what a bound on the steps depends on beside the number of calls
+    // what a bound on the steps depends on, beside the number of calls
     ghost size: { Self → List ℕ };
 
-    // the most steps of one call, from the size and the number of calls before it
+    // the greatest number of steps of one call, from the size and the number of calls before it
     ghost share: { List ℕ → ℕ → ℕ };
 
-    /// The next answer, or None where none is left. Where memory is refused no answer is lost.
+    /// The next answer, or `None` if none is left. If memory is refused no answer is lost.
     fn next<L: Ledger>(
         &mut self,
         steps: &mut Steps<L>,

@@ -9,15 +9,15 @@ use std::alloc::Global;
 use std::marker::Model;
 use step_counter::NoMemory;
 
-/// The rows of a node, each with its own link, by which rows of the parent name it, and with the link that it names for each
-/// child of its node, children in ascending order. Links lie beside the rows, in lists of their own.
+/// The rows of a node. Each has its own link, by which rows of the parent name it, and the link that it names for each
+/// child of its node, children in ascending order. Links are beside the rows, in lists of their own.
 #[derive(Drop)]
 pub(crate) struct RawRows<R: Rank> {
     rows: Vec<NodeRow<R>>,
     owns: Vec<u32>,
     /// The links that the rows name, row by row.
     named: Vec<u32>,
-    /// How many links each row names.
+    /// The number of links that each row names.
     width: usize,
 }
 
@@ -45,7 +45,7 @@ impl<R: Rank> RawRows<R> {
         }
     }
 
-    /// Takes the room for so many more rows. These stay as they are, also where memory is refused.
+    /// Reserves room for this many more rows. The rows stay as they are, even if memory is refused.
     pub(crate) fn reserve(&mut self, more: usize) -> Result<(), NoMemory>
         ensures { self.new ≡ self.old }
     {
@@ -54,7 +54,7 @@ impl<R: Rank> RawRows<R> {
         Ok(())
     }
 
-    /// One more row, which names as many links as those before it. After a refusal the rows are as before.
+    /// Appends a row, which names as many links as those before it. After `NoMemory` the rows are as before.
     pub(crate) fn push(
         &mut self,
         row: NodeRow<R>,
@@ -74,14 +74,14 @@ impl<R: Rank> RawRows<R> {
         Ok(())
     }
 
-    /// How many rows there are.
+    /// The number of rows.
     pub(crate) fn len(&self) -> usize
         ensures { result ≡ length self.now }
     {
         self.rows.len()
     }
 
-    /// Row `i`, counted from 0.
+    /// Row `i`, from 0.
     pub(crate) fn row(&self, i: usize) -> NodeRow<R>
         requires { i < length self.now }
         ensures { slice_get (map (λ r. r.row) self.now) i ≡ Some result }
@@ -89,7 +89,7 @@ impl<R: Rank> RawRows<R> {
         self.rows[i]
     }
 
-    /// The own link of row `i`.
+    /// The own link of row `i`, from 0.
     pub(crate) fn own(&self, i: usize) -> u32
         requires { i < length self.now }
         ensures { result ≡ slice_index (map (λ r. r.own) self.now) i }
@@ -97,7 +97,7 @@ impl<R: Rank> RawRows<R> {
         self.owns[i]
     }
 
-    /// The link that row `i` names for one of the children, which are counted from 0.
+    /// The link that row `i` names for one of the children. Both count from 0.
     pub(crate) fn link(&self, i: usize, child: usize) -> u32
         requires row { i < length self.now }
         requires child { child < length (slice_index_or (map (λ r. r.children) self.now) i []) }

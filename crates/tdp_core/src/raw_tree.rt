@@ -1,4 +1,4 @@
-//! Trees whose rows are not yet in groups.
+//! Trees whose rows are not in groups yet.
 ghost use Rattle.std.specs.Prelude.{◌≡◌, ℕ, ◌+◌, ◌<◌, Some, [], length, replicate, IfOk, OnOk, OnErr};
 ghost use Rattle.tdp_core.specs.RawData.{AreShapes, IsRawFormed, RawRowFits, row_total, with_row, without_rows, shape_at, shape_children, raw_len, raw_row_at, raw_rank, raw_number, own_link, child_link};
 
@@ -10,8 +10,8 @@ use std::alloc::Global;
 use std::marker::Model;
 use step_counter::NoMemory;
 
-/// A tree whose rows are not yet put into groups: links tell which rows belong together. It is seen as
-/// its shapes and the rows of each node. Nodes and rows are counted from 0.
+/// A tree whose rows are not in groups yet: links say which rows belong together. Contracts see its shapes and the rows
+/// of each node. Nodes and rows count from 0.
 #[derive(Drop)]
 pub struct RawTree<R: Rank> {
     shapes: Vec<NodeShape>,
@@ -30,7 +30,8 @@ impl<R: Rank> Model for RawTree<R> {
 }
 
 impl<R: Rank> RawTree<R> {
-    /// A tree without rows. Its nodes stand with parents first.
+    /// A tree without rows, whose links are hashed with known keys. Its nodes must be in order, parents first.
+    /// `NoMemory` if memory is refused.
     pub fn new(alloc: Global, shapes: &[NodeShape]) -> Result<RawTree<R>, NoMemory>
         requires { AreShapes shapes.now }
         ensures { IfOk result (λ t. t ≡ record { shapes = shapes.now; rows = replicate (length shapes.now) [] }) }
@@ -38,7 +39,8 @@ impl<R: Rank> RawTree<R> {
         RawTree::with_keys(alloc, shapes, Keys::Known)
     }
 
-    /// A tree without rows, whose links are hashed with these keys. Its nodes stand with parents first.
+    /// A tree without rows, whose links are hashed with these keys. Its nodes must be in order, parents first.
+    /// `NoMemory` if memory is refused.
     pub fn with_keys(
         alloc: Global,
         shapes: &[NodeShape],
@@ -57,7 +59,7 @@ impl<R: Rank> RawTree<R> {
         self.keys
     }
 
-    /// Takes the room for so many more rows of a node. The tree stays as it is, also where memory is refused.
+    /// Reserves room for this many more rows of a node. The tree stays as it is, even if memory is refused.
     pub fn reserve(&mut self, node: u32, more: usize) -> Result<(), NoMemory>
         requires { node < length self.old.shapes }
         ensures { self.new ≡ self.old }
@@ -65,7 +67,7 @@ impl<R: Rank> RawTree<R> {
         self.rows[node as usize].reserve(more)
     }
 
-    /// Takes all rows of a node out, and gives their memory back.
+    /// Removes all rows of a node, and frees their memory.
     pub fn clear(&mut self, node: u32)
         requires { node < length self.old.shapes }
         ensures { self.new ≡ without_rows self.old node }
@@ -74,8 +76,8 @@ impl<R: Rank> RawTree<R> {
         self.rows[node as usize] = RawRows::new(alloc);
     }
 
-    /// Appends a row to a node, with its own link and the link that it names for each child of the
-    /// node, children in ascending order. Where memory is refused the tree stays as it was.
+    /// Appends a row to a node, with its own link and the link that it names for each child of the node, children in
+    /// ascending order. After `NoMemory` the tree is as it was.
     pub fn add_row(
         &mut self,
         node: u32,
@@ -93,7 +95,7 @@ impl<R: Rank> RawTree<R> {
         Ok(())
     }
 
-    /// How many nodes there are.
+    /// The number of nodes.
     pub fn nodes(&self) -> u32
         ensures count { result ≡ length self.now.shapes }
         ensures formed { IsRawFormed R.KEYS R.key self.now }
@@ -109,7 +111,7 @@ impl<R: Rank> RawTree<R> {
         &self.shapes[node as usize]
     }
 
-    /// How many rows a node has.
+    /// The number of rows of a node.
     pub fn len(&self, node: u32) -> u32
         requires { node < length self.now.shapes }
         ensures { result ≡ raw_len self.now node }
@@ -117,7 +119,7 @@ impl<R: Rank> RawTree<R> {
         self.rows[node as usize].len() as u32
     }
 
-    /// Row `i` of a node, counted from 0.
+    /// Row `i` of a node, from 0.
     pub fn row(&self, node: u32, i: u32) -> NodeRow<R>
         requires node { node < length self.now.shapes }
         requires row { i < raw_len self.now node }
@@ -128,7 +130,7 @@ impl<R: Rank> RawTree<R> {
         self.rows[node as usize].row(i as usize)
     }
 
-    /// The own link of row `i` of a node.
+    /// The own link of row `i` of a node, from 0.
     pub fn own(&self, node: u32, i: u32) -> u32
         requires node { node < length self.now.shapes }
         requires row { i < raw_len self.now node }
@@ -137,8 +139,7 @@ impl<R: Rank> RawTree<R> {
         self.rows[node as usize].own(i as usize)
     }
 
-    /// The link that row `i` of a node names for one of the node's children, which are counted from 0
-    /// in ascending order.
+    /// The link that row `i` of a node names for one of the node's children. Children count from 0 in ascending order.
     pub fn link(&self, node: u32, i: u32, child: u32) -> u32
         requires node { node < length self.now.shapes }
         requires row { i < raw_len self.now node }
@@ -149,7 +150,7 @@ impl<R: Rank> RawTree<R> {
     }
 }
 
-/// No rows, for so many nodes.
+/// No rows, for this many nodes.
 fn empty_rows<R: Rank>(alloc: Global, count: usize) -> Result<Vec<RawRows<R>>, NoMemory>
     ensures { IfOk result (λ rows. rows.items ≡ replicate count []) }
 {

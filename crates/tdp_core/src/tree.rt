@@ -1,3 +1,4 @@
+//! Well-formed trees, which the engines read.
 ghost use Rattle.std.specs.Prelude.{◌≡◌, ℕ, ◌+◌, ◌<◌, Some, length, nat_lt, slice_get, slice_index};
 ghost use Rattle.tdp_core.specs.TreeData.{tree_data, node_at, rows, number, child_count, child_place, parent, group_count, members, group_named, rank, best};
 ghost use Rattle.tdp_core.specs.WellFormed.{IsFormed};
@@ -9,8 +10,8 @@ use std::marker::Model;
 use std::sync::ledger::Ledger;
 use step_counter::Steps;
 
-/// A well-formed tree, seen as the list of its nodes. Nodes, rows, groups and places in a group are
-/// counted from 0, and the children of a node in ascending order from 0.
+/// A well-formed tree. Contracts see the list of its nodes. Nodes, rows, groups and places in a group count from 0, and
+/// so do the children of a node, in ascending order.
 #[derive(Drop)]
 pub struct Tree<R: Rank> {
     nodes: Vec<NodeParts<R>>,
@@ -29,7 +30,7 @@ impl<R: Rank> Model for Tree<R> {
 }
 
 impl<R: Rank> Tree<R> {
-    /// The tree that well-formed parts make. It takes no memory.
+    /// The tree of well-formed parts. It takes no memory.
     pub fn from_parts(nodes: Vec<NodeParts<R>>) -> Tree<R>
         requires { IsFormed R.KEYS R.key (tree_data nodes.items) }
         ensures { result ≡ tree_data nodes.items }
@@ -37,7 +38,7 @@ impl<R: Rank> Tree<R> {
         Tree { nodes }
     }
 
-    /// How many nodes there are.
+    /// The number of nodes.
     pub fn nodes(&self) -> u32
         ensures count { result ≡ length self.now }
         ensures formed { IsFormed R.KEYS R.key self.now }
@@ -70,7 +71,7 @@ impl<R: Rank> Tree<R> {
         place
     }
 
-    /// How many rows a node has.
+    /// The number of rows of a node.
     pub fn len(&self, node: u32) -> u32
         requires { node < length self.now }
         ensures { result ≡ rows self.now node }
@@ -78,7 +79,7 @@ impl<R: Rank> Tree<R> {
         self.nodes[node as usize].rows.len() as u32
     }
 
-    /// How many groups a node has.
+    /// The number of groups of a node.
     pub fn groups(&self, node: u32) -> u32
         requires { node < length self.now }
         ensures { result ≡ group_count self.now node }
@@ -86,7 +87,7 @@ impl<R: Rank> Tree<R> {
         self.nodes[node as usize].groups.len() as u32
     }
 
-    /// How many rows a group has.
+    /// The number of rows of a group.
     pub fn group_len(&self, node: u32, group: u32) -> u32
         requires node { node < length self.now }
         requires group { group < group_count self.now node }

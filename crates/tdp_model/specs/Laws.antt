@@ -29,7 +29,7 @@ IsTreeRanking d e t ks = IsRanking (KeyOf d e) (key_below d e) (SolutionHas (key
 abbrev pub KeysAreOrdered : Type 0
 KeysAreOrdered = (d e : ℕ) → IsKeys (KeyOf d e) (key_below d e) (key_add d e) (key_none d e)
 
--- Some tree of two nodes is well formed and tie-free, so that the laws below speak of something.
+-- Some tree of two nodes is well formed and tie-free, so that the laws below are about something.
 abbrev pub SomeTree : Type 0
 SomeTree = (t : TreeView 1 2) × (t.nodes ≡ 2)
 
