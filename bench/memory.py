@@ -3,7 +3,7 @@
 
 usage: bench/memory.py [ROWS]
 
-ROWS is the number of rows of a table, 20000 where it is not given; runs with twice as many are made too. The queries are a path of four
+ROWS is the number of rows of a table, 20000 if it is not given; runs with twice as many are made too. The queries are a path of four
 tables, whose join columns have ROWS / 10 values, and a star of 16 items over one table, which meet in the one column that is a weight
 too. Each figure is a difference of two peaks of resident memory, in bytes:
 

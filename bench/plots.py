@@ -3,12 +3,15 @@
 
 usage: bench/plots.py
 
-- ranking.svg: seconds until the first k answers are written, against k, beside sqlite3; both axes are logarithmic. A figure such as
-  `over 100` is drawn as a triangle at its number.
-- preparing.svg: nanoseconds of preparation for each row, against the rows of each table, for each order of the rows.
+- ranking.svg: processor seconds until the first k answers are written, against k, beside sqlite3 and PostgreSQL
+- preparing.svg: processor nanoseconds for each row until the first answer, against the rows of each table, for each order of the rows,
+  beside sqlite3 and PostgreSQL
 
-The tables are found by the heading they stand under and by the names of their columns. After a change of the tables the plots are drawn
-again by the same call.
+All axes are logarithmic. PostgreSQL has a line for the query alone and one with its loading; both are left out if the table has `-`
+there. A figure such as `over 100` is drawn as a triangle at its number.
+
+The tables are found by their headings and by the names of their columns. After a change of the tables the same call draws the plots
+again.
 """
 import math
 import os
@@ -19,7 +22,8 @@ HERE = os.path.dirname(os.path.abspath(__file__))
 INK, FAINT, GRID = "#222222", "#666666", "#dddddd"
 FONT = "font-family='system-ui, -apple-system, Segoe UI, Helvetica, Arial, sans-serif'"
 # Colours that differ for eyes that see few; each with its own mark and dashes.
-STYLES = [("#0072b2", "circle", ""), ("#d55e00", "square", "7 4"), ("#009e73", "diamond", "2 4")]
+STYLES = [("#0072b2", "circle", ""), ("#d55e00", "square", "7 4"), ("#009e73", "diamond", "2 4"), ("#cc79a7", "circle", "7 4"),
+          ("#555555", "square", "2 4")]
 
 
 # ---- tables
@@ -97,7 +101,7 @@ class Panel:
         drawn.append(f"<line x1='{self.left:.1f}' y1='{bottom:.1f}' x2='{right:.1f}' y2='{bottom:.1f}' stroke='{FAINT}'/>")
         drawn.append(text_at(self.left + self.width / 2, bottom + 39, below))
         if beside:
-            drawn.append(text_at(self.left - 46, self.top + self.height / 2, beside, turn="-90"))
+            drawn.append(text_at(self.left - 66, self.top + self.height / 2, beside, turn="-90"))
         return drawn
 
     def line(self, points, style):
@@ -108,9 +112,9 @@ class Panel:
         return drawn + [mark_at(self.x(x), self.y(y), "above" if passed else shape, colour) for x, y, passed in points]
 
 
-def legend(left, top, names):
+def legend(left, top, ways):
     drawn = []
-    for (colour, shape, dashes), (name, room) in zip(STYLES, names):
+    for (colour, shape, dashes), name, room in ways:
         drawn.append(f"<line x1='{left}' y1='{top}' x2='{left + 34}' y2='{top}' stroke='{colour}' stroke-width='2.5' stroke-dasharray='{dashes}'/>")
         drawn += [mark_at(left + 17, top, shape, colour), text_at(left + 42, top + 4, name, 13, "start")]
         left += room
@@ -126,34 +130,65 @@ def write(name, width, height, title, drawn):
 
 # ---- the plots
 
+def draw_panels(panels, ways, below, beside, across, up, gap, picture):
+    """Panels side by side. `panels` has the title of each with its points by way, `ways` the name of each way in the legend with its
+    room there."""
+    name, title = picture
+    width, left = 240, 92
+    drawn = legend(left, 24, [(style, *way) for at, (style, way) in enumerate(zip(STYLES, ways)) if any(lines[at] for _, lines in panels)])
+    for at, (head, lines) in enumerate(panels):
+        panel = Panel(left + at * (width + gap), 82, width, 250, across, up, True)
+        drawn += panel.axes(head, below, beside if at == 0 else None)
+        for style, points in reversed(list(zip(STYLES, lines))):
+            drawn += panel.line(points, style) if points else []
+    write(name, left + len(panels) * (width + gap) - gap + 44, 386, title, drawn)
+
+
+def points_of(rows, x, *columns):
+    """The points of a line: the figures of a column, or the sums of some, against x. A row that has no figure has no point."""
+    points = []
+    for row in rows:
+        if "-" in [row[it] for it in columns]:
+            continue
+        figures = [number(row[it]) for it in columns]
+        points.append((number(row[x])[0], sum(it for it, _ in figures), any(passed for _, passed in figures)))
+    return points
+
+
+def groups_of(rows, column):
+    return {it: [row for row in rows if row[column] == it] for it in dict.fromkeys(row[column] for row in rows)}
+
+
+def decades(first, last, name):
+    """The powers of ten of an axis, with their names."""
+    return [(10.0 ** it, name(10 ** it)) for it in range(first, last + 1)]
+
+
+def plain(value):
+    return f"{value:,}" if value >= 1 else f"{value:g}"
+
+
 def draw_ranking(text):
     _, rows = table_of(text, "Ranking", "sqlite3")
-    shapes = list(dict.fromkeys(it["query"] for it in rows))
-    ways = [("--engine part", "anyk, --engine part", 190), ("--engine rec", "anyk, --engine rec", 185), ("sqlite3", "sqlite3 (▲: given up)", 180)]
+    columns = [("--engine part",), ("--engine rec",), ("sqlite3",), ("PostgreSQL",), ("PostgreSQL", "its loading")]
+    panels = [(shape, [points_of(group, "answers asked for", *it) for it in columns]) for shape, group in groups_of(rows, "query").items()]
+    ways = [("anyk, --engine part", 182), ("anyk, --engine rec", 176), ("sqlite3", 112), ("PostgreSQL", 138), ("PostgreSQL with loading", 190)]
     across = [(1, "1"), (10, "10"), (100, "100"), (1000, "1,000"), (10000, ""), (100000, "100,000")]
-    up = [(0.01, "0.01"), (0.1, "0.1"), (1, "1"), (10, "10"), (100, "100")]
-    width, gap, left = 235, 58, 72
-    drawn = legend(left, 24, [(name, room) for _, name, room in ways])
-    for at, shape in enumerate(shapes):
-        panel = Panel(left + at * (width + gap), 82, width, 230, across, up, True)
-        drawn += panel.axes(shape, "k, the answers asked for", "seconds" if at == 0 else None)
-        for (column, _, _), style in reversed(list(zip(ways, STYLES))):
-            points = [(number(it["answers asked for"])[0], *number(it[column])) for it in rows if it["query"] == shape]
-            drawn += panel.line(points, style)
-    write("ranking.svg", left + len(shapes) * (width + gap) - 10, 366, "Seconds until the first k answers are written, against k", drawn)
+    draw_panels(panels, ways, "k, the answers asked for (▲: given up)", "processor seconds", across, decades(-2, 2, plain), 62,
+                ("ranking.svg", "Processor seconds until the first k answers are written, against k"))
 
 
 def draw_preparing(text):
-    names, rows = table_of(text, "Preparing", "factor")
-    sizes = [(int(it.removesuffix(" rows").replace(",", "")), it) for it in names if re.fullmatch("[0-9,]+ rows", it)]
-    most = max(number(row[name])[0] for row in rows for _, name in sizes)
-    up = [(it, f"{it}") for it in range(0, 100 * math.ceil(most / 100) + 1, 100)]
-    panel = Panel(82, 66, 430, 230, [(size, name.removesuffix(" rows")) for size, name in sizes], up, False)
-    drawn = legend(82, 24, [(row["order"], 130) for row in rows])
-    drawn += panel.axes("", "rows of each table", "nanoseconds for each row")
-    for row, style in zip(rows, STYLES):
-        drawn += panel.line([(size, *number(row[name])) for size, name in sizes], style)
-    write("preparing.svg", 560, 350, "Nanoseconds of preparation for each row, against the rows of each table", drawn)
+    _, rows = table_of(text, "Preparing", "preparing")
+    columns = [("preparing",), ("whole",), ("sqlite3",), ("PostgreSQL",), ("PostgreSQL with loading",)]
+    panels = [(order, [points_of(group, "rows", *it) for it in columns]) for order, group in groups_of(rows, "order").items()]
+    ways = [("anyk, preparing", 158), ("anyk, reading too", 166), ("sqlite3", 112), ("PostgreSQL", 138), ("PostgreSQL with loading", 190)]
+    sizes = sorted({number(it["rows"])[0] for it in rows})
+    across = [(size, f"{size:,.0f}") for size in sizes]
+    figures = [y for _, lines in panels for points in lines for _, y, _ in points]
+    up = decades(math.floor(math.log10(min(figures))), math.ceil(math.log10(max(figures))), plain)
+    draw_panels(panels, ways, "rows of each table (▲: given up)", "processor nanoseconds for each row", across, up, 76,
+                ("preparing.svg", "Processor nanoseconds for each row until the first answer, against the rows of each table"))
 
 
 def main():

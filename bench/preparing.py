@@ -1,17 +1,26 @@
 #!/usr/bin/env python3
-"""Measures how the time, the instructions and the allocations of preparation grow with the number of rows.
+"""Measures how the time, the instructions and the allocations of preparation grow with the number of rows, beside sqlite3 and PostgreSQL.
 
 usage: bench/preparing.py [ROWS ..]
 
-Each ROWS is the number of rows of each of two tables, 10000 100000 1000000 where none is given. The query joins them on one column
-and asks for one answer. There are three pairs of tables: `sorted`, whose rows stand in the order of the join column's ROWS / 4 values;
-`few`, with 1,000 values at random; and `random`, with ROWS / 4 values at random, where each step from a row to its group goes to
-another place of memory. Each figure is that of the whole command less that of one which reads the same tables and prepares nothing
-(a query that no row passes). The time is the processor's, the least of several runs; `factor` is the time a row against that of the
-smallest tables. Instructions are counted by `valgrind --tool=callgrind` where valgrind is there, and allocations by
-`valgrind --tool=memcheck` where besides a table has at most COUNTED rows. The program is what `./anyk` has built on its first use, or
-what ANYK names, and its C library takes large blocks in huge pages, as `./anyk` asks it to, where GLIBC_TUNABLES says nothing else.
+Each ROWS is the number of rows of each of two tables, 10000 100000 1000000 if none is given. The query joins them on one column and
+asks for one answer. There are three pairs of tables: `sorted`, whose rows are in the order of the join column's ROWS / 4 values; `few`,
+with 1,000 values at random; and `random`, with ROWS / 4 values at random, where each step from a row to its group goes to another place
+of memory. Preparation is the whole command less one that reads the same tables and prepares nothing (a query that no row passes). Times
+are the processor's, in nanoseconds for each row of both tables: the least of several runs, and one run for the databases. The columns:
+
+- preparing, and factor: preparation, and its time for a row against that of the smallest tables
+- whole: the whole command, with reading
+- sqlite3: the same query alone; the tables are in memory, with indexes on the join column, and analysed
+- PostgreSQL: the query alone, on tables that are loaded, indexed and analysed; and with COPY, the indexes and ANALYZE
+- instructions a row: counted by `valgrind --tool=callgrind`, if valgrind is installed
+- allocations: counted by `valgrind --tool=memcheck`, if besides a table has at most COUNTED rows
+
+bench/databases.py says how the databases are run. PostgreSQL is left out if it is not installed. A query is given up after 100 seconds.
+The program is the one that `./anyk` has built on its first use, or the one that ANYK names. Its C library takes large blocks in huge
+pages, as `./anyk` asks it to, unless GLIBC_TUNABLES says something else.
 """
+import contextlib
 import os
 import re
 import resource
@@ -20,11 +29,14 @@ import subprocess
 import sys
 import tempfile
 
+import databases
+
 TOP = os.path.dirname(os.path.dirname(os.path.abspath(__file__)))
 PROGRAM = os.environ.get("ANYK", os.path.join(TOP, "crates/anyk_cli/out/anyk_cli"))
 JOIN = "select R.a, S.c from R, S where R.b = S.b order by R.w + S.w limit 1"
 READ = "select R.a, S.c from R, S where R.b = S.b and R.a = '' and S.c = '' order by R.w + S.w limit 1"
 COUNTED = 100000
+INDEXES = [("R", "b"), ("S", "b")]
 
 # the value of the join column in a row, by a number that is drawn for the row
 KEYS = {
@@ -40,15 +52,23 @@ def draws(x):
         yield x
 
 
-def write_tables(folder, rows, order):
+def made_tables(rows, order):
     draw = draws(7)
-    for name, header in (("R", "a,b,w"), ("S", "b,c,w")):
+
+    def made(is_first):
+        for row in range(rows):
+            key = KEYS[order](rows, row, next(draw))
+            weight = next(draw) % 1000
+            yield (row % 1000, key, weight) if is_first else (key, row % 1000, weight)
+
+    return [("R", ("a", "b", "w"), list(made(True))), ("S", ("b", "c", "w"), list(made(False)))]
+
+
+def write_tables(folder, tables):
+    for name, columns, rows in tables:
         with open(os.path.join(folder, name + ".csv"), "w") as file:
-            file.write(header + "\n")
-            for row in range(rows):
-                key = KEYS[order](rows, row, next(draw))
-                weight = next(draw) % 1000
-                file.write("%d,%d,%d\n" % ((row % 1000, key, weight) if name == "R" else (key, row % 1000, weight)))
+            file.write(",".join(columns) + "\n")
+            file.writelines("%d,%d,%d\n" % row for row in rows)
 
 
 def words(folder, query):
@@ -81,7 +101,7 @@ def difference(tool, pattern, folder):
 
 
 def counts(folder, rows):
-    """The instructions a row and the allocations, where they are counted."""
+    """The instructions a row and the allocations, if they are counted."""
     if not shutil.which("valgrind"):
         return "-", "-"
     counted = "%.0f" % (difference("callgrind", r"Collected : (\d+)", folder) / (2 * rows))
@@ -90,19 +110,42 @@ def counts(folder, rows):
     return counted, "%d" % difference("memcheck", r"total heap usage: ([\d,]+) allocs", folder)
 
 
+def each(seconds, rows):
+    """Nanoseconds for each row of both tables, as the page has them. A bound that was passed stays one."""
+    return "%.0f" % (seconds / (2 * rows) * 1e9)
+
+
+def beside(folder, tables, rows, postgres):
+    """What sqlite3 takes for each row, and PostgreSQL without and with its loading."""
+    late = "over " + each(databases.PATIENCE, rows)
+    found = databases.by_sqlite(tables, INDEXES, JOIN)
+    yield each(found[0], rows) if found else late
+    if not postgres:
+        yield from ("-", "-")
+        return
+    loading = postgres.load(folder, tables, INDEXES)
+    found = postgres.query(JOIN)
+    yield each(found[0], rows) if found else late
+    yield each(found[0] + loading, rows) if found else late
+
+
 def main():
     os.environ.setdefault("GLIBC_TUNABLES", "glibc.malloc.hugetlb=1")
     sizes = [int(it) for it in sys.argv[1:]] or [10000, 100000, 1000000]
-    print("%-8s %10s %12s %12s %10s %8s %20s %14s" % ("order", "rows", "read, s", "whole, s", "ns a row", "factor", "instructions a row", "allocations"))
-    for order in KEYS:
-        first = None
-        for rows in sizes:
-            with tempfile.TemporaryDirectory() as folder:
-                write_tables(folder, rows, order)
-                read, whole = seconds(folder, max(11, min(101, 2000000 // rows)))
-                each = (whole - read) / (2 * rows) * 1e9
-                first = first or each
-                print("%-8s %10d %12.3f %12.3f %10.0f %8.2f %20s %14s" % (order, rows, read, whole, each, each / first, *counts(folder, rows)), flush=True)
+    names = ("order", "rows", "preparing", "whole", "sqlite3", "PostgreSQL", "PostgreSQL with loading", "factor", "instructions a row", "allocations")
+    print("| %s |\n|%s" % (" | ".join(names), "---|" * len(names)))
+    with databases.Postgres() if databases.is_installed() else contextlib.nullcontext() as postgres:
+        for order in KEYS:
+            first = None
+            for rows in sizes:
+                with tempfile.TemporaryDirectory() as folder:
+                    tables = made_tables(rows, order)
+                    write_tables(folder, tables)
+                    read, whole = seconds(folder, max(11, min(101, 2000000 // rows)))
+                    first = first or (whole - read) / rows
+                    row = (order, f"{rows:,}", each(whole - read, rows), each(whole, rows), *beside(folder, tables, rows, postgres),
+                           "%.1f" % ((whole - read) / rows / first), *counts(folder, rows))
+                    print("| %s |" % " | ".join(row), flush=True)
 
 
 if __name__ == "__main__":

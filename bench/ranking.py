@@ -1,30 +1,37 @@
 #!/usr/bin/env python3
-"""Times ranked answers of the program beside sqlite3's ORDER BY .. LIMIT on the same tables.
+"""Times ranked answers of the program beside ORDER BY .. LIMIT of sqlite3 and of PostgreSQL on the same tables.
 
 usage: bench/ranking.py [ROWS]
 
-ROWS is the number of rows of each table, 10000 where it is not given. Three queries: a path of 4 tables, a star of 4 and a tree
-of 7. Each join column has ROWS / 10 values, so that a row meets ten of the next table. For each query the first answer, the first
-1,000 and the first 100,000 are asked for, with both engines and with sqlite3 (tables in memory, indexes on the join columns, both
-made before the time starts; the answers' sums are compared). Seconds are those of the whole command; `read` is a run of the program
-with `limit 0`, so that what ranking takes is what stands above it. `writing` is the processor time that the system took in the run
-with anyK-part, above that of `read`: each answer is written by one call as soon as it is known. The program is what `./anyk` has built on its first use, or
-what ANYK names, and its C library takes large blocks in huge pages, as `./anyk` asks it to, where GLIBC_TUNABLES says nothing else.
-A sqlite3 run that takes longer than 100 seconds is given up.
+ROWS is the number of rows of each table, 10000 if it is not given. There are three queries: a path of 4 tables, a star of 4 and a tree
+of 7. Each join column has ROWS / 10 values, so that a row meets ten of the next table. For each query the first answer, the first 1,000
+and the first 100,000 are asked for, and the sums of the answers are compared. The rows of the table in RESULTS.md are printed.
+
+All figures are seconds of the processor, so that other processes count little:
+
+- reading: a run of the program with `limit 0`; what ranking takes is what the other runs take above it
+- part, rec: the whole run, with each engine: reading the files, ranking and writing to a pipe; the least of three
+- writing: what the system took in the run with part, above that in `reading`: each answer is written as soon as it is known
+- sqlite3: the query alone; the tables are in memory, with indexes on the join columns, and analysed
+- PostgreSQL: the query alone, on tables that are loaded, indexed and analysed
+- loading: what PostgreSQL took for COPY from the same files, for the indexes and for ANALYZE
+
+bench/databases.py says how the databases are run. PostgreSQL is left out if it is not installed. A query is given up after 100 seconds.
+The program is the one that `./anyk` has built on its first use, or the one that ANYK names. Its C library takes large blocks in huge
+pages, as `./anyk` asks it to, unless GLIBC_TUNABLES says something else.
 """
-import multiprocessing
+import contextlib
 import os
 import resource
-import sqlite3
 import subprocess
 import sys
 import tempfile
-import time
+
+import databases
 
 TOP = os.path.dirname(os.path.dirname(os.path.abspath(__file__)))
 PROGRAM = os.environ.get("ANYK", os.path.join(TOP, "crates/anyk_cli/out/anyk_cli"))
 ROWS = int(sys.argv[1]) if len(sys.argv) > 1 else 10000
-PATIENCE = 100
 
 # each table with its columns, and the equalities
 SHAPES = {
@@ -47,83 +54,73 @@ def draws(x):
 
 
 def select(tables, equalities, limit):
-    names = [name for name, _ in tables]
+    names = [name for name, _, _ in tables]
     return "select %s from %s where %s order by %s limit %d" % (
         ", ".join("%s.w" % it for it in names), ", ".join(names), " and ".join(equalities), " + ".join("%s.w" % it for it in names), limit)
 
 
 def run(folder, tables, query, engine):
+    """The least seconds of three runs, those of the system in them, and the sums of the answers."""
     with open(os.path.join(folder, "query.sql"), "w") as file:
         file.write(query + "\n")
-    words = [PROGRAM, "run", "--engine", engine, "query.sql"] + ["%s=%s.csv" % (it, it) for it, _ in tables]
-    best, system, sums = None, None, []
+    words = [PROGRAM, "run", "--engine", engine, "query.sql"] + ["%s=%s.csv" % (it, it) for it, _, _ in tables]
+    best, system, done = None, None, None
     for _ in range(3):
-        before = resource.getrusage(resource.RUSAGE_CHILDREN).ru_stime
-        start = time.perf_counter()
+        before = resource.getrusage(resource.RUSAGE_CHILDREN)
         done = subprocess.run(words, cwd=folder, capture_output=True, check=True)
-        took = time.perf_counter() - start
-        calls = resource.getrusage(resource.RUSAGE_CHILDREN).ru_stime - before
+        after = resource.getrusage(resource.RUSAGE_CHILDREN)
+        calls = after.ru_stime - before.ru_stime
+        took = after.ru_utime - before.ru_utime + calls
         best = took if best is None else min(best, took)
         system = calls if system is None else min(system, calls)
-    for line in done.stdout.decode().splitlines()[1:]:
-        sums.append(sum(int(it) for it in line.split(",")))
-    return best, system, sums
+    return best, system, [sum(int(it) for it in line.split(",")) for line in done.stdout.decode().splitlines()[1:]]
 
 
-def in_sqlite(contents, tables, equalities, query, answer):
-    base = sqlite3.connect(":memory:")
-    for (name, columns), rows in zip(tables, contents):
-        base.execute("create table %s (%s, w integer)" % (name, ", ".join("%s integer" % it for it in columns)))
-        base.executemany("insert into %s values (%s)" % (name, ", ".join("?" * (len(columns) + 1))), rows)
-        for column in columns:
-            if any("%s.%s" % (name, column) in it for it in equalities):
-                base.execute("create index %s_%s on %s (%s)" % (name, column, name, column))
-    base.execute("analyze")
-    start = time.perf_counter()
-    sums = [sum(it) for it in base.execute(query)]
-    answer.put((time.perf_counter() - start, sums))
+class Slow:
+    """A database that is asked one query after another, until it gives one up."""
+
+    def __init__(self, name, ask):
+        self.name, self.ask, self.gave_up = name, ask, ask is None
+
+    def seconds(self, query, sums):
+        found = None if self.gave_up else self.ask(query)
+        if found is None:
+            self.gave_up = True
+            return f"over {databases.PATIENCE}" if self.ask else "-"
+        assert [sum(it) for it in found[1]] == sums, "%s answers otherwise" % self.name
+        return "%.2f" % found[0]
 
 
-def by_sqlite(*work):
-    answer = multiprocessing.Queue()
-    process = multiprocessing.Process(target=in_sqlite, args=(*work, answer))
-    process.start()
-    try:
-        return answer.get(timeout=PATIENCE)
-    except Exception:
-        return None
-    finally:
-        process.terminate()
-        process.join()
+def measure(shape, tables, equalities, postgres):
+    indexes = [(name, column) for name, columns, _ in tables for column in columns if any("%s.%s" % (name, column) in it for it in equalities)]
+    with tempfile.TemporaryDirectory() as folder:
+        for name, columns, rows in tables:
+            with open(os.path.join(folder, name + ".csv"), "w") as file:
+                file.write(",".join(columns) + "\n")
+                file.writelines(",".join(map(str, row)) + "\n" for row in rows)
+        loading = "%.2f" % postgres.load(folder, tables, indexes) if postgres else "-"
+        others = [Slow("sqlite3", lambda query: databases.by_sqlite(tables, indexes, query)), Slow("PostgreSQL", postgres and postgres.query)]
+        read, opening, _ = run(folder, tables, select(tables, equalities, 0), "part")
+        for limit in (1, 1000, 100000):
+            query = select(tables, equalities, limit)
+            part, calls, sums = run(folder, tables, query, "part")
+            rec, _, same = run(folder, tables, query, "rec")
+            assert sums == same and len(sums) == limit and sums == sorted(sums), shape
+            told = [it.seconds(query, sums) for it in others]
+            row = (shape, f"{limit:,}", "%.2f" % read, "%.2f" % part, "%.2f" % max(0, calls - opening), "%.2f" % rec, *told, loading)
+            print("| %s |" % " | ".join(row), flush=True)
 
 
 def main():
     os.environ.setdefault("GLIBC_TUNABLES", "glibc.malloc.hugetlb=1")
-    print("%d rows a table; seconds\n" % ROWS)
-    print("%-10s %8s %8s %8s %8s %8s %10s %10s" % ("query", "answers", "read", "part", "writing", "rec", "sqlite3", "rec/part"))
-    for shape, (tables, equalities) in SHAPES.items():
-        numbers = draws(20201)
-        contents = [table(columns, lambda: next(numbers)) for _, columns in tables]
-        with tempfile.TemporaryDirectory() as folder:
-            for (name, columns), rows in zip(tables, contents):
-                with open(os.path.join(folder, name + ".csv"), "w") as file:
-                    file.write(",".join(columns) + ",w\n")
-                    file.writelines(",".join(map(str, row)) + "\n" for row in rows)
-            read, opening, _ = run(folder, tables, select(tables, equalities, 0), "part")
-            slow = False
-            for limit in (1, 1000, 100000):
-                query = select(tables, equalities, limit)
-                part, calls, sums = run(folder, tables, query, "part")
-                rec, _, others = run(folder, tables, query, "rec")
-                assert sums == others and len(sums) == limit and sums == sorted(sums), shape
-                other = None if slow else by_sqlite(contents, tables, equalities, query)
-                if other is None:
-                    slow, told = True, "over %d" % PATIENCE
-                else:
-                    assert other[1] == sums, "%s: sqlite3 answers otherwise" % shape
-                    told = "%.2f" % other[0]
-                row = (shape, limit, read, part, max(0, calls - opening), rec, told, rec / part)
-                print("%-10s %8d %8.2f %8.2f %8.2f %8.2f %10s %10.2f" % row, flush=True)
+    print("%s rows a table\n" % f"{ROWS:,}")
+    names = ("query", "answers asked for", "reading", "`--engine part`", "of it, writing", "`--engine rec`", "sqlite3", "PostgreSQL", "its loading")
+    print("| %s |\n|%s" % (" | ".join(names), "---|" * len(names)))
+    with databases.Postgres() if databases.is_installed() else contextlib.nullcontext() as postgres:
+        for shape, (tables, equalities) in SHAPES.items():
+            numbers = draws(20201)
+            contents = [(name, (*columns, "w"), table(columns, lambda: next(numbers))) for name, columns in tables]
+            measure(shape, contents, equalities, postgres)
 
 
 if __name__ == "__main__":

@@ -3,10 +3,10 @@
 
 usage: tests/differential.py [PROGRAM] [COUNT]
 
-PROGRAM is ./anyk where it is not given, and COUNT is 300. Each case has a seed of its own, from 1 on, so that a case that
+PROGRAM is ./anyk if it is not given, and COUNT is 300. Each case has a seed of its own, from 1 on, so that a case that
 fails is the same in the next run. Tables and queries are small and their values few, so that rows join and sums tie. The
 evaluation here goes through all combinations of rows, keeps those for which every equality holds on bytes, sorts by the sums
-(negated where a key descends) and then by the row numbers, and cuts at the limit. A query is cyclic where ears are removed,
+(negated if a key descends) and then by the row numbers, and cuts at the limit. A query is cyclic if ears are removed,
 the greatest first, until none is left, and more than one item is left; it is refused with these items. `plan` is called on the
 same input, and its report is made from the same removal. So is `session`, with a script of its own. `run` and `session` are called
 with each engine. Output, error output and status are compared to the byte. After that come inputs with their output, and inputs
@@ -39,7 +39,7 @@ def quoted(field):
 
 
 def output_record(fields):
-    """A record as it is expected: quotes only where a field needs them, or where it is the empty only one."""
+    """A record as it is expected: quotes only if a field needs them, or if it is the empty only one."""
     if fields == [""]:
         return '""\n'
     return ",".join(quoted(it) if needs_quotes(it) else it for it in fields) + "\n"
@@ -90,8 +90,8 @@ def covers_of(variables, live, e):
 
 
 def removal_of(variables, items):
-    """The items that are left where ears are removed, the greatest first, and the ears in the order of their removal, each with the
-    least item that covers it. One item is left where the query is not cyclic."""
+    """The items that are left after ears are removed, the greatest first, and the ears in the order of their removal, each with the
+    least item that covers it. One item is left if the query is not cyclic."""
     live, removed = set(range(items)), []
     while len(live) > 1:
         ears = [it for it in live if covers_of(variables, live, it)]
@@ -106,7 +106,7 @@ def removal_of(variables, items):
 # ---- queries
 
 def canonical_name(name):
-    """The name bare where it can be, else between quotes."""
+    """The name bare if it can be, else between quotes."""
     is_bare = name != "" and name.isascii() and (name[0].isalpha() or name[0] == "_") and all(it.isalnum() or it == "_" for it in name)
     return name if is_bare and name.lower() not in KEYWORDS else f'"{name}"'
 
@@ -186,7 +186,7 @@ class Case:
         return left, self.text_column(other)
 
     def two_columns(self, item):
-        """Two columns of an item, of texts where it has two of them."""
+        """Two columns of an item, of texts if it has two of them."""
         is_weight = self.tables[self.items[item][0]][2]
         texts = [it for it, weighs in enumerate(is_weight) if not weighs]
         return [(item, it) for it in self.rng.sample(texts if len(texts) > 1 else range(len(is_weight)), 2)]
@@ -470,7 +470,7 @@ def over(query, status, line, words=None, **files):
 
 
 def edges(query, status, line, *options, **files):
-    """A query over E, or other files too: its refusal, or its output where the status is 0."""
+    """A query over E, or other files too: its refusal, or its output if the status is 0."""
     made = {"q.sql": query, "E.csv": E, **{f"{name}.csv": text for name, text in files.items()}}
     return made, ["run", *options, "q.sql", "E=E.csv", *[f"{it}={it}.csv" for it in files if it != "E"]], status, line
 
@@ -549,7 +549,7 @@ REFUSALS = [
     # (a constant on the class of another column changes nothing)
     edges(f"select A.a from E A, E B, E C where {TRIANGLE} and A.w = '1'", 6, cyclic(1, 2, 3)),
     over("select x.a from R x, R y, R z where x.a = y.b and y.a = z.b and z.a = x.b", 6, cyclic(1, 2, 3), ["plan", "q.sql", "R=R.csv"]),
-    # (tails of a triangle are no part of the core: behind it, and before and in it)
+    # (tails of a triangle are no part of the core: after it, and before and in it)
     edges(f"select A.a from E A, E B, E C, E D, E F where {TRIANGLE} and D.a = B.b and D.b = F.a", 6, cyclic(1, 2, 3)),
     edges(f"select A.a from E D, E A, E B, E F, E C where {TRIANGLE} and D.a = B.b and D.b = F.a", 6, cyclic(2, 3, 5)),
     edges(f"select i1.a from E i1, E i2, E i3, E i4, E i5 where {FIVE}", 6, cyclic(1, 2, 3, 4, 5)),

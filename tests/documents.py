@@ -4,7 +4,7 @@
 usage: tests/documents.py [PROGRAM]
 
 PROGRAM is ./anyk if it is not given. It has to be built, and to be a launcher. The pages are those of tests/using.py, which runs the commands that
-stand in blocks of ```console. Looked at here are those in backquotes and in other blocks, if they begin with `./anyk`, with `rt`, or
+are in blocks of ```console. Checked here are those in backquotes and in other blocks, if they begin with `./anyk`, with `rt`, or
 with the name of a script of the repository:
 
 - A call of `./anyk` is run, and has to end with status 0; `./anyk help` and the like print a page of help. What has the form of a
@@ -30,8 +30,8 @@ LONG = {
     "tools/gate_times.py": "it runs the gate from nothing",
     "tools/edits.py": "it proves crates with wrong bodies, for minutes each",
     "bench/reading.sh": "it measures reading of 1,000,000 rows, and needs rustc",
-    "bench/preparing.py": "it measures for minutes, and needs valgrind",
-    "bench/ranking.py": "it measures for minutes, sqlite3 too",
+    "bench/preparing.py": "it measures for minutes, databases too",
+    "bench/ranking.py": "it measures for minutes, databases too",
     "bench/memory.py": "it measures for minutes",
     "examples/airports/make.py": "it needs a file of a package that is not in the repository",
     "examples/timezones/make.py": "what it makes is that of one release of the time zone database",

@@ -3,12 +3,12 @@
 
 usage: tests/failing_calls.py [PROGRAM]
 
-PROGRAM is ./anyk where it is not given. The inputs are those of tests/refused_memory.py. A file that is not there gives status 9, and
+PROGRAM is ./anyk if it is not given. The inputs are those of tests/refused_memory.py. A file that is not there gives status 9, and
 another failure to open or read one gives 10, each with the line that names the file and with no output. A failed write gives 11 with
 its line, and the output is the records before it. A failure to write the error output changes no status. What is interrupted is done
 again, within a bound, and what moves one byte goes on: the run is the whole one. A read that gives nothing is the end of a file, so
-there the status is one of the table, and where it refuses the input nothing is written. A small C library is preloaded into the
-program, and where none can be made nothing is tried.
+there the status is one of the table, and if it refuses the input nothing is written. A small C library is preloaded into the
+program, and if none can be made nothing is tried.
 """
 import errno
 import os

@@ -3,7 +3,7 @@
    FAULTS_KIND   what fails: memory, open, read, output (writes to 1) or errors (writes to 2)
    FAULTS_NTH    the first call that fails, from 1
    FAULTS_COUNT  how many fail from there on; 0 for all
-   FAULTS_HOW    the number of the error; or "short", where one byte is moved, or "none", where none is
+   FAULTS_HOW    the number of the error; or "short", if one byte is moved, or "none", if none is
    FAULTS_SEEN   a file that is made when the first one fails
 
    Calls of the C library and of the loader are not counted: their place of return is not in the program. */

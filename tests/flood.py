@@ -3,9 +3,9 @@
 
 usage: tests/flood.py [PROGRAM]
 
-PROGRAM is ./anyk where it is not given. tests/flood.c finds the fields: short texts, long texts and pairs of numbers, 4,096 of each,
+PROGRAM is ./anyk if it is not given. tests/flood.c finds the fields: short texts, long texts and pairs of numbers, 4,096 of each,
 whose hashes are the same in all bits that count. It does so for two hashes whose keys anyone may know: the multiplying hash of the
-library with its fixed seed, and SipHash-1-3 with the keys 0 and 0. Each of them stands 64 times in a table, so that a program that
+library with its fixed seed, and SipHash-1-3 with the keys 0 and 0. Each of them is 64 times in a table, so that a program that
 hashes with known keys would need ten times the time or more. Keys drawn for each run leave nothing to find.
 
 A file with colliding fields and one with as many random fields of the same length are read in turn, each three times, and the
@@ -64,7 +64,7 @@ def put(folder, keys, fields):
 
 
 def seconds(program, folder, words):
-    """The processor seconds of a run that ends with status 0, or None where it is stopped."""
+    """The processor seconds of a run that ends with status 0, or None if it is stopped."""
     before = resource.getrusage(resource.RUSAGE_CHILDREN)
     ran = subprocess.Popen([program, *words], cwd=folder, stdin=subprocess.DEVNULL, stdout=subprocess.DEVNULL)
     try:
@@ -80,7 +80,7 @@ def seconds(program, folder, words):
 
 
 def fastest(program, calls):
-    """The processor seconds of the fastest of three runs of each of two calls, or None where one is stopped."""
+    """The processor seconds of the fastest of three runs of each of two calls, or None if one is stopped."""
     found = [[], []]
     for _ in range(3):
         for one, call in zip(found, calls):

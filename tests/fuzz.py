@@ -3,8 +3,8 @@
 
 usage: tests/fuzz.py [PROGRAM] [SECONDS] [SEED]
 
-PROGRAM is ./anyk where it is not given, SECONDS is 60 and SEED is 1. Inputs are those of tests/differential.py, each from a seed of its
-own that is told where a test fails. Half of the time goes to each of two parts.
+PROGRAM is ./anyk if it is not given, SECONDS is 60 and SEED is 1. Inputs are those of tests/differential.py, each from a seed of its
+own that is printed if a test fails. Half of the time goes to each of two parts.
 
 Changed bytes: a few bytes of the query, of the tables or of the script are changed, left out, put in or doubled. Each status is one of
 the table. Where the status is not 0, there is no output and one line on the error output. Both engines say the same, and `plan` refuses
@@ -354,7 +354,7 @@ class Large(Case):
 
 
 def sqlite_output(case):
-    """The output by sqlite3, or None where it takes too long."""
+    """The output by sqlite3, or None if it takes too long."""
     steps = [0]
 
     def is_enough():

@@ -3,7 +3,7 @@
 
 usage: tests/generated.py [PROGRAM] [ROWS]
 
-PROGRAM is ./anyk where it is not given, and ROWS is 20000. Four tables in a row are made by a linear congruential generator
+PROGRAM is ./anyk if it is not given, and ROWS is 20000. Four tables in a row are made by a linear congruential generator
 (1103515245 x + 12345 modulo 2^31), joined on their shared columns and ranked by the sum of their weights. The first 100 sums are
 found here by keeping, for each value of a join column, the 100 least sums of what follows. With both engines `run` and `session`
 are to give these over files, in this order, and `load`, which makes the tables itself, the first and the last of them. A small input
@@ -60,7 +60,7 @@ def printed(program, folder, words):
 
 
 def calls(engine, number, rows):
-    """The words of each call, and the column of its sums, or none where it prints a summary."""
+    """The arguments of each call, and the column of its sums, or none if it prints a summary."""
     files = ["q.sql"] + ["P%d=P%d.csv" % (n, n) for n in range(1, 5)]
     yield ["run", "--engine", engine, "--ranks"] + files, 2
     yield ["session", "--engine", engine, "--ranks", "--script", "s.txt"] + files, 3

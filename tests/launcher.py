@@ -3,7 +3,7 @@
 
 usage: tests/launcher.py [TEST ..]
 
-All tests are run where none is named; other words are passed over. Each test has a small checkout of its own, with the launcher,
+All tests are run if none is named; other arguments are ignored. Each test has a small checkout of its own, with the launcher,
 tools/ and man/ of this one, a few crates, and on the PATH a script `rt` that writes what the real one writes. What only some
 machines allow, as a file system that is mounted noexec, is passed over elsewhere. Where the real program is built, or the variable
 ANYK names it, the hints are also tried with it.
@@ -640,7 +640,7 @@ def test_progress(house):
     same((status, output), (0, ran(1, house.top, ["x"])))
     has(error, "the progress is in", "\ranyk: 0 of 3 crates proved, under a minute so far", "\ranyk: 2 of 3 crates proved")
     has(error, "anyk: the program is proved and built, in under a minute\n")
-    # The time that is left is told where a table says what crates take.
+    # The time that is left is shown if a table says what crates take.
     write(f"{house.top}/tools/gate_times.tsv", "crate\tproof seconds\nlow\t600\nmiddle\t1200.5\nanyk_cli\t30\n")
     house.version(2)
     said = progress()[2]
@@ -662,7 +662,7 @@ def test_estimate(house):
     same(build.crates_below("other", CRATES), {})
     times = build.times_of("crate\tseconds\nlow\t10\n\nmiddle\t20\textra\nanyk_cli\tnone\nanyk_cli\t5.5\nshort\n")
     same(times, {"low": 10.0, "middle": 20.0, "anyk_cli": 5.5})
-    # One after another: each crate stands on the one before.
+    # One after another: each crate uses the one before.
     same(build.seconds_left(crates, set(), 4, 7, times), 35.5)
     same(build.seconds_left(crates, {"low"}, 4, 20, times), 51)
     same(build.seconds_left(crates, {"low", "middle"}, 4, 1, times), 5.5 * 0.2)
@@ -724,7 +724,7 @@ def at(text, column):
     return f"\n      {text}\n{' ' * (6 + column)}^\n"
 
 
-# The words of a call, what the program says of it, its status, and what the hint has to hold. The real program says the same of
+# The arguments of a call, what the program says of it, its status, and what the hint has to hold. The real program says the same of
 # those that need no large file.
 REFUSALS = [
     (["run", "stay.sql"], 2, "usage", ["TABLE=FILE is missing", "usage: anyk run [--engine"]),
@@ -898,7 +898,7 @@ DOT = """graph plan {
 
 
 def pictured(house, report, *words, query=QUERY, **how):
-    """A call of picture where `plan` reports this."""
+    """A call of picture when `plan` reports this."""
     write(f"{house.room}/report", report)
     write(f"{house.room}/files/airports.sql", query)
     return house.call("picture", *words, **{"cwd": f"{house.room}/files", "more": {"REPORT": f"{house.room}/report"}, **how})
@@ -909,7 +909,7 @@ def test_picture(house):
     for words in (["airports.sql", "a=b"], ["airports.sql", "a=b", "c d=e"]):
         same(pictured(house, REPORT, *words), (0, TREE, ""))
         same(read(f"{house.room}/words"), "".join(f"<{it}>" for it in ["plan", *words]))
-    # --dot is left out once, and not where it is no option.
+    # --dot is left out once, and not if it is not an option.
     for words, rest in ((["--dot", "airports.sql", "a=b"], ["airports.sql", "a=b"]), (["airports.sql", "--dot"], ["airports.sql"]),
                         (["--dot", "airports.sql", "--dot"], ["airports.sql", "--dot"])):
         same(pictured(house, REPORT, *words), (0, DOT, ""))
@@ -1031,7 +1031,7 @@ def test_manual(house):
     if shown.returncode and "minimized" in shown.stdout + shown.stderr:
         raise Skipped("man shows nothing here")
     same(shown.returncode, 0)
-    has(re.sub(r".\x08", "", shown.stdout), "give the answers of a join of csv tables", "EXIT STATUS", "--script FILE")
+    has(re.sub(r".\x08", "", shown.stdout), "print the answers of a join of csv tables", "EXIT STATUS", "--script FILE")
     warned = subprocess.run(["man", "--warnings", "-l", f"{house.room}/to/share/man/man1/anyk.1"], **how)
     same(warned.stderr, "")
 
@@ -1095,7 +1095,7 @@ def tried(name):
 def main():
     tests = [it for it in globals() if it.startswith("test_")]
     tests = [it for it in sys.argv[1:] if it in tests] or tests
-    # What is started heeds these signals, also where this script was started in the background, which ignores them.
+    # What is started heeds these signals, even if this script was started in the background, which ignores them.
     signal.signal(signal.SIGINT, signal.default_int_handler)
     signal.signal(signal.SIGHUP, signal.SIG_DFL)
     # Most of them wait for others.

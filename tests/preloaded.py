@@ -1,7 +1,7 @@
 """Runs the program with calls that fail, by the small C library tests/faults.c, which is preloaded into it.
 
 Nothing to run: tests/refused_memory.py and tests/failing_calls.py import it. The inputs of both are here too: each with its
-files, its words, and what it gives where nothing fails.
+files, its words, and what it gives if nothing fails.
 """
 import os
 import shutil
@@ -26,7 +26,7 @@ TOLD = "cursor,a,c\na,2,q\na,3,q\nb,3,p\na,3,p\na,1,q\nb,2,q\nb,3,q\nb,3,p\na,1,
 
 
 class Input:
-    """Files and words, with the output where nothing fails, and the status and error output."""
+    """Files and words, with the output if nothing fails, and the status and error output."""
 
     def __init__(self, name, files, words, output, status=0, error=""):
         self.name, self.files, self.words = name, files, words

@@ -17,7 +17,7 @@ TOP = os.path.dirname(os.path.dirname(os.path.abspath(__file__)))
 TOOL = f"{TOP}/tools/weights.py"
 GREATEST = 2**127 - 1
 
-# a field, the scale, and what is written; None where the field is no number
+# a field, the scale, and what is written; None if the field is no number
 FIELDS = [
     ("", 1, ""), ("", 100, ""), ("7", 1, "7"), ("007", 1, "007"), ("+2", 1, "+2"), ("-0", 1, "-0"), ("007", 10, "70"),
     ("12.5", 100, "1250"), ("12.50", 10, "125"), (".5", 2, "1"), ("5.", 1, "5"), ("3.0", 1, "3"), ("-.25", 4, "-1"),
@@ -42,7 +42,7 @@ FAULTS = [
 
 TABLE = 'id,"unit, price",note\r\n1,12.5,"a ""b"""\r\n\r\n2,NA,"two\nlines"\r3,,\xe5\n4,"1,200",\x85\n'
 
-# words after the file's name, what stands in the file, status, output, and a piece of the last line on the error output
+# words after the file's name, what the file holds, status, output, and a piece of the last line on the error output
 CALLS = [
     (["unit, price", "--scale", "10", "--drop"], TABLE, 0, 'id,"unit, price",note\n1,125,"a ""b"""\n3,,\xe5\n4,12000,\x85\n', "4 read, 2 changed, 1 dropped, 0 filled"),
     (["unit, price", "--scale=10", "--fill", "-1"], TABLE, 0, 'id,"unit, price",note\n1,125,"a ""b"""\n2,-1,"two\nlines"\n3,,\xe5\n4,12000,\x85\n', "4 read, 2 changed, 0 dropped, 1 filled"),

@@ -53,7 +53,7 @@ DONE = re.compile(r"(?:== (\w+)|rt: (\w+) (?:proved|is kept:.*))$")
 KILLED = re.compile(r"^\S+: failed \(-9\)$", re.M)
 # The memory that the proof of one crate may take, in bytes.
 MEMORY = 2_200_000_000
-# How long the progress on a terminal stands before it is written anew, in seconds.
+# How long the progress on a terminal is shown before it is written anew, in seconds.
 PAUSE = 1
 # The memory that a control group may take and takes, by the two versions of their files.
 GROUPS = (("/sys/fs/cgroup/memory.max", "/sys/fs/cgroup/memory.current"),
@@ -65,7 +65,7 @@ def say(text):
 
 
 def text_of(file):
-    """The text of a file, or an empty one where it cannot be read."""
+    """The text of a file, or an empty one if it cannot be read."""
     try:
         with open(file, encoding="utf-8", errors="surrogateescape") as it:
             return it.read()
@@ -87,7 +87,7 @@ def crates_below(name, text):
             found[crate] = None
             for it in named[crate]:
                 visit(it)
-            # Those below stand before it.
+            # Those below come before it.
             del found[crate]
             found[crate] = [it for it in named[crate] if it in named]
 
@@ -138,7 +138,7 @@ def mark(crates, began):
 
 
 def is_same(crates):
-    """Whether the program is the one that was built from the sources as they are, and if so marks it as that, where it can."""
+    """Whether the program is the one that was built from the sources as they are, and if so marks it as that, if it can."""
     if os.path.exists(UNFINISHED):
         return False
     began = time.time_ns()
@@ -154,7 +154,7 @@ def is_same(crates):
 
 
 def free_memory():
-    """The bytes of memory that are free, or None where the system does not say."""
+    """The bytes of memory that are free, or None if the system does not say."""
     free = [1024 * int(it) for it in re.findall(r"MemAvailable:\s+(\d+)", text_of("/proc/meminfo"))]
     for limit, taken in GROUPS:
         limit, taken = text_of(limit).strip(), text_of(taken).strip()
@@ -193,12 +193,12 @@ def work_left(crates, done, jobs, times):
 
 
 def seconds_left(crates, done, jobs, passed, times):
-    """An estimate of the seconds that are left, or None: by the table, and by how fast this machine got on by it so far, or, where
+    """An estimate of the seconds that are left, or None: by the table, and by how fast this machine got on by it so far, or, if
     there is no table, by the crates that are done."""
     if not times.keys() & crates.keys():
         return passed * (len(crates) - len(done)) / len(done) if len(done) >= 3 else None
     whole, left = work_left(crates, set(), jobs, times), work_left(crates, done, jobs, times)
-    # A small part tells little, and crates that were proved before take no time.
+    # A small part says little, and crates that were proved before take no time.
     pace = passed / (whole - left) if whole - left > whole / 10 else 1
     return left * min(max(pace, 0.2), 10)
 
@@ -359,7 +359,7 @@ def build(crates, lock):
 
 
 def locked():
-    """Waits until no other call builds, and returns what keeps others out while this process or `rt` holds it, or None where the
+    """Waits until no other call builds, and returns what keeps others out while this process or `rt` holds it, or None if the
     file system has no locks."""
     held = os.open(f"{TOP}/crates", os.O_RDONLY)
     try:
@@ -418,7 +418,7 @@ def main():
 
 
 def open_error():
-    """Puts another error output in place of one that is closed, or where the shell has left a file of its own, only to be read."""
+    """Puts another error output in place of one that is closed, or if the shell has left a file of its own, only to be read."""
     try:
         is_open = fcntl.fcntl(2, fcntl.F_GETFL) & os.O_ACCMODE != os.O_RDONLY
     except OSError:

@@ -35,7 +35,7 @@ call() {
     # random. Another value of the variable stays, also an empty one.
     export GLIBC_TUNABLES=${GLIBC_TUNABLES-glibc.malloc.hugetlb=1}
     if [ ! -x "$1" ]; then
-        printf 'anyk: %s is built and stays, but it may not be run: %s\n' "$1" \
+        printf 'anyk: %s is built, but it may not be run: %s\n' "$1" \
             "its file system is mounted noexec, or its permissions forbid it" >&2
         exit 1
     fi

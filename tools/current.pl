@@ -1,4 +1,4 @@
-# Ends with status 0 where each file and folder that PROGRAM.files names is there and was last changed in a second before
+# Ends with status 0 if each file and folder that PROGRAM.files names is there and was last changed in a second before
 # that of the program's time: perl tools/current.pl TOP PROGRAM. In perl, since nothing else asks for 2,000 times so soon.
 use strict;
 

@@ -4,7 +4,7 @@
     tools/edits.py [CRATE ..]
 
 The wrong bodies that the gate tries are in crates/NAME/must-fail. The first one of a crate costs the gate one more proof of the
-crate, so the gate has only those that tell most. The others are in tests/wrong_bodies/NAME. This script copies the repository to a
+crate, so the gate has only those that say most. The others are in tests/wrong_bodies/NAME. This script copies the repository to a
 temporary folder, puts these edits beside the gate's own, and runs `rt must-fail` over the crates named, or over all that have some.
 It ends with the status of `rt must-fail`: 0 if the prover refused each of them.
 

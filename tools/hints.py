@@ -51,7 +51,7 @@ def shown(text):
 
 
 def plain(part):
-    """A part of a line with one sign for each place, so that a caret below it stands right."""
+    """A part of a line with one sign for each place, so that a caret below it is at the right place."""
     return "".join(it if it.isprintable() else " " if it == "\t" else "?" for it in part.decode(errors="replace"))
 
 
@@ -81,7 +81,7 @@ def is_file(name):
 
 
 def bytes_of(name, most=LARGEST):
-    """The bytes of a file, or None where it cannot be read a second time."""
+    """The bytes of a file, or None if it cannot be read a second time."""
     if not is_file(name):
         return None
     with open(name, "rb") as file:
@@ -246,7 +246,7 @@ def is_name(word):
 
 
 def meant(words, place):
-    """What may be meant by a token at which a query cannot go on, as far as the tokens around it tell."""
+    """What may be meant by a token at which a query cannot go on, as far as the tokens around it show."""
     token = words[place].lower().decode(errors="replace")
     before, after = (words[place - 1] if place else b""), (words[place + 1 : place + 2] or [b""])[0]
     if token == "." and before.isdigit():
@@ -357,7 +357,7 @@ def on_no_weight(call, query, number, row, column):
 
 
 def why_no_weight(field):
-    """What is wrong with a field that is no weight, where that is a usual thing."""
+    """What is wrong with a field that is not a weight, if it is a usual mistake."""
     if re.fullmatch(r"[+-]?[0-9]+", field):
         return ", which is not within 128 bits or has more than 39 digits"
     if re.fullmatch(r"[+-]?[0-9]*\.[0-9]+", field):
@@ -507,7 +507,7 @@ def wrong_words(call):
     return lines
 
 
-# What tells more of a refusal, by its line in the page.
+# What says more about a refusal, by its line in the page.
 TELLERS = {
     "usage": on_usage,
     "syntax error at byte {at}": on_syntax,
@@ -559,7 +559,7 @@ def told(form, values, call):
     try:
         return TELLERS[form](call, Query(call.query), *names, *numbers) if form in TELLERS else []
     except Exception:
-        # As where a file was changed meanwhile.
+        # As when a file was changed meanwhile.
         return []
 
 
@@ -583,7 +583,7 @@ def main(status, line, *words):
                 print(f"  {it}")
             print(f"  {sentence(meaning)} {sentence(remedy)}")
             if re.search("'[A-Z][^']*'", remedy):
-                print(f"  (the section is one of {os.path.normpath(page)})")
+                print(f"  (the section is in {os.path.normpath(page)})")
             return
 
 

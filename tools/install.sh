@@ -1,7 +1,7 @@
 # shellcheck shell=bash
 # Puts the program and what belongs to it under a folder, for ./anyk install.
 
-# install_under TOP PROGRAM FOLDER: returns status 1, below the line of what failed, where a file cannot be put there.
+# install_under TOP PROGRAM FOLDER: returns status 1, after the line of what failed, if a file cannot be put there.
 install_under() {
     # Whoever may come to the folder may use what is there.
     umask 022

@@ -4,7 +4,7 @@
 usage: tools/merge.py [--limit N] [--descending K ..] FILE ..
 
 Each FILE is the output of the same query over other parts of its tables, with the columns rank1, rank2 and so on. K is the number of
-an order key that descends. The merged answers are written to the standard output, the first N of them where --limit says so. Equal
+an order key that descends. The merged answers are written to the standard output, the first N of them if --limit says so. Equal
 ranks stay in the order of the files. Files are read as far as they are needed. Status 1 says that the files are no such outputs, and
 status 2 that the arguments are not as above.
 """
@@ -21,19 +21,19 @@ class Fault(Exception):
 
 
 def record_of(fields):
-    """A record, with quotes only where a field needs them, or where it is the empty only one."""
+    """A record, with quotes only if a field needs them, or if it is the empty only one."""
     if fields == [""]:
         return '""\n'
     return ",".join('"' + it.replace('"', '""') + '"' if re.search('[,"\r\n]', it) else it for it in fields) + "\n"
 
 
 def lines_of(file):
-    """The lines of a file with their ends, which are line feeds; what else ends a line stands between quotes in an output."""
+    """The lines of a file with their ends, which are line feeds; what else ends a line is between quotes in an output."""
     return (it.decode("latin-1") for it in file)
 
 
 def places_of(header):
-    """The places of rank1, rank2 and so on, which stand side by side, the last of this name first to be found."""
+    """The places of rank1, rank2 and so on, which are side by side, the last of this name first to be found."""
     starts = [it for it, name in enumerate(header) if name == "rank1"]
     if not starts:
         raise Fault("there is no column rank1: call anyk with --ranks")
@@ -42,7 +42,7 @@ def places_of(header):
 
 
 def ranked(name, records, places, descending):
-    """The records of a file, each behind its sums, those of descending keys negated."""
+    """The records of a file, each after its sums, those of descending keys negated."""
     last = None
     for number, fields in enumerate(records, 1):
         try:

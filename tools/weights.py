@@ -6,13 +6,13 @@ usage: tools/weights.py [--scale N] [--drop | --fill N] FILE COLUMN
 FILE is a CSV file, or /dev/stdin, and COLUMN is a name in its header. A number in that column may have blanks or one of the
 signs $ € £ ¥ around it, commas between its thousands, a fraction after a point, an exponent, and U+2212 for its minus: ` 7`, `$12`,
 `1,200`, `12.5`, `1e+05`. It is multiplied by the number after --scale, exactly, and is written as a whole number. A field that is
-a whole number already stays as it is where nothing is scaled, and an empty field stays empty.
+a whole number already stays as it is if nothing is scaled, and an empty field stays empty.
 
 --drop leaves out the rows whose field is no number (`NA`, `-`, `n/a`). --fill N writes the whole number N into them instead, which
 is not scaled. Without these such a field is an error. A number that is not whole after the scaling, or that passes 128 bits, is
 always an error.
 
-All other fields keep their bytes. Lines end in a line feed, and quotes stand only where a field needs them. The last line on the
+All other fields keep their bytes. Lines end in a line feed, and a field has quotes only if it needs them. The last line on the
 error output counts the rows. Status 1 says that a field, the table or the file is not as it has to be, and status 2 that the
 arguments are not; nothing is written to the output then.
 """
@@ -38,7 +38,7 @@ class Fault(Exception):
 
 
 def text_of(field):
-    """The characters of a field whose bytes were read as Latin-1: those of UTF-8 where they are that."""
+    """The characters of a field whose bytes were read as Latin-1: those of UTF-8 if they are that."""
     try:
         return field.encode("latin-1").decode("utf-8")
     except UnicodeDecodeError:
@@ -46,7 +46,7 @@ def text_of(field):
 
 
 def number_of(field):
-    """The number that a field writes, as a whole number and the power of ten that it is multiplied by; None where it writes none."""
+    """The number that a field writes, as a whole number and the power of ten that it is multiplied by; None if it writes none."""
     if len(field) > LONGEST:
         return None
     text = text_of(field).replace("\u2212", "-").strip()
@@ -61,7 +61,7 @@ def number_of(field):
 
 
 def scaled_by(number, scale):
-    """The product of a number and a scale, which is another, or None where it is not whole."""
+    """The product of a number and a scale, which is another, or None if it is not whole."""
     whole, power = number[0] * scale[0], number[1] + scale[1]
     if power >= 0:
         return whole * 10**power
@@ -70,7 +70,7 @@ def scaled_by(number, scale):
 
 
 def weight_of(field, scale):
-    """The field as a weight, or None where it writes no number. An empty field stays empty."""
+    """The field as a weight, or None if it writes no number. An empty field stays empty."""
     if field == "":
         return field
     if scale == ONE and READY.fullmatch(field) and LEAST <= int(field) <= GREATEST:
@@ -87,7 +87,7 @@ def weight_of(field, scale):
 
 
 def record_of(fields):
-    """A record, with quotes only where a field needs them, or where it is the empty only one."""
+    """A record, with quotes only if a field needs them, or if it is the empty only one."""
     if fields == [""]:
         return '""\n'
     quoted = ['"' + it.replace('"', '""') + '"' if any(c in it for c in ',"\r\n') else it for it in fields]
@@ -110,7 +110,7 @@ def content_of(name):
 
 
 def lines_of(text):
-    """The lines with their ends, which are CR LF, LF or CR. (Other characters that end a line elsewhere stand in fields.)"""
+    """The lines with their ends, which are CR LF, LF or CR. (Other characters that end a line elsewhere are part of fields.)"""
     return (it.group() for it in re.finditer(r"[^\r\n]*(?:\r\n|\r|\n)|[^\r\n]+", text))
 
 
@@ -201,7 +201,7 @@ def arguments():
     parser.add_argument("--scale", metavar="N", type=scale_argument, default=ONE, help="multiply each number by N")
     others = parser.add_mutually_exclusive_group()
     others.add_argument("--drop", action="store_true", help="leave out rows whose field is no number")
-    others.add_argument("--fill", metavar="N", type=fill_argument, help="write N, not scaled, where a field is no number")
+    others.add_argument("--fill", metavar="N", type=fill_argument, help="write N, not scaled, if a field is not a number")
     return parser.parse_args()
 
 
