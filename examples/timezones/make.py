@@ -3,7 +3,7 @@
 
 usage: examples/timezones/make.py [FOLDER]
 
-FOLDER has the time zone database in its compiled form, with zone.tab, and is /usr/share/zoneinfo where it is not given. The local times
+FOLDER has the time zone database in its compiled form, with zone.tab, and is /usr/share/zoneinfo if it is not given. The local times
 are those of 14 March 2026. Of the zones of a country that have the same time on that day the first is kept, as zone.tab has them. The
 strain of a local time is the square of the minutes by which it lies before 9 or after 17 o'clock, by the nearer way.
 """
