@@ -8,7 +8,7 @@ use Rattle.anyk_model.specs.Output.{cut}
 use Rattle.tdp_core.specs.Seen.{Seen}
 use Rattle.step_bounds.specs.Steps.{steps_for}
 use Rattle.step_bounds.proofs.Pacing.{steps-more}
-use Rattle.command_run.proofs.Given.{HasCalled, rises-from}
+use Rattle.step_bounds.proofs.Calls.{HasCalled, rises-from}
 use Rattle.command_load.specs.Ends.{HasEnds}
 use Rattle.command_load.specs.declared.ends.Ends.{Ends}
 

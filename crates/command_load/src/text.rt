@@ -32,7 +32,7 @@ pub(crate) fn summary(
     Ok(text.into_bytes())
 }
 
-// The sum of the first order key over these rows, and `none` where there is no key or there are no rows.
+// The sum of the first order key over these rows, and `none` if there is no key or there are no rows.
 fn sum_text(
     alloc: Global,
     query: &Query,

@@ -1,5 +1,5 @@
 -- Answers that an engine gave one by one, each printed.
-use Rattle.std.proofs.Common.{◌≡◌, ◌≤◌, ◌<◌, ◌+◌, ◌∷◌, ◌++◌, [], ℕ, zero, suc, List, length, map, take, drop, get_or, unwrap_or, is_some, true, IfSome, Option, Some, None, Ok, Err, sym, ap, subst, ◌∙◌, arith, append-nil, take-append-drop, inl, inr}
+use Rattle.std.proofs.Common.{◌≡◌, ◌≤◌, ◌<◌, ◌+◌, ◌∷◌, ◌++◌, [], ℕ, zero, suc, List, length, map, take, drop, get_or, IfSome, Option, Some, None, Ok, Err, sym, ap, subst, ◌∙◌, arith, append-nil, take-append-drop, inl, inr}
 use Rattle.std.proofs.lemmas.Bool.{cases_lt}
 use Rattle.std.proofs.lemmas.Grind.{flat_map-append}
 use Rattle.std.proofs.lemmas.List.{drop_all, drop_more, take-take, take_all, take_more}
@@ -9,9 +9,7 @@ use Rattle.std.proofs.KnownBytes.{Appends-trans}
 use Rattle.anyk_model.specs.Output.{cut}
 use Rattle.refusal_lines.specs.declared.refusal.Refusal.{Refusal}
 use Rattle.refusal_lines.specs.declared.refusal.Refusal.TheVariants as refusal
-use Rattle.tdp_core.specs.Seen.{counted}
-use Rattle.step_bounds.specs.Steps.{steps_for}
-use Rattle.step_bounds.proofs.Pacing.{steps-next}
+use Rattle.step_bounds.proofs.Calls.{HasCalled}
 use Rattle.refusal_lines.specs.Printed.{Printed}
 use Rattle.refusal_lines.proofs.Prints.{printed-stopped, printed-then}
 
@@ -22,32 +20,6 @@ pub record HasGiven {A B : Type 0} (P : B → Type 0) (f : A → List ℕ) (seen
   pub within : i ≤ length list
   pub sent : Appends old now (flat_map f (take i list))
   pub later : before ≤ faults
-
--- i calls were made, and took no more than their shares
-pub record HasCalled (share : List ℕ → ℕ → ℕ) (size : List ℕ) (calls i : ℕ) (size_now : List ℕ) (calls_now before now : ℕ) : Type 0 where
-  pub same : size_now ≡ size
-  pub few : calls_now ≤ calls + i
-  pub spent : now ≤ before + steps_for (λ n. share size (calls + n)) i
-
-module _ (share : List ℕ → ℕ → ℕ) (rises : (s : List ℕ) (c d : ℕ) → c ≤ d → share s c ≤ share s d) (size : List ℕ) (calls : ℕ) where
-  pub rises-from : (c d : ℕ) → c ≤ d → share size (calls + c) ≤ share size (calls + d)
-  rises-from c d h = rises size (calls + c) (calls + d) (omega (arith, h))
-
-  -- one call more
-  pub called-more : (i : ℕ) (size_now size_later : List ℕ) (calls_now calls_later before now later due : ℕ)
-      → HasCalled share size calls i size_now calls_now before now → due ≤ share size_now calls_now → later ≤ now + due
-      → calls_later ≡ counted calls_now → size_later ≡ size_now → HasCalled share size calls (i + 1) size_later calls_later before later
-  called-more i size_now size_later calls_now calls_later before now later due h within cost count kept =
-      let at_most : share size_now calls_now ≤ share size (calls + i) =
-      subst (λ s. share s calls_now ≤ share size (calls + i)) (sym h.same) (rises size calls_now (calls + i) h.few) in
-      record {
-        same = kept ∙ h.same;
-        few = let few = h.few in omega (arith, few, count, counted-few calls_now);
-        spent = steps-next (λ n. share size (calls + n)) rises-from i before now later h.spent (omega (arith, within, cost, at_most));
-      }
-    where
-      counted-few : (n : ℕ) → counted n ≤ n + 1
-      counted-few n = omega arith
 
 -- the answers so far, and the calls for them
 pub record HasPrinted {A B : Type 0} (P : B → Type 0) (f : A → List ℕ) (seen : B → A) (list : List A) (i : ℕ) (left : List B) (old now : Option (List ℕ)) (before faults : ℕ)
@@ -171,17 +143,3 @@ module _ {A B : Type 0} (P : B → Type 0) (f : A → List ℕ) (seen : B → A)
   printed-limit limit left old now before faults reached g =
       let all = subst (λ (o : Option ℕ). Appends old now (flat_map f (cut o list))) (sym reached) g.sent in
       record { whole = all; prefix = (flat_map f (cut limit list), all, ([], sym (append-nil (flat_map f (cut limit list))))); cause = tt; later = g.later }
-
--- a number below what a limit allows
-pub limit-below : (limit : Option ℕ) (i most greatest : ℕ) → most ≡ unwrap_or limit greatest → i < most → IfSome limit (λ n. i < n)
-limit-below None i most greatest is below = tt
-limit-below (Some n) i most greatest is below = omega (arith, is, below)
-
-pub limit-within : (limit : Option ℕ) (i most greatest : ℕ) → most ≡ unwrap_or limit greatest → i < most → IfSome limit (λ n. i ≤ n)
-limit-within None i most greatest is below = tt
-limit-within (Some n) i most greatest is below = omega (arith, is, below)
-
--- the limit that a loop met
-pub limit-reached : (limit : Option ℕ) (i most greatest : ℕ) → most ≡ unwrap_or limit greatest → is_some limit ≡ true → most ≤ i → i ≤ most → limit ≡ Some i
-limit-reached None i most greatest is some end within = cc
-limit-reached (Some n) i most greatest is some end within = ap Some (omega (arith, is, end, within))

@@ -1,2 +1,3 @@
 pub mod Pacing
 pub mod Shares
+pub mod Calls

@@ -12,11 +12,11 @@ abbrev pub reaches : {A : Type 0} → Option ℕ → List A → Bool
 reaches None list = false
 reaches (Some n) list = nat_le n (length list)
 
--- the calls that give the first members up to a limit, and find the end where no limit makes it
+-- the calls that give the first members up to a limit, and find the end if no limit makes it
 abbrev pub calls_for : {A : Type 0} → Option ℕ → List A → ℕ
 calls_for limit list = length (cut limit list) + (if reaches limit list then 0 else 1)
 
--- the most steps of n calls, where a call with c calls before it takes at most `share c`, which does not fall
+-- the most steps of n calls, if a call with c calls before it takes at most `share c`, which does not fall
 abbrev pub steps_for : (ℕ → ℕ) → ℕ → ℕ
 steps_for share n = n * share (n - 1)
 

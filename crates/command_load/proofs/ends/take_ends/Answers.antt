@@ -1,7 +1,7 @@
 use Rattle.std.proofs.Common.{◌≡◌, ◌≤◌, ◌+◌, ℕ, Option, None, IfSome, subst, sym, refl, arith, rules}
 use Rattle.std.proofs.lemmas.List.{length-take-le}
 use Rattle.step_bounds.proofs.Pacing.{calls-more, calls-same}
-use Rattle.command_run.proofs.Given.{called-more, limit-below, limit-reached, limit-within}
+use Rattle.step_bounds.proofs.Calls.{called-more, counted-few, limit-below, limit-reached, limit-within}
 use Rattle.command_load.proofs.Given.{calls-within, taken-all, taken-limit, taken-more}
 use Rattle.command_load.proofs.ends.take_ends.Goals as goal
 
@@ -11,7 +11,7 @@ returns-in_err-answer-clause-bounded g c =
     let i = c.loop-given._given in
     let below = limit-below c.args.limit i _ _ c.unwrap_or-most.ensures c.loop-given-test.true in
     let called = called-more g.E.Ranked.share g.met.E.Ranked.share_rises _ _ i _ _ _ _ _ _ _ _ c.loop-given.invariant.called (g.met.E.Ranked.due_within c.loop-given.engine)
-    c.next.ensures.cost c.next.ensures.counted c.next.ensures.size in
+    c.next.ensures.cost (counted-few _ _ c.next.ensures.counted) c.next.ensures.size in
     calls-within g.E.Ranked.share g.met.E.Ranked.share_rises _ _ (i + 1) _ _ _ _ _ called (calls-more c.args.limit answers i c.loop-given.invariant.within below)
 
 pub returns-in_default-clause-ends : goal.returns-in_default-clause-ends
@@ -27,7 +27,7 @@ returns-in_default-clause-bounded g c =
     let i = c.loop-given._given in
     let below = limit-below c.args.limit i _ _ c.unwrap_or-most.ensures c.loop-given-test.true in
     let called = called-more g.E.Ranked.share g.met.E.Ranked.share_rises _ _ i _ _ _ _ _ _ _ _ c.loop-given.invariant.called (g.met.E.Ranked.due_within c.loop-given.engine)
-    c.next.ensures.cost c.next.ensures.counted c.next.ensures.size in
+    c.next.ensures.cost (counted-few _ _ c.next.ensures.counted) c.next.ensures.size in
     calls-within g.E.Ranked.share g.met.E.Ranked.share_rises _ _ (i + 1) _ _ _ _ _ called (calls-more c.args.limit answers i c.loop-given.invariant.within below)
 
 pub push-requires : goal.push-requires
@@ -43,7 +43,7 @@ loop-given-preserved g c =
     let i = c.loop-given._given in
     let found = rw c.in-Some.is at c.in_ok-answer.ensures.found in
     let called = called-more g.E.Ranked.share g.met.E.Ranked.share_rises _ _ i _ _ _ _ _ _ _ _ c.loop-given.invariant.called (g.met.E.Ranked.due_within c.loop-given.engine)
-    c.next.ensures.cost c.next.ensures.counted c.next.ensures.size in
+    c.next.ensures.cost (counted-few _ _ c.next.ensures.counted) c.next.ensures.size in
     taken-more answers i _ c.loop-given.ends _ _ _ _ _ _ _ c.loop-given.invariant _ _ _ _ _ _ found
     (c.push.ensures _ _ c.loop-given.invariant.kept refl) called
 

@@ -7,7 +7,8 @@ use Rattle.refusal_lines.specs.declared.refusal.Refusal.TheVariants as refusal
 use Rattle.witness_key.specs.WitnessKey.{combinations_in}
 use Rattle.step_bounds.proofs.Pacing.{calls-more, calls-same, paced}
 use Rattle.refusal_lines.proofs.Prints.{appends-nothing}
-use Rattle.command_run.proofs.Given.{called-more, cut-short, first-left, given-more, limit-below, limit-reached, limit-within, printed-all, printed-limit, rises-from, stopped-short}
+use Rattle.step_bounds.proofs.Calls.{called-more, counted-few, limit-below, limit-reached, limit-within, rises-from}
+use Rattle.command_run.proofs.Given.{cut-short, first-left, given-more, printed-all, printed-limit, stopped-short}
 use Rattle.command_run.proofs.printing.print_answers.Goals as goal
 
 pub returns-in_err-answer-clause-printed : goal.returns-in_err-answer-clause-printed
@@ -59,7 +60,7 @@ loop-given-preserved g c =
       given = given-more (λ (a : Seen). IsCombination (row_counts query.items tables) (take (length query.items) a.rows)) (line_text query tables (style_shown c.args.style.now)) (λ (a : Seen). take (length query.items) a.rows)
           (combinations_in query (g.E.Ranked.rest c.args.engine.now)) i [] _ _ _ c.loop-given.invariant.given.rest found _ _ _ _ _ _ c.loop-given.invariant.given printed.whole printed.later;
       called = called-more g.E.Ranked.share g.met.E.Ranked.share_rises _ _ i _ _ _ _ _ _ _ _ c.loop-given.invariant.called (g.met.E.Ranked.due_within c.loop-given.engine) c.next.ensures.cost
-          c.next.ensures.counted c.next.ensures.size;
+          (counted-few _ _ c.next.ensures.counted) c.next.ensures.size;
     }
 
 pub returns-then-is_none-clause-printed : goal.returns-then-is_none-clause-printed
@@ -90,7 +91,7 @@ returns-in_err-answer-clause-paced g c =
     let below = limit-below query.limit i _ _ (rw c.limit.ensures at c.unwrap_or-most.ensures) c.loop-given-test.true in
     let low = limit-within query.limit i _ _ (rw c.limit.ensures at c.unwrap_or-most.ensures) c.loop-given-test.true in
     let called = called-more g.E.Ranked.share g.met.E.Ranked.share_rises _ _ i _ _ _ _ _ _ _ _ c.loop-given.invariant.called (g.met.E.Ranked.due_within c.loop-given.engine)
-    c.next.ensures.cost c.next.ensures.counted c.next.ensures.size in
+    c.next.ensures.cost (counted-few _ _ c.next.ensures.counted) c.next.ensures.size in
     paced f list query.limit i given.within low _ (rises-from g.E.Ranked.share g.met.E.Ranked.share_rises (g.E.Ranked.size c.args.engine.now) (g.E.Ranked.calls c.args.engine.now))
     (i + 1) _ _ (omega arith) (calls-more query.limit list i given.within below) called.spent _ _ _ [] given.sent (appends-nothing _)
 
@@ -104,7 +105,7 @@ returns-in_default-clause-paced g c =
     let below = limit-below query.limit i _ _ (rw c.limit.ensures at c.unwrap_or-most.ensures) c.loop-given-test.true in
     let low = limit-within query.limit i _ _ (rw c.limit.ensures at c.unwrap_or-most.ensures) c.loop-given-test.true in
     let called = called-more g.E.Ranked.share g.met.E.Ranked.share_rises _ _ i _ _ _ _ _ _ _ _ c.loop-given.invariant.called (g.met.E.Ranked.due_within c.loop-given.engine)
-    c.next.ensures.cost c.next.ensures.counted c.next.ensures.size in
+    c.next.ensures.cost (counted-few _ _ c.next.ensures.counted) c.next.ensures.size in
     paced f list query.limit i given.within low _ (rises-from g.E.Ranked.share g.met.E.Ranked.share_rises (g.E.Ranked.size c.args.engine.now) (g.E.Ranked.calls c.args.engine.now))
     (i + 1) _ _ (omega arith) (calls-more query.limit list i given.within below) called.spent _ _ _ [] given.sent (appends-nothing _)
 
@@ -118,7 +119,7 @@ returns-in_err-print_answer-clause-paced g c =
     let below = limit-below query.limit i _ _ (rw c.limit.ensures at c.unwrap_or-most.ensures) c.loop-given-test.true in
     let low = limit-within query.limit i _ _ (rw c.limit.ensures at c.unwrap_or-most.ensures) c.loop-given-test.true in
     let called = called-more g.E.Ranked.share g.met.E.Ranked.share_rises _ _ i _ _ _ _ _ _ _ _ c.loop-given.invariant.called (g.met.E.Ranked.due_within c.loop-given.engine)
-    c.next.ensures.cost c.next.ensures.counted c.next.ensures.size in
+    c.next.ensures.cost (counted-few _ _ c.next.ensures.counted) c.next.ensures.size in
     let part = c.print_answer.ensures.prefix in
     paced f list query.limit i given.within low _ (rises-from g.E.Ranked.share g.met.E.Ranked.share_rises (g.E.Ranked.size c.args.engine.now) (g.E.Ranked.calls c.args.engine.now))
     (i + 1) _ _ (omega arith) (calls-more query.limit list i given.within below) called.spent _ _ _ part.0 given.sent part.1
