@@ -10,7 +10,7 @@ use Rattle.verdict.specs.Words.{Words, Asked, no_command, built, run, plan, sess
 abbrev pub words_of : WordsSaid → Words
 words_of said = record { ranks = said.ranks; rows = said.rows; query = said.query; tables = said.tables }
 
--- `clap` takes the words of a session only where a script is among them
+-- `clap` takes the words of a session only if a script is among them
 abbrev pub asked_session : Option (List ℕ) → Words → Asked
 asked_session None words = no_command
 asked_session (Some script) words = built (session script words)

@@ -1,5 +1,6 @@
 pub mod Asked
 pub mod Finished
 pub mod Requests
+pub mod Sides
 pub mod Judged
 pub mod Planned

@@ -48,7 +48,7 @@ plan_answer (fault.Cyclic core) = answer.Cyclic (items_of core)
 plan_answer (fault.TooManyRows most) = answer.TooManyNodeRows
 plan_answer fault.NoMemory = answer.NoMemory
 
--- where the files are told and the input is accepted, no more steps were taken than its preparation may take
+-- if the files are told and the input is accepted, no more steps were taken than its preparation may take
 abbrev pub IsEarlyWithin : Command → Option Files → ℕ → ℕ → Type 0
 IsEarlyWithin command told before now = IfSome told (λ files. (found : Found) → IsVerdict (built command) files (Ok found)
     → IsPrepared found.query found.tables before now)

@@ -13,6 +13,7 @@ ghost use Rattle.verdict.specs.Output.{output};
 ghost use Rattle.verdict.specs.Words.{built};
 ghost use Rattle.anyk_top.specs.Planned.{found_by, found_in};
 ghost use Rattle.anyk_top.specs.Requests.{command_of};
+ghost use Rattle.anyk_top.specs.Sides.{seen_by};
 
 use crate::load::print_load;
 use crate::plan::print_report;
@@ -42,15 +43,15 @@ pub(crate) fn answer<'a, F: Shelf, S: Sink, L: Ledger>(
     steps: &mut Steps<L>,
 ) -> Result<(), Refusal<'a>>
     ensures done { OnOk result (IsComplete (built (command_of request.now)) (F.files shelf.old)
-        (record { misses = F.misses shelf.old; read_faults = F.faults shelf.old; output = S.written out.old; write_faults = S.faults out.old; errors = None; error_faults = 0 })
-        (record { misses = F.misses shelf.new; read_faults = F.faults shelf.new; output = S.written out.new; write_faults = S.faults out.new; errors = None; error_faults = 0 })) }
+        (seen_by F.Shelf S.Sink shelf.old out.old)
+        (seen_by F.Shelf S.Sink shelf.new out.new)) }
     ensures fits { IfErr result (λ refusal. IsAnswer (built (command_of request.now)) (F.files shelf.old) (answer_of refusal)) }
     ensures caused { IfErr result (λ refusal. IsCaused
-        (record { misses = F.misses shelf.old; read_faults = F.faults shelf.old; output = S.written out.old; write_faults = S.faults out.old; errors = None; error_faults = 0 })
-        (record { misses = F.misses shelf.new; read_faults = F.faults shelf.new; output = S.written out.new; write_faults = S.faults out.new; errors = None; error_faults = 0 }) (answer_of refusal)) }
+        (seen_by F.Shelf S.Sink shelf.old out.old)
+        (seen_by F.Shelf S.Sink shelf.new out.new) (answer_of refusal)) }
     ensures cut { IfErr result (λ refusal. IsCut (built (command_of request.now)) (F.files shelf.old)
-        (record { misses = F.misses shelf.old; read_faults = F.faults shelf.old; output = S.written out.old; write_faults = S.faults out.old; errors = None; error_faults = 0 })
-        (record { misses = F.misses shelf.new; read_faults = F.faults shelf.new; output = S.written out.new; write_faults = S.faults out.new; errors = None; error_faults = 0 }) (answer_of refusal)) }
+        (seen_by F.Shelf S.Sink shelf.old out.old)
+        (seen_by F.Shelf S.Sink shelf.new out.new) (answer_of refusal)) }
     ensures bounded { IsBounded (built (command_of request.now)) (F.files shelf.old) steps.old steps.new }
     ensures prompt { IsPrompt (built (command_of request.now)) (F.files shelf.old) (S.written out.old) (S.written out.new) steps.old steps.new }
 {

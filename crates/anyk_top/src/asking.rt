@@ -15,7 +15,7 @@ use input_load::MadeTables;
 use refusal_lines::Refusal;
 use std::alloc::Global;
 
-/// The command that the words are. `Usage` where they are none.
+/// The command that the words are. `Usage` if they are none.
 pub(crate) fn read_request<'a>(alloc: Global, words: &[String]) -> Result<Request, Refusal<'a>>
     ensures built { IfOk result (λ request. asked_of (said_of (map string_bytes words.now)) ≡ built (command_of request)) }
     ensures early { IfErr result (λ refusal. IsEarly (asked_of (said_of (map string_bytes words.now))) (answer_of refusal)) }

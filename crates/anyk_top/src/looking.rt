@@ -2,6 +2,7 @@
 ghost use Rattle.std.specs.Prelude.{map, option_map, string_bytes};
 ghost use Rattle.cmd_words.specs.Said.{seen_words};
 ghost use Rattle.input_load.specs.Shown.{shown_input};
+ghost use Rattle.verdict.specs.Staged.{shelved};
 ghost use Rattle.anyk_top.specs.Asked.{words_of};
 ghost use Rattle.anyk_top.specs.Judged.{IsLooked, IsLookedUp};
 ghost use Rattle.anyk_top.specs.Requests.{command_of};
@@ -22,8 +23,7 @@ pub(crate) fn look_at<'a, F: Shelf>(
     keys: Keys,
 ) -> Result<Input, Refusal<'a>>
     ensures { IsLooked (command_of request.now)
-        (record { files = F.files shelf.old; misses = F.misses shelf.old; faults = F.faults shelf.old })
-        (record { files = F.files shelf.new; misses = F.misses shelf.new; faults = F.faults shelf.new }) (shown_input result) }
+        (shelved F.Shelf shelf.old) (shelved F.Shelf shelf.new) (shown_input result) }
 {
     match request {
         Request::Run(words) => look_up(alloc, words, None, shelf, keys),
@@ -48,8 +48,7 @@ fn look_up<'a, F: Shelf>(
     keys: Keys,
 ) -> Result<Input, Refusal<'a>>
     ensures { IsLookedUp (words_of (seen_words words.now)) (option_map (λ name. name.now) script.entry)
-        (record { files = F.files shelf.old; misses = F.misses shelf.old; faults = F.faults shelf.old })
-        (record { files = F.files shelf.new; misses = F.misses shelf.new; faults = F.faults shelf.new }) (shown_input result) }
+        (shelved F.Shelf shelf.old) (shelved F.Shelf shelf.new) (shown_input result) }
 {
     load_input(
         alloc,

@@ -5,7 +5,7 @@ ghost use Rattle.refusal_lines.specs.Refused.{answer_of};
 ghost use Rattle.step_bounds.specs.Bounded.{IsPrepared};
 ghost use Rattle.input_load.specs.Input.{loaded_of};
 ghost use Rattle.verdict.specs.Bound.{IsBounded, IsPrompt};
-ghost use Rattle.verdict.specs.Staged.{Pure};
+ghost use Rattle.verdict.specs.Staged.{Pure, shelved};
 ghost use Rattle.verdict.specs.Verdict.{IsShaped};
 ghost use Rattle.verdict.specs.Words.{built};
 ghost use Rattle.anyk_top.specs.Judged.{IsJudged};
@@ -39,8 +39,7 @@ pub(crate) fn plan_request<'a, F: Shelf, L: Ledger>(
     steps: &mut Steps<L>,
 ) -> Result<Planned, Refusal<'a>>
     ensures judged { IsJudged (command_of request.now)
-        (record { files = F.files shelf.old; misses = F.misses shelf.old; faults = F.faults shelf.old })
-        (record { files = F.files shelf.new; misses = F.misses shelf.new; faults = F.faults shelf.new })
+        (shelved F.Shelf shelf.old) (shelved F.Shelf shelf.new)
         (shown_planned result) }
     ensures plan { IfOk result (λ p. IsRankedPlan p.input.query p.input.tables p.plan) }
     ensures cost { IfOk result (λ p. IsPrepared p.input.query.query p.input.tables steps.old steps.new) }

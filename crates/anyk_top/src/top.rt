@@ -5,6 +5,7 @@ ghost use Rattle.cmd_words.specs.Commands.{said_of};
 ghost use Rattle.verdict.specs.Bound.{IsBounded, IsPrompt};
 ghost use Rattle.verdict.specs.Outcome.{Outcome};
 ghost use Rattle.anyk_top.specs.Asked.{asked_of};
+ghost use Rattle.anyk_top.specs.Sides.{outside};
 
 use crate::answering::answer;
 use crate::asking::read_request;
@@ -15,7 +16,7 @@ use std::alloc::Global;
 use std::sync::ledger::{Blank, Ledger};
 use step_counter::Steps;
 
-/// Does all that the program does, and answers its exit status: reads the words, the files that they name on the shelf, and
+/// Does all that the program does, and returns its exit status: reads the words, the files that they name on the shelf, and
 /// writes the answers to `out` and the line of a refusal to `err`. The tables are hashed with known keys.
 pub fn run_words<F: Shelf, S: Sink, E: Sink, L: Ledger>(
     alloc: Global,
@@ -26,30 +27,15 @@ pub fn run_words<F: Shelf, S: Sink, E: Sink, L: Ledger>(
     steps: &mut Steps<L>,
 ) -> u8
     ensures outcome { Outcome (asked_of (said_of (map string_bytes words.now))) (F.files shelf.old)
-        (record {
-          misses = F.misses shelf.old;
-          read_faults = F.faults shelf.old;
-          output = S.written out.old;
-          write_faults = S.faults out.old;
-          errors = E.written err.old;
-          error_faults = E.faults err.old;
-        })
-        (record {
-          misses = F.misses shelf.new;
-          read_faults = F.faults shelf.new;
-          output = S.written out.new;
-          write_faults = S.faults out.new;
-          errors = E.written err.new;
-          error_faults = E.faults err.new;
-        })
-        result }
+        (outside F.Shelf S.Sink E.Sink shelf.old out.old err.old)
+        (outside F.Shelf S.Sink E.Sink shelf.new out.new err.new) result }
     ensures bounded { IsBounded (asked_of (said_of (map string_bytes words.now))) (F.files shelf.old) steps.old steps.new }
     ensures prompt { IsPrompt (asked_of (said_of (map string_bytes words.now))) (F.files shelf.old) (S.written out.old) (S.written out.new) steps.old steps.new }
 {
     run_keyed(alloc, words, shelf, out, err, Keys::Known, steps)
 }
 
-/// Does all that the program does, and answers its exit status: reads the words, the files that they name on the shelf, and
+/// Does all that the program does, and returns its exit status: reads the words, the files that they name on the shelf, and
 /// writes the answers to `out` and the line of a refusal to `err`. The tables of the files are hashed with these keys. No clause
 /// depends on them.
 pub fn run_keyed<F: Shelf, S: Sink, E: Sink, L: Ledger>(
@@ -62,23 +48,8 @@ pub fn run_keyed<F: Shelf, S: Sink, E: Sink, L: Ledger>(
     steps: &mut Steps<L>,
 ) -> u8
     ensures outcome { Outcome (asked_of (said_of (map string_bytes words.now))) (F.files shelf.old)
-        (record {
-          misses = F.misses shelf.old;
-          read_faults = F.faults shelf.old;
-          output = S.written out.old;
-          write_faults = S.faults out.old;
-          errors = E.written err.old;
-          error_faults = E.faults err.old;
-        })
-        (record {
-          misses = F.misses shelf.new;
-          read_faults = F.faults shelf.new;
-          output = S.written out.new;
-          write_faults = S.faults out.new;
-          errors = E.written err.new;
-          error_faults = E.faults err.new;
-        })
-        result }
+        (outside F.Shelf S.Sink E.Sink shelf.old out.old err.old)
+        (outside F.Shelf S.Sink E.Sink shelf.new out.new err.new) result }
     ensures bounded { IsBounded (asked_of (said_of (map string_bytes words.now))) (F.files shelf.old) steps.old steps.new }
     ensures prompt { IsPrompt (asked_of (said_of (map string_bytes words.now))) (F.files shelf.old) (S.written out.old) (S.written out.new) steps.old steps.new }
 {
@@ -102,23 +73,8 @@ pub fn run_uncounted<F: Shelf, S: Sink, E: Sink, L: Ledger>(
     requires parts { blank.parts ≡ L.parts }
     requires some_part { 0 < blank.parts }
     ensures outcome { Outcome (asked_of (said_of (map string_bytes words.now))) (F.files shelf.old)
-        (record {
-          misses = F.misses shelf.old;
-          read_faults = F.faults shelf.old;
-          output = S.written out.old;
-          write_faults = S.faults out.old;
-          errors = E.written err.old;
-          error_faults = E.faults err.old;
-        })
-        (record {
-          misses = F.misses shelf.new;
-          read_faults = F.faults shelf.new;
-          output = S.written out.new;
-          write_faults = S.faults out.new;
-          errors = E.written err.new;
-          error_faults = E.faults err.new;
-        })
-        result }
+        (outside F.Shelf S.Sink E.Sink shelf.old out.old err.old)
+        (outside F.Shelf S.Sink E.Sink shelf.new out.new err.new) result }
 {
     let mut steps = Steps::<L>::new(blank);
     run_keyed(alloc, words, shelf, out, err, keys, &mut steps)

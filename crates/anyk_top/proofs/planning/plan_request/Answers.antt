@@ -1,7 +1,7 @@
 use Rattle.std.proofs.Common.{◌≡◌, Err, Ok, rules}
 use Rattle.input_load.specs.Input.{loaded_of}
 use Rattle.refusal_lines.specs.Refused.{answer_of}
-use Rattle.verdict.specs.Staged.{Shelved}
+use Rattle.verdict.specs.Staged.{Shelved, shelved}
 use Rattle.anyk_top.specs.Planned.{shown_plan}
 use Rattle.anyk_top.specs.Requests.{command_of}
 use Rattle.anyk_top.proofs.Judging.{early-prepared, early-still, looked-refused, looked-then}
@@ -9,8 +9,8 @@ use Rattle.anyk_top.proofs.planning.plan_request.Goals as goal
 
 pub returns-in_err-input-clause-judged : goal.returns-in_err-input-clause-judged
 returns-in_err-input-clause-judged g c =
-    let before : Shelved = record { files = g.F.Shelf.files c.args.shelf.now; misses = g.F.Shelf.misses c.args.shelf.now; faults = g.F.Shelf.faults c.args.shelf.now } in
-    let after : Shelved = record { files = g.F.Shelf.files c.look_at.new.shelf; misses = g.F.Shelf.misses c.look_at.new.shelf; faults = g.F.Shelf.faults c.look_at.new.shelf } in
+    let before : Shelved = shelved g.F.Shelf c.args.shelf.now in
+    let after : Shelved = shelved g.F.Shelf c.look_at.new.shelf in
     let e : c.from_residual.result ≡ Err c.in_err-input.field-0.0 = search rules in
     rw e (looked-refused (command_of c.args.request.now) before after (answer_of c.in_err-input.field-0.0) c.in_err-input.ensures)
 
@@ -21,23 +21,23 @@ returns-in_err-input-clause-early g c =
 
 pub returns-in_err-plan-clause-judged : goal.returns-in_err-plan-clause-judged
 returns-in_err-plan-clause-judged g c =
-    let before : Shelved = record { files = g.F.Shelf.files c.args.shelf.now; misses = g.F.Shelf.misses c.args.shelf.now; faults = g.F.Shelf.faults c.args.shelf.now } in
-    let after : Shelved = record { files = g.F.Shelf.files c.look_at.new.shelf; misses = g.F.Shelf.misses c.look_at.new.shelf; faults = g.F.Shelf.faults c.look_at.new.shelf } in
+    let before : Shelved = shelved g.F.Shelf c.args.shelf.now in
+    let after : Shelved = shelved g.F.Shelf c.look_at.new.shelf in
     let e : c.from_residual-in_err-plan.result ≡ Err c.in_err-plan.field-0.0 = search rules in
     rw e (looked-then (command_of c.args.request.now) before after (loaded_of c.in_ok-input.input) (Err (answer_of c.in_err-plan.field-0.0))
     c.in_ok-input.ensures c.in_err-plan.ensures.shaped)
 
 pub returns-in_err-plan-clause-early : goal.returns-in_err-plan-clause-early
 returns-in_err-plan-clause-early g c =
-    let before : Shelved = record { files = g.F.Shelf.files c.args.shelf.now; misses = g.F.Shelf.misses c.args.shelf.now; faults = g.F.Shelf.faults c.args.shelf.now } in
-    let after : Shelved = record { files = g.F.Shelf.files c.look_at.new.shelf; misses = g.F.Shelf.misses c.look_at.new.shelf; faults = g.F.Shelf.faults c.look_at.new.shelf } in
+    let before : Shelved = shelved g.F.Shelf c.args.shelf.now in
+    let after : Shelved = shelved g.F.Shelf c.look_at.new.shelf in
     let e : c.from_residual-in_err-plan.result ≡ Err c.in_err-plan.field-0.0 = search rules in
     rw e (early-prepared (command_of c.args.request.now) before after (loaded_of c.in_ok-input.input) c.args.steps.now c.plan_of.new.steps
     c.in_ok-input.ensures c.in_err-plan.ensures.cost)
 
 pub returns-clause-judged : goal.returns-clause-judged
 returns-clause-judged g c =
-    let before : Shelved = record { files = g.F.Shelf.files c.args.shelf.now; misses = g.F.Shelf.misses c.args.shelf.now; faults = g.F.Shelf.faults c.args.shelf.now } in
-    let after : Shelved = record { files = g.F.Shelf.files c.look_at.new.shelf; misses = g.F.Shelf.misses c.look_at.new.shelf; faults = g.F.Shelf.faults c.look_at.new.shelf } in
+    let before : Shelved = shelved g.F.Shelf c.args.shelf.now in
+    let after : Shelved = shelved g.F.Shelf c.look_at.new.shelf in
     looked-then (command_of c.args.request.now) before after (loaded_of c.in_ok-input.input) (shown_plan (loaded_of c.in_ok-input.input) (Ok c.in_ok-plan.plan))
     c.in_ok-input.ensures c.in_ok-plan.ensures.shaped

@@ -5,28 +5,15 @@ use Rattle.anyk_top.specs.Asked.{asked_of}
 use Rattle.anyk_top.proofs.Bounds.{bounded-still, prompt-still}
 use Rattle.verdict.specs.Outcome.{Outside}
 use Rattle.anyk_top.specs.Requests.{command_of}
+use Rattle.anyk_top.specs.Sides.{seen_by}
 use Rattle.anyk_top.proofs.Ends.{early-outcome, built-outcome}
 use Rattle.refusal_lines.proofs.Prints.{appends-nothing}
 use Rattle.anyk_top.proofs.top.run_keyed.Goals as goal
 
 pub returns-in-Ok-clause-outcome : goal.returns-in-Ok-clause-outcome
 returns-in-Ok-clause-outcome g c =
-    let old : Outside = record {
-      misses = g.F.Shelf.misses c.args.shelf.now;
-      read_faults = g.F.Shelf.faults c.args.shelf.now;
-      output = g.S.Sink.written c.args.out.now;
-      write_faults = g.S.Sink.faults c.args.out.now;
-      errors = None;
-      error_faults = 0;
-    } in
-    let new : Outside = record {
-      misses = g.F.Shelf.misses c.answer.new.shelf;
-      read_faults = g.F.Shelf.faults c.answer.new.shelf;
-      output = g.S.Sink.written c.answer.new.out;
-      write_faults = g.S.Sink.faults c.answer.new.out;
-      errors = None;
-      error_faults = 0;
-    } in
+    let old : Outside = seen_by g.F.Shelf g.S.Sink c.args.shelf.now c.args.out.now in
+    let new : Outside = seen_by g.F.Shelf g.S.Sink c.answer.new.shelf c.answer.new.out in
     rw c.in-Ok.ensures.built
     (built-outcome (command_of c.in-Ok.request) (g.F.Shelf.files c.args.shelf.now) old new
     (g.E.Sink.written c.args.err.now) (g.E.Sink.written c.finish.new.err) (g.E.Sink.faults c.args.err.now) (g.E.Sink.faults c.finish.new.err)
