@@ -15,8 +15,8 @@ use query_bind::Query;
 use std::alloc::Global;
 use step_counter::NoMemory;
 
-/// The record of the answer that has these rows, one for each item, counted from 1: the cursor's name where there is one, the selected
-/// columns, the sums of the order keys where they are shown, the row numbers where they are shown.
+/// The record of the answer that has these rows, one for each item, counted from 1: the cursor's name if there is one, the selected
+/// columns, the sums of the order keys if they are shown, the row numbers if they are shown.
 pub fn line(
     alloc: Global,
     query: &Query,
@@ -51,7 +51,7 @@ pub fn write_line(
     records.write(fields.as_slice())
 }
 
-/// The fields of the record: the cursor's name where there is one, the selected columns of the rows, these numbers.
+/// The fields of the record: the cursor's name if there is one, the selected columns of the rows, these numbers.
 fn collect_fields<'a>(
     alloc: Global,
     query: &Query,

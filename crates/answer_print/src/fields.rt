@@ -5,7 +5,7 @@ ghost use Rattle.anyk_model.specs.Output.{optional_field};
 use number_text::NumberText;
 use step_counter::NoMemory;
 
-/// Puts a field last, where there is one.
+/// Puts a field last, if there is one.
 pub(crate) fn push_optional<'a>(
     fields: &mut Vec<&'a [u8]>,
     field: Option<&'a [u8]>,

@@ -11,8 +11,8 @@ use query_bind::Query;
 use std::alloc::Global;
 use step_counter::NoMemory;
 
-/// The record of the columns' titles: `cursor` where a cursor is named, the names of the selected columns, `rank1` and so on where
-/// sums are shown, `row1` and so on where row numbers are shown.
+/// The record of the columns' titles: `cursor` if a cursor is named, the names of the selected columns, `rank1` and so on if
+/// sums are shown, `row1` and so on if row numbers are shown.
 pub fn header(
     alloc: Global,
     query: &Query,
@@ -30,7 +30,7 @@ pub fn header(
     csv_tables::line(alloc, fields.as_slice())
 }
 
-/// The title above the cursors' names, where a cursor is named.
+/// The title above the cursors' names, if a cursor is named.
 fn title_of_cursor<'a>(style: &Style<'_>) -> Option<&'a [u8]>
     ensures { optional_field (option_map (λ f. f.now) result) ≡ cursor_title (style_shown style.now) }
 {
@@ -54,7 +54,7 @@ fn number_titles(alloc: Global, query: &Query, style: &Style<'_>) -> Result<Vec<
     Ok(titles)
 }
 
-/// Puts a word last with each number from 1 to `count` behind it.
+/// Puts a word with each number from 1 to `count` after it last.
 fn push_numbered(
     alloc: Global,
     titles: &mut Vec<String>,

@@ -12,7 +12,7 @@ CanStep places (Fork name new) = IsSome (places name) × (places new ≡ None)
 CanStep places (Rewind name) = IsSome (places name)
 CanStep places (Close name) = IsSome (places name)
 
--- and so does each step behind it
+-- and so does each step after it
 abbrev pub CanFollow : List (List ℕ) → Places → List Step → Type 0
 CanFollow members places [] = Unit {0}
 CanFollow members places (step ∷ steps) = CanStep places step × CanFollow members (places_after members places step) steps

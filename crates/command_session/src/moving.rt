@@ -23,7 +23,7 @@ use std::sync::ledger::Ledger;
 use step_counter::{NoMemory, Steps};
 use tdp_core::{Answer, Ranked};
 
-/// Prints the members from the cursor's place on, at most `count`, and the cursor's name alone where the list ends before. The
+/// Prints the members from the cursor's place on, at most `count`, and the cursor's name alone if the list ends before. The
 /// list has the combinations that the set's answers stand for, cut to the limit.
 pub(crate) fn print_next<'a, E: Ranked, S: Sink, L: Ledger>(
     alloc: Global,

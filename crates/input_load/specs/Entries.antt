@@ -11,7 +11,7 @@ IsEntryOf named entry = bytes_of named entry.0 ≡ Some entry.1
 abbrev pub tables_of : List (List ℕ × List ℕ) → List (List ℕ)
 tables_of entries = map (λ (entry : List ℕ × List ℕ). entry.0) entries
 
--- tables with one more behind them, where it is there
+-- tables with one more after them, if it is there
 abbrev pub table_after : List Table → Result Table Answer → Result (List Table) Answer
 table_after tables (Ok table) = Ok (tables ++ table ∷ [])
 table_after tables (Err answer) = Err answer

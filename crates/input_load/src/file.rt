@@ -10,7 +10,7 @@ use outer_io::{FileFault, Shelf, read_file};
 use refusal_lines::Refusal;
 use std::alloc::Global;
 
-/// The bytes of the file of this name. `NoFile` where there is none, `ReadFault` where a read failed, and `TooLarge` where
+/// The bytes of the file of this name. `NoFile` if there is none, `ReadFault` if a read failed, and `TooLarge` if
 /// the file passes the limit.
 pub(crate) fn load<'a, F: Shelf>(
     alloc: Global,

@@ -1,4 +1,4 @@
-//! The script, where there is one.
+//! The script, if there is one.
 ghost use Rattle.std.specs.Prelude.{◌≡◌, [], IfOk, Some, option_map};
 ghost use Rattle.refusal_lines.specs.Refused.{answer_of};
 ghost use Rattle.session_script.specs.Script.{KeepsRules};
@@ -14,7 +14,7 @@ use refusal_lines::Refusal;
 use session_script::{ScriptFault, Step, read_script};
 use std::alloc::Global;
 
-/// The steps of the script in this file, or none where no file is named.
+/// The steps of the script in this file, or none if no file is named.
 pub(crate) fn load_script<'a, F: Shelf>(
     alloc: Global,
     script: Option<&'a str>,

@@ -5,7 +5,7 @@ use step_counter::NoMemory;
 /// Why a query has no plan.
 #[derive(Clone, Copy, Debug, PartialEq, Eq)]
 pub enum PlanFault {
-    /// No join tree exists. The items that are left where no ear is left, as bits: item 1 is the lowest.
+    /// No join tree exists. The items that are left when no ear is left, as bits: item 1 is the lowest.
     Cyclic(u16),
     /// The nodes have more rows than this, all together.
     TooManyRows(u64),

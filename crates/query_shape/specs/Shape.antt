@@ -19,7 +19,7 @@ pub data Flaw : Type 0 where
 abbrev pub IsInCore : ℕ → ℕ → Type 0
 IsInCore core item = (a : ℕ) × (item ≡ 1 + a) × IsIn core a
 
--- no join tree exists, and these items are left where no ear is left, in ascending order
+-- no join tree exists, and these items are left when no ear is left, in ascending order
 pub record IsCyclic (query : Query) (items : List ℕ) : Type 0 where
   pub graph : Hypergraph
   pub of_query : IsGraphOf query graph

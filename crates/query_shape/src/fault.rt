@@ -5,7 +5,7 @@ use step_counter::NoMemory;
 /// Why a query has no join tree.
 #[derive(Clone, Copy, Debug, PartialEq, Eq)]
 pub enum ShapeFault {
-    /// No join tree exists. The items that are left where no ear is left, as bits: item 1 is the lowest.
+    /// No join tree exists. The items that are left when no ear is left, as bits: item 1 is the lowest.
     Cyclic(u16),
     /// Memory was refused.
     NoMemory,

@@ -8,7 +8,7 @@ use Rattle.refusal_lines.specs.Refused.{answer_of}
 use Rattle.refusal_lines.specs.declared.refusal.Refusal.{Refusal}
 use Rattle.refusal_lines.specs.Sent.{GotPrefix}
 
--- only a write that failed and want of memory end it early
+-- only a write that failed, or running out of memory, ends it early
 abbrev pub IsPrintCause : ℕ → ℕ → Answer → Type 0
 IsPrintCause before now answer.WriteFault = Rose before now
 IsPrintCause before now answer.NoMemory = Unit {0}

@@ -200,7 +200,7 @@ fn write_items<E: Sink>(err: &mut E, core: u16) -> Result<(), Unwritten>
     Ok(())
 }
 
-/// The item with this number from 0, where the core has it.
+/// The item with this number from 0, if the core has it.
 fn write_item<E: Sink>(err: &mut E, core: u16, place: u32) -> Result<(), Unwritten>
     requires { place < 16 }
     ensures { Sent (E.written err.old) (E.written err.new) (E.faults err.old) (E.faults err.new) (item_text core place) result }

@@ -1,4 +1,4 @@
-//! Want of memory as a refusal.
+//! Running out of memory, as a refusal.
 use crate::refusal::Refusal;
 use std::alloc::{AllocError, AllocFailed};
 use step_counter::NoMemory;

@@ -19,7 +19,7 @@ IsWithin (session script words) found before now = now ≤ before + cost_over fo
     + 4 * session_calls found.query.limit (ranking_of found.query found.tables) found.steps
 IsWithin (load number rows) found before now = now ≤ before + cost_over found.query found.tables found.shape (calls_for found.query.limit (ranking_of found.query found.tables))
 
--- where the files are told and the input is accepted they are, also where the call ended early
+-- if the files are told and the input is accepted they are, also if the call ended early
 abbrev pub IsBounded : Asked → Option Files → ℕ → ℕ → Type 0
 IsBounded (built command) told before now = IfSome told (λ files. (found : Found) → IsVerdict (built command) files (Ok found) → IsWithin command found before now)
 IsBounded asked told before now = Unit {0}
@@ -32,7 +32,7 @@ IsPaced (plan words) found old new before now = Unit {0}
 IsPaced (session script words) found old new before now = Unit {0}
 IsPaced (load number rows) found old new before now = Unit {0}
 
--- and so where the files are told and the input is accepted
+-- and so if the files are told and the input is accepted
 abbrev pub IsPrompt : Asked → Option Files → Option (List ℕ) → Option (List ℕ) → ℕ → ℕ → Type 0
 IsPrompt (built command) told old new before now =
     IfSome told (λ files. (found : Found) → IsVerdict (built command) files (Ok found) → IsPaced command found old new before now)

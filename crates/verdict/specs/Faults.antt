@@ -1,4 +1,4 @@
--- Which answer a fault of a part is; want of memory is none of the input's.
+-- Which answer a fault of a part is; running out of memory is none of the input's.
 use Rattle.std.specs.Prelude.{ℕ, List}
 use Rattle.query_grammar.specs.declared.fault.ParseFault.{ParseFault}
 use Rattle.query_grammar.specs.declared.fault.ParseFault.TheVariants as parse

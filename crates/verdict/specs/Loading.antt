@@ -53,7 +53,7 @@ told_steps (Err fault) = Err (of_script fault)
 abbrev pub steps_said : List ℕ → Result (List Step) Answer
 steps_said bytes = told_steps (steps_of bytes)
 
--- the steps of the script in a file, where there is one
+-- the steps of the script in a file, if there is one
 abbrev pub steps_in : Files → Option (List ℕ) → Result (List Step) Answer
 steps_in files None = Ok []
 steps_in files (Some name) = then_by (file_in files name) steps_said

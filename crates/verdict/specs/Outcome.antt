@@ -32,13 +32,13 @@ pub record HasLine (old new : Outside) (line : List ℕ) : Type 0 where
   pub prefix : GotPrefix old.errors new.errors line
   pub whole : (Rose old.error_faults new.error_faults → ⊥) → Appends old.errors new.errors line
 
--- where the files are told: the input is accepted, and its complete output was written
+-- if the files are told: the input is accepted, and its complete output was written
 abbrev pub IsComplete : Asked → Option Files → Outside → Outside → Type 0
 IsComplete (built command) told old new =
     IfSome told (λ files. (found : Found) × IsVerdict (built command) files (Ok found) × Appends old.output new.output (output command found))
 IsComplete asked told old new = ⊥
 
--- where the files are told: the input is accepted, and the output got a prefix of its complete output
+-- if the files are told: the input is accepted, and the output got a prefix of its complete output
 abbrev pub GotAccepted : Asked → Option Files → Outside → Outside → Type 0
 GotAccepted (built command) told old new =
     IfSome told (λ files. (found : Found) × IsVerdict (built command) files (Ok found) × GotPrefix old.output new.output (output command found))
@@ -59,7 +59,7 @@ pub data IsTurnOf (words : Words) (script : Option (List ℕ)) (files : Files) (
       → steps_in files script ≡ Ok steps → unknown_table words.tables select.items ≡ None
       → IsMember name (files_read files words.tables (first_uses select.items)) → IsTurnOf words script files name
 
--- where the files are told, it is one that the command reads, and `load` reads none
+-- if the files are told, it is one that the command reads, and `load` reads none
 abbrev pub IsCommandTurn : Command → Option Files → List ℕ → Type 0
 IsCommandTurn (run words) told name = IfSome told (λ files. IsTurnOf words None files name)
 IsCommandTurn (plan words) told name = IfSome told (λ files. IsTurnOf words None files name)
@@ -70,7 +70,7 @@ abbrev pub IsTurn : Asked → Option Files → List ℕ → Type 0
 IsTurn (built command) told name = IsCommandTurn command told name
 IsTurn no_command told name = ⊥
 
--- where the files are told, the answer is the verdict on the input, or it speaks of what happened on the way
+-- if the files are told, the answer is the verdict on the input, or it speaks of what happened on the way
 abbrev pub IsAnswer : Asked → Option Files → Answer → Type 0
 IsAnswer asked told answer.Usage = asked ≡ no_command
 IsAnswer asked told (answer.ReadFault name) = IsTurn asked told name
@@ -78,14 +78,14 @@ IsAnswer asked told answer.WriteFault = IfSome told (λ files. (found : Found) �
 IsAnswer asked told answer.NoMemory = Unit {0}
 IsAnswer asked told refusal = IfSome told (λ files. IsVerdict asked files (Err refusal))
 
--- an answer about the outside comes only where the count that belongs to it rose
+-- an answer about the outside comes only if the count that belongs to it rose
 abbrev pub IsCaused : Outside → Outside → Answer → Type 0
 IsCaused old new (answer.NoFile name) = Rose old.misses new.misses
 IsCaused old new (answer.ReadFault name) = Rose old.read_faults new.read_faults
 IsCaused old new answer.WriteFault = Rose old.write_faults new.write_faults
 IsCaused old new other = Unit {0}
 
--- what the output got where the answer is not success
+-- what the output got if the answer is not success
 abbrev pub IsCut : Asked → Option Files → Outside → Outside → Answer → Type 0
 IsCut asked told old new answer.WriteFault = GotAccepted asked told old new
 IsCut asked told old new answer.NoMemory = GotNothing old new ⊎ GotAccepted asked told old new
@@ -100,17 +100,17 @@ pub record Ended (asked : Asked) (told : Option Files) (old new : Outside) (answ
 
 -- ---- completeness
 
--- where the input is accepted and nothing failed, the call is done, or memory ran out
+-- if the input is accepted and nothing failed, the call is done, or memory ran out
 abbrev pub IsDoneWhereAccepted : Asked → Option Files → Outside → Outside → ℕ → Type 0
 IsDoneWhereAccepted asked told old new status = IfSome told (λ files. (found : Found) → IsVerdict asked files (Ok found)
     → (Rose old.read_faults new.read_faults → ⊥) → (Rose old.write_faults new.write_faults → ⊥) → (status ≡ 0) ⊎ (status ≡ 12))
 
--- where the input is refused and no read failed, the status is the refusal's, or memory ran out
+-- if the input is refused and no read failed, the status is the refusal's, or memory ran out
 abbrev pub IsRefusedWhereRefused : Asked → Option Files → Outside → Outside → ℕ → Type 0
 IsRefusedWhereRefused asked told old new status = IfSome told (λ files. (refusal : Answer) → IsVerdict asked files (Err refusal)
     → (Rose old.read_faults new.read_faults → ⊥) → (status ≡ status_of refusal) ⊎ (status ≡ 12))
 
--- where the input is refused, the output got nothing, whatever the status is
+-- if the input is refused, the output got nothing, whatever the status is
 abbrev pub IsUnwrittenWhereRefused : Asked → Option Files → Outside → Outside → Type 0
 IsUnwrittenWhereRefused asked told old new =
     IfSome told (λ files. (refusal : Answer) → IsVerdict asked files (Err refusal) → GotNothing old new)

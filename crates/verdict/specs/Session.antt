@@ -22,13 +22,13 @@ with_cursor places name place = λ other. if bytes_eq other name then place else
 abbrev pub place_in : Places → List ℕ → ℕ
 place_in places name = unwrap_or (places name) 0
 
--- a line for each of the first members, so many of them, and the ending where there are fewer
+-- a line for each of the first members, so many of them, and the ending if there are fewer
 abbrev pub next_text : (List ℕ → List ℕ) → List ℕ → List (List ℕ) → ℕ → List ℕ
 next_text line ending members zero = []
 next_text line ending [] (suc count) = ending
 next_text line ending (member ∷ members) (suc count) = line member ++ next_text line ending members count
 
--- what a step prints: `next` the members from its cursor's place on, and the cursor's name alone where the list ends before
+-- what a step prints: `next` the members from its cursor's place on, and the cursor's name alone if the list ends before
 abbrev pub step_text : (List ℕ → List ℕ → List ℕ) → List (List ℕ) → Places → Step → List ℕ
 step_text line members places (Open name) = []
 step_text line members places (Next name count) = next_text (line name) (name ++ codes "\n") (drop (place_in places name) members) count

@@ -28,7 +28,7 @@ abbrev pub calls_of_steps : Bool → List (List ℕ) → Places → List Step �
 calls_of_steps ends members places [] = 0
 calls_of_steps ends members places (step ∷ steps) = calls_of_step ends members places step + calls_of_steps ends members (places_after members places step) steps
 
--- how far one step goes in the list: the place that its cursor gets to, and one place more where it finds the end
+-- how far one step goes in the list: the place that its cursor gets to, and one place more if it finds the end
 abbrev pub reach_of_step : Bool → List (List ℕ) → Places → Step → ℕ
 reach_of_step ends members places (Open name) = 0
 reach_of_step ends members places (Next name count) = place_in places name + calls_among ends (length (drop (place_in places name) members)) count

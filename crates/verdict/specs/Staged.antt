@@ -16,7 +16,7 @@ pub record Shelved : Type 0 where
 abbrev pub shelved : {S : Type 0} → Ghosts S → S → Shelved
 shelved counts shelf = record { files = counts.files shelf; misses = counts.misses shelf; faults = counts.faults shelf }
 
--- where the files are told: the result is the stage's, or, where a read failed, the file is one that the stage reads
+-- if the files are told: the result is the stage's, or, if a read failed, the file is one that the stage reads
 abbrev pub Fits : {A : Type 0} → (Files → Result A Answer → Type 0) → (Files → List ℕ → Type 0) → Option Files → Result A Answer → Type 0
 Fits Gives Turn told (Err answer.NoMemory) = Unit {0}
 Fits Gives Turn told (Err (answer.ReadFault name)) = IfSome told (λ files. Turn files name)
@@ -24,7 +24,7 @@ Fits Gives Turn told (Err answer.WriteFault) = ⊥
 Fits Gives Turn told (Err answer.Usage) = ⊥
 Fits Gives Turn told result = IfSome told (λ files. Gives files result)
 
--- an answer about the shelf comes only where its count rose
+-- an answer about the shelf comes only if its count rose
 abbrev pub Causes : {A : Type 0} → Shelved → Shelved → Result A Answer → Type 0
 Causes old new (Err (answer.NoFile name)) = Rose old.misses new.misses
 Causes old new (Err (answer.ReadFault name)) = Rose old.faults new.faults
@@ -37,7 +37,7 @@ pub record Staged {A : Type 0} (Gives : Files → Result A Answer → Type 0) (T
   pub misses : old.misses ≤ new.misses
   pub faults : old.faults ≤ new.faults
 
--- a stage that looks at no file: its answer, or want of memory
+-- a stage that looks at no file: its answer, or no memory
 abbrev pub Pure : {A : Type 0} → (Result A Answer → Type 0) → Result A Answer → Type 0
 Pure Gives (Err answer.NoMemory) = Unit {0}
 Pure Gives (Err (answer.NoFile name)) = ⊥

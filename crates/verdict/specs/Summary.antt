@@ -10,7 +10,7 @@ use Rattle.query_bind.specs.Parts.{sum_of_all}
 abbrev pub rows_in_all : List Table → ℕ
 rows_in_all tables = sum_of_all (map (λ (t : Table). length t.rows) tables)
 
--- the sum of the first order key, where there is one
+-- the sum of the first order key, if there is one
 abbrev pub first_sum_text : Query → List Table → List ℕ → List OrderKey → List ℕ
 first_sum_text query tables member [] = codes "none"
 first_sum_text query tables member (key ∷ keys) = signed_decimal (sum_of query tables member key)

@@ -28,7 +28,7 @@ command_words (plan words) = words
 command_words (session script words) = words
 command_words (load number rows) = made_words
 
--- the file of the script, where the command has one
+-- the file of the script, if the command has one
 abbrev pub command_script : Command → Option (List ℕ)
 command_script (run words) = None
 command_script (plan words) = None
