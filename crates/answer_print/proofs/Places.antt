@@ -1,4 +1,4 @@
--- The rows of a combination and the columns of a query are there.
+-- The rows of a combination and the columns of a query exist.
 use Rattle.std.proofs.Common.{◌≡◌, ◌<◌, ◌≤◌, ℕ, zero, suc, List, [], ◌∷◌, map, length, take, get_or, refl, sym, ap, ◌∙◌, subst, arith, length-take}
 use Rattle.std.proofs.lemmas.List.{get_or-map, get_or-take, length-map}
 use Rattle.anyk_model.specs.Table.{Table, table_at}
@@ -21,7 +21,7 @@ combination-length [] (row ∷ rows) chosen = absurd chosen
 combination-length (count ∷ counts) [] chosen = absurd chosen
 combination-length (count ∷ counts) (row ∷ rows) chosen = ap suc (combination-length counts rows chosen.2)
 
--- an item has a row, which is there
+-- an item has a row, which exists
 pub record HasRow (tables : List Table) (items : List Item) (rows : List ℕ) (i : ℕ) : Type 0 where
   pub same : get_or (take (length items) rows) i 0 ≡ get_or rows i 0
   pub first : 1 ≤ get_or rows i 0
@@ -44,7 +44,8 @@ row-there tables items rows i chosen inside =
       place = omega (arith, all, sizes, length-take (length items) rows);
     }
 
--- the selected column at a place is there, with its item and the item's table; columns are stored as pairs
+-- The selected column at a place exists, with its item and the item's table. Columns are stored as
+-- pairs.
 pub record HasColumn (query : Query) (tables : List Table) (shown : List (ℕ × ℕ)) (i : ℕ) (d : ℕ × ℕ) : Type 0 where
   pub place : i < length query.list
   pub same : column_shown (get_or shown i d) ≡ get_or query.list i (column_shown d)

@@ -11,7 +11,7 @@ shown-more view now new y base so_far z before added here =
     ap (map view) added ∙ map-append view now (y ∷ []) ∙ ap (λ l. l ++ view y ∷ []) before ∙ append_assoc base so_far (view y ∷ [])
     ∙ ap (λ x. base ++ (so_far ++ x ∷ [])) here
 
--- a loop over a list that puts what it makes of each element last
+-- a loop over a list that appends what it makes of each element
 pub element-more : {A B X : Type 0} (view : A → B) (f : X → B) (now new : List A) (y : A) (base : List B) (xs : List X) (i : ℕ) (x : X)
     → map view now ≡ base ++ map f (take i xs) → new ≡ now ++ y ∷ [] → view y ≡ f (get_or xs i x) → i < length xs
     → map view new ≡ base ++ map f (take (i + 1) xs)
@@ -19,7 +19,7 @@ element-more view f now new y base xs i x before added here inside =
     shown-more view now new y base (map f (take i xs)) (f (get_or xs i x)) before added here
     ∙ ap (λ l. base ++ l) (sym (map-append f (take i xs) (get_or xs i x ∷ [])) ∙ ap (map f) (sym (take_more xs i x inside)))
 
--- a loop over numbers that puts what it makes of each number last
+-- a loop over numbers that appends what it makes of each number
 pub number-more : {A B : Type 0} (view : A → B) (f : ℕ → B) (now new : List A) (y : A) (base : List B) (first n number : ℕ)
     → map view now ≡ base ++ map f (range_with_len first n) → new ≡ now ++ y ∷ [] → view y ≡ f number → first + n ≡ number
     → map view new ≡ base ++ map f (range_with_len first (n + 1))

@@ -1,4 +1,4 @@
--- The parts of a combination's rows, added up one after the other.
+-- The parts of a combination's rows, added one after another.
 use Rattle.std.proofs.Common.{◌≡◌, ◌+◌, ◌<◌, ◌≤◌, ℕ, zero, suc, nat_lt, Bool, true, false, cond, if◌then◌else◌, ℤ, pos, ◌+ℤ◌, ◌-ℤ◌, neg_ℤ, nat_abs, List, [], ◌∷◌, ◌++◌, map, length, get_or, slice_index, Option, Some, None, option_map, refl, sym, ap, ◌∙◌, arith, FitsSigned}
 use mir.Syntax.{w128}
 use Rattle.std.specs.List.{position_from, range_with_len}
@@ -21,7 +21,7 @@ passed-by : (b : Bool) (n : ℕ) (later : Option ℕ) → cond b (Some n) later 
 passed-by true n later e = absurd (cc e)
 passed-by false n later e = (refl, e)
 
--- where no element passes a test, each one fails it
+-- if no element passes a test, each one fails it
 none-passes : {A : Type 0} (test : A → Bool) (n : ℕ) (xs : List A) (k : ℕ) (d : A) → position_from test n xs ≡ None → k < length xs → test (get_or xs k d) ≡ false
 none-passes test n [] k d e inside = absurd (omega arith)
 none-passes test n (x ∷ xs) zero d e inside = (passed-by (test x) n (position_from test (n + 1) xs) e).0
@@ -113,7 +113,7 @@ module _ (bound : BoundQuery) (tables : List Table) (fits : Fits bound tables) (
   as_compared true sum z e = ((λ t. omega (arith, ints, e)), (λ t. absurd (cc t)))
   as_compared false sum z e = ((λ t. absurd (cc t)), (λ t. e))
 
-  -- all parts give the sum, negated where the order descends
+  -- all parts give the sum, which is negated if the order descends
   whole : (z : ℤ) → z ≡ so_far (length bound.query.items) → z ≡ rank_of bound.query tables rows key
   whole z is = is ∙ parts-add bound.query tables rows key inside
 

@@ -1,4 +1,4 @@
--- What a style shows.
+-- What contracts see of a style.
 use Rattle.std.specs.Prelude.{option_map}
 use Rattle.anyk_model.specs.Output as output
 use Rattle.answer_print.specs.declared.style.Style.{Style}

@@ -15,8 +15,9 @@ use query_bind::Query;
 use std::alloc::Global;
 use step_counter::NoMemory;
 
-/// The record of the answer that has these rows, one for each item, counted from 1: the cursor's name if there is one, the selected
-/// columns, the sums of the order keys if they are shown, the row numbers if they are shown.
+/// The record of the answer with these rows, one for each item, counted from 1. Its fields are the
+/// cursor's name if there is one, the selected columns, and the sums of the order keys and the row
+/// numbers if they are shown. `NoMemory` if memory is refused.
 pub fn line(
     alloc: Global,
     query: &Query,
@@ -33,7 +34,8 @@ pub fn line(
     csv_tables::line(alloc, fields.as_slice())
 }
 
-/// Writes the record of the answer that has these rows, as `line` gives it, by a writer that is kept for many records.
+/// Writes the record of the answer with these rows, as `line` gives it, by a writer that is kept
+/// for many records. `NoMemory` if memory is refused.
 pub fn write_line(
     alloc: Global,
     records: &mut RecordWriter,
@@ -51,7 +53,8 @@ pub fn write_line(
     records.write(fields.as_slice())
 }
 
-/// The fields of the record: the cursor's name if there is one, the selected columns of the rows, these numbers.
+/// The fields of the record: the cursor's name if there is one, the selected columns of the rows,
+/// and these numbers.
 fn collect_fields<'a>(
     alloc: Global,
     query: &Query,
@@ -72,7 +75,7 @@ fn collect_fields<'a>(
     Ok(fields)
 }
 
-/// Puts the selected columns of the rows last.
+/// Appends the selected columns of the rows.
 fn push_values<'a>(
     fields: &mut Vec<&'a [u8]>,
     query: &Query,
@@ -116,7 +119,7 @@ fn numbers(
     Ok(numbers)
 }
 
-/// Puts the sums of the order keys last.
+/// Appends the sums of the order keys.
 fn push_sums(
     numbers: &mut Vec<NumberText>,
     query: &Query,
@@ -136,7 +139,7 @@ fn push_sums(
     Ok(())
 }
 
-/// Puts the row numbers of the items last.
+/// Appends the row numbers of the items.
 fn push_rows(numbers: &mut Vec<NumberText>, query: &Query, rows: &[u32; 16]) -> Result<(), NoMemory>
     ensures { OnOk result (numbers.new.items ≡ numbers.old.items ++ map decimal (take (length query.now.query.items) rows.now)) }
 {
@@ -148,7 +151,8 @@ fn push_rows(numbers: &mut Vec<NumberText>, query: &Query, rows: &[u32; 16]) -> 
     Ok(())
 }
 
-/// The sum of an order key, as the query has it, over the rows of the items, counted from 1. Keys count from 0.
+/// The sum of an order key over the rows of the items, with the sign that the query gives it,
+/// whether the key ascends or descends. Rows count from 1, and keys from 0.
 pub fn key_sum(query: &Query, tables: &Tables, rows: &[u32; 16], key: u32) -> i128
     requires fits { Fits query.now tables.now }
     requires rows { IsCombination (row_counts query.now.query.items tables.now) (take (length query.now.query.items) rows.now) }

@@ -1,11 +1,11 @@
-//! The fields of a record, in order, borrowed from what they are taken from.
+//! The fields of a record, in order, borrowed from their sources.
 ghost use Rattle.std.specs.Prelude.{◌≡◌, ◌++◌, OnOk, map, option_map, string_bytes};
 ghost use Rattle.anyk_model.specs.Output.{optional_field};
 
 use number_text::NumberText;
 use step_counter::NoMemory;
 
-/// Puts a field last, if there is one.
+/// Appends a field, if there is one.
 pub(crate) fn push_optional<'a>(
     fields: &mut Vec<&'a [u8]>,
     field: Option<&'a [u8]>,
@@ -18,7 +18,7 @@ pub(crate) fn push_optional<'a>(
     Ok(())
 }
 
-/// Puts texts last.
+/// Appends texts.
 pub(crate) fn push_texts<'a>(
     fields: &mut Vec<&'a [u8]>,
     texts: &'a [String],
@@ -31,7 +31,7 @@ pub(crate) fn push_texts<'a>(
     Ok(())
 }
 
-/// Puts the texts of numbers last.
+/// Appends the texts of numbers.
 pub(crate) fn push_numbers<'a>(
     fields: &mut Vec<&'a [u8]>,
     numbers: &'a [NumberText],

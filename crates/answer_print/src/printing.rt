@@ -1,4 +1,4 @@
-//! The header, and the record of an answer, each by one write.
+//! Printing the header and the record of an answer, each by one write.
 ghost use Rattle.std.specs.Prelude.{length, take};
 ghost use Rattle.anyk_model.specs.Output.{header_text, line_text};
 ghost use Rattle.anyk_model.specs.Query.{IsCombination, row_counts};
@@ -15,7 +15,7 @@ use query_bind::Query;
 use refusal_lines::{Refusal, print};
 use std::alloc::Global;
 
-/// Prints the header.
+/// Prints the header. `WriteFault` if the write failed, and `NoMemory` if memory is refused.
 pub fn print_header<'a, S: Sink>(
     alloc: Global,
     query: &Query,
@@ -31,7 +31,8 @@ pub fn print_header<'a, S: Sink>(
     print(out, &text)
 }
 
-/// Prints the record of the answer that has these rows, one for each item, counted from 1. `records` writes it first.
+/// Prints the record of the answer with these rows, one for each item, counted from 1. `records`
+/// keeps the memory for it. `WriteFault` if the write failed, and `NoMemory` if memory is refused.
 pub fn print_answer<'a, S: Sink>(
     alloc: Global,
     records: &mut RecordWriter,

@@ -11,8 +11,9 @@ use query_bind::Query;
 use std::alloc::Global;
 use step_counter::NoMemory;
 
-/// The record of the columns' titles: `cursor` if a cursor is named, the names of the selected columns, `rank1` and so on if
-/// sums are shown, `row1` and so on if row numbers are shown.
+/// The record of the columns' titles: `cursor` if a cursor is named, the names of the selected
+/// columns, `rank1` and so on if sums are shown, and `row1` and so on if row numbers are shown.
+/// `NoMemory` if memory is refused.
 pub fn header(
     alloc: Global,
     query: &Query,
@@ -54,7 +55,7 @@ fn number_titles(alloc: Global, query: &Query, style: &Style<'_>) -> Result<Vec<
     Ok(titles)
 }
 
-/// Puts a word with each number from 1 to `count` after it last.
+/// Appends `word` with each number from 1 to `count` after it.
 fn push_numbered(
     alloc: Global,
     titles: &mut Vec<String>,
@@ -70,7 +71,7 @@ fn push_numbered(
     Ok(())
 }
 
-/// Puts the names of the selected columns last.
+/// Appends the names of the selected columns.
 fn push_names<'a>(
     fields: &mut Vec<&'a [u8]>,
     query: &Query,

@@ -1,4 +1,4 @@
--- The steps of a command, where its input is accepted.
+-- The steps of a command, if its input is accepted.
 use Rattle.std.proofs.Common.{◌≡◌, ◌≤◌, ◌+◌, ◌*◌, ℕ, List, length, Option, Some, None, Ok, subst, arith}
 use Rattle.std.proofs.lemmas.Nat.{mul-le}
 use Rattle.anyk_model.specs.Query.{row_counts}
@@ -16,7 +16,7 @@ use Rattle.verdict.proofs.One.{one_verdict}
 use Rattle.anyk_top.specs.Planned.{IsEarlyWithin}
 use Rattle.anyk_top.proofs.Ends.{Accepts}
 
--- an input that is told has one verdict
+-- known files have one verdict
 found-is : (command : Command) (files : Files) (found other : Found) → Accepts command (Some files) found → IsVerdict (built command) files (Ok other) → found ≡ other
 found-is command files found other accepts verdict = let e = one_verdict (built command) files (Ok found) (Ok other) accepts verdict in cc
 
@@ -43,7 +43,7 @@ prompt-still no_command told old new n = tt
 prompt-still (built command) None old new n = tt
 prompt-still (built command) (Some files) old new n = λ found verdict. paced-still command found old new n
 
--- the steps over the input that is accepted
+-- the steps for the input that is accepted
 pub bounded-found : (command : Command) (told : Option Files) (found : Found) (before now : ℕ) → Accepts command told found → IsWithin command found before now
     → IsBounded (built command) told before now
 bounded-found command None found before now accepts h = tt
@@ -56,7 +56,7 @@ prompt-found command None found old new before now accepts h = tt
 prompt-found command (Some files) found old new before now accepts h = λ other verdict.
     subst (λ f. IsPaced command f old new before now) (found-is command files found other accepts verdict) h
 
--- ---- the steps of a preparation, as part of all
+-- ---- the steps of a preparation, as part of all steps
 
 prepared-cost : (l t b x : ℕ) → t ≤ b → 16 * (l * l * (1 + t)) ≤ 64 * (l * l) * (1 + b + x)
 prepared-cost l t b x h = let more = mul-le (l * l) (1 + t) (l * l) (1 + b + x) (omega arith) (omega (arith, h)) in omega (arith, more)

@@ -1,4 +1,4 @@
--- How a call ended, from what its parts answer.
+-- How a call ended, from the results of its parts.
 use Rattle.std.proofs.Common.{◌≡◌, [], ℕ, List, Option, Some, None, IfSome, Result, Ok, Err, OnOk, IfErr, inl, inr, refl, sym, subst}
 use Rattle.std.specs.Io.KnownBytes.{Appends}
 use Rattle.outer_io.specs.Files.{Files}
@@ -78,7 +78,7 @@ built-outcome command told old new e e' n n' (Err refusal) status complete fits 
     })
     (λ h. built-no_command h))
 
--- ---- how a call ends whose words are no command
+-- ---- how a call ends if its arguments are not a command
 
 early-answer : (asked : Asked) (told : Option Files) (old new : Outside) (a : Answer) → IsEarly asked a → GotNothing old new → HasLine old new (line_of a)
     → Outcome asked told old new (status_of a)
@@ -94,13 +94,13 @@ early-outcome asked told old new refusal status early nothing (is, sent) =
     let P : ℕ → Type 0 = Outcome asked told old new in
     subst P (sym is) (early-answer asked told old new (answer_of refusal) early nothing (has-line old new (line_of (answer_of refusal)) sent))
 
--- ---- how judging the input ends
+-- ---- how reading and planning the input end
 
 unless-ok : {A : Type 0} (o : Option Answer) (a k : A) → Ok k ≡ unless o a → (o ≡ None) × (k ≡ a)
 unless-ok None a k e = (refl, cc)
 unless-ok (Some answer) a k e = cc
 
--- a file of the stages is one that is read on this input
+-- a file that a stage reads is one that is read for this input
 turn-of : (words : Words) (script : Option (List ℕ)) (files : Files) (name : List ℕ) → IsLoadTurn words.query script words.tables files name
     → IsTurnOf words script files name
 turn-of words script files name (first_turn is) = query_turn is
@@ -118,7 +118,7 @@ turn-told : (words : Words) (script : Option (List ℕ)) (told : Option Files) (
 turn-told words script None name h = tt
 turn-told words script (Some files) name h = turn-of words script files name h
 
--- where the files are told, the verdict is this
+-- if the files are known, this is the verdict
 abbrev pub Accepts : Command → Option Files → Found → Type 0
 Accepts command told found = IfSome told (λ files. IsVerdict (built command) files (Ok found))
 
@@ -135,7 +135,7 @@ judged-accepts (plan words) old new found h = h.fits
 judged-accepts (session script words) old new found h = h.fits
 judged-accepts (load number rows) old new found h = anywhere old.files h.0
 
--- a refusal that is no word of the outside is the verdict
+-- a refusal that does not speak of the outside is the verdict
 fits-answer : (asked : Asked) (G : Files → Result Found Answer → Type 0) (T : Files → List ℕ → Type 0) (told : Option Files) (a : Answer)
     → (IfSome told (λ files. G files (Err a)) → IfSome told (λ files. IsVerdict asked files (Err a)))
     → ((name : List ℕ) → IfSome told (λ files. T files name) → IsTurn asked told name) → Fits G T told (Err a) → IsAnswer asked told a
@@ -192,7 +192,7 @@ judged-caused (session script words) old new files files' a h =
 judged-caused (load number rows) old new files files' a h =
     pure-caused (IsVerdict (built (load number rows)) []) old new a h.0
 
--- it writes nothing
+-- nothing was written
 fits-cut : (asked : Asked) (G : Files → Result Found Answer → Type 0) (T : Files → List ℕ → Type 0) (told : Option Files) (old new : Outside) (a : Answer)
     → Fits G T told (Err a) → GotNothing old new → IsCut asked told old new a
 fits-cut asked G T told old new answer.WriteFault h nothing = absurd h

@@ -1,4 +1,4 @@
--- From what is loaded and how it is structured to the verdict.
+-- From what is loaded, and its structure, to the verdict.
 use Rattle.std.proofs.Common.{◌≡◌, ℕ, List, Option, Some, None, IfSome, Result, Ok, Err, refl, subst, sym, ap, arith}
 use Rattle.hyper_graph.specs.Items.{items_of}
 use Rattle.outer_io.specs.Files.{Files}
@@ -26,7 +26,7 @@ use Rattle.verdict.proofs.Staging.{found_within, pure_found, pure_refused, pure_
 use Rattle.anyk_top.specs.Judged.{IsJudged, IsJudgedOn, IsLooked, IsLookedUp}
 use Rattle.anyk_top.specs.Planned.{IsEarlyWithin, plan_answer, shown_plan}
 
--- a refusal while the input is looked at is the verdict's
+-- a refusal while the input is read is that of the verdict
 up-refused : (command : Command) (words : Words) (script : Option (List ℕ)) (old new : Shelved) (a : Answer)
     → ((files : Files) → IsLoadedOn words.query script words.tables files (Err a) → IsVerdict (built command) files (Err a))
     → IsLookedUp words script old new (Err a) → IsJudgedOn command words script old new (Err a)
@@ -41,7 +41,7 @@ looked-refused (session script words) old new a h = up-refused (session script w
 looked-refused (load number rows) old new a h =
     (pure_refused (IsLoadedOn made_words.query None made_words.tables (made_files number rows)) IsShaped a h.0, h.1)
 
--- and what is loaded and then structured has that verdict
+-- what is loaded and then has a structure has that verdict
 up-then : (command : Command) (words : Words) (script : Option (List ℕ)) (old new : Shelved) (loaded : Loaded) (r : Result Found Answer)
     → ((files : Files) → IsLoadedOn words.query script words.tables files (Ok loaded) → IsShaped loaded r → IsVerdict (built command) files r)
     → IsLookedUp words script old new (Ok loaded) → Pure (IsShaped loaded) r → IsJudgedOn command words script old new r
@@ -59,7 +59,7 @@ looked-then (session script words) old new loaded r h shaped =
 looked-then (load number rows) old new loaded r h shaped =
     (pure_found (IsLoadedOn made_words.query None made_words.tables (made_files number rows)) IsShaped loaded r h.0 shaped, h.1)
 
--- ---- the steps of an input that was looked at
+-- ---- the steps for an input that was read
 
 anywhere : {A : Type 0} (told : Option Files) → A → IfSome told (λ files. A)
 anywhere None a = tt

@@ -1,4 +1,4 @@
--- What an engine over a plan has left before its first call: the ranking of the query.
+-- What an engine over a plan has left before its first call, which is the ranking of the query.
 use Rattle.std.proofs.Common.{◌≡◌, ◌≤◌, ℕ, List, length, sym, ap, subst, ◌∙◌, arith}
 use Rattle.anyk_model.specs.Table.{Table}
 use Rattle.anyk_model.specs.Ranking.{ranking_of}

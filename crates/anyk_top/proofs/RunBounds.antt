@@ -22,7 +22,7 @@ share-within m n g c = by (nat_lt 0 g)
     by true = omega arith
     by false = omega arith
 
--- more rows in all, more steps
+-- with more rows in all, there are more steps
 prepared-within : (l t b : ℕ) → t ≤ b → 16 * (l * l * (1 + t)) ≤ 16 * (l * l * (1 + b))
 prepared-within l t b h = let more = mul-le (l * l) (1 + t) (l * l) (1 + b) (omega arith) (omega (arith, h)) in omega (arith, more)
 
@@ -31,7 +31,7 @@ module _ {R : Type 0} (d : ℕ) (key : R → KeyOf d 16) (query : Query) (tables
   table_total = sum_of_all (row_counts query.items tables)
 
   module _ (plan : PlanData R) (m_same : length plan.tree ≡ length query.items) (n_few : row_count plan.tree ≤ total_of query tables shape) where
-    -- where it ran out for the engine
+    -- when memory ran out for the engine
     pub started : (before prepared now calls : ℕ) → prepared ≤ before + 16 * (length query.items * length query.items * (1 + table_total))
         → now ≤ prepared + 16 * (length plan.tree * (1 + row_count plan.tree)) → now ≤ before + cost_over query tables shape calls
     started before prepared now calls first second =
@@ -41,7 +41,7 @@ module _ {R : Type 0} (d : ℕ) (key : R → KeyOf d 16) (query : Query) (tables
         let engine : 16 * (length plan.tree * (1 + row_count plan.tree)) ≡ 16 * (length query.items * (1 + row_count plan.tree)) = ap (λ m. 16 * (m * (1 + row_count plan.tree))) m_same in
         omega (arith, first, second, more, all, engine)
 
-    -- with so many calls
+    -- with this many calls
     called : (before prepared made now calls : ℕ) → prepared ≤ before + 16 * (length query.items * length query.items * (1 + table_total))
         → made ≤ prepared + 16 * (length plan.tree * (1 + row_count plan.tree)) → now ≤ made + steps_for (λ n. share_of (size_of plan.tree) (0 + n)) calls
         → now ≤ before + cost_over query tables shape calls

@@ -1,4 +1,4 @@
--- What the words of the command line ask for.
+-- What the arguments of the command line ask for.
 use Rattle.std.specs.Prelude.{◌≡◌, ℕ, List, Option, Some, None}
 use Rattle.refusal_lines.specs.Answer as answer
 use Rattle.refusal_lines.specs.Answer.{Answer}
@@ -6,11 +6,11 @@ use Rattle.cmd_words.specs.Commands.{CommandSaid, run_said, session_said, plan_s
 use Rattle.cmd_words.specs.Said.{WordsSaid}
 use Rattle.verdict.specs.Words.{Words, Asked, no_command, built, run, plan, session, load}
 
--- all but the engine, which changes no output
+-- all but the engine, which does not change the output
 abbrev pub words_of : WordsSaid → Words
 words_of said = record { ranks = said.ranks; rows = said.rows; query = said.query; tables = said.tables }
 
--- `clap` takes the words of a session only if a script is among them
+-- `clap` accepts the arguments of a session only if a script is among them
 abbrev pub asked_session : Option (List ℕ) → Words → Asked
 asked_session None words = no_command
 asked_session (Some script) words = built (session script words)
@@ -22,7 +22,7 @@ asked_of (Some (session_said said)) = asked_session said.script (words_of said)
 asked_of (Some (plan_said said)) = built (plan (words_of said))
 asked_of (Some (load_said engine number rows)) = built (load number rows)
 
--- the answer is the words' own: they are no command; or memory ran out
+-- the arguments are not a command, or memory ran out
 abbrev pub IsEarly : Asked → Answer → Type 0
 IsEarly asked answer.Usage = asked ≡ no_command
 IsEarly asked answer.NoMemory = Unit {0}

@@ -1,4 +1,4 @@
--- How a call ends: its status, and what it wrote on the sink for errors.
+-- How a call ends: its status, and what it wrote to the sink for errors.
 use Rattle.std.specs.Prelude.{◌≡◌, ℕ, List, [], Option, Result, Ok, Err}
 use Rattle.std.specs.Io.KnownBytes.{Appends}
 use Rattle.outer_io.specs.declared.writing.Unwritten.{Unwritten}

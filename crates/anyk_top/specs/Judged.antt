@@ -1,4 +1,4 @@
--- What looking at the input of a command, and planning its query, find.
+-- What reading the input of a command and planning its query give.
 use Rattle.std.specs.Prelude.{◌≡◌, ℕ, List, [], Option, Some, None, Result}
 use Rattle.input_load.specs.Turns.{IsTurn}
 use Rattle.refusal_lines.specs.Answer.{Answer}
@@ -9,12 +9,12 @@ use Rattle.verdict.specs.Staged.{Pure, Shelved, Staged}
 use Rattle.verdict.specs.Verdict.{IsLoadedOn, IsVerdict}
 use Rattle.verdict.specs.Words.{Command, Words, built, run, plan, session, load, made_words}
 
--- the input that the files of the shelf hold, or a cause on the way
+-- the input that the files of the shelf have, or a cause on the way
 abbrev pub IsLookedUp : Words → Option (List ℕ) → Shelved → Shelved → Result Loaded Answer → Type 0
 IsLookedUp words script old new result =
     Staged (IsLoadedOn words.query script words.tables) (IsTurn words.query script words.tables) old new result
 
--- `load` looks at the files that it makes, and leaves the shelf as it was
+-- `load` reads the files that it makes, and leaves the shelf as it was
 abbrev pub IsLooked : Command → Shelved → Shelved → Result Loaded Answer → Type 0
 IsLooked (run words) old new result = IsLookedUp words None old new result
 IsLooked (plan words) old new result = IsLookedUp words None old new result

@@ -1,4 +1,4 @@
--- The plan of an accepted input, as the verdict tells it.
+-- The plan of an accepted input, as the verdict sees it.
 use Rattle.std.specs.Prelude.{ℕ, List, Option, IfSome, Result, Ok, Err}
 use Rattle.anyk_model.specs.Table.{Table}
 use Rattle.hyper_graph.specs.Items.{items_of}
@@ -48,7 +48,7 @@ plan_answer (fault.Cyclic core) = answer.Cyclic (items_of core)
 plan_answer (fault.TooManyRows most) = answer.TooManyNodeRows
 plan_answer fault.NoMemory = answer.NoMemory
 
--- if the files are told and the input is accepted, no more steps were taken than its preparation may take
+-- if the files are known and the input is accepted, preparation took no more steps than it may take
 abbrev pub IsEarlyWithin : Command → Option Files → ℕ → ℕ → Type 0
 IsEarlyWithin command told before now = IfSome told (λ files. (found : Found) → IsVerdict (built command) files (Ok found)
     → IsPrepared found.query found.tables before now)

@@ -33,7 +33,9 @@ use std::alloc::Global;
 use std::sync::ledger::Ledger;
 use step_counter::Steps;
 
-/// Reads the input that the words name, or makes it, plans its query, and prints the command's output.
+/// Reads or makes the input of the command, plans its query, and prints the command's output. The
+/// result is an error if the input is refused, if a read or a write failed, or if memory is
+/// refused.
 pub(crate) fn answer<'a, F: Shelf, S: Sink, L: Ledger>(
     alloc: Global,
     request: &'a Request,
@@ -59,7 +61,7 @@ pub(crate) fn answer<'a, F: Shelf, S: Sink, L: Ledger>(
     print_planned(alloc, request, &planned, out, steps)
 }
 
-// Prints by the ranks of the plan.
+// Prints the output, with the rank type of the plan.
 fn print_planned<'a, S: Sink, L: Ledger>(
     alloc: Global,
     request: &Request,
@@ -89,7 +91,7 @@ fn print_planned<'a, S: Sink, L: Ledger>(
     }
 }
 
-// Prints what the command wants of the plan.
+// Prints the output of the command for one rank type.
 fn print_output<'a, R: Rank, S: Sink, L: Ledger>(
     alloc: Global,
     request: &Request,

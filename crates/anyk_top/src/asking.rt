@@ -1,4 +1,4 @@
-//! What the words ask for.
+//! The command that the arguments ask for.
 ghost use Rattle.std.specs.Prelude.{◌≡◌, Some, IfErr, IfOk, map};
 ghost use Rattle.std.specs.String.{string_bytes};
 ghost use Rattle.cmd_words.specs.Commands.{KeepsRange, said_of, seen_command};
@@ -15,7 +15,8 @@ use input_load::MadeTables;
 use refusal_lines::Refusal;
 use std::alloc::Global;
 
-/// The command that the words are. `Usage` if they are none.
+/// The command that the arguments ask for. `Usage` if they are not a command, and `NoMemory` if
+/// memory is refused.
 pub(crate) fn read_request<'a>(alloc: Global, words: &[String]) -> Result<Request, Refusal<'a>>
     ensures built { IfOk result (λ request. asked_of (said_of (map string_bytes words.now)) ≡ built (command_of request)) }
     ensures early { IfErr result (λ refusal. IsEarly (asked_of (said_of (map string_bytes words.now))) (answer_of refusal)) }
@@ -42,7 +43,7 @@ fn request_of<'a>(alloc: Global, command: Command) -> Result<Request, Refusal<'a
     }
 }
 
-// The session of these words, of which the script is one.
+// The session that these words ask for. `Usage` if they name no script.
 fn session_of<'a>(words: Words) -> Result<Request, Refusal<'a>>
     ensures built { IfOk result (λ request. asked_of (Some (seen_command (Command.Session words))) ≡ built (command_of request)) }
     ensures early { IfErr result (λ refusal. IsEarly (asked_of (Some (seen_command (Command.Session words)))) (answer_of refusal)) }

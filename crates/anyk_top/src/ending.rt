@@ -4,7 +4,8 @@ ghost use Rattle.anyk_top.specs.Finished.{Finished};
 use outer_io::Sink;
 use refusal_lines::{Refusal, write_line};
 
-/// The exit status, and on a refusal its line on `err`. A fault there does not change the status.
+/// Writes the line of a refusal to `err`, if there is one, and returns the exit status. A write
+/// that fails there does not change the status.
 pub(crate) fn finish<E: Sink>(err: &mut E, outcome: Result<(), Refusal<'_>>) -> u8
     ensures { Finished (E.written err.old) (E.written err.new) (E.faults err.old) (E.faults err.new) outcome.entry result }
 {

@@ -23,7 +23,8 @@ use std::alloc::Global;
 use std::sync::ledger::Ledger;
 use step_counter::Steps;
 
-/// Takes the first answers of the query, as many as the limit allows, and prints their summary when all are known.
+/// Takes the first answers of the query, as many as the limit allows, and then prints their
+/// summary. `WriteFault` if the write failed, and `NoMemory` if memory is refused.
 pub(crate) fn print_load<'a, R: Rank, S: Sink, L: Ledger>(
     alloc: Global,
     engine: Engine,

@@ -15,7 +15,8 @@ use outer_io::Shelf;
 use refusal_lines::Refusal;
 use std::alloc::Global;
 
-/// The input of the request, or its first refusal: the files of the shelf that its words name, or the tables that are made.
+/// The input of the request, or its first refusal. It is read from the files of the shelf that the
+/// words name, or it is the tables that are made.
 pub(crate) fn look_at<'a, F: Shelf>(
     alloc: Global,
     request: &'a Request,
@@ -39,7 +40,7 @@ pub(crate) fn look_at<'a, F: Shelf>(
     }
 }
 
-// The input in the files of the shelf.
+// The input that is in the files of the shelf.
 fn look_up<'a, F: Shelf>(
     alloc: Global,
     words: &'a Words,

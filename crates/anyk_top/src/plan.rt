@@ -11,7 +11,8 @@ use rank_key::Rank;
 use refusal_lines::{Refusal, print};
 use std::alloc::Global;
 
-/// Prints the report of the plan's join tree.
+/// Prints the report of the plan's join tree. `WriteFault` if the write failed, and `NoMemory` if
+/// memory is refused.
 pub(crate) fn print_report<'a, R: Rank, S: Sink>(
     alloc: Global,
     plan: &Plan<R>,

@@ -30,7 +30,8 @@ pub(crate) struct Planned {
     pub(crate) plan: RankedPlan,
 }
 
-/// The input of the request with the plan of its query, or its first refusal.
+/// The input of the request with the plan of its query, or the first refusal. `Cyclic` if the query
+/// has no join tree, and `TooManyNodeRows` if more rows pass than the limit, in all nodes together.
 pub(crate) fn plan_request<'a, F: Shelf, L: Ledger>(
     alloc: Global,
     request: &'a Request,
@@ -50,7 +51,8 @@ pub(crate) fn plan_request<'a, F: Shelf, L: Ledger>(
     Ok(Planned { input, plan })
 }
 
-// The plan of the input's query. `Cyclic` if it has no join tree, and `TooManyNodeRows` if its nodes have too many rows.
+// The plan of the input's query. `Cyclic` if it has no join tree, and `TooManyNodeRows` if its
+// nodes have too many rows.
 fn plan_of<'a, L: Ledger>(
     alloc: Global,
     input: &Input,

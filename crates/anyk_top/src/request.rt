@@ -2,15 +2,16 @@
 use cmd_words::{Engine, Words};
 use input_load::MadeTables;
 
-/// A command, with its words.
+/// A command with its arguments.
 #[derive(Drop)]
 pub(crate) enum Request {
-    /// Writes the answers of a query.
+    /// Prints the answers of a query.
     Run(Words),
-    /// Shows the join tree of a query.
+    /// Prints the join tree of a query.
     Plan(Words),
-    /// Reads answers of a query as the script in the file of this name says.
+    /// Prints answers of a query as a script asks for them; the text is the name of the script's
+    /// file.
     Session(String, Words),
-    /// Sums up the answers of a query over tables that are made from a number.
+    /// Prints a summary of the answers of a query over tables that are made from a number.
     Load(Engine, MadeTables),
 }

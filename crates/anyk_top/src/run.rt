@@ -26,7 +26,8 @@ use std::alloc::Global;
 use std::sync::ledger::Ledger;
 use step_counter::Steps;
 
-/// Prints the header, and then the first answers of the query, as many as the limit allows, each as soon as it is known.
+/// Prints the header, and then the first answers of the query, as many as the limit allows, each as
+/// soon as it is known. `WriteFault` if a write failed, and `NoMemory` if memory is refused.
 pub(crate) fn print_run<'a, R: Rank, S: Sink, L: Ledger>(
     alloc: Global,
     words: &Words,

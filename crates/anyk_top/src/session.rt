@@ -30,8 +30,9 @@ use std::alloc::Global;
 use std::sync::ledger::Ledger;
 use step_counter::Steps;
 
-/// Prints the header with the title of the cursors' names, and then what the steps of the script print of the query's answers, as
-/// far as the limit allows.
+/// Prints the header with the title of the cursors' names, and then what the steps of the script
+/// print of the query's answers, as far as the limit allows. `WriteFault` if a write failed, and
+/// `NoMemory` if memory is refused.
 pub(crate) fn print_script<'a, R: Rank, S: Sink, L: Ledger>(
     alloc: Global,
     words: &Words,

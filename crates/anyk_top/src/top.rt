@@ -1,4 +1,4 @@
-//! The top call.
+//! The top call of the program.
 ghost use Rattle.std.specs.Prelude.{◌≡◌, ◌<◌, map};
 ghost use Rattle.std.specs.String.{string_bytes};
 ghost use Rattle.cmd_words.specs.Commands.{said_of};
@@ -16,8 +16,9 @@ use std::alloc::Global;
 use std::sync::ledger::{Blank, Ledger};
 use step_counter::Steps;
 
-/// Does all that the program does, and returns its exit status: reads the words, the files that they name on the shelf, and
-/// writes the answers to `out` and the line of a refusal to `err`. The tables are hashed with known keys.
+/// Runs the program, and returns its exit status. It reads the words and the files on the shelf
+/// that they name. The answers go to `out`, and the line of a refusal goes to `err`. The tables are
+/// hashed with known keys.
 pub fn run_words<F: Shelf, S: Sink, E: Sink, L: Ledger>(
     alloc: Global,
     words: &[String],
@@ -35,9 +36,9 @@ pub fn run_words<F: Shelf, S: Sink, E: Sink, L: Ledger>(
     run_keyed(alloc, words, shelf, out, err, Keys::Known, steps)
 }
 
-/// Does all that the program does, and returns its exit status: reads the words, the files that they name on the shelf, and
-/// writes the answers to `out` and the line of a refusal to `err`. The tables of the files are hashed with these keys. No clause
-/// depends on them.
+/// Runs the program, and returns its exit status. It reads the words and the files on the shelf
+/// that they name. The answers go to `out`, and the line of a refusal goes to `err`. The tables of
+/// the files are hashed with these keys; no clause depends on them.
 pub fn run_keyed<F: Shelf, S: Sink, E: Sink, L: Ledger>(
     alloc: Global,
     words: &[String],
@@ -59,7 +60,7 @@ pub fn run_keyed<F: Shelf, S: Sink, E: Sink, L: Ledger>(
     }
 }
 
-/// `run_keyed`, with a counter of its own that nobody reads.
+/// `run_keyed` with a step counter of its own, which is not read.
 pub fn run_uncounted<F: Shelf, S: Sink, E: Sink, L: Ledger>(
     alloc: Global,
     words: &[String],

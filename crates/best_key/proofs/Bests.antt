@@ -41,7 +41,7 @@ module _ {R : Type 0} (d : ℕ) (key : R → KeyOf d 16) (t : List (NodeData R))
       )
 
   module _ (apart : IsTieFreeTree t) (query : Query) (tables : List Table) (keys : length query.order ≤ d) (few : length query.items ≤ 16) (ranks : RanksWitnesses d key query tables t) where
-    -- what the root has are the keys of the witnesses
+    -- the keys of the root's solutions are the keys of the witnesses
     witness_of : (k : KeyOf d 16) → RootHas d key t formed k → (found : List ℕ) × IsWitness query tables found × (k ≡ witness_key d query tables found)
     witness_of k h =
         let all = tree_ranking in
@@ -65,13 +65,13 @@ module _ {R : Type 0} (d : ℕ) (key : R → KeyOf d 16) (t : List (NodeData R))
         × (Precedes query tables a b → key_below d 16 (witness_key d query tables a) (witness_key d query tables b))
     earlier a b p q = let o = orders-agree d query tables a b keys few (witness-length query tables a p) (witness-length query tables b q) in (o.0, o.1)
 
-    -- the best key of a row of the root is had
+    -- the best key of a row of the root is one of the root's keys
     best_root : (r : ℕ) → r < rows t 0 → RootHas d key t formed (best t d key 0 r)
     best_root r l =
         let p = row_placed d key t formed r l in
         (p.0, p.1, subst (λ x. RowOf d key t formed apart (suc (length t)) 0 x (best t d key 0 r)) (sym p.2) (best_had d key t formed (suc (length t)) 0 r (omega arith) some_node l))
 
-    -- no witness with the same row has a lesser key
+    -- no witness with the same row has a smaller key
     none_earlier : (r : ℕ) → r < rows t 0 → (other : List ℕ) → IsWitness query tables other → slice_index other (item t 0) ≡ number t 0 r → AtMost (key_below d 16) (best t d key 0 r) (witness_key d query tables other)
     none_earlier r l other w e =
         let h = had_by other w in

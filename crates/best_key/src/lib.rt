@@ -1,4 +1,4 @@
-//! How the best solutions of the rows of a tree's root and the best list of a query belong together.
+//! The best solutions of the rows of a tree's root, and the best list of a query.
 #![tactic(auto)]
 
 ghost use Rattle.std.specs.Prelude.{◌≡◌, ◌≤◌, List, length, map};
@@ -15,8 +15,8 @@ ghost use Rattle.best_key.specs.BestKey.{RanksWitnesses};
 
 use rank_key::Rank;
 
-/// If a tree ranks the witnesses of a query, the best keys of its root's rows, in ascending order, are the keys of the best
-/// list of the item whose rows the root has.
+/// If a tree ranks the witnesses of a query, then the best keys of its root's rows, in ascending
+/// order, are the keys of the best list of the root's item.
 pub fn bests_agree<R: Rank>()
     ensures { (query : Query) (tables : List Table) (tree : List (NodeData R))
         (ks : List (KeyOf R.KEYS 16)) → length query.order ≤ R.KEYS → length query.items ≤ 16

@@ -50,7 +50,7 @@ module _ (Below : List ℕ → List ℕ → Type 0) (item : ℕ) where
   below-best x [] all = tt
   below-best x (y ∷ list) all = (all.0, below-filter (λ other. not (same_row item y other)) Below x (best_list item list) (below-best x list all.1))
 
-  -- what is taken out leaves the others in their order
+  -- taking elements out keeps the others in order
   pub best-ascending : (list : List (List ℕ)) → IsAscending Below list → IsAscending Below (best_list item list)
   best-ascending [] up = tt
   best-ascending (x ∷ list) up =

@@ -10,7 +10,7 @@ use Rattle.anyk_model.proofs.Order.{before-asym, before-irrefl}
 use Rattle.best_list.specs.BestList.{best_list, IsFirstOfRow, IsLeastOfRow}
 use Rattle.best_list.proofs.Best.{best-first, first-best, best-ascending}
 
--- what stands before a member, and what after it
+-- what is before a member, and what is after it
 split-at : {A : Type 0} (x : A) (xs : List A) → IsMember x xs → (before : List A) × (after : List A) × (xs ≡ before ++ x ∷ after)
 split-at x [] m = absurd m
 split-at {A} x (y ∷ xs) (inl e) = ([], xs, ap (λ (z : A). z ∷ xs) (sym e))
@@ -27,7 +27,7 @@ module _ {A : Type 0} (Below : A → A → Type 0) (x : A) where
   all-after (z ∷ before) after up y m = all-after before after up.1 y m
 
 module _ (query : Query) (tables : List Table) (item : ℕ) where
-  -- the first with its row is the least
+  -- the first member with its row is the least
   first-least : (rows : List ℕ) → IsFirstOfRow item rows (ranking_of query tables) → IsLeastOfRow query tables item rows
   first-least rows f =
       let ranking = ranking-is query tables in

@@ -1,4 +1,4 @@
--- Worked examples, computed.
+-- Worked examples, by computation.
 use Rattle.std.proofs.Common.{◌≡◌, refl, ℕ, List, [], ◌∷◌, Some, None, codes, false}
 use Rattle.csv.specs.Machine.{next_record}
 use Rattle.csv.specs.Reading.{records_from, strip_bom}
@@ -36,7 +36,7 @@ of_first_item : list_of by_sum tables (Some 0) ≡ (2 ∷ 2 ∷ []) ∷ (3 ∷ 3
 unfolding next_record records_from strip_bom
 of_first_item = refl
 
--- each row of S has one, also where two of them have the same fields
+-- each row of S has one answer, even if two of them have the same fields
 of_second_item : list_of by_sum tables (Some 1) ≡ (2 ∷ 2 ∷ []) ∷ (3 ∷ 3 ∷ []) ∷ (3 ∷ 1 ∷ []) ∷ []
 unfolding next_record records_from strip_bom
 of_second_item = refl
@@ -48,7 +48,7 @@ of_equal_rows : list_of by_sum equal_rows (Some 1) ≡ (2 ∷ 1 ∷ []) ∷ (2 �
 unfolding next_record records_from strip_bom
 of_equal_rows = refl
 
--- a row that no answer has has no best
+-- a row that is in no answer has no best answer
 of_no_answer : list_of by_sum (table (codes "a,b,w\n1,z,3\n3,x,1\n") ∷ table (codes "b,c,w\nx,p,5\n") ∷ []) (Some 0) ≡ (2 ∷ 1 ∷ []) ∷ []
 unfolding next_record records_from strip_bom
 of_no_answer = refl

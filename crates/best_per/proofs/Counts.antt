@@ -1,4 +1,4 @@
--- How many members lists have, and how many steps a call takes.
+-- The number of members of lists, and the number of steps of a call.
 use Rattle.std.proofs.Common.{◌≡◌, ◌⊎◌, ℕ, suc, ◌+◌, ◌*◌, ◌<◌, ◌≤◌, Bool, true, false, cond, nat_lt, List, [], ◌∷◌, filter, length, inl, inr, arith}
 use Rattle.std.proofs.lemmas.Bool.{lt-ltb, cond-true}
 use Rattle.rankings.specs.Order.{IsOrder, placed, put_in, ranked}
@@ -24,7 +24,7 @@ module _ {K : Type 0} (Below : K → K → Type 0) (o : IsOrder K Below) where
   ranked_length [] = omega arith
   ranked_length (x ∷ xs) = let h = put_length x (ranked Below o xs) in let r = ranked_length xs in omega (arith, h, r)
 
--- and neither has a list of which some are left out
+-- nor has a list from which some members are left out
 pub filter_length : (p : ℕ → Bool) (xs : List ℕ) → length (filter p xs) ≤ length xs
 filter_length p [] = omega arith
 filter_length p (x ∷ xs) = at (p x) (filter_length p xs)

@@ -61,7 +61,7 @@ only_itself j i h = elim (cases_eq i j) [ inl e ↦ e | inr d ↦ absurd (omega 
 
 module _ {K : Type 0} (Below : K → K → Type 0) (o : IsOrder K Below) (key : ℕ → K) (n : ℕ)
     (heap : (i : ℕ) → 0 < i → i < n → AtMost Below (key ((i - 1) / 2)) (key i)) where
-  -- no place that a place holds has a lesser key
+  -- no place that a place holds has a smaller key
   pub held_after : (j i : ℕ) → 0 < holds n j i → AtMost Below (key j) (key i)
   unfolding holds
   held_after j i h =
@@ -69,7 +69,7 @@ module _ {K : Type 0} (Below : K → K → Type 0) (o : IsOrder K Below) (key : 
       climbs_ordered (λ x y. AtMost Below (key x) (key y)) n (λ x. inr refl) (λ x y z p q. at_most_trans Below o (key x) (key y) (key z) p q) heap i i j less
       (omega (arith, h, inside n i (under j i) less))
 
-  -- nor has one that any of the entries holds, where none of these is before k
+  -- nor has a place that any of the entries holds, if none of these entries is before k
   pub entries_after : {R : Type 0} (k : K) (es : List (Entry R ℕ)) → All (λ e. AtMost Below k (key e.tag)) es → (i : ℕ) → 0 < held_by n es i → AtMost Below k (key i)
   entries_after k [] all i h = absurd (omega (arith, h))
   entries_after {R} k (e ∷ es) all i h = elim (cases_lt 0 (holds n e.tag i)) [

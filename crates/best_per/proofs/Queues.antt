@@ -34,7 +34,7 @@ module _ {R : Type 0} (d : ℕ) (key : R → KeyOf d 16) (t : List (NodeData R))
       some_group [] l = absurd (omega (arith, l))
       some_group (g ∷ gs) l = omega arith
 
-  -- the queue that holds what the top holds
+  -- a queue that holds what the top holds
   pub queue_begins : (es : List (Entry R ℕ)) (spare : ℕ) → IsFormed d key t → IsTieFreeTree t → All (IsPlace d key t) es → ((i : ℕ) → held_by (root_len t) es i ≡ holds (root_len t) 0 i)
       → root_len t ≤ spare → length es ≤ 1 → IsQueue d key t es spare × IsBestRanking t d key (rest_keys d key t es)
   queue_begins es spare formed apart all top room few = (
@@ -49,7 +49,7 @@ module _ {R : Type 0} (d : ℕ) (key : R → KeyOf d 16) (t : List (NodeData R))
     top_ranking d key t formed apart es top,
   )
 
-  -- no entry has a lesser key than the one that goes
+  -- no entry has a smaller key than the entry that is taken out
   all_after : (e : Entry R ℕ) (es : List (Entry R ℕ)) → key e.rank ≡ place_key d key t e.tag → heaps.IsLeast d key e es → All (IsPlace d key t) es
       → All (λ x. AtMost (key_below d 16) (place_key d key t e.tag) (place_key d key t x.tag)) es
   all_after e [] is least all = All-nil _
@@ -90,11 +90,12 @@ module _ {R : Type 0} (d : ℕ) (key : R → KeyOf d 16) (t : List (NodeData R))
       same_at e.tag e.tag refl,
     )
 
-    -- so a row is left
+    -- so there is a row left
     pub some_left : 1 ≤ length (rest_keys d key t entries)
     some_left = member_length (place_key d key t e.tag) (rest_keys d key t entries) (queue.remains.complete e.tag top_held)
 
-    -- The entry that goes has the head of the rest, and the two places below it, put in, leave the tail.
+    -- The entry that is taken out has the head of the rest. When the two places below it are put
+    -- in, the queue has the tail.
     pub queue_next : heaps.IsLeast d key e entries → (entries' : List (Entry R ℕ)) (spare' : ℕ) → All (IsPlace d key t) entries'
         → ((i : ℕ) → held_by (root_len t) entries' i ≡ holds (root_len t) (2 * e.tag + 2) i + (holds (root_len t) (2 * e.tag + 1) i + held_by (root_len t) others i))
         → spare ≤ spare' + 1 → length entries' ≤ length others + 2
@@ -130,7 +131,7 @@ module _ {R : Type 0} (d : ℕ) (key : R → KeyOf d 16) (t : List (NodeData R))
           },
         )
 
-  -- an empty queue has none
+  -- an empty queue has no rest
   pub none_rest : (entries : List (Entry R ℕ)) → length entries ≤ 0 → rest_keys d key t entries ≡ []
   none_rest [] l = nothing
     where

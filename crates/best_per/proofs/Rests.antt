@@ -111,7 +111,7 @@ module _ {R : Type 0} (d : ℕ) (key : R → KeyOf d 16) (t : List (NodeData R))
     some_node : 0 < length t
     some_node = omega (arith, formed.shaped.some_node)
 
-    -- no two places have one key
+    -- no two places have the same key
     pub places_apart : IsTieFreeTree t → (i j : ℕ) → i < root_len t → j < root_len t → place_key d key t i ≡ place_key d key t j → i ≡ j
     places_apart apart i j below_i below_j e =
         let Has : ℕ → KeyOf d 16 → Type 0 = λ r k. RowHas (key_add d 16) (key_none d 16) (length t) (parent t) (rank t d key) (group t) (length t) 0 r k in

@@ -1,4 +1,5 @@
--- The rows of a tree's root, which stand in a heap by their best keys, and what a queue of its places still holds.
+-- The rows of a tree's root, in a heap by their best keys, and what a queue of its places still
+-- holds.
 use Rattle.std.specs.Prelude.{◌≡◌, ℕ, ◌+◌, ◌<◌, ◌≤◌, cond, nat_lt, List, filter, length, map, slice_index}
 use Rattle.std.specs.List.{All, sum_by, range_with_len}
 use Rattle.rankings.specs.Order.{ranked}
@@ -11,17 +12,18 @@ use Rattle.tdp_core.specs.Seen.{Seen}
 use Rattle.tdp_core.specs.TreeData.{NodeData, members, best}
 use Rattle.tdp_core.specs.WellFormed.{IsFormed, IsTieFreeTree}
 
--- what an engine of best answers is to its callers: the tree, the answers that are left, and the number of calls so far
+-- an engine of best answers, as its callers see it: the tree, the answers that are left, and the
+-- number of calls so far
 pub record BestState (R : Type 0) : Type 0 where
   pub tree : List (NodeData R)
   pub rest : List Seen
   pub calls : ℕ
 
--- 1 where place i of a heap of n places stands in the subtree of place j, else 0
+-- 1 if place i of a heap of n places is in the subtree of place j, else 0
 unfoldable pub holds : ℕ → ℕ → ℕ → ℕ
 holds n j i = cond (nat_lt i n) (under j i) 0
 
--- how many of the entries hold place i
+-- the number of entries that hold place i
 abbrev pub held_by : {R : Type 0} → ℕ → List (Entry R ℕ) → ℕ → ℕ
 held_by n es i = sum_by (λ e. holds n e.tag i) es
 
@@ -29,7 +31,7 @@ held_by n es i = sum_by (λ e. holds n e.tag i) es
 abbrev pub places_left : {R : Type 0} → ℕ → List (Entry R ℕ) → List ℕ
 places_left n es = filter (λ i. nat_lt 0 (held_by n es i)) (range_with_len 0 n)
 
--- how many places the root's heap has
+-- the number of places of the root's heap
 abbrev pub root_len : {R : Type 0} → List (NodeData R) → ℕ
 root_len t = length (members t 0 0)
 
@@ -47,8 +49,8 @@ module _ {R : Type 0} (d : ℕ) (key : R → KeyOf d 16) (t : List (NodeData R))
     pub within : e.tag < root_len t
     pub ranked : key e.rank ≡ place_key e.tag
 
-  -- The queue's entries hold each row that is left once. There is room for as many places as there are rows left, and there are
-  -- no more entries than rows given and one.
+  -- The queue's entries hold each row that is left once. There is room for as many places as there
+  -- are rows left. There is at most one more entry than rows that were given.
   pub record IsQueue (entries : List (Entry R ℕ)) (spare : ℕ) : Type 0 where
     pub formed : IsFormed d key t
     pub tie_free : IsTieFreeTree t

@@ -14,8 +14,9 @@ use step_counter::{NoMemory, Steps};
 use take2_heap::HeapOf;
 use tdp_core::Tree;
 
-/// The queue of the root's heap from its top on, with room for all its rows and one more, so that each call can put in two
-/// places after it has taken out one. It is empty over a tree without solutions.
+/// The queue of the root's heap, which begins with the heap's top. It has room for all rows and one
+/// more, so that each call can put in two places after it has taken out one. It is empty over a
+/// tree without solutions. `NoMemory` if memory is refused.
 pub(crate) fn first_queue<R: Rank, A: Allocator, L: Ledger>(
     alloc: A,
     tree: &Tree<R>,
@@ -36,7 +37,7 @@ pub(crate) fn first_queue<R: Rank, A: Allocator, L: Ledger>(
     Ok(queue)
 }
 
-/// Puts in the row at a place of the root's heap, if the heap reaches that far.
+/// Puts in the row at a place of the root's heap, if the heap has that place.
 pub(crate) fn offer<R: Rank, A: Allocator, L: Ledger>(
     queue: &mut HeapOf<R, u32, A>,
     tree: &Tree<R>,

@@ -19,16 +19,17 @@ use take2_heap::HeapOf;
 use tdp_core::{Answer, Ranked, Tree};
 use tree_dp::best_rows;
 
-/// The best answer of each row of a tree's root in order of rank, seen as the tree, the answers that are left and the number
-/// of calls so far.
+/// The best answer of each row of a tree's root, in order of rank. Contracts see the tree, the
+/// answers that are left, and the number of calls so far.
 ///
-/// All its memory is taken by `new`. Each call of `next` takes at most 24 * m * (1 + b) steps, where m is the number of nodes
-/// and b the number of binary digits of N + m, N being the number of rows of all nodes. Over a tree without a solution it
-/// takes none.
+/// All its memory is taken by `new`. Each call of `next` takes at most 24 * m * (1 + b) steps,
+/// where m is the number of nodes, N the number of rows of all nodes, and b the number of binary
+/// digits of N + m. Over a tree without a solution it takes none.
 #[derive(Drop)]
 pub struct BestPer<'t, R: Rank, A: Allocator> {
     tree: &'t Tree<R>,
-    /// Places of the root's heap: those that hold the rows that are left, each with its row's best rank.
+    /// Places of the root's heap, each with the best rank of its row. They hold the rows that are
+    /// left.
     queue: HeapOf<R, u32, A>,
     calls: u64,
 }
@@ -49,8 +50,8 @@ impl<'t, R: Rank, A: Allocator> Model for BestPer<'t, R, A> {
 }
 
 impl<'t, R: Rank, A: Allocator> BestPer<'t, R, A> {
-    /// The best answers of the root's rows, one for each. It takes at most 16 * m * (1 + N) steps over m nodes that have N rows
-    /// in all, and gives `NoMemory` if memory is refused.
+    /// The best answers of the root's rows, one for each row. It takes at most 16 * m * (1 + N)
+    /// steps if the tree has m nodes and N rows in all. `NoMemory` if memory is refused.
     pub fn new<L: Ledger>(
         alloc: A,
         tree: &'t Tree<R>,
@@ -89,7 +90,8 @@ impl<'t, R: Rank, A: Allocator> Ranked for BestPer<'t, R, A> {
 
     ghost due_within = { λ e. at_most_itself (share_of (size_of e.tree) 0) };
 
-    /// The best answer of the next row, or None after the last. It takes no memory, so none is ever refused.
+    /// The best answer of the next row, or `None` after the last. It takes no memory, so it never
+    /// returns an error.
     fn next<L: Ledger>(&mut self, steps: &mut Steps<L>) -> Result<Option<Answer<R>>, NoMemory>
         ensures total { IsOk result }
         ensures found { IfOk result (λ o. IfSome o (λ a. self.old.rest

@@ -1,4 +1,4 @@
--- Answers that an engine gave one by one, of which the ends are kept.
+-- Answers that an engine gave one by one, whose ends are kept.
 use Rattle.std.proofs.Common.{◌≡◌, ◌≤◌, ◌<◌, ◌+◌, ◌∷◌, ◌++◌, [], ℕ, List, length, take, drop, get_or, IfSome, option_map, Option, Some, None, refl, sym, ap, subst, ◌∙◌, arith, inl, inr}
 use Rattle.std.specs.List.{last_or, slice_get}
 use Rattle.std.specs.Option.{option_or}
@@ -90,7 +90,7 @@ module _ (answers : List Seen) (i : ℕ) where
     pub taken-limit : (limit : Option ℕ) → limit ≡ Some i → HasEnds (cut limit answers) ends
     taken-limit limit reached = subst (λ (o : Option ℕ). HasEnds (cut o answers) ends) (sym reached) h.kept
 
--- so many calls are within the calls that are wanted
+-- this many calls are within those that are asked for
 pub calls-within : (share : List ℕ → ℕ → ℕ) (rises : (s : List ℕ) (c d : ℕ) → c ≤ d → share s c ≤ share s d) (size : List ℕ) (calls k most : ℕ) (size_now : List ℕ) (calls_now before now : ℕ)
     → HasCalled share size calls k size_now calls_now before now → k ≤ most → now ≤ before + steps_for (λ n. share size (calls + n)) most
 calls-within share rises size calls k most size_now calls_now before now h few =

@@ -1,4 +1,4 @@
--- The ends of answers as those of the combinations that they stand for.
+-- The ends of answers, as those of the combinations that they stand for.
 use Rattle.std.proofs.Common.{◌≡◌, ◌+◌, ◌∷◌, ◌++◌, [], ℕ, zero, suc, List, length, map, take, nat_le, if◌then◌else◌, IfSome, option_map, Option, Some, None, codes, decimal, refl, sym, ap, subst, ◌∙◌}
 use Rattle.std.specs.List.{AllByRecursion, last_or, slice_get}
 use Rattle.std.proofs.lemmas.List.{length-map}

@@ -8,13 +8,13 @@ use Rattle.tdp_core.specs.Seen.{Seen}
 use Rattle.verdict.specs.Summary.{member_text, rows_in_all}
 use Rattle.command_load.specs.declared.ends.Ends.{Ends}
 
--- how many answers were given, and the rows of the first and of the last of them
+-- the number of answers that were given, and the rows of the first and of the last of them
 pub record HasEnds (given : List Seen) (ends : Ends) : Type 0 where
   pub count : ends.count ≡ length given
   pub first : ends.first ≡ option_map (λ (answer : Seen). answer.rows) (slice_get given 0)
   pub last : ends.last ≡ option_map (λ (answer : Seen). answer.rows) (last_or None given)
 
--- the summary that these ends give
+-- the summary of answers with these ends
 abbrev pub ends_text : Query → List Table → Ends → List ℕ
 ends_text query tables ends =
     codes "rows " ++ decimal (rows_in_all tables) ++ codes "\nanswers " ++ decimal ends.count

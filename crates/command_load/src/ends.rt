@@ -9,7 +9,7 @@ use std::sync::ledger::Ledger;
 use step_counter::{NoMemory, Steps};
 use tdp_core::Ranked;
 
-/// How many answers there are, and the rows of the first and of the last of them.
+/// The number of answers, and the rows of the first and of the last of them.
 #[derive(Drop)]
 pub(crate) struct Ends {
     pub(crate) count: u64,
@@ -28,7 +28,7 @@ impl Ends {
         }
     }
 
-    // With one answer more after the others.
+    // Adds one answer after the others.
     fn push(&mut self, rows: [u32; 16])
         requires { self.old.count < 18446744073709551615 }
         ensures { (given : List Seen) (answer : Seen) → HasEnds given self.old → answer.rows ≡ rows → HasEnds (given ++ answer ∷ []) self.new }
@@ -39,7 +39,7 @@ impl Ends {
     }
 }
 
-/// Takes the answers from the engine, as many as the limit allows.
+/// Takes the answers from the engine, as many as the limit allows. `NoMemory` if memory is refused.
 pub(crate) fn take_ends<E: Ranked, L: Ledger>(
     limit: Option<u64>,
     engine: &mut E,

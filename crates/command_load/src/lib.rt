@@ -1,6 +1,6 @@
-//! The command `load`: the summary of a query's answers, which tells how many rows its tables have, how many answers it has up to
-//! its limit, and the sums of the first and of the last of them. The answers are taken best first and one by one from an engine of
-//! ranked enumeration.
+//! The command `load`: it prints a summary of a query's answers. The summary has the number of rows
+//! of the tables, the number of answers up to the limit, and the sums of the first and of the last
+//! of them. The answers are taken best first and one by one from an engine of ranked enumeration.
 #![tactic(auto)]
 
 mod ends;

@@ -1,4 +1,4 @@
-//! The summary, by one write.
+//! Printing the summary, by one write.
 ghost use Rattle.std.specs.Prelude.{◌≡◌, ◌+◌, ◌≤◌};
 ghost use Rattle.anyk_model.specs.Output.{cut};
 ghost use Rattle.query_bind.specs.Weighed.{Fits};
@@ -18,8 +18,8 @@ use std::sync::ledger::Ledger;
 use step_counter::Steps;
 use tdp_core::Ranked;
 
-/// Takes the answers that the engine has left, as many as the limit allows, and prints their summary when all are known. `NoMemory`
-/// if memory is refused, and `WriteFault` if the write failed.
+/// Takes the answers that the engine has left, as many as the limit allows, and then prints their
+/// summary. `NoMemory` if memory is refused, and `WriteFault` if the write failed.
 pub fn print_summary<'a, E: Ranked, S: Sink, L: Ledger>(
     alloc: Global,
     query: &Query,

@@ -12,7 +12,7 @@ use query_bind::Query;
 use std::alloc::Global;
 use step_counter::NoMemory;
 
-/// The summary of the answers that have these ends.
+/// The summary of the answers with these ends. `NoMemory` if memory is refused.
 pub(crate) fn summary(
     alloc: Global,
     query: &Query,
@@ -32,7 +32,8 @@ pub(crate) fn summary(
     Ok(text.into_bytes())
 }
 
-// The sum of the first order key over these rows, and `none` if there is no key or there are no rows.
+// The sum of the first order key over these rows, or `none` if there is no key or there are no
+// rows.
 fn sum_text(
     alloc: Global,
     query: &Query,

@@ -13,7 +13,8 @@ use Rattle.step_bounds.proofs.Calls.{HasCalled}
 use Rattle.refusal_lines.specs.Printed.{Printed}
 use Rattle.refusal_lines.proofs.Prints.{printed-stopped, printed-then}
 
--- the first i of a list were given and printed, the engine has the others left, and what is left has P
+-- the first i of a list were given and printed, the engine has the others left, and P holds for
+-- what is left
 pub record HasGiven {A B : Type 0} (P : B → Type 0) (f : A → List ℕ) (seen : B → A) (list : List A) (i : ℕ) (left : List B) (old now : Option (List ℕ)) (before faults : ℕ) : Type 0 where
   pub rest : map seen left ≡ drop i list
   pub all : AllByRecursion P left
@@ -47,7 +48,7 @@ module _ {A B : Type 0} (P : B → Type 0) (f : A → List ℕ) (seen : B → A)
           by (x ∷ xs) zero inside empty = cc
           by (x ∷ xs) (suc i) inside empty = let h = by xs i (omega arith) empty in omega (arith, h)
 
-  -- what is true of all that is left is true of the answer that is given
+  -- what holds for all that is left holds for the answer that is given
   pub first-left : (left : List B) (b : B) (rest : List B) → AllByRecursion P left → left ≡ b ∷ rest → P b
   first-left left b rest all e = let both : AllByRecursion P (b ∷ rest) = subst (AllByRecursion P) e all in both.0
 
@@ -79,7 +80,7 @@ module _ {A B : Type 0} (P : B → Type 0) (f : A → List ℕ) (seen : B → A)
       later = let first = g.later in omega (arith, first, later);
     }
 
-    -- the text of the members that a limit past i leaves begins with those up to i and the next
+    -- the text of the members within a limit past i begins with those up to i and the next one
     part-of : (limit : Option ℕ) → IfSome limit (λ n. i < n) → (more : List ℕ) × (flat_map f (cut limit list) ≡ (flat_map f (take i list) ++ f member) ++ more)
     part-of None low = (
       flat_map f (drop (i + 1) list),
@@ -104,7 +105,8 @@ module _ {A B : Type 0} (P : B → Type 0) (f : A → List ℕ) (seen : B → A)
         (printed-then old mid now before m n (flat_map f (take i list)) (f member) (Err e) g.sent g.later
         (subst (λ (a : A). Printed mid now m n (f a) (Err e)) given-is one)))
 
-  -- the text of the members up to i is at the front of that of those that a limit from i on leaves
+  -- the text of the members up to i is at the front of that of the members within a limit of at
+  -- least i
   front-of : (limit : Option ℕ) → IfSome limit (λ n. i ≤ n) → (more : List ℕ) × (flat_map f (cut limit list) ≡ flat_map f (take i list) ++ more)
   front-of None low =
       (flat_map f (drop i list), sym (ap (flat_map f) (take-append-drop i list)) ∙ flat_map-append f (take i list) (drop i list))

@@ -1,4 +1,4 @@
-//! The header and the answers that an engine has left, each by one write.
+//! Printing the header and the answers that an engine has left, each by one write.
 ghost use Rattle.std.specs.Prelude.{◌≡◌, ◌+◌, ◌++◌, ◌≤◌, IfOk, List, Some, drop, length, map, take, ℕ};
 ghost use Rattle.std.specs.List.{flat_map};
 ghost use Rattle.anyk_model.specs.Output.{cut, header_text, line_text, output_of};
@@ -18,8 +18,8 @@ use std::sync::ledger::Ledger;
 use step_counter::Steps;
 use tdp_core::Ranked;
 
-/// Prints the header, and then the answers that the engine has left, as many as the limit allows. `NoMemory` if memory is refused,
-/// and `WriteFault` if a write failed.
+/// Prints the header, and then the answers that the engine has left, as many as the limit allows.
+/// `NoMemory` if memory is refused, and `WriteFault` if a write failed.
 pub fn print_ranking<'a, E: Ranked, S: Sink, L: Ledger>(
     alloc: Global,
     query: &Query,
@@ -44,7 +44,7 @@ pub fn print_ranking<'a, E: Ranked, S: Sink, L: Ledger>(
     print_answers(alloc, query, tables, style, engine, out, steps)
 }
 
-// The answers, until the limit or the engine's end.
+// Prints the answers, up to the limit or the engine's end.
 fn print_answers<'a, E: Ranked, S: Sink, L: Ledger>(
     alloc: Global,
     query: &Query,

@@ -1,4 +1,4 @@
--- What calls on a set of cursors cost, one after another.
+-- The cost of calls on a set of cursors, one after another.
 use Rattle.std.proofs.Common.{◌≡◌, ◌+◌, ◌-◌, ◌*◌, ◌<◌, ◌≤◌, ◌⊎◌, inl, inr, ℕ, zero, suc, List, Bool, true, false, Some, Result, Ok, Err, OnOk, refl, sym, ap, subst, ◌∙◌, arith}
 use Rattle.std.proofs.lemmas.Bool.{cases_lt}
 use Rattle.std.proofs.lemmas.Nat.{mul-le}
@@ -13,7 +13,7 @@ module _ (share : List ℕ → ℕ → ℕ) (rises : (s : List ℕ) (c d : ℕ) 
   rises-from : (size : List ℕ) (calls c d : ℕ) → c ≤ d → share size (calls + c) ≤ share size (calls + d)
   rises-from size calls c d h = rises size (calls + c) (calls + d) (omega (arith, h))
 
-  -- the steps of x calls and of y calls behind them
+  -- the steps of x calls and of y calls after them
   joined : (size : List ℕ) (a b x y : ℕ) → b ≤ a + x
       → steps_for (λ n. share size (a + n)) x + steps_for (λ n. share size (b + n)) y ≤ steps_for (λ n. share size (a + n)) (x + y)
   joined size a b x zero h = let more = steps-more (λ n. share size (a + n)) (rises-from size a) x (x + 0) (omega arith) in omega (arith, more)
@@ -26,7 +26,7 @@ module _ (share : List ℕ → ℕ → ℕ) (rises : (s : List ℕ) (c d : ℕ) 
   more-steps : (set : CursorSet) (m n : ℕ) → m ≤ n → engine_steps share set m ≤ engine_steps share set n
   more-steps set m n h = steps-more (λ k. share set.size (set.calls + k)) (rises-from set.size set.calls) m n h
 
-  -- the same from a state on that the first x of these calls led to
+  -- the same from the state that the first x of these calls led to
   joined-at : (old mid : CursorSet) (x y : ℕ) → mid.size ≡ old.size → mid.calls ≤ old.calls + x
       → engine_steps share old x + engine_steps share mid y ≤ engine_steps share old (x + y)
   joined-at old mid x y same few =
@@ -50,7 +50,7 @@ module _ (share : List ℕ → ℕ → ℕ) (rises : (s : List ℕ) (c d : ℕ) 
       at (Ok a) = s
       at (Err e) = tt
 
-  -- it may go further, and make more calls
+  -- `reach` may be further, and there may be more calls
   pub spent-wider : (old new : CursorSet) (reach further calls more before now : ℕ) → reach ≤ further → calls ≤ more → Spent share old new reach calls before now
       → Spent share old new further more before now
   spent-wider old new reach further calls more before now wide many s = record {
@@ -98,7 +98,7 @@ module _ (share : List ℕ → ℕ → ℕ) (rises : (s : List ℕ) (c d : ℕ) 
 
   -- ---- one call of the set
 
-  -- only places of cursors were changed, by so many steps
+  -- only places of cursors changed, in this many steps
   pub spent-places : (old new : CursorSet) (reach calls before now : ℕ) → new ≡ record old { places = new.places } → now ≤ before + 4 * calls
       → Spent share old new reach calls before now
   spent-places old new reach calls before now same few =
@@ -115,7 +115,7 @@ module _ (share : List ℕ → ℕ → ℕ) (rises : (s : List ℕ) (c d : ℕ) 
   pub paid-places : {A E : Type 0} (old new : CursorSet) (now : ℕ) (result : Result A E) → new ≡ record old { places = new.places } → Paid share old new 0 0 now now result
   paid-places old new now result same = paid-spent old new 0 0 now now result (spent-places old new 0 0 now now same (omega arith))
 
-  -- no member and no end before this place is new
+  -- each member before this place, and the end, is known already
   is-known : (set : CursorSet) (place : ℕ) → ((place + 1 ≤ set.known) ⊎ (set.ended ≡ true)) ⊎ ((set.known ≤ place) × (set.ended ≡ false))
   is-known set place = by (cases_lt place set.known) set.ended refl
     where
@@ -139,7 +139,7 @@ module _ (share : List ℕ → ℕ → ℕ) (rises : (s : List ℕ) (c d : ℕ) 
   module _ (old new : CursorSet) (number place before now : ℕ) (here : place_of old number ≡ Some place) (kept : Keeps old new) (grown : seen_of new ≤ seen_of old + 1)
       (known : IsKnownAt old number → (new ≡ record old { places = new.places }) × (now ≤ before + 4)) (called : new.calls ≤ old.calls + 1)
       (cost : now ≤ before + share old.size old.calls + 4) where
-    -- also where the call was refused
+    -- even if the call was refused memory
     pub within-call : IsWithin share old (place + 1) 1 before now
     within-call = by (is-known old place)
       where
@@ -151,7 +151,7 @@ module _ (share : List ℕ → ℕ → ℕ) (rises : (s : List ℕ) (c d : ℕ) 
             let more = more-steps old 1 (place + 1 - seen_of old) (omega (arith, seen, past)) in
             omega (arith, cost, one, more)
 
-    -- where it gave the member or the end at the place
+    -- if it gave the member or the end at the place
     pub spent-call : (place + 1 ≤ new.known) ⊎ (new.ended ≡ true) → Spent share old new (place + 1) 1 before now
     spent-call found = by (is-known old place)
       where

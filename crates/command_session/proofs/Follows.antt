@@ -24,13 +24,13 @@ module _ (line : List ℕ → List ℕ) (ending : List ℕ) (members : List (Lis
       let is : n ≡ suc m = omega (arith, more) in
       ap (next_text line ending (drop p members)) is ∙ ap (λ (l : List (List ℕ)). next_text line ending l (suc m)) (drop_all p members end)
 
-  -- no more are wanted
+  -- no more members are asked for
   pub next-done : (p n : ℕ) → n ≡ 0 → next_text line ending (drop p members) n ≡ []
   next-done p n none = ap (next_text line ending (drop p members)) none
 
--- ---- where the cursor stands
+-- ---- the place of the cursor
 
--- so many were given as there are from its place on, and as many as are wanted
+-- as many were given as there are from its place, and as many as were asked for
 pub given-all : (members : List (List ℕ)) (p given count : ℕ) → given ≤ length (drop p members) → given ≡ count → length (take count (drop p members)) ≡ given
 given-all members p given count within all =
     let e = length-take-le count (drop p members) (omega (arith, within, all)) in omega (arith, e, all)
@@ -45,7 +45,7 @@ given-less members p given count within less end =
 
 -- ---- the list
 
--- the answers that a limit leaves are as many as the members that it leaves
+-- a limit leaves as many answers as members
 pub cut-length : {A B : Type 0} (limit : Option ℕ) (f : A → B) (list : List A) → length (cut limit (map f list)) ≡ length (cut limit list)
 cut-length None f list = length-map list f
 cut-length (Some n) f list = omega (arith, length-take n (map f list), length-take n list, length-map list f)
@@ -68,7 +68,7 @@ pub told-is : {A B : Type 0} (f : B → A) (answers : List B) (p : ℕ) (b : B) 
 told-is f answers p b x at =
     ap f (sym (get_or_from_slice_get answers p b b at)) ∙ sym (get_or-map f answers p b x (slice_get_within answers p b at))
 
--- what is true of all answers is true of it
+-- what holds for all answers holds for it
 pub told-all : {B : Type 0} (P : B → Type 0) (answers : List B) (p : ℕ) (b : B) → AllByRecursion P answers → slice_get answers p ≡ Some b → P b
 told-all P answers p b all at =
     all-member P b answers all (contains-member b answers p (slice_get_within answers p b at) (get_or_from_slice_get answers p b b at))
@@ -92,7 +92,7 @@ always (Err e) h = tt
 pub past-start : (members : List (List ℕ)) (p given q : ℕ) → q ≡ p + given → q < length members → given + 1 ≤ length (drop p members)
 past-start members p given q is inside = omega (arith, length-drop p members, is, inside)
 
--- the text of what is left, from the next member on
+-- the text of what is left, from the next member
 pub next-given : (line : List ℕ → List ℕ) (ending : List ℕ) (limit : Option ℕ) (ranking : List (List ℕ)) (start given count place : ℕ) (x : List ℕ)
     → place ≡ start + given → given < count → IfSome limit (λ n. place < n) → place < length ranking
     → next_text line ending (drop (start + given) (cut limit ranking)) (count - given)

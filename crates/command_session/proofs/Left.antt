@@ -10,7 +10,7 @@ use Rattle.refusal_lines.specs.Refused.{answer_of}
 use Rattle.refusal_lines.specs.Printed.{IsPrintCause, Printed}
 use Rattle.refusal_lines.proofs.Prints.{appends-nothing, printed-stopped, printed-then}
 
--- of the whole text so much is left, and what stands before it was printed
+-- this much of the whole text is left, and what is before it was printed
 pub record HasLeft (whole left : List ℕ) (old now : Option (List ℕ)) (before faults : ℕ) : Type 0 where
   pub part : List ℕ
   pub sent : Appends old now part

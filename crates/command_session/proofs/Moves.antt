@@ -40,7 +40,7 @@ cond-true b x y e = rw e refl
 cond-false : {A : Type 0} (b : Bool) (x y : A) → b ≡ false → cond b x y ≡ y
 cond-false b x y e = rw e refl
 
--- one cursor is put in place of what was there, with the one name that it has before or after
+-- one cursor replaces what was there, with the one name that it has before or after
 module _ (old new : CursorSet) (cursors : List Cursor) (places : Places) (number : ℕ) (name : List ℕ) (now : Cursor) (held : IsHeld old cursors places)
     (within : number < length cursors) (only : (j : ℕ) (c : OpenCursor) → IsAt cursors j c → c.name.now ≡ name → j ≡ number)
     (here : (c : OpenCursor) → IsAt cursors number c → c.name.now ≡ name) (named : (c : OpenCursor) → Is now (Some c) → c.name.now ≡ name)
@@ -147,7 +147,7 @@ module _ (old new : CursorSet) (cursors : List Cursor) (places : Places) (number
 
 -- ---- a cursor that is open
 
--- a place that passes is found
+-- a place that passes the test is found
 position-at : (p : Cursor → Bool) (x : Cursor) (xs : List Cursor) (b : Bool) → p x ≡ b → position_or_len p (x ∷ xs) ≡ cond (not b) (1 + position_or_len p xs) 0
 position-at p x xs b e = ap (λ t. cond (not t) (1 + position_or_len p xs) 0) e
 
@@ -181,7 +181,7 @@ inside-at (x ∷ xs) (suc number) c at = let h = inside-at xs number c at in ome
 named-is : (name : List ℕ) (c : OpenCursor) → c.name.now ≡ name → is_named name (Some c) ≡ true
 named-is name c is = name-same c.name.now name is
 
--- where none has the name, it is not open
+-- if no cursor has the name, it is not open
 pub unknown-closed : {A : Type 0} (set : CursorSet) (cursors : List Cursor) (places : Places) (name : List ℕ) → None ≡ position (is_named name) cursors
     → IsHeld set cursors places → IsSome (places name) → A
 unknown-closed {A} s cursors places name none held opened = by (places name) refl opened
@@ -213,7 +213,7 @@ no-cursor cursors number name e none = let f = found-named cursors number name e
 
 module _ (old new : CursorSet) (cursors : List Cursor) (places : Places) (number : ℕ) (name : List ℕ) (c : OpenCursor) (held : IsHeld old cursors places)
     (within : number < length cursors) (at : IsAt cursors number c) (is : c.name.now ≡ name) where
-  -- its place in the set is its own
+  -- its place in the set is its own place
   pub place-held : get_or old.places number None ≡ Some c.place
   place-held = ap (λ (l : List (Option ℕ)). get_or l number None) held.same ∙ get_or-map place_of_cursor cursors number None None within ∙ ap place_of_cursor at
 

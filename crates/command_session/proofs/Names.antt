@@ -1,4 +1,4 @@
--- A script that keeps its rules by names uses no cursor but those that are open.
+-- A script that keeps its rules by names uses only open cursors.
 use Rattle.std.proofs.Common.{◌≡◌, ◌≢◌, ℕ, List, [], ◌∷◌, ◌++◌, Bool, true, false, not, ◌&&◌, ◌||◌, cond, Option, Some, None, IsSome, is_some, length, take, drop, ◌+◌, refl, sym, ap, ◌∙◌}
 use Rattle.std.specs.Str.{bytes_eq}
 use Rattle.std.proofs.lemmas.List.Folds.{list_any-append}
@@ -31,7 +31,7 @@ name-differs a b differ = by (bytes_eq a b) refl
     by true e = absurd (differ (same-name a b e))
     by false e = e
 
--- the test is the same the other way round
+-- the test is symmetric
 turned : (a b : List ℕ) → bytes_eq a b ≡ bytes_eq b a
 turned a b = by (bytes_eq a b) refl
   where

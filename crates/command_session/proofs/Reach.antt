@@ -1,4 +1,4 @@
--- How far steps go, and the calls that they make.
+-- How far steps reach, and the calls that they make.
 use Rattle.std.proofs.Common.{◌≡◌, ◌+◌, ◌<◌, ◌≤◌, ℕ, List, ◌∷◌, Bool, true, false, not, nat_le, nat_lt, if◌then◌else◌, Option, Some, None, IfSome, IsSomeAnd, length, drop, get_or, unwrap_or, refl, sym, ap, subst, ◌∙◌, arith}
 use Rattle.std.specs.Prelude.{max, min, take}
 use Rattle.std.proofs.lemmas.Bool.{leb-true}
@@ -42,7 +42,7 @@ more-among left given count within few = by (nat_lt left count) refl
     by true e = omega (arith, within, few)
     by false e = let past : count ≤ left = grind (arith, nat_tests) in omega (arith, past, few)
 
--- and so is the next one, or the end, but for one that the limit makes
+-- and so is the next one, or the end, unless it is at the limit
 pub next-among : (limit : Option ℕ) (ranking : List (List ℕ)) (start given count : ℕ) → given ≤ length (drop start (cut limit ranking)) → given < count
     → given + calls_at limit (start + given) ≤ calls_among (ends_by_itself limit ranking) (length (drop start (cut limit ranking))) count
 next-among None ranking start given count within few = more-among (length (drop start ranking)) given count within few
@@ -75,7 +75,7 @@ module _ (share : List ℕ → ℕ → ℕ) (rises : (s : List ℕ) (c d : ℕ) 
       let same = ap (calls_at limit) is in
       omega (arith, all, same)
 
-  -- no more are wanted
+  -- no more members are asked for
   pub given-done : given ≤ count → Spent share old mid (start + among) among before at
   given-done few =
       let all = given-among (ends_by_itself limit ranking) (length (drop start (cut limit ranking))) given count within few in
@@ -104,7 +104,7 @@ module _ (share : List ℕ → ℕ → ℕ) (rises : (s : List ℕ) (c d : ℕ) 
 
 -- ---- one step of a script
 
--- what `next` costs, by the cursor's own place
+-- the cost of `next`, by the cursor's own place
 pub next-paid : (P : ℕ → ℕ → Type 0) (ends : Bool) (members : List (List ℕ)) (places : Places) (name : List ℕ) (place count : ℕ) → places name ≡ Some place
     → P (place + calls_among ends (length (drop place members)) count) (calls_among ends (length (drop place members)) count)
     → P (reach_of_step ends members places (Next name count)) (calls_of_step ends members places (Next name count))
@@ -115,7 +115,7 @@ next-paid P ends members places name place count at h =
 
 -- ---- steps, one after another
 
--- so many steps were taken, and what they cost is among what the whole script may
+-- this many steps were taken, and their cost is within that of the whole script
 pub record HasPaid (share : List ℕ → ℕ → ℕ) (ends : Bool) (members : List (List ℕ)) (script : List Step) (i : ℕ) (places : Places) (old now : CursorSet) (before spent : ℕ) : Type 0 where
   pub reach : ℕ
   pub calls : ℕ
@@ -171,7 +171,7 @@ module _ (share : List ℕ → ℕ → ℕ) (rises : (s : List ℕ) (c d : ℕ) 
         (calls_of_step ends members places step) (calls_of_steps ends members no_cursors script) before at now h.paid
         (omega (arith, far)) (omega (arith, far, reach-split)) (omega (arith, many, calls-split)) within
 
-  -- they are among what the whole script may
+  -- the cost is within that of the whole script
   pub paid-all : (i : ℕ) (places : Places) (old now : CursorSet) (before spent : ℕ) → HasPaid share ends members script i places old now before spent
       → IsWithin share old (reach_of_steps ends members no_cursors script) (calls_of_steps ends members no_cursors script) before spent
   paid-all i places old now before spent h =
@@ -182,7 +182,7 @@ module _ (share : List ℕ → ℕ → ℕ) (rises : (s : List ℕ) (c d : ℕ) 
       within-spent share rises old now reach calls before spent
       (spent-wider share rises old now h.reach reach h.calls calls before spent (omega (arith, far)) (omega (arith, many)) h.paid)
 
--- so many steps were taken, what the others print is left, and what they cost is known
+-- this many steps were taken, what the other steps print is left, and the cost is known
 pub record HasRun (line : List ℕ → List ℕ → List ℕ) (members : List (List ℕ)) (script : List Step) (i : ℕ) (set : CursorSet) (cursors : List Cursor)
     (old now : Option (List ℕ)) (before faults : ℕ) (share : List ℕ → ℕ → ℕ) (ends : Bool) (first : CursorSet) (started spent : ℕ) : Type 0 where
   pub places : Places

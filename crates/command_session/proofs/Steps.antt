@@ -32,7 +32,7 @@ none-held set cursors none same = record {
 
 -- ---- one step
 
--- so many steps were taken, and what the others print is left
+-- this many steps were taken, and what the other steps print is left
 pub record HasTaken (line : List ℕ → List ℕ → List ℕ) (members : List (List ℕ)) (script : List Step) (i : ℕ) (places : Places) (set : CursorSet)
     (cursors : List Cursor) (old now : Option (List ℕ)) (before faults : ℕ) : Type 0 where
   pub held : IsHeld set cursors places
@@ -79,7 +79,7 @@ taken-all line members script i places set cursors old now before n end t =
 
 -- ---- the step `next`
 
--- the place of an open cursor is its own in the set
+-- the place of an open cursor is its place in the set
 pub same-place : (set : CursorSet) (cursors : List Cursor) (number : ℕ) (c : OpenCursor) → set.places ≡ map place_of_cursor cursors → IsAt cursors number c
     → get_or set.places number None ≡ Some c.place
 same-place set cursors number c same at =
@@ -94,7 +94,7 @@ next-told P line members places name place count own is at h =
     let there : place ≡ place_in places name = ap (λ (o : Option ℕ). unwrap_or o 0) (sym at) in
     subst B there (subst A is h)
 
--- where the cursors stand behind it
+-- the places of the cursors after it
 pub next-after : (P : Places → Type 0) (members : List (List ℕ)) (places : Places) (name : List ℕ) (place now count : ℕ) → places name ≡ Some place
     → now ≡ place + length (take count (drop place members)) → P (with_cursor places name (Some now)) → P (places_after members places (Next name count))
 next-after P members places name place now count at is h =

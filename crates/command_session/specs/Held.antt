@@ -1,4 +1,4 @@
--- The open cursors by name, and the set that moves them.
+-- The open cursors by name, and the cursor set that moves them.
 use Rattle.std.specs.Prelude.{◌≡◌, ℕ, Bool, false, List, Option, Some, None, map, option_map, slice_index_or}
 use Rattle.std.specs.Str.{bytes_eq}
 use Rattle.cursor_set.specs.CursorSet.{CursorSet}
@@ -13,7 +13,8 @@ is_named name (Some cursor) = bytes_eq cursor.name.now name
 abbrev pub IsAt : List (Option OpenCursor) → ℕ → OpenCursor → Type 0
 IsAt cursors number cursor = slice_index_or cursors number None ≡ Some cursor
 
--- the open cursors have these places by name, each one name, and the same places in the set
+-- The open cursors have these places by name, and the same places in the set. Each has a name of
+-- its own.
 pub record IsHeld (set : CursorSet) (cursors : List (Option OpenCursor)) (places : Places) : Type 0 where
   pub same : set.places ≡ map (option_map (λ (cursor : OpenCursor). cursor.place)) cursors
   pub placed : (number : ℕ) (cursor : OpenCursor) → IsAt cursors number cursor → places cursor.name.now ≡ Some cursor.place

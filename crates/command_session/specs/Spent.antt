@@ -1,17 +1,19 @@
--- What calls on a set of cursors cost.
+-- The cost of calls on a set of cursors.
 use Rattle.std.specs.Prelude.{◌≡◌, ◌+◌, ◌-◌, ◌*◌, ◌≤◌, ℕ, List, Option, None, Some, Result, OnOk, nat_lt, max, if◌then◌else◌}
 use Rattle.cursor_set.specs.CursorSet.{CursorSet, seen_of}
 use Rattle.step_bounds.specs.Steps.{steps_for}
 
--- the most steps of so many calls of the engine, from those on that it had at this state of the set
+-- the greatest number of steps of the next `calls` calls of the engine, in this state of the set
 abbrev pub engine_steps : (List ℕ → ℕ → ℕ) → CursorSet → ℕ → ℕ
 engine_steps share set calls = steps_for (λ n. share set.size (set.calls + n)) calls
 
--- the steps of calls on the set: as many calls of the engine as it takes to see so far, and 4 for each call of the set
+-- the steps of calls on the set: the calls of the engine that are needed to see up to `reach`, and
+-- 4 steps for each call of the set
 abbrev pub IsWithin : (List ℕ → ℕ → ℕ) → CursorSet → ℕ → ℕ → ℕ → ℕ → Type 0
 IsWithin share set reach calls before now = now ≤ before + engine_steps share set (reach - seen_of set) + 4 * calls
 
--- such calls from one state of the set to another: the engine was called only for what was seen, and no more was seen than so far
+-- Such calls lead from one state of the set to another. The engine was called only for what is
+-- newly seen, and nothing beyond `reach` was newly seen.
 pub record Spent (share : List ℕ → ℕ → ℕ) (old new : CursorSet) (reach calls before now : ℕ) : Type 0 where
   pub size : new.size ≡ old.size
   pub rises : seen_of old ≤ seen_of new
@@ -19,12 +21,12 @@ pub record Spent (share : List ℕ → ℕ → ℕ) (old new : CursorSet) (reach
   pub far : seen_of new ≤ max (seen_of old) reach
   pub steps : now ≤ before + engine_steps share old (seen_of new - seen_of old) + 4 * calls
 
--- such calls, the last of which may have been refused memory
+-- the same, and the last call may have been refused memory
 pub record Paid {A E : Type 0} (share : List ℕ → ℕ → ℕ) (old new : CursorSet) (reach calls before now : ℕ) (result : Result A E) : Type 0 where
   pub spent : OnOk result (Spent share old new reach calls before now)
   pub within : IsWithin share old reach calls before now
 
--- the calls for the member at a place: none at the limit
+-- the calls for the member at a place: none if the place is at the limit
 abbrev pub calls_at : Option ℕ → ℕ → ℕ
 calls_at None place = 1
 calls_at (Some limit) place = if nat_lt place limit then 1 else 0

@@ -1,4 +1,5 @@
-//! A session: what the steps of a script print of a query's ranking, over cursors that share one engine of ranked enumeration.
+//! The command `session`: it prints what the steps of a script ask for of a query's ranking, over
+//! cursors that share one engine of ranked enumeration.
 #![tactic(auto)]
 
 mod moving;

@@ -1,4 +1,4 @@
-//! The step `next`: members from a cursor's place on.
+//! The step `next`: members from a cursor's place.
 ghost use Rattle.std.specs.Prelude.{◌≡◌, ◌≤◌, ◌<◌, ◌+◌, ◌++◌, IfNone, IfOk, IfSome, IsSomeAnd, IsTrue, OnOk, Some, false, codes, drop, length, slice_get, take};
 ghost use Rattle.anyk_model.specs.Output.{cut, line_text};
 ghost use Rattle.answer_print.specs.Shown.{style_shown};
@@ -23,8 +23,9 @@ use std::sync::ledger::Ledger;
 use step_counter::{NoMemory, Steps};
 use tdp_core::{Answer, Ranked};
 
-/// Prints the members from the cursor's place on, at most `count`, and the cursor's name alone if the list ends before. The
-/// list has the combinations that the set's answers stand for, cut to the limit.
+/// Prints at most `count` members from the cursor's place, and the cursor's name alone if the list
+/// ends before that. The list is the combinations that the set's answers stand for, cut to the
+/// limit.
 pub(crate) fn print_next<'a, E: Ranked, S: Sink, L: Ledger>(
     alloc: Global,
     records: &mut RecordWriter,
@@ -68,7 +69,8 @@ pub(crate) fn print_next<'a, E: Ranked, S: Sink, L: Ledger>(
     Ok(())
 }
 
-// The member at the cursor's place, which moves on by one, or None at the end. At the limit the set is not called.
+// The member at the cursor's place, which then moves on by one, or `None` at the end. The set is
+// not called at the limit.
 fn next_member<E: Ranked, L: Ledger>(
     set: &mut Cursors<E>,
     id: CursorId,
@@ -111,7 +113,7 @@ fn is_reached(limit: Option<u64>, place: u64) -> bool
     }
 }
 
-// The cursor's name alone.
+// Prints the cursor's name alone.
 fn print_end<'a, S: Sink>(alloc: Global, name: &[u8], out: &mut S) -> Result<(), Refusal<'a>>
     ensures { Printed (S.written out.old) (S.written out.new) (S.faults out.old) (S.faults out.new) (name.now ++ codes "\n") result }
 {

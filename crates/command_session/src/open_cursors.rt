@@ -9,17 +9,17 @@ use cursor_set::{CursorId, Cursors, MAX_OPEN};
 use refusal_lines::Refusal;
 use tdp_core::Ranked;
 
-/// A cursor that is open: its name, and its place in the list, from 0.
+/// An open cursor: its name, and its place in the list, from 0.
 #[derive(Clone, Copy, Drop)]
 pub(crate) struct OpenCursor<'s> {
     pub(crate) name: &'s [u8],
     pub(crate) place: u64,
 }
 
-/// The open cursors, each at the number that it has in the set.
+/// The open cursors. The index of each is its number in the set.
 pub(crate) type OpenCursors<'s> = [Option<OpenCursor<'s>>; MAX_OPEN];
 
-/// The number of the cursor of this name.
+/// The number of the cursor with this name, from 0, or `None` if none is open under it.
 pub(crate) fn number_of(cursors: &OpenCursors<'_>, name: &[u8]) -> Option<usize>
     ensures { result ≡ position (is_named name.now) cursors.now }
 {
@@ -35,7 +35,7 @@ fn is_named(cursor: &Option<OpenCursor<'_>>, name: &[u8]) -> bool
     }
 }
 
-/// Opens a cursor of a new name at the list's start.
+/// Opens a cursor with a new name at the start of the list. `NoMemory` if no more can be opened.
 pub(crate) fn open<'a, 's, E: Ranked>(
     set: &mut Cursors<E>,
     cursors: &mut OpenCursors<'s>,
@@ -54,7 +54,8 @@ pub(crate) fn open<'a, 's, E: Ranked>(
     Ok(())
 }
 
-/// Opens a cursor of a new name at the place of another.
+/// Opens a cursor with a new name at the place of another cursor. `NoMemory` if no more can be
+/// opened.
 pub(crate) fn fork<'a, 's, E: Ranked>(
     set: &mut Cursors<E>,
     cursors: &mut OpenCursors<'s>,
@@ -83,7 +84,7 @@ pub(crate) fn fork<'a, 's, E: Ranked>(
     Ok(())
 }
 
-/// Takes a cursor back to the list's start.
+/// Moves a cursor back to the start of the list.
 pub(crate) fn rewind<'a, E: Ranked>(
     set: &mut Cursors<E>,
     cursors: &mut OpenCursors<'_>,

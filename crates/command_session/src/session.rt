@@ -1,4 +1,4 @@
-//! A session, step by step.
+//! A session, one step after another.
 ghost use Rattle.std.specs.Prelude.{◌≡◌, ◌≤◌, ◌+◌, ◌*◌, [], IsSome, None, OnOk, map, option_map, replicate};
 ghost use Rattle.anyk_model.specs.Output.{cut, line_text};
 ghost use Rattle.answer_print.specs.Shown.{style_shown};
@@ -28,9 +28,10 @@ use std::sync::ledger::Ledger;
 use step_counter::Steps;
 use tdp_core::Ranked;
 
-/// Prints the header with the title of the cursors' names, and then what the steps of the script print of the answers that the
-/// engine has left, as far as the limit allows. `NoMemory` if memory is refused, and `WriteFault` if a write failed. The engine is
-/// called as often as the steps go far in the list, and each other call for a member takes at most 4 counted steps.
+/// Prints the header with the title of the cursors' names, and then what the steps of the script
+/// print of the answers that the engine has left, as far as the limit allows. `NoMemory` if memory
+/// is refused, and `WriteFault` if a write failed. The engine is called only for places that a
+/// cursor reaches for the first time. Each call for a member takes at most 4 more counted steps.
 pub fn print_session<'a, E: Ranked + Drop, S: Sink, L: Ledger>(
     alloc: Global,
     query: &Query,
@@ -60,7 +61,7 @@ pub fn print_session<'a, E: Ranked + Drop, S: Sink, L: Ledger>(
     print_steps(alloc, query, tables, style, &mut set, script, out, steps)
 }
 
-// What the steps print, over a set without an open cursor.
+// Prints what the steps print, over a set without an open cursor.
 fn print_steps<'a, E: Ranked, S: Sink, L: Ledger>(
     alloc: Global,
     query: &Query,
@@ -147,7 +148,7 @@ fn take_step<'a, 's, E: Ranked, S: Sink, L: Ledger>(
     }
 }
 
-// The step `next` of the cursor of this name.
+// Takes the step `next` of the cursor with this name.
 fn take_next<'a, E: Ranked, S: Sink, L: Ledger>(
     alloc: Global,
     records: &mut RecordWriter,

@@ -83,7 +83,7 @@ table_refused name old t (Some flaw) fault (inr e) =
     let is : fault_of flaw ≡ fault = cc in
     rw (sym is) (flaw_refused name old t flaw)
 
--- a query has an item
+-- a query has at least one item
 some-items : {ts rest : List Lexeme} {r : List ItemRef × List Equality} → IsItems ts rest r → 1 ≤ length r.0
 some-items (items one others) = omega arith
 

@@ -1,4 +1,4 @@
--- One file, as reading it tells.
+-- One file, as reading it gives it.
 use Rattle.std.proofs.Common.{◌≡◌, ◌≤◌, ◌<◌, ℕ, List, Option, Some, None, Ok, Err, refl, sym, ◌∙◌, arith, ap}
 use Rattle.std.proofs.lemmas.Bool.Decides.{nat_tests}
 use Rattle.outer_io.specs.Counts.{Rose}
@@ -25,7 +25,7 @@ pub loaded_fits : (told : Option Files) (name bytes : List ℕ) → HasFile told
 loaded_fits None name bytes h short = tt
 loaded_fits (Some files) name bytes h short = sym (ap (file_with name) (sym h.0) ∙ short_bytes name bytes short)
 
--- one that was not
+-- a file that was not read whole
 refused_fits : (told : Option Files) (name : List ℕ) (fault : FileFault) → (fault ≡ file.Missing → LacksFile told name) → (fault ≡ file.TooLarge → IsNoShortFile most_bytes told name)
     → Fits {A = List ℕ} (λ files. Is (file_in files name)) (λ files other. other ≡ name) told (Err (file_answer name fault))
 refused_fits None name file.Missing lacks long = tt

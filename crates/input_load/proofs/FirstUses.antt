@@ -1,4 +1,4 @@
--- The words that name the items' tables, and which of them come first.
+-- The entries that name the items' tables, and which of them come first.
 use Rattle.std.proofs.Common.{◌≡◌, ◌+◌, ◌<◌, ◌≤◌, ◌||◌, ◌∷◌, ◌++◌, [], ℕ, Bool, true, false, cond, if◌then◌else◌, List, length, map, drop, take, get_or, find, option_map, Some, None, refl, sym, ap, ◌∙◌, arith, subst, suc, zero, not}
 use Rattle.std.proofs.lemmas.List.{append_assoc, drop_more, get_or-map, length-append, length-map, take_more, map-append}
 use Rattle.std.proofs.lemmas.List.Folds.{list_any-append}
@@ -14,9 +14,9 @@ use Rattle.refusal_lines.specs.Answer.{UnknownTable}
 use Rattle.verdict.specs.Loading.{first_uses, first_uses_after, table_names, table_numbers, unknown_table, unknown_with}
 use Rattle.input_load.specs.Entries.{IsEntryOf, tables_of}
 
--- ---- the word that names a table
+-- ---- the entry that names a table
 
--- the file of a table is that of the first word that names it
+-- the file of a table is that of the first entry that names it
 file-of_found : (table : List ℕ) (named : List Named)
     → bytes_of (map named_pair named) table ≡ option_map (λ (e : Named). string_bytes e.file) (find (λ (e : Named). bytes_eq (string_bytes e.table) table) named)
 file-of_found table [] = refl
@@ -36,7 +36,7 @@ found-passes p (y ∷ xs) x e = by (p y) refl e (λ later. found-passes p xs x l
     by true is here later = let same : y ≡ x = cc in ap p (sym same) ∙ is
     by false is here later = later here
 
--- the word that was found has the table's name, and is the first of it
+-- the entry that was found names the table, and is the first that does
 pub found-table : (table : List ℕ) (named : List Named) (e : Named) → find (λ (e : Named). bytes_eq (string_bytes e.table) table) named ≡ Some e → string_bytes e.table ≡ table
 found-table table named e is = (bytes_eq-Decides (string_bytes e.table) table).0 (found-passes (λ (e : Named). bytes_eq (string_bytes e.table) table) named e is)
 
@@ -52,7 +52,7 @@ none-file table named is = file-of_found table named ∙ ap (option_map (λ (e :
 
 -- ---- the items, one after another
 
--- the items up to i have tables that words name, and these are the words
+-- the items up to i have tables that entries name, and these are the entries
 pub record HasEntries (named : List (List ℕ × List ℕ)) (items : List ItemRef) (i : ℕ) (words : List (List ℕ × List ℕ)) : Type 0 where
   pub known : unknown_table named (drop i items) ≡ unknown_table named items
   pub tables : tables_of words ≡ table_names (take i items)
@@ -78,7 +78,7 @@ entries-more named items i item entries e inside is table entry h =
       entries = all-append (IsEntryOf named) entries e h.entries entry;
     }
 
--- the first item whose table no word names
+-- the first item whose table no entry names
 pub entries-end : (named : List (List ℕ × List ℕ)) (items : List ItemRef) (i : ℕ) (item : ItemRef) (entries : List (List ℕ × List ℕ))
     → i < length items → item ≡ get_or items i item → bytes_of named item.table ≡ None → HasEntries named items i entries
     → unknown_table named items ≡ Some (UnknownTable item.at)
@@ -91,13 +91,13 @@ entries-end named items i item entries inside is none h =
 abbrev pub has_name : List ℕ → List (List ℕ) → Bool
 has_name name names = list_any (λ other. bytes_eq other name) names
 
--- of the entries up to i, the firsts
+-- the first entries of the entries up to i
 pub record HasFirsts (all : List (List ℕ × List ℕ)) (i : ℕ) (firsts : List (List ℕ × List ℕ)) : Type 0 where
   pub tables : tables_of firsts ++ first_uses_after (tables_of firsts) (tables_of (drop i all)) ≡ first_uses_after [] (tables_of all)
   pub entries : (named : List (List ℕ × List ℕ)) → AllByRecursion (IsEntryOf named) all → AllByRecursion (IsEntryOf named) firsts
   pub few : length firsts ≤ i
 
--- the entry at i has a table that an earlier one has
+-- an earlier entry has the same table as the entry at i
 pub firsts-same : (all : List (List ℕ × List ℕ)) (i : ℕ) (e : List ℕ × List ℕ) (firsts : List (List ℕ × List ℕ)) → i < length all → e ≡ get_or all i e
     → has_name e.0 (tables_of firsts) ≡ true → HasFirsts all i firsts → HasFirsts all (i + 1) firsts
 firsts-same all i e firsts inside is has h =
@@ -119,7 +119,7 @@ all-at P [] i d inside all = absurd (omega arith)
 all-at P (x ∷ xs) zero d inside all = all.0
 all-at P (x ∷ xs) (suc i) d inside all = all-at P xs i d (omega arith) all.1
 
--- the entry at i is the first with its table
+-- the entry at i is the first for its table
 pub firsts-more : (all : List (List ℕ × List ℕ)) (i : ℕ) (e : List ℕ × List ℕ) (firsts : List (List ℕ × List ℕ)) → i < length all → e ≡ get_or all i e
     → has_name e.0 (tables_of firsts) ≡ false → HasFirsts all i firsts → HasFirsts all (i + 1) (firsts ++ e ∷ [])
 firsts-more all i e firsts inside is has h =
@@ -175,7 +175,7 @@ each-used earlier (x ∷ xs) = by (has_name x earlier) refl (each-used earlier x
           subst P (append_assoc earlier (x ∷ []) rest) more,
         )
 
--- a name that is there has a place
+-- a name in the list has a place
 place-within : (name : List ℕ) (names : List (List ℕ)) → has_name name names ≡ true → position_or_len (λ other. bytes_eq other name) names < length names
 place-within name [] e = cc
 place-within name (x ∷ xs) e = by (bytes_eq x name) e (place-within name xs)
@@ -230,7 +230,7 @@ map-more {A} {B} f xs i x out inside is so_far =
     ap (λ (l : List B). l ++ f x ∷ []) so_far ∙ sym (map-append f (take i xs) (x ∷ []))
     ∙ sym (ap (map f) (take_more xs i x inside ∙ ap (λ (z : A). take i xs ++ z ∷ []) (sym is)))
 
--- a number by the entries is a number by their tables' names
+-- a number by the entries is a number by the names of their tables
 pub number-shown : {A : Type 0} (g : A → List ℕ × List ℕ) (ys : List A) (name : List ℕ)
     → position_or_len (λ other. bytes_eq other name) (tables_of (map g ys)) ≡ position_or_len (λ y. bytes_eq (g y).0 name) ys
 number-shown g ys name =
@@ -248,7 +248,7 @@ pub has-shown : {A : Type 0} (g : A → List ℕ × List ℕ) (ys : List A) (nam
 has-shown g ys name =
     list_any-map (λ other. bytes_eq other name) (λ (x : List ℕ × List ℕ). x.0) (map g ys) ∙ list_any-map (λ (x : List ℕ × List ℕ). bytes_eq x.0 name) g ys
 
--- an element of a list that is mapped
+-- an element of a mapped list
 pub mapped-inside : {A B : Type 0} (f : A → B) (xs : List A) (i : ℕ) → i < length xs → i < length (map f xs)
 mapped-inside f xs i inside = let same = length-map xs f in omega (arith, inside, same)
 

@@ -1,4 +1,4 @@
--- A shelf in memory that holds the files of a generated input.
+-- A shelf in memory with the files of an input that is made.
 use Rattle.std.proofs.Common.{◌≡◌, ◌∷◌, ◌++◌, [], ℕ, List, Vec, length, map, refl, sym, ap, ◌∙◌, arith, append_assoc, append-nil, string_bytes, Bool, true, not, ◌&&◌, inl, inr, ◌⊎◌}
 use Rattle.std.specs.Global.{Global}
 use Rattle.std.specs.List.{list_any, zip}
@@ -12,7 +12,7 @@ use Rattle.outer_io.specs.Entries.{are_distinct, entry_of}
 use Rattle.verdict.specs.Made.{made_files}
 use Rattle.input_load.proofs.FirstUses.{list_any-map}
 
--- ---- the files, one behind the other
+-- ---- the files, one after another
 
 abbrev pub files_of : List Named → List (Vec ℕ Global) → List (List ℕ × List ℕ)
 files_of named tables = zip (map (λ (n : Named). string_bytes n.file) named) (map (λ (t : Vec ℕ Global). t.items) tables)
@@ -35,7 +35,7 @@ files-first held file named tables number rows is name bytes names texts =
     ∙ ap (λ (l : List (List ℕ)). (query_file, load_query) ∷ zip l (map (λ (t : Vec ℕ Global). t.items) tables)) named_files
     ∙ ap (λ (l : List (List ℕ)). (query_file, load_query) ∷ zip (map (λ (t : List ℕ × List ℕ). t.1) table_files) l) texts
 
--- one more
+-- one file more
 pub files-more : (held now : List MemFile) (file : MemFile) (n : Named) (table : Vec ℕ Global) (named later : List Named) (tables others : List (Vec ℕ Global)) (all : List (List ℕ × List ℕ))
     → map entry_of held ++ files_of named tables ≡ all → named ≡ n ∷ later → tables ≡ table ∷ others
     → now ≡ held ++ file ∷ [] → string_bytes file.name ≡ string_bytes n.file → file.bytes ≡ table
@@ -49,7 +49,7 @@ files-more held now file n table named later tables others all before is also pu
     ∙ ap (λ (l : List Named). map entry_of held ++ files_of l (table ∷ others)) (sym is)
     ∙ ap (λ (l : List (Vec ℕ Global)). map entry_of held ++ files_of named l) (sym also) ∙ before
 
--- all, where there is no name or no table more
+-- all files, when no name or no table is left
 pub files-all : (held : List MemFile) (named : List Named) (tables : List (Vec ℕ Global)) (all : List (List ℕ × List ℕ))
     → map entry_of held ++ files_of named tables ≡ all → (length named ≡ 0) ⊎ (length tables ≡ 0) → map entry_of held ≡ all
 files-all held [] tables all before ended = sym (append-nil (map entry_of held)) ∙ before

@@ -1,4 +1,4 @@
--- Over files that hold each that the words name, no file is missing.
+-- If there is a file for each name of the command line, no file is missing.
 use Rattle.std.proofs.Common.{◌≡◌, ◌∷◌, ◌++◌, [], ℕ, Bool, true, false, IsTrue, if◌then◌else◌, is_some, List, Option, Some, None, Result, Ok, Err, option_map, nat_lt, length, unwrap_or, refl, sym, subst, arith, inl, inr}
 use Rattle.std.specs.List.{AllByRecursion, list_any}
 use Rattle.std.specs.Str.{bytes_eq}
@@ -96,7 +96,7 @@ bind-none loaded (Some bind.NoMemory) = tt
 
 -- ---- the tables that items use
 
--- a word names the table
+-- an entry names the table
 abbrev IsNamed : Named → List ℕ → Type 0
 IsNamed named name = IsTrue (is_some (bytes_of named name))
 
@@ -122,7 +122,7 @@ uses-all P earlier (name ∷ names) all =
     by true known new = known
     by false known new = (all.0, new)
 
--- the file that a word names is held
+-- there is a file of the name in the entry
 abbrev IsHeld : Files → List ℕ × List ℕ → Type 0
 IsHeld files entry = IsTrue (is_some (bytes_of files entry.1))
 
@@ -144,7 +144,7 @@ tables-none files named (name ∷ names) held all =
     (then_by-none (file_in files (known_file named name)) (sound_table name) file (λ bytes. table-none name bytes _ (flaw_of (records_of bytes))))
     (λ table. then_by-none (tables_in files named names) (λ tables. Ok (table ∷ tables)) (tables-none files named names held all.1) (λ tables. tt))
 
--- ---- the whole
+-- ---- all together
 
 known-is : (o : Option Answer) (select known : Select) → Ok known ≡ unless o select → (o ≡ None) × (known ≡ select)
 known-is None select known e = (refl, cc)
@@ -184,7 +184,7 @@ module _ (named : Named) (files : Files) (held : AllByRecursion (IsHeld files) n
 pub made-none : (number rows : ℕ) (r : Result Loaded Answer) → IsLoadedOn query_file None table_files (made_files number rows) r → NoneMissing r
 made-none number rows = loaded-none table_files (made_files number rows) (refl, (refl, (refl, (refl, tt)))) query_file refl
 
--- ---- a stage over files that are told, of which none is missing and none fails
+-- ---- a stage over known files, none of which is missing and none of which fails
 
 no-rise : {A : Type 0} (before now : ℕ) → before ≡ 0 → now ≡ 0 → Rose before now → A
 no-rise before now first last (inl risen) = absurd (omega (arith, first, last, risen))

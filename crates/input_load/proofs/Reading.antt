@@ -29,7 +29,7 @@ module _ (named : List (List ℕ × List ℕ)) (entry : List ℕ × List ℕ) (i
       (λ files h. ap (λ (r : Result (List ℕ) Answer). table_after tables (then_by r (sound_table entry.0))) h ∙ read-is files)
       (λ files file h. h)
 
-  -- its file is read, and its records are looked at
+  -- its file is read, and then its records
   pub file-read : (old new : Shelved) (bytes : List ℕ) (r : Result (List Table) Answer) → Staged (λ files. Is (file_in files entry.1)) (λ files file. file ≡ entry.1) old new (Ok bytes)
       → Pure (Is (table_after tables (sound_table entry.0 bytes))) r
       → Staged (λ files. Is (table_after tables (table_in files named entry.0))) (λ files file. file ≡ entry.1) old new r
@@ -41,11 +41,11 @@ module _ (named : List (List ℕ × List ℕ)) (entry : List ℕ × List ℕ) (i
 
 -- ---- one table after another
 
--- what tables give behind others
+-- the tables that come after others
 abbrev behind : List Table → Result (List Table) Answer → Result (List Table) Answer
 behind tables r = then_by r (λ later. Ok (tables ++ later))
 
--- the tables up to i are these: what is left to read makes them the whole
+-- the tables up to i are these: with those that are left to read they are the whole
 abbrev pub IsReached : List (List ℕ × List ℕ) → List (List ℕ × List ℕ) → ℕ → Files → Result (List Table) Answer → Type 0
 IsReached named all i files (Ok tables) =
     (behind tables (tables_in files named (tables_of (drop i all))) ≡ tables_in files named (tables_of all))

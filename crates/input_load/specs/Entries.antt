@@ -1,17 +1,17 @@
--- The words that name tables, as pairs of a table's name and its file's.
+-- The entries of the command line that name tables, as pairs of a table's name and its file's.
 use Rattle.std.specs.Prelude.{◌≡◌, ℕ, List, [], ◌∷◌, ◌++◌, map, Some, Result, Ok, Err}
 use Rattle.outer_io.specs.Files.{bytes_of}
 use Rattle.anyk_model.specs.Table.{Table}
 use Rattle.refusal_lines.specs.Answer.{Answer}
 
--- the pair is the first among these that names its table
+-- the pair is the first of these that names its table
 abbrev pub IsEntryOf : List (List ℕ × List ℕ) → List ℕ × List ℕ → Type 0
 IsEntryOf named entry = bytes_of named entry.0 ≡ Some entry.1
 
 abbrev pub tables_of : List (List ℕ × List ℕ) → List (List ℕ)
 tables_of entries = map (λ (entry : List ℕ × List ℕ). entry.0) entries
 
--- tables with one more after them, if it is there
+-- these tables and one more after them, if it was read
 abbrev pub table_after : List Table → Result Table Answer → Result (List Table) Answer
 table_after tables (Ok table) = Ok (tables ++ table ∷ [])
 table_after tables (Err answer) = Err answer

@@ -9,7 +9,7 @@ use Rattle.verdict.specs.Loading.{Loaded}
 pub record InputData : Type 0 where
   pub query : BoundQuery
   pub tables : List Table
-  -- those of the script, and none if there is no script
+  -- the steps of the script, and none if there is no script
   pub steps : List Step
 
 -- the query was bound to the tables, and the steps keep the rules of scripts
@@ -17,6 +17,6 @@ pub record IsSound (input : InputData) : Type 0 where
   pub fits : Fits input.query input.tables
   pub rules : KeepsRules [] input.steps
 
--- what is known of it
+-- what is known of the input
 abbrev pub loaded_of : InputData → Loaded
 loaded_of input = record { query = input.query.query; tables = input.tables; steps = input.steps }

@@ -1,4 +1,4 @@
--- What the parts of loading answer, as results of stages.
+-- The results of the parts of loading, as results of stages.
 use Rattle.std.specs.Prelude.{ℕ, List, Result, Ok, Err, Vec}
 use Rattle.std.specs.Global.{Global}
 use Rattle.csv_tables.specs.declared.fault.TableFault.{TableFault}
@@ -23,7 +23,7 @@ abbrev pub shown_tables : Result (List Table) Refusal → Result (List Table) An
 shown_tables (Ok tables) = Ok tables
 shown_tables (Err refusal) = Err (answer_of refusal)
 
--- a value that is said beside a result
+-- a result in which this value stands for the value at `Ok`
 abbrev pub said_as : {A B : Type 0} → B → Result A Refusal → Result B Answer
 said_as b (Ok a) = Ok b
 said_as b (Err refusal) = Err (answer_of refusal)

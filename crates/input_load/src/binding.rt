@@ -18,12 +18,15 @@ use session_script::Step;
 use std::alloc::Global;
 use std::marker::Model;
 
-/// An input up to its structure: the tables, in the order of their first use, the query bound to them, and the steps of the script,
-/// of which there are none if there is no script. The query fits the tables, and the steps keep the rules of scripts.
+/// An input before its structure is found. The query fits the tables, and the steps keep the rules
+/// of scripts.
 #[derive(Drop)]
 pub struct Input {
+    /// The query, bound to the tables.
     pub query: Query,
+    /// The tables, in the order of their first use.
     pub tables: Tables,
+    /// The steps of the script; none if there is no script.
     pub script: Vec<Step>,
 }
 
@@ -38,7 +41,8 @@ impl Model for Input {
         IsSound (record { query = a.query; tables = a.tables; steps = a.script.items }) };
 }
 
-/// The input of the select over the tables, or the refusal that the first fault of binding is.
+/// The input of this select over the tables. `which` has the number of each item's table, from 0.
+/// The error is the refusal for the first fault of binding, or `NoMemory`.
 pub(crate) fn bound_input<'a>(
     alloc: Global,
     select: &Select,

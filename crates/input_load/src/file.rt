@@ -1,4 +1,4 @@
-//! One file.
+//! Reading one file.
 ghost use Rattle.std.specs.Prelude.{◌≡◌, ◌≤◌, IfOk, length};
 ghost use Rattle.verdict.specs.Loading.{file_in};
 ghost use Rattle.verdict.specs.Stages.{Is};
@@ -10,8 +10,8 @@ use outer_io::{FileFault, Shelf, read_file};
 use refusal_lines::Refusal;
 use std::alloc::Global;
 
-/// The bytes of the file of this name. `NoFile` if there is none, `ReadFault` if a read failed, and `TooLarge` if
-/// the file passes the limit.
+/// The bytes of the file with this name. `NoFile` if there is none, `ReadFault` if a read failed,
+/// `TooLarge` if the file is longer than the limit, and `NoMemory` if memory is refused.
 pub(crate) fn load<'a, F: Shelf>(
     alloc: Global,
     shelf: &mut F,

@@ -7,12 +7,14 @@ use cmd_words::Named;
 use std::alloc::Global;
 use step_counter::NoMemory;
 
-/// Tables that are made from a number, and their names, each with that of its file.
+/// Four tables that are made from a number, with the name of each table and of its file.
 #[derive(Drop)]
 pub struct MadeTables {
+    /// The number, below 2^31.
     pub number: u32,
-    /// How many rows each table has.
+    /// The number of rows of each table, from 1 to 100,000.
     pub rows: u32,
+    /// The names of the tables, P1 to P4, and of their files.
     pub named: Vec<Named>,
     ghost small: { number < 2 ^ 31 },
     ghost some_rows: { 1 ≤ rows },
@@ -21,7 +23,7 @@ pub struct MadeTables {
 }
 
 impl MadeTables {
-    /// The tables P1 to P4 of this number, with so many rows each.
+    /// The tables P1 to P4 of this number, with `rows` rows each. `NoMemory` if memory is refused.
     pub fn new(alloc: Global, number: u32, rows: u32) -> Result<MadeTables, NoMemory>
         requires small { number < 2 ^ 31 }
         requires some_rows { 1 ≤ rows }

@@ -25,8 +25,8 @@ use refusal_lines::Refusal;
 use session_script::Step;
 use std::alloc::Global;
 
-/// The input that the query file, the script's file, if there is one, and the tables' files hold, or its first refusal. The tables
-/// are hashed with these keys.
+/// The input that is in the query file, in the script's file, if there is one, and in the tables'
+/// files, or its first refusal. The tables are hashed with these keys.
 pub fn load_input<'a, F: Shelf>(
     alloc: Global,
     query: &'a str,
@@ -44,7 +44,7 @@ pub fn load_input<'a, F: Shelf>(
     read_input(alloc, &bytes, script, named, shelf, keys)
 }
 
-// From the bytes of the query file on.
+// The stages after the query file was read.
 fn read_input<'a, F: Shelf>(
     alloc: Global,
     bytes: &[u8],
@@ -62,7 +62,7 @@ fn read_input<'a, F: Shelf>(
     script_input(alloc, &select, script, named, shelf, keys)
 }
 
-// From the script on.
+// The stages after the query was parsed.
 fn script_input<'a, F: Shelf>(
     alloc: Global,
     select: &Select,
@@ -81,7 +81,7 @@ fn script_input<'a, F: Shelf>(
     select_input(alloc, select, steps, named, shelf, keys)
 }
 
-// From the tables that the words name on.
+// The stages after the script was read.
 fn select_input<'a, F: Shelf>(
     alloc: Global,
     select: &Select,
@@ -100,7 +100,7 @@ fn select_input<'a, F: Shelf>(
     table_input(alloc, select, script, &entries, shelf, keys)
 }
 
-// From the files of the tables on.
+// The stages after each item's table was found among the words.
 fn table_input<'a, F: Shelf>(
     alloc: Global,
     select: &Select,

@@ -1,6 +1,6 @@
-//! The input of a command, looked at in the order of its refusals: the query file, the script, a table that no word names, each
-//! table in the order of its first use, and the query bound to its tables. The files are those of a shelf, or those that are made
-//! from a number.
+//! The input of a command. Refusals are looked for in this order: the query file, the script, a
+//! table that no word names, each table in the order of its first use, and the query bound to its
+//! tables. The files are those of a shelf, or they are made from a number.
 #![tactic(auto)]
 
 mod binding;

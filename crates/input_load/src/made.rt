@@ -1,4 +1,4 @@
-//! A generated input.
+//! An input that is made from a number.
 ghost use Rattle.std.specs.Prelude.{◌≡◌, IfOk, None, map};
 ghost use Rattle.make_input.specs.Input.{query_file, table_files};
 ghost use Rattle.outer_io.specs.Entries.{entry_of};
@@ -17,8 +17,8 @@ use refusal_lines::Refusal;
 use std::alloc::Global;
 use step_counter::NoMemory;
 
-/// The input of the query over the tables that are made, or its first refusal. No file is read. The tables are the program's own, so
-/// known keys do.
+/// The input of the query over the tables that are made, or its first refusal. No file is read. The
+/// tables are the program's own, so that they are hashed with known keys.
 pub fn load_made<'a>(alloc: Global, made: &'a MadeTables) -> Result<Input, Refusal<'a>>
     ensures { let files = made_files made.now.number made.now.rows in
         Pure (IsLoadedOn query_file None table_files files) (shown_input result) }
@@ -34,7 +34,7 @@ pub fn load_made<'a>(alloc: Global, made: &'a MadeTables) -> Result<Input, Refus
     )
 }
 
-// The file of the query, and those of the tables.
+// The file of the query and the files of the tables, in memory.
 fn made_shelf(alloc: Global, made: &MadeTables) -> Result<Vec<MemFile>, NoMemory>
     ensures { IfOk result (λ files. map entry_of files.items ≡ made_files made.now.number made.now.rows) }
 {

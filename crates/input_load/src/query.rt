@@ -13,7 +13,7 @@ use query_grammar::select::Select;
 use refusal_lines::Refusal;
 use std::alloc::Global;
 
-/// The select that the bytes say, or the refusal that the parser's fault is.
+/// The select that these bytes write, or the refusal for the parser's fault.
 pub(crate) fn parse_query<'a>(alloc: Global, bytes: &[u8]) -> Result<Select, Refusal<'a>>
     ensures parsed { Pure (IsParse bytes.now) (shown_select result) }
     ensures limits { IfOk result IsWithinLimits }

@@ -14,7 +14,8 @@ use refusal_lines::Refusal;
 use session_script::{ScriptFault, Step, read_script};
 use std::alloc::Global;
 
-/// The steps of the script in this file, or none if no file is named.
+/// The steps of the script in this file; none if no file is named. The error is a refusal of the
+/// file or of the script, or `NoMemory`.
 pub(crate) fn load_script<'a, F: Shelf>(
     alloc: Global,
     script: Option<&'a str>,
@@ -32,7 +33,7 @@ pub(crate) fn load_script<'a, F: Shelf>(
     script_steps(alloc, &bytes)
 }
 
-// The steps that the bytes say, or the refusal that the script's fault is.
+// The steps that these bytes write, or the refusal for the script's fault.
 fn script_steps<'a>(alloc: Global, bytes: &[u8]) -> Result<Vec<Step>, Refusal<'a>>
     ensures said { Pure (Is (steps_said bytes.now)) (shown_steps result) }
     ensures rules { IfOk result (λ steps. KeepsRules [] steps.items) }

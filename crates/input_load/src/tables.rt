@@ -1,4 +1,4 @@
-//! The tables that the query uses.
+//! Reading the tables that the query uses.
 ghost use Rattle.std.specs.Prelude.{◌≡◌, ◌≤◌, ◌<◌, ◌+◌, IfOk, OnOk, List, ℕ, length, map};
 ghost use Rattle.std.specs.List.{AllByRecursion};
 ghost use Rattle.std.specs.String.{string_bytes};
@@ -19,7 +19,8 @@ use outer_io::Shelf;
 use refusal_lines::Refusal;
 use std::alloc::Global;
 
-/// The tables of these entries, one after another: of each its file, and then its records. They are hashed with these keys.
+/// The tables of these entries, hashed with these keys. The tables are read one after another, and
+/// the error is the refusal of the first bad one, or `NoMemory`.
 pub(crate) fn read_tables<'a, F: Shelf>(
     alloc: Global,
     entries: &[&'a Named],
@@ -41,7 +42,7 @@ pub(crate) fn read_tables<'a, F: Shelf>(
     Ok(tables)
 }
 
-// One table more.
+// Reads one more table.
 fn read_table<'a, F: Shelf>(
     alloc: Global,
     entry: &'a Named,
@@ -59,7 +60,7 @@ fn read_table<'a, F: Shelf>(
     add_table(entry.table.as_bytes(), &bytes, tables)
 }
 
-// The table of these bytes, or the refusal that its first flaw is.
+// Adds the table of these bytes. The error is the refusal for its first flaw.
 fn add_table<'a>(name: &'a [u8], bytes: &[u8], tables: &mut Tables) -> Result<(), Refusal<'a>>
     requires few { length tables.old < 16 }
     requires size { length bytes.now ≤ 67108864 }

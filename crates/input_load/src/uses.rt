@@ -1,4 +1,4 @@
-//! Which tables the items use.
+//! The tables that the items use.
 ghost use Rattle.std.specs.Prelude.{◌≡◌, ◌≤◌, [], IfOk, List, ℕ, find, length, map, option_map};
 ghost use Rattle.std.specs.List.{AllByRecursion, list_any, position_or_len};
 ghost use Rattle.std.specs.Str.{bytes_eq};
@@ -16,7 +16,8 @@ use refusal_lines::Refusal;
 use std::alloc::Global;
 use step_counter::NoMemory;
 
-/// For each item the word that names its table. `UnknownTable` at the first item whose table no word names.
+/// The entry that names the table of each item. `UnknownTable` at the first item whose table has no
+/// entry, and `NoMemory` if memory is refused.
 pub(crate) fn entries_of<'a>(
     alloc: Global,
     named: &'a [Named],
@@ -39,14 +40,14 @@ pub(crate) fn entries_of<'a>(
     Ok(entries)
 }
 
-// The first word that names this table.
+// The first entry for this table, if there is one.
 fn entry_of<'a>(named: &'a [Named], table: &[u8]) -> Option<&'a Named>
     ensures { option_map (λ e. e.now) result ≡ find (λ e. bytes_eq (string_bytes e.table) table.now) named.now }
 {
     named.iter().find(|entry| entry.table.as_bytes() == table)
 }
 
-/// The entries without those whose table an earlier one has.
+/// The first entry of each table, in order.
 pub(crate) fn first_entries<'a>(
     alloc: Global,
     entries: &[&'a Named],
@@ -73,7 +74,7 @@ fn has_table(entries: &[&Named], table: &str) -> bool
     entries.iter().any(|entry| entry.table.as_str() == table)
 }
 
-/// For each entry the number from 0 of its table among the firsts.
+/// For each entry the number of its table, which is its place among `firsts`, from 0.
 pub(crate) fn table_numbers(
     alloc: Global,
     entries: &[&Named],
@@ -90,7 +91,7 @@ pub(crate) fn table_numbers(
     Ok(numbers)
 }
 
-// The number from 0 of the table among the firsts, or how many there are.
+// The place of the table among `firsts`, from 0, or their number if it is not there.
 fn table_number(firsts: &[&Named], table: &str) -> u32
     requires { length firsts.now ≤ 16 }
     ensures { result ≡ position_or_len (λ e. bytes_eq (string_bytes e.now.table) table.now) firsts.now }

@@ -1,4 +1,4 @@
--- The answers that keys are seen as are those of the witnesses of these keys.
+-- The answers as which keys are seen are those of the witnesses with these keys.
 use Rattle.std.proofs.Common.{◌≡◌, ◌∙◌, [], ◌∷◌, ℕ, List, map, refl, ap}
 use Rattle.tdp_model.specs.KeyTuple.{KeyOf}
 use Rattle.tdp_core.specs.Seen.{answer_of, answers_of}

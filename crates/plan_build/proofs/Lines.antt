@@ -20,7 +20,7 @@ range-more n =
     sym (map-same (range_with_len 0 (n + 1))) ∙ map-range_with_len_more (λ (k : ℕ). k) 0 n n (omega arith)
     ∙ ap (λ (l : List ℕ). l ++ n ∷ []) (map-same (range_with_len 0 n))
 
--- the lines of one node more
+-- the lines with one node more
 pub lines-more : (line : ℕ → List ℕ) (n : ℕ) (old new : List ℕ) → old ≡ flat_map line (range_with_len 0 n) → new ≡ old ++ line n
     → new ≡ flat_map line (range_with_len 0 (n + 1))
 lines-more line n old new so_far one =

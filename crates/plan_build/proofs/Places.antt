@@ -58,8 +58,9 @@ place-member xs k l = contains-member (slice_index xs k) xs k l (get_or_default_
 
 -- ---- nodes with rows in ascending order
 
--- m nodes: the numbers of the rows of each and how many they are, which rows may stand there, which row agrees with a row of the
--- node above, by their numbers, and which one is joined with it, by their places
+-- There are m nodes. Given are the numbers and the count of the rows of each, which rows may be
+-- there, which rows agree with a row of the node above, by their numbers, and which rows are joined
+-- with it, by their places.
 module _ (m : ℕ) (up : ℕ → ℕ) (earlier : (q : ℕ) → 0 < q → q < m → up q < q) (numbers : ℕ → List ℕ) (long : ℕ → ℕ)
     (sizes : (v : ℕ) → length (numbers v) ≡ long v) (IsGood : ℕ → ℕ → Type 0) (Agree Joined : ℕ → ℕ → ℕ → Type 0)
     (ascending : (v : ℕ) → v < m → Rises (numbers v))
@@ -71,7 +72,7 @@ module _ (m : ℕ) (up : ℕ → ℕ) (earlier : (q : ℕ) → 0 < q → q < m �
   abbrev ByNumber : ℕ → ℕ → ℕ → Type 0
   ByNumber q above row = IsGood q row × ((q ≡ 0) ⊎ Agree q above row)
 
-  -- what stands above a node below v
+  -- the node above a node below v
   above-of : (v q : ℕ) → v < q → q < m → 0 < is_below up v q → (up q ≡ v) ⊎ ((v < up q) × (0 < is_below up v (up q)))
   above-of v q less l below = elim (cases_eq (up q) v) [
     | inl same ↦ inl same
@@ -96,7 +97,7 @@ module _ (m : ℕ) (up : ℕ → ℕ) (earlier : (q : ℕ) → 0 < q → q < m �
       let inside : place_of row (numbers v) < length (numbers v) = at.0 in
       let size = sizes v in (omega (arith, inside, size), at.1)
 
-  -- a row that extends by places does so by numbers
+  -- a row that extends by places extends by numbers
   pub extends-out : (v r : ℕ) → v < m → r < long v → Extends m up ByPlace v r → Extends m up ByNumber v (slice_index (numbers v) r)
   extends-out v r lv lr e = (λ q. slice_index (numbers q) (e.0 q), ap (slice_index (numbers v)) e.1, each)
     where
@@ -124,7 +125,7 @@ module _ (m : ℕ) (up : ℕ → ℕ) (earlier : (q : ℕ) → 0 < q → q < m �
     abbrev Found : ℕ → Type 0
     Found p = (place p < long p) × (slice_index (numbers p) (place p) ≡ named p)
 
-  -- and the other way round
+  -- and the converse
   pub extends-in : (v r : ℕ) → v < m → r < long v → Extends m up ByNumber v (slice_index (numbers v) r) → Extends m up ByPlace v r
   extends-in v r lv lr e = (place e.0, at-v, each)
     where

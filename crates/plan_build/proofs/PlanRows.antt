@@ -27,7 +27,7 @@ use Rattle.tree_dp.proofs.Reordered.{group_number-same}
 use Rattle.plan_build.specs.Plan.{HasReducedRows, RowPasses, RowsJoined, numbers}
 use Rattle.plan_build.proofs.Places.{Rises, extends-in, extends-out, member-place, place-member, rises-at, rises-of}
 
--- a group has the same members before and after
+-- a group has the same members before and after the reduction
 group-same : {R : Type 0} (before after : List (NodeData R)) (nodes : (v : ℕ) → IsReordered (node_at before v) (node_at after v)) (q r : ℕ)
     → IsPermutation (group before q r) (group after q r)
 group-same before after nodes q r =

@@ -29,7 +29,7 @@ module _ (bound : BoundQuery) (tables : List Table) (join : JoinTree) (stored : 
   pub join-tree-of : IsJoinTreeOf bound.query join
   join-tree-of = record { count = count; graph = stored.graph; of_query = stored.of_query; tree = stored.join_tree }
 
-  -- more node rows than a budget
+  -- there are more node rows than a budget
   pub too-many : (budget : ℕ) → budget ≡ 4194304 → PassesBudget bound tables join budget → IsShape bound.query tables (Err too_many_rows)
   too-many budget is past =
       let shape = shape_with bound tables join stored count past.rows in

@@ -1,4 +1,4 @@
--- A query has one shape, so a plan's is that one.
+-- A query has one shape, so that of a plan is this one.
 use Rattle.std.proofs.Common.{◌≡◌, ◌≤◌, ℕ, List, Ok, Err, subst, arith}
 use Rattle.tdp_model.specs.KeyTuple.{KeyOf}
 use Rattle.tdp_core.specs.TreeData.{row_count}
@@ -14,7 +14,7 @@ use Rattle.plan_build.specs.Plan.{IsPlan, PlanData, shape_of}
 pub shape-is : (query : Query) (tables : List Table) (x y : Shape) → IsShape query tables (Ok x) → IsShape query tables (Ok y) → x ≡ y
 shape-is query tables x y a b = let e = one_shape query tables (Ok x) (Ok y) a b in cc
 
--- and no flaw with it
+-- and it has no flaw then
 pub has-no-flaw : {A : Type 0} (query : Query) (tables : List Table) (x : Shape) (flaw : Flaw) → IsShape query tables (Ok x) → IsShape query tables (Err flaw) → A
 has-no-flaw query tables x flaw a b = let e = one_shape query tables (Ok x) (Err flaw) a b in cc
 

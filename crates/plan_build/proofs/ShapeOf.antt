@@ -27,7 +27,7 @@ pub numbers-in-all : {R : Type 0} (raw : RawData R) → sum_of_all (map length (
 numbers-in-all raw = ap sum_of_all (same-lengths (λ x. x.row.row) raw.rows) ∙ sum-of-lengths raw.rows
 
 module _ (bound : BoundQuery) (tables : List Table) (join : JoinTree) (stored : HasStoredTree bound.query join) (count : join.count ≡ length bound.query.items) where
-  -- the join tree with so many rows for each node
+  -- the join tree with these numbers of rows
   abbrev pub shape_with : List (List ℕ) → Shape
   shape_with node_rows = record { atoms = take join.count join.atom; parents = take join.count join.parent; node_rows = map length node_rows }
 
@@ -57,7 +57,7 @@ module _ (bound : BoundQuery) (tables : List Table) (join : JoinTree) (stored : 
         subst (AreNodeRows bound.query tables (item_of join v)) (sym same) (built.rows v l);
   }
 
--- ---- how many rows stay
+-- ---- the number of rows that stay
 
 module _ {R : Type 0} (d : ℕ) (key : R → KeyOf d 16) (raw : RawData R) (parts : List (NodeData R)) (reduced : IsReduced d key raw parts) where
   kept-few : (v : ℕ) → v < length raw.shapes → rows parts v ≤ raw_len raw v

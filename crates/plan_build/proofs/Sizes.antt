@@ -11,7 +11,7 @@ use Rattle.anyk_model.specs.Query.{Item, row_counts}
 use Rattle.query_bind.specs.Names.{item_at}
 use Rattle.query_bind.specs.Parts.{sum_of_all}
 
--- an ascending list of numbers below n has at most n of them
+-- an ascending list of numbers below n has at most n elements
 pub few-below : (xs : List ℕ) (n : ℕ) → IsStrictlyIncreasing xs → ((k : ℕ) → k < length xs → slice_index xs k < n) → length xs ≤ n
 few-below [] n rises low = omega arith
 few-below (x ∷ xs) n rises low =
@@ -40,7 +40,7 @@ sum-one-more xs i l = subst (λ n. sum_of_all (take n xs) ≡ sum_of_all (take i
     by (x ∷ xs) zero l = omega arith
     by (x ∷ xs) (suc i) l = let rest = by xs i (omega (arith, l)) in omega (arith, rest)
 
--- each node has at most so many rows, so all have
+-- if each node has at most this many rows, so have all together
 pub fewer-in-all : (few many : ℕ → ℕ) (k q : ℕ) → ((v : ℕ) → q ≤ v → v < q + k → few v ≤ many v) → sum_from ◌+◌ 0 few k q ≤ sum_from ◌+◌ 0 many k q
 unfolding sum_from
 fewer-in-all few many zero q h = omega arith
@@ -64,7 +64,8 @@ lengths-from (xs ∷ xss) all q h =
 pub lengths-in-all : {X : Type 0} (xss : List (List X)) → sum_from ◌+◌ 0 (λ v. length (slice_index_or xss v [])) (length xss) 0 ≡ sum_by length xss
 lengths-in-all xss = lengths-from xss (λ v. length (slice_index_or xss v [])) 0 (λ v l. let none : 0 + v ≡ v = omega arith in ap (λ w. length (slice_index_or xss w [])) none)
 
--- the shares of building, reducing and solving, where l nodes have n rows before and k rows after the reduction
+-- the shares of building, reducing and solving, if l nodes have n rows before the reduction and k
+-- rows after it
 pub shares : (l t n k : ℕ) → 1 ≤ l → n ≤ t → k ≤ n → l * t + 2 * l * (1 + n) + 4 * l * (1 + k) ≤ 16 * (l * l * (1 + t))
 shares zero t n k some a b = absurd (omega (arith, some))
 shares (suc m) t n k some a b =
@@ -74,7 +75,7 @@ shares (suc m) t n k some a b =
     let all : l * t + 2 * (l * (1 + t)) + 4 * (l * (1 + t)) ≤ 16 * (l * l * (1 + t)) = omega arith in
     omega (arith, rows, kept, all)
 
--- how many rows the table of an item has
+-- the number of rows of an item's table
 pub row-count-at : (items : List Item) (tables : List Table) (i : ℕ) → i < length items → get_or (row_counts items tables) i 0 ≡ length (table_at tables (item_at items i).table).rows
 row-count-at items tables i l = get_or-map (λ (i : Item). length ((table_at tables i.table).rows)) items i _ 0 l
 
@@ -86,7 +87,7 @@ steps-of-reduction before built now l t m n some low same first second =
     let here : 2 * m * (1 + n) ≡ 2 * l * (1 + n) = ap (λ k. 2 * k * (1 + n)) same in
     omega (arith, all, first, second, here)
 
--- and of solving
+-- and the steps of solving
 pub steps-of-plan : (before built reduced now l t m n p k : ℕ) → 1 ≤ l → n ≤ t → k ≤ n → m ≡ l → p ≡ l → built ≤ before + l * t
     → reduced ≤ built + 2 * m * (1 + n) → now ≤ reduced + 4 * p * (1 + k) → now ≤ before + 16 * (l * l * (1 + t))
 steps-of-plan before built reduced now l t m n p k some low kept same alike first second third =

@@ -112,7 +112,7 @@ module _ {R : Type 0} (t : List (NodeData R)) (earlier : (q : ℕ) → 0 < q →
         → SolutionHas (key_add d 16) (key_none d 16) (length t) (parent t) (rank t d key) (group t) k
     solution-has rows solution is = (listed rows, solution-list rows solution, listed-key d key rows ∙ is)
 
--- Two solutions with one key are the same rows.
+-- Two solutions with the same key are the same rows.
 pub solutions-once : {R : Type 0} (d : ℕ) (key : R → KeyOf d 16) (t : List (NodeData R)) → IsFormed d key t → IsTieFreeTree t
     → (r s : ℕ → ℕ) → IsTreeSolution t r → IsTreeSolution t s → solution_key t d key r ≡ solution_key t d key s → (q : ℕ) → q < length t → r q ≡ s q
 solutions-once d key t formed apart r s first second same q l =

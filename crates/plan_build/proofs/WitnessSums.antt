@@ -44,7 +44,7 @@ last-at f a (suc n) j at = let h = last-at f (a + 1) n j (omega arith) in omega 
 pub total-last : (f : ℕ → ℤ) (n : ℕ) → total (map f (range_with_len 0 (suc n))) ≡ f n +ℤ total (map f (range_with_len 0 n))
 total-last f n = last-at f 0 n n (omega arith)
 
--- the sum of a value at one number alone
+-- the sum of a function that is 0 except at one number
 pub total-one : (m n : ℕ) (v : ℕ → ℤ) → m < n → total (map (λ (i : ℕ). cond (m == i) (v i +ℤ pos 0) (pos 0)) (range_with_len 0 n)) ≡ v m
 total-one m n v inside =
     let h = picks m v (λ i. pos 0) 0 n (omega arith) (omega arith) in
@@ -53,14 +53,14 @@ total-one m n v inside =
 
 -- ---- numbers below n in another order
 
--- `item 0`, `item 1` and on to n places are the numbers below n, each once
+-- `item 0`, `item 1` and so on, for n places, are the numbers below n, each once
 pub record IsOrderOf (n : ℕ) (item : ℕ → ℕ) : Type 0 where
   pub within : (v : ℕ) → v < n → item v < n
   pub distinct : (u v : ℕ) → u < v → v < n → item u ≢ item v
   pub each : (a : ℕ) → a < n → (v : ℕ) × (v < n) × (item v ≡ a)
 
 module _ (n : ℕ) (item : ℕ → ℕ) (order : IsOrderOf n item) (g : ℕ → ℤ) where
-  -- the value of a number that is among the first k, and 0 at the others
+  -- the value at a number that is among the first k, and 0 at the others
   met : ℕ → ℕ → ℤ
   met zero a = pos 0
   met (suc k) a = cond (item k == a) (g a +ℤ met k a) (met k a)
@@ -105,7 +105,7 @@ module _ (n : ℕ) (item : ℕ → ℕ) (order : IsOrderOf n item) (g : ℕ → 
 
 -- ---- lists that are chosen place by place
 
--- where there is a number with P at each place below n, a list has them
+-- if there is a number with P at each place below n, there is a list of them
 pub record Chosen (n : ℕ) (P : ℕ → ℕ → Type 0) : Type 0 where
   pub list : List ℕ
   pub count : length list ≡ n

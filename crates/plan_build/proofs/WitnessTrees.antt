@@ -1,4 +1,5 @@
--- What agrees along each link of a tree agrees wherever it is connected: values that a node has at places.
+-- What agrees along each link of a tree agrees wherever the tree is connected: values that a node
+-- has at places.
 use Rattle.std.proofs.Common.{◌≡◌, ℕ, zero, suc, ◌+◌, ◌<◌, ◌≤◌, List, length, slice_index, sym, ap, ◌∙◌, subst, inl, inr, arith}
 use Rattle.std.proofs.lemmas.Bool.{cases_order}
 use Rattle.hyper_graph.specs.Trees.{ParentsFirst}

@@ -86,7 +86,7 @@ module _ {R : Type 0} (bound : BoundQuery) (tables : List Table) (d : ℕ) (key 
   node-counted : (v : ℕ) → v < n → v < join.count
   node-counted v l = let c = tree.count in omega (arith, c, l)
 
-  -- the rows of nodes, as row numbers by item
+  -- the rows of nodes, as row numbers, one for each item
   record Matches (s : ℕ → ℕ) (rows : List ℕ) : Type 0 where
     pub count : length rows ≡ n
     pub within : (v : ℕ) → v < n → s v < raw_len raw v

@@ -23,15 +23,15 @@ use Rattle.witness_key.specs.WitnessKey.{witness_key}
 use Rattle.plan_build.specs.declared.fault.PlanFault.{PlanFault}
 use Rattle.plan_build.specs.declared.fault.PlanFault.TheVariants as fault
 
--- a tree that was solved, the join tree under it, how many rows each node had before the reduction, and how many rows the tables of
--- all items and the nodes have together
+-- a solved tree, its join tree, the number of rows of each node before the reduction, and the
+-- number of rows of the tables of all items and of the nodes together
 pub record PlanData (R : Type 0) : Type 0 where
   pub tree : List (NodeData R)
   pub join : JoinTree
   pub node_rows : List ℕ
   pub total : ℕ
 
--- the nodes of a stored join tree, with so many rows each
+-- the nodes of a stored join tree, with these numbers of rows
 abbrev pub tree_shown : JoinTree → List ℕ → Shape
 tree_shown join node_rows = record { atoms = take join.count join.atom; parents = take join.count join.parent; node_rows = node_rows }
 
@@ -39,8 +39,8 @@ abbrev pub shape_of : {R : Type 0} → PlanData R → Shape
 shape_of plan = tree_shown plan.join plan.node_rows
 
 module _ {R : Type 0} (d : ℕ) (key : R → KeyOf d 16) (query : Query) (tables : List Table) where
-  -- a solution of the tree has the key of a witness, each witness has the key of a solution, and two solutions with one key are
-  -- the same rows
+  -- A solution of the tree has the key of a witness, and each witness has the key of a solution.
+  -- Two solutions with the same key are the same rows.
   pub record HasWitnesses (tree : List (NodeData R)) : Type 0 where
     pub witness : (rows : ℕ → ℕ) → IsTreeSolution tree rows → (found : List ℕ) × IsWitness query tables found × (solution_key tree d key rows ≡ witness_key d query tables found)
     pub solution : (found : List ℕ) → IsWitness query tables found → (rows : ℕ → ℕ) × IsTreeSolution tree rows × (solution_key tree d key rows ≡ witness_key d query tables found)
@@ -48,11 +48,12 @@ module _ {R : Type 0} (d : ℕ) (key : R → KeyOf d 16) (query : Query) (tables
         → (q : ℕ) → q < length tree → t q ≡ u q
 
 module _ (bound : BoundQuery) (tables : List Table) {R : Type 0} (tree : List (NodeData R)) where
-  -- the item of node v has this row, and it passes
+  -- this row of the item of node v passes
   abbrev pub RowPasses : ℕ → ℕ → Type 0
   RowPasses v row = (1 ≤ row) × (row ≤ length (item_table bound.query tables (item tree v)).rows) × Passes bound.query tables (item tree v) row
 
-  -- and below the root it agrees with row `above` of the item of the node's parent on the variables that both items have
+  -- below the root, it also agrees with row `above` of the item of the node's parent on the
+  -- variables that both items have
   abbrev pub RowsJoined : ℕ → ℕ → ℕ → Type 0
   RowsJoined v above row = RowPasses v row × ((v ≡ 0) ⊎ RowsAgree bound tables (item tree v) (item tree (parent tree v)) row above)
 
@@ -60,15 +61,16 @@ module _ (bound : BoundQuery) (tables : List Table) {R : Type 0} (tree : List (N
   abbrev pub numbers : ℕ → List ℕ
   numbers v = map (λ x. x.row) (node_at tree v).rows
 
-  -- the rows of the nodes and their groups, in the words of the query
+  -- the rows of the nodes and their groups, in terms of the query
   pub record HasReducedRows : Type 0 where
     -- a node has exactly the rows of its item that pass and extend to one row for each node below it, in ascending order
     pub ascending : (v : ℕ) → v < length tree → IsAscending (λ a b. a < b) (numbers v)
     pub members : (v row : ℕ) → v < length tree → IsMember row (numbers v) ↔ (RowPasses v row × Extends (length tree) (parent tree) RowsJoined v row)
-    -- two rows of a node stand in one group exactly where they are alike in the variables that its parent's item has too
+    -- two rows of a node are in one group exactly if they agree in the variables that its parent's
+    -- item has too
     pub groups : (v i j : ℕ) → 0 < v → v < length tree → i < rows tree v → j < rows tree v
         → ShareGroup tree v i j ↔ RowsAlike bound tables (item tree v) (item tree (parent tree v)) (number tree v i) (number tree v j)
-    -- and a row names the group of exactly the rows that agree with it
+    -- a row names the group that has exactly the rows that agree with it
     pub named : (v r i : ℕ) → 0 < v → v < length tree → r < rows tree (parent tree v)
         → Contains (group tree v r) i ↔ ((i < rows tree v) × RowsAgree bound tables (item tree v) (item tree (parent tree v)) (number tree v i) (number tree (parent tree v) r))
 
@@ -93,7 +95,7 @@ pub record IsPlan {R : Type 0} (d : ℕ) (key : R → KeyOf d 16) (bound : Bound
   -- the ranking of the tree is that of the witnesses
   pub ranking : (ks : List (KeyOf d 16)) → IsTreeRanking plan.tree d key ks → ks ≡ map (witness_key d bound.query tables) (ranking_of bound.query tables)
 
--- the fault that may be answered: memory ran out, or the query has that flaw
+-- the fault that may be returned: memory ran out, or the query has this flaw
 abbrev pub TellsFlaw : Query → List Table → PlanFault → Type 0
 TellsFlaw query tables fault.NoMemory = Unit {0}
 TellsFlaw query tables (fault.Cyclic core) = IsShape query tables (Err (cyclic (items_of core)))

@@ -5,9 +5,10 @@ use step_counter::NoMemory;
 /// Why a query has no plan.
 #[derive(Clone, Copy, Debug, PartialEq, Eq)]
 pub enum PlanFault {
-    /// No join tree exists. The items that are left when no ear is left, as bits: item 1 is the lowest.
+    /// No join tree exists. The items that are left when there is no ear any more, as bits: item 1
+    /// is the lowest.
     Cyclic(u16),
-    /// The nodes have more rows than this, all together.
+    /// The nodes together have more rows than this number.
     TooManyRows(u64),
     /// Memory was refused.
     NoMemory,

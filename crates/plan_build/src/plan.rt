@@ -27,11 +27,12 @@ use step_counter::Steps;
 use tdp_core::Tree;
 use tree_dp::solve;
 
-// The most rows that the nodes of a join tree may have, all together.
+// The greatest number of rows of all nodes of a join tree together.
 const MAX_NODE_ROWS: u64 = 4_194_304;
 
-/// A query's tree problem, prepared for ranked enumeration, with the join tree under it. It is seen as the two trees, the numbers of
-/// node rows before the reduction, and the number of rows of the tables of all items and of all nodes.
+/// A query's tree problem, prepared for ranked enumeration, with its join tree. Contracts see the
+/// two trees, the number of rows of each node before the reduction, and the number of rows of the
+/// tables of all items and of all nodes.
 #[derive(Drop)]
 pub struct Plan<R: Rank> {
     tree: Tree<R>,
@@ -56,8 +57,8 @@ impl<R: Rank> Plan<R> {
         &self.tree
     }
 
-    /// How many rows the tables of all items, a table counted once for each item, and the nodes of the tree before its reduction
-    /// have together.
+    /// The number of rows of the tables of all items and of the nodes of the tree before its
+    /// reduction. A table is counted once for each item.
     pub fn total(&self) -> u64
         ensures { result ≡ self.now.total }
     {
@@ -65,8 +66,9 @@ impl<R: Rank> Plan<R> {
     }
 }
 
-/// The plan of a query over the tables to which it is bound. The query is cyclic exactly if no join tree exists; there are too
-/// many rows exactly if more than 4,194,304 rows of all nodes pass. The other error is that memory is refused.
+/// The plan of a query over the tables to which it is bound. `Cyclic` exactly if no join tree
+/// exists, `TooManyRows` exactly if more than 4,194,304 rows of all nodes pass, and `NoMemory` if
+/// memory is refused.
 pub fn prepare<R: Rank, L: Ledger>(
     alloc: Global,
     query: &Query,
@@ -93,7 +95,7 @@ pub fn prepare<R: Rank, L: Ledger>(
     })
 }
 
-// The join tree of a query.
+// The join tree of the query. `Cyclic` if there is none.
 fn join_tree_of(query: &Query) -> Result<JoinTree, PlanFault>
     requires fits { (tables : List Table) × Fits query.now tables }
     ensures tree { IfOk result (HasStoredTree query.now.query) }
@@ -109,7 +111,8 @@ fn join_tree_of(query: &Query) -> Result<JoinTree, PlanFault>
     }
 }
 
-// The nodes of the join tree, with their rows and links.
+// The nodes of the join tree with their rows and links. `TooManyRows` if more than 4,194,304 rows
+// pass.
 fn nodes_of<R: Rank, L: Ledger>(
     alloc: Global,
     query: &Query,
@@ -141,7 +144,7 @@ fn nodes_of<R: Rank, L: Ledger>(
     }
 }
 
-// How many rows the tables of all items have, a table counted once for each item.
+// The number of rows of the tables of all items. A table is counted once for each item.
 fn rows_of_tables(query: &Query, tables: &Tables) -> u64
     requires fits { Fits query.now tables.now }
     ensures rows { result ≡ sum_of_all (row_counts query.now.query.items tables.now) }

@@ -1,4 +1,4 @@
-//! The plan of a query, by ranks that have room for its order keys.
+//! The plan of a query, with ranks that have room for its order keys.
 ghost use Rattle.std.specs.Prelude.{IfErr, IfOk};
 ghost use Rattle.query_bind.specs.Weighed.{Fits};
 ghost use Rattle.step_bounds.specs.Bounded.{IsPrepared};
@@ -14,17 +14,17 @@ use std::alloc::Global;
 use std::sync::ledger::Ledger;
 use step_counter::Steps;
 
-/// A query's plan, by the ranks that its order needs.
+/// A query's plan, with the ranks that its order needs.
 #[derive(Drop)]
 pub enum RankedPlan {
-    /// By one sum, for an order of at most one key.
+    /// Ranks of one sum, for an order of at most one key.
     Sum(Plan<SumRank>),
-    /// By eight sums, for an order of up to eight keys.
+    /// Ranks of eight sums, for an order of up to eight keys.
     Lex(Plan<LexRank>),
 }
 
-/// The plan of a query over the tables to which it is bound, by ranks that have room for its order keys. Its errors and its steps are
-/// those of `prepare`.
+/// The plan of a query over the tables to which it is bound, with ranks that have room for its
+/// order keys. Its errors and its steps are those of `prepare`.
 pub fn prepare_ranked<L: Ledger>(
     alloc: Global,
     query: &Query,

@@ -1,4 +1,4 @@
-//! The report of a plan's join tree, one line after another.
+//! The report of a plan's join tree, line by line.
 ghost use Rattle.std.specs.Prelude.{◌≡◌, ◌<◌, ◌≤◌, ◌+◌, ◌++◌, IfOk, List, OnOk, codes, decimal, length, slice_index, ℕ};
 ghost use Rattle.join_tree.specs.Rerooting.{IsTree};
 ghost use Rattle.query_shape.specs.Report.{node_line, node_text, parent_number, report_of};
@@ -14,9 +14,10 @@ use rank_key::Rank;
 use std::alloc::Global;
 use step_counter::NoMemory;
 
-/// The report of the join tree of a query's plan: a line for each node, in order, with its number from 1, its parent's number, or 0
-/// for the first, how many rows of its item pass, and its item's alias as the canonical text writes names; and then how many rows
-/// the tables of all items and all nodes have together.
+/// The report of the join tree of a query's plan. Each node, in order, has a line with its number
+/// from 1, its parent's number (0 for the first node), the number of rows of its item that pass,
+/// and its item's alias as the canonical text writes names. The last line has the number of rows of
+/// the tables of all items and of all nodes. `NoMemory` if memory is refused.
 pub fn report<R: Rank>(
     alloc: Global,
     plan: &Plan<R>,
@@ -34,7 +35,7 @@ pub fn report<R: Rank>(
     Ok(text)
 }
 
-// The line of one node.
+// Appends the line of one node.
 fn push_node(
     alloc: Global,
     text: &mut Vec<u8>,
@@ -65,7 +66,7 @@ fn parent_number(join: &JoinTree, node: usize) -> u32
     if node == 0 { 0 } else { join.parent[node] + 1 }
 }
 
-// A node's line of these numbers and this name.
+// Appends a node's line with these numbers and this name.
 fn push_line(
     alloc: Global,
     text: &mut Vec<u8>,
@@ -83,7 +84,7 @@ fn push_line(
     Ok(())
 }
 
-// The last line.
+// Appends the last line.
 fn push_total(alloc: Global, text: &mut Vec<u8>, total: u64) -> Result<(), NoMemory>
     ensures { OnOk result (text.new.items ≡ text.old.items ++ (codes "total " ++ (decimal total ++ codes "\n"))) }
 {

@@ -1,4 +1,4 @@
-//! Queries that are answered.
+//! Queries that have answers.
 use super::cases::{Case, FOUND, LEFT, RIGHT, RUN, first_failing};
 use std::alloc::AllocError;
 
@@ -95,7 +95,7 @@ const OVER_OTHER_TABLES: &[Case<'static>] = &[
         out: "a,c,rank1\n1,p,170141183460469231731687303715884105727\n",
         ..RUN
     },
-    // A field that is no weight matters only in an order key.
+    // A field that is not a weight matters only in an order key.
     Case {
         query: "select R.a, S.c from R, S where R.b = S.b order by S.w",
         files: &[
@@ -105,7 +105,7 @@ const OVER_OTHER_TABLES: &[Case<'static>] = &[
         out: "a,c\n2,q\n1,q\n3,q\n1,p\n3,p\n",
         ..RUN
     },
-    // One byte order mark at the start is no part of a name.
+    // One byte order mark at the start is not a part of a name.
     Case {
         files: &[
             ("R.csv", LEFT),
@@ -144,7 +144,8 @@ const OVER_OTHER_TABLES: &[Case<'static>] = &[
         out: "v,v,v\n1,3,5\n1,4,5\n2,3,5\n2,4,5\n",
         ..RUN
     },
-    // Equal sums stand by the row numbers in the order of the items, and not of the join tree, which has the last item second.
+    // Answers with equal sums are in the order of the row numbers, by items. The order of the join
+    // tree does not count; it has the last item second.
     Case {
         words: "run --rows q.sql A=A.csv B=B.csv C=C.csv",
         query: "select B.b, C.c from A, B, C where A.x = C.x and B.y = C.y",

@@ -1,4 +1,4 @@
-//! A call of the program over files in memory, and what is to come of it.
+//! A call of the program over files in memory, and what it must do.
 ghost use Rattle.std.specs.Prelude.{◌≡◌, ◌<◌};
 
 use anyk_top::run_words;
@@ -8,12 +8,15 @@ use std::marker::Brand;
 use std::sync::ledger::{Blank, Ledger};
 use step_counter::Steps;
 
+/// A table whose column `b` is joined.
 pub(super) const LEFT: &str = "a,b,w\n1,x,3\n2,y,1\n3,x,1\n";
 
+/// The table that it is joined with.
 pub(super) const RIGHT: &str = "b,c,w\nx,p,5\ny,q,2\nx,q,4\n";
 
 const JOIN: &str = "select R.a, S.c from R, S where R.b = S.b order by R.w + S.w";
 
+/// The answers of the join of the two tables.
 pub(super) const FOUND: &str = "a,c\n2,q\n3,q\n3,p\n1,q\n1,p\n";
 
 /// The two tables that share a column.
@@ -29,7 +32,7 @@ pub(super) const RUN: Case<'static> = Case {
     err: "",
 };
 
-/// The words of a call, the text of the query's file, the other files, and what is to come of them.
+/// The words of a call, the text of the query's file, the other files, and what the call must do.
 #[derive(Clone, Copy)]
 pub(super) struct Case<'a> {
     pub(super) words: &'a str,
@@ -40,8 +43,9 @@ pub(super) struct Case<'a> {
     pub(super) err: &'a str,
 }
 
-/// The calls that fail, by their numbers from 1: of the shelf, of the output, and of the errors; the write of the output that takes
-/// nothing; and how many bytes a write of the output takes at most.
+/// The numbers, from 1, of the calls that fail: of the shelf, of the output, and of the errors; the
+/// number of the write of the output that takes nothing; and the greatest number of bytes that a
+/// write of the output takes.
 #[derive(Clone, Copy)]
 pub(super) struct Failing {
     pub(super) read: u64,
@@ -51,6 +55,7 @@ pub(super) struct Failing {
     pub(super) most: usize,
 }
 
+/// No call fails.
 pub(super) const NEVER: Failing = Failing {
     read: 0,
     write: 0,
@@ -68,7 +73,7 @@ fn file(alloc: Global, name: &str, text: &str) -> Result<MemFile, AllocError> {
     })
 }
 
-// The words, the first of them followed by these options.
+// The words of the text, with these options after the first of them.
 fn words_of(alloc: Global, text: &str, options: &[&str]) -> Result<Vec<String>, AllocError> {
     let mut words = Vec::new(alloc);
     for word in text.split(' ') {
@@ -98,7 +103,7 @@ fn shelf_of(alloc: Global, case: &Case<'_>, read: u64) -> Result<Option<MemShelf
     Ok(Some(MemShelf::new(files, one(alloc, read)?)))
 }
 
-// A sink that takes so many bytes by a call, fails at one call and takes nothing at another.
+// A sink that takes at most `most` bytes in a call, fails at one call and takes nothing at another.
 fn sink_of(alloc: Global, most: usize, fails: u64, stuck: u64) -> Result<MemSink, AllocError> {
     let failing = one(alloc, fails)?;
     let stuck = one(alloc, stuck)?;
@@ -124,7 +129,7 @@ fn status_of<L: Ledger>(
     run_words(alloc, words, shelf, out, err, &mut steps)
 }
 
-// Whether the call of these words comes out as the case says.
+// Whether the call of these words does what the case says.
 fn comes_out(
     alloc: Global,
     case: &Case<'_>,
@@ -139,7 +144,7 @@ fn comes_out(
         && err.bytes() == case.err.as_bytes()
 }
 
-// The same over sinks with these failing calls.
+// The same, over sinks with these failing calls.
 fn comes_out_with(
     alloc: Global,
     case: &Case<'_>,
@@ -152,7 +157,7 @@ fn comes_out_with(
     Ok(comes_out(alloc, case, words, shelf, &mut out, &mut err))
 }
 
-// The same over a shelf with these failing calls, with these options.
+// The same, over a shelf with these failing calls, and with these options.
 fn holds_with(
     alloc: Global,
     case: &Case<'_>,
@@ -171,7 +176,7 @@ fn leaves_engine_open(words: &str) -> bool {
     !words.starts_with("plan ") && !words.contains("--engine")
 }
 
-/// Whether the case comes out as it says over these failing calls, with each engine.
+/// Whether the case does what it says over these failing calls, with each engine.
 pub(super) fn holds(alloc: Global, case: &Case<'_>, failing: Failing) -> Result<bool, AllocError> {
     if !holds_with(alloc, case, &[], failing)? {
         return Ok(false);
@@ -182,7 +187,7 @@ pub(super) fn holds(alloc: Global, case: &Case<'_>, failing: Failing) -> Result<
     holds_with(alloc, case, &["--engine=rec"], failing)
 }
 
-/// The place of the first case that comes out otherwise, with one engine or the other.
+/// The place of the first case that does not do what it says, with one engine or the other.
 pub(super) fn first_failing(
     alloc: Global,
     cases: &[Case<'_>],
@@ -200,7 +205,8 @@ pub(super) fn named<'a>(name: &'a str, text: &'a str) -> (&'a str, &'a str) {
     (name, text)
 }
 
-/// A call over these files, of which one may be made in a test, with the query that joins the two tables.
+/// A call over these files, one of which may be made in a test, with the query that joins the two
+/// tables.
 pub(super) fn over<'a>(
     words: &'a str,
     files: &'a [(&'a str, &'a str)],
@@ -218,7 +224,7 @@ pub(super) fn over<'a>(
     }
 }
 
-/// So many times a text, between two others.
+/// A text, repeated `count` times, between two others.
 pub(super) fn repeated(
     alloc: Global,
     before: &str,

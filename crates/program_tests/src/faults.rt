@@ -1,11 +1,11 @@
-//! Files that cannot be read, output that cannot be written, and files that were cut off.
+//! Files that cannot be read, output that cannot be written, and files that are cut off.
 use super::cases::{Case, FOUND, Failing, LEFT, NEVER, RIGHT, RUN, holds, named, over};
 use std::alloc::{AllocError, Global};
 
 const ANSWERED: Case<'static> = Case { out: FOUND, ..RUN };
 
-// Whether a run whose read of this number fails ends there. The first calls open the query's file, read it and find its end; then
-// those of each table.
+// Whether a run ends at the read with this number, if that read fails. The first calls open the
+// query's file, read it and find its end. The calls for each table follow.
 fn ends_at_read(alloc: Global, read: u64) -> Result<bool, AllocError> {
     let err = match read {
         1..4 => "anyk: file q.sql: read failed\n",
@@ -29,7 +29,7 @@ fn failing_reads_end_a_run(rt: HostRuntime) {
     assert!(rt; holds(rt.alloc(), &ANSWERED, late) == Ok(true));
 }
 
-// Whether a run that cannot write its record of this number, from 1 for the header, ends there.
+// Whether a run that cannot write its record with this number ends there. The header is number 1.
 fn ends_at(alloc: Global, write: u64, whole: usize) -> Result<bool, AllocError> {
     let unwritten = Case {
         status: 11,
@@ -62,8 +62,8 @@ fn failing_writes_end_a_run(rt: HostRuntime) {
     assert!(rt; holds(alloc, &refused, silent) == Ok(true));
 }
 
-// What comes of a run over a table that is cut off after so many of its bytes, from the first to the second number. A weight that
-// is cut off whole is an empty field, which counts 0.
+// What a run does over a table that is cut off after each number of bytes from the first to the
+// second. A weight of which nothing is left is an empty field, which counts 0.
 const CUT: &[(usize, usize, u8, &str, &str)] = &[
     (0, 0, 5, "", "anyk: table S: no header\n"),
     (1, 2, 4, "", "anyk: byte 12: unknown column\n"),
@@ -96,7 +96,7 @@ const CUT: &[(usize, usize, u8, &str, &str)] = &[
     (23, 24, 0, FOUND, ""),
 ];
 
-// Whether a run over the table of so many bytes comes out so.
+// Whether a run over the first `length` bytes of the table gives this status and these texts.
 fn is_told(
     alloc: Global,
     length: usize,
@@ -109,7 +109,7 @@ fn is_told(
     holds(alloc, &over(RUN.words, &files, status, out, err), NEVER)
 }
 
-// The least of these lengths of which the run comes out otherwise.
+// The least of these lengths at which the run gives something else.
 fn first_told_otherwise(
     alloc: Global,
     row: &(usize, usize, u8, &str, &str),

@@ -1,4 +1,4 @@
-//! Tables that are larger than a table may be: by one row, and by one byte.
+//! Tables that are longer than a table may be, by one row or by one byte.
 use super::cases::{LEFT, NEVER, holds, named, over, repeated};
 use std::alloc::{AllocError, Global};
 
@@ -17,7 +17,7 @@ fn one_row_too_many_is_told(rt: HostRuntime) -> Result<(), AllocError> {
     Ok(())
 }
 
-// A table of one byte more than a file may have, in pieces of 1024 bytes.
+// A table with one byte more than a file may have, in pieces of 1024 bytes.
 fn too_long(alloc: Global) -> Result<String, AllocError> {
     let piece = repeated(alloc, "", "1\n", 512, "")?;
     repeated(alloc, "b", &piece, 65536, "")

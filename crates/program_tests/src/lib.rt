@@ -1,5 +1,6 @@
-//! Tests of whole calls of the program, over files in memory and sinks that fail at given calls. What is to come of each was worked
-//! out by hand. They are in a crate of their own, so that the top call is not proved twice for its tests.
+//! Tests of whole calls of the program, over files in memory and sinks that fail at given calls.
+//! What each call must do was worked out by hand. The tests are in a crate of their own, so that
+//! the top call is not proved twice for its tests.
 #![tactic(auto)]
 
 #[cfg(test)]

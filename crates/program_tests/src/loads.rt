@@ -1,8 +1,8 @@
-//! Generated tables, of which no file stands on the shelf.
+//! Tables that are made from a number. The shelf has no file of them.
 use super::cases::{Case, Failing, NEVER, RUN, first_failing, holds};
 use std::alloc::AllocError;
 
-/// Two rows a table.
+/// Two rows in each table.
 const PAIRS: Case<'static> = Case {
     words: "load --number 1 --rows 2",
     query: "",

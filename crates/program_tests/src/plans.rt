@@ -10,7 +10,7 @@ const PLAN: Case<'static> = Case {
 
 const REPORTS: &[Case<'static>] = &[
     PLAN,
-    // The limit plays no part.
+    // The limit does not matter.
     Case {
         query: "select R.a, S.c from R, S where R.b = S.b order by R.w + S.w limit 0",
         ..PLAN
@@ -38,7 +38,7 @@ const REPORTS: &[Case<'static>] = &[
         out: "node 1 parent 0 rows 1 item A\nnode 2 parent 1 rows 2 item C\nnode 3 parent 2 rows 2 item B\ntotal 10\n",
         ..PLAN
     },
-    // Only rows that pass count, and a name that is no bare one stands in quotes.
+    // Only rows that pass count, and a name that cannot be bare is in quotes.
     Case {
         query: "select \"r 1\".a from R \"r 1\", S where \"r 1\".b = S.b and S.c = 'q' and \"r 1\".a = \"r 1\".w",
         out: "node 1 parent 0 rows 0 item \"r 1\"\nnode 2 parent 1 rows 2 item S\ntotal 8\n",

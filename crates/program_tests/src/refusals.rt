@@ -1,4 +1,4 @@
-//! Inputs that are refused: nothing is written but the line.
+//! Inputs that are refused: only the line of the refusal is written.
 use super::cases::{Case, LEFT, RIGHT, RUN, first_failing};
 use std::alloc::AllocError;
 
@@ -205,7 +205,7 @@ const OF_CYCLES: &[Case<'static>] = &[
         words: "plan q.sql A=A.csv B=B.csv C=C.csv D=D.csv E=E.csv",
         ..TWO_CYCLES
     },
-    // The items that an ear removal takes off are no part of the core.
+    // The items that ear removal takes off are not in the core.
     Case {
         query: "select t.a from R s, R x, R y, R z, R t where x.a = y.b and y.a = z.b and z.a = x.b and s.w = x.w and t.w = s.w",
         status: 6,
@@ -214,7 +214,7 @@ const OF_CYCLES: &[Case<'static>] = &[
     },
 ];
 
-// Each breaks two rules, and the one that is looked at first is told.
+// Each of these breaks two rules, and the refusal is of the one that is tested first.
 const IN_ORDER: &[Case<'static>] = &[
     Case {
         words: "run q.sql R=T.csv",

@@ -44,7 +44,7 @@ const OF_MOVES: &[Case<'static>] = &[
         out: "cursor,a,c\na,2,q\na,3,q\na\na\n",
         ..SESSION
     },
-    // Forks at the end stand there, and going back leads from it to the front.
+    // A fork at the end is at the end too, and a rewind leads from there to the start.
     Case {
         files: &[
             ("R.csv", LEFT),
@@ -57,7 +57,7 @@ const OF_MOVES: &[Case<'static>] = &[
         out: "cursor,a,c\na,2,q\na,3,q\na,3,p\na,1,q\na,1,p\nb\na\nc\nb,2,q\nb,3,q\na\n",
         ..SESSION
     },
-    // A cursor that is closed and opened again stands at the front.
+    // A cursor that is closed and opened again is at the start.
     Case {
         files: &[
             ("R.csv", LEFT),
@@ -145,7 +145,7 @@ const REFUSED: &[Case<'static>] = &[
         err: "anyk: file s.txt: not found\n",
         ..SESSION
     },
-    // The query's text is looked at before the script, and the script before the tables.
+    // The text of the query is read before the script, and the script before the tables.
     Case {
         query: "select",
         files: &[("s.txt", "open\n")],
@@ -167,7 +167,7 @@ fn scripts_that_break_a_rule_are_refused(rt: HostRuntime) {
     assert!(rt; first_failing(rt.alloc(), REFUSED) == Ok(None));
 }
 
-// Lines that open cursors by the names c1, c2 and so on, as many as are asked for, and then these lines.
+// Lines that open `count` cursors with the names c1, c2 and so on, and then these lines.
 fn opened(alloc: Global, count: u32, lines: &str) -> Result<String, AllocError> {
     let mut script = String::new(alloc);
     for number in 0..count {
@@ -177,7 +177,7 @@ fn opened(alloc: Global, count: u32, lines: &str) -> Result<String, AllocError> 
     Ok(script)
 }
 
-// Whether a session over the two tables that follows this script comes out so.
+// Whether a session over the two tables that follows this script gives this status and these texts.
 fn follows(
     alloc: Global,
     script: &str,

@@ -1,4 +1,4 @@
-//! Queries with as many items as there may be.
+//! Queries with as many items as a query may have.
 use super::cases::{Case, RUN, first_failing};
 use std::alloc::AllocError;
 

@@ -68,7 +68,7 @@ module _ (query : Query) (tables : List Table) (within : IsWithin query tables) 
         (λ place i. i.place) (filter_at filters item) (have.pairs item h) (have.constants item h);
   }
 
-  -- the places that the tests of an item name are there
+  -- the places that the tests of an item name exist
   module _ (item : ℕ) (f : ItemFilter) (known : IsFilterOf query.equalities item f) where
     abbrev column : ℕ → Column
     column place = record { item = item; place = place }

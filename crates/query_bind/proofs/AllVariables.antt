@@ -118,10 +118,10 @@ module _ (tables : List Table) where
       let own : length (item_columns n w) ≡ w = length-map-range_with_len {X = Column} (λ (p : ℕ). record { item = n; place = p }) 0 w in
       omega (arith, narrow, rest, size, own)
 
--- ---- columns that equalities name are there
+-- ---- columns that equalities name exist
 
 module _ (tables : List Table) (items : List Item) (es : List Equality) (all : AllByRecursion (EqualityInside tables items) es) where
-  -- a column that is linked to another one is there
+  -- a column that is linked to another one exists
   pub linked-inside : (c d : Column) → Linked es c d → (c ≡ d) ⊎ IsInside tables items c
   linked-inside c d same = inl refl
   linked-inside c d (forth {e = e} {b = b} m is h) = inr (all-member (EqualityInside tables items) e es all m).left
@@ -204,7 +204,7 @@ each-more label variables tables items n width d lists v h wide known own =
       ];
     })
 
--- what is found of a query that fits its tables
+-- what is found for a query that fits its tables
 pub has-variables : (query : Query) (tables : List Table) (label : Column → Column) (variables : List Column) (lists : List (List (ℕ × ℕ))) → IsWithin query tables
     → IsLabelling query.equalities label → AreVariables query.equalities variables → length variables ≤ 1024
     → HavePlacesEach label variables tables query.items (length query.items) lists → HasVariables query variables lists
@@ -217,7 +217,7 @@ has-variables query tables label variables lists within known are few each = rec
       (variables_at lists item) (each.each item inside);
 }
 
--- ---- the variables that are found of a stored query
+-- ---- the variables that are found for a stored query
 with-table : (tables : List Table) (items : List BoundItem) → AllByRecursion (HasTable tables) (items_shown items) → AllByRecursion (λ (i : BoundItem). i.table < length tables) items
 with-table tables [] h = tt
 with-table tables (i ∷ items) h = (h.0, with-table tables items h.1)

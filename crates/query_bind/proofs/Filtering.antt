@@ -99,7 +99,7 @@ module _ (label : Column → Column) (item width : ℕ) where
     ];
   }
 
-  -- a constant that is listed already
+  -- a constant that is in the list already
   pub constants-again : (es : List Equality) (e : Equality) (bytes : List ℕ) (p : ℕ) (list : List (ℕ × List ℕ)) → HaveConstants label item width es list
       → e.right ≡ of_constant bytes → IsFirstPlace label item width (label e.left) p → IsMember (p, bytes) list
       → HaveConstants label item width (es ++ e ∷ []) list

@@ -18,7 +18,7 @@ use Rattle.query_bind.proofs.Filtering.{at-any}
 use Rattle.query_bind.proofs.Least.{at-member, shared-along}
 use Rattle.query_bind.proofs.Lists.{any-member, member-any}
 
--- ---- one item more in a set
+-- ---- one more item in a set
 
 pub in_with : (set item a : ℕ) → item < 16 → IsIn (bit_or set (1 * 2 ^ item % 65536)) a ↔ (IsIn set a ⊎ (a ≡ item))
 in_with set item a h = (
@@ -44,7 +44,7 @@ same-sets lists others n m count number sets slice p q r s h =
     (subst (λ (k : ℕ). AreItemSets lists n k slice) r (subst (λ (l : List ℕ). AreItemSets lists n count l) s h)))
 
 module _ (bound : BoundQuery) (tables : List Table) (fits : Fits bound tables) where
-  -- an item that has a variable is there
+  -- an item that has a variable exists
   item-there : (a number place : ℕ) → HasVariable bound.query.equalities bound.variables a number place → a < length bound.query.items
   item-there a number place h =
       let here : Column = record { item = a; place = place } in

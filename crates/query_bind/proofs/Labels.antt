@@ -1,4 +1,4 @@
--- One equality more joins two classes, where one label is written in the other's place.
+-- One more equality joins two classes, and one label is replaced by the other.
 use Rattle.std.proofs.Common.{◌≡◌, ◌⊎◌, ◌+◌, ◌<◌, ◌≤◌, if◌then◌else◌, ℕ, zero, suc, Bool, true, false, List, [], ◌∷◌, ◌++◌, map, length, take, drop, get_or, refl, sym, ap, subst, ◌∙◌, inl, inr, arith, add-one}
 use Rattle.std.proofs.Math.ListN.{set}
 use Rattle.std.proofs.lemmas.List.{append-nil, drop_all, map-append, take_all, take_more}
@@ -209,7 +209,7 @@ listed-turn ms i d c b h e =
 pub listed-end : (ms : List Member) (i : ℕ) (c : Column) → length ms ≤ i → listed (drop i ms) c c ≡ c
 listed-end ms i c h = ap (λ (l : List Member). listed l c c) (drop_all i ms h)
 
--- ---- a list of which the first i elements were mapped
+-- ---- a list whose first i elements were mapped
 pub mapped-at : {A : Type 0} (f : A → A) (xs : List A) (i : ℕ) (d : A) → get_or (map f (take i xs) ++ drop i xs) i d ≡ get_or xs i d
 mapped-at f [] zero d = refl
 mapped-at f [] (suc i) d = refl
@@ -262,7 +262,7 @@ module _ (ms : List Member) (p : (ℕ × ℕ) × (ℕ × ℕ)) (es : List Equali
       same-side : (c d : Column) → of_column c ≡ of_column d → c ≡ d
       same-side c d h = cc
 
--- a list that was written back to the vector that holds it
+-- a list that was written back to its vector
 pub written-back : {A : Type 0} (xs ys : List A) (n : ℕ) → length xs ≡ length ys → n ≡ length ys → take n (xs ++ drop (length xs) ys) ≡ xs
 written-back {A = A} xs ys n alike full =
     ap (λ (l : List A). take n (xs ++ l)) (drop_all (length xs) ys (omega (arith, alike))) ∙ ap (take n) (append-nil xs) ∙ take_all n xs (omega (arith, alike, full))

@@ -1,4 +1,4 @@
--- Rows that pass agree on a variable where they agree at its least columns.
+-- Rows that pass agree on a variable if they agree at its least columns.
 use Rattle.std.proofs.Common.{◌≡◌, ◌↔◌, ◌<◌, ◌≤◌, ℕ, zero, suc, List, [], ◌∷◌, length, slice_index, refl, sym, subst, ◌∙◌, inl, inr, arith}
 use Rattle.std.proofs.lemmas.Bool.{cases_eq, cases_lt}
 use Rattle.anyk_model.specs.Table.{Table}
@@ -7,7 +7,7 @@ use Rattle.rankings.specs.Order.{IsMember}
 use Rattle.query_bind.specs.Classes.{AreVariables, HasVariable, IsFixedTo, IsLeast, IsShared, Linked, PassAndAgree, PassAndAgreeAtLeast, row_field, same, variable_at}
 use Rattle.query_bind.proofs.Witness.{linked-append, linked-back, texts-stable}
 
--- where some number has a property, it is absurd that none is the least
+-- if some number has a property, it is absurd that none is the least
 module _ (P : ℕ → Type 0) (none : (m : ℕ) → P m → ((k : ℕ) → P k → m ≤ k) → ⊥) where
   none-below : (n k : ℕ) → k < n → P k → ⊥
   none-below zero k h p = absurd (omega arith)
@@ -41,7 +41,7 @@ module _ (es : List Equality) where
   fixed-along : (c d : Column) (bytes : List ℕ) → Linked es c d → IsFixedTo es d bytes → IsFixedTo es c bytes
   fixed-along c d bytes h f = record { equality = f.equality; member = f.member; constant = f.constant; linked = linked-append h f.linked }
 
-  -- a variable is one in each of its columns
+  -- a variable is one at each of its columns
   pub shared-along : (c d : Column) → Linked es c d → IsShared es c → IsShared es d
   shared-along c d h s = elim (cases_eq d.item c.item) [
     | inl is ↦ record {
@@ -85,7 +85,7 @@ module _ (query : Query) (tables : List Table) (rows : List ℕ) (variables : Li
     abbrev field : ℕ → ℕ → List ℕ
     field i p = row_field query tables i (slice_index rows i) p
 
-    -- with the least columns at hand
+    -- when the least columns are given
     through : (i j a b n p q : ℕ) → i < length query.items → j < length query.items → Linked es (column i a) (column i p) → Linked es (column j b) (column j q)
         → HasVariable es variables i n p → HasVariable es variables j n q → field i a ≡ field j b
     through i j a b n p q ii ij la lb va vb =

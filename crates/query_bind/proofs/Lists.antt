@@ -66,7 +66,7 @@ member-index [] i d h = absurd (omega arith)
 member-index (x ∷ xs) zero d h = inl refl
 member-index (x ∷ xs) (suc i) d h = inr (member-index xs i d (omega (arith, h)))
 
--- what holds of the first i elements, and of one more
+-- what holds for the first i elements, and for one more
 pub each-further : {A : Type 0} (P : A → Type 0) (xs : List A) (i : ℕ) (x : A) → i < length xs → x ≡ get_or xs i x
     → ((v : A) → IsMember v (take i xs) → P v) → P x → (v : A) → IsMember v (take (i + 1) xs) → P v
 each-further {A = A} P xs i x h is known here v m =

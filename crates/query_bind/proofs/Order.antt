@@ -35,7 +35,7 @@ before-until a b c (inr x) not = elim (cases_order a.item c.item) [
 pub same-columns : (a b : Column) → a.item ≡ b.item → a.place ≡ b.place → a ≡ b
 same-columns a b p q = λ i. record { item = p i; place = q i }
 
--- what the test of two columns tells
+-- what the test of two columns says
 pub same-tells : (a b : Column) → ((is_same a b ≡ true) × (a ≡ b)) ⊎ ((is_same a b ≡ false) × (a ≡ b → ⊥))
 same-tells a b = elim (eqb_tells a.item b.item) [
   | inl (t, e) ↦ elim (eqb_tells a.place b.place) [

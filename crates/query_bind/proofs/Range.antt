@@ -20,7 +20,7 @@ no-position test n x xs e = by_test (test x) refl e
     by_test true h e = cc
     by_test false h e = (h, e)
 
--- where no element passes a test, the one at a place does not
+-- if no element passes a test, the one at a place does not
 none-passes : {A : Type 0} (test : A → Bool) (n : ℕ) (xs : List A) (i : ℕ) (d : A) → position_from test n xs ≡ None → i < length xs → test (get_or xs i d) ≡ false
 none-passes test n [] i d e h = absurd (omega arith)
 none-passes test n (x ∷ xs) zero d e h = (no-position test n x xs e).0

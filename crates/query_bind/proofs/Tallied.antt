@@ -32,7 +32,7 @@ use Rattle.query_bind.proofs.Parts.{column-bounds, nat_abs-add, nat_abs-neg}
 use Rattle.query_bind.proofs.Lists.{member-unmap}
 use Rattle.query_bind.proofs.Tallying.{at-member, sum-push, total-push}
 
--- ---- the elements of a list that stand in one item
+-- ---- the elements of a list that are of one item
 
 -- the tallies of an item, with one more
 in-append : (item : ℕ) (xs ys : List Tally) → tallies_in item (xs ++ ys) ≡ tallies_in item xs ++ tallies_in item ys
@@ -57,7 +57,7 @@ in-other item ys y differ =
     by_test true e = absurd (differ ((Decides-eqb y.column.0 item).0 e))
     by_test false e = append-nil (tallies_in item ys)
 
--- a value that counts in one item alone
+-- a value that counts only in one item
 abbrev at_item : {V : Type 0} → ℕ → V → (Column → V) → Column → V
 at_item item none f c = cond (c.item == item) (f c) none
 
@@ -110,7 +110,7 @@ module _ (item : ℕ) where
       by_test true h = ap (λ (n : ℕ). tally_size size y + n) h
       by_test false h = omega (arith, h)
 
-  -- whether something is kept of the item, told as a fault
+  -- whether something is kept for the item, as a fault
   abbrev here : Column → Option BindFault
   here = at_item item None (λ (c : Column). Some fault.NoMemory)
 
@@ -215,7 +215,7 @@ module _ (tables : List Table) (items : List Item) (d : Bool) where
     parts = kept (tallies_in item ys) (map (part_after (tallies_in item ys)) (range_with_len 1 (rows_of item)));
   }
 
-  -- the sum of the sizes, cut to 128 bits, and what the items have, where the sum is in range
+  -- the sum of the sizes, cut to 128 bits, and what the items have if the sum is in range
   pub record HasWeighed (ys : List Tally) (sum : ℕ) (list : List ItemParts) : Type 0 where
     pub cut : sum ≡ min most_u128 (tallies_size tables items ys)
     pub sound : first_of (λ (y : Tally). column_fault tables items (column_shown y.column)) ys ≡ None
@@ -233,7 +233,7 @@ module _ (tables : List Table) (items : List Item) (d : Bool) where
   size-push : (ys : List Tally) (y : Tally) → tallies_size tables items (ys ++ y ∷ []) ≡ tallies_size tables items ys + tally_size (column_size tables items) y
   size-push ys y = sum-push (tally_size (column_size tables items)) ys y
 
-  -- the part of a row that is kept, 0 where none is
+  -- the part of a row that is kept, or 0 if none is kept
   part-there : (zs : List Tally) (n i : ℕ) → i < n → get_or (kept zs (map (part_after zs) (range_with_len 1 n))) i (pos 0) ≡ part_after zs (i + 1)
   part-there [] n i h = signed-none d
     where
@@ -253,7 +253,7 @@ module _ (tables : List Table) (items : List Item) (d : Bool) where
   kept-push [] y parts = refl
   kept-push (z ∷ zs) y parts = refl
 
-  -- one tally more, whose column holds these weights
+  -- one more tally, whose column has these weights
   module _ (ys : List Tally) (sum : ℕ) (list : List ItemParts) (so_far : HasWeighed ys sum list) (y : Tally) (weights : List ℤ) (size : ℕ)
       (there : y.column.0 < length items) (values : map Some weights ≡ column_weights tables items (column_shown y.column))
       (measured : size ≡ min ((y.plus + y.minus) * column_size tables items (column_shown y.column)) most_u128)
@@ -393,7 +393,7 @@ module _ (tables : List Table) (items : List Item) (key : OrderKey) (ys : List T
   pub tallied-fault : first_of (λ (y : Tally). column_fault tables items (column_shown y.column)) ys ≡ key_fault tables items key
   tallied-fault = sym (all.fault (column_fault tables items))
 
-  -- the fault of a column is that of the key, where no column before it has one
+  -- the fault of a column is that of the key, if no column before it has one
   pub tallied-tells : (i : ℕ) (d : Tally) (e : BindFault) → i < length ys
       → first_of (λ (y : Tally). column_fault tables items (column_shown y.column)) (take i ys) ≡ None
       → Tells (column_fault tables items (column_shown (get_or ys i d).column)) e → Tells (key_fault tables items key) e
@@ -435,7 +435,7 @@ module _ (tables : List Table) (items : List Item) (key : OrderKey) (ys : List T
       let inside : i < length items = omega (arith, h, known.count) in
       known.parts fit i none inside ∙ tallied-parts i ∙ sym (get_or-map-range_with_len (item_parts tables items key) 0 (length items) i i none inside (omega arith)))
 
--- ---- the columns of tallies are there
+-- ---- the columns of tallies exist
 
 pub tally-inside : (tables : List Table) (items : List BoundItem) (stored : List BoundTerm) (ys : List Tally)
     → AllByRecursion (λ (t : BoundTerm). BoundInside tables items t.column) stored → AreTallies (map term_shown stored) ys

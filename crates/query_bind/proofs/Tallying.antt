@@ -1,4 +1,4 @@
--- Counting how often a key names each column.
+-- Counting how many times a key names each column.
 use Rattle.std.proofs.Common.{◌≡◌, ◌⊎◌, ◌+◌, ◌*◌, ◌<◌, ◌≤◌, ℕ, zero, suc, Bool, true, false, if◌then◌else◌, ℤ, pos, ◌+ℤ◌, ◌-ℤ◌, ◌*ℤ◌, neg_ℤ, List, [], ◌∷◌, ◌++◌, map, length, get_or, set, Option, Some, None, refl, sym, ap, subst, ◌∙◌, inl, inr, arith}
 use lib.IntN.{suc_ℤ-*ℤ, pred_ℤ-*ℤ, zero-*ℤ, +ℤ_one, -ℤ_one}
 use Rattle.std.proofs.lemmas.Int.{ints}
@@ -65,7 +65,7 @@ module _ {A : Type 0} where
   at-member (x ∷ xs) zero d h = inl refl
   at-member (x ∷ xs) (suc j) d h = inr (at-member xs j d (omega (arith, h)))
 
-  -- an element that has the first fault of another adds none
+  -- an element with the same first fault as another one adds none
   pub first-again : (f : A → Option BindFault) (xs : List A) (j : ℕ) (d : A) → j < length xs → or_else (first_of f xs) (f (get_or xs j d)) ≡ first_of f xs
   first-again f [] j d h = absurd (omega arith)
   first-again f (x ∷ xs) zero d h = by_fault (f x) (first_of f xs)
@@ -82,7 +82,7 @@ module _ {A : Type 0} where
   first-set f (x ∷ xs) zero d y e = ap (λ (o : Option BindFault). or_else o (first_of f xs)) e
   first-set f (x ∷ xs) (suc j) d y e = ap (or_else (f x)) (first-set f xs j d y e)
 
--- ---- one term more
+-- ---- one more term
 
 net-more : (p m : ℕ) (x : ℤ) → (pos (p + 1) -ℤ pos m) *ℤ x ≡ (pos p -ℤ pos m) *ℤ x +ℤ x
 net-more p m x =
@@ -202,7 +202,7 @@ pub ones-length : {A : Type 0} (xs : List A) → sum_of_all (map (λ (x : A). 1)
 ones-length [] = refl
 ones-length (x ∷ xs) = let h = ones-length xs in omega (arith, h)
 
--- ---- columns of which each stands once
+-- ---- columns that are in a list once
 
 pub stand-push : (cs : List (ℕ × ℕ)) (c : ℕ × ℕ) → StandOnce cs → (IsMember c cs → ⊥) → StandOnce (cs ++ c ∷ [])
 stand-push [] c once absent = (λ m. m, tt)
@@ -211,7 +211,7 @@ stand-push (d ∷ cs) c once absent = (
   stand-push cs c once.1 (λ m. absent (inr m)),
 )
 
--- a tally of a column that is counted anew
+-- a tally of a column that is counted again
 pub once-again : (ys : List Tally) (j : ℕ) (d : Tally) (minus : Bool) → StandOnce (columns_of ys)
     → StandOnce (columns_of (set ys j (with_one minus (get_or ys j d))))
 once-again ys j d minus =

@@ -102,7 +102,7 @@ module _ (ms : List Member) (stored : List BoundEquality) (known : IsLabelling (
       and-both (is_same (label c) c && is_elsewhere ms c) (not (is_fixed ms stored c)) (and-both (is_same (label c) c) (is_elsewhere ms c) (true-same (label c) c own) elsewhere)
       (not_from_false (is_fixed ms stored c) unfixed)
 
-  -- the variables among columns in order that have all columns of variables
+  -- the variables, among ascending columns that include all columns of variables
   pub variables-found : (columns : List (ℕ × ℕ)) → IsAscending ColumnBefore (map column_shown columns) → ((c : Column) → IsShared es c → IsMember c (map column_shown columns))
       → AreVariables es (map column_shown (filter (λ c. is_variable ms stored (column_shown c)) columns))
   variables-found columns ascending all =

@@ -1,4 +1,4 @@
--- A combination is a witness exactly where its rows pass and agree.
+-- A combination is a witness exactly if its rows pass and agree.
 use Rattle.std.proofs.Common.{◌≡◌, ◌↔◌, ◌<◌, ℕ, List, [], ◌∷◌, length, refl, sym, subst, ◌∙◌, inl, inr, Bool, true, false}
 use Rattle.std.specs.List.{AllByRecursion}
 use Rattle.std.specs.Str.{bytes_eq}
@@ -11,7 +11,7 @@ use Rattle.rankings.proofs.Members.{all-member}
 use Rattle.query_bind.specs.Classes.{IsFixedTo, Linked, PassAndAgree, same, forth, back}
 use Rattle.query_bind.specs.Inside.{EqualityInside, IsInside, SideInside, IsWithin}
 
--- where a proof by contradiction of the equality of two texts serves
+-- the equality of two texts follows by contradiction
 pub texts-stable : (xs ys : List ℕ) → ((xs ≡ ys → ⊥) → ⊥) → xs ≡ ys
 texts-stable xs ys h = by_test (bytes_eq xs ys) refl
   where
@@ -111,7 +111,7 @@ module _ (query : Query) (tables : List Table) (rows : List ℕ) where
         let inside = all-member (EqualityInside tables query.items) e query.equalities within.equalities m in
         side-holds e e.right m refl inside.left inside.right)
 
--- The law for those above.
+-- The law, for the crates above.
 pub witness-iff : (query : Query) (tables : List Table) (rows : List ℕ) → IsWithin query tables
     → IsWitness query tables rows ↔ (IsCombination (row_counts query.items tables) rows × PassAndAgree query tables rows)
 witness-iff query tables rows within = (

@@ -1,10 +1,10 @@
--- The classes of columns that the equalities of a query make, and what they ask of rows.
+-- The classes of columns that the equalities of a query make, and what they require of rows.
 use Rattle.std.specs.Prelude.{◌≡◌, ◌≢◌, ◌⊎◌, ◌↔◌, ℕ, ◌-◌, ◌<◌, ◌≤◌, List, length, slice_index, get_or}
 use Rattle.anyk_model.specs.Table.{Table, field_at}
 use Rattle.anyk_model.specs.Query.{Query, Column, Equality, of_column, of_constant, item_table}
 use Rattle.rankings.specs.Order.{IsMember, IsAscending}
 
--- one equality after another leads from a column to another, in either direction
+-- equalities, one after another, lead from a column to another one, in either direction
 pub data Linked (es : List Equality) : Column → Column → Type 0 where
   same : {c : Column} → Linked es c c
   forth : {e : Equality} {b c : Column} → IsMember e es → e.right ≡ of_column b → Linked es b c → Linked es e.left c
@@ -32,7 +32,7 @@ ColumnBefore a b = (a.item < b.item) ⊎ ((a.item ≡ b.item) × (a.place < b.pl
 abbrev pub IsLeast : List Equality → Column → Type 0
 IsLeast es c = (d : Column) → Linked es c d → ColumnBefore d c → ⊥
 
--- the variables in order: of each the least column
+-- the variables in order, each by its least column
 pub record AreVariables (es : List Equality) (list : List Column) : Type 0 where
   pub ascending : IsAscending ColumnBefore list
   pub members : (c : Column) → IsMember c list ↔ (IsShared es c × IsLeast es c)
@@ -74,12 +74,12 @@ Agree query tables rows i j =
     → Linked query.equalities (record { item = i; place = a }) (record { item = j; place = b })
     → row_field query tables i (slice_index rows i) a ≡ row_field query tables j (slice_index rows j) b
 
--- each row passes its item, and any two agree
+-- each row passes its item, and any two rows agree
 pub record PassAndAgree (query : Query) (tables : List Table) (rows : List ℕ) : Type 0 where
   pub pass : (i : ℕ) → i < length query.items → Passes query tables i (slice_index rows i)
   pub agree : (i j : ℕ) → i < length query.items → j < length query.items → Agree query tables rows i j
 
--- the same, told by the least column of each variable in each item alone
+-- the same, but only at the least column of each variable in each item
 pub record PassAndAgreeAtLeast (query : Query) (tables : List Table) (variables : List Column) (rows : List ℕ) : Type 0 where
   pub pass : (i : ℕ) → i < length query.items → Passes query tables i (slice_index rows i)
   pub agree : (i j : ℕ) → i < length query.items → j < length query.items → (number p q : ℕ)

@@ -1,4 +1,4 @@
--- What stored tests of rows show.
+-- What contracts see of stored tests of rows.
 use Rattle.std.specs.Prelude.{◌≡◌, ℕ, ◌<◌, List, map, length}
 use Rattle.anyk_model.specs.Table.{Table}
 use Rattle.anyk_model.specs.Query.{Query, Item, Column, Equality}

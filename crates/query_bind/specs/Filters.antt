@@ -1,11 +1,11 @@
--- What a row of an item is tested by, so that it passes.
+-- The tests of an item's rows, which a row that passes keeps.
 use Rattle.std.specs.Prelude.{◌≡◌, ◌⊎◌, ◌<◌, ℕ, List, [], get_or}
 use Rattle.anyk_model.specs.Query.{Column, Equality, of_constant}
 use Rattle.rankings.specs.Order.{IsMember}
 use Rattle.query_bind.specs.Classes.{IsFixedTo, Linked}
 use Rattle.query_bind.specs.Labels.{HasNoPlace, IsFirstPlace}
 
--- places that are to be equal, and constants that places are to have
+-- places that must be equal, and constants that places must have
 pub record ItemFilter : Type 0 where
   pub pairs : List (ℕ × ℕ)
   pub constants : List (ℕ × List ℕ)
@@ -28,7 +28,8 @@ pub record IsFilterOf (es : List Equality) (item : ℕ) (filter : ItemFilter) : 
   pub constants : (a : ℕ) (bytes : List ℕ) → IsFixedTo es (record { item = item; place = a }) bytes
       → (first : ℕ) × Reaches filter.pairs first a × IsMember (first, bytes) filter.constants
 
--- the pairs of the first n places: of each place the first of its class, where an earlier one is of its class
+-- the pairs of the first n places: each place with the first one of its class, if that is an
+-- earlier one
 pub record HavePairs (label : Column → Column) (item n : ℕ) (list : List (ℕ × ℕ)) : Type 0 where
   pub sound : (v : ℕ × ℕ) → IsMember v list → IsFirstPlace label item v.1 (label (record { item = item; place = v.1 })) v.0
   pub found : (q : ℕ) → q < n → HasNoPlace label item q (label (record { item = item; place = q })) ⊎ ((p : ℕ) × IsMember (p, q) list)
@@ -40,7 +41,7 @@ pub record HaveConstants (label : Column → Column) (item width : ℕ) (es : Li
   pub found : (e : Equality) (bytes : List ℕ) → IsMember e es → e.right ≡ of_constant bytes
       → HasNoPlace label item width (label e.left) ⊎ ((p : ℕ) × IsMember (p, bytes) list × IsFirstPlace label item width (label e.left) p)
 
--- a row, told by its fields, has the same bytes in both places of each pair
+-- a row, given by its fields, has the same bytes in both places of each pair
 abbrev pub HasEqual : (ℕ → List ℕ) → List (ℕ × ℕ) → Type 0
 HasEqual field pairs = (v : ℕ × ℕ) → IsMember v pairs → field v.0 ≡ field v.1
 

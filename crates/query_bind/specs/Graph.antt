@@ -24,7 +24,7 @@ pub record IsItemSet (lists : List (List (ℕ × ℕ))) (number n set : ℕ) : T
   pub within : set < 2 ^ n
   pub members : (a : ℕ) → IsIn set a ↔ ((a < n) × IsTrue (has_number (variables_at lists a) number))
 
--- the items of each of the first n variables, where there are so many items
+-- the items of each of the first n variables, if there are `items` items
 pub record AreItemSets (lists : List (List (ℕ × ℕ))) (items n : ℕ) (sets : List ℕ) : Type 0 where
   pub count : length sets ≡ n
   pub each : (number : ℕ) → number < n → IsItemSet lists number items (slice_index sets number)

@@ -1,4 +1,4 @@
--- The least column of each class, told by the columns that are not the least.
+-- The least column of each class, from a list of the columns that are not the least.
 use Rattle.std.specs.Prelude.{◌≡◌, ◌==◌, ◌&&◌, ℕ, ◌<◌, Bool, if◌then◌else◌, List, [], ◌∷◌}
 use Rattle.anyk_model.specs.Query.{Column, Equality}
 use Rattle.query_bind.specs.Classes.{Linked, ColumnBefore}
@@ -15,11 +15,11 @@ pub record IsLabelling (es : List Equality) (label : Column → Column) : Type 0
 abbrev pub is_same : Column → Column → Bool
 is_same a b = (a.item == b.item) && (a.place == b.place)
 
--- one label in another's place
+-- one label replaced by another
 abbrev pub replaced : Column → Column → Column → Column
 replaced new old c = if is_same c old then new else c
 
--- the label that a column is listed with, and `none` where it is not listed
+-- the label with which a column is listed, or `none` if it is not listed
 abbrev pub listed : List Member → Column → Column → Column
 listed [] c none = none
 listed (m ∷ members) c none = if is_same (column_shown m.column) c then column_shown m.least else listed members c none

@@ -1,4 +1,4 @@
--- What a stored query shows.
+-- What contracts see of a stored query.
 use Rattle.std.specs.Prelude.{ℕ, map, Vec}
 use Rattle.std.specs.Global.{Global}
 use Rattle.query_bind.specs.FilterViews.{filter_shown}

@@ -1,4 +1,4 @@
--- The columns of an order key, each with how often it is added and subtracted.
+-- The columns of an order key, each with the number of times that it is added and subtracted.
 use Rattle.std.specs.Prelude.{◌≡◌, ℕ, ◌+◌, ◌*◌, ◌==◌, Bool, if◌then◌else◌, List, [], ◌∷◌, map, filter, Option, ℤ, pos, ◌-ℤ◌, ◌*ℤ◌, neg_ℤ, ⊤}
 use Rattle.anyk_model.specs.Table.{Table}
 use Rattle.anyk_model.specs.Query.{Item, Column, Term, total}
@@ -10,28 +10,29 @@ use Rattle.query_bind.specs.Weights.{column_size, worth_at}
 use Rattle.query_bind.specs.declared.fault.BindFault.{BindFault}
 use Rattle.query_bind.specs.declared.tallies.Tally.{Tally}
 
--- a tally with one term more
+-- a tally with one more term
 abbrev pub with_one : Bool → Tally → Tally
 with_one minus y =
     if minus then record { column = y.column; plus = y.plus; minus = y.minus + 1 }
     else record { column = y.column; plus = y.plus + 1; minus = y.minus }
 
--- how often a column counts
+-- the number of times that a column counts
 abbrev pub net : Tally → ℤ
 net y = pos y.plus -ℤ pos y.minus
 
--- what a term adds, and what a tally adds, where each column is worth so much
+-- what a term adds, and what a tally adds, if each column has this worth
 abbrev pub term_worth : (Column → ℤ) → Term → ℤ
 term_worth worth t = if t.minus then neg_ℤ (worth t.column) else worth t.column
 
 abbrev pub tally_worth : (Column → ℤ) → Tally → ℤ
 tally_worth worth y = net y *ℤ worth (column_shown y.column)
 
--- the size of a tally, where each column has a size
+-- the size of a tally, if each column has this size
 abbrev pub tally_size : (Column → ℕ) → Tally → ℕ
 tally_size size y = (y.plus + y.minus) * size (column_shown y.column)
 
--- tallies that come to the same as some terms, whatever the columns are worth, and have no other columns
+-- tallies that add the same as some terms, whatever the columns are worth, and that have no other
+-- columns
 pub record AreTallies (terms : List Term) (tallies : List Tally) : Type 0 where
   pub worth : (worth : Column → ℤ) → total (map (term_worth worth) terms) ≡ total (map (tally_worth worth) tallies)
   pub size : (size : Column → ℕ) → sum_of_all (map (λ (t : Term). size t.column) terms) ≡ sum_of_all (map (tally_size size) tallies)
@@ -43,7 +44,7 @@ pub record AreTallies (terms : List Term) (tallies : List Tally) : Type 0 where
 abbrev pub columns_of : List Tally → List (ℕ × ℕ)
 columns_of tallies = map (λ (y : Tally). y.column) tallies
 
--- columns of which each stands once
+-- each column is in the list once
 abbrev pub StandOnce : List (ℕ × ℕ) → Type 0
 StandOnce [] = ⊤
 StandOnce (c ∷ cs) = (IsMember c cs → ⊥) × StandOnce cs
@@ -53,7 +54,7 @@ StandOnce (c ∷ cs) = (IsMember c cs → ⊥) × StandOnce cs
 abbrev pub tallies_in : ℕ → List Tally → List Tally
 tallies_in item tallies = filter (λ (y : Tally). y.column.0 == item) tallies
 
--- the sum of the greatest weights, each as often as its column counts
+-- the sum of the greatest weights, each times the number of times that its column counts
 abbrev pub tallies_size : List Table → List Item → List Tally → ℕ
 tallies_size tables items tallies = sum_of_all (map (tally_size (column_size tables items)) tallies)
 

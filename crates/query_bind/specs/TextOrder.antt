@@ -8,7 +8,7 @@ use Rattle.query_bind.specs.declared.fault.BindFault.{BindFault}
 use Rattle.query_bind.specs.declared.fault.BindFault.TheVariants as fault
 use Rattle.query_bind.specs.Names.{ref_fault}
 
--- a fault that tells where a column reference stands
+-- a fault with the offset of a column reference
 abbrev pub IsReferenceFault : BindFault → Type 0
 IsReferenceFault (fault.UnknownAlias at) = Unit {0}
 IsReferenceFault (fault.UnknownColumn at) = Unit {0}
@@ -18,7 +18,7 @@ IsReferenceFault (fault.BadWeight item row col) = ⊥
 IsReferenceFault (fault.RankRange key) = ⊥
 IsReferenceFault fault.NoMemory = ⊥
 
--- the fault is that of a reference, and none that stands before it in the text has one
+-- the fault is that of a reference, and no reference before it in the text has one
 pub record IsFirstFailing (tables : List Table) (items : List Item) (refs : List ColumnRef) (e : BindFault) : Type 0 where
   pub ref : ColumnRef
   pub member : IsMember ref refs

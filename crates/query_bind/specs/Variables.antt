@@ -35,12 +35,12 @@ is_elsewhere members least = list_any (λ (m : Member). is_other (least_in membe
 abbrev pub is_variable : List Member → List BoundEquality → Column → Bool
 is_variable members es c = is_same (least_in members c) c && is_elsewhere members c && not (is_fixed members es c)
 
--- the first n variables that an item has, each with its first place there
+-- the first n variables of an item, each with its first place there
 pub record HavePlaces (label : Column → Column) (variables : List Column) (item width n : ℕ) (list : List (ℕ × ℕ)) : Type 0 where
   pub ascending : IsAscending NumberBefore list
   pub members : (v : ℕ × ℕ) → IsMember v list ↔ ((v.0 < n) × IsFirstPlace label item width (variable_at variables v.0) v.1)
 
--- how many columns an item has
+-- the number of columns of an item
 abbrev pub width_in : List Table → List Item → ℕ → ℕ
 width_in tables items item = length (table_in tables items item).names
 
@@ -49,7 +49,7 @@ pub record HavePlacesEach (label : Column → Column) (variables : List Column) 
   pub count : length lists ≡ n
   pub each : (i : ℕ) → i < n → HavePlaces label variables i (width_in tables items i) (length variables) (get_or lists i [])
 
--- what is stored of variables
+-- what contracts see of stored variables
 abbrev pub lists_shown : List (Vec (ℕ × ℕ) Global) → List (List (ℕ × ℕ))
 lists_shown lists = map (λ (v : Vec (ℕ × ℕ) Global). v.items) lists
 

@@ -14,7 +14,8 @@ pub record ItemParts : Type 0 where
   pub cap : ℕ
   pub parts : List ℤ
 
--- its variables: of each the least column, and of each item its variables by number, each with its least column there; and what the rows of each item are tested by
+-- The query; its variables, each by its least column; the variables of each item by number, each
+-- with its least column there; and the tests of the rows of each item.
 pub record BoundQuery : Type 0 where
   pub query : Query
   pub weighed : List (List ItemParts)
@@ -26,7 +27,7 @@ pub record BoundQuery : Type 0 where
 abbrev pub variables_at : List (List (ℕ × ℕ)) → ℕ → List (ℕ × ℕ)
 variables_at lists item = get_or lists item []
 
--- nothing is kept of an item without a term
+-- nothing is kept for an item without a term
 abbrev pub kept : {A : Type 0} → List A → List ℤ → List ℤ
 kept [] parts = []
 kept (x ∷ xs) parts = parts
@@ -43,7 +44,7 @@ item_parts tables items key item = record { cap = cap_of tables items item key; 
 abbrev pub key_parts : List Table → List Item → OrderKey → List ItemParts
 key_parts tables items key = map (item_parts tables items key) (numbers_of items)
 
--- the query was bound to these tables, and has an item
+-- the query was bound to these tables, and has at least one item
 pub record Fits (bound : BoundQuery) (tables : List Table) : Type 0 where
   pub some : 1 ≤ length bound.query.items
   pub within : IsWithin bound.query tables

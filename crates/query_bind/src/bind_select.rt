@@ -29,7 +29,7 @@ use csv_tables::Tables;
 use query_grammar::select::Select;
 use std::alloc::{AllocError, Global};
 
-/// The query with a column for each reference, before its weights are looked at.
+/// The query with a column for each reference, before its weights are read.
 fn bind_names(
     alloc: Global,
     select: &Select,
@@ -66,7 +66,8 @@ fn bind_names(
     })
 }
 
-/// What the rows add to the keys of a query, where its columns hold weights whose sums fit.
+/// What the rows add to the keys of a query. The error is the first fault of the weights, or of
+/// their range.
 fn weigh_selection(
     alloc: Global,
     selection: &Selection,
@@ -105,7 +106,7 @@ fn find_structure(
     Ok(Variables { least, of_items })
 }
 
-/// What the rows of each item are tested by.
+/// The tests of the rows of each item.
 fn find_filters(
     alloc: Global,
     selection: &Selection,
@@ -122,7 +123,7 @@ fn find_filters(
     filters_of(alloc, classes, equalities, items, tables)
 }
 
-// The query, or the first fault in the order of the select's parts.
+// The query, or the first fault, in the order of the select's parts.
 fn bind_by_parts(
     alloc: Global,
     select: &Select,
@@ -153,9 +154,11 @@ fn bind_by_parts(
     })
 }
 
-/// The query that a select of 1 to 16 items means over tables, of which `which` has one for each item. A fault is the first in
-/// the order of the select's parts, of its weights and of their range. Where the select is in the order of its text, a fault of
-/// a column reference is that of the first one in the text that fails. `NoMemory` may come at any time.
+/// The query that a select of 1 to 16 items means over tables. `which` has the number of each
+/// item's table, from 0. The fault is the first one, in the order of the select's parts, then of
+/// its weights, then of their range. If the select is in the order of its text, a fault of a column
+/// reference is that of the first one in the text that fails. `NoMemory` may be returned at any
+/// point.
 pub fn bind(
     alloc: Global,
     select: &Select,

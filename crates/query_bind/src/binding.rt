@@ -62,7 +62,7 @@ fn bind_columns(
     Ok(columns)
 }
 
-/// Puts all columns of an item last.
+/// Appends all columns of an item.
 fn push_columns(columns: &mut Vec<(u32, u32)>, item: u32, width: u32) -> Result<(), AllocError>
     ensures { OnOk result (map column_shown columns.new.items ≡ map column_shown columns.old.items ++ item_columns item width) }
 {
@@ -112,7 +112,7 @@ pub(crate) fn bind_list(
     }
 }
 
-/// A side of an equality, with its column or a copy of its constant.
+/// A side of an equality, with its column, or with a copy of its constant.
 fn bind_side(
     alloc: Global,
     items: &[BoundItem],

@@ -1,8 +1,8 @@
-//! What names stand for, once they are bound.
+//! The parts of a query once their names are bound.
 
 use query_grammar::name::{Bytes, Name};
 
-/// An item of the from list.
+/// An item of the from-list.
 #[derive(Drop)]
 pub(crate) struct BoundItem {
     pub(crate) table: u32,
@@ -16,10 +16,12 @@ pub enum BoundSide {
     Constant(Bytes),
 }
 
-/// Two sides that are to be equal, a column with its item and what it is equated with.
+/// Two sides that must be equal: a column, with its item, and what it is equated with.
 #[derive(Drop)]
 pub struct BoundEquality {
+    /// The item and the place of the column, both from 0.
     pub left: (u32, u32),
+    /// The column or the constant that it is equated with.
     pub right: BoundSide,
 }
 
@@ -37,8 +39,8 @@ pub(crate) struct BoundKey {
     pub(crate) descending: bool,
 }
 
-/// What an item adds to an order key: the greatest absolute part that its columns allow, and the part of each of its rows. An
-/// item without a column in the key keeps no parts.
+/// What an item adds to an order key: the greatest absolute part that its columns allow, and the
+/// part of each of its rows. There are no parts if the item has no column in the key.
 #[derive(Drop)]
 pub(crate) struct ItemWeights {
     pub(crate) cap: u128,

@@ -1,4 +1,4 @@
-//! The classes of columns that equalities make, each told by its least column (quick find).
+//! The classes of columns that equalities make. Each is known by its least column (quick find).
 ghost use Rattle.std.specs.Prelude.{◌≡◌, ◌↔◌, ◌⊎◌, ◌++◌, ◌∷◌, [], List, IsTrue, IfOk, OnOk, MatchOption, map};
 ghost use Rattle.anyk_model.specs.Query.{Equality, of_column};
 ghost use Rattle.query_bind.specs.Classes.{ColumnBefore};
@@ -9,14 +9,14 @@ ghost use Rattle.query_bind.specs.Relabelled.{with_least};
 use crate::bound::{BoundEquality, BoundSide};
 use std::alloc::{AllocError, Global};
 
-/// A column with the least of its class. A column that is not listed is the least itself.
+/// A column with the least column of its class. A column that is not listed is the least itself.
 #[derive(Clone, Copy)]
 pub(crate) struct Member {
     pub(crate) column: (u32, u32),
     least: (u32, u32),
 }
 
-/// Whether a column stands before another, by items and then places.
+/// Whether a column is before another one, by items and then by places.
 fn is_before(a: (u32, u32), b: (u32, u32)) -> bool
     ensures { IsTrue result ↔ ColumnBefore (column_shown a) (column_shown b) }
 {
@@ -35,7 +35,7 @@ pub(crate) fn least_of(classes: &[Member], column: (u32, u32)) -> (u32, u32)
     column
 }
 
-/// The two columns, the lesser first.
+/// The two columns, the smaller first.
 fn in_order(a: (u32, u32), b: (u32, u32)) -> ((u32, u32), (u32, u32))
     ensures both { (result ≡ (a, b)) ⊎ (result ≡ (b, a)) }
     ensures order { ColumnBefore (column_shown result.1) (column_shown result.0) → ⊥ }
@@ -43,7 +43,7 @@ fn in_order(a: (u32, u32), b: (u32, u32)) -> ((u32, u32), (u32, u32))
     if is_before(b, a) { (b, a) } else { (a, b) }
 }
 
-/// The member with another least column, where it has the old one.
+/// The member with another least column, if it has the old one.
 fn relabelled(member: Member, new: (u32, u32), old: (u32, u32)) -> Member
     ensures { result ≡ with_least new old member }
 {
@@ -64,7 +64,8 @@ fn relabel(classes: &mut [Member], new: (u32, u32), old: (u32, u32))
     }
 }
 
-/// Joins the classes of two columns, where they are not one class already. So there are fewer members than columns.
+/// Joins the classes of two columns, unless they are one class already. So there are fewer members
+/// than columns.
 fn join(classes: &mut Vec<Member>, left: (u32, u32), right: (u32, u32)) -> Result<(), AllocError>
     ensures { OnOk result ((es : List Equality) (e : Equality) → e.left ≡ column_shown left → e.right ≡ of_column (column_shown right)
         → IsLabelling es (least_in classes.old.items) → IsLabelling (es ++ e ∷ []) (least_in classes.new.items)) }
@@ -83,7 +84,7 @@ fn join(classes: &mut Vec<Member>, left: (u32, u32), right: (u32, u32)) -> Resul
     Ok(())
 }
 
-/// Joins the classes of the columns that an equality names.
+/// Joins the classes of the two columns of an equality.
 fn join_sides(classes: &mut Vec<Member>, equality: &BoundEquality) -> Result<(), AllocError>
     ensures { OnOk result ((es : List Equality) → IsLabelling es (least_in classes.old.items)
         → IsLabelling (es ++ equality_shown equality.now ∷ []) (least_in classes.new.items)) }
@@ -108,7 +109,7 @@ pub(crate) fn classes_of(
     Ok(classes)
 }
 
-/// The first column of an item that is in a class, by its place.
+/// The place of the first column of an item that is in a class, or `None` if there is none.
 pub(crate) fn first_place(
     classes: &[Member],
     item: u32,

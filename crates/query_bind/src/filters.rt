@@ -1,4 +1,4 @@
-//! What the rows of an item are tested by, so that only those that pass are taken.
+//! The tests of an item's rows, which select the rows that pass.
 ghost use Rattle.std.specs.Prelude.{◌≡◌, ◌≤◌, ◌<◌, ◌-◌, ◌↔◌, ◌==◌, ◌&&◌, length, map, IfOk, IsTrue};
 ghost use Rattle.std.specs.List.{AllByRecursion, list_any};
 ghost use Rattle.std.specs.Str.{bytes_eq};
@@ -16,21 +16,21 @@ use csv_tables::Tables;
 use query_grammar::name::Bytes;
 use std::alloc::{AllocError, Global};
 
-/// A place of an item, and the constant that it is to have.
+/// A place of an item, and the constant that it must have.
 #[derive(Drop)]
 pub(crate) struct Constant {
     place: u32,
     bytes: Bytes,
 }
 
-/// The tests of an item's rows: places that are to be equal, and constants that places are to have.
+/// The tests of an item's rows: places that must be equal, and constants that places must have.
 #[derive(Drop)]
 pub(crate) struct Filter {
     pairs: Vec<(u32, u32)>,
     constants: Vec<Constant>,
 }
 
-/// Each place of an item with the first one that is of its class, where that is another one.
+/// Each place of an item with the first place of its class, if that is another one.
 fn pairs_of(
     alloc: Global,
     classes: &[Member],
@@ -50,7 +50,7 @@ fn pairs_of(
     Ok(pairs)
 }
 
-/// Whether a constant is listed for a place.
+/// Whether a constant is in the list for a place.
 fn is_listed(constants: &[Constant], place: u32, bytes: &[u8]) -> bool
     ensures { result ≡ list_any (λ (c : Constant). (c.place == place) && bytes_eq c.bytes bytes.now) constants.now }
 {
@@ -156,7 +156,7 @@ pub(crate) fn filters_of(
     Ok(filters)
 }
 
-/// Whether a row stands the tests of its item.
+/// Whether a row passes the tests of its item.
 pub(crate) fn stands(filter: &Filter, tables: &Tables, table: u32, row: u32) -> bool
     requires table { table < length tables.now }
     requires first { 1 ≤ row }

@@ -13,7 +13,7 @@ fn has_variable(places: &[(u32, u32)], number: u32) -> bool
     places.iter().any(|v| v.0 == number)
 }
 
-/// The set with one item more.
+/// The set with one more item.
 fn with_item(set: u16, item: u32) -> u16
     requires { item < 16 }
     ensures members { (a : ℕ) → IsIn result a ↔ (IsIn set a ⊎ (a ≡ item)) }

@@ -1,10 +1,11 @@
-//! A query whose names are bound to the columns of tables: what its references mean, what rows add to its order
-//! keys, and the variables that its equalities make.
+//! A query whose names are bound to the columns of tables: what its references mean, what rows add
+//! to its order keys, and the variables that its equalities make.
 //!
-//! Names are looked up as in SQL. The classes of equal columns are kept by quick find (Sedgewick and Wayne,
-//! Algorithms), where the label of a class is its least column. A class without a constant that has columns in two items
-//! is a variable, and the variables and items are the edges and nodes of the hypergraph of the query (Beeri, Fagin, Maier
-//! and Yannakakis, On the desirability of acyclic database schemes, 1983).
+//! Names are looked up as in SQL. The classes of equal columns are kept by quick find (Sedgewick
+//! and Wayne, Algorithms), where the label of a class is its least column. A class without a
+//! constant that has columns in two items is a variable. The variables and items are the edges and
+//! nodes of the hypergraph of the query (Beeri, Fagin, Maier and Yannakakis, On the desirability of
+//! acyclic database schemes, 1983).
 #![tactic(auto)]
 
 mod bind_select;

@@ -20,7 +20,8 @@ use std::alloc::Global;
 use std::marker::Model;
 use step_counter::NoMemory;
 
-/// A query whose names are bound to the columns of tables, and its weights.
+/// A query whose names are bound to the columns of tables, with its weights, its variables and the
+/// tests of its rows. Items, keys, columns and tables count from 0.
 #[derive(Drop)]
 pub struct Query {
     pub(crate) selection: Selection,
@@ -41,7 +42,7 @@ impl Model for Query {
 }
 
 impl Query {
-    /// How many items there are.
+    /// The number of items.
     pub fn items(&self) -> u32
         ensures items { result ≡ length self.now.query.items }
         ensures limit { result ≤ 16 }
@@ -49,7 +50,7 @@ impl Query {
         self.selection.items()
     }
 
-    /// How many order keys there are.
+    /// The number of order keys.
     pub fn keys(&self) -> u32
         ensures keys { result ≡ length self.now.query.order }
         ensures limit { result ≤ 8 }
@@ -57,7 +58,7 @@ impl Query {
         self.selection.keys()
     }
 
-    /// The most answers that are wanted, where there is a limit.
+    /// The greatest number of answers, if there is a limit.
     pub fn limit(&self) -> Option<u64>
         ensures { result ≡ self.now.query.limit }
     {
@@ -87,7 +88,7 @@ impl Query {
         self.selection.equalities()
     }
 
-    /// The selected columns, each with its item.
+    /// The selected columns, each with its item before it.
     pub fn columns(&self) -> &[(u32, u32)]
         ensures { map column_shown result.now ≡ self.now.query.list }
     {
@@ -102,7 +103,8 @@ impl Query {
         self.selection.descending(key)
     }
 
-    /// Whether a row of an item passes: its columns of one class are equal to each other and to each constant of the class. Rows count from 1.
+    /// Whether a row of an item passes: its columns of one class are equal to each other and to
+    /// each constant of the class. Rows count from 1.
     pub fn passes(&self, tables: &Tables, item: u32, row: u32) -> bool
         requires fits { Fits self.now tables.now }
         requires item { item < length self.now.query.items }
@@ -114,7 +116,7 @@ impl Query {
         stands(&self.filters[item as usize], tables, table, row)
     }
 
-    /// What a row of an item adds to a key, negated where the order descends. Rows count from 1.
+    /// What a row of an item adds to a key, negated if the order descends. Rows count from 1.
     pub fn part(&self, _tables: &Tables, item: u32, row: u32, key: u32) -> i128
         requires fits { Fits self.now _tables.now }
         requires item { item < length self.now.query.items }
@@ -137,7 +139,7 @@ impl Query {
         self.weighed[key as usize][item as usize].cap
     }
 
-    /// How many variables there are. The query fits some tables.
+    /// The number of variables. The query fits some tables.
     pub fn variables(&self) -> u32
         requires fits { (tables : List Table) × Fits self.now tables }
         ensures count { result ≡ length self.now.variables }
@@ -146,7 +148,8 @@ impl Query {
         self.variables.least.len() as u32
     }
 
-    /// The variables of an item by number, ascending, each with its least column there. The query fits some tables.
+    /// The variables of an item, by ascending number, each with its least column there. The query
+    /// fits some tables.
     pub fn variables_of(&self, item: u32) -> &[(u32, u32)]
         requires fits { (tables : List Table) × Fits self.now tables }
         requires item { item < length self.now.query.items }
@@ -156,7 +159,8 @@ impl Query {
         self.variables.of_items[item as usize].as_slice()
     }
 
-    /// The hypergraph: an atom for each item, and for each variable the items that have it. The query fits some tables.
+    /// The hypergraph: an atom for each item, and for each variable the items that have it. The
+    /// query fits some tables. `NoMemory` if memory is refused.
     pub fn graph(&self) -> Result<Graph, NoMemory>
         requires fits { (tables : List Table) × Fits self.now tables }
         ensures { IfOk result (λ g. IsGraphOf self.now.query g) }

@@ -40,7 +40,7 @@ impl Selection {
         classes_of(alloc, self.equalities.as_slice())
     }
 
-    /// How many items there are.
+    /// The number of items.
     pub(crate) fn items(&self) -> u32
         ensures items { result ≡ length self.now.items }
         ensures limit { result ≤ 16 }
@@ -48,7 +48,7 @@ impl Selection {
         self.items.len() as u32
     }
 
-    /// How many order keys there are.
+    /// The number of order keys.
     pub(crate) fn keys(&self) -> u32
         ensures keys { result ≡ length self.now.order }
         ensures limit { result ≤ 8 }
@@ -56,7 +56,7 @@ impl Selection {
         self.keys.len() as u32
     }
 
-    /// The most answers that are wanted, where there is a limit.
+    /// The greatest number of answers, if there is a limit.
     pub(crate) fn limit(&self) -> Option<u64>
         ensures { result ≡ self.now.limit }
     {
@@ -86,7 +86,7 @@ impl Selection {
         self.equalities.as_slice()
     }
 
-    /// The selected columns, each with its item.
+    /// The selected columns, each with its item before it.
     pub(crate) fn columns(&self) -> &[(u32, u32)]
         ensures { map column_shown result.now ≡ self.now.list }
     {

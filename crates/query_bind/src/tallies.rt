@@ -1,5 +1,6 @@
-//! The columns of an order key, each once, with how often the key adds and subtracts it. A key may name a column any number
-//! of times, and what is done for each row then depends on the distinct columns alone.
+//! The columns of an order key, each once, with the number of times that the key adds and subtracts
+//! it. A key may name a column any number of times; what is done for each row then depends only on
+//! the distinct columns.
 ghost use Rattle.std.specs.Prelude.{◌≡◌, ◌<◌, ◌+◌, ◌^◌, ◌++◌, ◌∷◌, [], List, map, length, get_or, IfOk, OnOk, IfSome, IfNone};
 ghost use Rattle.anyk_model.specs.Query.{Term};
 ghost use Rattle.query_bind.specs.Parts.{sum_of_all};
@@ -10,7 +11,7 @@ ghost use Rattle.rankings.specs.Order.{IsMember};
 use crate::bound::BoundTerm;
 use std::alloc::{AllocError, Global};
 
-/// A column of an order key, with how often it is added and how often it is subtracted.
+/// A column of an order key, with the number of times that it is added and subtracted.
 #[derive(Clone, Copy)]
 pub(crate) struct Tally {
     pub(crate) column: (u32, u32),
@@ -18,7 +19,7 @@ pub(crate) struct Tally {
     pub(crate) minus: u64,
 }
 
-/// A tally with one term more.
+/// A tally with one more term.
 fn counted(tally: Tally, minus: bool) -> Tally
     requires { tally.plus + tally.minus + 1 < 2 ^ 64 }
     ensures { result ≡ with_one minus tally }
@@ -39,7 +40,7 @@ fn counted(tally: Tally, minus: bool) -> Tally
     }
 }
 
-/// The place of a column among tallies, if it has one.
+/// The place of a column among tallies, from 0, if it has one.
 fn place_of(tallies: &[Tally], column: (u32, u32)) -> Option<usize>
     ensures within { IfSome result (λ place. place < length tallies.now) }
     ensures there { IfSome result (λ place. (d : Tally) → (get_or tallies.now place d).column ≡ column) }
@@ -53,7 +54,7 @@ fn place_of(tallies: &[Tally], column: (u32, u32)) -> Option<usize>
     None
 }
 
-/// Counts one term more.
+/// Counts one more term.
 fn count(tallies: &mut Vec<Tally>, term: &BoundTerm) -> Result<(), AllocError>
     requires { sum_of_all (map (tally_size (λ c. 1)) tallies.old.items) + 1 < 2 ^ 64 }
     ensures same { OnOk result ((terms : List Term) → AreTallies terms tallies.old.items
@@ -78,7 +79,7 @@ fn count(tallies: &mut Vec<Tally>, term: &BoundTerm) -> Result<(), AllocError>
     }
 }
 
-/// The columns that terms name, each once, in the order in which they are first named.
+/// The columns of these terms, each once, in the order in which they are first named.
 pub(crate) fn tallies_of(alloc: Global, terms: &[BoundTerm]) -> Result<Vec<Tally>, AllocError>
     ensures same { IfOk result (λ v. AreTallies (map term_shown terms.now) v.items) }
     ensures once { IfOk result (λ v. StandOnce (columns_of v.items)) }

@@ -11,7 +11,8 @@ use crate::classes::{Member, first_place, least_of};
 use csv_tables::Tables;
 use std::alloc::{AllocError, Global};
 
-/// The variables of a query, each by its least column, and the variables of each item by number, each with the place of its first column there.
+/// The variables of a query, each by its least column, and the variables of each item by number,
+/// each with the place of its first column there.
 #[derive(Drop)]
 pub(crate) struct Variables {
     pub(crate) least: Vec<(u32, u32)>,
@@ -35,7 +36,7 @@ fn has_constant(classes: &[Member], equalities: &[BoundEquality], least: (u32, u
     equalities.iter().any(|e| fixes(classes, least, e))
 }
 
-/// Whether a column is of the class with this least column, and in another item.
+/// Whether a column is in the class with this least column, and in another item.
 fn is_in_other(classes: &[Member], least: (u32, u32), column: (u32, u32)) -> bool
     ensures { result ≡ is_other (least_in classes.now) (column_shown least) (column_shown column) }
 {

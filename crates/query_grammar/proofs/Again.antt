@@ -1,4 +1,4 @@
--- What is in the grammar is read again as what it is.
+-- What is in the grammar is read as what it is.
 use Rattle.std.proofs.Common.{◌≡◌, ℕ, zero, suc, ◌≤◌, List, [], length, Option, Some, None, Ok, Bool, true, false, refl, ap, ◌∙◌, arith, unwrap_or}
 use Rattle.query_grammar.specs.declared.token.Kind.{Kind}
 use Rattle.query_grammar.specs.declared.token.Kind.TheVariants as kind
@@ -123,7 +123,7 @@ item_again (named t) no_as no_name = rw (expect_one kind.Name t, no_as, no_name)
 item_again (aliased t n) no_as no_name = rw (expect_one kind.Name t, one_lacks kind.Name kind.As refl n, has_one kind.Name n) refl
 item_again (aliased_as t w n) no_as no_name = rw (expect_one kind.Name t, has_one kind.As w, expect_one kind.Name n) refl
 
--- what may not stand behind an item, with or without its ON
+-- what may not follow an item, with or without its ON
 record EndsItem (rest : List Lexeme) : Type 0 where
   no_as : Lacks kind.As rest
   no_name : Lacks kind.Name rest
@@ -185,7 +185,7 @@ direction_lacks j a b unsaid h = h
 direction_lacks j a b (ascending w) h = one_lacks kind.Asc j a w
 direction_lacks j a b (descending w) h = one_lacks kind.Desc j b w
 
--- what may not stand behind a key
+-- what may not follow a key
 record EndsKey (rest : List Lexeme) : Type 0 where
   no_dot : Lacks kind.Dot rest
   no_plus : Lacks kind.Plus rest

@@ -1,4 +1,4 @@
--- What each step of parsing says of the bytes.
+-- What each step of parsing says about the bytes.
 use Rattle.std.proofs.Common.{◌≡◌, ℕ, ◌≤◌, List, length, Option, Ok, Err, sym, ap, ◌∙◌}
 use Rattle.query_grammar.specs.declared.fault.ParseFault.{ParseFault}
 use Rattle.query_grammar.specs.declared.fault.ParseFault.TheVariants as fault

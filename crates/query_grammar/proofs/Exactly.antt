@@ -1,4 +1,4 @@
--- Each answer but want of memory is the only one that the bytes allow.
+-- Each result, unless memory ran out, is the only one that the bytes allow.
 use Rattle.std.proofs.Common.{◌≡◌, ℕ, ◌^◌, ◌<◌, ◌≤◌, List, [], ◌∷◌, ◌++◌, length, Option, Some, None, Result, Ok, Err, true, false, cond, ltb, ◌⊎◌, inl, inr, refl, sym, ap, ◌∙◌, subst, append_assoc}
 use Rattle.std.specs.Prelude.{IfSome}
 use Rattle.std.proofs.lemmas.List.{append-nil}
@@ -15,7 +15,7 @@ use Rattle.query_grammar.specs.Parse.{Says, Faults, Parses, Agree, IsTooGreat, d
 use Rattle.query_grammar.proofs.Again.{query_again}
 use Rattle.query_grammar.proofs.Stuck.{query_found, first_fault}
 
--- one of two splits of a list goes further than the other, or they are one
+-- of two splits of a list, one is further to the right, or they are equal
 data Splits (a b c d : List Lexeme) : Type 0 where
   one_split : b ≡ d → Splits a b c d
   later : (t : Lexeme) (m : List Lexeme) → c ≡ a ++ t ∷ m → b ≡ t ∷ (m ++ d) → Splits a b c d
@@ -32,7 +32,7 @@ splits [] b (y ∷ c) d e = later y c refl e
 splits (x ∷ a) b [] d e = earlier x a refl (sym e)
 splits (x ∷ a) b (y ∷ c) d e = behind x y a b c d (cc) (splits a b c d (cc))
 
--- what begins a query does not go past where another stops
+-- the beginning of a query does not reach past the place where another reading stops
 not_past : (a c d : List Lexeme) (t : Lexeme) (m : List Lexeme) → c ≡ a ++ t ∷ m → Begins c → Stops a (t ∷ (m ++ d)) → ⊥
 not_past a c d t m is begins stops =
     let whole : (a ++ t ∷ m) ++ begins.others ≡ a ++ t ∷ (m ++ begins.others) = append_assoc a (t ∷ m) begins.others in
@@ -57,7 +57,7 @@ read_fault ts left f (Err other) e =
 pub fault_read : (ts left : List Lexeme) → IsFirstFault ts left → query_at ts ≡ Err left
 fault_read ts left f = read_fault ts left f (query_at ts) refl
 
--- ---- the one answer
+-- ---- the one result
 
 abbrev Answer : Type 0
 Answer = Result Select ParseFault
@@ -99,7 +99,7 @@ few_items x h = let few : ltb 16 (length x.0.items) ≡ false = le-ltb _ _ h in 
 few_keys : (x : Clauses) → length x.0.items ≤ 16 → length x.0.keys ≤ 8 → answer_clauses x ≡ answer_limit x x.1
 few_keys x h k = let few : ltb 8 (length x.0.keys) ≡ false = le-ltb _ _ k in few_items x h ∙ rw few refl
 
--- the answer of the bytes, or want of memory
+-- the result for the bytes, or memory ran out
 abbrev pub IsAnswer : List ℕ → Answer → Type 0
 IsAnswer bytes r = (r ≡ Err fault.NoMemory) ⊎ (r ≡ answer bytes)
 

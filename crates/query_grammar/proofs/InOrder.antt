@@ -1,4 +1,4 @@
--- The column references of a query that was read stand in the order of its text.
+-- The column references of a query that was read are in the order of its text.
 use Rattle.std.proofs.Common.{◌≡◌, ℕ, zero, suc, ◌+◌, ◌-◌, ◌<◌, ◌≤◌, List, [], ◌∷◌, ◌++◌, true, false, cond, refl, sym, ap, ◌∙◌, subst, append_assoc, arith, Bool}
 use Rattle.std.specs.List.{flat_map}
 use Rattle.std.proofs.lemmas.List.{append-nil, map-id}
@@ -20,17 +20,17 @@ use Rattle.query_grammar.specs.TextOrder.{list_columns, equality_columns, key_co
 
 -- ---- offsets
 
--- the tokens begin at ascending offsets, from lo on
+-- the tokens begin at ascending offsets, from lo
 abbrev From : ℕ → List Lexeme → Type 0
 From lo [] = Unit {0}
 From lo (t ∷ ts) = (lo ≤ t.at) × From (t.at + 1) ts
 
--- the references, which begin at these places, begin at ascending offsets, from lo on and before hi
+-- the references, which begin at these places, begin at ascending offsets, from lo and before hi
 abbrev Between : {R : Type 0} → (R → ℕ) → ℕ → List R → ℕ → Type 0
 Between place lo [] hi = lo ≤ hi
 Between place lo (x ∷ xs) hi = (lo ≤ place x) × Between place (place x + 1) xs hi
 
--- references that were taken off tokens from lo on, with the rest behind them
+-- references that were taken off tokens from lo, with the rest after them
 record Taken {R : Type 0} (place : R → ℕ) (lo : ℕ) (refs : List R) (rest : List Lexeme) : Type 0 where
   hi : ℕ
   taken : Between place lo refs hi
@@ -279,12 +279,12 @@ query_items_in_order _ _ (query {i = i} s list f found_items found_where found_o
     (λ b pb. and_then b [] i.0 _ _ (passed kind.From _ _ _ f b pb) (all_items _ _ _ found_items))) in
     ascend item_place 0 all.hi _ all.taken
 
--- the items of a query that was parsed stand in the order of the text
+-- the items of a query that was parsed are in the order of the text
 pub parsed_items_in_order : (bytes : List ℕ) (select : Select) → IsParsed bytes select → ItemsAreInTextOrder select.items
 parsed_items_in_order bytes select parsed =
     subst (λ (s : Select). ItemsAreInTextOrder s.items) (sym parsed.is) (query_items_in_order _ parsed.clauses parsed.says.query (tokens_ascend bytes 0 0 0 (omega arith)))
 
--- the references of a query that was parsed stand in the order of the text
+-- the references of a query that was parsed are in the order of the text
 pub parsed_in_order : (bytes : List ℕ) (select : Select) → IsParsed bytes select → AreInTextOrder (columns_of select)
 parsed_in_order bytes select parsed =
     subst (λ s. AreInTextOrder (columns_of s)) (sym parsed.is) (query_in_order _ parsed.clauses parsed.says.query (tokens_ascend bytes 0 0 0 (omega arith)))

@@ -1,4 +1,4 @@
--- Reading any number of things one after the other, as a loop does.
+-- Reading any number of things one after another, as a loop does.
 use Rattle.std.proofs.Common.{◌≡◌, ℕ, zero, suc, ◌≤◌, ◌<◌, List, [], ◌∷◌, ◌++◌, length, map, Some, None, Ok, Err, refl, sym, ap, ◌∙◌, append_assoc, arith, subst}
 use Rattle.std.proofs.lemmas.List.{append-nil}
 use Rattle.query_grammar.specs.declared.fault.ParseFault.{ParseFault}
@@ -15,7 +15,7 @@ use Rattle.query_grammar.proofs.Outcomes.{Shortens, NextOut, further, stop, fail
 abbrev pub with_front : {A : Type 0} → List A → Read (List A) → Read (List A)
 with_front front read = read >>= λ x. Ok (front ++ x.0, x.1)
 
--- Looking for one more takes at least a token, and finds none at the end.
+-- Looking for one more thing takes at least a token, or finds nothing at the end.
 pub record Steps {A : Type 0} (next : List Lexeme → Next A) : Type 0 where
   pub consumes : (ts rest : List Lexeme) (x : A) → next ts ≡ Ok (Some (x, rest)) → length rest < length ts
   pub at_end : next [] ≡ Ok None

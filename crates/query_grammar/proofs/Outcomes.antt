@@ -1,4 +1,5 @@
--- What reading gives: a thing of the grammar, and a walk over its tokens; or the token at which the walk ends.
+-- What reading gives: a thing of the grammar and a walk over its tokens, or the token at which the
+-- walk ends.
 use Rattle.std.proofs.Common.{◌≡◌, ℕ, zero, suc, ◌≤◌, ◌<◌, List, [], ◌∷◌, length, Option, Some, None, Ok, Err, Bool, true, false, cond, refl, sym, ◌∙◌, arith}
 use Rattle.query_grammar.specs.declared.token.Kind.{Kind}
 use Rattle.query_grammar.specs.Lexeme.{Lexeme}
@@ -7,7 +8,7 @@ use Rattle.query_grammar.specs.Grammar.{One, one, Many, none, more, Behind, afte
 use Rattle.query_grammar.proofs.SameKind.{same_true}
 use Rattle.query_grammar.specs.Places.{Place, Choice, on, nothing, choice_of, Walked, ended, stepped, walk}
 
--- the walk from a choice on
+-- the walk from a choice
 unfoldable pub walk_by : Choice → List Lexeme → Walked
 walk_by c [] = ended c.may_end
 walk_by c (t ∷ ts) = stepped (λ q. walk q ts) (c.step t.kind) t ts
@@ -17,7 +18,8 @@ unfolding walk walk_by
 walk-is p [] = refl
 walk-is p (t ∷ ts) = refl
 
--- Reading from choice c on gives a thing, and what may follow it is d of it; or it stops where the walk stops.
+-- Reading from choice c gives a thing x, and the next choice is d x; or it stops where the walk
+-- stops.
 pub data Out {A : Type 0} (Thing : List Lexeme → List Lexeme → A → Type 0) (c : Choice) (d : A → Choice) : List Lexeme → Read A → Type 0 where
   good : {ts rest : List Lexeme} {x : A} → Thing ts rest x → walk_by c ts ≡ walk_by (d x) rest → Out Thing c d ts (Ok (x, rest))
   bad : {ts left : List Lexeme} → walk_by c ts ≡ Err left → Out Thing c d ts (Err left)
@@ -77,7 +79,7 @@ last_out h (bad g) k = bad (h ∙ g)
 
 -- ---- any number of times
 
--- Looking for one more from choice c on, behind all of which d may follow.
+-- Looking for one more thing from choice c; after the last one, the next choice is d.
 pub data NextOut {A : Type 0} (Thing : List Lexeme → List Lexeme → A → Type 0) (c d : Choice) : List Lexeme → Next A → Type 0 where
   further : {ts rest : List Lexeme} {x : A} → Thing ts rest x → walk_by c ts ≡ walk_by c rest → NextOut Thing c d ts (Ok (Some (x, rest)))
   stop : {ts : List Lexeme} → walk_by c ts ≡ walk_by d ts → NextOut Thing c d ts (Ok None)
@@ -107,7 +109,7 @@ behind_out k p c read out ts =
     either_next (behind read) refl (taken k p c ts) (λ e. stop e)
     (λ t rest separator e. found_next (within separator e (out rest)))
 
--- what a thing leaves is shorter
+-- what is left after a thing is shorter
 abbrev pub Shortens : {A : Type 0} → (List Lexeme → List Lexeme → A → Type 0) → Type 0
 Shortens {A} Thing = (ts rest : List Lexeme) (x : A) → Thing ts rest x → length rest < length ts
 

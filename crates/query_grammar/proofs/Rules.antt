@@ -71,7 +71,7 @@ by_same : (c : Choice) (s : Side) (ts : List Lexeme) → walk_by (by_side c c s)
 by_same c (Column _) ts = refl
 by_same c (Constant _) ts = refl
 
--- what stands on the right of a column
+-- what is on the right of a column
 column_condition : {ts a b rest : List Lexeme} {l : ColumnRef} {e : Lexeme} {s : Side} → IsColumn ts a l → One kind.Equals a b e → IsSide b rest s → IsCondition ts rest (record { left = l; right = s })
 column_condition l e (column_side r) = two_columns l e r
 column_condition l e (constant_side k) = constant_right l e k

@@ -1,4 +1,5 @@
--- A token takes at least one byte, and no more than there are; and bytes that a token has taken begin no other.
+-- A token takes at least one byte, and at most as many as there are. No token begins in bytes that
+-- another one has taken.
 use Rattle.std.proofs.Common.{◌≡◌, ℕ, zero, suc, ◌+◌, ◌-◌, ◌<◌, ◌≤◌, List, [], ◌∷◌, length, take, drop, get_or, Option, Some, None, Bool, true, false, cond, ◌||◌, eqb, refl, sym, ap, ◌∙◌, subst, arith, add-zero}
 use Rattle.std.proofs.Math.Seq.{drop-cons}
 use Rattle.std.proofs.lemmas.List.{drop-drop, length-drop, drop_all, take_all}
@@ -74,7 +75,7 @@ pub tokens_at_blank : (at b : ℕ) (bs : List ℕ) → is_blank b ≡ true → t
 unfolding tokens_from
 tokens_at_blank at b bs e = rw e refl
 
--- a token at a place of the bytes, and the tokens behind it
+-- a token at a place of the bytes, and the tokens after it
 pub record TokenAt (bytes : List ℕ) (at : ℕ) (s : Scan) : Type 0 where
   pub some : 0 < s.len
   pub within : at + s.len ≤ length bytes

@@ -1,4 +1,4 @@
--- What each thing of the grammar leaves is shorter.
+-- What is left after each thing of the grammar is shorter.
 use Rattle.std.proofs.Common.{◌≤◌, List, length, arith}
 use Rattle.query_grammar.specs.declared.token.Kind.{Kind}
 use Rattle.query_grammar.specs.declared.token.Kind.TheVariants as kind

@@ -1,4 +1,4 @@
--- Where a string ends.
+-- The end of a string.
 use Rattle.std.proofs.Common.{◌≡◌, ℕ, suc, ◌+◌, ◌<◌, ◌≤◌, List, [], ◌∷◌, length, Option, Some, None, Bool, true, false, cond, eqb, refl, ap, subst, ◌∙◌, arith}
 use Rattle.std.specs.Option.{option_map, option_map_or}
 use Rattle.query_grammar.specs.Tokens.{closing}
@@ -14,7 +14,7 @@ within_of _ _ (ends e) = omega arith
 within_of _ _ (plain e h) = omega (arith, within_of _ _ h)
 within_of _ _ (pair e f h) = omega (arith, within_of _ _ h)
 
--- ---- the longest is found
+-- ---- the longest string is found
 
 -- a string ends at some place, and at none before n
 pub record Found (o : Option ℕ) (n : ℕ) : Type 0 where
@@ -79,13 +79,14 @@ closing_within bs n h = within_of bs n (ends_at bs n h)
 
 -- ---- what the loop over the bytes keeps
 
--- the last place so far at which the string could end, and whether the byte before this one is that quote
+-- the last place so far at which the string could end, and whether the byte before this one is that
+-- quote
 unfoldable pub closing_from : Option ℕ → Bool → ℕ → List ℕ → Option ℕ
 closing_from end half at [] = end
 closing_from end true at (b ∷ bs) = cond (eqb b 39) (closing_from end false (at + 1) bs) end
 closing_from end false at (b ∷ bs) = cond (eqb b 39) (closing_from (Some at) true (at + 1) bs) (closing_from end false (at + 1) bs)
 
--- the end that is found from here on, or the last one before
+-- the end that is found from here, or the last one before
 abbrev last_end : Option ℕ → ℕ → Option ℕ → Option ℕ
 last_end end at None = end
 last_end end at (Some n) = Some (at + n)

@@ -1,4 +1,5 @@
--- Where reading stops, the tokens before are the beginning of a query, and with the next one they are not.
+-- When reading stops, the tokens before that are the beginning of a query, and with the next one
+-- they are not.
 use Rattle.std.proofs.Common.{◌≡◌, List, [], ◌∷◌, ◌++◌, Option, Some, None, Result, Ok, Err, Bool, true, false, refl, sym, ap, ◌∙◌, subst}
 use Rattle.std.proofs.lemmas.List.{append-nil}
 use Rattle.query_grammar.specs.Lexeme.{Lexeme}

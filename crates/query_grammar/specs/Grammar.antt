@@ -1,4 +1,4 @@
--- The grammar, a fact for each rule: the tokens begin with such a thing, and rest stands behind it.
+-- The grammar, as a fact for each rule: the tokens begin with this thing, and the rest follows it.
 use Rattle.std.specs.Prelude.{◌≡◌, ℕ, List, [], ◌∷◌, ◌++◌, map, Option, Some, None, Bool, true, false}
 use Rattle.std.specs.List.{flat_map}
 use Rattle.query_grammar.specs.declared.token.Kind.{Kind}
@@ -23,7 +23,7 @@ pub data Many {A : Type 0} (Item : List Lexeme → List Lexeme → A → Type 0)
   none : {rest : List Lexeme} → Many Item rest rest []
   more : {ts mid rest : List Lexeme} {x : A} {xs : List A} → Item ts mid x → Many Item mid rest xs → Many Item ts rest (x ∷ xs)
 
--- a thing behind a separator
+-- a thing after a separator
 pub data Behind {A : Type 0} (k : Kind) (Item : List Lexeme → List Lexeme → A → Type 0) : List Lexeme → List Lexeme → A → Type 0 where
   after_sign : {ts mid rest : List Lexeme} {s : Lexeme} {x : A} → One k ts mid s → Item mid rest x → Behind k Item ts rest x
 

@@ -1,4 +1,4 @@
--- What a token is, without where it lies in memory.
+-- A token, without its place in memory.
 use Rattle.std.specs.Prelude.{ℕ, List, map}
 use Rattle.query_grammar.specs.declared.token.Kind.{Kind}
 use Rattle.query_grammar.specs.declared.token.Token.{Token}

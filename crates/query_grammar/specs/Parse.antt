@@ -1,4 +1,4 @@
--- What parsing answers.
+-- The results of parsing.
 use Rattle.std.specs.Prelude.{◌≡◌, ℕ, ◌+◌, ◌-◌, ◌*◌, ◌^◌, ◌<◌, ◌≤◌, List, [], ◌∷◌, length, Option, Some, None, Result, Ok, Err, IfSome, ◌⊎◌}
 use Rattle.query_grammar.specs.declared.fault.ParseFault.{ParseFault}
 use Rattle.query_grammar.specs.declared.fault.ParseFault.TheVariants as fault
@@ -9,7 +9,7 @@ use Rattle.query_grammar.specs.Grammar.{IsQuery}
 use Rattle.query_grammar.specs.Tokens.{tokens_of}
 use Rattle.query_grammar.specs.FirstFault.{IsFirstFault}
 
--- the value of digits behind a number
+-- the value of digits that follow a number
 unfoldable pub decimal_from : ℕ → List ℕ → ℕ
 decimal_from n [] = n
 decimal_from n (d ∷ ds) = decimal_from (n * 10 + (d - 48)) ds
@@ -29,7 +29,7 @@ pub record Says (bytes : List ℕ) (x : Clauses) : Type 0 where
   pub short : length bytes ≤ 65536
   pub query : IsQuery (tokens_of bytes) x
 
--- the limit's digits begin there, and their number is too great
+-- the limit's digits begin at this offset, and their number is too great
 abbrev pub IsTooGreat : ℕ → Option Lexeme → Type 0
 IsTooGreat at None = ⊥
 IsTooGreat at (Some digits) = (at ≡ digits.at) × (2 ^ 64 ≤ decimal digits.body)
@@ -42,7 +42,7 @@ Faults bytes fault.TooManyKeys = (x : Clauses) × Says bytes x × (length x.0.it
 Faults bytes (fault.LimitRange at) = (x : Clauses) × Says bytes x × (length x.0.items ≤ 16) × (length x.0.keys ≤ 8) × IsTooGreat at x.1
 Faults bytes fault.NoMemory = Unit {0}
 
--- the select that the bytes say, within the limits
+-- the select that the bytes write, within the limits
 pub record IsParsed (bytes : List ℕ) (select : Select) : Type 0 where
   pub clauses : Clauses
   pub says : Says bytes clauses
@@ -55,7 +55,7 @@ abbrev pub Parses : List ℕ → Result Select ParseFault → Type 0
 Parses bytes (Ok select) = IsParsed bytes select
 Parses bytes (Err e) = Faults bytes e
 
--- what testing the limits answers: the limit, or the first that is passed
+-- the result of testing the limits: the limit of the query, or the first limit that is passed
 abbrev pub Limits : Select → Option Lexeme → Result (Option ℕ) ParseFault → Type 0
 Limits select digits (Ok limit) = (length select.items ≤ 16) × (length select.keys ≤ 8) × (limit ≡ limit_of digits) × IfSome limit (λ n. n < 2 ^ 64)
 Limits select digits (Err fault.TooManyItems) = 16 < length select.items
@@ -65,6 +65,6 @@ Limits select digits (Err fault.TooLong) = ⊥
 Limits select digits (Err (fault.Syntax at)) = ⊥
 Limits select digits (Err fault.NoMemory) = ⊥
 
--- Two answers to the same bytes are one, unless memory ran out in one of the two.
+-- Two results for the same bytes are equal, unless memory ran out in one of the two.
 abbrev pub Agree : Result Select ParseFault → Result Select ParseFault → Type 0
 Agree a b = (a ≡ Err fault.NoMemory) ⊎ ((b ≡ Err fault.NoMemory) ⊎ (a ≡ b))

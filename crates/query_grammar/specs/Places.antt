@@ -1,16 +1,16 @@
--- The places at which a reader of a query can stand, and the tokens that each allows.
+-- The places at which a reader of a query can be, and the tokens that each allows.
 use Rattle.std.specs.Prelude.{List, [], ◌∷◌, map, Option, Some, None, Result, Ok, Err, Bool, true, false, if◌then◌else◌}
 use Rattle.query_grammar.specs.declared.token.Kind.{Kind}
 use Rattle.query_grammar.specs.declared.token.Kind.TheVariants as kind
 use Rattle.query_grammar.specs.Lexeme.{Lexeme}
 use Rattle.query_grammar.specs.Reading.{same}
 
--- where conditions stand
+-- the clause in which conditions are
 pub data Clause : Type 0 where
   on_clause : Clause
   where_clause : Clause
 
--- what a column is for
+-- the use of a column
 pub data Use : Type 0 where
   listed : Use
   on_left : Clause → Use
@@ -49,7 +49,7 @@ pub data Place : Type 0 where
   limit_done : Place
   finish : Place
 
--- what may come next: the place behind each kind of token, and whether the query may end
+-- what may come next: the place after each kind of token, and whether the query may end
 pub record Choice : Type 0 where
   pub step : Kind → Option Place
   pub may_end : Bool
@@ -137,7 +137,7 @@ choice_of limit = on kind.Digits limit_done nothing
 choice_of limit_done = after_limit
 choice_of finish = ending
 
--- Walking over the tokens from a place on: what is left where a token, or the end, is not allowed.
+-- A walk over the tokens from a place: what is left when a token, or the end, is not allowed.
 abbrev pub Walked : Type 0
 Walked = Result (Unit {0}) (List Lexeme)
 

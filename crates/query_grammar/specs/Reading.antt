@@ -1,4 +1,4 @@
--- Reading from left to right. An error is what is left where the next token has no place.
+-- Reading from left to right. An error is what is left when the next token is not allowed.
 use Rattle.std.specs.Prelude.{◌≡◌, ℕ, zero, suc, List, [], ◌∷◌, ◌++◌, length, map, Option, Some, None, Result, Ok, Err, Bool, true, false, if◌then◌else◌, ◌==◌, unwrap_or}
 use Rattle.std.specs.List.{flat_map}
 use Rattle.query_grammar.specs.declared.token.Kind.{Kind}
@@ -31,12 +31,12 @@ abbrev pub some_lexeme : Option Token → Option Lexeme
 some_lexeme None = None
 some_lexeme (Some t) = Some (lexeme t)
 
--- where the next token begins, or the query's end
+-- the offset of the next token, or of the query's end
 abbrev pub place_of : ℕ → List Lexeme → ℕ
 place_of end [] = end
 place_of end (t ∷ ts) = t.at
 
--- What a function returned, seen by view, is what reading gives, unless memory ran out.
+-- The result of a function, as `view` sees it, is what reading gives, unless memory ran out.
 abbrev pub Fails : {Y : Type 0} → ℕ → ParseFault → Result Y (List Lexeme) → Type 0
 Fails end fault.NoMemory read = Unit {0}
 Fails end (fault.Syntax at) read = (left : List Lexeme) × (read ≡ Err left) × (at ≡ place_of end left)
@@ -81,7 +81,7 @@ number_of kind.Stray = 25
 abbrev pub same : Kind → Kind → Bool
 same a b = number_of a == number_of b
 
--- the token, where it is of this kind, and those after it
+-- the token, if it is of this kind, and those after it
 unfoldable pub expect_at : Kind → List Lexeme → Read Lexeme
 expect_at k [] = Err []
 expect_at k (t ∷ ts) = if same t.kind k then Ok (t, ts) else Err (t ∷ ts)
@@ -91,7 +91,7 @@ unfoldable pub optional_at : Kind → List Lexeme → Option Lexeme × List Lexe
 optional_at k [] = (None, [])
 optional_at k (t ∷ ts) = if same t.kind k then (Some t, ts) else (None, t ∷ ts)
 
--- any number of times, as long as next finds one; fuel is at least the number of tokens
+-- any number of times, as long as `next` finds one; `fuel` is at least the number of tokens
 abbrev pub Next : Type 0 → Type 0
 Next A = Result (Option (A × List Lexeme)) (List Lexeme)
 
@@ -110,7 +110,7 @@ abbrev pub found : {A : Type 0} → Read A → Next A
 found (Ok x) = Ok (Some x)
 found (Err left) = Err left
 
--- one more behind a separator
+-- one more after a separator
 abbrev pub behind : {A : Type 0} → (List Lexeme → Read A) → Option Lexeme × List Lexeme → Next A
 behind read (None, rest) = Ok None
 behind read (Some t, rest) = found (read rest)
@@ -209,7 +209,7 @@ abbrev pub with_as : Lexeme → List Lexeme → Option Lexeme × List Lexeme →
 with_as table tokens (Some as_word, rest) = expect_at kind.Name rest
 with_as table tokens (None, rest) = with_alias table tokens (optional_at kind.Name tokens)
 
--- the name behind a table, or the table's own
+-- the alias after a table, or the table's own name
 abbrev pub alias_at : Lexeme → List Lexeme → Read Lexeme
 alias_at table tokens = with_as table tokens (optional_at kind.As tokens)
 
@@ -266,7 +266,7 @@ where_at tokens = with_where (optional_at kind.Where tokens)
 
 -- ---- order keys
 
--- whether a sign stands there, and whether it is a minus
+-- whether there is a sign, and whether it is a minus
 abbrev pub with_plus : List Lexeme → Option Lexeme × List Lexeme → Option Bool × List Lexeme
 with_plus tokens (Some plus, rest) = (Some false, rest)
 with_plus tokens (None, rest) = (None, tokens)
@@ -294,7 +294,7 @@ abbrev pub with_desc : List Lexeme → Option Lexeme × List Lexeme → Bool × 
 with_desc tokens (Some desc, rest) = (true, rest)
 with_desc tokens (None, rest) = (false, (optional_at kind.Asc tokens).1)
 
--- whether DESC stands there; ASC is read too
+-- whether there is a DESC; an ASC is read too
 unfoldable pub direction_at : List Lexeme → Bool × List Lexeme
 direction_at tokens = with_desc tokens (optional_at kind.Desc tokens)
 
@@ -344,7 +344,7 @@ abbrev pub nothing_left : List Lexeme → Result (Unit {0}) (List Lexeme)
 nothing_left [] = Ok tt
 nothing_left (t ∷ ts) = Err (t ∷ ts)
 
--- that nothing but a `;` is left
+-- nothing is left except an optional `;`
 unfoldable pub finish_at : List Lexeme → Result (Unit {0}) (List Lexeme)
 finish_at tokens = nothing_left (optional_at kind.Semicolon tokens).1
 

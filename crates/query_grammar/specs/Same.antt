@@ -1,4 +1,4 @@
--- A query without the offsets that it keeps, and when two queries are one but for these.
+-- A query without its offsets, and when two queries are the same except for these.
 use Rattle.std.specs.Prelude.{◌≡◌, map, Bool, true, false, ◌&&◌, nat_eq}
 use mathlib.Core.Bool.{beq}
 use Rattle.std.specs.Option.{option_eq}
@@ -38,7 +38,7 @@ placeless_term t = record { minus = t.minus; column = placeless_column t.column 
 abbrev pub placeless_key : KeyRef → KeyRef
 placeless_key k = record { terms = map placeless_term k.terms; descending = k.descending }
 
--- each offset is 0, so that two queries which differ in their offsets alone are one
+-- each offset is 0, so that two queries which differ only in their offsets become equal
 abbrev pub placeless : Select → Select
 placeless s = record {
   list = placeless_list s.list;
@@ -48,7 +48,7 @@ placeless s = record {
   limit = s.limit;
 }
 
--- one query but for the offsets
+-- the same query, except for the offsets
 abbrev pub AreOne : Select → Select → Type 0
 AreOne a b = placeless a ≡ placeless b
 
@@ -81,7 +81,7 @@ same_term a b = beq a.minus b.minus && same_column a.column b.column
 abbrev pub same_key : KeyRef → KeyRef → Bool
 same_key a b = pointwise same_term a.terms b.terms && beq a.descending b.descending
 
--- the same but for the offsets
+-- the same, except for the offsets
 abbrev pub same_select : Select → Select → Bool
 same_select a b =
     same_list a.list b.list && (pointwise same_item a.items b.items && (pointwise same_equality a.equalities b.equalities

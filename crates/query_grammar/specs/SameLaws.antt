@@ -1,4 +1,4 @@
--- Parts of queries are the same exactly where they are one without their offsets.
+-- Parts of queries are the same exactly if they are equal without their offsets.
 use Rattle.std.proofs.Common.{◌≡◌, ℕ, List, [], ◌∷◌, map, Option, Some, None, Bool, true, false, ◌&&◌, refl, sym, ap, ◌∙◌, eq-eqb}
 use mathlib.Core.Bool.{beq}
 use Rattle.std.specs.Prelude.{nat_eq, IsTrue, ◌↔◌}
@@ -19,7 +19,7 @@ use Rattle.query_grammar.specs.declared.select.KeyRef.{KeyRef}
 use Rattle.query_grammar.specs.declared.select.Select.{Select}
 use Rattle.query_grammar.specs.Same.{placeless_column, placeless_list, placeless_item, placeless_side, placeless_equality, placeless_term, placeless_key, placeless, AreOne, same_column, same_list, same_item, same_side, same_equality, same_term, same_key, same_select}
 
--- a test of whether two values are one as they are seen
+-- a test of whether two values are equal as they are seen
 pub record Tells {K V : Type 0} (test : K → K → Bool) (view : K → V) : Type 0 where
   pub are_one : (x y : K) → test x y ≡ true → view x ≡ view y
   pub are_same : (x y : K) → view x ≡ view y → test x y ≡ true

@@ -1,4 +1,4 @@
--- A token at the front, without where it lies in memory.
+-- A token at the front, without its place in memory.
 use Rattle.query_grammar.specs.declared.scanner.Scanned.{Scanned}
 use Rattle.query_grammar.specs.Tokens.{Scan}
 

@@ -27,7 +27,7 @@ equality_columns e = e.left ∷ side_columns e.right
 abbrev pub key_columns : KeyRef → List ColumnRef
 key_columns key = map (λ (t : Term). t.column) key.terms
 
--- those of the select list, then of the equalities, then of the order keys
+-- the references of the select list, then of the equalities, then of the order keys
 abbrev pub columns_of : Select → List ColumnRef
 columns_of select = list_columns select.list ++ (flat_map equality_columns select.equalities ++ flat_map key_columns select.keys)
 

@@ -16,7 +16,7 @@ is_blank b = b == 32 || b == 9 || b == 10 || b == 13
 abbrev pub is_letter : ℕ → Bool
 is_letter b = is_ascii_alphabetic b || b == 95
 
--- what may stand in a word behind its first letter
+-- the bytes that a word may have after its first letter
 abbrev pub is_word_byte : ℕ → Bool
 is_word_byte b = is_ascii_alphanumeric b || b == 95
 
@@ -54,8 +54,8 @@ kind_of_sign b =
     if b == 59 then kind.Semicolon else
     kind.Stray
 
--- The place of the quote that ends the longest string, behind its opening quote. A quote with another behind it may
--- stand for one byte of the string.
+-- The place of the quote that ends the longest string, after its opening quote. A quote that
+-- another one follows may stand for one byte of the string.
 unfoldable pub closing : List ℕ → Option ℕ
 closing [] = None
 closing (b ∷ []) = if b == 39 then Some 0 else None
@@ -63,7 +63,7 @@ closing (b ∷ c ∷ bs) =
     if b == 39 then Some (if c == 39 then option_map_or (λ n. n + 2) (closing bs) 0 else 0) else
     option_map (λ n. n + 1) (closing (c ∷ bs))
 
--- a token: what it is, the bytes that it stands for, and how many bytes it takes
+-- a token: its kind, the bytes that it stands for, and the number of bytes that it takes
 pub record Scan : Type 0 where
   pub kind : Kind
   pub body : List ℕ
@@ -72,7 +72,7 @@ pub record Scan : Type 0 where
 abbrev pub stray : Scan
 stray = record { kind = kind.Stray; body = []; len = 1 }
 
--- the token between two quotes, where the second is there
+-- the token between two quotes, if there is a second one
 abbrev pub quoted_scan : Kind → List ℕ → Option ℕ → Scan
 quoted_scan k inside None = stray
 quoted_scan k inside (Some n) = record { kind = k; body = take n inside; len = n + 2 }
@@ -93,7 +93,7 @@ scan_of (b ∷ bs) =
     if b == 39 then quoted_scan kind.Text bs (closing bs) else
     record { kind = kind_of_sign b; body = []; len = 1 }
 
--- the tokens behind so many bytes that a token before has taken
+-- the tokens after the bytes that an earlier token has taken
 unfoldable pub tokens_from : ℕ → ℕ → List ℕ → List Lexeme
 tokens_from taken at [] = []
 tokens_from (suc taken) at (b ∷ bs) = tokens_from taken (at + 1) bs

@@ -1,4 +1,4 @@
-//! Equality of queries and of their parts, which disregards offsets.
+//! Equality of queries and of their parts, without their offsets.
 
 ghost use Rattle.std.specs.Prelude.{◌≡◌, ◌↔◌, IsTrue};
 ghost use Rattle.std.specs.Str.{bytes_eq};
@@ -124,10 +124,10 @@ impl PartialEq for Select {
 
     ghost laws = { laws_of same_select placeless select_tells };
 
-    /// Whether the two are one query, wherever their parts stand in the texts.
+    /// Whether the two are the same query, at whatever offsets their parts are.
     fn eq(&self, other: &Select) -> bool
         ensures value { result ≡ same_select self.now other.now }
-        // They are equal exactly where they are one but for the offsets.
+        // They are equal exactly if they are the same except for the offsets.
         ensures but_for_offsets { IsTrue result ↔ AreOne self.now other.now }
     {
         have_same_parts(self, other)

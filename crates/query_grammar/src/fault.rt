@@ -1,24 +1,24 @@
-//! Why bytes are no query.
+//! Why bytes are not a query.
 
 ghost use Rattle.std.specs.Prelude.{◌≡◌};
 ghost use Rattle.query_grammar.specs.declared.fault.ParseFault.TheVariants.{NoMemory};
 
 use std::alloc::{AllocError, AllocFailed};
 
-/// Why bytes are no query within the limits: the first of these that holds, but for want of memory. Offsets are in
-/// bytes, from 0.
+/// Why bytes are not a query within the limits. The fault is the first of these that holds, except
+/// that memory may run out at any point. Offsets are in bytes, from 0.
 #[derive(Debug, PartialEq, Eq, Drop)]
 pub enum ParseFault {
     /// There are more than 65,536 bytes.
     TooLong,
-    /// The bytes are no query. The token that begins at this offset, or the end there, is the first that no query has
-    /// behind the tokens before it.
+    /// The bytes are not a query. The token at this offset, or the end there, is the first that no
+    /// query has after the tokens before it.
     Syntax(u32),
     /// There are more than 16 from-items.
     TooManyItems,
     /// There are more than 8 order keys.
     TooManyKeys,
-    /// The limit, whose digits begin at this offset, is no 64-bit number.
+    /// The limit, whose digits begin at this offset, is not a 64-bit number.
     LimitRange(u32),
     /// Memory was refused.
     NoMemory,

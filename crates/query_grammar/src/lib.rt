@@ -1,9 +1,10 @@
 //! The query language: `select` with equi-joins, order keys that are sums of columns, and a limit.
 //!
-//! Bytes become tokens, the longest at each place; a reader for each rule of the grammar goes over them from left to
-//! right, and the next token alone decides each choice (LL(1) parsing by recursive descent). A syntax fault is told
-//! where the first token begins behind which no query can go on (the valid prefix property of such parsers).
-//! `name_text` writes a name in one canonical form.
+//! Bytes become tokens, the longest at each place. A reader for each rule of the grammar goes over
+//! them from left to right, and the next token alone decides each choice (LL(1) parsing by
+//! recursive descent). The offset of a syntax fault is where the first token begins after which no
+//! query can go on (the valid prefix property of such parsers). `name_text` writes a name in one
+//! canonical form.
 #![tactic(auto)]
 
 mod equality;

@@ -18,7 +18,7 @@ impl Model for Name {
 }
 
 impl Name {
-    /// A copy of these bytes.
+    /// A copy of these bytes. The error is that memory is refused.
     pub fn from_slice(alloc: Global, bytes: &[u8]) -> Result<Name, AllocError>
         ensures { IfOk result (λ n. n ≡ bytes.now) }
     {
@@ -27,7 +27,7 @@ impl Name {
         })
     }
 
-    /// The name's bytes.
+    /// The bytes of the name.
     pub fn bytes(&self) -> &[u8]
         ensures { result.now ≡ self.now }
     {
@@ -35,7 +35,8 @@ impl Name {
     }
 }
 
-/// A constant's bytes: those of a string with each doubled quote once, or those of a number with its minus.
+/// The bytes of a constant: those of a string with each doubled quote once, or those of a number
+/// with its minus.
 #[derive(Debug, Drop)]
 pub struct Bytes {
     bytes: Vec<u8>,
@@ -48,14 +49,14 @@ impl Model for Bytes {
 }
 
 impl Bytes {
-    /// These bytes.
+    /// A constant with these bytes.
     pub fn from_vec(bytes: Vec<u8>) -> Bytes
         ensures { result ≡ bytes.items }
     {
         Bytes { bytes }
     }
 
-    /// The constant's bytes.
+    /// The bytes of the constant.
     pub fn bytes(&self) -> &[u8]
         ensures { result.now ≡ self.now }
     {

@@ -22,7 +22,7 @@ pub const MAX_ITEMS: usize = 16;
 /// The greatest number of order keys.
 pub const MAX_KEYS: usize = 8;
 
-/// The value of decimal digits, where it fits.
+/// The value of decimal digits, or `None` if it does not fit.
 #[tactic(auto, unfolding(crate::specs::Parse::decimal_from))]
 fn number(digits: &[u8]) -> Option<u64>
     ensures { SomeIff result (decimal digits.now < 2 ^ 64) (decimal digits.now) }
@@ -35,7 +35,7 @@ fn number(digits: &[u8]) -> Option<u64>
     Some(value)
 }
 
-/// The limit, where nothing passes its own.
+/// The limit. The error is the first of the limits on a query that is passed.
 fn limit(select: &Select, digits: Option<Token<'_>>) -> Result<Option<u64>, ParseFault>
     ensures { Limits select.now (some_lexeme digits.entry) result }
 {
@@ -54,16 +54,16 @@ fn limit(select: &Select, digits: Option<Token<'_>>) -> Result<Option<u64>, Pars
     }
 }
 
-/// The query that the bytes say. Each fault comes exactly where its fact holds and none before it does, in the order
-/// of `ParseFault`; only want of memory is free.
+/// The query that the bytes write. Each fault is returned exactly if it holds and none before it
+/// does, in the order of `ParseFault`. Only `NoMemory` may be returned at any point.
 pub fn parse(alloc: Global, bytes: &[u8]) -> Result<Select, ParseFault>
-    // Each answer says what it must.
+    // Each result is true of the bytes.
     ensures sound { Parses bytes.now result }
-    // And where it may be said, no other is given, unless memory runs out.
+    // No other result is true of them, unless memory runs out.
     ensures exact { (other : Result Select ParseFault) → Parses bytes.now other → Agree other result }
-    // The column references stand in the order of the text.
+    // The column references are in the order of the text.
     ensures ordered { IfOk result (λ select. AreInTextOrder (columns_of select)) }
-    // So do the from-items.
+    // So are the from-items.
     ensures items_ordered { IfOk result (λ select. ItemsAreInTextOrder select.items) }
 {
     if bytes.len() > MAX_BYTES {

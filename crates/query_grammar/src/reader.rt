@@ -1,4 +1,4 @@
-//! The grammar, read token by token.
+//! Reading the grammar, token by token.
 
 ghost use Rattle.std.specs.Prelude.{◌≡◌, length, ◌≤◌, ◌++◌, ◌∷◌, [], MatchOption, Some, None, IfOk, OnOk, option_copied, Option, Bool, List, ℕ};
 ghost use Rattle.std.specs.Option.{option_map};
@@ -18,7 +18,7 @@ fn is_kind(token: &Token<'_>, kind: Kind) -> bool
     token.kind == kind
 }
 
-/// Where the next token begins, or the query's end.
+/// The offset of the next token, or of the query's end.
 fn place(tokens: &[Token<'_>], end: u32) -> u32
     ensures { result ≡ place_of end (lexemes tokens.now) }
 {
@@ -130,7 +130,8 @@ fn list<'a, 't>(
     Ok((SelectList::Columns(columns), rest))
 }
 
-/// Copies a byte of a string, but for the second quote of two; whether the byte is the first of two quotes.
+/// Copies a byte of a string, except for the second quote of two. Returns whether the byte is the
+/// first of two quotes.
 #[tactic(auto, unfolding(crate::specs::Reading::undoubled_from))]
 fn push_undoubled(bytes: &mut Vec<u8>, byte: u8, second: bool) -> Result<bool, AllocError>
     ensures { IfOk result (λ next. (rest : List ℕ) → bytes.new.items ++ undoubled_from next rest ≡ bytes.old.items ++ undoubled_from second (byte ∷ rest)) }
@@ -262,7 +263,7 @@ fn item<'a, 't>(
     Ok((ItemRef { table, alias, at }, rest))
 }
 
-/// The name behind a table, or the table's own.
+/// The alias after a table, or the table's own name.
 fn alias<'a, 't>(
     tokens: &'t [Token<'a>],
     end: u32,
@@ -403,7 +404,7 @@ fn where_clause<'a, 't>(
     conditions(alloc, rest, end)
 }
 
-/// Whether a sign stands there, and whether it is a minus.
+/// Whether there is a sign, and whether it is a minus.
 #[tactic(auto, unfolding(crate::specs::Reading::sign_at))]
 fn sign<'a, 't>(tokens: &'t [Token<'a>]) -> (Option<bool>, &'t [Token<'a>])
     ensures { sign_at (lexemes tokens.now) ≡ (result.0, lexemes result.1.now) }
@@ -445,7 +446,7 @@ fn next_term<'a, 't>(
     Ok(None)
 }
 
-/// Whether DESC stands there; ASC is read too.
+/// Whether there is a DESC. An ASC is read too.
 #[tactic(auto, unfolding(crate::specs::Reading::direction_at))]
 fn direction<'a, 't>(tokens: &'t [Token<'a>]) -> (bool, &'t [Token<'a>])
     ensures { direction_at (lexemes tokens.now) ≡ (result.0, lexemes result.1.now) }
@@ -554,7 +555,7 @@ fn limit_clause<'a, 't>(
     Ok((Some(digits), rest))
 }
 
-/// That nothing but a `;` is left.
+/// Tests that nothing is left except an optional `;`.
 #[tactic(auto, unfolding(crate::specs::Reading::finish_at))]
 fn finish(tokens: &[Token<'_>], end: u32) -> Result<(), ParseFault>
     ensures { Gives end (λ _. tt) result (finish_at (lexemes tokens.now)) }

@@ -17,12 +17,14 @@ fn is_blank_byte(byte: u8) -> bool
     byte == b' ' || byte == b'\t' || byte == b'\n' || byte == b'\r'
 }
 
+/// Whether a word can begin with this byte: a letter or an underscore.
 pub(crate) fn begins_word(byte: u8) -> bool
     ensures { result ≡ is_letter byte }
 {
     byte.is_ascii_alphabetic() || byte == b'_'
 }
 
+/// Whether a word can go on with this byte: a letter, an underscore or a digit.
 pub(crate) fn goes_on_word(byte: u8) -> bool
     ensures { result ≡ is_word_byte byte }
 {
@@ -76,7 +78,7 @@ fn is_keyword(word: &[u8], keyword: &[u8]) -> bool
     word.eq_ignore_ascii_case(keyword)
 }
 
-/// The keyword that a word is, or a name.
+/// The keyword that a word is, or else a name.
 #[tactic(auto, unfolding(crate::specs::Tokens::kind_of_word))]
 pub(crate) fn word_kind(word: &[u8]) -> Kind
     ensures { result ≡ kind_of_word word.now }
@@ -131,7 +133,7 @@ fn sign_kind(byte: u8) -> Kind
     }
 }
 
-/// A token at the front of some bytes, and how many bytes it takes.
+/// A token at the front of some bytes, and the number of bytes that it takes.
 #[derive(Clone, Copy, Debug)]
 struct Scanned<'a> {
     kind: Kind,
@@ -139,7 +141,7 @@ struct Scanned<'a> {
     len: usize,
 }
 
-/// A token between two quotes, or a stray one where the second is missing.
+/// A token between two quotes, or a stray one if the second quote is missing.
 fn quoted<'a>(kind: Kind, inside: &'a [u8], end: Option<usize>) -> Scanned<'a>
     requires within { IfSome end (λ n. n < length inside.now) }
     ensures { scan_view result ≡ quoted_scan kind inside.now end }
@@ -192,7 +194,7 @@ fn scan(bytes: &[u8]) -> Scanned<'_>
     }
 }
 
-/// The tokens of a query that is not too long.
+/// The tokens of a query that is not too long. The error is that memory is refused.
 pub(crate) fn tokens(alloc: Global, bytes: &[u8]) -> Result<Vec<Token<'_>>, AllocError>
     requires short { length bytes.now ≤ 65536 }
     ensures { IfOk result (λ v. lexemes v.items ≡ tokens_of bytes.now) }

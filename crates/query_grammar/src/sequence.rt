@@ -1,4 +1,4 @@
-//! A list that contracts see as one.
+//! A list, which contracts see as a list.
 
 ghost use Rattle.std.specs.Prelude.{◌≡◌, List};
 

@@ -1,6 +1,6 @@
-//! What the bytes of a query are cut into.
+//! The tokens into which the bytes of a query are cut.
 
-/// What a token is.
+/// The kind of a token.
 #[derive(Clone, Copy, Debug, PartialEq, Eq)]
 pub enum Kind {
     Select,
@@ -18,7 +18,7 @@ pub enum Kind {
     On,
     Union,
     All,
-    /// A word that is no keyword, or a quoted name.
+    /// A word that is not a keyword, or a quoted name.
     Name,
     /// A string between single quotes.
     Text,
@@ -34,11 +34,14 @@ pub enum Kind {
     Stray,
 }
 
-/// A token, where it begins, and the bytes that it stands for: a name without its quotes, a string
-/// without its quotes but with each `'` inside as it is written.
+/// A token. Its body is the bytes that it stands for: a name without its quotes, or a string
+/// without its outer quotes but with each `'` inside as it is written.
 #[derive(Clone, Copy, Debug)]
 pub struct Token<'a> {
+    /// The kind of the token.
     pub kind: Kind,
+    /// The offset at which it begins, in bytes, from 0.
     pub at: u32,
+    /// The bytes that it stands for.
     pub body: &'a [u8],
 }

@@ -32,7 +32,8 @@ fn is_bare_name(name: &[u8]) -> bool
     }
 }
 
-/// A name as the canonical text writes it: bare where it can be, else between quotes.
+/// A name as the canonical text writes it: bare if that is possible, else between quotes.
+/// `NoMemory` if memory is refused.
 pub fn name_text(alloc: Global, name: &[u8]) -> Result<Vec<u8>, NoMemory>
     ensures { IfOk result (λ v. v.items ≡ name_text_of name.now) }
 {
@@ -41,7 +42,7 @@ pub fn name_text(alloc: Global, name: &[u8]) -> Result<Vec<u8>, NoMemory>
     Ok(text)
 }
 
-/// Adds a name to a text, as the canonical text writes it.
+/// Appends a name to a text, as the canonical text writes it. The error is that memory is refused.
 pub fn push_name(text: &mut Vec<u8>, name: &[u8]) -> Result<(), AllocError>
     ensures { OnOk result (text.new.items ≡ text.old.items ++ name_text_of name.now) }
 {

@@ -1,4 +1,4 @@
--- What is scanned is the longest token that begins the bytes, or a stray byte where none begins.
+-- A scan gives the longest token that begins the bytes, or a stray byte if none begins.
 use Rattle.std.proofs.Common.{◌≡◌, ◌≢◌, ℕ, suc, ◌+◌, ◌<◌, ◌≤◌, List, [], ◌∷◌, ◌++◌, length, take, drop, Option, Some, None, Bool, true, false, cond, ◌||◌, not, eqb, ltb, refl, sym, ap, subst, ◌∙◌, inl, inr, arith, append_assoc, eq-eqb}
 use Rattle.std.specs.List.{list_all, prefix_len, position}
 use Rattle.std.specs.Char.{is_ascii_digit}
@@ -32,7 +32,7 @@ passing_len p b bs e = rw e (one_more (prefix_len p bs))
 stopped_len : (p : ℕ → Bool) (b : ℕ) (bs : List ℕ) → p b ≡ false → prefix_len p (b ∷ bs) ≡ 0
 stopped_len p b bs e = rw e refl
 
--- a list that passes reaches no further than the front that passes
+-- a front whose bytes all pass is no longer than the front that passes
 reaches : (p : ℕ → Bool) (bs more : List ℕ) → list_all p bs ≡ true → length bs ≤ prefix_len p (bs ++ more)
 reaches p [] more all = omega arith
 reaches p (b ∷ bs) more all =
@@ -51,7 +51,7 @@ front_passes : (p : ℕ → Bool) (bs : List ℕ) → list_all p (take (prefix_l
 front_passes p [] = refl
 front_passes p (b ∷ bs) = all_by p b bs (p b) refl (front_passes p bs)
 
--- where the front that passes ends before the bytes do, a byte that does not pass stands behind it
+-- if the front that passes ends before the bytes do, a byte that does not pass follows it
 record Cut (p : ℕ → Bool) (bs : List ℕ) (n : ℕ) : Type 0 where
   front : List ℕ
   next : ℕ
@@ -107,7 +107,7 @@ no_token_in_nothing k body front rest parts form =
 
 -- ---- by the first byte
 
--- the texts of tokens that begin these bytes have no more than n bytes
+-- the texts of tokens that begin these bytes have at most n bytes
 abbrev NoLonger : List ℕ → ℕ → Type 0
 NoLonger bytes n = (k : Kind) (body other more : List ℕ) → bytes ≡ other ++ more → IsTokenForm k body other → length other ≤ n
 
@@ -140,7 +140,7 @@ is_quote : (b : ℕ) (t : Bool) → eqb b 34 ≡ t → not t ≡ false → b ≡
 is_quote b true e h = eqb-true b 34 e
 is_quote b false e h = absurd cc
 
--- a text between two quotes, and what stands behind it
+-- a text between two quotes, and what follows it
 around : (q : ℕ) (inside more bs : List ℕ) → bs ≡ inside ++ q ∷ more → q ∷ bs ≡ (q ∷ inside ++ q ∷ []) ++ more
 around q inside more bs e = ap (λ (l : List ℕ). q ∷ l) (e ∙ sym (append_assoc inside (q ∷ []) more))
 
@@ -150,7 +150,7 @@ within q inside more bs e = let tail : bs ≡ (inside ++ q ∷ []) ++ more = cc 
 quoted_len : (q : ℕ) (inside : List ℕ) → length (q ∷ inside ++ q ∷ []) ≡ length inside + 2
 quoted_len q inside = omega (arith, length-append inside (q ∷ []))
 
--- what the first byte rules out where it is a quote
+-- what the first byte rules out if it is a quote
 not_word : (q c : ℕ) (bs cs more : List ℕ) → is_letter q ≡ false → q ∷ bs ≡ (c ∷ cs) ++ more → is_letter c ≡ true → ⊥
 not_word q c bs cs more fails e l = let is : q ≡ c = cc in let yes : is_letter q ≡ true = rw is l in absurd cc
 
@@ -184,7 +184,7 @@ no_name bs h _ _ _ more e (quoted_name {name = name} n) =
 no_name bs h _ _ _ more e (string bytes) = not_quoted 34 39 bs (doubled bytes) more refl e
 no_name bs h _ _ _ more e (sign {b = c} s) = not_sign 34 c bs more refl e s
 
--- a quoted token is the longest where its text is and no text is longer
+-- a quoted token is the longest if its text begins the bytes and no text is longer
 quoted_longest : (q : ℕ) (k : Kind) (bs inside more : List ℕ) (n : ℕ) → bs ≡ inside ++ q ∷ more → n ≡ length inside → IsTokenForm k inside (q ∷ inside ++ q ∷ []) → NoLonger (q ∷ bs) (n + 2)
     → IsLongestScan (q ∷ bs) (quoted_scan k bs (Some n))
 quoted_longest q k bs inside more n parts len form bound =
@@ -269,7 +269,7 @@ digits_front : (b : ℕ) (bs : List ℕ) → is_ascii_digit b ≡ true → IsTok
 digits_front b bs l =
     subst (λ (n : ℕ). IsTokenForm kind.Digits (take n (b ∷ bs)) (take n (b ∷ bs))) (sym (passing_len is_ascii_digit b bs l)) (digits l (front_passes is_ascii_digit bs))
 
--- what a token that begins with no letter, digit or quote is
+-- the token that begins with no letter, digit or quote
 record OnlySign (b : ℕ) (other : List ℕ) : Type 0 where
   short : length other ≤ 1
   known : kind_of_sign b ≢ kind.Stray
@@ -328,13 +328,13 @@ blank_begins_none b bs h k body front rest parts form = blank_by (eqb b 32) (eqb
     blank_by false false false true e f g i j = at 13 i refl refl refl refl refl
     blank_by false false false false e f g i j = absurd cc
 
--- ---- a text is the token of one kind, and stands for the same bytes
+-- ---- a text that is the token of one kind stands for the same bytes
 
 step_sign : (P : ℕ → Type 0) (b n : ℕ) (k others : Kind) (t : Bool) → P n → (others ≢ kind.Stray → P b) → eqb b n ≡ t → cond t k others ≢ kind.Stray → P b
 step_sign P b n k others true here next e h = subst P (sym (eqb-true b n e)) here
 step_sign P b n k others false here next e h = next h
 
--- what holds of each sign
+-- what holds for each sign
 each_sign : (P : ℕ → Type 0) → P 44 → P 46 → P 61 → P 43 → P 45 → P 42 → P 59 → (b : ℕ) → kind_of_sign b ≢ kind.Stray → P b
 each_sign P comma dot equals plus minus star semicolon b h =
     step_sign P b 44 kind.Comma _ (eqb b 44) comma (λ h1. step_sign P b 46 kind.Dot _ (eqb b 46) dot (λ h2. step_sign P b 61 kind.Equals _ (eqb b 61) equals (λ h3.

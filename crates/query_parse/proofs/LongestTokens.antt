@@ -19,12 +19,12 @@ scans_longest (b ∷ bs) = scan_longest b bs
 
 -- ---- one longest token
 
--- two fronts of one list that are as long are one
+-- two fronts of one list that are equally long are equal
 same_front : (xs ys more others : List ℕ) → xs ++ more ≡ ys ++ others → length xs ≡ length ys → xs ≡ ys
 same_front xs ys more others e len =
     sym (take_at xs more (length xs) refl) ∙ ap (take (length xs)) e ∙ take_at ys others (length xs) (sym len)
 
--- two longest tokens of the same bytes are as long
+-- two longest tokens of the same bytes are equally long
 as_long : (bytes : List ℕ) (j k : Kind) (a b front other rest more : List ℕ) → IsLongestToken bytes j a front rest → IsLongestToken bytes k b other more → length front ≡ length other
 as_long bytes j k a b front other rest more s t =
     let below : length other ≤ length front = s.longest k b other more t.parts t.form in
@@ -39,7 +39,7 @@ one_longest bytes k body front rest s t l =
     = sym (form_scans s.kind s.body l.front l.token.form) ∙ ap scan_of same ∙ form_scans k body front t.form in
     ap (λ (n : ℕ). record s { len = n }) l.len ∙ found
 
--- ---- the tokens are as they are to be
+-- ---- the tokens are as they must be
 
 by_token : (at b : ℕ) (bs : List ℕ) (n : ℕ) (s : Scan) → ((from : ℕ) (rest : List ℕ) → length rest ≤ n → AreTokens from rest (tokens_from 0 from rest)) → length bs ≤ n → is_blank b ≡ false
     → ScansLongest (b ∷ bs) s → AreTokens at (b ∷ bs) (lexeme_of at s ∷ tokens_from 0 (at + s.len) (drop s.len (b ∷ bs)))

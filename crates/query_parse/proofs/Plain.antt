@@ -1,4 +1,5 @@
--- A query that can be written: no name has a quote, and no list that the grammar wants is empty.
+-- A query that can be written: no name has a quote, and no list is empty if the grammar requires an
+-- element.
 use Rattle.std.proofs.Common.{ℕ, List, [], ◌∷◌, Option, Some, None}
 use Rattle.query_grammar.specs.declared.select.ColumnRef.{ColumnRef}
 use Rattle.query_grammar.specs.declared.select.SelectList.{SelectList}

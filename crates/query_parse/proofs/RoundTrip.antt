@@ -66,7 +66,7 @@ where_ends (e ∷ es) rest ends = record { word = refl; digits = refl; quote = r
 regrouped : (a b c d e f g : List ℕ) → (((((a ++ b) ++ c) ++ d) ++ e) ++ f) ++ g ≡ a ++ (b ++ (c ++ (d ++ (e ++ (f ++ g)))))
 regrouped a b c d e f g = simp append_assoc
 
--- a query of the text, which is s but for the offsets
+-- a query of the text, which is s except for the offsets
 record Again (s : Select) : Type 0 where
   clauses : Clauses
   is_query : IsQuery (tokens_of (text_of s)) clauses

@@ -1,4 +1,4 @@
--- The canonical text is read as the query that it is the text of.
+-- The canonical text of a query is read as that query.
 use Rattle.std.proofs.Common.{◌≡◌, ℕ, ◌+◌, List, [], ◌∷◌, ◌++◌, map, Option, Some, None, Bool, true, false, cond, refl, sym, ap, subst, ◌∙◌, append_assoc}
 use Rattle.std.specs.Prelude.{codes}
 use Rattle.std.specs.List.{flat_map}
@@ -24,7 +24,8 @@ use Rattle.query_parse.proofs.TextScan.{undoubled-doubled}
 use Rattle.query_parse.proofs.Plain.{Each, EachOfSome, PlainAlias, PlainColumn, PlainItem, PlainSide, PlainEquality, PlainTerm, PlainKey, PlainList}
 use Rattle.query_parse.proofs.Written.{Ends, HasNoQuote, after_blank, word_written, name_written, constant_written, comma_written, dot_written, equals_written, plus_written, minus_written, star_written}
 
--- The tokens of the bytes begin with such a thing, which is x as far as view sees it, and those of the rest stand behind it.
+-- The tokens of the bytes begin with this thing, which is x as `view` sees it, and those of the
+-- rest follow it.
 pub record Reads {B C : Type 0} (IsX : List Lexeme → List Lexeme → B → Type 0) (view : B → C) (x : C) (bytes rest : List ℕ) (at : ℕ) : Type 0 where
   pub value : B
   pub next : ℕ

@@ -9,7 +9,7 @@ ends_by : (x : ℕ) (t : Bool) (ds more : List ℕ) → eqb x 39 ≡ t → EndsA
 ends_by x true ds more e h = pair e e h
 ends_by x false ds more e h = plain e h
 
--- the quote behind bytes whose quotes are doubled ends a string
+-- the quote after bytes whose quotes are doubled ends a string
 pub string_ends : (text more : List ℕ) → EndsAt (doubled text ++ 39 ∷ more) (length (doubled text))
 string_ends [] more = ends refl
 string_ends (x ∷ text) more = ends_by x (eqb x 39) (doubled text) more refl (string_ends text more)

@@ -17,7 +17,7 @@ use Rattle.query_parse.proofs.NameScan.{both_true, quoted_scans}
 use Rattle.query_parse.proofs.TextScan.{NoQuote, text_scans}
 use Rattle.query_grammar.proofs.ScanLength.{letter_in_word, lexeme_of, tokens_at_token, tokens_at_blank}
 
--- The tokens of the bytes begin with one of this kind and body, and those of the rest stand behind it.
+-- The tokens of the bytes begin with one of this kind and body, and those of the rest follow it.
 pub record Written (k : Kind) (body bytes rest : List ℕ) (at : ℕ) : Type 0 where
   pub token : Lexeme
   pub next : ℕ
@@ -29,7 +29,8 @@ abbrev pub Stops : (ℕ → Bool) → List ℕ → Type 0
 Stops p [] = Unit {0}
 Stops p (c ∷ _) = p c ≡ false
 
--- What may stand behind any token of the text: nothing, a blank, a comma or a dot, all of which end each token.
+-- What may follow any token of the text: nothing, a blank, a comma or a dot. Each of them ends each
+-- token.
 pub record Ends (rest : List ℕ) : Type 0 where
   pub word : Stops is_word_byte rest
   pub digits : Stops is_ascii_digit rest
@@ -43,7 +44,7 @@ scanned b bs rest k body n blank scan left at =
     tokens_at_token at b bs blank ∙ ap (λ (s : Scan). lexeme_of at s ∷ tokens_from 0 (at + s.len) (drop s.len (b ∷ bs))) scan ∙ ap (λ (l : List ℕ). t ∷ tokens_from 0 (at + n) l) left in
     record { token = t; next = at + n; body_is = refl; found = subst (λ (ts : List Lexeme). One k ts (tokens_from 0 (at + n) rest) t) (sym tokens) (one refl) }
 
--- the same behind a blank
+-- the same after a blank
 pub after_blank : {k : Kind} {body bytes rest : List ℕ} → ((at : ℕ) → Written k body bytes rest at) → (at : ℕ) → Written k body (32 ∷ bytes) rest at
 after_blank {k} {body} {bytes} {rest} w at =
     let t = w (at + 1) in

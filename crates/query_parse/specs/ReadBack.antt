@@ -4,7 +4,7 @@ use Rattle.query_grammar.specs.declared.select.Select.{Select}
 use Rattle.query_grammar.specs.Parse.{IsParsed}
 use Rattle.query_grammar.specs.Same.{AreOne}
 
--- the bytes are a query, and it is this one but for its offsets
+-- the bytes are a query, and it is this one except for its offsets
 pub record ReadsBack (bytes : List ℕ) (select : Select) : Type 0 where
   pub other : Select
   pub read : IsParsed bytes other

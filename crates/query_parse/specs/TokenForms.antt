@@ -20,7 +20,7 @@ pub data IsTokenForm : Kind → List ℕ → List ℕ → Type 0 where
 abbrev pub NoToken : List ℕ → Type 0
 NoToken bytes = (k : Kind) (body front rest : List ℕ) → bytes ≡ front ++ rest → IsTokenForm k body front → ⊥
 
--- the bytes begin with this text of such a token, and with no longer one of any token
+-- the bytes begin with this text of this token, and with no longer text of any token
 pub record IsLongestToken (bytes : List ℕ) (k : Kind) (body front rest : List ℕ) : Type 0 where
   pub parts : bytes ≡ front ++ rest
   pub form : IsTokenForm k body front
@@ -33,11 +33,11 @@ pub record IsLongestScan (bytes : List ℕ) (s : Scan) : Type 0 where
   pub token : IsLongestToken bytes s.kind s.body front rest
   pub len : s.len ≡ length front
 
--- a scan of the longest token, or of a stray byte where no token begins
+-- a scan of the longest token, or of a stray byte if no token begins
 abbrev pub ScansLongest : List ℕ → Scan → Type 0
 ScansLongest bytes s = (NoToken bytes × (s ≡ stray)) ⊎ IsLongestScan bytes s
 
--- the tokens of the bytes, from this offset on
+-- the tokens of the bytes, from this offset
 pub data AreTokens : ℕ → List ℕ → List Lexeme → Type 0 where
   no_more : {at : ℕ} → AreTokens at [] []
   after_blank : {at b : ℕ} {bs : List ℕ} {tokens : List Lexeme} → IsTrue (is_blank b) → AreTokens (at + 1) bs tokens → AreTokens at (b ∷ bs) tokens

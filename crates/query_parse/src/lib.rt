@@ -1,6 +1,6 @@
-//! The query language: `parse` reads a query, `text` writes it in one form, and the laws say that tokens are the longest forms
-//! that begin at their places. What other crates need of the language, the grammar and what a query says, stands in
-//! `query_grammar`, so that they do not wait for the rest.
+//! The query language: `parse` reads a query, `text` writes it in one form, and the laws say that
+//! tokens are the longest forms that begin at their places. The grammar and the parts of a query
+//! are in `query_grammar`, so that crates which need only these do not wait for the rest.
 #![tactic(auto)]
 
 mod laws;

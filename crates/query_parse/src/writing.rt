@@ -222,12 +222,14 @@ fn write_select(alloc: Global, select: &Select) -> Result<Vec<u8>, AllocError>
     Ok(text)
 }
 
-/// The canonical text of a query: keywords in lower case, one space between tokens but none round `.` or before `,`,
-/// names bare where they can be, each item with its alias, all equalities in the where list, constants as strings,
-/// `desc` and no `asc`, and neither `;` nor a line end.
+/// The canonical text of a query. Keywords are in lower case. There is one space between tokens,
+/// except around `.` and before `,`. Names are bare if that is possible. Each item has its alias,
+/// all equalities are in the where list, and constants are strings. There is `desc` but no `asc`,
+/// and there is no `;` and no line end. `NoMemory` if memory is refused.
 pub fn text(alloc: Global, select: &Select) -> Result<Vec<u8>, NoMemory>
     ensures text { IfOk result (λ v. v.items ≡ text_of select.now) }
-    // Where the query was read from some bytes, the text is read as that query again, if it is not too long.
+    // If the query was read from some bytes, the text is read as that query again, unless it is too
+    // long.
     ensures reads_back { IfOk result (λ v. (bytes : List ℕ) → IsParsed bytes select.now → length v.items ≤ 65536 → ReadsBack v.items select.now) }
 {
     let text = write_select(alloc, select)?;

@@ -5,7 +5,8 @@ use Rattle.hyper_graph.specs.Ears.{Covers, IsEar, CoversFirst}
 use Rattle.hyper_graph.specs.Graph.{Hypergraph, HasVar, IsIn}
 use Rattle.join_tree.specs.Removal.{IsLive, IsStep, IsRun}
 
--- what has a variable on one side has it on the other, and what lives on one side lives on the other
+-- a variable of one side is a variable of the other, and what is left on one side is left on the
+-- other
 pub record Within (Has Other : ℕ → ℕ → Type 0) (Live Left : ℕ → Type 0) : Type 0 where
   pub has : (v a : ℕ) → Has v a → Other v a
   pub back : (v a : ℕ) → Other v a → Has v a
@@ -83,12 +84,12 @@ module _ (one two : Hypergraph) (p o q r : List ℕ) (m n c d : ℕ) (atoms : on
     | inr (inr l) ↦ absurd (omega arith)
   ]
 
-  -- the same ears, each below the same atom, as long as both go on
+  -- the same ears, each below the same atom, as long as both removals go on
   pub runs_same : (k : ℕ) → k ≤ m → k ≤ n → Same k
   runs_same zero lm ln = λ j below. absurd (omega arith)
   runs_same (suc k) lm ln = extended k (runs_same k (omega arith) (omega arith)) (omega arith) (omega arith)
 
-  -- both stop after as many, where neither leaves an ear
+  -- both stop after the same number of ears, if neither leaves an ear
   pub ends_same : ((e : ℕ) → IsEar (HasVar one) (IsIn c) e → ⊥) → ((e : ℕ) → IsEar (HasVar two) (IsIn d) e → ⊥) → m ≡ n
   ends_same stuck halted = elim (cases_order m n) [
     | inl same ↦ same

@@ -1,4 +1,4 @@
--- The items of a core ascend, and they are its atoms with their numbers from 1 on.
+-- The items of a core ascend, and they are its atoms with their numbers from 1.
 use Rattle.std.proofs.Common.{◌≡◌, ◌↔◌, ◌+◌, ◌<◌, ◌≤◌, ◌^◌, ℕ, zero, suc, List, [], ◌∷◌, map, filter, subst, inl, inr, arith}
 use Rattle.std.specs.List.{range_with_len}
 use Rattle.std.proofs.lemmas.Bool.{cases_lt}

@@ -8,21 +8,22 @@ use Rattle.query_bind.specs.Parts.{sum_of_all}
 use Rattle.query_grammar.specs.Text.{name_text_of}
 use Rattle.query_shape.specs.Shape.{Shape}
 
--- nodes count from 1, and the first has the parent 0
+-- nodes count from 1, and the parent of the first is 0
 abbrev pub parent_number : Shape → ℕ → ℕ
 parent_number shape node = if node == 0 then 0 else slice_index shape.parents node + 1
 
--- a line of these numbers, and of a name as the canonical text writes it
+-- a line with these numbers, and with a name as the canonical text writes it
 abbrev pub node_text : ℕ → ℕ → ℕ → List ℕ → List ℕ
 node_text number parent rows name =
     codes "node " ++ (decimal number ++ (codes " parent " ++ (decimal parent ++ (codes " rows " ++ (decimal rows ++ (codes " item " ++ (name ++ codes "\n")))))))
 
--- the line of a node: its number, its parent's, how many rows it has, and its item's alias
+-- the line of a node: its number, its parent's number, the number of its rows, and its item's alias
 abbrev pub node_line : Query → Shape → ℕ → List ℕ
 node_line query shape node =
     node_text (node + 1) (parent_number shape node) (slice_index shape.node_rows node) (name_text_of (item_at query.items (slice_index shape.atoms node)).alias)
 
--- the rows of the tables of all items, a table once for each item, and the rows of all nodes
+-- the number of rows of the tables of all items, a table counted once for each item, and of all
+-- nodes
 abbrev pub total_rows : Query → List Table → Shape → ℕ
 total_rows query tables shape = sum_of_all (row_counts query.items tables) + sum_of_all shape.node_rows
 

@@ -1,4 +1,5 @@
--- The join tree of a query, and its node rows. Relations, since the classes of columns are given by a closure and not computed.
+-- The join tree of a query, and its node rows. These are relations, since the classes of columns
+-- are given by a closure and not computed.
 use Rattle.std.specs.Prelude.{◌≡◌, ◌↔◌, ℕ, ◌+◌, ◌<◌, ◌≤◌, List, length, slice_index, Result, Ok, Err}
 use Rattle.hyper_graph.specs.Graph.{Hypergraph, IsIn}
 use Rattle.hyper_graph.specs.JoinTrees.{IsJoinTree, HasJoinTree}
@@ -10,16 +11,16 @@ use Rattle.query_bind.specs.Classes.{Passes}
 use Rattle.query_bind.specs.Graph.{IsGraphOf}
 use Rattle.query_bind.specs.Parts.{sum_of_all}
 
--- why a query has no shape: its core, as items from 1 on, or its node rows
+-- why a query has no shape: its core, as items from 1, or too many node rows
 pub data Flaw : Type 0 where
   cyclic : List ℕ → Flaw
   too_many_rows : Flaw
 
--- an atom with its number from 1 on
+-- an atom of the core, with its number from 1
 abbrev pub IsInCore : ℕ → ℕ → Type 0
 IsInCore core item = (a : ℕ) × (item ≡ 1 + a) × IsIn core a
 
--- no join tree exists, and these items are left when no ear is left, in ascending order
+-- no join tree exists, and these items, in ascending order, are left when there is no ear any more
 pub record IsCyclic (query : Query) (items : List ℕ) : Type 0 where
   pub graph : Hypergraph
   pub of_query : IsGraphOf query graph
@@ -50,7 +51,7 @@ pub record Shape : Type 0 where
   pub parents : List ℕ
   pub node_rows : List ℕ
 
--- these many rows of an item pass
+-- this many rows of an item pass
 pub record HasNodeRows (query : Query) (tables : List Table) (item count : ℕ) : Type 0 where
   pub rows : List ℕ
   pub ascending : IsAscending (λ a b. a < b) rows
@@ -63,11 +64,11 @@ pub record HasShape (query : Query) (tables : List Table) (shape : Shape) : Type
   pub counts : length shape.node_rows ≡ length shape.atoms
   pub rows : (k : ℕ) → k < length shape.atoms → HasNodeRows query tables (slice_index shape.atoms k) (slice_index shape.node_rows k)
 
--- the most node rows, all nodes together
+-- the greatest number of node rows, of all nodes together
 abbrev pub most_node_rows : ℕ
 most_node_rows = 4194304
 
--- the shape; or no join tree exists; or there are too many node rows
+-- the shape, or no join tree exists, or there are too many node rows
 abbrev pub IsShape : Query → List Table → Result Shape Flaw → Type 0
 IsShape query tables (Ok shape) = HasShape query tables shape × (sum_of_all shape.node_rows ≤ most_node_rows)
 IsShape query tables (Err (cyclic items)) = IsCyclic query items

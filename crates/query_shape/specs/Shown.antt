@@ -1,4 +1,4 @@
--- What a stored join tree and a fault show.
+-- What contracts see of a stored join tree and of a fault.
 use Rattle.std.specs.Prelude.{ℕ, ◌<◌, List, slice_index, take}
 use Rattle.anyk_model.specs.Query.{Query}
 use Rattle.join_tree.specs.declared.tree.JoinTree.{JoinTree}
@@ -11,11 +11,12 @@ use Rattle.query_shape.specs.declared.fault.ShapeFault.TheVariants as fault
 abbrev pub HasStoredTree : Query → JoinTree → Type 0
 HasStoredTree query tree = HasTree query (take tree.count tree.atom) (take tree.count tree.parent)
 
--- the fault of a tree that may be answered: memory ran out, or no join tree exists, and these items are left
+-- the fault of a tree that may be returned: memory ran out, or no join tree exists, and these items
+-- are left
 abbrev pub TellsCycle : Query → ShapeFault → Type 0
 TellsCycle query fault.NoMemory = Unit {0}
 TellsCycle query (fault.Cyclic core) = IsCyclic query (items_of core)
 
--- each of the first n nodes has its item among so many
+-- the item of each of the first n nodes is less than the third argument
 abbrev pub HasItems : ℕ → List ℕ → ℕ → Type 0
 HasItems n atoms items = (k : ℕ) → k < n → slice_index atoms k < items

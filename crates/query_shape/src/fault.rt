@@ -2,10 +2,11 @@
 
 use step_counter::NoMemory;
 
-/// Why a query has no join tree.
+/// The error of finding a query's join tree.
 #[derive(Clone, Copy, Debug, PartialEq, Eq)]
 pub enum ShapeFault {
-    /// No join tree exists. The items that are left when no ear is left, as bits: item 1 is the lowest.
+    /// No join tree exists. The items that are left when there is no ear any more, as bits: item 1
+    /// is the lowest.
     Cyclic(u16),
     /// Memory was refused.
     NoMemory,

@@ -9,8 +9,8 @@ use crate::fault::ShapeFault;
 use join_tree::{JoinTree, ears, tree_of};
 use query_bind::Query;
 
-/// The join tree of a query by ear removal: its atoms are the items, from 0 on. The query is cyclic exactly if there is none. The
-/// other error is that memory is refused.
+/// The join tree of a query, by ear removal. Its atoms are the items, from 0. `Cyclic` exactly if
+/// there is none, and `NoMemory` if memory is refused.
 pub fn tree_shape(query: &Query) -> Result<JoinTree, ShapeFault>
     requires fits { (tables : List Table) × Fits query.now tables }
     ensures tree { IfOk result (λ tree. HasStoredTree query.now.query tree) }

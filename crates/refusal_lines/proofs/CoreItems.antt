@@ -1,4 +1,4 @@
--- The items of a core, sent one after the other.
+-- The items of a core, sent one after another.
 use Rattle.std.proofs.Common.{◌≡◌, ◌+◌, ◌<◌, ◌≤◌, ℕ, Bool, true, false, cond, if◌then◌else◌, List, [], ◌∷◌, ◌++◌, Option, Ok, Err, map, filter, flat_map, take, get_or, codes, decimal, refl, sym, ap, ◌∙◌, subst, append-nil, arith}
 use Rattle.std.specs.Io.KnownBytes.{Appends}
 use Rattle.std.specs.List.{range_with_len}
@@ -12,7 +12,7 @@ use Rattle.refusal_lines.specs.Core.{item_text}
 use Rattle.refusal_lines.specs.Sent.{Sent}
 use Rattle.refusal_lines.proofs.Pieces.{Sent-cut}
 
--- what one place adds, where it is kept or left out
+-- what one place adds, whether it is kept or left out
 place-text : (b : Bool) (place : ℕ) (places : List ℕ)
     → (if b then codes " " ++ decimal (place + 1) else []) ++ spaced (map (λ p. p + 1) places) ≡ spaced (map (λ p. p + 1) (cond b (place ∷ places) places))
 place-text true place places = refl
@@ -40,7 +40,7 @@ range-first : (n k : ℕ) → k ≤ n → take k (range_with_len 0 n) ≡ range_
 range-first n k few =
     ap (take k) (sym (same-list (range_with_len 0 n))) ∙ take-map-range_with_len (λ x. x) 0 n k few ∙ same-list (range_with_len 0 k)
 
--- one place more was sent
+-- one more place was sent
 pub places-more : (core place : ℕ) (a b c : Option (List ℕ)) → Appends a b (flat_map (item_text core) (range_with_len 0 place)) → Appends b c (item_text core place)
     → Appends a c (flat_map (item_text core) (range_with_len 0 (place + 1)))
 places-more core place a b c before here =

@@ -6,7 +6,7 @@ use Rattle.std.proofs.lemmas.Grind.{flat_map-append}
 use Rattle.refusal_lines.specs.Sent.{Sent}
 use Rattle.refusal_lines.proofs.Sending.{Sent-then, Sent-stopped}
 
--- the texts of the elements before one, its own, and those of the elements behind it
+-- the texts of the elements before one, its own text, and those of the elements after it
 split_at_piece : {X : Type 0} (f : X → List ℕ) (xs : List X) (i : ℕ) (x : X) → i < length xs
     → flat_map f xs ≡ flat_map f (take i xs) ++ f (get_or xs i x) ++ flat_map f (drop (i + 1) xs)
 split_at_piece f xs i x h =

@@ -28,7 +28,7 @@ unwritten old new before now n bytes part cause later = record {
   later = later;
 }
 
--- want of memory before anything was printed
+-- memory ran out before anything was printed
 pub unprinted : (x : Option (List ℕ)) (n : ℕ) (text : List ℕ) → Printed x x n n text (Err refusal.NoMemory)
 unprinted x n text = record { whole = tt; prefix = ([], appends-nothing x, (text, refl)); cause = tt; later = omega arith }
 

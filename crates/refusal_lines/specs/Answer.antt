@@ -1,4 +1,5 @@
--- The answers of the program but success, each with its status and its line. Items, keys, columns, rows and lines count from 1.
+-- The answers of the program except success, each with its status and its line. Items, keys,
+-- columns, rows and lines count from 1.
 use Rattle.std.specs.Prelude.{ℕ, List, ◌++◌, codes, decimal}
 use Rattle.std.specs.List.{flat_map}
 
@@ -82,7 +83,7 @@ on_byte at what = codes "byte " ++ (decimal at ++ (codes ": " ++ what))
 abbrev pub on_line : ℕ → List ℕ → List ℕ
 on_line line what = codes "script line " ++ (decimal line ++ (codes ": " ++ what))
 
--- the text between `anyk: ` and the line's end
+-- the text between `anyk: ` and the end of the line
 abbrev pub text_of : Answer → List ℕ
 text_of Usage = codes "usage"
 text_of (Syntax at) = codes "syntax error at byte " ++ decimal at

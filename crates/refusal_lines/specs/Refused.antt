@@ -4,7 +4,7 @@ use Rattle.refusal_lines.specs.declared.refusal.Refusal.TheVariants as refusal
 use Rattle.refusal_lines.specs.Answer.{Answer, Usage, Syntax, BadLine, UnknownCursor, CursorExists, UnknownTable, DuplicateAlias, UnknownAlias, UnknownColumn, Ambiguous, NoHeader, DuplicateName, Ragged, BadWeight, Cyclic, RankRange, TooLong, TooManyItems, TooManyKeys, LimitRange, TooLarge, TooManyColumns, TooManyTableRows, TooManyNodeRows, TooManyLines, TooManyOpen, NoFile, ReadFault, WriteFault, NoMemory}
 use Rattle.hyper_graph.specs.Items.{items_of}
 
--- the answer that a refusal gives
+-- the answer of a refusal
 abbrev pub answer_of : Refusal → Answer
 answer_of refusal.Usage = Usage
 answer_of (refusal.Syntax at) = Syntax at

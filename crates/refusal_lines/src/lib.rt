@@ -1,4 +1,5 @@
-//! The program's refusals: the exit status of each, and its line on the error output, written without memory.
+//! The program's refusals: the exit status of each, and its line on standard error, which is
+//! written without taking memory.
 #![tactic(auto)]
 
 mod line;

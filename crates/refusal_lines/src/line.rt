@@ -1,4 +1,4 @@
-//! The line that tells why a run ended.
+//! The line that says why a run ended.
 ghost use Rattle.std.specs.Prelude.{◌≡◌, ◌<◌, ◌+◌, ◌++◌, codes, decimal};
 ghost use Rattle.refusal_lines.specs.Answer.{BadWeight, DuplicateName, RankRange, Ragged, line_of, on_byte, on_file, on_line, on_table, spaced, text_of};
 ghost use Rattle.hyper_graph.specs.Graph.{is_in};
@@ -11,7 +11,8 @@ use crate::piece::{Piece, write_pieces, write_text};
 use crate::refusal::Refusal;
 use outer_io::{Sink, Unwritten};
 
-/// Writes the line that tells the refusal, with its line feed, as far as the sink takes it. It takes no memory.
+/// Writes the line of the refusal, with its line feed, as far as the sink takes it. It takes no
+/// memory. The error says that the sink did not take all of it.
 pub fn write_line<E: Sink>(err: &mut E, refusal: Refusal<'_>) -> Result<(), Unwritten>
     ensures { Sent (E.written err.old) (E.written err.new) (E.faults err.old) (E.faults err.new) (line_of (answer_of refusal.entry)) result }
 {
@@ -20,7 +21,7 @@ pub fn write_line<E: Sink>(err: &mut E, refusal: Refusal<'_>) -> Result<(), Unwr
     write_text(err, b"\n")
 }
 
-/// What the line tells.
+/// Writes the reason, without `anyk: ` and without the line feed.
 fn write_reason<E: Sink>(err: &mut E, refusal: Refusal<'_>) -> Result<(), Unwritten>
     ensures { Sent (E.written err.old) (E.written err.new) (E.faults err.old) (E.faults err.new) (text_of (answer_of refusal.entry)) result }
 {
@@ -58,7 +59,7 @@ fn write_reason<E: Sink>(err: &mut E, refusal: Refusal<'_>) -> Result<(), Unwrit
     }
 }
 
-/// A text with a number in it.
+/// Writes a text with a number in it.
 fn write_numbered<'a, E: Sink>(
     err: &mut E,
     before: &'a [u8],
@@ -75,7 +76,7 @@ fn write_numbered<'a, E: Sink>(
     write_pieces(err, &pieces)
 }
 
-/// What the line tells of an offset into the query.
+/// Writes a reason at a byte of the query.
 fn write_on_byte<'a, E: Sink>(err: &mut E, at: u32, what: &'a [u8]) -> Result<(), Unwritten>
     ensures { Sent (E.written err.old) (E.written err.new) (E.faults err.old) (E.faults err.new) (on_byte at what.now) result }
 {
@@ -88,7 +89,7 @@ fn write_on_byte<'a, E: Sink>(err: &mut E, at: u32, what: &'a [u8]) -> Result<()
     write_pieces(err, &pieces)
 }
 
-/// What the line tells of a line of the script.
+/// Writes a reason at a line of the script.
 fn write_on_line<'a, E: Sink>(err: &mut E, line: u32, what: &'a [u8]) -> Result<(), Unwritten>
     ensures { Sent (E.written err.old) (E.written err.new) (E.faults err.old) (E.faults err.new) (on_line line what.now) result }
 {
@@ -101,7 +102,7 @@ fn write_on_line<'a, E: Sink>(err: &mut E, line: u32, what: &'a [u8]) -> Result<
     write_pieces(err, &pieces)
 }
 
-/// What the line tells of a table.
+/// Writes a reason about a table.
 fn write_on_table<'a, E: Sink>(
     err: &mut E,
     table: &'a [u8],
@@ -118,7 +119,7 @@ fn write_on_table<'a, E: Sink>(
     write_pieces(err, &pieces)
 }
 
-/// What the line tells of a file.
+/// Writes a reason about a file.
 fn write_on_file<'a, E: Sink>(err: &mut E, file: &'a str, what: &'a [u8]) -> Result<(), Unwritten>
     ensures { Sent (E.written err.old) (E.written err.new) (E.faults err.old) (E.faults err.new) (on_file file.now what.now) result }
 {
@@ -130,7 +131,7 @@ fn write_on_file<'a, E: Sink>(err: &mut E, file: &'a str, what: &'a [u8]) -> Res
     write_pieces(err, &pieces)
 }
 
-/// What the line tells of a column that has the name of an earlier one.
+/// Writes that a column has the same name as an earlier one.
 fn write_duplicate_name<E: Sink>(err: &mut E, table: &[u8], column: u32) -> Result<(), Unwritten>
     ensures { Sent (E.written err.old) (E.written err.new) (E.faults err.old) (E.faults err.new) (text_of (DuplicateName table.now column)) result }
 {
@@ -144,7 +145,7 @@ fn write_duplicate_name<E: Sink>(err: &mut E, table: &[u8], column: u32) -> Resu
     write_pieces(err, &pieces)
 }
 
-/// What the line tells of a row with another number of fields than the header.
+/// Writes that a row has more or fewer fields than the header.
 fn write_ragged<E: Sink>(err: &mut E, table: &[u8], row: u32) -> Result<(), Unwritten>
     ensures { Sent (E.written err.old) (E.written err.new) (E.faults err.old) (E.faults err.new) (text_of (Ragged table.now row)) result }
 {
@@ -158,14 +159,14 @@ fn write_ragged<E: Sink>(err: &mut E, table: &[u8], row: u32) -> Result<(), Unwr
     write_pieces(err, &pieces)
 }
 
-/// What the line tells of an order key whose sums may be too great.
+/// Writes that the sums of an order key may be too great.
 fn write_rank_range<E: Sink>(err: &mut E, key: u32) -> Result<(), Unwritten>
     ensures { Sent (E.written err.old) (E.written err.new) (E.faults err.old) (E.faults err.new) (text_of (RankRange key)) result }
 {
     write_numbered(err, b"order key ", key, b": rank may pass 128 bits")
 }
 
-/// What the line tells of a field that is no weight.
+/// Writes that a field of an order column is not a weight.
 fn write_bad_weight<E: Sink>(err: &mut E, item: u32, row: u32, column: u32) -> Result<(), Unwritten>
     ensures { Sent (E.written err.old) (E.written err.new) (E.faults err.old) (E.faults err.new)
         (text_of (BadWeight item row column)) result }
@@ -182,7 +183,7 @@ fn write_bad_weight<E: Sink>(err: &mut E, item: u32, row: u32, column: u32) -> R
     write_pieces(err, &pieces)
 }
 
-/// What the line tells of a cyclic query.
+/// Writes that the query is cyclic, with its core.
 fn write_cyclic<E: Sink>(err: &mut E, core: u16) -> Result<(), Unwritten>
     ensures { Sent (E.written err.old) (E.written err.new) (E.faults err.old) (E.faults err.new) (codes "cyclic query: items" ++ spaced (items_of core)) result }
 {
@@ -190,7 +191,7 @@ fn write_cyclic<E: Sink>(err: &mut E, core: u16) -> Result<(), Unwritten>
     write_items(err, core)
 }
 
-/// The items of a core, each with a space before it.
+/// Writes the items of a core, each with a space before it.
 fn write_items<E: Sink>(err: &mut E, core: u16) -> Result<(), Unwritten>
     ensures { Sent (E.written err.old) (E.written err.new) (E.faults err.old) (E.faults err.new) (spaced (items_of core)) result }
 {
@@ -200,7 +201,7 @@ fn write_items<E: Sink>(err: &mut E, core: u16) -> Result<(), Unwritten>
     Ok(())
 }
 
-/// The item with this number from 0, if the core has it.
+/// Writes the item with this number, from 0, if it is in the core.
 fn write_item<E: Sink>(err: &mut E, core: u16, place: u32) -> Result<(), Unwritten>
     requires { place < 16 }
     ensures { Sent (E.written err.old) (E.written err.new) (E.faults err.old) (E.faults err.new) (item_text core place) result }

@@ -9,12 +9,13 @@ use outer_io::{Sink, Unwritten, write_all};
 /// A part of a text.
 #[derive(Clone, Copy, Drop)]
 pub(crate) enum Piece<'a> {
+    /// These bytes.
     Text(&'a [u8]),
     /// A number in decimal.
     Number(u32),
 }
 
-/// The pieces, one after the other, as far as the sink takes them.
+/// Writes the pieces, one after another, as far as the sink takes them.
 pub(crate) fn write_pieces<E: Sink>(err: &mut E, pieces: &[Piece<'_>]) -> Result<(), Unwritten>
     ensures { Sent (E.written err.old) (E.written err.new) (E.faults err.old) (E.faults err.new) (text_of_pieces pieces.now) result }
 {
@@ -24,7 +25,7 @@ pub(crate) fn write_pieces<E: Sink>(err: &mut E, pieces: &[Piece<'_>]) -> Result
     Ok(())
 }
 
-/// One piece.
+/// Writes one piece.
 fn write_piece<E: Sink>(err: &mut E, piece: Piece<'_>) -> Result<(), Unwritten>
     ensures { Sent (E.written err.old) (E.written err.new) (E.faults err.old) (E.faults err.new) (text_of_piece piece.entry) result }
 {
@@ -38,7 +39,7 @@ fn write_piece<E: Sink>(err: &mut E, piece: Piece<'_>) -> Result<(), Unwritten>
     }
 }
 
-/// One text.
+/// Writes one text.
 pub(crate) fn write_text<E: Sink>(err: &mut E, text: &[u8]) -> Result<(), Unwritten>
     ensures { Sent (E.written err.old) (E.written err.new) (E.faults err.old) (E.faults err.new) text.now result }
 {

@@ -1,10 +1,10 @@
-//! A text by one write, whose failure is a refusal.
+//! Printing a text by one write, where a failure is a refusal.
 ghost use Rattle.refusal_lines.specs.Printed.{Printed};
 
 use crate::refusal::Refusal;
 use outer_io::{Sink, write_all};
 
-/// Prints a text by one write. `WriteFault` if the write failed.
+/// Prints a text by one write. `WriteFault` if the write failed. It takes no memory.
 pub fn print<'a, S: Sink>(out: &mut S, text: &[u8]) -> Result<(), Refusal<'a>>
     ensures { Printed (S.written out.old) (S.written out.new) (S.faults out.old) (S.faults out.new) text.now result }
 {

@@ -3,41 +3,42 @@ ghost use Rattle.std.specs.Prelude.{◌≡◌};
 ghost use Rattle.refusal_lines.specs.Answer.{status_of};
 ghost use Rattle.refusal_lines.specs.Refused.{answer_of};
 
-/// Why a run ended before its output was complete. Items, keys, columns, rows and script lines count from 1, and an offset is
-/// that of a byte of the query, from 0. Tables and files are named as in the words.
+/// Why a run ended before its output was complete. Items, keys, columns, rows and script lines
+/// count from 1. An offset is that of a byte of the query, from 0. Tables and files have the names
+/// that the command line gives them.
 #[derive(Clone, Copy, Drop)]
 pub enum Refusal<'a> {
-    /// The words are no command.
+    /// The arguments are not a command.
     Usage,
-    /// The query is none of the grammar: the offset of the first token that does not fit.
+    /// The query is not in the grammar. The offset is that of the first token that does not fit.
     Syntax(u32),
-    /// The script's line is none.
+    /// This line of the script is not a step.
     BadLine(u32),
-    /// The script's line names a cursor that is not open.
+    /// This line of the script names a cursor that is not open.
     UnknownCursor(u32),
-    /// The script's line opens a cursor that is open.
+    /// This line of the script opens a cursor that is already open.
     CursorExists(u32),
-    /// No word gives a file for the table at this offset.
+    /// The command line gives no file for the table at this offset.
     UnknownTable(u32),
-    /// The item has the alias of an earlier one.
+    /// The item has the same alias as an earlier one.
     DuplicateAlias(u32),
     /// No item has the alias of the column at this offset.
     UnknownAlias(u32),
-    /// The column at this offset is not there.
+    /// There is no column as named at this offset.
     UnknownColumn(u32),
-    /// The column at this offset stands in several items.
+    /// The column at this offset is in several items.
     Ambiguous(u32),
     /// The table's file has no record.
     NoHeader(&'a [u8]),
-    /// The column has the name of an earlier one.
+    /// The column has the same name as an earlier one.
     DuplicateName { table: &'a [u8], column: u32 },
-    /// The row has another number of fields than the header.
+    /// The row has more or fewer fields than the header.
     Ragged { table: &'a [u8], row: u32 },
-    /// A field of an order column is no weight.
+    /// A field of an order column is not a weight.
     BadWeight { item: u32, row: u32, column: u32 },
-    /// The query is cyclic. The core's items are bits, and bit 0 stands for item 1.
+    /// The query is cyclic. The items of its core are bits, and bit 0 is item 1.
     Cyclic(u16),
-    /// The greatest weights of the order key have too great a sum.
+    /// The sum of the greatest weights of this order key is too great.
     RankRange(u32),
     /// The query has too many bytes.
     TooLong,
@@ -45,7 +46,7 @@ pub enum Refusal<'a> {
     TooManyItems,
     /// The query has too many order keys.
     TooManyKeys,
-    /// The number of the limit, at this offset, is too great.
+    /// The number of the limit at this offset is too great.
     LimitRange(u32),
     /// The file has too many bytes.
     TooLarge(&'a str),
@@ -57,20 +58,20 @@ pub enum Refusal<'a> {
     TooManyNodeRows,
     /// The script has too many lines.
     TooManyLines,
-    /// The script's line opens one cursor too many.
+    /// This line of the script opens one cursor too many.
     TooManyOpen(u32),
     /// There is no file of this name.
     NoFile(&'a str),
-    /// The file of this name was not read.
+    /// The file of this name could not be read.
     ReadFault(&'a str),
-    /// The output was not written.
+    /// The output could not be written.
     WriteFault,
     /// Memory was refused.
     NoMemory,
 }
 
 impl<'a> Refusal<'a> {
-    /// The exit status.
+    /// The exit status of the program after this refusal.
     pub fn status(self) -> u8
         ensures { result ≡ status_of (answer_of self.entry) }
     {

@@ -42,7 +42,7 @@ calls-more (Some n) list i within low = by (nat_le n (length list)) refl
     by true e = let long = length-take-le n list (leb-true n (length list) e) in omega (arith, long, low)
     by false e = let long = ap length (take_all n list (let past = leb-false n (length list) e in omega (arith, past))) in omega (arith, long, within)
 
--- ---- texts at the front
+-- ---- texts at the front of a text
 
 whole-one : (line : List ℕ) (lines : List (List ℕ)) (part rest : List ℕ) (n : ℕ) → part ≡ line ++ rest → n ≤ whole_lines lines rest
     → suc n ≤ whole_lines (line ∷ lines) part
@@ -53,7 +53,7 @@ whole-one line lines part rest n is h =
     let left : drop (length line) part ≡ rest = ap (drop (length line)) is ∙ drop-append_seam line rest in
     rw (fits, left) (omega (arith, h))
 
--- what begins with the texts of n members has so many whole texts
+-- a text that begins with the texts of n members has that many whole texts
 pub whole-front : {A : Type 0} (f : A → List ℕ) (xs : List A) (n : ℕ) (extra : List ℕ) → n ≤ length xs
     → n ≤ whole_lines (map f xs) (flat_map f (take n xs) ++ extra)
 whole-front f xs zero extra within = omega arith
@@ -65,7 +65,7 @@ whole-front f (x ∷ xs) (suc n) extra within =
 -- ---- the two together
 
 module _ {A : Type 0} (f : A → List ℕ) (list : List A) (limit : Option ℕ) (i : ℕ) (within : i ≤ length list) (low : IfSome limit (λ n. i ≤ n)) where
-  -- the first members are among those that the limit leaves
+  -- the first members are among those within the limit
   among : (take i (cut limit list) ≡ take i list) × (i ≤ length (cut limit list))
   among = by limit low
     where
@@ -77,7 +77,8 @@ module _ {A : Type 0} (f : A → List ℕ) (list : List A) (limit : Option ℕ) 
           long (inl inside) = let h = length-take-le n list (omega (arith, inside)) in omega (arith, h, low)
           long (inr past) = let h = ap length (take_all n list past) in omega (arith, h, within)
 
-  -- where the first i texts were written, and nothing or a part of the next, after i or i + 1 calls
+  -- if the first i texts were written, and nothing or a part of the next one, after i or i + 1
+  -- calls
   pub paced : (share : ℕ → ℕ) → ((c d : ℕ) → c ≤ d → share c ≤ share d) → (k before now : ℕ) → k ≤ i + 1 → k ≤ calls_for limit list
       → now ≤ before + steps_for share k → (old mid new : Option (List ℕ)) (extra : List ℕ) → Appends old mid (flat_map f (take i list)) → Appends mid new extra
       → Paced share (map f (cut limit list)) (calls_for limit list) old new before now
@@ -101,7 +102,7 @@ module _ {A : Type 0} (f : A → List ℕ) (list : List A) (limit : Option ℕ) 
           subst (λ (o : Option (List ℕ)). Appends (Some start) o bytes) is_new (subst (λ (o : Option (List ℕ)). Appends o new bytes) is_old all) in
           given
 
--- a text before them that was written whole, and calls only behind it
+-- a text before them that was written whole, and calls only after it
 pub paced-after : (share : ℕ → ℕ) (lines : List (List ℕ)) (most : ℕ) (old mid new : Option (List ℕ)) (before now : ℕ) (head rest : List ℕ) → Appends old mid head
     → Appends mid new rest → Paced share lines most mid new before now → (start part : List ℕ) → old ≡ Some start → new ≡ Some (start ++ part)
     → now ≤ before + steps_for share (whole_lines lines (drop (length head) part) + 1)

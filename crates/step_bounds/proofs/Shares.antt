@@ -5,7 +5,7 @@ use Rattle.rank_key.specs.Bits.{bit_length}
 use Rattle.rank_key.proofs.BitLemmas.{bit_length-rises}
 use Rattle.step_bounds.specs.Steps.{cost, steps_for}
 
--- at suc k items: d is the number of binary digits
+-- at suc k items, where d is the number of binary digits
 add-up : (k b n c d : ℕ) → n ≤ b
     → 16 * (suc k * suc k * (1 + b)) + 16 * (suc k * (1 + n)) + c * (24 * (suc k * (1 + d))) ≤ 64 * (suc k * suc k) * (1 + b + c * (1 + d))
 add-up k b n c d h =

@@ -1,4 +1,4 @@
--- The most steps of a run of a query.
+-- The greatest number of steps of a run of a query.
 use Rattle.std.specs.Prelude.{◌≡◌, ◌+◌, ◌*◌, ◌++◌, ◌≤◌, ℕ, List, Option, Some, Ok, drop, length, map}
 use Rattle.anyk_model.specs.Table.{Table}
 use Rattle.anyk_model.specs.Query.{Query, row_counts}
@@ -8,15 +8,16 @@ use Rattle.query_shape.specs.Shape.{IsShape, Shape}
 use Rattle.query_bind.specs.Parts.{sum_of_all}
 use Rattle.step_bounds.specs.Steps.{calls_for, cost, whole_lines}
 
--- the rows of the tables of all items and of all nodes, a table counted once for each item
+-- the number of rows of the tables of all items and of all nodes, a table counted once for each
+-- item
 abbrev pub total_of : Query → List Table → Shape → ℕ
 total_of query tables shape = sum_of_all (row_counts query.items tables) + sum_of_all shape.node_rows
 
--- the bound for so many calls for answers
+-- the bound for this many calls for answers
 abbrev pub cost_over : Query → List Table → Shape → ℕ → ℕ
 cost_over query tables shape calls = cost (length query.items) (total_of query tables shape) calls
 
--- how many whole records after the header stand in a part of the output
+-- the number of whole records, after the header, in a part of the output
 abbrev pub records_in : Query → List Table → Style → List ℕ → ℕ
 records_in query tables style part =
     whole_lines (map (line_text query tables style) (cut query.limit (ranking_of query tables))) (drop (length (header_text query tables style)) part)
@@ -31,7 +32,7 @@ abbrev pub KeepsBound : Query → List Table → ℕ → ℕ → Type 0
 KeepsBound query tables before now =
     (shape : Shape) → IsShape query tables (Ok shape) → now ≤ before + cost_over query tables shape (calls_for query.limit (ranking_of query tables))
 
--- and no more than for the whole records that were written and one more
+-- no more steps than for the whole records that were written, and one more
 abbrev pub KeepsPace : Query → List Table → Style → Option (List ℕ) → Option (List ℕ) → ℕ → ℕ → Type 0
 KeepsPace query tables style old new before now =
     (shape : Shape) → IsShape query tables (Ok shape) → (start part : List ℕ) → old ≡ Some start → new ≡ Some (start ++ part)

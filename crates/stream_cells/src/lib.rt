@@ -1,4 +1,5 @@
-//! The small parts of a stream of solutions: which cells of a product follow one, and which row a solution comes from.
+//! The small parts of a stream of solutions: which cells of a product follow a cell, and which row
+//! a solution comes from.
 #![tactic(auto)]
 
 mod cell;

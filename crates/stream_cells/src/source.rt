@@ -1,4 +1,4 @@
-//! Where a solution of a group comes from.
+//! The source of a solution of a group.
 
 ghost use Rattle.std.specs.Prelude.{◌≡◌, ◌+◌, ◌<◌, length, slice_index};
 ghost use Rattle.tdp_core.specs.TreeData.{group_count, members};
@@ -8,15 +8,17 @@ use std::sync::ledger::Ledger;
 use step_counter::Steps;
 use tdp_core::Tree;
 
-/// Where a subtree solution of a group comes from: a member of the group, and a place in the ranking of
-/// that member's solutions, both from 0.
+/// The source of a subtree solution of a group: a member of the group, and a place in the ranking
+/// of that member's solutions. Both count from 0.
 #[derive(Clone, Copy)]
 pub struct Source {
+    /// The member of the group, from 0.
     pub member: u32,
+    /// The place in the ranking of the member's solutions, from 0.
     pub place: usize,
 }
 
-/// The row that a source is a solution of. It takes one step.
+/// The row whose solution the source is. It takes one step.
 pub fn source_row<R: Rank, L: Ledger>(
     tree: &Tree<R>,
     node: u32,

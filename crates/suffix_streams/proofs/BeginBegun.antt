@@ -1,4 +1,4 @@
--- Streams that have their heads alone are streams of the tree.
+-- Streams that have only their heads are streams of the tree.
 use Rattle.std.proofs.Common.{◌≡◌, ℕ, suc, ◌+◌, ◌<◌, ◌≤◌, cond, nat_lt, List, [], ◌∷◌, length, take, get_or, refl, sym, ap, ◌∙◌, subst, arith}
 use Rattle.std.specs.List.{All}
 use Rattle.std.proofs.lemmas.Bool.Decides.{nat_tests}
@@ -101,7 +101,7 @@ module _ {R : Type 0} (d : ℕ) (key : R → KeyOf d 16) (t : List (NodeData R))
       an_entry [] i l = absurd (omega arith)
       an_entry (e ∷ es) i l = e
 
-  -- Where each group has its stream, these are the streams of the tree.
+  -- If each group has its stream, these are the streams of the tree.
   pub streams_begun : ((v : ℕ) → v < length t → length (lists_of nodes v).streams ≡ group_count t v) → IsStreams d key t es nodes
   streams_begun all = record {
     tree = formed;
@@ -122,7 +122,7 @@ module _ {R : Type 0} (d : ℕ) (key : R → KeyOf d 16) (t : List (NodeData R))
     products = λ v r c l lr lc. absurd (omega (arith, lc, ap length (b.no_products v r)));
   }
 
-  -- no queue of a product is longer than one entry
+  -- no queue of a product has more than one entry
   pub few_begun : (v r c : ℕ) → length (product_of nodes v r c).frontier ≤ 0 + 1
   few_begun v r c =
       omega (arith, ap (λ (ps : List (ProductData R)). length (get_or ps c (record { found = []; frontier = []; room = 0; frontier_room = 0 })).frontier) (b.no_products v r))

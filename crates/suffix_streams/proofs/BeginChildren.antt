@@ -15,7 +15,7 @@ kids_past parent v n e = let next : suc n ≡ n + 1 = omega arith in ap (kids_be
 kids_of_one : (parent : ℕ → ℕ) (v n : ℕ) → n ≡ 0 → kids_below parent v (suc n) ≡ 0
 kids_of_one parent v n z = ap (λ k. kids_below parent v (suc k)) z ∙ kids_below-first parent v
 
--- up to a node there are no children of it
+-- a node has no children among the nodes up to itself
 pub no_kids_before : (parent : ℕ → ℕ) (m v n : ℕ) → ((q : ℕ) → 0 < q → q < m → parent q < q) → n ≤ suc v → n ≤ m → kids_below parent v n ≡ 0
 unfolding kids_below
 no_kids_before parent m v zero first a b = refl
@@ -40,7 +40,7 @@ among_before parent v c n l = at n (parent n) v (kids_below parent v n) c (child
     at : (n p v k c x : ℕ) → c < k → cond {A = ℕ} (nat_lt 0 n) (cond (nat_eq p v) (cond (nat_eq k c) n x) x) x ≡ x
     at n p v k c x l = grind (arith, nat_tests)
 
--- the child at place c is a child, and has that place
+-- the child at place c is a child, and it has that place
 pub among_is : (parent : ℕ → ℕ) (v c n : ℕ) → c < kids_below parent v n
     → (0 < child_among parent v c n) × (child_among parent v c n < n) × (parent (child_among parent v c n) ≡ v) × (kids_below parent v (child_among parent v c n) ≡ c)
 unfolding kids_below

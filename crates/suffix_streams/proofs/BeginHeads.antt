@@ -51,7 +51,7 @@ module _ {R T : Type 0} (d : ℕ) (key : R → KeyOf d 16) (at : T → Pair) (be
       (subst (λ z. AtMost (key_below d 16) z (key (get_or es i e).rank)) (sym high) (subst (λ z. AtMost (key_below d 16) (best_at ((i - 1) / 2)) z) (sym low) (order i some l)))
 
 module _ {R T : Type 0} (d : ℕ) (key : R → KeyOf d 16) (t : List (NodeData R)) (formed : IsFormed d key t) (free : IsTieFreeTree t) (at : T → Pair) (q g : ℕ) where
-  -- the heads of a group's members are ahead of its whole ranking, of which the first is known
+  -- the heads of a group's members are ahead of its whole ranking, whose first member is known
   pub heads_ahead : (es : List (Entry R T)) (whole : List (KeyOf d 16)) (lists : ℕ → List (KeyOf d 16)) → q < length t → 0 < length (members t q g) → length es ≡ length (members t q g)
       → AreHeads d key at (λ i. best t d key q (get_or (members t q g) i 0)) 0 es
       → IsRanking (KeyOf d 16) (key_below d 16) (λ k. (i : ℕ) × (i < length (members t q g)) × RowHas (key_add d 16) (key_none d 16) (length t) (parent t) (rank t d key) (group t) (length t) q (get_or (members t q g) i 0) k) whole

@@ -39,7 +39,7 @@ module _ {R : Type 0} (d : ℕ) (key : R → KeyOf d 16) (t : List (NodeData R))
       not_there : (x y : ℕ) → y ≡ 0 → cond {A = ℕ} (nat_lt x y) 1 0 ≡ 0
       not_there x y e = grind (arith, nat_tests)
 
-      -- also past the last node
+      -- the same past the last node
       anywhere : (P : NodeLists R → Type 0) → ((v : ℕ) → v < length t → P (lists_of nodes v)) → P (record { children = []; streams = []; products = [] }) → (v : ℕ) → P (lists_of nodes v)
       anywhere P f e v = elim (cases_lt v (length t)) [
         | inl l ↦ f v l
@@ -53,7 +53,7 @@ module _ {R : Type 0} (d : ℕ) (key : R → KeyOf d 16) (t : List (NodeData R))
     (same_nodes : length nodes' ≡ length nodes)
     (other : (q : ℕ) → q ≢ v → lists_of nodes' q ≡ lists_of nodes q)
     (own : lists_of nodes' v ≡ with_stream (lists_of nodes v) s) where
-  -- what is true of a node's lists, whichever node it is
+  -- what holds for a node's lists, whichever node it is
   at_node : (P : ℕ → NodeLists R → Type 0) → ((q : ℕ) → q ≢ v → P q (lists_of nodes q)) → P v (with_stream (lists_of nodes v) s) → (q : ℕ) → P q (lists_of nodes' q)
   at_node P f g q = elim (cases_eq q v) [
     | inl same ↦ subst (λ z. P z (lists_of nodes' z)) (sym same) (subst (λ z. P v z) (sym own) g)

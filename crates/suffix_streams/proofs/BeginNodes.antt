@@ -33,7 +33,7 @@ module _ {R : Type 0} (d : ℕ) (key : R → KeyOf d 16) (t : List (NodeData R))
       (row_head d key t formed q (get_or (members t q g) 0 0) _ l (member_is_row d key t formed q g 0 l some) (row_is_ranking d key t formed q (get_or (members t q g) 0 0) l)).1
       ∙ sym (group_head d key t formed q g _ l some (group_is_ranking d key t q g l)).1
 
-  -- that is the best of the member
+  -- this solution is the best of the member
   pub first_best : (q g : ℕ) → q < length t → g < group_count t q
       → best t d key q (get_or (members t q g) 0 0) ≡ get_or (part_list d key t q (get_or (members t q g) 0 0) (child_count t q)) 0 (key_none d 16)
   first_best q g l lg =
@@ -99,7 +99,7 @@ module _ {R : Type 0} (d : ℕ) (key : R → KeyOf d 16) (t : List (NodeData R))
 
   -- # Steps
 
-  -- how many members the first g groups of node v have
+  -- the number of members of the first g groups of node v
   abbrev pub members_to : ℕ → ℕ → ℕ
   members_to v g = length (concat (take g (node_at t v).groups))
 
@@ -137,7 +137,7 @@ module _ {R : Type 0} (d : ℕ) (key : R → KeyOf d 16) (t : List (NodeData R))
           let z : n * 5 ≤ n * (5 * m) = grind arith in
           omega (arith, x, y, z)
 
-  -- the rows of the nodes from v on
+  -- the number of rows of the nodes from v
   abbrev pub rows_from : ℕ → ℕ
   rows_from v = sum_from ◌+◌ 0 (rows t) (length t - v) v
 
@@ -170,7 +170,7 @@ module _ {R : Type 0} (d : ℕ) (key : R → KeyOf d 16) (t : List (NodeData R))
       at : (a b c : ℕ) → a ≤ b → a * c ≤ b * c
       at a b c l = grind arith
 
-  -- the nodes with one more stream at a node
+  -- the nodes when one node has one more stream
   pub nodes_set : (nodes : List (NodeLists R)) (v : ℕ) (n n' : NodeLists R) (s : StreamData R) → v < length nodes → n ≡ get_or nodes v n → n' ≡ with_stream n s
       → (length (slice_set nodes v n') ≡ length nodes) × ((q : ℕ) → q ≢ v → lists_of (slice_set nodes v n') q ≡ lists_of nodes q) × (lists_of (slice_set nodes v n') v ≡ with_stream (lists_of nodes v) s)
   nodes_set nodes v n n' s l e e' = (

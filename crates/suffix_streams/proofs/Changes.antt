@@ -44,7 +44,7 @@ module _ {R : Type 0} where
       | inr h ↦ ap length (get_or-set_other n.products r s (slice_set (get_or n.products r []) c p) [] h)
     ]
 
-    -- a product's solutions become no fewer
+    -- the solutions of a product do not become fewer
     module _ (rises : length (product_at n r c).found ≤ length p.found) where
       found_kept : (s k : ℕ) → length (product_at n s k).found ≤ length (product_at (with_product n r c p) s k).found
       found_kept s k = elim (cases_eq s r) [
@@ -114,7 +114,7 @@ module _ {R : Type 0} (d : ℕ) (key : R → KeyOf d 16) (t : List (NodeData R))
     | inr n ↦ ap (λ z. stream_at z g) (changed_other w n)
   ]
 
-  -- All invariants hold again, where that of the product does.
+  -- All invariants hold again, if that of the product does.
   pub product_set : IsProductOf d key t es changed v r c → IsStreams d key t es changed
   product_set own = record {
     tree = h.tree;

@@ -27,7 +27,7 @@ uncounted n p v h = grind (arith, nat_tests)
 uncounted_first : (p v : ℕ) → cond {A = ℕ} (nat_lt 0 0) (cond {A = ℕ} (nat_eq p v) 1 0) 0 ≡ 0
 uncounted_first p v = grind (arith, nat_tests)
 
--- what child number c among the first n nodes is
+-- the facts of child number c among the first n nodes
 pub record IsChild (parent : ℕ → ℕ) (v c n u : ℕ) : Type 0 where
   pub some : 0 < u
   pub within : u < n
@@ -63,7 +63,7 @@ number_rises parent v q n some e l =
     let at : n - (q + 1) + (q + 1) ≡ n = omega arith in
     subst (λ z. kids_below parent z q < kids_below parent z n) e (subst (λ z. kids_below parent (parent q) q < kids_below parent (parent q) z) at (child_place_within parent q (n - (q + 1)) some))
 
--- no other node between two children that follow each other is a child
+-- between two children that follow each other there is no other child
 pub none_between : (parent : ℕ → ℕ) (v c n u q : ℕ) → IsChild parent v c n u → 0 < q → q < u → c ≡ 0 → parent q ≢ v
 none_between parent v c n u q h some l z e = omega (arith, number_rises parent v q u some e l, h.number)
 

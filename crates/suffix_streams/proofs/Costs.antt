@@ -1,4 +1,4 @@
--- How many nodes are below the first children of a node.
+-- The number of nodes below the first children of a node.
 use Rattle.std.proofs.Common.{◌≡◌, ◌≢◌, ℕ, zero, suc, ◌+◌, ◌<◌, ◌≤◌, cond, nat_eq, List, length, refl, ap, inl, inr, arith}
 use Rattle.std.proofs.lemmas.Bool.{cases_lt, cases_eq}
 use Rattle.std.proofs.lemmas.Bool.Decides.{nat_tests}
@@ -52,7 +52,7 @@ same_not : (w v : ℕ) → w ≢ v → cond {A = ℕ} (nat_eq w v) 1 0 ≡ 0
 same_not w v e = grind (arith, nat_tests)
 
 module _ {R : Type 0} (d : ℕ) (key : R → KeyOf d 16) (t : List (NodeData R)) (formed : IsFormed d key t) where
-  -- nothing is below two children
+  -- no node is below two children
   pub kids_other : (v c k w : ℕ) → w < length t → c < child_count t v → k ≤ c → 0 < is_below (parent t) (child t v c) w → below_kids t v k w ≡ 0
   kids_other v c zero w l a b p = refl
   kids_other v c (suc k) w l a b p =
@@ -65,7 +65,7 @@ module _ {R : Type 0} (d : ℕ) (key : R → KeyOf d 16) (t : List (NodeData R))
             x.within y.within x.parent_is y.parent_is (λ e. omega (arith, x.number, y.number, ap (λ z. kids_below (parent t) v z) e)) p,
       )
 
-  -- what is below the children is below the node, and is not the node
+  -- a node below the children is below the node, and is not the node
   pub kids_below_node : (v c w : ℕ) → w < length t → c ≤ child_count t v → below_kids t v c w + cond (nat_eq w v) 1 0 ≤ is_below (parent t) v w
   kids_below_node v zero w l a = elim (cases_eq w v) [
     | inl e ↦ omega (arith, same_is w v e, below_itself (length t) (parent t) formed.shaped.parents_first v w e)
@@ -96,14 +96,14 @@ module _ {R : Type 0} (d : ℕ) (key : R → KeyOf d 16) (t : List (NodeData R))
   pub kids_size_none : (v : ℕ) → kids_size t v 0 ≡ 0
   kids_size_none v = sum_none (length t) 0
 
-  -- a child is one node at least
+  -- there is at least one node for each child
   pub kids_many : (v c : ℕ) → c ≤ child_count t v → c ≤ kids_size t v c
   kids_many v zero a = omega arith
   kids_many v (suc c) a =
       let x : IsChild (parent t) v c (length t) (child t v c) = kid d key t formed v c (omega arith) in
       omega (arith, kids_many v c (omega arith), kids_size_more v c, kids_smaller (child t v c) 0 x.within (omega arith))
 
-  -- a subtree has at most all nodes
+  -- a subtree has at most as many nodes as the tree
   pub subtree_few : (v : ℕ) → subtree_size t v ≤ length t
   subtree_few v = sum_many (is_below (parent t) v) (length t) 0 (λ i x y. below_once (length t) (parent t) formed.shaped.parents_first i v i (omega arith) (omega arith))
 

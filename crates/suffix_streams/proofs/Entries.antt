@@ -1,4 +1,4 @@
--- What entries and products stand for, in streams that are well formed.
+-- What entries and products stand for, in well-formed streams.
 use Rattle.std.proofs.Common.{◌≡◌, ℕ, zero, suc, ◌+◌, ◌<◌, ◌≤◌, Bool, true, false, cond, nat_eq, List, [], ◌∷◌, length, take, get_or, refl, sym, ap, ◌∙◌, subst, arith}
 use Rattle.std.proofs.lemmas.Bool.{eq-eqb}
 use Rattle.stream_store.specs.declared.entry.Linked.{Linked}
@@ -26,7 +26,7 @@ first_at true true xs y a e f = (omega arith, refl)
 first_at true false xs y a e f = cc
 first_at false c xs y a e f = cc
 
--- an entry's solution stands in its stream at the entry's place
+-- an entry's solution is in its stream, at the entry's place
 entry_at : {R : Type 0} (es : List (Linked (Found R))) (i q g : ℕ) (x : Linked (Found R)) (a : Answer R) → i < length es → (get_or es i x).value.node ≡ q → (get_or es i x).value.group ≡ g
     → (owned (take i (node_list es)) (take i (group_list_of es)) q g < length (stream es q g)) × (get_or (stream es q g) (owned (take i (node_list es)) (take i (group_list_of es)) q g) a ≡ (get_or es i x).value.answer)
 unfolding owned stream

@@ -1,4 +1,4 @@
--- The first solutions of a row, and the solutions that are known.
+-- The first solutions of a row, and the known solutions.
 use Rattle.std.proofs.Common.{◌≡◌, ℕ, zero, suc, ◌+◌, ◌<◌, ◌≤◌, List, [], ◌∷◌, length, take, get_or, refl, sym, ap, ◌∙◌, subst, arith}
 use Rattle.std.proofs.lemmas.List.Elements.{All-get_or}
 use Rattle.rank_key.specs.Keys.{KeyFits}
@@ -34,7 +34,7 @@ prefix_at d key xs ks i x p l = (
   All-get_or (HasRows d key) xs i x l p.3,
 )
 
--- the same by the keys alone
+-- the same, only by the keys
 pub first_at : {R T : Type 0} (d : ℕ) (key : R → KeyOf d 16) (xs : List (Entry R T)) (ks : List (KeyOf d 16)) (i : ℕ) (x : Entry R T) → AreFirst d key xs ks → i < length xs → key (get_or xs i x).rank ≡ get_or ks i (key_none d 16)
 first_at d key xs ks i x p l = sym (map_at (λ e. key e.rank) xs i x (key_none d 16) l) ∙ ap (λ z. get_or z i (key_none d 16)) p.2 ∙ taken_at ks (length xs) i (key_none d 16) l
 
@@ -46,7 +46,7 @@ lefts_at {R} d key t nodes v r (suc c) b place x e h l =
     let at : key (get_or (product_of nodes v r c).found place x).rank ≡ get_or (part_list d key t v r (suc c)) place (key_none d 16) = first_at d key (product_of nodes v r c).found (part_list d key t v r (suc c)) place x h l in
     subst (λ b. (place < length (product_of nodes v r b).found) × (key (get_or (product_of nodes v r b).found place x).rank ≡ get_or (part_list d key t v r (suc c)) place (key_none d 16))) same (l, at)
 
--- the rank of a solution that is known
+-- the rank of a known solution
 pub known_key : {R : Type 0} (d : ℕ) (key : R → KeyOf d 16) (t : List (NodeData R)) (nodes : List (NodeLists R)) (v r c b place : ℕ) (x : R) → c ≡ suc b → AreLefts d key t nodes v r c → place < part_known nodes v r c
     → ((a : Entry R Cell) → x ≡ (get_or (product_of nodes v r b).found place a).rank) → key x ≡ get_or (part_list d key t v r c) place (key_none d 16)
 known_key {R} d key t nodes v r c b place x e h l at =
@@ -85,7 +85,7 @@ module _ {R : Type 0} (d : ℕ) (key : R → KeyOf d 16) (t : List (NodeData R))
       (sum_fits d key t formed v r c 0 0 l h (part_some v r c l row (omega arith)) (group_some d key t formed (child t v c) (group_named t v r c) (kid d key t formed v c h).within (named_in d key t formed v r c row h))))
 
 module _ {R : Type 0} (d : ℕ) (key : R → KeyOf d 16) (t : List (NodeData R)) (formed : IsFormed d key t) where
-  -- without children there is the row's own solution
+  -- without children there is only the row's own solution
   pub own_at : (nodes : List (NodeLists R)) (v r c place : ℕ) (k : KeyOf d 16) → v < length t → c ≡ 0 → place < part_known nodes v r c → k ≡ rank t d key v r → k ≡ get_or (part_list d key t v r c) place (key_none d 16)
   own_at nodes v r zero place k l e p s =
       let first : 0 ≡ place = omega arith in
@@ -97,7 +97,7 @@ module _ {R : Type 0} (d : ℕ) (key : R → KeyOf d 16) (t : List (NodeData R))
   known_within nodes v r zero place l h p = omega (arith, own_some d key t formed v r l)
   known_within nodes v r (suc c) place l h p = omega (arith, h.1)
 
--- the sum of a cell fits, where x and y are the keys of its parts
+-- the sum of a cell fits, if x and y are the keys of its parts
 pub cell_fits : {R : Type 0} (d : ℕ) (key : R → KeyOf d 16) (t : List (NodeData R)) → IsFormed d key t → (es : List (Linked (Found R))) (nodes : List (NodeLists R)) (v r c : ℕ) (cell : Cell) → v < length t → HasParts d key t es nodes v r c
     → IsCell d key t es nodes v r c cell → (x y : KeyOf d 16) → x ≡ get_or (part_list d key t v r c) cell.left (key_none d 16)
     → y ≡ get_or (group_list d key t (child t v c) (group_named t v r c)) (place_of es cell.right) (key_none d 16) → KeyFits d (key_add d 16 x y)

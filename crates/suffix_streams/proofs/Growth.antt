@@ -1,4 +1,4 @@
--- A product and a group grow by one solution, and keep what holds of them while the store grows.
+-- A product and a group grow by one solution, and what holds for them stays while the store grows.
 use Rattle.std.proofs.Common.{◌≡◌, ℕ, suc, ◌<◌, Option, None, List, [], ◌∷◌, ◌++◌, length, take, drop, get_or, refl, sym, ap, ◌∙◌, subst, inr, arith}
 use Rattle.std.specs.List.{All}
 use Rattle.std.specs.List.Sorted.{IsPermutation}
@@ -25,7 +25,7 @@ one_taken [] d l = absurd (omega arith)
 one_taken (k ∷ ks) d l = refl
 
 module _ {R T : Type 0} (d : ℕ) (key : R → KeyOf d 16) (xs ys zs : List (KeyOf d 16)) (ax : IsAscending (key_below d 16) xs) (ay : IsAscending (key_below d 16) ys) (at : T → Pair) where
-  -- the last solution is passed, and what follows it stands in the frontier
+  -- the last solution is passed, and what follows it is in the frontier
   passed_on : (found old new : List (Entry R T)) (a b : Option (Entry R T)) (top : Entry R T) → IsFrontier d key at xs ys zs found old → 0 < length old → top ≡ get_or old 0 top → IsLeast d key top old
       → IsPermutation (offers a b old) (top ∷ new) → MaybeHolds (IsHeld d key (pair_key (key_add d 16) (key_none d 16) xs ys) (InProduct d xs ys) at) a
       → MaybeHolds (IsHeld d key (pair_key (key_add d 16) (key_none d 16) xs ys) (InProduct d xs ys) at) b
@@ -60,7 +60,7 @@ module _ {R T : Type 0} (d : ℕ) (key : R → KeyOf d 16) (xs ys zs : List (Key
         },
       )
 
-  -- No further solution is there.
+  -- There is no further solution.
   pub frontier_ends : (found old : List (Entry R T)) (a b : Option (Entry R T)) (top : Entry R T) → IsFrontier d key at xs ys zs found old
       → 0 < length old → top ≡ get_or old 0 top → IsLeast d key top old
       → IsPermutation (offers a b old) (top ∷ []) → MaybeHolds (IsHeld d key (pair_key (key_add d 16) (key_none d 16) xs ys) (InProduct d xs ys) at) a
@@ -121,7 +121,7 @@ module _ {R T : Type 0} (d : ℕ) (key : R → KeyOf d 16) (n : ℕ) (lists : �
         },
       )
 
-  -- No further member is there.
+  -- There is no further member.
   pub merge_ends : (found : List (Answer R)) (old : List (Entry R T)) (a : Option (Entry R T)) (top : Entry R T) → IsMerge d key at n lists zs found old
       → 0 < length old → top ≡ get_or old 0 top → IsLeast d key top old → IsPermutation (offers a None old) (top ∷ [])
       → MaybeHolds (IsHeld d key (run_key (key_none d 16) lists) (InRuns d n lists) at) a → InRuns d n lists (at top.tag) → IsNext d key n lists at (at top.tag) a
@@ -138,7 +138,7 @@ module _ {R T : Type 0} (d : ℕ) (key : R → KeyOf d 16) (n : ℕ) (lists : �
 
 module _ {R T X : Type 0} (d : ℕ) (rank_key : R → KeyOf d 16) (key_at : X → KeyOf d 16) (InRange : X → Type 0) (at later : T → X) (Known : Entry R T → Type 0)
     (same : (e : Entry R T) → Known e → at e.tag ≡ later e.tag) where
-  -- entries whose places stay stand for the same
+  -- entries whose places stay stand for the same solutions
   pub places_kept : (es : List (Entry R T)) → All Known es → places at es ≡ places later es
   places_kept [] a = refl
   places_kept (e ∷ es) a = ap (λ z. z ∷ places at es) (same e (All-head Known e es a)) ∙ ap (λ z. later e.tag ∷ z) (places_kept es (All-tail Known e es a))

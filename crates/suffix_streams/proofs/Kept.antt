@@ -1,4 +1,4 @@
--- What holds of a stream and of a product stays, while the store grows and other objects change.
+-- What holds for a stream and for a product stays while the store grows and other objects change.
 use Rattle.std.proofs.Common.{◌≡◌, ℕ, suc, ◌^◌, ◌<◌, ◌≤◌, List, length, get_or, refl, sym, ap, ◌∙◌, subst, arith}
 use Rattle.std.specs.List.{All}
 use Rattle.std.proofs.lemmas.List.Elements.{All-weaker}

@@ -1,4 +1,4 @@
--- The store after an entry was put behind all and linked.
+-- The store after an entry was added after all others and linked.
 use Rattle.std.proofs.Common.{◌≡◌, ℕ, ◌<◌, Some, None, cond, nat_eq, List, [], ◌∷◌, ◌++◌, length, get_or, slice_set, sym, ap, ◌∙◌, subst, inl, inr, arith}
 use Rattle.std.proofs.lemmas.Bool.{cases_lt}
 use Rattle.std.proofs.lemmas.Bool.Decides.{nat_tests}

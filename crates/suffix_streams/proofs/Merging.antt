@@ -188,7 +188,7 @@ module _ {R : Type 0} (d : ℕ) (key : R → KeyOf d 16) (t : List (NodeData R))
     parts = λ c k. (parts_same r c (a.parts c (omega (arith, k, rows_same r))).0, product_same r c (a.parts c (omega (arith, k, rows_same r))).1);
   }
 
--- what is offered for the member whose solution was passed last: its next one, or there is none
+-- the offer for the member whose solution was passed last: its next solution, if there is one
 pub record IsNextOffer {R : Type 0} (n : NodeLists R) (r : ℕ) (next : Source) (offer : Option (Entry R Source)) : Type 0 where
   pub none : offer ≡ None → known_of n r (length (get_or n.products r [])) ≤ next.place
   pub tag : (e : Entry R Source) → offer ≡ Some e → e.tag ≡ next
@@ -290,7 +290,7 @@ module _ {R : Type 0} (d : ℕ) (key : R → KeyOf d 16) (t : List (NodeData R))
       (merge_grows d key n lists (group_list d key t q g) (λ i k. part_ascends d key t q (get_or (members t q g) i 0) (child_count t q)) run_of (stream es q g) queue new offer top after answer own.merge some is_top least
       moved all_facts.0 top_held.0 all_facts.2 more is_after after_least (k ∙ sym held.1) rs).1
 
--- the offer that was made, as it is seen from the lists
+-- the offer that was made, in terms of the lists
 pub next_offer : {R : Type 0} (n m : NodeLists R) (r member place : ℕ) (next : Source) (offer : Option (Entry R Source)) → n ≡ m → next.member ≡ member → next.place ≡ place + 1
     → IfNone offer (known_of m r (length (get_or m.products r [])) ≤ next.place) → IfSome offer (λ e. e.tag ≡ next) → IfSome offer (λ e. next.place < known_of m r (length (get_or m.products r [])))
     → IfSome offer (λ e. (c : ℕ) (x : Entry R Cell) → length (get_or m.products r []) ≡ c + 1 → e.rank ≡ (get_or (get_or (get_or m.products r []) c (record { found = []; frontier = []; room = 0; frontier_room = 0 })).found next.place x).rank)

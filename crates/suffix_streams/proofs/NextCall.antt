@@ -1,4 +1,4 @@
--- The facts of a call that asks for the entry after another one, as they stand after each of its own calls.
+-- The facts of a call that asks for the entry after another one, after each of its own calls.
 use Rattle.std.proofs.Common.{◌≡◌, ◌≢◌, ℕ, ◌+◌, ◌*◌, ◌<◌, ◌≤◌, cond, nat_eq, List, [], length, get_or, sym, ap, ◌∙◌, subst, arith}
 use Rattle.stream_store.specs.declared.entry.Linked.{Linked}
 use Rattle.take2_heap.specs.declared.entry.Entry.{Entry}

@@ -1,4 +1,4 @@
--- A node of which one product or one queue changes.
+-- A node in which one product or one queue changes.
 use Rattle.std.proofs.Common.{◌≡◌, ℕ, ◌<◌, List, [], map, length, get_or, slice_set, sym, ap, ◌∙◌, subst, arith}
 use Rattle.std.proofs.lemmas.List.{get_or-set_same}
 use Rattle.std.specs.declared.vec.Vec.{Vec}
@@ -48,7 +48,7 @@ module _ {R Z : Type 0} (children : List ℕ) (streams : List (StreamData R)) (x
       subst (λ n. seen (slice_set xs r v) ≡ record n { products = slice_set n.products r v.items }) e
       (ap (λ (z : List (List (ProductData R))). (let n : NodeLists R = record { children = children; streams = streams; products = z } in n)) (set_map (λ v. v.items) xs r v))
 
--- a stream of a node whose queue changes
+-- a stream of a node, when a queue of the node changes
 pub queue_changed : {R : Type 0} (children : List ℕ) (streams : List (StreamData R)) (products : List (List (ProductData R))) (n : NodeLists R) (g : ℕ) (s old : StreamData R)
     → record { children = children; streams = streams; products = products } ≡ n → old ≡ get_or streams g old → s.head ≡ old.head → g < length n.streams
     → (stream_at n g ≡ old) × (stream_at (record { children = children; streams = slice_set streams g s; products = products }) g ≡ s)

@@ -37,14 +37,14 @@ module _ {R : Type 0} (d : ℕ) (key : R → KeyOf d 16) (t : List (NodeData R))
   all : kids ≡ child_count t v
   all = kids_is ∙ ap (λ z. length z.children) (sym lists) ∙ h.all_children v l
 
-  -- a row with fewer products than children has none, and there are children
+  -- a row with fewer products than children has no products, and the node has children
   pub row_lacks : count < kids → (length (products_of nodes v r) ≡ 0) × (0 < child_count t v)
   row_lacks few = elim (cases_lt 0 (length (products_of nodes v r))) [
     | inl some ↦ absurd (omega (arith, few, counted, all, h.whole_rows v r l row some))
     | inr none ↦ (omega (arith, none), omega (arith, few, all))
   ]
 
-  -- and else it has all
+  -- otherwise it has all products
   pub row_whole : kids ≤ count → length (products_of nodes v r) ≡ child_count t v
   row_whole many = elim (cases_lt 0 (length (products_of nodes v r))) [
     | inl some ↦ h.whole_rows v r l row some
@@ -104,7 +104,7 @@ module _ {R : Type 0} (d : ℕ) (key : R → KeyOf d 16) (t : List (NodeData R))
   other_row_known : (w s : ℕ) → ((w ≢ v) ⊎ (s ≢ r)) → row_known opened w s ≡ row_known nodes w s
   other_row_known w s n = other_known w s (length (products_of opened w s)) n ∙ ap (λ z. part_known nodes w s (length z)) (other_row w s n)
 
-  -- in the row that was opened each part has one known solution
+  -- in the row that was opened, one solution of each part is known
   pub one_known : (c : ℕ) → c ≤ child_count t v → part_known opened v r c ≡ 1
   one_known zero k = refl
   one_known (suc c) k =
@@ -187,7 +187,7 @@ module _ {R : Type 0} (d : ℕ) (key : R → KeyOf d 16) (t : List (NodeData R))
         ]
       ]
 
-  -- one entry stands in each queue that was made
+  -- each queue that was made has one entry
   pub opened_queues : (w s k : ℕ) → length (product_of opened w s k).frontier ≤ max 1 (length (product_of nodes w s k).frontier) + 0
   opened_queues w s k = elim (cases_eq w v) [
     | inr n ↦ same w s k (inl n)
@@ -213,7 +213,7 @@ module _ {R : Type 0} (d : ℕ) (key : R → KeyOf d 16) (t : List (NodeData R))
         | inr a ↦ omega (arith, ap (λ (p : ProductData R). length p.frontier) (past ps k (record { found = []; frontier = []; room = 0; frontier_room = 0 }) (omega (arith, fresh.count))))
       ]
 
--- the change as it is seen from the lists
+-- the change in terms of the lists
 pub opened_is : {R : Type 0} (nodes : List (NodeLists R)) (v r : ℕ) (m n : NodeLists R) (ps : List (ProductData R)) → v < length nodes → m ≡ get_or nodes v m → n ≡ record m { products = slice_set m.products r ps }
     → slice_set nodes v n ≡ slice_set nodes v (record (lists_of nodes v) { products = slice_set (lists_of nodes v).products r ps })
 opened_is {R} nodes v r m n ps l at e =

@@ -20,7 +20,8 @@ use Rattle.suffix_streams.proofs.Rows.{sums_fit, joined_are}
 use Rattle.suffix_streams.proofs.Heads.{head_key}
 use Rattle.suffix_streams.proofs.Firsts.{first_at}
 
--- the cell of the solution at a place of product number c of row r of node v, and what is read there
+-- the cell of the solution at a place of product number c of row r of node v, and what is read
+-- there
 pub record IsSumAt {R : Type 0} (d : ℕ) (key : R → KeyOf d 16) (t : List (NodeData R)) (es : List (Linked (Found R))) (nodes : List (NodeLists R)) (v r c place : ℕ) (cell : Cell) : Type 0 where
   pub left : cell.left < part_known nodes v r c
   pub right : cell.right < length es

@@ -81,7 +81,7 @@ product_passed {R} d key t es n v r c p a b known cell below head lower beside d
     }
 
 module _ {R : Type 0} {d : ℕ} {key : R → KeyOf d 16} {t : List (NodeData R)} {es : List (Linked (Found R))} {n : List (NodeLists R)} {v r c : ℕ} {p : ProductData R} (a : IsProductPassed d key t es n v r c p) where
-  -- where the frontier is empty, the product's solutions are the whole ranking
+  -- if the frontier is empty, the product's solutions are the whole ranking
   pub product_ends : p.frontier ≡ [] → IsStreams d key t es (slice_set n v (with_product (lists_of n v) r c p))
   product_ends empty =
       a.holds p refl (omega (arith, ap length empty)) a.rises (subst (All (λ (e : Entry R Cell). (e.tag.left < part_known n v r c) × (e.tag.right < length es) × (node_of es e.tag.right ≡ child t v c) × (group_of es e.tag.right ≡ group_named t v r c))) (sym a.found) a.kept_known)
@@ -90,7 +90,7 @@ module _ {R : Type 0} {d : ℕ} {key : R → KeyOf d 16} {t : List (NodeData R)}
 
 -- # One more solution was kept
 
--- y are the lists of node v with the product, and z those with the solution too
+-- y is the lists of node v with the product, and z those with the solution too
 pub record IsSumKept {R : Type 0} (n : List (NodeLists R)) (v r c : ℕ) (sum : Entry R Cell) (y z : NodeLists R) : Type 0 where
   pub changed : slice_set (slice_set n v y) v z ≡ slice_set n v (with_product (lists_of n v) r c (product_at z r c))
   pub found : (product_at z r c).found ≡ (product_of n v r c).found ++ (sum ∷ [])

@@ -33,7 +33,7 @@ use Rattle.suffix_streams.proofs.Merging.{top_row, next_offer, queue_set, queued
 abbrev pub lists_of_member : {R : Type 0} (d : ℕ) (key : R → KeyOf d 16) → List (NodeData R) → ℕ → ℕ → ℕ → List (KeyOf d 16)
 lists_of_member d key t v g i = part_list d key t v (get_or (members t v g) i 0) (child_count t v)
 
--- the group whose last solution is to be passed, and its row
+-- the group whose last solution will be passed, and its row
 pub record IsGroupTop {R : Type 0} (d : ℕ) (key : R → KeyOf d 16) (t : List (NodeData R)) (es : List (Linked (Found R))) (n : List (NodeLists R)) (last v g r : ℕ) : Type 0 where
   pub node : v < length t
   pub group : g < group_count t v
@@ -99,7 +99,7 @@ queue_passed {R} {d} {key} {t} {es} {n} {last} {v} {g} {r} top next offer q a b 
     }
 
 module _ {R : Type 0} {d : ℕ} {key : R → KeyOf d 16} {t : List (NodeData R)} {es : List (Linked (Found R))} {n : List (NodeLists R)} {v g : ℕ} {q : List (Entry R Source)} (p : IsQueuePassed d key t es n v g q) where
-  -- where the queue is empty, the stream is the whole ranking
+  -- if the queue is empty, the stream is the whole ranking
   pub passed_ends : q ≡ [] → IsStreams d key t es (slice_set n v (with_queue (lists_of n v) g q))
   passed_ends empty =
       queue_set d key t es es n p.before (held_itself es) v g p.node p.group q p.before.owners p.before.linked (λ w k z. refl) p.few p.known
@@ -136,7 +136,7 @@ module _ {R : Type 0} {d : ℕ} {key : R → KeyOf d 16} {t : List (NodeData R)}
   pub row_read : (r : ℕ) → r < rows t v → HasRow d key t es (slice_set n v (with_queue (lists_of n v) g q)) v r
   row_read r in_rows = row_after d key t es n p.before v g p.node p.group q r (row_of d key t es n p.before v r p.node in_rows)
 
--- # The store with one more entry, which the last one of its stream links to
+-- # The store with one more entry, to which the last entry of its stream links
 
 pub record IsEntryLinked {R : Type 0} (t : List (NodeData R)) (es es2 : List (Linked (Found R))) (last : ℕ) (f : Found R) : Type 0 where
   pub store : IsStoreGrown f.node es es2
@@ -147,7 +147,7 @@ pub record IsEntryLinked {R : Type 0} (t : List (NodeData R)) (es es2 : List (Li
   pub others : (w k : ℕ) → ((w ≢ f.node) ⊎ (k ≢ f.group)) → stream es2 w k ≡ stream es w k
   pub longer : stream es2 f.node f.group ≡ stream es f.node f.group ++ (f.answer ∷ [])
 
--- es1 is the store with the entry, and es2 the one with the link too
+-- es1 is the store with the entry, and es2 the store with the link too
 pub entry_linked : {R : Type 0} {d : ℕ} {key : R → KeyOf d 16} {t : List (NodeData R)} {es : List (Linked (Found R))} {n : List (NodeLists R)} {last v g r : ℕ} → IsGroupTop d key t es n last v g r → (answer : Answer R) (es1 es2 : List (Linked (Found R)))
     (id : ℕ) → IsStreams d key t es n → last < length es → node_of es last ≡ v → group_of es last ≡ g → next_of es last ≡ None → id ≡ length es → es1 ≡ es ++ (record { value = record { node = v; group = g; answer = answer }; next = None } ∷ [])
     → ((x : Linked (Found R)) → es2 ≡ slice_set es1 last (record (get_or es1 last x) { next = Some id })) → IsEntryLinked t es es2 last (record { node = v; group = g; answer = answer })

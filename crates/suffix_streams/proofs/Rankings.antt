@@ -67,7 +67,7 @@ module _ {R : Type 0} (d : ℕ) (key : R → KeyOf d 16) (t : List (NodeData R))
   unfolding group_list
   group_ascends q g = (ranked_is_ranking (key_below d 16) (tuple_keys d 16).order _).ascending
 
-  -- nodes that are no children add nothing
+  -- nodes that are not children add nothing
   widen_by : (e v r a : ℕ) (k : KeyOf d 16) → ((q : ℕ) → suc v + a ≤ q → q < suc v + (e + a) → parent t q ≢ v)
       → PartHas (key_add d 16) (key_none d 16) (length t) (parent t) (rank t d key) (group t) (length t) v r a k
       → PartHas (key_add d 16) (key_none d 16) (length t) (parent t) (rank t d key) (group t) (length t) v r (e + a) k
@@ -93,7 +93,8 @@ module _ {R : Type 0} (d : ℕ) (key : R → KeyOf d 16) (t : List (NodeData R))
       (none (suc v + (e + a)) (omega arith) (omega arith))
       (subst (λ n. PartHas (key_add d 16) (key_none d 16) (length t) (parent t) (rank t d key) (group t) (length t) v r n k) same h))
 
-  -- a ranking with the nodes up to a is one with the nodes up to b, where no child stands between
+  -- a ranking with the nodes up to a is one with the nodes up to b, if there is no child between
+  -- them
   widened : (v r a b : ℕ) (ks : List (KeyOf d 16)) → a ≤ b → ((q : ℕ) → suc v + a ≤ q → q < suc v + b → parent t q ≢ v)
       → IsRanking (KeyOf d 16) (key_below d 16) (PartHas (key_add d 16) (key_none d 16) (length t) (parent t) (rank t d key) (group t) (length t) v r a) ks
       → IsRanking (KeyOf d 16) (key_below d 16) (PartHas (key_add d 16) (key_none d 16) (length t) (parent t) (rank t d key) (group t) (length t) v r b) ks
@@ -115,7 +116,7 @@ module _ {R : Type 0} (d : ℕ) (key : R → KeyOf d 16) (t : List (NodeData R))
     part_within v zero l h = omega arith
     part_within v (suc c) l h = omega (arith, kid_below v c (omega arith), (kid v c (omega arith)).within)
 
-    -- the part before a child, and no child between
+    -- between the part before a child and the child there is no other child
     pub gap : (v c q : ℕ) → c < child_count t v → suc v + part_end t v c ≤ q → q < child t v c → parent t q ≢ v
     gap v zero q h a b = none_between (parent t) v 0 (length t) (child t v 0) q (kid v 0 h) (omega arith) b refl
     gap v (suc c) q h a b = none_between_two (parent t) v c (length t) (child t v c) (child t v (suc c)) q (kid v c (omega arith)) (kid v (suc c) h) (omega (arith, kid_below v c (omega arith))) b
@@ -171,7 +172,7 @@ module _ {R : Type 0} (d : ℕ) (key : R → KeyOf d 16) (t : List (NodeData R))
         subst (λ n. IsRanking (KeyOf d 16) (key_below d 16) (PartHas (key_add d 16) (key_none d 16) (length t) (parent t) (rank t d key) (group t) (length t) v r n) (part_list d key t v r (suc c))) at
         (part_is_ranking v r (suc c) (part_within v (suc c) l (omega arith)))
 
-    -- what joins of the sums ask
+    -- what `join` requires of the sums
     pub sum_fits : (v r c i j : ℕ) → v < length t → c < child_count t v → i < length (part_list d key t v r c) → j < length (group_list d key t (child t v c) (group_named t v r c))
         → KeyFits d (key_add d 16 (get_or (part_list d key t v r c) i (key_none d 16)) (get_or (group_list d key t (child t v c) (group_named t v r c)) j (key_none d 16)))
     sum_fits v r c i j l h a b =
@@ -189,7 +190,7 @@ module _ {R : Type 0} (d : ℕ) (key : R → KeyOf d 16) (t : List (NodeData R))
         (length t) v r (child t v c - suc v) (child t v c) (part_list d key t v r c) (group_list d key t (child t v c) (group_named t v r c)) (part_list d key t v r (suc c)) (omega (arith, kid_below v c h)) (kid v c h).within (kid v c h).parent_is
         (left_ranking v r c l h) (right_ranking v r c h) (sum_ranking v r c l h)
 
-    -- each group has a solution
+    -- each group has at least one solution
     pub group_some : (q g : ℕ) → q < length t → g < group_count t q → 0 < length (group_list d key t q g)
     group_some q g l h =
         let i : 0 < length (members t q g) = formed.inhabited q g l h in

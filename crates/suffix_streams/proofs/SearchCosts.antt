@@ -39,7 +39,7 @@ module _ {R : Type 0} (d : ℕ) (key : R → KeyOf d 16) (t : List (NodeData R))
   pub none_within : (v c b s : ℕ) → c ≤ child_count t v → s + 6 * c ≤ s + 20 * kids_size t v c * (1 + b)
   none_within v c b s a = omega (arith, kids_many d key t formed v c a, much (kids_size t v c) b)
 
-  -- a search with one child more
+  -- a search with one more child
   pub child_within : (v c b s0 s1 s3 s4 : ℕ) → v < length t → c < child_count t v → 1 ≤ b → s1 ≤ s0 + (8 + 2 * b + 20 * kids_size t (child t v c) (child_count t (child t v c)) * (1 + b))
       → s3 + 6 * c ≤ s1 + 1 + 20 * kids_size t v c * (1 + b) → s4 ≤ s3 + 9 + 3 * b → s4 + 6 * suc c ≤ s0 + 20 * kids_size t v (suc c) * (1 + b)
   child_within v c b s0 s1 s3 s4 l a one x y z =
@@ -53,7 +53,7 @@ module _ {R : Type 0} (d : ℕ) (key : R → KeyOf d 16) (t : List (NodeData R))
       one_share : (b : ℕ) → 20 * 1 * (1 + b) ≡ 20 * (1 + b)
       one_share b = omega arith
 
-  -- what a call takes at a node fits the node's own share
+  -- what a call takes at a node is within the node's own share
   pub subtree_within_steps : (nodes : List (NodeLists R)) (visited : ℕ → ℕ) (v old new : ℕ) → v < length t → IsWithinSteps t nodes visited (λ b. 8 + 2 * b + 20 * kids_size t v (child_count t v) * (1 + b)) old new
       → IsWithinSteps t nodes visited (λ b. 20 * subtree_size t v * (1 + b)) old new
   subtree_within_steps nodes visited v old new l h k b one bits few queues =
@@ -62,7 +62,7 @@ module _ {R : Type 0} (d : ℕ) (key : R → KeyOf d 16) (t : List (NodeData R))
 
   -- # The queues that a search meets
 
-  -- those of the next children and of the node itself are as they were after a child's call
+  -- the queues of the next children and of the node itself are as they were after a child's call
   pub queues_apart : (v c k : ℕ) (n m : List (NodeLists R)) → length m ≡ length t → v < length t → c < child_count t v → 1 ≤ k → AreQueuesGrown (is_below (parent t) (child t v c)) n m
       → ((w r j : ℕ) → 0 < below_kids t v (suc c) w + cond (nat_eq w v) 1 0 → length (product_of n w r j).frontier ≤ k)
       → (w r j : ℕ) → 0 < below_kids t v c w + cond (nat_eq w v) 1 0 → length (product_of m w r j).frontier ≤ k
@@ -83,7 +83,7 @@ module _ {R : Type 0} (d : ℕ) (key : R → KeyOf d 16) (t : List (NodeData R))
         ]
       ]
 
-  -- those below a node
+  -- the queues below a node
   pub queues_below : (v c k : ℕ) (n m : List (NodeLists R)) → length m ≡ length t → c ≤ child_count t v → 1 ≤ k → AreQueuesGrown (λ w. 0) n m
       → ((w r j : ℕ) → 0 < is_below (parent t) v w → length (product_of n w r j).frontier ≤ k)
       → (w r j : ℕ) → 0 < below_kids t v c w + cond (nat_eq w v) 1 0 → length (product_of m w r j).frontier ≤ k

@@ -1,4 +1,4 @@
--- What stays where room is made in a product: all but the room.
+-- When room is made in a product, everything stays except the room.
 use Rattle.std.proofs.Common.{◌≡◌, ◌≢◌, ℕ, suc, ◌+◌, ◌<◌, ◌≤◌, ◌⊎◌, max, List, [], length, get_or, slice_set, sym, ap, ◌∙◌, subst, inl, inr, arith}
 use Rattle.std.proofs.lemmas.Bool.{cases_eq}
 use Rattle.stream_store.specs.declared.entry.Linked.{Linked}
@@ -90,7 +90,7 @@ module _ {R : Type 0} (d : ℕ) (key : R → KeyOf d 16) (t : List (NodeData R))
   pub room_within : (visited share : ℕ → ℕ) (old new : ℕ) → IsWithinSteps t n1 visited share old new → IsWithinSteps t n visited share old new
   room_within visited share old new w k b one bits few queues = w k b one bits few (λ u s j p. omega (arith, queues u s j p, queue_same u s j))
 
--- # What is as it was through several calls
+-- # What several calls leave as it was
 
 pub unstepped_on : {R : Type 0} (v : ℕ) (n m o : List (NodeLists R)) → AreUnstepped v n m → AreUnstepped v m o → AreUnstepped v n o
 unstepped_on v n m o p q s k = ((q s k).0 ∙ (p s k).0, (q s k).1 ∙ (p s k).1)

@@ -59,7 +59,7 @@ module _ {R : Type 0} (d : ℕ) (key : R → KeyOf d 16) (t : List (NodeData R))
       let searched : s3 + 6 * c ≤ s2 + 20 * kids_size t v c * (1 + b) = search k b one bits few (queues_apart d key t h.tree v c k n m h1.all_nodes in_tree in_kids one grown queues) in
       child_within d key t h.tree v c b s0 s1 s3 s4 in_tree in_kids (some_bits k b one bits) called (omega (arith, searched, read)) (omega (arith, step, digits))
 
-  -- the steps where no search with the other children is made
+  -- the steps if no search with the other children is made
   pub no_search : (s : ℕ) → IsWithinSteps t m (λ w. below_kids t v c w + cond (nat_eq w v) 1 0) (λ b. 20 * kids_size t v c * (1 + b)) s (s + 6 * c)
   no_search s k b one bits few queues = none_within d key t h.tree v c b s (omega (arith, in_kids))
 
@@ -82,7 +82,7 @@ module _ {R : Type 0} (d : ℕ) (key : R → KeyOf d 16) (t : List (NodeData R))
 
 -- # The search with the other children, or with none
 
--- what there is after it
+-- what there is after the search
 pub record IsSearched {R : Type 0} (d : ℕ) (key : R → KeyOf d 16) (t : List (NodeData R)) (v r c : ℕ) (b : List (Linked (Found R))) (m : List (NodeLists R)) (u : List (NodeData R)) (e : List (Linked (Found R))) (o : List (NodeLists R)) (s0 s1 : ℕ) : Type 0 where
   pub tree : u ≡ t
   pub formed : IsStreams d key t e o
@@ -92,7 +92,7 @@ pub record IsSearched {R : Type 0} (d : ℕ) (key : R → KeyOf d 16) (t : List 
 
 module _ {R : Type 0} (d : ℕ) (key : R → KeyOf d 16) (t : List (NodeData R)) (v r c : ℕ) (b : List (Linked (Found R))) (m : List (NodeLists R)) (u : List (NodeData R)) (e : List (Linked (Found R))) (o : List (NodeLists R)) (s0 s1 : ℕ) (g : u ≡ t) (h : IsStreams d key t e o)
     (few : c ≤ child_count t v) where
-  -- with k children, which are all or none
+  -- with k children, which are either all or none
   pub searched_of : (k : ℕ) → ((k ≡ c) ⊎ (k ≡ 0)) → IsExtended t v r k b m e o → AreQueuesGrown (λ w. below_kids t v k w + cond (nat_eq w v) 1 0) m o
       → IsWithinSteps t m (λ w. below_kids t v k w + cond (nat_eq w v) 1 0) (λ b. 20 * kids_size t v k * (1 + b)) s0 (s1 + 6 * k) → IsSearched d key t v r c b m u e o s0 s1
   searched_of k (inl a) x q w = record {
@@ -125,7 +125,7 @@ searched {R} d key t a v r c b m u e o k s0 s1 f g few all h x q w =
     (subst (λ (y : List (NodeData R)). AreQueuesGrown (λ w. below_kids y v k w + cond (nat_eq w v) 1 0) m o) f q)
     (subst (λ (y : List (NodeData R)). IsWithinSteps y m (λ w. below_kids y v k w + cond (nat_eq w v) 1 0) (λ b. 20 * kids_size y v k * (1 + b)) s0 (s1 + 6 * k)) f w)
 
--- which children a search is made with
+-- the number of children with which a search is made
 pub all_or_none : (i j k c p place : ℕ) → (i ≡ j → (k ≡ c) × (p ≡ place)) → (i ≢ j → (k ≡ 0) × (p ≡ 0)) → (k ≡ c) ⊎ (k ≡ 0)
 all_or_none i j k c p place beside apart = elim (cases_eq i j) [
   | inl e ↦ inl (beside e).0
@@ -143,7 +143,7 @@ count_few d key t es nodes h v r c l row few = elim (cases_lt 0 (length (product
   | inr none ↦ omega (arith, few)
 ]
 
--- the place that is searched for is not beyond the first that is not known
+-- the place that is searched for is at most the first one that is not known
 pub left_within : {R : Type 0} (o : List (NodeLists R)) (v r c k p left : ℕ) → left < part_known o v r c → k ≡ c → p ≡ left + 1 → p ≤ part_known o v r k
 left_within o v r c k p left l e f = omega (arith, l, f, ap (λ z. part_known o v r z) e)
 

@@ -1,4 +1,4 @@
--- What a search for one more solution leaves, composed over its calls.
+-- The effect of a search for one more solution, composed over its calls.
 use Rattle.std.proofs.Common.{◌≡◌, ◌≢◌, ℕ, zero, suc, ◌+◌, ◌<◌, ◌≤◌, ◌⊎◌, max, Option, Some, None, cond, nat_eq, List, [], ◌∷◌, length, drop, get_or, slice_set, refl, sym, ap, ◌∙◌, subst, inl, inr, arith}
 use Rattle.std.proofs.lemmas.Bool.{cases_lt, cases_eq}
 use Rattle.std.proofs.lemmas.Bool.Decides.{nat_tests}
@@ -37,7 +37,7 @@ drop_none [] n e = omega arith
 drop_none (x ∷ xs) zero e = absurd (omega (arith, ap length e))
 drop_none (x ∷ xs) (suc n) e = omega (arith, drop_none xs n e)
 
--- an empty queue: all is known
+-- if a queue is empty, all is known
 all_known : {X : Type 0} (d : ℕ) (key_at : X → KeyOf d 16) (count : X → X → ℕ) (InRange : X → Type 0) (whole : List (KeyOf d 16)) (found : ℕ) → IsAhead X (KeyOf d 16) (key_below d 16) key_at count InRange whole found [] → found ≡ length whole
 unfolding total
 all_known d key_at count InRange whole found a = omega (arith, a.within, drop_none whole found (none_left (key_below d 16) key_at (total count []) (λ x. refl) (drop found whole) a.remains))
@@ -190,7 +190,7 @@ module _ {R : Type 0} (d : ℕ) (key : R → KeyOf d 16) (t : List (NodeData R))
   pub reached_none : (v r place : ℕ) → v < length t → 1 ≤ place → IsReached d key t nodes v r 0 place
   reached_none v r place l a = inr (omega (arith, own_only d key t h.tree v r l))
 
-  -- all is as it was, where a product's room changes
+  -- all is as it was, if only the room of a product changes
   pub reserved_holds : (v r c : ℕ) (p : ProductData R) → v < length t → r < rows t v → c < length (products_of nodes v r) → p.found ≡ (product_of nodes v r c).found → p.frontier ≡ (product_of nodes v r c).frontier
       → IsStreams d key t es (slice_set nodes v (with_product (lists_of nodes v) r c p))
   reserved_holds v r c p l row in_row found frontier =
@@ -207,7 +207,7 @@ module _ {R : Type 0} (d : ℕ) (key : R → KeyOf d 16) (t : List (NodeData R))
       inl (omega (arith, a, changed_known d key t es nodes h v r c p l row in_row rises v r k))
   reached_kept v r c k place p l row in_row found (inr a) = inr a
 
-  -- the head of a stream is the same entry ever after
+  -- the head of a stream stays the same entry
   pub head_stays : (k q g : ℕ) (es' : List (Linked (Found R))) (nodes' : List (NodeLists R)) → IsStoreGrown k es es' → IsStreams d key t es' nodes' → q < length t → g < group_count t q → (stream_of nodes' q g).head ≡ (stream_of nodes q g).head
   head_stays k q g es' nodes' grown h' l in_group =
       let s = h.streams q g l in_group in
@@ -227,7 +227,7 @@ module _ {R : Type 0} (d : ℕ) (key : R → KeyOf d 16) (t : List (NodeData R))
       (subst (IsHeld d key (run_key (key_none d 16) (λ j. part_list d key t q (get_or (members t q g) j 0) (child_count t q))) (InRuns d (length (members t q g)) (λ j. part_list d key t q (get_or (members t q g) j 0) (child_count t q))) run_of) (sym at) (All-get_or (IsHeld d key (run_key (key_none d 16) (λ j. part_list d key t q (get_or (members t q g) j 0) (child_count t q))) (InRuns d (length (members t q g)) (λ j. part_list d key t q (get_or (members t q g) j 0) (child_count t q))) run_of) (stream_of nodes q g).queue 0 e some s.merge.held)).0.0 in
       (k, m)
 
--- # What a call leaves
+-- # The effect of a call
 
 no_size : {R : Type 0} (es : List (Linked (Found R))) (w n : ℕ) → ((i : ℕ) → i < length es → node_of es i < n) → n ≤ w → node_size es w ≡ 0
 unfolding node_size

@@ -29,7 +29,7 @@ module _ {R : Type 0} where
       ap (λ z. cond (nat_eq x.value.node q) (cond (nat_eq x.value.group g) (x.value.answer ∷ z) z) z) (stream_own es e q g a b)
       ∙ later (nat_eq x.value.node q) (nat_eq x.value.group g) x.value.answer e.value.answer (stream es q g)
 
-  -- it stands in no other stream
+  -- it is in no other stream
   pub stream_other : (es : List (Linked (Found R))) (e : Linked (Found R)) (q g : ℕ) → cond (nat_eq e.value.node q) (nat_eq e.value.group g) false ≡ false → stream (es ++ (e ∷ [])) q g ≡ stream es q g
   unfolding stream
   stream_other [] e q g a = none (nat_eq e.value.node q) (nat_eq e.value.group g) e.value.answer a
@@ -40,13 +40,14 @@ module _ {R : Type 0} where
       none false c x e = refl
   stream_other (x ∷ es) e q g a = ap (λ z. cond (nat_eq x.value.node q) (cond (nat_eq x.value.group g) (x.value.answer ∷ z) z) z) (stream_other es e q g a)
 
-  -- the streams of the entry's node are one entry longer together, and those of other nodes as long as before
+  -- the streams of the entry's node have one more entry together, and those of other nodes are as
+  -- long as before
   pub node_size_more : (es : List (Linked (Found R))) (e : Linked (Found R)) (q : ℕ) → node_size (es ++ (e ∷ [])) q ≡ node_size es q + cond (nat_eq e.value.node q) 1 0
   unfolding node_size
   node_size_more [] e q = omega arith
   node_size_more (x ∷ es) e q = omega (arith, node_size_more es e q)
 
-  -- a link that is set changes no stream
+  -- setting a link changes no stream
   pub stream_linked : (es : List (Linked (Found R))) (i : ℕ) (x d : Linked (Found R)) (q g : ℕ) → x.value ≡ (get_or es i d).value → stream (slice_set es i x) q g ≡ stream es q g
   unfolding stream
   stream_linked [] i x d q g e = refl
@@ -71,7 +72,7 @@ all_more P [] x a p = All-cons P x [] p (All-nil P)
 all_more P (y ∷ xs) x a p = All-cons P y (xs ++ (x ∷ [])) (All-head P y xs a) (all_more P xs x (All-tail P y xs a) p)
 
 module _ {R : Type 0} (d : ℕ) (key : R → KeyOf d 16) where
-  -- The ranking's next member is found.
+  -- The next member of the ranking is found.
   pub prefix_more : (xs : List (Answer R)) (a : Answer R) (ks : List (KeyOf d 16)) (none : KeyOf d 16) → IsPrefix d key xs ks → length xs < length ks → get_or ks (length xs) none ≡ key a.rank
       → a.rows ≡ rows_of_key d 16 (key a.rank) → IsPrefix d key (xs ++ (a ∷ [])) ks
   prefix_more xs a ks none p l e r = (
@@ -81,7 +82,7 @@ module _ {R : Type 0} (d : ℕ) (key : R → KeyOf d 16) where
     all_more (λ x. x.rows ≡ rows_of_key d 16 (key x.rank)) xs a p.3 r,
   )
 
-  -- The ranking's next member is found, by its key alone.
+  -- The next member of the ranking is found, only by its key.
   pub first_more : {T : Type 0} (xs : List (Entry R T)) (e : Entry R T) (ks : List (KeyOf d 16)) (none : KeyOf d 16) → AreFirst d key xs ks → length xs < length ks → get_or ks (length xs) none ≡ key e.rank → AreFirst d key (xs ++ (e ∷ [])) ks
   first_more xs e ks none p l at = (
     omega (arith, count_more xs e),

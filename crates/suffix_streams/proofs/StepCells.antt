@@ -23,7 +23,7 @@ use Rattle.suffix_streams.proofs.Stores.{node_length}
 use Rattle.suffix_streams.proofs.Heads.{lists_at}
 use Rattle.suffix_streams.proofs.Entries.{child_in, named_stream}
 
--- the first of a list
+-- the first element of a list
 pub first_of : {A : Type 0} (xs : List A) → 0 < length xs → (x : A) × (x ≡ get_or xs 0 x)
 first_of [] l = absurd (omega arith)
 first_of (x ∷ xs) l = (x, refl)
@@ -58,7 +58,7 @@ module _ {R : Type 0} (d : ℕ) (key : R → KeyOf d 16) (t : List (NodeData R))
       (record { left = m.1; right = omega (arith, e, s.head_in); node = ap (λ z. node_of es z) e ∙ s.head_node; group = ap (λ z. group_of es z) e ∙ s.head_group })
 
 module _ {R : Type 0} (nodes : List (NodeLists R)) (v r c : ℕ) (m n : NodeLists R) (in_nodes : v < length nodes) (at : m ≡ get_or nodes v m) (changed : n ≡ with_product m r c (product_at n r c)) where
-  -- a change of one product, as it is seen from the lists
+  -- a change of one product, in terms of the lists
   pub one_change : slice_set nodes v n ≡ slice_set nodes v (with_product (lists_of nodes v) r c (product_at n r c))
   one_change = ap (λ z. slice_set nodes v z) (changed ∙ ap (λ z. with_product z r c (product_at n r c)) (sym (lists_at nodes v m at in_nodes)))
 

@@ -1,4 +1,4 @@
--- The store of entries, where an entry is put behind all and linked.
+-- The store of entries, when an entry is added after all others and linked.
 use Rattle.std.proofs.Common.{◌≡◌, ◌≢◌, ℕ, zero, suc, ◌+◌, ◌<◌, ◌≤◌, ◌⊎◌, Option, Some, None, Bool, true, false, cond, nat_eq, List, [], ◌∷◌, ◌++◌, map, length, get_or, slice_set, refl, sym, ap, ◌∙◌, subst, inl, inr, arith}
 use Rattle.std.proofs.lemmas.Bool.{cases_lt, cases_eq, eq-eqb, ne_eqb}
 use Rattle.stream_store.specs.declared.entry.Linked.{Linked}
@@ -22,13 +22,13 @@ map_at f [] i a b l = absurd (omega arith)
 map_at f (x ∷ xs) zero a b l = refl
 map_at f (x ∷ xs) (suc i) a b l = map_at f xs i a b (omega arith)
 
--- a list of lists reaches as far as a list in it that has elements
+-- a list of lists is long enough for each list in it that has elements
 pub row_inside : {A : Type 0} (xs : List (List A)) (r c : ℕ) → c < length (get_or xs r []) → r < length xs
 row_inside [] r c l = absurd (omega arith)
 row_inside (x ∷ xs) zero c l = omega arith
 row_inside (x ∷ xs) (suc r) c l = let rest : r < length xs = row_inside xs r c l in omega (arith, rest)
 
--- the rows of which products can be kept: at most all, and all if they have children
+-- the number of rows whose products can be kept: at most all, and all if they have children
 pub open_few : (k n : ℕ) → open_rows k n ≤ n
 open_few zero n = omega arith
 open_few (suc k) n = omega arith
@@ -51,7 +51,7 @@ any_default [] i a b l = absurd (omega arith)
 any_default (x ∷ xs) zero a b l = refl
 any_default (x ∷ xs) (suc i) a b l = any_default xs i a b (omega arith)
 
--- a field of each element, where one element is replaced by one with the same field
+-- a field of each element, if one element is replaced by one with the same field
 map_set : {A B : Type 0} (f : A → B) (xs : List A) (i : ℕ) (x d : A) → f x ≡ f (get_or xs i d) → map f (slice_set xs i x) ≡ map f xs
 map_set f [] i x d e = refl
 map_set f (y ∷ xs) zero x d e = ap (λ z. z ∷ map f xs) e
@@ -154,7 +154,7 @@ module _ {R : Type 0} where
     above = λ i k z. g.above i k (omega arith);
   }
 
-  -- # An entry is put behind all, and linked behind the last of its stream
+  -- # An entry is added after all others, and linked after the last of its stream
 
   module _ (es : List (Linked (Found R))) (last : ℕ) (x : Found R) (linked : Linked (Found R)) (within : last < length es)
       (same : linked.value ≡ (get_or es last linked).value) (to : linked.next ≡ Some (length es)) (node : node_of es last ≡ x.node) (group : group_of es last ≡ x.group) (none : next_of es last ≡ None) where

@@ -1,4 +1,4 @@
--- What a call leaves of the streams, as callers see it.
+-- The effect of a call on the streams, as callers see it.
 use Rattle.std.proofs.Common.{◌≡◌, ℕ, zero, suc, ◌+◌, ◌-◌, ◌*◌, ◌^◌, ◌<◌, ◌≤◌, max, Option, Some, None, Bool, true, false, cond, nat_eq, List, [], length, get_or, ap, inl, inr, arith}
 use Rattle.std.proofs.lemmas.Bool.{cases_lt}
 use Rattle.stream_store.specs.declared.entry.Linked.{Linked}
@@ -21,7 +21,7 @@ use Rattle.suffix_streams.proofs.BeginOwners.{get_past}
 use Rattle.suffix_streams.proofs.Stores.{open_few}
 use Rattle.suffix_streams.proofs.ViewPrefixes.{entry_inside, next_linked}
 
--- a node is below another once at most
+-- a node is below another one at most once
 pub below_few : (up : ℕ → ℕ) (q v : ℕ) → is_below up q v ≤ 1
 unfolding ascends
 below_few up q v = few v v
@@ -83,7 +83,7 @@ module _ {R : Type 0} (d : ℕ) (key : R → KeyOf d 16) (t : List (NodeData R))
         share : (s k b : ℕ) → s ≤ k → 20 * s * (1 + b) ≤ 20 * k * (1 + b)
         share s k b l = grind arith
 
-    -- queues of products get one entry more a call at most
+    -- in each call, queues of products get at most one more entry
     pub few_kept : (calls q : ℕ) → IsStreams d key t es' nodes' → ((v r c : ℕ) → length (product_of nodes v r c).frontier ≤ calls + 1) → AreQueuesGrown (is_below (parent t) q) nodes nodes'
         → (v r c : ℕ) → length (product_of nodes' v r c).frontier ≤ counted calls + 1
     few_kept calls q s few grown v r c = elim (cases_lt (calls + 1) (2 ^ 64 - 1 + 1)) [
@@ -113,7 +113,7 @@ module _ {R : Type 0} (d : ℕ) (key : R → KeyOf d 16) (t : List (NodeData R))
               omega (arith, ap (λ (n : NodeLists R). length (get_or (get_or n.products r []) c (record { found = []; frontier = []; room = 0; frontier_room = 0 })).frontier) none)
         ]
 
--- the entry that follows, to callers
+-- the entry that follows, as callers see it
 pub follows_of : {R : Type 0} (d : ℕ) (key : R → KeyOf d 16) (s : StreamsView R) (e : ℕ) (o : Option ℕ) → IsStreams d key s.tree s.entries s.nodes → e < length s.entries → IsAnswered d key s.tree s.entries e o → Follows d key s e o
 follows_of d key s e (Some n) streams l h =
     let r = next_linked d key s.tree s.entries s.nodes streams e n l h in

@@ -21,13 +21,13 @@ picked_head : {A : Type 0} (v h q g : ℕ) (x d : A) (xs : List A) → v ≡ q �
 picked_head v h q g x d xs a b = let s : cond (nat_eq v q) (cond (nat_eq h g) (x ∷ xs) xs) xs ≡ x ∷ xs = grind (arith, nat_tests) in ap (λ z. get_or z 0 d) s
 
 module _ {R : Type 0} where
-  -- a stream has as many solutions as entries are owned
+  -- a stream has as many solutions as it owns entries
   pub stream-length : (es : List (Linked (Found R))) (q g : ℕ) → length (stream es q g) ≡ owned (node_list es) (group_list_of es) q g
   unfolding stream owned
   stream-length [] q g = refl
   stream-length (e ∷ es) q g = picked_length (nat_eq e.value.node q) (nat_eq e.value.group g) e.value.answer (stream es q g) _ (stream-length es q g)
 
-  -- an entry's solution stands at its place of its stream
+  -- an entry's solution is at the entry's place of its stream
   pub stream-at : (es : List (Linked (Found R))) (q g i : ℕ) (e : Linked (Found R)) (a : Answer R) → i < length es → node_of es i ≡ q → group_of es i ≡ g
       → get_or (stream es q g) (owned (take i (node_list es)) (take i (group_list_of es)) q g) a ≡ (get_or es i e).value.answer
   unfolding stream owned

@@ -48,7 +48,7 @@ module _ {R : Type 0} (d : ℕ) (key : R → KeyOf d 16) where
         subst (λ z. IsPrefix d key (stream es q g) z) (ranking_unique (key_below d 16) (tuple_keys d 16).order (GroupSolution d key t q g) (group_list d key t q g) ks (group_is_ranking d key t q g l) r)
         (s.streams q g l lg).merge.prefix
 
-    -- an entry stands in its stream
+    -- an entry is in its stream
     pub place_in_stream : (i : ℕ) → i < length es → place_of es i < length (stream es (node_of es i) (group_of es i))
     place_in_stream i l =
         omega (
@@ -70,7 +70,7 @@ module _ {R : Type 0} (d : ℕ) (key : R → KeyOf d 16) where
         subst (λ a. (key a.rank ≡ get_or (group_list d key t (node_of es i) (group_of es i)) (place_of es i) (key_none d 16)) × HasRows d key a) same (p.1, p.2) in
         (p.0, q.0, q.1)
 
-    -- what is linked behind an entry
+    -- what is linked after an entry
     pub next_linked : (i n : ℕ) → i < length es → next_of es i ≡ Some n → (n < length es) × (node_of es n ≡ node_of es i) × (group_of es n ≡ group_of es i) × (place_of es n ≡ place_of es i + 1)
     next_linked i n l e =
         let h : IsLinkedAt (node_list es) (group_list_of es) i (Some n) = subst (λ z. IsLinkedAt (node_list es) (group_list_of es) i z) e (s.linked i (omega (arith, l, length-map es (λ e. e.value.node)))) in

@@ -1,4 +1,4 @@
--- The streams of a tree at their start, as callers see them, and the steps that making them takes.
+-- The streams of a tree at their start, as callers see them, and the steps of making them.
 use Rattle.std.proofs.Common.{◌≡◌, ℕ, zero, suc, ◌+◌, ◌-◌, ◌*◌, ◌<◌, ◌≤◌, List, length, ap, ◌∙◌, arith}
 use Rattle.stream_store.specs.declared.entry.Linked.{Linked}
 use Rattle.tdp_model.specs.KeyTuple.{KeyOf}
@@ -35,7 +35,7 @@ module _ {R : Type 0} (d : ℕ) (key : R → KeyOf d 16) (t : List (NodeData R))
   share : (m a n : ℕ) → a ≤ n → 8 * m * a ≤ 16 * m * (1 + n)
   share m a n l = let x : m * a ≤ m * n = grind arith in omega (arith, x)
 
-  -- the steps of the nodes from v on
+  -- the steps for the nodes from v
   pub start_steps : (v : ℕ) → v ≤ length t → 8 * length t * rows_from d key t v ≤ 16 * length t * (1 + row_count t)
   start_steps v l = share (length t) (rows_from d key t v) (row_count t) (rows_within v l)
 

@@ -12,7 +12,7 @@ use Rattle.suffix_streams.specs.NodeLists.{NodeLists}
 use Rattle.suffix_streams.specs.Rankings.{child, group_list}
 use Rattle.suffix_streams.specs.StreamsData.{open_rows, node_list, group_list_of, node_of, group_of, next_of, lists_of, stream_of, products_of, run_of, HasKey}
 
--- the entries stand for the first solutions of the members r, r + 1, and so on
+-- the entries stand for the first solutions of the members r, r + 1 and so on
 abbrev pub AreHeads : {R T : Type 0} (d : ℕ) → (R → KeyOf d 16) → (T → Pair) → (ℕ → KeyOf d 16) → ℕ → List (Entry R T) → Type 0
 AreHeads d key at best_at r [] = Unit {0}
 AreHeads d key at best_at r (e ∷ es) = (at e.tag ≡ record { left = r; right = 0 }) × (key e.rank ≡ best_at r) × AreHeads d key at best_at (suc r) es
@@ -27,7 +27,7 @@ module _ {R : Type 0} (t : List (NodeData R)) where
     pub count : length children ≡ child_count t v
     pub each : (c : ℕ) → c < child_count t v → slice_index children c ≡ child t v c
 
-  -- node v without streams and products
+  -- node v without streams and without products
   pub record IsEmptyNode (v : ℕ) (n : NodeLists R) : Type 0 where
     pub children : AreChildren v n.children
     pub no_streams : n.streams ≡ []
@@ -35,7 +35,7 @@ module _ {R : Type 0} (t : List (NodeData R)) where
     pub no_products : (r : ℕ) → slice_index_or n.products r [] ≡ []
 
 module _ {R : Type 0} (d : ℕ) (key : R → KeyOf d 16) (t : List (NodeData R)) (es : List (Linked (Found R))) (nodes : List (NodeLists R)) where
-  -- the stream of group g of node q has its head alone
+  -- the stream of group g of node q has only its head
   pub record IsBegunAt (q g : ℕ) : Type 0 where
     pub head_in : (stream_of nodes q g).head < length es
     pub node : node_of es (stream_of nodes q g).head ≡ q
@@ -43,7 +43,7 @@ module _ {R : Type 0} (d : ℕ) (key : R → KeyOf d 16) (t : List (NodeData R))
     pub first : HasKey d key es (stream_of nodes q g).head (slice_index_or (group_list d key t q g) 0 (key_none d 16))
     pub heads : HasHeads d key t q g (stream_of nodes q g).queue
 
-  -- the streams that are there have their heads alone, and no row has products
+  -- the streams that are there have only their heads, and no row has products
   pub record IsBegun : Type 0 where
     pub all_nodes : length nodes ≡ length t
     pub children : (v : ℕ) → v < length t → AreChildren t v (lists_of nodes v).children
@@ -55,13 +55,13 @@ module _ {R : Type 0} (d : ℕ) (key : R → KeyOf d 16) (t : List (NodeData R))
     pub counted : (q g : ℕ) → owned (node_list es) (group_list_of es) q g ≡ cond (nat_lt g (length (lists_of nodes q).streams)) 1 0
     pub begun : (q g : ℕ) → q < length t → g < length (lists_of nodes q).streams → IsBegunAt q g
 
-  -- all streams of node v and of those behind it are there, and none of those before it
+  -- all streams of node v and of later nodes are there, and none of earlier nodes
   pub record IsBegunFrom (v : ℕ) : Type 0 where
     pub streams : IsBegun
     pub behind : (q : ℕ) → v ≤ q → q < length t → length (lists_of nodes q).streams ≡ group_count t q
     pub before : (q : ℕ) → q < v → (lists_of nodes q).streams ≡ []
 
-  -- the first g streams of node v are there, all of the nodes behind it, and none of those before it
+  -- the first g streams of node v are there, all streams of later nodes, and none of earlier nodes
   pub record IsBegunIn (v g : ℕ) : Type 0 where
     pub streams : IsBegun
     pub behind : (q : ℕ) → v < q → q < length t → length (lists_of nodes q).streams ≡ group_count t q

@@ -1,4 +1,4 @@
--- Rankings of which the first members are known, with a queue of what follows.
+-- Rankings whose first members are known, with a queue of what follows.
 use Rattle.std.specs.Prelude.{◌≡◌, ℕ, ◌<◌, ◌≤◌, List, map, length, take}
 use Rattle.std.specs.List.{All}
 use Rattle.take2_heap.specs.declared.entry.Entry.{Entry}
@@ -13,22 +13,22 @@ use Rattle.stream_model.specs.Held.{IsHeld, places, InProduct, InRuns}
 abbrev pub HasRows : {R : Type 0} (d : ℕ) → (R → KeyOf d 16) → Answer R → Type 0
 HasRows d key a = a.rows ≡ rows_of_key d 16 (key a.rank)
 
--- some of the ranking's first members: their keys, and as row numbers the keys' slots
+-- some of the ranking's first members: their keys, and the keys' slots as row numbers
 abbrev pub IsPrefix : {R : Type 0} (d : ℕ) → (R → KeyOf d 16) → List (Answer R) → List (KeyOf d 16) → Type 0
 IsPrefix d key xs ks = (0 < length xs) × (length xs ≤ length ks) × (map (λ a. key a.rank) xs ≡ take (length xs) ks) × All (HasRows d key) xs
 
--- some of the ranking's first members, by their keys alone
+-- some of the ranking's first members, only by their keys
 abbrev pub AreFirst : {R T : Type 0} (d : ℕ) → (R → KeyOf d 16) → List (Entry R T) → List (KeyOf d 16) → Type 0
 AreFirst d key xs ks = (0 < length xs) × (length xs ≤ length ks) × (map (λ e. key e.rank) xs ≡ take (length xs) ks)
 
--- the first sums of xs and ys in the order of their ranking zs, and a queue that has what follows
+-- the first sums of xs and ys, in the order of their ranking zs, and a queue of what follows
 pub record IsFrontier {R T : Type 0} (d : ℕ) (key : R → KeyOf d 16) (at : T → Pair) (xs ys zs : List (KeyOf d 16)) (found frontier : List (Entry R T)) : Type 0 where
   pub prefix : AreFirst d key found zs
   pub kept : All (IsHeld d key (pair_key (key_add d 16) (key_none d 16) xs ys) (InProduct d xs ys) at) found
   pub held : All (IsHeld d key (pair_key (key_add d 16) (key_none d 16) xs ys) (InProduct d xs ys) at) frontier
   pub ahead : IsAhead Pair (KeyOf d 16) (key_below d 16) (pair_key (key_add d 16) (key_none d 16) xs ys) (stands_for (length xs) (length ys)) (InProduct d xs ys) zs (length found) (places at frontier)
 
--- the first members of n lists in the order of their ranking zs, and a queue that has what follows
+-- the first members of n lists, in the order of their ranking zs, and a queue of what follows
 pub record IsMerge {R T : Type 0} (d : ℕ) (key : R → KeyOf d 16) (at : T → Pair) (n : ℕ) (lists : ℕ → List (KeyOf d 16)) (zs : List (KeyOf d 16)) (found : List (Answer R)) (queue : List (Entry R T)) : Type 0 where
   pub prefix : IsPrefix d key found zs
   pub held : All (IsHeld d key (run_key (key_none d 16) lists) (InRuns d n lists) at) queue

@@ -1,12 +1,12 @@
--- What is kept of a node, to its callers.
+-- The data of a node, as its callers see it.
 use Rattle.std.specs.Prelude.{ℕ, zero, suc, List, [], length, slice_set, slice_index_or}
 use Rattle.take2_heap.specs.declared.entry.Entry.{Entry}
 use Rattle.stream_cells.specs.declared.source.Source.{Source}
 use Rattle.suffix_streams.specs.ProductData.{ProductData}
 use Rattle.suffix_streams.specs.StreamData.{StreamData}
 
--- a node: its children in ascending order, the streams of its groups, and for each row its products, none before a second
--- solution of the row is asked for
+-- A node: its children in ascending order, the streams of its groups, and the products of each row.
+-- A row has no products until a second solution of it is asked for.
 pub record NodeLists (R : Type 0) : Type 0 where
   pub children : List ℕ
   pub streams : List (StreamData R)
@@ -19,7 +19,7 @@ module _ {R : Type 0} (n : NodeLists R) where
   abbrev pub stream_at : ℕ → StreamData R
   stream_at g = slice_index_or n.streams g (record { head = 0; queue = [] })
 
-  -- how many solutions of row r with its first c children are known
+  -- the number of known solutions of row r with its first c children
   abbrev pub known_of : ℕ → ℕ → ℕ
   known_of r zero = 1
   known_of r (suc c) = length (product_at r c).found

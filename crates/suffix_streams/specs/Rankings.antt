@@ -6,7 +6,7 @@ use Rattle.tdp_model.specs.KeyTuple.{KeyOf, key_below, key_add, key_none}
 use Rattle.tdp_model.specs.TreeProblem.{RowHas, PartHas, gather, part_keys, row_keys}
 use Rattle.tdp_model.proofs.KeyTuples.{tuple_keys}
 
--- child number c of node v among the nodes from 1 on, below n, and 0 where there is none
+-- child number c of node v among the nodes from 1 to n - 1, or 0 if there is none
 unfoldable pub child_among : (ℕ → ℕ) → ℕ → ℕ → ℕ → ℕ
 child_among parent v c zero = 0
 child_among parent v c (suc n) =
@@ -17,7 +17,7 @@ module _ {R : Type 0} (t : List (NodeData R)) where
   abbrev pub child : ℕ → ℕ → ℕ
   child v c = child_among (parent t) v c (length t)
 
-  -- how many nodes after v there are up to the last of its first c children
+  -- the number of nodes after v up to the last of its first c children
   abbrev pub part_end : ℕ → ℕ → ℕ
   part_end v zero = 0
   part_end v (suc c) = child v c - v

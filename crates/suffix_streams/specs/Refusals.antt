@@ -1,4 +1,4 @@
--- What a refused search leaves as it was.
+-- What a search leaves as it was if memory is refused.
 use Rattle.std.specs.Prelude.{◌≡◌, ℕ, List}
 use Rattle.suffix_streams.specs.NodeLists.{NodeLists}
 use Rattle.suffix_streams.specs.StreamsData.{product_of}

@@ -1,4 +1,4 @@
--- What the streams of a tree are to contracts: one store of entries, and what is kept for each node.
+-- The streams of a tree as contracts see them: one store of entries, and the data of each node.
 use Rattle.std.specs.Prelude.{◌≡◌, ℕ, zero, suc, ◌+◌, ◌^◌, ◌<◌, ◌≤◌, Option, Some, None, cond, nat_eq, List, [], ◌∷◌, map, length, slice_index, slice_index_or}
 use Rattle.std.specs.List.{All}
 use Rattle.take2_heap.specs.declared.entry.Entry.{Entry}
@@ -42,7 +42,7 @@ module _ {R : Type 0} (es : List (Linked (Found R))) where
   abbrev pub place_of : ℕ → ℕ
   place_of i = place_in node_list group_list_of i
 
-  -- the entry that follows entry i, where one was linked
+  -- the entry after entry i, if one was linked
   abbrev pub next_of : ℕ → Option ℕ
   next_of i = slice_index_or next_list i None
 
@@ -51,14 +51,15 @@ unfoldable pub stream : {R : Type 0} → List (Linked (Found R)) → ℕ → ℕ
 stream [] q g = []
 stream (e ∷ es) q g = cond (nat_eq e.value.node q) (cond (nat_eq e.value.group g) (e.value.answer ∷ stream es q g) (stream es q g)) (stream es q g)
 
--- how many entries the streams of node q have
+-- the number of entries in the streams of node q
 unfoldable pub node_size : {R : Type 0} → List (Linked (Found R)) → ℕ → ℕ
 node_size [] q = 0
 node_size (e ∷ es) q = cond (nat_eq e.value.node q) 1 0 + node_size es q
 
--- # What is kept for each node
+-- # The data of each node
 
--- of how many of n rows products can be kept, where the rows have k children each: with no child there are none
+-- the number of rows, of n, whose products can be kept, if a row has k children: with no child
+-- there are none
 abbrev pub open_rows : ℕ → ℕ → ℕ
 open_rows zero n = 0
 open_rows (suc k) n = n
@@ -76,11 +77,11 @@ module _ {R : Type 0} (nodes : List (NodeLists R)) where
   abbrev pub stream_of : ℕ → ℕ → StreamData R
   stream_of q g = stream_at (lists_of q) g
 
-  -- how many solutions of row r of node v with its first c children are known
+  -- the number of known solutions of row r of node v with its first c children
   abbrev pub part_known : ℕ → ℕ → ℕ → ℕ
   part_known v r c = known_of (lists_of v) r c
 
-  -- how many solutions of row r of node v are known: those of its last product, or the first alone
+  -- the number of known solutions of row r of node v: those of its last product, or only the first
   abbrev pub row_known : ℕ → ℕ → ℕ
   row_known v r = part_known v r (length (products_of v r))
 
@@ -91,7 +92,8 @@ pair_of es c = record { left = c.left; right = place_of es c.right }
 abbrev pub run_of : Source → Pair
 run_of s = record { left = s.member; right = s.place }
 
--- the solutions of row r of node v with its first c children that are known stand in their product; with no child there is one
+-- the known solutions of row r of node v with its first c children are in their product; with no
+-- child there is one
 abbrev pub AreLefts : {R : Type 0} (d : ℕ) (key : R → KeyOf d 16) → List (NodeData R) → List (NodeLists R) → ℕ → ℕ → ℕ → Type 0
 AreLefts d key t nodes v r zero = Unit {0}
 AreLefts d key t nodes v r (suc c) = AreFirst d key (product_of nodes v r c).found (part_list d key t v r (suc c))
@@ -103,7 +105,7 @@ HasKey {R} d key es i k = (x : Linked (Found R)) → (key (slice_index_or es i x
 -- # The invariants
 
 module _ {R : Type 0} (d : ℕ) (key : R → KeyOf d 16) (t : List (NodeData R)) (es : List (Linked (Found R))) (nodes : List (NodeLists R)) where
-  -- the stream of group g of node q is the beginning of the group's ranking, and its queue has the rest
+  -- the stream of group g of node q is a prefix of the group's ranking, and its queue has the rest
   pub record IsStreamOf (q g : ℕ) : Type 0 where
     pub head_in : (stream_of nodes q g).head < length es
     pub head_node : node_of es (stream_of nodes q g).head ≡ q
@@ -113,7 +115,8 @@ module _ {R : Type 0} (d : ℕ) (key : R → KeyOf d 16) (t : List (NodeData R))
     pub known : All (λ e. e.tag.place < row_known nodes q (slice_index (members t q g) e.tag.member)) (stream_of nodes q g).queue
     pub merge : IsMerge d key run_of (length (members t q g)) (λ i. part_list d key t q (slice_index (members t q g) i) (child_count t q)) (group_list d key t q g) (stream es q g) (stream_of nodes q g).queue
 
-  -- product number c of row r of node v: sums of the row's solutions with its first c children, and of the next child's
+  -- product number c of row r of node v: the sums of the row's solutions with its first c children
+  -- and of the next child's solutions
   pub record IsProductOf (v r c : ℕ) : Type 0 where
     pub few : length (product_of nodes v r c).frontier < 2 ^ 64
     pub known : All (λ e. (e.tag.left < part_known nodes v r c) × (e.tag.right < length es) × (node_of es e.tag.right ≡ child t v c) × (group_of es e.tag.right ≡ group_named t v r c)) (product_of nodes v r c).frontier
@@ -144,7 +147,7 @@ module _ {R : Type 0} (d : ℕ) (key : R → KeyOf d 16) (t : List (NodeData R))
     pub heads : (c : ℕ) → c < child_count t v → (stream_of nodes (child t v c) (group_named t v r c)).head < length es
     pub keys : (c : ℕ) → c < child_count t v → HasKey d key es (stream_of nodes (child t v c) (group_named t v r c)).head (slice_index_or (group_list d key t (child t v c) (group_named t v r c)) 0 (key_none d 16))
 
-  -- what the sums of product number c of row r of node v are formed of
+  -- the parts of the sums of product number c of row r of node v
   pub record HasParts (v r c : ℕ) : Type 0 where
     pub node : v < length nodes
     pub count : c ≤ length (products_of nodes v r)
@@ -154,14 +157,14 @@ module _ {R : Type 0} (d : ℕ) (key : R → KeyOf d 16) (t : List (NodeData R))
     pub fits : (i j : ℕ) → i < length (part_list d key t v r c) → j < length (group_list d key t (child t v c) (group_named t v r c))
         → KeyFits d (key_add d 16 (slice_index_or (part_list d key t v r c) i (key_none d 16)) (slice_index_or (group_list d key t (child t v c) (group_named t v r c)) j (key_none d 16)))
 
-  -- the cell names a solution that is known and an entry of the child's stream
+  -- the cell has a known solution and an entry of the child's stream
   pub record IsCell (v r c : ℕ) (cell : Cell) : Type 0 where
     pub left : cell.left < part_known nodes v r c
     pub right : cell.right < length es
     pub node : node_of es cell.right ≡ child t v c
     pub group : group_of es cell.right ≡ group_named t v r c
 
-  -- the products of row r of node v, each with what its sums are formed of
+  -- the products of row r of node v, each with the parts of its sums
   abbrev pub HaveParts : ℕ → ℕ → Type 0
   HaveParts v r = (c : ℕ) → c < length (products_of nodes v r) → HasParts v r c × IsProductOf v r c
 
@@ -171,7 +174,7 @@ module _ {R : Type 0} (d : ℕ) (key : R → KeyOf d 16) (t : List (NodeData R))
     pub whole : 0 < length (products_of nodes v r) → length (products_of nodes v r) ≡ child_count t v
     pub parts : HaveParts v r
 
--- the cell, where there is one, with the key of its sum
+-- the cell, if there is one, with the key of its sum
 abbrev pub IsOffer : {R : Type 0} (d : ℕ) (key : R → KeyOf d 16) → List (NodeData R) → List (Linked (Found R)) → ℕ → ℕ → ℕ → Option Cell → Option (Entry R Cell) → Type 0
 IsOffer d key t es v r c None None = Unit {0}
 IsOffer d key t es v r c None (Some e) = ⊥

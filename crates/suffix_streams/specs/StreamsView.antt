@@ -11,8 +11,8 @@ use Rattle.suffix_streams.specs.Rankings.{GroupSolution, group_list}
 use Rattle.suffix_streams.specs.Frontiers.{IsPrefix}
 use Rattle.suffix_streams.specs.StreamsData.{IsStreams, node_of, group_of, place_of, stream, node_size, product_of}
 
--- a tree, the entries of all streams in the order in which they were found, what is kept for each node, and the number of
--- calls so far, which stays at its last value
+-- a tree, the entries of all streams in the order in which they were found, the data of each node,
+-- and the number of calls so far, which stays at its last value
 pub record StreamsView (R : Type 0) : Type 0 where
   pub tree : List (NodeData R)
   pub entries : List (Linked (Found R))
@@ -30,12 +30,12 @@ module _ {R : Type 0} where
   abbrev pub entry_place : StreamsView R → ℕ → ℕ
   entry_place s e = place_of s.entries e
 
-  -- how many entries the streams of a node have together
+  -- the number of entries of all streams of a node
   abbrev pub size_of_node : StreamsView R → ℕ → ℕ
   size_of_node s q = node_size s.entries q
 
 module _ {R : Type 0} (d : ℕ) (key : R → KeyOf d 16) where
-  -- the ranking of the group that an entry stands for a solution of
+  -- the ranking of the group whose solution an entry stands for
   abbrev pub entry_ranking : StreamsView R → ℕ → List (KeyOf d 16)
   entry_ranking s e = group_list d key s.tree (entry_node s e) (entry_group s e)
 
@@ -73,7 +73,7 @@ pub record IsNextEntry {R : Type 0} (s : StreamsView R) (e n : ℕ) : Type 0 whe
 abbrev pub IsEntry : {R : Type 0} (d : ℕ) (key : R → KeyOf d 16) → StreamsView R → ℕ → Type 0
 IsEntry d key s e = entry_place s e < length (entry_ranking d key s e)
 
--- the entry after entry e, and none where e stands for the last member of the ranking
+-- the entry after entry e, or none if e stands for the last member of the ranking
 abbrev pub Follows : {R : Type 0} (d : ℕ) (key : R → KeyOf d 16) → StreamsView R → ℕ → Option ℕ → Type 0
 Follows d key s e (Some n) = IsNextEntry s e n × IsEntry d key s n
 Follows d key s e None = length (entry_ranking d key s e) ≡ entry_place s e + 1

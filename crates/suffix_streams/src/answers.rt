@@ -1,4 +1,4 @@
-//! The rows and the rank of a solution that is put together from others.
+//! The rows and the rank of a solution that is made of others.
 ghost use Rattle.std.specs.Prelude.{◌≡◌, ℕ, ◌+◌, ◌^◌, ◌<◌, length, slice_index};
 ghost use Rattle.tdp_core.specs.TreeData.{rank, rows};
 ghost use Rattle.tdp_core.specs.WellFormed.{IsFormed};

@@ -1,4 +1,4 @@
-//! The streams of a tree at their start, each with its head alone.
+//! The streams of a tree at their start, when each has only its head.
 ghost use Rattle.std.specs.Prelude.{◌≡◌, ◌≢◌, ℕ, ◌+◌, ◌*◌, ◌<◌, ◌≤◌, [], ◌∷◌, ◌++◌, None, map, length, slice_index_or, IfOk, OnOk};
 ghost use Rattle.stream_store.specs.declared.entry.Linked.{Linked};
 ghost use Rattle.tdp_core.specs.TreeData.{rows, members, group_count, child_count};
@@ -41,7 +41,7 @@ fn children_of<R: Rank, A: Allocator + Clone>(
     Ok(children)
 }
 
-/// No products, for each of so many rows.
+/// An empty list of products for each of `rows` rows.
 fn no_products<R: Rank, A: Allocator + Clone>(
     alloc: &A,
     rows: u32,
@@ -56,14 +56,14 @@ fn no_products<R: Rank, A: Allocator + Clone>(
     Ok(products)
 }
 
-/// Of how many rows products can be kept: of none where the node has no children.
+/// The number of rows whose products can be kept: 0 if the node has no children, else all.
 fn rows_to_open(children: usize, rows: u32) -> u32
     ensures { result ≡ open_rows children rows }
 {
     if children == 0 { 0 } else { rows }
 }
 
-/// A node whose streams are not there yet.
+/// A node without streams.
 fn empty_node<R: Rank, A: Allocator + Clone>(
     alloc: &A,
     tree: &Tree<R>,
@@ -82,7 +82,7 @@ fn empty_node<R: Rank, A: Allocator + Clone>(
     })
 }
 
-/// All nodes of a tree, whose streams are not there yet.
+/// All nodes of a tree, without streams. `NoMemory` if memory is refused.
 pub(crate) fn empty_nodes<R: Rank, A: Allocator + Clone>(
     alloc: &A,
     tree: &Tree<R>,
@@ -97,7 +97,8 @@ pub(crate) fn empty_nodes<R: Rank, A: Allocator + Clone>(
     Ok(nodes)
 }
 
-/// The first solutions of a group's members, in the order of the group. It takes two steps a member.
+/// The first solutions of a group's members, in the order of the group. It takes two steps for each
+/// member.
 fn heads_of<R: Rank, A: Allocator + Clone, L: Ledger>(
     alloc: &A,
     tree: &Tree<R>,
@@ -124,7 +125,7 @@ fn heads_of<R: Rank, A: Allocator + Clone, L: Ledger>(
     Ok(heads)
 }
 
-/// The stream of a group with its head: the first solutions of all members stand in the queue.
+/// The stream of a group with its head. The queue has the first solutions of all members.
 fn first_stream<R: Rank, A: Allocator + Clone, L: Ledger>(
     alloc: &A,
     tree: &Tree<R>,
@@ -174,7 +175,8 @@ impl<R: Rank, A: Allocator> NodeStreams<R, A> {
     }
 }
 
-/// Makes the streams of a node, behind which all are there.
+/// Makes the streams of a node. The streams of all later nodes must be there. `NoMemory` if memory
+/// is refused.
 pub(crate) fn begin_node<R: Rank, A: Allocator + Clone, L: Ledger>(
     alloc: &A,
     tree: &Tree<R>,

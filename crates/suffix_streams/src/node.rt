@@ -1,4 +1,4 @@
-//! What is kept for one node of the tree.
+//! The data of one node of the tree.
 ghost use Rattle.std.specs.Prelude.{◌≡◌, ℕ, ◌+◌, ◌*◌, ◌^◌, ◌<◌, ◌≤◌, ◌↔◌, None, [], ◌∷◌, ◌++◌, length, slice_set, slice_index, slice_index_or, OnOk, IsSome, IfSome, IfNone};
 ghost use Rattle.std.specs.List.Sorted.{IsPermutation};
 ghost use Rattle.rank_key.specs.Bits.{bit_length};
@@ -20,8 +20,8 @@ use stream_cells::{Cell, Source};
 use stream_store::EntryId;
 use take2_heap::Entry;
 
-/// What is kept for one node: its children, the stream of each of its groups, and the products of
-/// those of its rows of which a second solution was asked for.
+/// The data of one node: its children, the stream of each of its groups, and the products of those
+/// of its rows of which a second solution was asked for.
 #[derive(Drop)]
 pub(crate) struct NodeStreams<R: Rank, A: Allocator> {
     pub(crate) children: Vec<u32, A>,
@@ -39,14 +39,14 @@ impl<R: Rank, A: Allocator> Model for NodeStreams<R, A> {
 }
 
 impl<R: Rank, A: Allocator> NodeStreams<R, A> {
-    /// How many children the node has.
+    /// The number of children of the node.
     pub(crate) fn child_count(&self) -> usize
         ensures { result ≡ length self.now.children }
     {
         self.children.len()
     }
 
-    /// A child of the node, in ascending order.
+    /// The child at a place, from 0. Children are in ascending order.
     pub(crate) fn child(&self, place: usize) -> u32
         requires { place < length self.now.children }
         ensures { result ≡ slice_index self.now.children place }
@@ -63,7 +63,7 @@ impl<R: Rank, A: Allocator> NodeStreams<R, A> {
         stream.head
     }
 
-    /// How many products a row has.
+    /// The number of products of a row.
     pub(crate) fn product_count(&self, row: u32) -> usize
         ensures { result ≡ length (slice_index_or self.now.products row []) }
     {
@@ -75,7 +75,7 @@ impl<R: Rank, A: Allocator> NodeStreams<R, A> {
         }
     }
 
-    /// A product of a row.
+    /// A product of a row. Products count from 0.
     fn product(&self, row: u32, child: usize) -> &Product<R, A>
         requires child { child < length (slice_index_or self.now.products row []) }
         ensures { result.now ≡ product_at self.now row child }
@@ -83,7 +83,7 @@ impl<R: Rank, A: Allocator> NodeStreams<R, A> {
         &self.products[row as usize][child]
     }
 
-    /// How many solutions of a row with its first `count` children are known.
+    /// The number of known solutions of a row with its first `count` children.
     pub(crate) fn known(&self, row: u32, count: usize) -> usize
         requires count { count ≤ length (slice_index_or self.now.products row []) }
         ensures { result ≡ known_of self.now row count }
@@ -95,7 +95,8 @@ impl<R: Rank, A: Allocator> NodeStreams<R, A> {
         }
     }
 
-    /// The cell of a solution of a row with its first children up to number `child`, by its place.
+    /// The cell of a solution of a row with its first children up to number `child`, by its place
+    /// from 0.
     pub(crate) fn cell(&self, row: u32, child: usize, place: usize) -> Cell
         requires child { child < length (slice_index_or self.now.products row []) }
         requires place { place < length (product_at self.now row child).found }
@@ -104,7 +105,7 @@ impl<R: Rank, A: Allocator> NodeStreams<R, A> {
         self.product(row, child).cell(place)
     }
 
-    /// The rank of such a solution.
+    /// The rank of this solution.
     pub(crate) fn rank(&self, row: u32, child: usize, place: usize) -> R
         requires child { child < length (slice_index_or self.now.products row []) }
         requires place { place < length (product_at self.now row child).found }
@@ -113,7 +114,7 @@ impl<R: Rank, A: Allocator> NodeStreams<R, A> {
         self.product(row, child).rank(place)
     }
 
-    /// The last sum that a product found, and None where no further one follows.
+    /// The last sum that a product found, or `None` if no further one follows.
     pub(crate) fn product_top(&self, row: u32, child: usize) -> Option<Entry<R, Cell>>
         requires child { child < length (slice_index_or self.now.products row []) }
         ensures variant { IsSome result ↔ (0 < length (product_at self.now row child).frontier) }
@@ -124,7 +125,7 @@ impl<R: Rank, A: Allocator> NodeStreams<R, A> {
         self.product(row, child).top()
     }
 
-    /// The last solution that the stream of a group found, and None where no further one follows.
+    /// The last solution that the stream of a group found, or `None` if no further one follows.
     pub(crate) fn top(&self, group: u32) -> Option<Entry<R, Source>>
         requires { group < length self.now.streams }
         ensures variant { IsSome result ↔ (0 < length (stream_at self.now group).queue) }
@@ -134,7 +135,7 @@ impl<R: Rank, A: Allocator> NodeStreams<R, A> {
         self.streams[group as usize].top()
     }
 
-    /// The solution of a row that `next` tells the place of, where it is known.
+    /// The solution of the row at the place of `next`, or `None` if it is not known.
     pub(crate) fn offered(&self, row: u32, next: Source) -> Option<Entry<R, Source>>
         requires place { 0 < next.place }
         ensures none { IfNone result (known_of self.now row (length (slice_index_or self.now.products row [])) ≤ next.place) }
@@ -152,7 +153,7 @@ impl<R: Rank, A: Allocator> NodeStreams<R, A> {
         })
     }
 
-    /// Makes room for one more solution in a product.
+    /// Makes room for one more solution in a product. `NoMemory` if memory is refused.
     pub(crate) fn reserve_product(&mut self, row: u32, child: usize) -> Result<(), NoMemory>
         requires child { child < length (slice_index_or self.old.products row []) }
         ensures changed { self.new ≡ with_product self.old row child (product_at self.new row child) }
@@ -165,7 +166,7 @@ impl<R: Rank, A: Allocator> NodeStreams<R, A> {
         products[child].reserve()
     }
 
-    /// Passes the last solution of a product: what follows it stands in its place.
+    /// Passes the last solution of a product: what follows it replaces it in the frontier.
     pub(crate) fn pass_product<L: Ledger>(
         &mut self,
         row: u32,
@@ -200,7 +201,8 @@ impl<R: Rank, A: Allocator> NodeStreams<R, A> {
         products[child].keep(sum);
     }
 
-    /// Passes the last solution of a group: the next one of its row stands in its place, or none.
+    /// Passes the last solution of a group: the next one of its row replaces it in the queue, if
+    /// there is one.
     pub(crate) fn pass<L: Ledger>(
         &mut self,
         group: u32,

@@ -1,4 +1,4 @@
-//! The solutions of a row, as sums of those of its children.
+//! The solutions of a row as sums of those of its children.
 ghost use Rattle.std.specs.Prelude.{◌≡◌, ℕ, ◌+◌, ◌*◌, ◌^◌, ◌<◌, ◌≤◌, ◌↔◌, [], ◌∷◌, ◌++◌, length, slice_index_or, IfOk, OnOk, OnErr, IsSome, IfSome};
 ghost use Rattle.std.specs.List.Sorted.{IsPermutation};
 ghost use Rattle.rank_key.specs.Bits.{bit_length};
@@ -18,8 +18,9 @@ use stream_store::EntryId;
 use take2_heap::{Entry, HeapOf};
 
 /// The solutions of a row with its first children, as sums of those with one child less and of the
-/// solutions of the last child's group: the cells of those found, each with its rank, and a frontier, whose
-/// top is the last one found, until its successor is asked for.
+/// solutions of the last child's group. It has the cell of each solution that was found, with its
+/// rank, and a frontier. The top of the frontier is the last solution found, until the one after it
+/// is asked for.
 #[derive(Drop)]
 pub(crate) struct Product<R: Rank, A: Allocator> {
     found: Vec<Entry<R, Cell>, A>,
@@ -37,7 +38,8 @@ impl<R: Rank, A: Allocator> Model for Product<R, A> {
 }
 
 impl<R: Rank, A: Allocator + Clone> Product<R, A> {
-    /// The product whose first solution has a rank that is known, and a right part.
+    /// The product whose first solution has this rank and this right part. `NoMemory` if memory is
+    /// refused.
     pub(crate) fn new(alloc: &A, rank: R, right: EntryId) -> Result<Product<R, A>, NoMemory>
         ensures found { IfOk result (λ p. p.found ≡ record { rank = rank; tag = record { left = 0; right = right } } ∷ []) }
         ensures frontier { IfOk result (λ p. p.frontier ≡ record { rank = rank; tag = record { left = 0; right = right } } ∷ []) }
@@ -58,14 +60,14 @@ impl<R: Rank, A: Allocator + Clone> Product<R, A> {
 }
 
 impl<R: Rank, A: Allocator> Product<R, A> {
-    /// How many solutions were found.
+    /// The number of solutions that were found.
     pub(crate) fn len(&self) -> usize
         ensures { result ≡ length self.now.found }
     {
         self.found.len()
     }
 
-    /// The cell of the solution at a place.
+    /// The cell of the solution at a place, from 0.
     pub(crate) fn cell(&self, place: usize) -> Cell
         requires { place < length self.now.found }
         ensures { (d : Entry R Cell) → result ≡ (slice_index_or self.now.found place d).tag }
@@ -73,7 +75,7 @@ impl<R: Rank, A: Allocator> Product<R, A> {
         self.found[place].tag
     }
 
-    /// The rank of the solution at a place.
+    /// The rank of the solution at a place, from 0.
     pub(crate) fn rank(&self, place: usize) -> R
         requires { place < length self.now.found }
         ensures { (d : Entry R Cell) → result ≡ (slice_index_or self.now.found place d).rank }
@@ -81,7 +83,7 @@ impl<R: Rank, A: Allocator> Product<R, A> {
         self.found[place].rank
     }
 
-    /// The last solution found, as a sum, and none where no further one follows.
+    /// The last solution found, as a sum, or `None` if no further one follows.
     pub(crate) fn top(&self) -> Option<Entry<R, Cell>>
         ensures variant { IsSome result ↔ (0 < length self.now.frontier) }
         ensures top { IfSome result (λ e. (d : Entry R Cell) → e ≡ slice_index_or self.now.frontier 0 d) }
@@ -92,7 +94,7 @@ impl<R: Rank, A: Allocator> Product<R, A> {
         Some(*top)
     }
 
-    /// Makes room for one more solution.
+    /// Makes room for one more solution. `NoMemory` if memory is refused.
     pub(crate) fn reserve(&mut self) -> Result<(), NoMemory>
         ensures found { self.new.found ≡ self.old.found }
         ensures frontier { self.new.frontier ≡ self.old.frontier }
@@ -103,7 +105,7 @@ impl<R: Rank, A: Allocator> Product<R, A> {
         self.frontier.reserve(1)
     }
 
-    /// Passes the last solution found: what follows it stands in its place.
+    /// Passes the last solution found: what follows it replaces it in the frontier.
     pub(crate) fn pass<L: Ledger>(
         &mut self,
         down: Option<Entry<R, Cell>>,

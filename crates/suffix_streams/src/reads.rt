@@ -1,4 +1,4 @@
-//! What is read of entries and products, and changes nothing.
+//! Reading entries and products, which changes nothing.
 ghost use Rattle.std.specs.Prelude.{◌≡◌, ℕ, ◌+◌, ◌*◌, ◌<◌, ◌≤◌, length, slice_index_or, IfOk, IfSome};
 ghost use Rattle.tdp_core.specs.TreeData.{child_count, group_named, rows};
 ghost use Rattle.tdp_core.specs.Seen.{rows_of_key};
@@ -46,7 +46,8 @@ pub(crate) fn child_head<R: Rank, A: Allocator + Clone, L: Ledger>(
     nodes[child_node as usize].head(group)
 }
 
-/// The first solution of a row, whose rank is known: its own part, and the head of each child's group.
+/// The first solution of a row, whose rank is given: its own part, and the head of each child's
+/// group.
 pub(crate) fn first_answer<R: Rank, A: Allocator + Clone, L: Ledger>(
     tree: &Tree<R>,
     nodes: &[NodeStreams<R, A>],
@@ -74,7 +75,7 @@ pub(crate) fn first_answer<R: Rank, A: Allocator + Clone, L: Ledger>(
     Answer { rows, rank }
 }
 
-/// The products of a row, each with its first solution.
+/// The products of a row, each with its first solution. `NoMemory` if memory is refused.
 pub(crate) fn made_products<R: Rank, A: Allocator + Clone, L: Ledger>(
     alloc: &A,
     tree: &Tree<R>,
@@ -103,7 +104,7 @@ pub(crate) fn made_products<R: Rank, A: Allocator + Clone, L: Ledger>(
     Ok(products)
 }
 
-/// The rank of a solution of a row with its first `count` children at a place that is known.
+/// The rank of a solution of a row with its first `count` children, at a known place.
 fn part_rank<R: Rank, A: Allocator + Clone, L: Ledger>(
     tree: &Tree<R>,
     nodes: &[NodeStreams<R, A>],
@@ -153,7 +154,7 @@ fn cell_rank<R: Rank, A: Allocator + Clone, L: Ledger>(
     R::join(left, right.answer.rank, steps)
 }
 
-/// A cell with the rank of its solution, where there is a cell.
+/// A cell with the rank of its solution, or `None` if there is no cell.
 pub(crate) fn offered<R: Rank, A: Allocator + Clone, L: Ledger>(
     tree: &Tree<R>,
     nodes: &[NodeStreams<R, A>],
@@ -177,7 +178,7 @@ pub(crate) fn offered<R: Rank, A: Allocator + Clone, L: Ledger>(
     Some(Entry { rank, tag: cell })
 }
 
-/// The row numbers of a solution of a row with its first `count` children, at a place that is known.
+/// The row numbers of a solution of a row with its first `count` children, at a known place.
 fn part_rows<R: Rank, A: Allocator + Clone, L: Ledger>(
     tree: &Tree<R>,
     nodes: &[NodeStreams<R, A>],
@@ -207,7 +208,8 @@ fn part_rows<R: Rank, A: Allocator + Clone, L: Ledger>(
     joined_rows(&left, &right.answer.rows)
 }
 
-/// The solution of a row that an entry of a group's queue stands for, whose rank it has.
+/// The solution of a row that an entry of a group's queue stands for. Its rank is that of the
+/// entry.
 pub(crate) fn row_answer<R: Rank, A: Allocator + Clone, L: Ledger>(
     tree: &Tree<R>,
     nodes: &[NodeStreams<R, A>],

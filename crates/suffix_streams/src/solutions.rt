@@ -23,7 +23,7 @@ use stream_cells::{Cell, Source, across_cell, down_cell, source_row};
 use stream_store::{EntryId, Store};
 use tdp_core::Tree;
 
-/// The subtree solutions found so far.
+/// The subtree solutions that were found so far.
 #[derive(Drop)]
 pub(crate) struct Solutions<'t, R: Rank, A: Allocator + Clone> {
     pub(crate) tree: &'t Tree<R>,
@@ -33,7 +33,8 @@ pub(crate) struct Solutions<'t, R: Rank, A: Allocator + Clone> {
 }
 
 impl<'t, R: Rank, A: Allocator + Clone> Solutions<'t, R, A> {
-    /// The entry after `entry`, and None where it is the last of its group.
+    /// The entry after `entry`, or `None` if it is the last of its group. `NoMemory` if memory is
+    /// refused.
     #[cycle(growth)]
     pub(crate) fn after<L: Ledger>(
         &mut self,
@@ -67,8 +68,9 @@ impl<'t, R: Rank, A: Allocator + Clone> Solutions<'t, R, A> {
         Ok(self.advance(entry, found.node, found.group, row, next, steps))
     }
 
-    /// Finds the solution at `place` of a row with its first `count` children, unless it is known or there is none, and makes
-    /// room for one more entry. All that can be refused comes before the first change of a product of the node.
+    /// Finds the solution at `place` of a row with its first `count` children, unless it is known
+    /// or there is none, and makes room for one more entry. `NoMemory` is returned only before the
+    /// first change of a product of the node.
     #[cycle(growth)]
     fn extend<L: Ledger>(
         &mut self,
@@ -121,7 +123,7 @@ impl<'t, R: Rank, A: Allocator + Clone> Solutions<'t, R, A> {
 }
 
 impl<'t, R: Rank, A: Allocator + Clone> Solutions<'t, R, A> {
-    /// Makes the products of a row, one for each child, if they are not there yet.
+    /// Makes the products of a row, one for each child, unless they are there already.
     fn open_row<L: Ledger>(
         &mut self,
         node: u32,
@@ -157,8 +159,8 @@ impl<'t, R: Rank, A: Allocator + Clone> Solutions<'t, R, A> {
         Ok(())
     }
 
-    /// Finds one more solution of a product, where there is one: `cell` is the last one found, `below` follows its right part,
-    /// and `head` is the first entry of the child's stream.
+    /// Finds one more solution of a product, if there is one. `cell` is the last one found, `below`
+    /// is the entry after its right part, and `head` is the first entry of the child's stream.
     fn step<L: Ledger>(
         &mut self,
         node: u32,
@@ -219,8 +221,9 @@ impl<'t, R: Rank, A: Allocator + Clone> Solutions<'t, R, A> {
         self.nodes[node as usize].keep(row, child, top);
     }
 
-    /// Passes the last solution of a group, which `last` stands for, and links the one that follows, where there is one. `next`
-    /// tells the next solution of the row that the last one comes from.
+    /// Passes the last solution of a group, which `last` stands for, and links the one that
+    /// follows, if there is one. `next` is the source of the next solution of the row that the last
+    /// one comes from.
     fn advance<L: Ledger>(
         &mut self,
         last: EntryId,
@@ -278,7 +281,7 @@ impl<'t, R: Rank, A: Allocator + Clone> Solutions<'t, R, A> {
     }
 }
 
-/// Makes room for one more solution in a product of a row.
+/// Makes room for one more solution in a product of a row. `NoMemory` if memory is refused.
 fn make_room<R: Rank, A: Allocator + Clone>(
     nodes: &mut Vec<NodeStreams<R, A>, A>,
     node: u32,
@@ -296,8 +299,9 @@ fn make_room<R: Rank, A: Allocator + Clone>(
     nodes[node as usize].reserve_product(row, child)
 }
 
-/// The search in the product before that a step from `cell` needs, as a number of children and a place: for the next left part
-/// where the right part is the head, else for none. Of the left parts `known` are known.
+/// The search in the product before this one that a step from `cell` needs, as a number of children
+/// and a place. It is for the next left part if the right part is the head, else for none. `known`
+/// is the number of known left parts.
 fn left_search(cell: &Cell, head: EntryId, child: usize, known: usize) -> (usize, usize)
     requires { cell.now.left < known }
     ensures beside { cell.now.right ≡ head → (result.0 ≡ child) × (result.1 ≡ cell.now.left + 1) }
@@ -310,7 +314,8 @@ fn left_search(cell: &Cell, head: EntryId, child: usize, known: usize) -> (usize
     }
 }
 
-/// The next solution of the row that `source` comes from, of which `known` solutions are known.
+/// The next solution of the row that `source` comes from. `known` is the number of known solutions
+/// of the row.
 fn following(source: &Source, known: usize) -> Source
     requires { source.now.place < known }
     ensures { result ≡ record { member = source.now.member; place = source.now.place + 1 } }
@@ -321,7 +326,7 @@ fn following(source: &Source, known: usize) -> Source
     }
 }
 
-/// The place after one of `known` places.
+/// The place after this one, which is one of `known` places.
 fn next_place(place: usize, known: usize) -> usize
     requires { place < known }
     ensures { result ≡ place + 1 }

@@ -1,4 +1,4 @@
-//! The ranking of one group, found solution by solution.
+//! The ranking of one group, found one solution after another.
 ghost use Rattle.std.specs.Prelude.{◌≡◌, ℕ, ◌+◌, ◌*◌, ◌<◌, ◌≤◌, ◌↔◌, Option, None, ◌∷◌, length, slice_index_or, IsSome, IfSome};
 ghost use Rattle.std.specs.List.Sorted.{IsPermutation};
 ghost use Rattle.rank_key.specs.Bits.{bit_length};
@@ -17,7 +17,7 @@ use stream_store::EntryId;
 use take2_heap::{Entry, HeapOf};
 use tdp_core::Answer;
 
-/// A subtree solution of a group, as it stands in the store.
+/// A subtree solution of a group, as the store has it.
 #[derive(Clone, Copy)]
 pub(crate) struct Found<R> {
     pub(crate) node: u32,
@@ -25,8 +25,9 @@ pub(crate) struct Found<R> {
     pub(crate) answer: Answer<R>,
 }
 
-/// The stream of a group: its first entry, and for each member that has solutions left the next of
-/// them. The queue's top is the last entry of the stream, until its successor is asked for.
+/// The stream of a group: its first entry, and, for each member that has solutions left, the next
+/// one of them. The queue's top is the last entry of the stream, until the entry after it is asked
+/// for.
 #[derive(Drop)]
 pub(crate) struct Stream<R: Rank, A: Allocator> {
     pub(crate) head: EntryId,
@@ -42,7 +43,7 @@ impl<R: Rank, A: Allocator> Model for Stream<R, A> {
 }
 
 impl<R: Rank, A: Allocator> Stream<R, A> {
-    /// The last solution found, and None where no further one follows.
+    /// The last solution found, or `None` if no further one follows.
     pub(crate) fn top(&self) -> Option<Entry<R, Source>>
         ensures variant { IsSome result ↔ (0 < length self.now.queue) }
         ensures top { IfSome result (λ e. (d : Entry R Source) → e ≡ slice_index_or self.now.queue 0 d) }
@@ -52,7 +53,8 @@ impl<R: Rank, A: Allocator> Stream<R, A> {
         Some(*top)
     }
 
-    /// Passes the last solution found: the next one of its row stands in its place, or none.
+    /// Passes the last solution found: the next one of its row replaces it in the queue, if there
+    /// is one.
     pub(crate) fn pass<L: Ledger>(&mut self, next: Option<Entry<R, Source>>, steps: &mut Steps<L>)
         requires { 0 < length self.old.queue }
         ensures head { self.new.head ≡ self.old.head }

@@ -17,7 +17,8 @@ use step_counter::{NoMemory, Steps};
 use stream_store::{EntryId, Store};
 use tdp_core::Tree;
 
-/// For each node and group of a tree, numbered from 0, a list of linked entries: the first subtree solutions of the group's ranking.
+/// For each node and group of a tree, numbered from 0, a list of linked entries. These are the
+/// first subtree solutions of the group's ranking.
 #[derive(Drop)]
 pub struct Streams<'t, R: Rank, A: Allocator + Clone> {
     solutions: Solutions<'t, R, A>,
@@ -35,8 +36,8 @@ impl<'t, R: Rank, A: Allocator + Clone> Model for Streams<'t, R, A> {
 }
 
 impl<'t, R: Rank, A: Allocator + Clone> Streams<'t, R, A> {
-    /// The streams of a tree, each with its head. It takes at most 16 * m * (1 + N) steps, where the tree has m nodes and N rows, and
-    /// gives `NoMemory` where memory is refused.
+    /// The streams of a tree, each with its head. It takes at most 16 * m * (1 + N) steps if the
+    /// tree has m nodes and N rows. `NoMemory` if memory is refused.
     pub fn new<L: Ledger>(
         alloc: A,
         tree: &'t Tree<R>,
@@ -78,9 +79,11 @@ impl<'t, R: Rank, A: Allocator + Clone> Streams<'t, R, A> {
         self.solutions.nodes[node as usize].head(group)
     }
 
-    /// The entry after `entry` in its group's ranking, None where `entry` is the last. Where the next entry is known it takes at
-    /// most 4 steps and no memory. Where memory is refused, streams may have grown, and all entries stay. With N rows in the tree
-    /// of m nodes, call number c takes at most 20 * m * (1 + b) steps, where N + c * m has b binary digits.
+    /// The entry after `entry` in its group's ranking, or `None` if `entry` is the last. If the
+    /// next entry is known, it takes at most 4 steps and no memory. `NoMemory` if memory is
+    /// refused; streams may have grown then, and all entries stay. If the tree has m nodes and N
+    /// rows, call number c takes at most 20 * m * (1 + b) steps, where N + c * m has b binary
+    /// digits.
     pub fn after<L: Ledger>(
         &mut self,
         entry: EntryId,
@@ -100,8 +103,8 @@ impl<'t, R: Rank, A: Allocator + Clone> Streams<'t, R, A> {
         self.solutions.after(entry, steps)
     }
 
-    /// The row numbers of the entry's subtree solution, from 1, by item from 0, and 0 at each item without a node in the subtree. It
-    /// takes one step.
+    /// The row numbers, from 1, of the entry's subtree solution, by item, from 0. They are 0 at
+    /// each item without a node in the subtree. It takes one step.
     pub fn rows_of<L: Ledger>(&self, entry: EntryId, steps: &mut Steps<L>) -> [u32; 16]
         requires { entry < length self.now.entries }
         ensures rows { result ≡ rows_of_key R.KEYS 16 (entry_key R.KEYS R.key self.now entry) }

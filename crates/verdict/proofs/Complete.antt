@@ -1,4 +1,4 @@
--- Since there is one verdict at most, a call that ended as it says is complete in both directions.
+-- Since there is at most one verdict, a call that ended as stated is complete in both directions.
 use Rattle.std.proofs.Common.{◌≡◌, ◌⊎◌, Option, Some, None, Result, Ok, Err, inl, inr, ap, sym, refl}
 use Rattle.outer_io.specs.Counts.{Rose}
 use Rattle.outer_io.specs.Files.{Files}
@@ -16,7 +16,7 @@ no_both e = cc
 same_refusal : {a b : Answer} → ◌≡◌ {A = Result Found Answer} (Err a) (Err b) → a ≡ b
 same_refusal e = cc
 
--- a complete output comes only where the input is accepted
+-- a complete output is written only if the input is accepted
 pub complete_only : (asked : Asked) (told : Option Files) (old new : Outside)
     → IsComplete asked told old new → IsRefusedWhereRefused asked told old new 0
 complete_only asked None old new h = tt
@@ -34,7 +34,7 @@ done_by asked files old new answer.WriteFault fits caused found accepted read wr
 done_by asked files old new answer.NoMemory fits caused found accepted read write = inr refl
 done_by asked files old new a fits caused found accepted read write = no_both (one_verdict asked files _ _ accepted fits)
 
--- a call that ended with an answer is done where it must be
+-- a call that ended with an answer is done if it must be
 pub done_only : (asked : Asked) (told : Option Files) (old new : Outside) (a : Answer)
     → Ended asked told old new a → IsDoneWhereAccepted asked told old new (status_of a)
 done_only asked None old new a h = tt
@@ -50,20 +50,20 @@ refused_by asked files old new answer.WriteFault fits caused refusal is_refused 
 refused_by asked files old new answer.NoMemory fits caused refusal is_refused read = inr refl
 refused_by asked files old new a fits caused refusal is_refused read = inl (ap status_of (same_refusal (one_verdict asked files _ _ fits is_refused)))
 
--- and its status is the refusal's, where the input is refused
+-- and its status is the refusal's, if the input is refused
 pub refused_only : (asked : Asked) (told : Option Files) (old new : Outside) (a : Answer)
     → Ended asked told old new a → IsRefusedWhereRefused asked told old new (status_of a)
 refused_only asked None old new a h = tt
 refused_only asked (Some files) old new a h = refused_by asked files old new a h.fits h.caused
 
--- where the output got a part of what an accepted input gives, no refusal is the verdict
+-- if the output got a part of what an accepted input gives, the verdict is not a refusal
 accepted_alone : {A : Type 0} (asked : Asked) (files : Files) (old new : Outside) → GotAccepted asked (Some files) old new
     → (refusal : Answer) → IsVerdict asked files (Err refusal) → A
 accepted_alone no_command files old new h refusal is_refused = absurd h
 accepted_alone (built command) files old new (found, accepted, got) refusal is_refused =
     no_both (one_verdict (built command) files _ _ accepted is_refused)
 
--- a complete output comes only where no refusal is the verdict
+-- a complete output is written only if the verdict is not a refusal
 pub complete_unrefused : (asked : Asked) (told : Option Files) (old new : Outside)
     → IsComplete asked told old new → IsUnwrittenWhereRefused asked told old new
 complete_unrefused asked None old new h = tt
@@ -78,7 +78,7 @@ unwritten_by asked files old new answer.NoMemory (inl nothing) refusal is_refuse
 unwritten_by asked files old new answer.NoMemory (inr accepted) refusal is_refused = accepted_alone asked files old new accepted refusal is_refused
 unwritten_by asked files old new a cut refusal is_refused = cut
 
--- where the input is refused, a call that ended with an answer has written nothing
+-- if the input is refused, a call that ended with an answer has written nothing
 pub unwritten_only : (asked : Asked) (told : Option Files) (old new : Outside) (a : Answer)
     → Ended asked told old new a → IsUnwrittenWhereRefused asked told old new
 unwritten_only asked None old new a h = tt

@@ -1,4 +1,4 @@
--- An input is loaded in one way at most, and has one verdict at most.
+-- An input is loaded in at most one way, and has at most one verdict.
 use Rattle.std.proofs.Common.{◌≡◌, ◌≢◌, ℕ, List, Option, Result, Ok, Err, inl, inr, ap, subst, sym, ◌∙◌}
 use Rattle.outer_io.specs.Files.{Files}
 use Rattle.query_grammar.specs.declared.fault.ParseFault.{ParseFault}
@@ -115,11 +115,11 @@ pub one_loading : OneLoading
 one_loading no_command files = one_computed (Err Usage)
 one_loading (built command) files = one_then _ _ (one_computed _) (one_read (command_script command) (command_words command).tables (files_of command files))
 
--- the whole
+-- all together
 pub one_verdict : OneVerdict
 one_verdict asked files = one_then _ _ (one_loading asked files) one_shaped
 
--- the verdict on words that are no command
+-- the verdict on arguments that are not a command
 abbrev Same : Asked → Asked → Type 0
 Same a b = a ≡ b
 

@@ -1,4 +1,4 @@
--- Stages one after another: what they say together.
+-- Stages one after another: what they state together.
 use Rattle.std.proofs.Common.{◌≡◌, ◌≤◌, ℕ, List, Option, Some, None, Result, Ok, Err, refl, subst, arith, ◌∙◌}
 use Rattle.outer_io.specs.Files.{Files}
 use Rattle.outer_io.proofs.Counting.{Rose-after}
@@ -24,7 +24,7 @@ wider_fits G T H U (Some files) answer.WriteFault gives turns h = h
 wider_fits G T H U (Some files) answer.Usage gives turns h = h
 wider_fits G T H U (Some files) e gives turns h = gives files refl h
 
--- what a stage found fits where the files are told
+-- what a stage found fits if the files are known
 found_fits : {A : Type 0} (G : Files → Result A Answer → Type 0) (T : Files → List ℕ → Type 0) (told : Option Files) (a : A)
     → Fits G T told (Ok a) → (files : Files) → told ≡ Some files → G files (Ok a)
 found_fits G T told a h files e = let P : Option Files → Type 0 = λ t. Fits G T t (Ok a) in subst P e h
@@ -91,11 +91,11 @@ found_then G T H U old mid new a r =
     found_within G T (H a) (U a) (λ files. Then (G files) (λ a. H a files)) (EitherTurn G T U) old mid new a r
     (λ files g h. followed g h) (λ files name g h. second_turn g h)
 
--- a stage that is refused memory, with the shelf as it was
+-- a stage that is refused memory, and the shelf is as it was
 pub memory_staged : {A : Type 0} (G : Files → Result A Answer → Type 0) (T : Files → List ℕ → Type 0) (s : Shelved) → Staged G T s s (Err answer.NoMemory)
 memory_staged G T s = record { fits = tt; caused = tt; files = refl; misses = omega arith; faults = omega arith }
 
--- ---- stages that look at no file
+-- ---- stages that read no file
 
 pure_fits : {A : Type 0} (G : Result A Answer → Type 0) (told : Option Files) (r : Result A Answer) → Pure G r → Fits (λ files. G) NoTurn told r
 pure_fits G None (Ok a) h = tt
@@ -123,7 +123,7 @@ pure_staged G s r h = record {
   faults = omega arith;
 }
 
--- what a stage gives, given by another that gives at least that
+-- what a stage gives, if another gives at least that
 pub wider_staged : {A : Type 0} (G K : Files → Result A Answer → Type 0) (T V : Files → List ℕ → Type 0) (old new : Shelved) (r : Result A Answer)
     → ((files : Files) → G files r → K files r) → ((files : Files) (name : List ℕ) → T files name → V files name) → Staged G T old new r → Staged K V old new r
 wider_staged {A} G K T V old new r gives turns s = record {
@@ -139,7 +139,7 @@ wider_staged {A} G K T V old new r gives turns s = record {
     by_result (Some files) (Ok a) h more = more files h
     by_result told (Err e) h more = wider_fits G T K V told e (λ files is k. more files k) (λ files name is k. turns files name k) h
 
--- ---- a stage, and then one that looks at no file
+-- ---- a stage, and then one that reads no file
 
 pub refused_before : {A B : Type 0} (G : Files → Result A Answer → Type 0) (T : Files → List ℕ → Type 0) (H : A → Result B Answer → Type 0) (old new : Shelved) (e : Answer)
     → Staged G T old new (Err e) → Staged (λ files. Then (G files) H) T old new (Err e)
@@ -151,7 +151,7 @@ found_before G T H old new a r s h =
     found_within G T (λ files. H a) NoTurn (λ files. Then (G files) H) T old new new a r
     (λ files g k. followed g k) (λ files name g no_turn. absurd no_turn) s (pure_staged (H a) new r h)
 
--- ---- two stages that look at no file, one after the other
+-- ---- two stages that read no file, one after another
 
 pub pure_refused : {A B : Type 0} (G : Result A Answer → Type 0) (H : A → Result B Answer → Type 0) (e : Answer) → Pure G (Err e) → Pure (Then G H) (Err e)
 pure_refused G H answer.NoMemory h = tt

@@ -1,4 +1,4 @@
--- The structure of what was loaded, as a stage that looks at no file.
+-- The structure of what was loaded, as a stage that reads no file.
 use Rattle.std.proofs.Common.{Ok, Err, refl}
 use Rattle.query_shape.specs.Shape.{Flaw, IsShape, Shape, cyclic, too_many_rows}
 use Rattle.verdict.specs.Faults.{of_shape}

@@ -1,4 +1,4 @@
--- The bound on the counted steps of an input that is accepted.
+-- The bound on the counted steps of an accepted input.
 use Rattle.std.specs.Prelude.{◌≡◌, ◌+◌, ◌*◌, ◌++◌, ◌≤◌, ℕ, List, Option, Some, IfSome, Ok}
 use Rattle.outer_io.specs.Files.{Files}
 use Rattle.anyk_model.specs.Ranking.{ranking_of}
@@ -10,8 +10,9 @@ use Rattle.verdict.specs.SessionCalls.{session_calls, session_reach}
 use Rattle.verdict.specs.Verdict.{IsVerdict}
 use Rattle.verdict.specs.Words.{Asked, Command, built, load, plan, run, session}
 
--- the steps are within the bound: on `run` and on `load` for the calls that give the members, on `plan` for no call, and on `session`
--- for as many calls as its steps go far, and 4 more for each call that they make
+-- The steps are within the bound. For `run` and `load` the bound counts the calls that give the
+-- members, and for `plan` no call. For `session` it counts as many calls as its steps reach far,
+-- and 4 more steps for each call that they make.
 abbrev pub IsWithin : Command → Found → ℕ → ℕ → Type 0
 IsWithin (run words) found before now = now ≤ before + cost_over found.query found.tables found.shape (calls_for found.query.limit (ranking_of found.query found.tables))
 IsWithin (plan words) found before now = now ≤ before + cost_over found.query found.tables found.shape 0
@@ -19,12 +20,13 @@ IsWithin (session script words) found before now = now ≤ before + cost_over fo
     + 4 * session_calls found.query.limit (ranking_of found.query found.tables) found.steps
 IsWithin (load number rows) found before now = now ≤ before + cost_over found.query found.tables found.shape (calls_for found.query.limit (ranking_of found.query found.tables))
 
--- if the files are told and the input is accepted they are, also if the call ended early
+-- if the files are known and the input is accepted, the steps are within the bound, even if the
+-- call ended early
 abbrev pub IsBounded : Asked → Option Files → ℕ → ℕ → Type 0
 IsBounded (built command) told before now = IfSome told (λ files. (found : Found) → IsVerdict (built command) files (Ok found) → IsWithin command found before now)
 IsBounded asked told before now = Unit {0}
 
--- a run took no more than those of the whole records that the output got and of one call more
+-- a run took no more steps than for the whole records that the output got, and one call more
 abbrev pub IsPaced : Command → Found → Option (List ℕ) → Option (List ℕ) → ℕ → ℕ → Type 0
 IsPaced (run words) found old new before now = (start part : List ℕ) → old ≡ Some start → new ≡ Some (start ++ part)
     → now ≤ before + cost_over found.query found.tables found.shape (records_in found.query found.tables (style_of words) part + 1)
@@ -32,7 +34,7 @@ IsPaced (plan words) found old new before now = Unit {0}
 IsPaced (session script words) found old new before now = Unit {0}
 IsPaced (load number rows) found old new before now = Unit {0}
 
--- and so if the files are told and the input is accepted
+-- the same, if the files are known and the input is accepted
 abbrev pub IsPrompt : Asked → Option Files → Option (List ℕ) → Option (List ℕ) → ℕ → ℕ → Type 0
 IsPrompt (built command) told old new before now =
     IfSome told (λ files. (found : Found) → IsVerdict (built command) files (Ok found) → IsPaced command found old new before now)

@@ -1,4 +1,4 @@
--- Which answer a fault of a part is; running out of memory is none of the input's.
+-- The answer for a fault of a part. Running out of memory is not a fault of the input.
 use Rattle.std.specs.Prelude.{ℕ, List}
 use Rattle.query_grammar.specs.declared.fault.ParseFault.{ParseFault}
 use Rattle.query_grammar.specs.declared.fault.ParseFault.TheVariants as parse

@@ -11,7 +11,7 @@ pub record Found : Type 0 where
   pub tables : List Table
   -- the join tree, with the numbers of its node rows
   pub shape : Shape
-  -- those of the script, and none if there is no script
+  -- the steps of the script, and none if there is no script
   pub steps : List Step
 
 -- what was loaded, with its structure

@@ -1,13 +1,13 @@
--- What stands of all inputs.
+-- What holds for all inputs.
 use Rattle.outer_io.specs.Files.{Files}
 use Rattle.verdict.specs.Stages.{AtMostOne}
 use Rattle.verdict.specs.Verdict.{IsLoaded, IsVerdict}
 use Rattle.verdict.specs.Words.{Asked}
 
--- an input is loaded in one way at most
+-- an input is loaded in at most one way
 abbrev pub OneLoading : Type 0
 OneLoading = (asked : Asked) (files : Files) → AtMostOne (IsLoaded asked files)
 
--- an input has one verdict at most
+-- an input has at most one verdict
 abbrev pub OneVerdict : Type 0
 OneVerdict = (asked : Asked) (files : Files) → AtMostOne (IsVerdict asked files)

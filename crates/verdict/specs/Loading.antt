@@ -1,4 +1,4 @@
--- The stages of looking at an input: its query, its script, its tables, and the query bound to them.
+-- The stages of loading an input: its query, its script, its tables, and the query bound to them.
 use Rattle.std.specs.Prelude.{◌≡◌, ◌≢◌, ℕ, nat_lt, if◌then◌else◌, List, [], ◌∷◌, ◌++◌, map, length, Option, None, Some, option_map, unwrap_or, Result, Ok, Err}
 use Rattle.std.specs.List.{list_any, position_or_len}
 use Rattle.std.specs.Str.{bytes_eq}
@@ -21,7 +21,7 @@ use Rattle.verdict.specs.Stages.{then_by, unless}
 
 -- ---- one file
 
--- the most bytes of a file
+-- the greatest number of bytes of a file
 abbrev pub most_bytes : ℕ
 most_bytes = 67108864
 
@@ -36,7 +36,7 @@ file_with name (Some bytes) = short_enough name bytes
 abbrev pub file_in : Files → List ℕ → Result (List ℕ) Answer
 file_in files name = file_with name (bytes_of files name)
 
--- ---- the query: a relation, since the grammar is one
+-- ---- the query: a relation, since the grammar is a relation
 
 abbrev pub IsParse : List ℕ → Result Select Answer → Type 0
 IsParse bytes (Ok select) = IsParsed bytes select
@@ -49,7 +49,7 @@ abbrev pub told_steps : Result (List Step) ScriptFault → Result (List Step) An
 told_steps (Ok steps) = Ok steps
 told_steps (Err fault) = Err (of_script fault)
 
--- the steps that the bytes of a script say
+-- the steps that the bytes of a script write
 abbrev pub steps_said : List ℕ → Result (List Step) Answer
 steps_said bytes = told_steps (steps_of bytes)
 
@@ -60,7 +60,8 @@ steps_in files (Some name) = then_by (file_in files name) steps_said
 
 -- ---- the tables
 
--- the first item in the order of the text whose table no word names, told by that word's file
+-- The first item, in the order of the text, whose table the command line does not name. The first
+-- argument is the file of that item's table, if there is one.
 abbrev pub unknown_with : Option (List ℕ) → ℕ → Option Answer → Option Answer
 unknown_with None at later = Some (UnknownTable at)
 unknown_with (Some file) at later = later
@@ -69,7 +70,7 @@ abbrev pub unknown_table : List (List ℕ × List ℕ) → List ItemRef → Opti
 unknown_table named [] = None
 unknown_table named (item ∷ items) = unknown_with (bytes_of named item.table) item.at (unknown_table named items)
 
--- names without those that stand earlier too
+-- the names that are not in the first list and not earlier in the second
 abbrev pub first_uses_after : List (List ℕ) → List (List ℕ) → List (List ℕ)
 first_uses_after earlier [] = []
 first_uses_after earlier (name ∷ names) =
@@ -87,7 +88,7 @@ first_uses items = first_uses_after [] (table_names items)
 abbrev pub table_numbers : List ItemRef → List ℕ
 table_numbers items = map (λ name. position_or_len (λ other. bytes_eq other name) (first_uses items)) (table_names items)
 
--- the file of a table that some word names
+-- the file of a table that the command line names
 abbrev pub known_file : List (List ℕ × List ℕ) → List ℕ → List ℕ
 known_file named table = unwrap_or (bytes_of named table) []
 
@@ -109,7 +110,7 @@ abbrev pub go_on : {A : Type 0} → Result A Answer → List (List ℕ) → List
 go_on (Ok a) later = later
 go_on (Err answer) later = []
 
--- the files that are read for these tables: up to the first that refuses
+-- the files that are read for these tables: up to the first that is refused
 abbrev pub files_read : Files → List (List ℕ × List ℕ) → List (List ℕ) → List (List ℕ)
 files_read files named [] = []
 files_read files named (name ∷ names) = known_file named name ∷ go_on (table_in files named name) (files_read files named names)
@@ -120,10 +121,10 @@ files_read files named (name ∷ names) = known_file named name ∷ go_on (table
 pub record Loaded : Type 0 where
   pub query : Query
   pub tables : List Table
-  -- those of the script, and none if there is no script
+  -- the steps of the script, and none if there is no script
   pub steps : List Step
 
--- names, weights and ranges
+-- the names, the weights and the ranges are checked
 abbrev pub bound_in : Select → List Table → List Step → Result Loaded Answer
 bound_in select tables steps =
     unless (option_map of_bind (bind_fault select tables (table_numbers select.items)))

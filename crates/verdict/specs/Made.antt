@@ -1,4 +1,4 @@
--- The files that a command looks at.
+-- The files that a command reads.
 use Rattle.std.specs.Prelude.{ℕ, List, ◌∷◌, map}
 use Rattle.std.specs.List.{zip}
 use Rattle.make_input.specs.Input.{files, load_query, query_file, table_files}
@@ -9,7 +9,7 @@ use Rattle.verdict.specs.Words.{Command, run, plan, session, load}
 abbrev pub made_files : ℕ → ℕ → Files
 made_files number rows = (query_file, load_query) ∷ zip (map (λ (t : List ℕ × List ℕ). t.1) table_files) (files number rows)
 
--- `load` looks at the files that it makes, and the others at those that they are given
+-- `load` reads the files that it makes, and the other commands read those that they are given
 abbrev pub files_of : Command → Files → Files
 files_of (run words) given = given
 files_of (plan words) given = given

@@ -1,4 +1,5 @@
--- What a call of the program has done, by what its words ask for and what the outside told.
+-- What a call of the program has done, by what its arguments ask for and what is known of the
+-- outside.
 use Rattle.std.specs.Prelude.{◌≡◌, ◌≢◌, ◌⊎◌, ◌==◌, true, ℕ, List, [], ◌∷◌, Option, Some, None, IfSome, Ok, Err}
 use Rattle.std.specs.List.{list_any}
 use Rattle.std.specs.Io.KnownBytes.{Appends}
@@ -32,13 +33,13 @@ pub record HasLine (old new : Outside) (line : List ℕ) : Type 0 where
   pub prefix : GotPrefix old.errors new.errors line
   pub whole : (Rose old.error_faults new.error_faults → ⊥) → Appends old.errors new.errors line
 
--- if the files are told: the input is accepted, and its complete output was written
+-- if the files are known: the input is accepted, and its complete output was written
 abbrev pub IsComplete : Asked → Option Files → Outside → Outside → Type 0
 IsComplete (built command) told old new =
     IfSome told (λ files. (found : Found) × IsVerdict (built command) files (Ok found) × Appends old.output new.output (output command found))
 IsComplete asked told old new = ⊥
 
--- if the files are told: the input is accepted, and the output got a prefix of its complete output
+-- if the files are known: the input is accepted, and the output got a prefix of its complete output
 abbrev pub GotAccepted : Asked → Option Files → Outside → Outside → Type 0
 GotAccepted (built command) told old new =
     IfSome told (λ files. (found : Found) × IsVerdict (built command) files (Ok found) × GotPrefix old.output new.output (output command found))
@@ -49,8 +50,8 @@ GotNothing old new = Appends old.output new.output []
 
 -- ---- the answers
 
--- the file is read on this input: the query's, or, once that is parsed, the script's, or, once that is read, one of the tables' up to
--- the first refusal
+-- The file is read for this input. It is the file of the query; or of the script, once the query is
+-- parsed; or of one of the tables up to the first refusal, once the script is read.
 pub data IsTurnOf (words : Words) (script : Option (List ℕ)) (files : Files) (name : List ℕ) : Type 0 where
   query_turn : name ≡ words.query → IsTurnOf words script files name
   script_turn : {bytes : List ℕ} {select : Select} → file_in files words.query ≡ Ok bytes → IsParse bytes (Ok select)
@@ -59,7 +60,7 @@ pub data IsTurnOf (words : Words) (script : Option (List ℕ)) (files : Files) (
       → steps_in files script ≡ Ok steps → unknown_table words.tables select.items ≡ None
       → IsMember name (files_read files words.tables (first_uses select.items)) → IsTurnOf words script files name
 
--- if the files are told, it is one that the command reads, and `load` reads none
+-- if the files are known, it is a file that the command reads; `load` reads none
 abbrev pub IsCommandTurn : Command → Option Files → List ℕ → Type 0
 IsCommandTurn (run words) told name = IfSome told (λ files. IsTurnOf words None files name)
 IsCommandTurn (plan words) told name = IfSome told (λ files. IsTurnOf words None files name)
@@ -70,7 +71,8 @@ abbrev pub IsTurn : Asked → Option Files → List ℕ → Type 0
 IsTurn (built command) told name = IsCommandTurn command told name
 IsTurn no_command told name = ⊥
 
--- if the files are told, the answer is the verdict on the input, or it speaks of what happened on the way
+-- if the files are known, the answer is the verdict on the input, or it says what happened on the
+-- way
 abbrev pub IsAnswer : Asked → Option Files → Answer → Type 0
 IsAnswer asked told answer.Usage = asked ≡ no_command
 IsAnswer asked told (answer.ReadFault name) = IsTurn asked told name
@@ -78,7 +80,7 @@ IsAnswer asked told answer.WriteFault = IfSome told (λ files. (found : Found) �
 IsAnswer asked told answer.NoMemory = Unit {0}
 IsAnswer asked told refusal = IfSome told (λ files. IsVerdict asked files (Err refusal))
 
--- an answer about the outside comes only if the count that belongs to it rose
+-- an answer about the outside is given only if the count that belongs to it rose
 abbrev pub IsCaused : Outside → Outside → Answer → Type 0
 IsCaused old new (answer.NoFile name) = Rose old.misses new.misses
 IsCaused old new (answer.ReadFault name) = Rose old.read_faults new.read_faults
@@ -115,12 +117,12 @@ abbrev pub IsUnwrittenWhereRefused : Asked → Option Files → Outside → Outs
 IsUnwrittenWhereRefused asked told old new =
     IfSome told (λ files. (refusal : Answer) → IsVerdict asked files (Err refusal) → GotNothing old new)
 
--- ---- the whole
+-- ---- all together
 
 abbrev pub statuses : List ℕ
 statuses = 0 ∷ 2 ∷ 3 ∷ 4 ∷ 5 ∷ 6 ∷ 7 ∷ 8 ∷ 9 ∷ 10 ∷ 11 ∷ 12 ∷ []
 
--- all that is said of one call of the program
+-- all that is stated about one call of the program
 pub record Outcome (asked : Asked) (told : Option Files) (old new : Outside) (status : ℕ) : Type 0 where
   pub known : list_any (λ s. s == status) statuses ≡ true
   pub done : status ≡ 0 → IsComplete asked told old new

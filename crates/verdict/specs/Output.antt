@@ -11,12 +11,13 @@ use Rattle.verdict.specs.Summary.{summary_text}
 abbrev pub style_of : Words → Style
 style_of words = record { ranks = words.ranks; rows = words.rows; cursor = None }
 
--- the members of the ranking that the limit leaves
+-- the members of the ranking that are within the limit
 abbrev pub members_of : Found → List (List ℕ)
 members_of found = cut found.query.limit (ranking_of found.query found.tables)
 
--- on `run` the header, and then a record for each of these members; on `plan` the report of the join tree; on `session` what the
--- steps of its script print of these members; on `load` their summary
+-- The output of `run` is the header, and then a record for each of these members. That of `plan` is
+-- the report of the join tree. That of `session` is what the steps of its script print of these
+-- members, and that of `load` is their summary.
 abbrev pub output : Command → Found → List ℕ
 output (run words) found = output_of found.query found.tables (style_of words) (members_of found)
 output (plan words) found = report_of found.query found.tables found.shape

@@ -14,21 +14,22 @@ Places = List ℕ → Option ℕ
 abbrev pub no_cursors : Places
 no_cursors = λ name. None
 
--- the same cursors but for one name, which has this place, or no cursor
+-- the same cursors, except that this name has this place, or no cursor
 abbrev pub with_cursor : Places → List ℕ → Option ℕ → Places
 with_cursor places name place = λ other. if bytes_eq other name then place else places other
 
--- where the cursor of this name stands
+-- the place of the cursor of this name
 abbrev pub place_in : Places → List ℕ → ℕ
 place_in places name = unwrap_or (places name) 0
 
--- a line for each of the first members, so many of them, and the ending if there are fewer
+-- a line for each of the first `count` members, and the ending if there are fewer
 abbrev pub next_text : (List ℕ → List ℕ) → List ℕ → List (List ℕ) → ℕ → List ℕ
 next_text line ending members zero = []
 next_text line ending [] (suc count) = ending
 next_text line ending (member ∷ members) (suc count) = line member ++ next_text line ending members count
 
--- what a step prints: `next` the members from its cursor's place on, and the cursor's name alone if the list ends before
+-- what a step prints: `next` prints the members from its cursor's place, and the cursor's name
+-- alone if the list ends before that
 abbrev pub step_text : (List ℕ → List ℕ → List ℕ) → List (List ℕ) → Places → Step → List ℕ
 step_text line members places (Open name) = []
 step_text line members places (Next name count) = next_text (line name) (name ++ codes "\n") (drop (place_in places name) members) count
@@ -36,7 +37,7 @@ step_text line members places (Fork name new) = []
 step_text line members places (Rewind name) = []
 step_text line members places (Close name) = []
 
--- where the cursors stand after a step
+-- the places of the cursors after a step
 abbrev pub places_after : List (List ℕ) → Places → Step → Places
 places_after members places (Open name) = with_cursor places name (Some 0)
 places_after members places (Next name count) =

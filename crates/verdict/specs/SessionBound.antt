@@ -1,4 +1,4 @@
--- The most steps of a session over a query.
+-- The greatest number of steps of a session over a query.
 use Rattle.std.specs.Prelude.{◌+◌, ◌*◌, ◌≤◌, ℕ, List, Ok}
 use Rattle.anyk_model.specs.Table.{Table}
 use Rattle.anyk_model.specs.Query.{Query}
@@ -8,7 +8,8 @@ use Rattle.session_script.specs.declared.step.Step.{Step}
 use Rattle.step_bounds.specs.Bounded.{cost_over}
 use Rattle.verdict.specs.SessionCalls.{session_calls, session_reach}
 
--- no more steps than the bound for as many calls as the script goes far, and 4 more for each call that it makes
+-- no more steps than the bound for as many calls as the script reaches far, and 4 more for each
+-- call that it makes
 abbrev pub KeepsSessionBound : Query → List Table → List Step → ℕ → ℕ → Type 0
 KeepsSessionBound query tables script before now =
     (shape : Shape) → IsShape query tables (Ok shape)

@@ -1,8 +1,8 @@
--- Stages, one after another: each finds something, or refuses.
+-- Stages, one after another: each one finds something, or refuses.
 use Rattle.std.specs.Prelude.{◌≡◌, Option, Some, None, Result, Ok, Err}
 use Rattle.refusal_lines.specs.Answer.{Answer}
 
--- what the second stage finds from what the first found, or the first refusal
+-- what the second stage finds after the first, or the first refusal
 pub data Then {A B : Type 0} (First : Result A Answer → Type 0) (Second : A → Result B Answer → Type 0) : Result B Answer → Type 0 where
   refused : {answer : Answer} → First (Err answer) → Then First Second (Err answer)
   followed : {a : A} {result : Result B Answer} → First (Ok a) → Second a result → Then First Second result
@@ -21,6 +21,6 @@ abbrev pub unless : {A : Type 0} → Option Answer → A → Result A Answer
 unless None a = Ok a
 unless (Some answer) a = Err answer
 
--- at most one has P
+-- at most one value has P
 abbrev pub AtMostOne : {A : Type 0} → (A → Type 0) → Type 0
 AtMostOne {A} P = (x y : A) → P x → P y → x ≡ y

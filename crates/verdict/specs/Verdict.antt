@@ -1,5 +1,5 @@
--- The verdict on an input: what is found, or the first refusal in the order in which the input is looked at. The stages are read from
--- `IsVerdict` up: each definition is one stage, and names the one that follows it.
+-- The verdict on an input: what is found, or the first refusal in the order of the stages. Read the
+-- stages from `IsVerdict` up: each definition is one stage, and names the one that follows it.
 use Rattle.std.specs.Prelude.{◌≡◌, ℕ, List, Option, Result, Ok, Err}
 use Rattle.outer_io.specs.Files.{Files}
 use Rattle.query_grammar.specs.declared.select.Select.{Select}
@@ -14,13 +14,13 @@ use Rattle.verdict.specs.Loading.{Loaded, IsParse, file_in, steps_in, unknown_ta
 use Rattle.verdict.specs.Found.{Found, found_of}
 use Rattle.verdict.specs.Stages.{Then, Is, unless}
 
--- the files that the words name for tables
+-- the files that the command line names for tables
 abbrev pub Named : Type 0
 Named = List (List ℕ × List ℕ)
 
 -- ---- loading
 
--- names, weights and ranges
+-- the names, the weights and the ranges
 abbrev pub IsBound : Select → List Table → List Step → Result Loaded Answer → Type 0
 IsBound select tables steps = Is (bound_in select tables steps)
 
@@ -28,7 +28,7 @@ IsBound select tables steps = Is (bound_in select tables steps)
 abbrev pub IsTabled : Named → Files → Select → List Step → Result Loaded Answer → Type 0
 IsTabled named files select steps = Then (Is (tables_in files named (first_uses select.items))) (λ tables. IsBound select tables steps)
 
--- a table that no word names
+-- a table that the command line does not name
 abbrev pub IsSelected : Named → Files → Select → List Step → Result Loaded Answer → Type 0
 IsSelected named files select steps = Then (Is (unless (unknown_table named select.items) select)) (λ known. IsTabled named files known steps)
 
@@ -36,7 +36,7 @@ IsSelected named files select steps = Then (Is (unless (unknown_table named sele
 abbrev pub IsScripted : Option (List ℕ) → Named → Files → Select → Result Loaded Answer → Type 0
 IsScripted script named files select = Then (Is (steps_in files script)) (λ steps. IsSelected named files select steps)
 
--- what the bytes of the query file say
+-- what the bytes of the query file write
 abbrev pub IsRead : Option (List ℕ) → Named → Files → List ℕ → Result Loaded Answer → Type 0
 IsRead script named files bytes = Then (IsParse bytes) (IsScripted script named files)
 
@@ -44,7 +44,7 @@ IsRead script named files bytes = Then (IsParse bytes) (IsScripted script named 
 abbrev pub IsLoadedOn : List ℕ → Option (List ℕ) → Named → Files → Result Loaded Answer → Type 0
 IsLoadedOn query script named files = Then (Is (file_in files query)) (IsRead script named files)
 
--- the words
+-- the arguments
 abbrev pub IsLoaded : Asked → Files → Result Loaded Answer → Type 0
 IsLoaded no_command files = Is (Err Usage)
 IsLoaded (built command) files =
@@ -58,7 +58,7 @@ pub record IsAccepted (loaded : Loaded) (found : Found) : Type 0 where
   pub is_shape : IsShape loaded.query loaded.tables (Ok shape)
   pub same : found ≡ found_of loaded shape
 
--- it has none, or too many node rows
+-- it has no join tree, or too many node rows
 pub record IsFlawed (loaded : Loaded) (answer : Answer) : Type 0 where
   pub flaw : Flaw
   pub is_flaw : IsShape loaded.query loaded.tables (Err flaw)
@@ -69,7 +69,7 @@ abbrev pub IsShaped : Loaded → Result Found Answer → Type 0
 IsShaped loaded (Ok found) = IsAccepted loaded found
 IsShaped loaded (Err answer) = IsFlawed loaded answer
 
--- ---- the whole
+-- ---- all together
 
 -- an input is loaded, and then structured
 abbrev pub IsVerdict : Asked → Files → Result Found Answer → Type 0

@@ -1,13 +1,14 @@
--- What the words of the command line ask for. Which engine they name is not among it: both meet the same text.
+-- What the arguments of the command line ask for, without the engine: both engines give the same
+-- text.
 use Rattle.std.specs.Prelude.{ℕ, List, Bool, false, Option, Some, None}
 use Rattle.make_input.specs.Input.{query_file, table_files}
 
--- the names of files and tables are written as in the words
+-- the names of files and tables are written as on the command line
 pub record Words : Type 0 where
   pub ranks : Bool
   pub rows : Bool
   pub query : List ℕ
-  -- each table's name, and its file
+  -- the name of each table, and of its file
   pub tables : List (List ℕ × List ℕ)
 
 pub data Command : Type 0 where
@@ -15,10 +16,10 @@ pub data Command : Type 0 where
   plan : Words → Command
   -- with the file of its script
   session : List ℕ → Words → Command
-  -- a run over the tables that are made from a number, with so many rows each
+  -- a run over tables that are made from the number, with `rows` rows each
   load : (number rows : ℕ) → Command
 
--- those of a run over the files that are made
+-- the words of a run over the files that are made
 abbrev pub made_words : Words
 made_words = record { ranks = false; rows = false; query = query_file; tables = table_files }
 
@@ -36,6 +37,6 @@ command_script (session script words) = Some script
 command_script (load number rows) = None
 
 pub data Asked : Type 0 where
-  -- the words are no command
+  -- the arguments are not a command
   no_command : Asked
   built : Command → Asked

@@ -1,4 +1,4 @@
--- Members of a list whose elements were mapped, and an ascending list that stays ascending.
+-- Members of a mapped list, and an ascending list that stays ascending.
 use Rattle.std.proofs.Common.{◌≡◌, List, [], ◌∷◌, map, refl, ap, inl, inr}
 use Rattle.rankings.specs.Order.{IsMember, BelowAll, IsAscending}
 
@@ -18,7 +18,7 @@ module _ {A B : Type 0} (f : A → B) (Has : A → Type 0) (Below : A → A → 
   below-map x [] here all p = tt
   below-map x (y ∷ xs) here all p = (keeps x y here (all y (inl refl)) p.0, below-map x xs here (λ z m. all z (inr m)) p.1)
 
-  -- an ascending list is mapped to an ascending one, where its members' order is kept
+  -- an ascending list is mapped to an ascending one, if the order of its members is kept
   pub ascending-map : (xs : List A) → ((y : A) → IsMember y xs → Has y) → IsAscending Below xs → IsAscending Under (map f xs)
   ascending-map [] all p = tt
   ascending-map (x ∷ xs) all p =

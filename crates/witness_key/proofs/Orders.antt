@@ -1,4 +1,5 @@
--- Keys that are made of lists of one length stand in the order of these lists, and tell the slots apart.
+-- Keys that are made of lists of one length are in the order of these lists, and different slots
+-- give different keys.
 use Rattle.std.proofs.Common.{◌≡◌, ◌≤◌, ◌<◌, ◌↔◌, ◌<ℤ◌, ◌++◌, ℕ, zero, suc, ℤ, pos, List, [], ◌∷◌, map, length, refl, ap, inl, inr, arith}
 use Rattle.std.proofs.lemmas.Int.{ints}
 use Rattle.tdp_model.specs.KeyTuple.{SlotsOf, KeyOf, slots_below, key_below}

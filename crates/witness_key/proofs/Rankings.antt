@@ -1,4 +1,4 @@
--- The keys of a query's witnesses as ranks have them, and their ranking.
+-- The keys of a query's witnesses, as ranks have them, and their ranking.
 use Rattle.std.proofs.Common.{◌≡◌, ◌≤◌, ◌↔◌, ℕ, List, [], ◌∷◌, map, length, refl, sym, subst, ◌∙◌, arith}
 use Rattle.std.proofs.lemmas.List.{length-map}
 use Rattle.rankings.specs.Order.{IsMember, IsRanking}

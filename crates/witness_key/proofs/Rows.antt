@@ -1,4 +1,4 @@
--- Worked rows, computed.
+-- Worked rows, by computation.
 use Rattle.std.proofs.Common.{◌≡◌, refl, ℕ, List, [], ◌∷◌, None, codes, false, true, pos, negsuc}
 use Rattle.tdp_model.specs.KeyNumbers.{numbers}
 use Rattle.tdp_core.specs.Seen.{rows_of_key, slot_list}

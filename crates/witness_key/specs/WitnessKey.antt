@@ -1,4 +1,5 @@
--- The key of a rank that stands for a combination of rows of a query, and the answer that it is seen as.
+-- The key of a rank that stands for a combination of rows of a query, and the answer as which it is
+-- seen.
 use Rattle.std.specs.Prelude.{◌≡◌, ℕ, List, length, map, take}
 use Rattle.std.specs.List.{AllByRecursion}
 use Rattle.tdp_model.specs.KeyTuple.{KeyOf}
@@ -7,7 +8,8 @@ use Rattle.tdp_core.specs.Seen.{Seen, answer_of}
 use Rattle.anyk_model.specs.Table.{Table}
 use Rattle.anyk_model.specs.Query.{Query, IsCombination, IsWitness, rank_of, row_counts}
 
--- the sums as they are compared, with zeros up to d of them, and each row number in the slot of its item
+-- the sums as they are compared, filled with zeros up to d sums, and each row number in the slot of
+-- its item
 abbrev pub witness_key : (d : ℕ) → Query → List Table → List ℕ → KeyOf d 16
 witness_key d query tables rows = key_of_lists d 16 (map (rank_of query tables rows) query.order) rows
 
@@ -17,7 +19,8 @@ pub record IsWitnessKey (d : ℕ) (query : Query) (tables : List Table) (key : K
   pub witness : IsWitness query tables rows
   pub is : key ≡ witness_key d query tables rows
 
--- the answer that stands for a combination: its row numbers, with zeros up to 16 of them, and the numbers of its key
+-- the answer that stands for a combination: its row numbers, filled with zeros up to 16, and the
+-- numbers of its key
 abbrev pub answer_of_witness : (d : ℕ) → Query → List Table → List ℕ → Seen
 answer_of_witness d query tables rows = answer_of d (witness_key d query tables rows)
 
@@ -25,7 +28,7 @@ answer_of_witness d query tables rows = answer_of d (witness_key d query tables 
 abbrev pub answers_of_ranking : (d : ℕ) → Query → List Table → List (List ℕ) → List Seen
 answers_of_ranking d query tables list = map (answer_of_witness d query tables) list
 
--- the combinations that answers stand for: of each answer the rows of the query's items
+-- the combinations that answers stand for: the rows of the query's items, of each answer
 abbrev pub combinations_in : Query → List Seen → List (List ℕ)
 combinations_in query answers = map (λ (a : Seen). take (length query.items) a.rows) answers
 

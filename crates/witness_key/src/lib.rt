@@ -1,6 +1,6 @@
-//! How a query's own key and the key of a rank belong together. A rank has room for more sums and more
-//! rows than a query has, and what is left of it is 0 in every witness of one query. So ranks stand in
-//! the order of the query's own keys.
+//! A query's own keys, and the keys of ranks. A rank has room for more sums and more rows than a
+//! query has, and what is left of it is 0 in every witness of one query. So ranks are in the order
+//! of the query's own keys.
 #![tactic(auto)]
 
 ghost use Rattle.std.specs.Prelude.{◌≡◌, ◌≤◌, ◌↔◌, ℕ, List, length, map};
@@ -12,28 +12,28 @@ ghost use Rattle.anyk_model.specs.Query.{IsCombination, Query, row_counts};
 ghost use Rattle.anyk_model.specs.Ranking.{Precedes, ranking_of};
 ghost use Rattle.witness_key.specs.WitnessKey.{AreCombinations, IsWitnessKey, answers_of_ranking, combinations_in, witness_key};
 
-/// Of two combinations the ranks stand in the order in which the query's own keys do.
+/// The ranks of two combinations are in the order of the query's own keys.
 pub fn both_orders_agree()
     ensures { (d : ℕ) (query : Query) (tables : List Table) (a b : List ℕ) → length query.order ≤ d → length query.items ≤ 16
         → length a ≡ length query.items → length b ≡ length query.items
         → key_below d 16 (witness_key d query tables a) (witness_key d query tables b) ↔ Precedes query tables a b }
 {}
 
-/// No two combinations have one key.
+/// No two combinations have the same key.
 pub fn keys_tell_witnesses()
     ensures { (d : ℕ) (query : Query) (tables : List Table) (a b : List ℕ) → length query.items ≤ 16
         → length a ≡ length query.items → length b ≡ length query.items
         → witness_key d query tables a ≡ witness_key d query tables b → a ≡ b }
 {}
 
-/// The ranking of the witnesses' keys is that of the witnesses.
+/// The ranking of the witnesses' keys is the list of the keys of the ranked witnesses.
 pub fn rankings_agree()
     ensures { (d : ℕ) (query : Query) (tables : List Table) (keys : List (KeyOf d 16)) → length query.order ≤ d → length query.items ≤ 16
         → IsRanking (KeyOf d 16) (key_below d 16) (IsWitnessKey d query tables) keys
         → keys ≡ map (witness_key d query tables) (ranking_of query tables) }
 {}
 
-/// The combinations that the answers of a list of combinations stand for are that list.
+/// The combinations that the answers of a list of combinations stand for are the list itself.
 pub fn answers_tell_combinations()
     ensures { (d : ℕ) (query : Query) (tables : List Table) (list : List (List ℕ)) → length query.items ≤ 16
         → AllByRecursion (IsCombination (row_counts query.items tables)) list
@@ -41,7 +41,7 @@ pub fn answers_tell_combinations()
         × AreCombinations query tables (answers_of_ranking d query tables list) }
 {}
 
-/// The combinations that the answers of the ranking stand for are the ranking.
+/// The combinations that the answers of the ranking stand for are the ranking itself.
 pub fn ranking_tells_combinations()
     ensures { (d : ℕ) (query : Query) (tables : List Table) → length query.items ≤ 16
         → (combinations_in query (answers_of_ranking d query tables (ranking_of query tables)) ≡ ranking_of query tables)

@@ -12,7 +12,7 @@ use Rattle.query_grammar.proofs.Exactly.{parses_agree}
 use Rattle.query_grammar.proofs.InOrder.{parsed_in_order, parsed_items_in_order}
 use Rattle.query_grammar.proofs.parsing.parse.Goals as goal
 
--- what is sound is exact and in order
+-- a result that is sound is exact and in order
 record All (bytes : List ℕ) (r : Result Select ParseFault) : Type 0 where
   sound : Parses bytes r
   exact : (other : Result Select ParseFault) → Parses bytes other → Agree other r

@@ -28,7 +28,7 @@ use Rattle.suffix_streams.proofs.solutions.Solutions.+growth.Given.{Over}
 use Rattle.suffix_streams.proofs.solutions.Solutions.+growth.Goals.{after-After-extend, after-After-get-found, after-After-open_row, after-After-product_count-count, after-In-Some-top, extend-After-after, extend-After-extend, extend-After-make_room, extend-then-place-known-via-then-place-known, extend-then-place-known-via-else-place-known+then-count-eq0}
 use Rattle.suffix_streams.proofs.solutions.Solutions.+growth.Goals as goal
 
--- # What the answers share of a call for the next entry
+-- # What the proofs share about a call for the next entry
 
 module _ (g : Over) (t : ℕ) where
   entry_owned : (c : after-After-get-found g t) → IsOwned g.R.Rank.KEYS g.R.Rank.key c.args.self.now.tree.now c.args.self.now.entries.entries c.args.self.now.nodes.items c.args.entry c.get-found.result.now
@@ -48,7 +48,7 @@ module _ (g : Over) (t : ℕ) where
   search_of c =
       row_searched g.R.Rank.KEYS g.R.Rank.key c.args.self.now.tree.now c.open_row.new.self.tree.now c.extend.new.self.tree.now c.args.self.now.entries.entries c.open_row.new.self.entries.entries c.extend.new.self.entries.entries c.open_row.new.self.nodes.items c.extend.new.self.nodes.items c.get-found.result.now.node c.source_row-row.result c.product_count-count.result c.open_row.new.steps c.extend.new.steps c.open_row.ensures.tree (ap (λ z. z.entries) c.open_row.ensures.entries) c.extend.ensures.tree c.extend.ensures.formed c.extend.ensures.extended c.extend.ensures.queues c.extend.ensures.cost
 
-  -- # What they share of a search in a row
+  -- # What they share about a search in a row
 
   room_of : (c : extend-After-make_room g t) → IsRoomMade g.R.Rank.KEYS g.R.Rank.key c.args.self.now.tree.now c.args.self.now.entries.entries c.args.self.now.nodes.items c.make_room.new.nodes.items c.args.node c.args.row c.args.count c.in-Some.top.tag
   room_of c =

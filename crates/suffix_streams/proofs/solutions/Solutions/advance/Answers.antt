@@ -23,7 +23,7 @@ use Rattle.suffix_streams.proofs.solutions.Solutions.advance.Given.{Over}
 use Rattle.suffix_streams.proofs.solutions.Solutions.advance.Goals.{After-index, After-pass, After-set_next, After-top, In_ok-top}
 use Rattle.suffix_streams.proofs.solutions.Solutions.advance.Goals as goal
 
--- # What the answers share
+-- # What the proofs share
 
 module _ (g : Over) where
   top_of : (c : After-index g) → IsGroupTop g.R.Rank.KEYS g.R.Rank.key c.args.self.now.tree.now c.args.self.now.entries.entries c.args.self.now.nodes.items c.args.last c.args.node c.args.group c.args.row

@@ -22,7 +22,7 @@ use Rattle.suffix_streams.proofs.solutions.Solutions.step.Given.{Over}
 use Rattle.suffix_streams.proofs.solutions.Solutions.step.Goals.{After-keep, After-known-known, After-pass_product, After-product_top}
 use Rattle.suffix_streams.proofs.solutions.Solutions.step.Goals as goal
 
--- # What the answers share
+-- # What the proofs share
 
 module _ (g : Over) where
   known_is : (c : After-known-known g) → c.known-known.result ≡ part_known c.args.self.now.nodes.items c.args.node c.args.row c.args.child

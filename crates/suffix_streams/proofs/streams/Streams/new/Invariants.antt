@@ -3,7 +3,7 @@ use Rattle.suffix_streams.specs.Beginnings.{IsBegunFrom}
 use Rattle.suffix_streams.proofs.BeginNodes.{rows_from}
 use Rattle.suffix_streams.proofs.streams.Streams.new.Given as goal
 
--- the streams of the nodes from `node` on are there
+-- the streams of the nodes from `node` are there
 abbrev pub invariant-loop-node : goal.invariant-loop-node
 invariant-loop-node g l = record {
   begun : IsBegunFrom g.R.Rank.KEYS g.R.Rank.key l.tree l.entries.entries l.nodes.items l.node;
