@@ -59,21 +59,21 @@ fault_read ts left f = read_fault ts left f (query_at ts) refl
 
 -- ---- the one result
 
-abbrev Answer : Type 0
+abbrev pub Answer : Type 0
 Answer = Result Select ParseFault
 
-abbrev answer_limit : Clauses → Option Lexeme → Answer
+abbrev pub answer_limit : Clauses → Option Lexeme → Answer
 answer_limit x None = Ok (select_of x)
 answer_limit x (Some d) = cond (ltb (decimal d.body) (2 ^ 64)) (Ok (select_of x)) (Err (fault.LimitRange d.at))
 
-abbrev answer_clauses : Clauses → Answer
+abbrev pub answer_clauses : Clauses → Answer
 answer_clauses x = cond (ltb 16 (length x.0.items)) (Err fault.TooManyItems) (cond (ltb 8 (length x.0.keys)) (Err fault.TooManyKeys) (answer_limit x x.1))
 
-abbrev answer_read : ℕ → Result Clauses (List Lexeme) → Answer
+abbrev pub answer_read : ℕ → Result Clauses (List Lexeme) → Answer
 answer_read end (Ok x) = answer_clauses x
 answer_read end (Err left) = Err (fault.Syntax (place_of end left))
 
-abbrev answer : List ℕ → Answer
+abbrev pub answer : List ℕ → Answer
 answer bytes = cond (ltb 65536 (length bytes)) (Err fault.TooLong) (answer_read (length bytes) (query_at (tokens_of bytes)))
 
 says_answer : (bytes : List ℕ) (x : Clauses) → Says bytes x → answer bytes ≡ answer_clauses x

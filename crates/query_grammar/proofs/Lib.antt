@@ -12,4 +12,6 @@ pub mod Examples
 pub mod Decimal
 pub mod Answered
 pub mod Exactly
+pub mod OnLiterals
+pub mod Literals
 pub mod InOrder

@@ -1,3 +1,4 @@
 pub mod Pacing
 pub mod Shares
 pub mod Calls
+pub mod Rising

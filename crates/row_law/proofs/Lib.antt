@@ -1,0 +1,3 @@
+mod Loaded
+mod Shaped
+pub mod Accepted
