@@ -5,6 +5,7 @@ ghost use Rattle.anyk_model.specs.Query.{IsCombination, row_counts};
 ghost use Rattle.answer_print.specs.Shown.{style_shown};
 ghost use Rattle.query_bind.specs.Weighed.{Fits};
 ghost use Rattle.refusal_lines.specs.Printed.{Printed};
+ghost use Rattle.refusal_lines.specs.SinkState.{state_of};
 
 use crate::answer::write_line;
 use crate::style::Style;
@@ -24,7 +25,7 @@ pub fn print_header<'a, S: Sink>(
     out: &mut S,
 ) -> Result<(), Refusal<'a>>
     requires fits { Fits query.now tables.now }
-    ensures { Printed (S.written out.old) (S.written out.new) (S.faults out.old) (S.faults out.new)
+    ensures { Printed (state_of S.Sink out.old) (state_of S.Sink out.new)
         (header_text query.now.query tables.now (style_shown style.now)) result }
 {
     let text = header(alloc, query, tables, style)?;
@@ -44,7 +45,7 @@ pub fn print_answer<'a, S: Sink>(
 ) -> Result<(), Refusal<'a>>
     requires fits { Fits query.now tables.now }
     requires rows { IsCombination (row_counts query.now.query.items tables.now) (take (length query.now.query.items) rows.now) }
-    ensures { Printed (S.written out.old) (S.written out.new) (S.faults out.old) (S.faults out.new)
+    ensures { Printed (state_of S.Sink out.old) (state_of S.Sink out.new)
         (line_text query.now.query tables.now (style_shown style.now) (take (length query.now.query.items) rows.now)) result }
 {
     write_line(alloc, records, query, tables, rows, style)?;

@@ -3,6 +3,7 @@ ghost use Rattle.std.specs.Prelude.{◌≡◌, ◌+◌, ◌≤◌};
 ghost use Rattle.anyk_model.specs.Output.{cut};
 ghost use Rattle.query_bind.specs.Weighed.{Fits};
 ghost use Rattle.refusal_lines.specs.Printed.{Printed};
+ghost use Rattle.refusal_lines.specs.SinkState.{state_of};
 ghost use Rattle.step_bounds.specs.Steps.{calls_for, steps_for};
 ghost use Rattle.verdict.specs.Summary.{summary_text};
 ghost use Rattle.witness_key.specs.WitnessKey.{AreCombinations, combinations_in};
@@ -30,7 +31,7 @@ pub fn print_summary<'a, E: Ranked, S: Sink, L: Ledger>(
 ) -> Result<(), Refusal<'a>>
     requires fits { Fits query.now tables.now }
     requires rows { AreCombinations query.now.query tables.now (E.rest engine.old) }
-    ensures printed { Printed (S.written out.old) (S.written out.new) (S.faults out.old) (S.faults out.new)
+    ensures printed { Printed (state_of S.Sink out.old) (state_of S.Sink out.new)
         (summary_text query.now.query tables.now (cut query.now.query.limit (combinations_in query.now.query (E.rest engine.old)))) result }
     ensures bounded { steps.new ≤ steps.old
         + steps_for (λ n. E.share (E.size engine.old) (E.calls engine.old + n)) (calls_for query.now.query.limit (combinations_in query.now.query (E.rest engine.old))) }

@@ -11,21 +11,22 @@ use Rattle.refusal_lines.specs.declared.refusal.Refusal.{Refusal}
 use Rattle.refusal_lines.specs.declared.refusal.Refusal.TheVariants as refusal
 use Rattle.step_bounds.proofs.Calls.{HasCalled}
 use Rattle.refusal_lines.specs.Printed.{Printed}
+use Rattle.refusal_lines.specs.SinkState.{SinkState}
 use Rattle.refusal_lines.proofs.Prints.{printed-stopped, printed-then}
 
 -- the first i of a list were given and printed, the engine has the others left, and P holds for
 -- what is left
-pub record HasGiven {A B : Type 0} (P : B → Type 0) (f : A → List ℕ) (seen : B → A) (list : List A) (i : ℕ) (left : List B) (old now : Option (List ℕ)) (before faults : ℕ) : Type 0 where
+pub record HasGiven {A B : Type 0} (P : B → Type 0) (f : A → List ℕ) (seen : B → A) (list : List A) (i : ℕ) (left : List B) (old now : SinkState) : Type 0 where
   pub rest : map seen left ≡ drop i list
   pub all : AllByRecursion P left
   pub within : i ≤ length list
-  pub sent : Appends old now (flat_map f (take i list))
-  pub later : before ≤ faults
+  pub sent : Appends old.written now.written (flat_map f (take i list))
+  pub later : old.faults ≤ now.faults
 
 -- the answers so far, and the calls for them
-pub record HasPrinted {A B : Type 0} (P : B → Type 0) (f : A → List ℕ) (seen : B → A) (list : List A) (i : ℕ) (left : List B) (old now : Option (List ℕ)) (before faults : ℕ)
+pub record HasPrinted {A B : Type 0} (P : B → Type 0) (f : A → List ℕ) (seen : B → A) (list : List A) (i : ℕ) (left : List B) (old now : SinkState)
     (share : List ℕ → ℕ → ℕ) (size : List ℕ) (calls : ℕ) (size_now : List ℕ) (calls_now started spent : ℕ) : Type 0 where
-  pub given : HasGiven P f seen list i left old now before faults
+  pub given : HasGiven P f seen list i left old now
   pub called : HasCalled share size calls i size_now calls_now started spent
 
 module _ {A B : Type 0} (P : B → Type 0) (f : A → List ℕ) (seen : B → A) (list : List A) (i : ℕ) where
@@ -69,14 +70,14 @@ module _ {A B : Type 0} (P : B → Type 0) (f : A → List ℕ) (seen : B → A)
     more-text = ap (flat_map f) (take_more list i x (one-left left b rest h e)) ∙ flat_map-append f (take i list) (member ∷ [])
         ∙ ap (λ (l : List ℕ). flat_map f (take i list) ++ l) (append-nil (f member))
 
-    pub given-more : (old mid now : Option (List ℕ)) (before m n : ℕ) → HasGiven P f seen list i left old mid before m → Appends mid now (f (seen b)) → m ≤ n
-        → HasGiven P f seen list (i + 1) rest old now before n
-    given-more old mid now before m n g one later = record {
+    pub given-more : (old mid now : SinkState) → HasGiven P f seen list i left old mid → Appends mid.written now.written (f (seen b)) → mid.faults ≤ now.faults
+        → HasGiven P f seen list (i + 1) rest old now
+    given-more old mid now g one later = record {
       rest = rest-is;
       all = let both : AllByRecursion P (b ∷ rest) = subst (AllByRecursion P) e g.all in both.1;
       within = let inside = one-left left b rest h e in omega (arith, inside);
-      sent = subst (λ (text : List ℕ). Appends old now text) (sym more-text)
-          (Appends-trans old mid now (flat_map f (take i list)) (f member) g.sent (subst (λ (a : A). Appends mid now (f a)) given-is one));
+      sent = subst (λ (text : List ℕ). Appends old.written now.written text) (sym more-text)
+          (Appends-trans old.written mid.written now.written (flat_map f (take i list)) (f member) g.sent (subst (λ (a : A). Appends mid.written now.written (f a)) given-is one));
       later = let first = g.later in omega (arith, first, later);
     }
 
@@ -95,15 +96,14 @@ module _ {A B : Type 0} (P : B → Type 0) (f : A → List ℕ) (seen : B → A)
         )
 
     -- the record of the next member was cut short
-    pub cut-short : (limit : Option ℕ) (old mid now : Option (List ℕ)) (before m n : ℕ) (e : Refusal) → IfSome limit (λ n. i < n)
-        → HasGiven P f seen list i left old mid before m → Printed mid now m n (f (seen b)) (Err e)
-        → Printed old now before n (flat_map f (cut limit list)) (Err e)
-    cut-short limit old mid now before m n e low g one =
+    pub cut-short : (limit : Option ℕ) (old mid now : SinkState) (e : Refusal) → IfSome limit (λ n. i < n)
+        → HasGiven P f seen list i left old mid → Printed mid now (f (seen b)) (Err e) → Printed old now (flat_map f (cut limit list)) (Err e)
+    cut-short limit old mid now e low g one =
         let parts = part-of limit low in
-        subst (λ (text : List ℕ). Printed old now before n text (Err e)) (sym parts.1)
-        (printed-stopped old now before n (flat_map f (take i list) ++ f member) parts.0 e
-        (printed-then old mid now before m n (flat_map f (take i list)) (f member) (Err e) g.sent g.later
-        (subst (λ (a : A). Printed mid now m n (f a) (Err e)) given-is one)))
+        subst (λ (text : List ℕ). Printed old now text (Err e)) (sym parts.1)
+        (printed-stopped old now (flat_map f (take i list) ++ f member) parts.0 e
+        (printed-then old mid now (flat_map f (take i list)) (f member) (Err e) g.sent g.later
+        (subst (λ (a : A). Printed mid now (f a) (Err e)) given-is one)))
 
   -- the text of the members up to i is at the front of that of the members within a limit of at
   -- least i
@@ -118,9 +118,9 @@ module _ {A B : Type 0} (P : B → Type 0) (f : A → List ℕ) (seen : B → A)
       )
 
   -- memory ran out before the next record
-  pub stopped-short : (limit : Option ℕ) (left : List B) (old now : Option (List ℕ)) (before faults : ℕ) → IfSome limit (λ n. i ≤ n)
-      → HasGiven P f seen list i left old now before faults → Printed old now before faults (flat_map f (cut limit list)) (Err refusal.NoMemory)
-  stopped-short limit left old now before faults low g = record {
+  pub stopped-short : (limit : Option ℕ) (left : List B) (old now : SinkState) → IfSome limit (λ n. i ≤ n)
+      → HasGiven P f seen list i left old now → Printed old now (flat_map f (cut limit list)) (Err refusal.NoMemory)
+  stopped-short limit left old now low g = record {
     whole = tt;
     prefix = (flat_map f (take i list), g.sent, front-of limit low);
     cause = tt;
@@ -132,16 +132,16 @@ module _ {A B : Type 0} (P : B → Type 0) (f : A → List ℕ) (seen : B → A)
   all-text (Some n) low end = take_all i list end ∙ sym (take_all n list (omega arith))
 
   -- the engine has none left
-  pub printed-all : (limit : Option ℕ) (left : List B) (old now : Option (List ℕ)) (before faults : ℕ) → IfSome limit (λ n. i ≤ n) → left ≡ []
-      → HasGiven P f seen list i left old now before faults → Printed old now before faults (flat_map f (cut limit list)) (Ok tt)
-  printed-all limit left old now before faults low empty g =
+  pub printed-all : (limit : Option ℕ) (left : List B) (old now : SinkState) → IfSome limit (λ n. i ≤ n) → left ≡ []
+      → HasGiven P f seen list i left old now → Printed old now (flat_map f (cut limit list)) (Ok tt)
+  printed-all limit left old now low empty g =
       let same = ap (flat_map f) (all-text limit low (none-left left g.rest empty)) in
-      let all = subst (λ (text : List ℕ). Appends old now text) same g.sent in
+      let all = subst (λ (text : List ℕ). Appends old.written now.written text) same g.sent in
       record { whole = all; prefix = (flat_map f (cut limit list), all, ([], sym (append-nil (flat_map f (cut limit list))))); cause = tt; later = g.later }
 
   -- the limit is reached
-  pub printed-limit : (limit : Option ℕ) (left : List B) (old now : Option (List ℕ)) (before faults : ℕ) → limit ≡ Some i
-      → HasGiven P f seen list i left old now before faults → Printed old now before faults (flat_map f (cut limit list)) (Ok tt)
-  printed-limit limit left old now before faults reached g =
-      let all = subst (λ (o : Option ℕ). Appends old now (flat_map f (cut o list))) (sym reached) g.sent in
+  pub printed-limit : (limit : Option ℕ) (left : List B) (old now : SinkState) → limit ≡ Some i
+      → HasGiven P f seen list i left old now → Printed old now (flat_map f (cut limit list)) (Ok tt)
+  printed-limit limit left old now reached g =
+      let all = subst (λ (o : Option ℕ). Appends old.written now.written (flat_map f (cut o list))) (sym reached) g.sent in
       record { whole = all; prefix = (flat_map f (cut limit list), all, ([], sym (append-nil (flat_map f (cut limit list))))); cause = tt; later = g.later }

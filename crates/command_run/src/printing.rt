@@ -7,6 +7,7 @@ ghost use Rattle.query_bind.specs.Weighed.{Fits};
 ghost use Rattle.witness_key.specs.WitnessKey.{AreCombinations, combinations_in};
 ghost use Rattle.step_bounds.specs.Steps.{Paced, calls_for, steps_for, whole_lines};
 ghost use Rattle.refusal_lines.specs.Printed.{Printed};
+ghost use Rattle.refusal_lines.specs.SinkState.{state_of};
 
 use answer_print::{Style, print_answer, print_header};
 use csv_tables::{RecordWriter, Tables};
@@ -31,7 +32,7 @@ pub fn print_ranking<'a, E: Ranked, S: Sink, L: Ledger>(
 ) -> Result<(), Refusal<'a>>
     requires fits { Fits query.now tables.now }
     requires rows { AreCombinations query.now.query tables.now (E.rest engine.old) }
-    ensures printed { Printed (S.written out.old) (S.written out.new) (S.faults out.old) (S.faults out.new)
+    ensures printed { Printed (state_of S.Sink out.old) (state_of S.Sink out.new)
         (output_of query.now.query tables.now (style_shown style.now) (cut query.now.query.limit (combinations_in query.now.query (E.rest engine.old)))) result }
     ensures bounded { steps.new ≤ steps.old
         + steps_for (λ n. E.share (E.size engine.old) (E.calls engine.old + n)) (calls_for query.now.query.limit (combinations_in query.now.query (E.rest engine.old))) }
@@ -56,7 +57,7 @@ fn print_answers<'a, E: Ranked, S: Sink, L: Ledger>(
 ) -> Result<(), Refusal<'a>>
     requires fits { Fits query.now tables.now }
     requires rows { AreCombinations query.now.query tables.now (E.rest engine.old) }
-    ensures printed { Printed (S.written out.old) (S.written out.new) (S.faults out.old) (S.faults out.new)
+    ensures printed { Printed (state_of S.Sink out.old) (state_of S.Sink out.new)
         (flat_map (line_text query.now.query tables.now (style_shown style.now)) (cut query.now.query.limit (combinations_in query.now.query (E.rest engine.old)))) result }
     ensures paced { Paced (λ n. E.share (E.size engine.old) (E.calls engine.old + n))
         (map (line_text query.now.query tables.now (style_shown style.now)) (cut query.now.query.limit (combinations_in query.now.query (E.rest engine.old))))

@@ -6,6 +6,7 @@ use Rattle.std.proofs.lemmas.Bool.Decides.{nat_tests}
 use Rattle.std.proofs.lemmas.List.{drop_more, length-drop, length-take-le}
 use Rattle.anyk_model.specs.Output.{cut}
 use Rattle.cursor_set.specs.CursorSet.{CursorSet}
+use Rattle.refusal_lines.specs.SinkState.{SinkState}
 use Rattle.session_script.specs.declared.step.Step.{Step}
 use Rattle.session_script.specs.declared.step.Step.TheVariants.{Next}
 use Rattle.verdict.specs.Session.{Places, no_cursors, place_in, places_after}
@@ -184,7 +185,7 @@ module _ (share : List ℕ → ℕ → ℕ) (rises : (s : List ℕ) (c d : ℕ) 
 
 -- this many steps were taken, what the other steps print is left, and the cost is known
 pub record HasRun (line : List ℕ → List ℕ → List ℕ) (members : List (List ℕ)) (script : List Step) (i : ℕ) (set : CursorSet) (cursors : List Cursor)
-    (old now : Option (List ℕ)) (before faults : ℕ) (share : List ℕ → ℕ → ℕ) (ends : Bool) (first : CursorSet) (started spent : ℕ) : Type 0 where
+    (old now : SinkState) (share : List ℕ → ℕ → ℕ) (ends : Bool) (first : CursorSet) (started spent : ℕ) : Type 0 where
   pub places : Places
-  pub taken : HasTaken line members script i places set cursors old now before faults
+  pub taken : HasTaken line members script i places set cursors old now
   pub paid : HasPaid share ends members script i places first set started spent

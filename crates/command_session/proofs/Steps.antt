@@ -5,6 +5,7 @@ use Rattle.std.proofs.lemmas.List.{drop_all, drop_more, get_or-map, get_or-repli
 use Rattle.cursor_set.specs.CursorSet.{CursorSet}
 use Rattle.refusal_lines.specs.declared.refusal.Refusal.{Refusal}
 use Rattle.refusal_lines.specs.Printed.{Printed}
+use Rattle.refusal_lines.specs.SinkState.{SinkState}
 use Rattle.session_script.specs.declared.step.Step.{Step}
 use Rattle.session_script.specs.declared.step.Step.TheVariants.{Next}
 use Rattle.verdict.specs.Session.{Places, next_text, no_cursors, place_in, places_after, step_text, steps_text, with_cursor}
@@ -34,10 +35,10 @@ none-held set cursors none same = record {
 
 -- this many steps were taken, and what the other steps print is left
 pub record HasTaken (line : List ℕ → List ℕ → List ℕ) (members : List (List ℕ)) (script : List Step) (i : ℕ) (places : Places) (set : CursorSet)
-    (cursors : List Cursor) (old now : Option (List ℕ)) (before faults : ℕ) : Type 0 where
+    (cursors : List Cursor) (old now : SinkState) : Type 0 where
   pub held : IsHeld set cursors places
   pub rules : CanFollow members places (drop i script)
-  pub left : HasLeft (steps_text line members no_cursors script) (steps_text line members places (drop i script)) old now before faults
+  pub left : HasLeft (steps_text line members no_cursors script) (steps_text line members places (drop i script)) old now
 
 module _ (line : List ℕ → List ℕ → List ℕ) (members : List (List ℕ)) (script : List Step) (i : ℕ) (step : Step) (inside : i < length script) (here : get_or script i step ≡ step)
     (places : Places) where
@@ -51,30 +52,30 @@ module _ (line : List ℕ → List ℕ → List ℕ) (members : List (List ℕ))
       ≡ step_text line members places step ++ steps_text line members (places_after members places step) (drop (i + 1) script)
   text-split = ap (steps_text line members places) split
 
-  pub taken-more : (set set' : CursorSet) (cursors cursors' : List Cursor) (old mid now : Option (List ℕ)) (before m n : ℕ)
-      → (t : HasTaken line members script i places set cursors old mid before m) → IsHeld set' cursors' (places_after members places step)
-      → Printed mid now m n (step_text line members places step) (Ok tt) → HasTaken line members script (i + 1) (places_after members places step) set' cursors' old now before n
-  taken-more set set' cursors cursors' old mid now before m n t held printed = record {
+  pub taken-more : (set set' : CursorSet) (cursors cursors' : List Cursor) (old mid now : SinkState)
+      → (t : HasTaken line members script i places set cursors old mid) → IsHeld set' cursors' (places_after members places step)
+      → Printed mid now (step_text line members places step) (Ok tt) → HasTaken line members script (i + 1) (places_after members places step) set' cursors' old now
+  taken-more set set' cursors cursors' old mid now t held printed = record {
     held = held;
     rules = (can-step t.rules).1;
-    left = left-more (steps_text line members no_cursors script) (steps_text line members places (drop i script)) old mid now before m n t.left
+    left = left-more (steps_text line members no_cursors script) (steps_text line members places (drop i script)) old mid now t.left
         (step_text line members places step) (steps_text line members (places_after members places step) (drop (i + 1) script)) text-split
         printed.whole printed.later;
   }
 
-  pub taken-stopped : (set : CursorSet) (cursors : List Cursor) (old mid now : Option (List ℕ)) (before m n : ℕ) (e : Refusal)
-      → (t : HasTaken line members script i places set cursors old mid before m) → Printed mid now m n (step_text line members places step) (Err e)
-      → Printed old now before n (steps_text line members no_cursors script) (Err e)
-  taken-stopped set cursors old mid now before m n e t printed =
-      left-stopped (steps_text line members no_cursors script) (steps_text line members places (drop i script)) old mid now before m n t.left
+  pub taken-stopped : (set : CursorSet) (cursors : List Cursor) (old mid now : SinkState) (e : Refusal)
+      → (t : HasTaken line members script i places set cursors old mid) → Printed mid now (step_text line members places step) (Err e)
+      → Printed old now (steps_text line members no_cursors script) (Err e)
+  taken-stopped set cursors old mid now e t printed =
+      left-stopped (steps_text line members no_cursors script) (steps_text line members places (drop i script)) old mid now t.left
       (step_text line members places step) (steps_text line members (places_after members places step) (drop (i + 1) script)) e text-split printed
 
 -- all steps were taken
 pub taken-all : (line : List ℕ → List ℕ → List ℕ) (members : List (List ℕ)) (script : List Step) (i : ℕ) (places : Places) (set : CursorSet) (cursors : List Cursor)
-    (old now : Option (List ℕ)) (before n : ℕ) → length script ≤ i → HasTaken line members script i places set cursors old now before n
-    → Printed old now before n (steps_text line members no_cursors script) (Ok tt)
-taken-all line members script i places set cursors old now before n end t =
-    left-none (steps_text line members no_cursors script) (steps_text line members places (drop i script)) old now before n t.left
+    (old now : SinkState) → length script ≤ i → HasTaken line members script i places set cursors old now
+    → Printed old now (steps_text line members no_cursors script) (Ok tt)
+taken-all line members script i places set cursors old now end t =
+    left-none (steps_text line members no_cursors script) (steps_text line members places (drop i script)) old now t.left
     (ap (steps_text line members places) (drop_all i script end))
 
 -- ---- the step `next`

@@ -5,6 +5,7 @@ ghost use Rattle.answer_print.specs.Shown.{style_shown};
 ghost use Rattle.cursor_set.specs.CursorSet.{place_of, with_place};
 ghost use Rattle.query_bind.specs.Weighed.{Fits};
 ghost use Rattle.refusal_lines.specs.Printed.{Printed};
+ghost use Rattle.refusal_lines.specs.SinkState.{state_of};
 ghost use Rattle.tdp_model.specs.KeyNumbers.{numbers};
 ghost use Rattle.verdict.specs.Session.{next_text, with_name};
 ghost use Rattle.verdict.specs.SessionCalls.{calls_among, ends_by_itself};
@@ -42,7 +43,7 @@ pub(crate) fn print_next<'a, E: Ranked, S: Sink, L: Ledger>(
     requires fits { Fits query.now tables.now }
     requires rows { AreCombinations query.now.query tables.now set.old.answers }
     requires place { place_of set.old id.number ≡ Some cursor.old.place }
-    ensures printed { Printed (S.written out.old) (S.written out.new) (S.faults out.old) (S.faults out.new)
+    ensures printed { Printed (state_of S.Sink out.old) (state_of S.Sink out.new)
         (next_text (line_text query.now.query tables.now (with_name (style_shown style.now) cursor.old.name.now)) (cursor.old.name.now ++ codes "\n")
         (drop cursor.old.place (cut query.now.query.limit (combinations_in query.now.query set.old.answers))) count) result }
     ensures name { OnOk result (cursor.new.name.now ≡ cursor.old.name.now) }
@@ -115,7 +116,7 @@ fn is_reached(limit: Option<u64>, place: u64) -> bool
 
 // Prints the cursor's name alone.
 fn print_end<'a, S: Sink>(alloc: Global, name: &[u8], out: &mut S) -> Result<(), Refusal<'a>>
-    ensures { Printed (S.written out.old) (S.written out.new) (S.faults out.old) (S.faults out.new) (name.now ++ codes "\n") result }
+    ensures { Printed (state_of S.Sink out.old) (state_of S.Sink out.new) (name.now ++ codes "\n") result }
 {
     let mut text = Vec::from_slice(alloc, name)?;
     text.push(b'\n')?;

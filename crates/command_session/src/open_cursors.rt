@@ -1,7 +1,7 @@
 //! The open cursors by name.
 ghost use Rattle.std.specs.Prelude.{◌≡◌, IfErr, IsSome, None, OnOk, Some, position};
-ghost use Rattle.refusal_lines.specs.Answer as answer;
-ghost use Rattle.refusal_lines.specs.Refused.{answer_of};
+ghost use Rattle.refusal_lines.specs.Reason as reason;
+ghost use Rattle.refusal_lines.specs.Refused.{reason_of};
 ghost use Rattle.verdict.specs.Session.{Places, with_cursor};
 ghost use Rattle.command_session.specs.Held.{IsHeld, is_named};
 
@@ -43,7 +43,7 @@ pub(crate) fn open<'a, 's, E: Ranked>(
 ) -> Result<(), Refusal<'a>>
     ensures held { (places : Places) → IsHeld set.old cursors.old places → places name.entry.now ≡ None
         → OnOk result (IsHeld set.new cursors.new (with_cursor places name.entry.now (Some 0))) }
-    ensures memory { IfErr result (λ refusal. answer_of refusal ≡ answer.NoMemory) }
+    ensures memory { IfErr result (λ refusal. reason_of refusal ≡ reason.NoMemory) }
     ensures answers { set.new.answers ≡ set.old.answers }
     ensures only { set.new ≡ record set.old { places = set.new.places } }
 {
@@ -64,7 +64,7 @@ pub(crate) fn fork<'a, 's, E: Ranked>(
 ) -> Result<(), Refusal<'a>>
     ensures held { (places : Places) → IsHeld set.old cursors.old places → IsSome (places name.now) → places new.entry.now ≡ None
         → OnOk result (IsHeld set.new cursors.new (with_cursor places new.entry.now (places name.now))) }
-    ensures memory { IfErr result (λ refusal. answer_of refusal ≡ answer.NoMemory) }
+    ensures memory { IfErr result (λ refusal. reason_of refusal ≡ reason.NoMemory) }
     ensures answers { set.new.answers ≡ set.old.answers }
     ensures only { set.new ≡ record set.old { places = set.new.places } }
 {
@@ -92,7 +92,7 @@ pub(crate) fn rewind<'a, E: Ranked>(
 ) -> Result<(), Refusal<'a>>
     ensures held { (places : Places) → IsHeld set.old cursors.old places → IsSome (places name.now)
         → OnOk result (IsHeld set.new cursors.new (with_cursor places name.now (Some 0))) }
-    ensures memory { IfErr result (λ refusal. answer_of refusal ≡ answer.NoMemory) }
+    ensures memory { IfErr result (λ refusal. reason_of refusal ≡ reason.NoMemory) }
     ensures answers { set.new.answers ≡ set.old.answers }
     ensures only { set.new ≡ record set.old { places = set.new.places } }
 {
@@ -120,7 +120,7 @@ pub(crate) fn close<'a, E: Ranked>(
 ) -> Result<(), Refusal<'a>>
     ensures held { (places : Places) → IsHeld set.old cursors.old places → IsSome (places name.now)
         → OnOk result (IsHeld set.new cursors.new (with_cursor places name.now None)) }
-    ensures memory { IfErr result (λ refusal. answer_of refusal ≡ answer.NoMemory) }
+    ensures memory { IfErr result (λ refusal. reason_of refusal ≡ reason.NoMemory) }
     ensures answers { set.new.answers ≡ set.old.answers }
     ensures only { set.new ≡ record set.old { places = set.new.places } }
 {

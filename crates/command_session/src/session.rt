@@ -4,6 +4,7 @@ ghost use Rattle.anyk_model.specs.Output.{cut, line_text};
 ghost use Rattle.answer_print.specs.Shown.{style_shown};
 ghost use Rattle.query_bind.specs.Weighed.{Fits};
 ghost use Rattle.refusal_lines.specs.Printed.{Printed};
+ghost use Rattle.refusal_lines.specs.SinkState.{state_of};
 ghost use Rattle.session_script.specs.declared.step.Step.TheVariants.{Next};
 ghost use Rattle.session_script.specs.Script.{KeepsRules};
 ghost use Rattle.verdict.specs.Session.{Places, no_cursors, places_after, session_text, step_text, steps_text, with_name};
@@ -45,7 +46,7 @@ pub fn print_session<'a, E: Ranked + Drop, S: Sink, L: Ledger>(
     requires fits { Fits query.now tables.now }
     requires rows { AreCombinations query.now.query tables.now (E.rest engine) }
     requires rules { KeepsRules [] script.now }
-    ensures printed { Printed (S.written out.old) (S.written out.new) (S.faults out.old) (S.faults out.new)
+    ensures printed { Printed (state_of S.Sink out.old) (state_of S.Sink out.new)
         (session_text query.now.query tables.now (style_shown style.now) (cut query.now.query.limit (combinations_in query.now.query (E.rest engine))) script.now) result }
     ensures bounded { steps.new ≤ steps.old
         + steps_for (λ n. E.share (E.size engine) (E.calls engine + n)) (reach_of_steps (ends_by_itself query.now.query.limit (combinations_in query.now.query (E.rest engine))) (cut query.now.query.limit (combinations_in query.now.query (E.rest engine))) no_cursors script.now)
@@ -76,7 +77,7 @@ fn print_steps<'a, E: Ranked, S: Sink, L: Ledger>(
     requires rows { AreCombinations query.now.query tables.now set.old.answers }
     requires places { set.old.places ≡ replicate 64 None }
     requires rules { KeepsRules [] script.now }
-    ensures printed { Printed (S.written out.old) (S.written out.new) (S.faults out.old) (S.faults out.new)
+    ensures printed { Printed (state_of S.Sink out.old) (state_of S.Sink out.new)
         (steps_text (λ name. line_text query.now.query tables.now (with_name (style_shown style.now) name))
         (cut query.now.query.limit (combinations_in query.now.query set.old.answers)) no_cursors script.now) result }
     ensures within { IsWithin E.share set.old (reach_of_steps (ends_by_itself query.now.query.limit (combinations_in query.now.query set.old.answers)) (cut query.now.query.limit (combinations_in query.now.query set.old.answers)) no_cursors script.now)
@@ -117,7 +118,7 @@ fn take_step<'a, 's, E: Ranked, S: Sink, L: Ledger>(
     requires rows { AreCombinations query.now.query tables.now set.old.answers }
     requires same { set.old.places ≡ map (option_map (λ cursor. cursor.place)) cursors.old }
     ensures printed { (places : Places) → IsHeld set.old cursors.old places → CanStep places step.now
-        → Printed (S.written out.old) (S.written out.new) (S.faults out.old) (S.faults out.new)
+        → Printed (state_of S.Sink out.old) (state_of S.Sink out.new)
         (step_text (λ name. line_text query.now.query tables.now (with_name (style_shown style.now) name))
         (cut query.now.query.limit (combinations_in query.now.query set.old.answers)) places step.now) result }
     ensures held { (places : Places) → IsHeld set.old cursors.old places → CanStep places step.now
@@ -166,7 +167,7 @@ fn take_next<'a, E: Ranked, S: Sink, L: Ledger>(
     requires rows { AreCombinations query.now.query tables.now set.old.answers }
     requires same { set.old.places ≡ map (option_map (λ cursor. cursor.place)) cursors.old }
     ensures printed { (places : Places) → IsHeld set.old cursors.old places → IsSome (places name.now)
-        → Printed (S.written out.old) (S.written out.new) (S.faults out.old) (S.faults out.new)
+        → Printed (state_of S.Sink out.old) (state_of S.Sink out.new)
         (step_text (λ name. line_text query.now.query tables.now (with_name (style_shown style.now) name))
         (cut query.now.query.limit (combinations_in query.now.query set.old.answers)) places (Next name.now count)) result }
     ensures held { (places : Places) → IsHeld set.old cursors.old places → IsSome (places name.now)

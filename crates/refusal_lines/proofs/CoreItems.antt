@@ -7,9 +7,10 @@ use Rattle.std.proofs.lemmas.Grind.{flat_map-append}
 use Rattle.std.proofs.lemmas.List.FromFn.{get_or-range_with_len, length-range_with_len, map-range_with_len_more, take-map-range_with_len}
 use Rattle.hyper_graph.specs.Graph.{is_in}
 use Rattle.hyper_graph.specs.Items.{items_below}
-use Rattle.refusal_lines.specs.Answer.{spaced}
+use Rattle.refusal_lines.specs.Reason.{spaced}
 use Rattle.refusal_lines.specs.Core.{item_text}
 use Rattle.refusal_lines.specs.Sent.{Sent}
+use Rattle.refusal_lines.specs.SinkState.{SinkState}
 use Rattle.refusal_lines.proofs.Pieces.{Sent-cut}
 
 -- what one place adds, whether it is kept or left out
@@ -50,10 +51,11 @@ places-more core place a b c before here =
     (Appends-trans a b c _ _ before here)
 
 -- all places were sent
-pub places-sent : {E : Type 0} (core place count : ℕ) (a b : Option (List ℕ)) (m n : ℕ) → place ≡ count → Appends a b (flat_map (item_text core) (range_with_len 0 place)) → m ≤ n
-    → Sent {E = E} a b m n (spaced (items_below core count)) (Ok tt)
-places-sent core place count a b m n all sent later =
-    let whole : Appends a b (spaced (items_below core count)) = subst (λ text. Appends a b text) (core-text core place ∙ ap (λ p. spaced (items_below core p)) all) sent in
+pub places-sent : {E : Type 0} (core place count : ℕ) (a b : SinkState) → place ≡ count
+    → Appends a.written b.written (flat_map (item_text core) (range_with_len 0 place)) → a.faults ≤ b.faults
+    → Sent {E = E} a b (spaced (items_below core count)) (Ok tt)
+places-sent core place count a b all sent later =
+    let whole : Appends a.written b.written (spaced (items_below core count)) = subst (λ text. Appends a.written b.written text) (core-text core place ∙ ap (λ p. spaced (items_below core p)) all) sent in
     record {
       whole = whole;
       prefix = (spaced (items_below core count), whole, ([], sym (append-nil (spaced (items_below core count)))));
@@ -62,12 +64,12 @@ places-sent core place count a b m n all sent later =
     }
 
 -- the text of one place was cut short
-pub places-cut : {E : Type 0} (core place count : ℕ) (a b c : Option (List ℕ)) (m n k : ℕ) (e : E) → place < count
-    → Appends a b (flat_map (item_text core) (range_with_len 0 place)) → m ≤ n → Sent b c n k (item_text core place) (Err e)
-    → Sent a c m k (spaced (items_below core count)) (Err e)
-places-cut core place count a b c m n k e inside before earlier cut =
+pub places-cut : {E : Type 0} (core place count : ℕ) (a b c : SinkState) (e : E) → place < count
+    → Appends a.written b.written (flat_map (item_text core) (range_with_len 0 place)) → a.faults ≤ b.faults → Sent b c (item_text core place) (Err e)
+    → Sent a c (spaced (items_below core count)) (Err e)
+places-cut core place count a b c e inside before earlier cut =
     let first : take place (range_with_len 0 count) ≡ range_with_len 0 place = range-first count place (omega arith) in
     let here : get_or (range_with_len 0 count) place 0 ≡ place = get_or-range_with_len 0 count place 0 inside ∙ omega arith in
-    subst (λ text. Sent a c m k text (Err e)) (core-text core count)
-    (Sent-cut (item_text core) a b c m n k (range_with_len 0 count) place 0 e (subst (λ l. Appends a b (flat_map (item_text core) l)) (sym first) before) earlier
-    (omega (arith, length-range_with_len 0 count, inside)) (subst (λ p. Sent b c n k (item_text core p) (Err e)) (sym here) cut))
+    subst (λ text. Sent a c text (Err e)) (core-text core count)
+    (Sent-cut (item_text core) a b c (range_with_len 0 count) place 0 e (subst (λ l. Appends a.written b.written (flat_map (item_text core) l)) (sym first) before) earlier
+    (omega (arith, length-range_with_len 0 count, inside)) (subst (λ p. Sent b c (item_text core p) (Err e)) (sym here) cut))

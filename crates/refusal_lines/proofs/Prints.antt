@@ -6,22 +6,23 @@ use Rattle.outer_io.specs.Counts.{Rose}
 use Rattle.outer_io.proofs.Counting.{Rose-after}
 use Rattle.refusal_lines.specs.declared.refusal.Refusal.{Refusal}
 use Rattle.refusal_lines.specs.declared.refusal.Refusal.TheVariants as refusal
-use Rattle.refusal_lines.specs.Answer as answer
-use Rattle.refusal_lines.specs.Answer.{Answer}
-use Rattle.refusal_lines.specs.Refused.{answer_of}
+use Rattle.refusal_lines.specs.Reason as reason
+use Rattle.refusal_lines.specs.Reason.{Reason}
+use Rattle.refusal_lines.specs.Refused.{reason_of}
 use Rattle.refusal_lines.specs.Printed.{IsPrintCause, Printed}
+use Rattle.refusal_lines.specs.SinkState.{SinkState}
 
 pub appends-nothing : (x : Option (List ℕ)) → Appends x x []
 appends-nothing None = tt
 appends-nothing (Some xs) = sym (append-nil xs)
 
 -- one call of `write_all`
-pub written : (old new : Option (List ℕ)) (before now : ℕ) (bytes : List ℕ) → Appends old new bytes → before ≤ now → Printed old new before now bytes (Ok tt)
-written old new before now bytes all later = record { whole = all; prefix = (bytes, all, ([], sym (append-nil bytes))); cause = tt; later = later }
+pub written : (old new : SinkState) (bytes : List ℕ) → Appends old.written new.written bytes → old.faults ≤ new.faults → Printed old new bytes (Ok tt)
+written old new bytes all later = record { whole = all; prefix = (bytes, all, ([], sym (append-nil bytes))); cause = tt; later = later }
 
-pub unwritten : (old new : Option (List ℕ)) (before now n : ℕ) (bytes : List ℕ) → Appends old new (take n bytes) → Rose before now → before ≤ now
-    → Printed old new before now bytes (Err refusal.WriteFault)
-unwritten old new before now n bytes part cause later = record {
+pub unwritten : (old new : SinkState) (n : ℕ) (bytes : List ℕ) → Appends old.written new.written (take n bytes) → Rose old.faults new.faults → old.faults ≤ new.faults
+    → Printed old new bytes (Err refusal.WriteFault)
+unwritten old new n bytes part cause later = record {
   whole = tt;
   prefix = (take n bytes, part, (drop n bytes, sym (take-append-drop n bytes)));
   cause = cause;
@@ -29,36 +30,37 @@ unwritten old new before now n bytes part cause later = record {
 }
 
 -- memory ran out before anything was printed
-pub unprinted : (x : Option (List ℕ)) (n : ℕ) (text : List ℕ) → Printed x x n n text (Err refusal.NoMemory)
-unprinted x n text = record { whole = tt; prefix = ([], appends-nothing x, (text, refl)); cause = tt; later = omega arith }
+pub unprinted : (s : SinkState) (text : List ℕ) → Printed s s text (Err refusal.NoMemory)
+unprinted s text = record { whole = tt; prefix = ([], appends-nothing s.written, (text, refl)); cause = tt; later = omega arith }
 
-later-cause : (m n k : ℕ) (e : Answer) → m ≤ n → IsPrintCause n k e → IsPrintCause m k e
-later-cause m n k answer.WriteFault h cause = Rose-after m n k h cause
-later-cause m n k answer.NoMemory h cause = tt
+later-cause : (m n k : ℕ) (e : Reason) → m ≤ n → IsPrintCause n k e → IsPrintCause m k e
+later-cause m n k reason.WriteFault h cause = Rose-after m n k h cause
+later-cause m n k reason.NoMemory h cause = tt
 later-cause m n k e h cause = absurd cause
 
 -- a text after one that was printed whole
-pub printed-then : (a b c : Option (List ℕ)) (m n k : ℕ) (xs ys : List ℕ) (r : Result (Unit {0}) Refusal)
-    → Appends a b xs → m ≤ n → Printed b c n k ys r → Printed a c m k (xs ++ ys) r
-printed-then a b c m n k xs ys r first earlier second = record {
+pub printed-then : (a b c : SinkState) (xs ys : List ℕ) (r : Result (Unit {0}) Refusal)
+    → Appends a.written b.written xs → a.faults ≤ b.faults → Printed b c ys r → Printed a c (xs ++ ys) r
+printed-then a b c xs ys r first earlier second = record {
   whole = by_whole r second.whole;
   prefix = let part = second.prefix in
-      (xs ++ part.0, Appends-trans a b c xs part.0 first part.1, (part.2.0, ap (λ l. xs ++ l) part.2.1 ∙ sym (append_assoc xs part.0 part.2.0)));
+      (xs ++ part.0, Appends-trans a.written b.written c.written xs part.0 first part.1, (part.2.0, ap (λ l. xs ++ l) part.2.1 ∙ sym (append_assoc xs part.0 part.2.0)));
   cause = by_cause r second.cause;
   later = let up = second.later in omega (arith, up, earlier);
 }
   where
-    by_whole : (r : Result (Unit {0}) Refusal) → OnOk r (Appends b c ys) → OnOk r (Appends a c (xs ++ ys))
-    by_whole (Ok x) rest = Appends-trans a b c xs ys first rest
+    by_whole : (r : Result (Unit {0}) Refusal) → OnOk r (Appends b.written c.written ys) → OnOk r (Appends a.written c.written (xs ++ ys))
+    by_whole (Ok x) rest = Appends-trans a.written b.written c.written xs ys first rest
     by_whole (Err e) rest = tt
 
-    by_cause : (r : Result (Unit {0}) Refusal) → IfErr r (λ refusal. IsPrintCause n k (answer_of refusal)) → IfErr r (λ refusal. IsPrintCause m k (answer_of refusal))
+    by_cause : (r : Result (Unit {0}) Refusal) → IfErr r (λ refusal. IsPrintCause b.faults c.faults (reason_of refusal))
+        → IfErr r (λ refusal. IsPrintCause a.faults c.faults (reason_of refusal))
     by_cause (Ok x) cause = tt
-    by_cause (Err e) cause = later-cause m n k (answer_of e) earlier cause
+    by_cause (Err e) cause = later-cause a.faults b.faults c.faults (reason_of e) earlier cause
 
 -- a text after one that was cut short is not printed
-pub printed-stopped : (a b : Option (List ℕ)) (m n : ℕ) (xs ys : List ℕ) (e : Refusal) → Printed a b m n xs (Err e) → Printed a b m n (xs ++ ys) (Err e)
-printed-stopped a b m n xs ys e first = record {
+pub printed-stopped : (a b : SinkState) (xs ys : List ℕ) (e : Refusal) → Printed a b xs (Err e) → Printed a b (xs ++ ys) (Err e)
+printed-stopped a b xs ys e first = record {
   whole = tt;
   prefix = let part = first.prefix in (part.0, part.1, (part.2.0 ++ ys, ap (λ l. l ++ ys) part.2.1 ∙ append_assoc part.0 part.2.0 ys));
   cause = first.cause;

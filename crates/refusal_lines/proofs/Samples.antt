@@ -2,7 +2,7 @@
 use Rattle.std.proofs.Common.{◌≡◌, ◌∷◌, [], codes, refl}
 use Rattle.std.specs.Fmt.{digits}
 use Rattle.hyper_graph.specs.Items.{items_below, items_of}
-use Rattle.refusal_lines.specs.Answer.{BadWeight, Cyclic, DuplicateName, LimitRange, line_of}
+use Rattle.refusal_lines.specs.Reason.{BadWeight, Cyclic, DuplicateName, LimitRange, line_of}
 
 triangle : items_of 7 ≡ 1 ∷ 2 ∷ 3 ∷ []
 unfolding items_below

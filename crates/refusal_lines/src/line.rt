@@ -1,11 +1,12 @@
 //! The line that says why a run ended.
 ghost use Rattle.std.specs.Prelude.{◌≡◌, ◌<◌, ◌+◌, ◌++◌, codes, decimal};
-ghost use Rattle.refusal_lines.specs.Answer.{BadWeight, DuplicateName, RankRange, Ragged, line_of, on_byte, on_file, on_line, on_table, spaced, text_of};
+ghost use Rattle.refusal_lines.specs.Reason.{BadWeight, DuplicateName, RankRange, Ragged, line_of, on_byte, on_file, on_line, on_table, spaced, text_of};
 ghost use Rattle.hyper_graph.specs.Graph.{is_in};
 ghost use Rattle.hyper_graph.specs.Items.{items_of};
 ghost use Rattle.refusal_lines.specs.Core.{item_text};
-ghost use Rattle.refusal_lines.specs.Refused.{answer_of};
+ghost use Rattle.refusal_lines.specs.Refused.{reason_of};
 ghost use Rattle.refusal_lines.specs.Sent.{Sent};
+ghost use Rattle.refusal_lines.specs.SinkState.{state_of};
 
 use crate::piece::{Piece, write_pieces, write_text};
 use crate::refusal::Refusal;
@@ -14,7 +15,7 @@ use outer_io::{Sink, Unwritten};
 /// Writes the line of the refusal, with its line feed, as far as the sink takes it. It takes no
 /// memory. The error says that the sink did not take all of it.
 pub fn write_line<E: Sink>(err: &mut E, refusal: Refusal<'_>) -> Result<(), Unwritten>
-    ensures { Sent (E.written err.old) (E.written err.new) (E.faults err.old) (E.faults err.new) (line_of (answer_of refusal.entry)) result }
+    ensures { Sent (state_of E.Sink err.old) (state_of E.Sink err.new) (line_of (reason_of refusal.entry)) result }
 {
     write_text(err, b"anyk: ")?;
     write_reason(err, refusal)?;
@@ -23,7 +24,7 @@ pub fn write_line<E: Sink>(err: &mut E, refusal: Refusal<'_>) -> Result<(), Unwr
 
 /// Writes the reason, without `anyk: ` and without the line feed.
 fn write_reason<E: Sink>(err: &mut E, refusal: Refusal<'_>) -> Result<(), Unwritten>
-    ensures { Sent (E.written err.old) (E.written err.new) (E.faults err.old) (E.faults err.new) (text_of (answer_of refusal.entry)) result }
+    ensures { Sent (state_of E.Sink err.old) (state_of E.Sink err.new) (text_of (reason_of refusal.entry)) result }
 {
     match refusal {
         Refusal::Usage => write_text(err, b"usage"),
@@ -36,6 +37,7 @@ fn write_reason<E: Sink>(err: &mut E, refusal: Refusal<'_>) -> Result<(), Unwrit
         Refusal::UnknownAlias(at) => write_on_byte(err, at, b"unknown alias"),
         Refusal::UnknownColumn(at) => write_on_byte(err, at, b"unknown column"),
         Refusal::Ambiguous(at) => write_on_byte(err, at, b"ambiguous column"),
+        Refusal::UnknownBest => write_text(err, b"unknown alias in --best-of"),
         Refusal::NoHeader(table) => write_on_table(err, table, b"no header"),
         Refusal::DuplicateName { table, column } => write_duplicate_name(err, table, column),
         Refusal::Ragged { table, row } => write_ragged(err, table, row),
@@ -66,7 +68,7 @@ fn write_numbered<'a, E: Sink>(
     number: u32,
     after: &'a [u8],
 ) -> Result<(), Unwritten>
-    ensures { Sent (E.written err.old) (E.written err.new) (E.faults err.old) (E.faults err.new) (before.now ++ (decimal number ++ after.now)) result }
+    ensures { Sent (state_of E.Sink err.old) (state_of E.Sink err.new) (before.now ++ (decimal number ++ after.now)) result }
 {
     let pieces = [
         Piece::Text(before),
@@ -78,7 +80,7 @@ fn write_numbered<'a, E: Sink>(
 
 /// Writes a reason at a byte of the query.
 fn write_on_byte<'a, E: Sink>(err: &mut E, at: u32, what: &'a [u8]) -> Result<(), Unwritten>
-    ensures { Sent (E.written err.old) (E.written err.new) (E.faults err.old) (E.faults err.new) (on_byte at what.now) result }
+    ensures { Sent (state_of E.Sink err.old) (state_of E.Sink err.new) (on_byte at what.now) result }
 {
     let pieces = [
         Piece::Text(b"byte "),
@@ -91,7 +93,7 @@ fn write_on_byte<'a, E: Sink>(err: &mut E, at: u32, what: &'a [u8]) -> Result<()
 
 /// Writes a reason at a line of the script.
 fn write_on_line<'a, E: Sink>(err: &mut E, line: u32, what: &'a [u8]) -> Result<(), Unwritten>
-    ensures { Sent (E.written err.old) (E.written err.new) (E.faults err.old) (E.faults err.new) (on_line line what.now) result }
+    ensures { Sent (state_of E.Sink err.old) (state_of E.Sink err.new) (on_line line what.now) result }
 {
     let pieces = [
         Piece::Text(b"script line "),
@@ -108,7 +110,7 @@ fn write_on_table<'a, E: Sink>(
     table: &'a [u8],
     what: &'a [u8],
 ) -> Result<(), Unwritten>
-    ensures { Sent (E.written err.old) (E.written err.new) (E.faults err.old) (E.faults err.new) (on_table table.now what.now) result }
+    ensures { Sent (state_of E.Sink err.old) (state_of E.Sink err.new) (on_table table.now what.now) result }
 {
     let pieces = [
         Piece::Text(b"table "),
@@ -121,7 +123,7 @@ fn write_on_table<'a, E: Sink>(
 
 /// Writes a reason about a file.
 fn write_on_file<'a, E: Sink>(err: &mut E, file: &'a str, what: &'a [u8]) -> Result<(), Unwritten>
-    ensures { Sent (E.written err.old) (E.written err.new) (E.faults err.old) (E.faults err.new) (on_file file.now what.now) result }
+    ensures { Sent (state_of E.Sink err.old) (state_of E.Sink err.new) (on_file file.now what.now) result }
 {
     let pieces = [
         Piece::Text(b"file "),
@@ -133,7 +135,7 @@ fn write_on_file<'a, E: Sink>(err: &mut E, file: &'a str, what: &'a [u8]) -> Res
 
 /// Writes that a column has the same name as an earlier one.
 fn write_duplicate_name<E: Sink>(err: &mut E, table: &[u8], column: u32) -> Result<(), Unwritten>
-    ensures { Sent (E.written err.old) (E.written err.new) (E.faults err.old) (E.faults err.new) (text_of (DuplicateName table.now column)) result }
+    ensures { Sent (state_of E.Sink err.old) (state_of E.Sink err.new) (text_of (DuplicateName table.now column)) result }
 {
     let pieces = [
         Piece::Text(b"table "),
@@ -147,7 +149,7 @@ fn write_duplicate_name<E: Sink>(err: &mut E, table: &[u8], column: u32) -> Resu
 
 /// Writes that a row has more or fewer fields than the header.
 fn write_ragged<E: Sink>(err: &mut E, table: &[u8], row: u32) -> Result<(), Unwritten>
-    ensures { Sent (E.written err.old) (E.written err.new) (E.faults err.old) (E.faults err.new) (text_of (Ragged table.now row)) result }
+    ensures { Sent (state_of E.Sink err.old) (state_of E.Sink err.new) (text_of (Ragged table.now row)) result }
 {
     let pieces = [
         Piece::Text(b"table "),
@@ -161,14 +163,14 @@ fn write_ragged<E: Sink>(err: &mut E, table: &[u8], row: u32) -> Result<(), Unwr
 
 /// Writes that the sums of an order key may be too great.
 fn write_rank_range<E: Sink>(err: &mut E, key: u32) -> Result<(), Unwritten>
-    ensures { Sent (E.written err.old) (E.written err.new) (E.faults err.old) (E.faults err.new) (text_of (RankRange key)) result }
+    ensures { Sent (state_of E.Sink err.old) (state_of E.Sink err.new) (text_of (RankRange key)) result }
 {
     write_numbered(err, b"order key ", key, b": rank may pass 128 bits")
 }
 
 /// Writes that a field of an order column is not a weight.
 fn write_bad_weight<E: Sink>(err: &mut E, item: u32, row: u32, column: u32) -> Result<(), Unwritten>
-    ensures { Sent (E.written err.old) (E.written err.new) (E.faults err.old) (E.faults err.new)
+    ensures { Sent (state_of E.Sink err.old) (state_of E.Sink err.new)
         (text_of (BadWeight item row column)) result }
 {
     let pieces = [
@@ -185,7 +187,7 @@ fn write_bad_weight<E: Sink>(err: &mut E, item: u32, row: u32, column: u32) -> R
 
 /// Writes that the query is cyclic, with its core.
 fn write_cyclic<E: Sink>(err: &mut E, core: u16) -> Result<(), Unwritten>
-    ensures { Sent (E.written err.old) (E.written err.new) (E.faults err.old) (E.faults err.new) (codes "cyclic query: items" ++ spaced (items_of core)) result }
+    ensures { Sent (state_of E.Sink err.old) (state_of E.Sink err.new) (codes "cyclic query: items" ++ spaced (items_of core)) result }
 {
     write_text(err, b"cyclic query: items")?;
     write_items(err, core)
@@ -193,7 +195,7 @@ fn write_cyclic<E: Sink>(err: &mut E, core: u16) -> Result<(), Unwritten>
 
 /// Writes the items of a core, each with a space before it.
 fn write_items<E: Sink>(err: &mut E, core: u16) -> Result<(), Unwritten>
-    ensures { Sent (E.written err.old) (E.written err.new) (E.faults err.old) (E.faults err.new) (spaced (items_of core)) result }
+    ensures { Sent (state_of E.Sink err.old) (state_of E.Sink err.new) (spaced (items_of core)) result }
 {
     for place in 0..16 {
         write_item(err, core, place)?;
@@ -204,7 +206,7 @@ fn write_items<E: Sink>(err: &mut E, core: u16) -> Result<(), Unwritten>
 /// Writes the item with this number, from 0, if it is in the core.
 fn write_item<E: Sink>(err: &mut E, core: u16, place: u32) -> Result<(), Unwritten>
     requires { place < 16 }
-    ensures { Sent (E.written err.old) (E.written err.new) (E.faults err.old) (E.faults err.new) (item_text core place) result }
+    ensures { Sent (state_of E.Sink err.old) (state_of E.Sink err.new) (item_text core place) result }
 {
     if is_in(core, place) {
         write_numbered(err, b" ", place + 1, b"")

@@ -2,6 +2,7 @@
 ghost use Rattle.std.specs.Prelude.{◌≡◌};
 ghost use Rattle.refusal_lines.specs.Pieces.{text_of_piece, text_of_pieces};
 ghost use Rattle.refusal_lines.specs.Sent.{Sent};
+ghost use Rattle.refusal_lines.specs.SinkState.{state_of};
 
 use number_text::write_digits;
 use outer_io::{Sink, Unwritten, write_all};
@@ -17,7 +18,7 @@ pub(crate) enum Piece<'a> {
 
 /// Writes the pieces, one after another, as far as the sink takes them.
 pub(crate) fn write_pieces<E: Sink>(err: &mut E, pieces: &[Piece<'_>]) -> Result<(), Unwritten>
-    ensures { Sent (E.written err.old) (E.written err.new) (E.faults err.old) (E.faults err.new) (text_of_pieces pieces.now) result }
+    ensures { Sent (state_of E.Sink err.old) (state_of E.Sink err.new) (text_of_pieces pieces.now) result }
 {
     for piece in pieces {
         write_piece(err, *piece)?;
@@ -27,7 +28,7 @@ pub(crate) fn write_pieces<E: Sink>(err: &mut E, pieces: &[Piece<'_>]) -> Result
 
 /// Writes one piece.
 fn write_piece<E: Sink>(err: &mut E, piece: Piece<'_>) -> Result<(), Unwritten>
-    ensures { Sent (E.written err.old) (E.written err.new) (E.faults err.old) (E.faults err.new) (text_of_piece piece.entry) result }
+    ensures { Sent (state_of E.Sink err.old) (state_of E.Sink err.new) (text_of_piece piece.entry) result }
 {
     match piece {
         Piece::Text(text) => write_text(err, text),
@@ -41,7 +42,7 @@ fn write_piece<E: Sink>(err: &mut E, piece: Piece<'_>) -> Result<(), Unwritten>
 
 /// Writes one text.
 pub(crate) fn write_text<E: Sink>(err: &mut E, text: &[u8]) -> Result<(), Unwritten>
-    ensures { Sent (E.written err.old) (E.written err.new) (E.faults err.old) (E.faults err.new) text.now result }
+    ensures { Sent (state_of E.Sink err.old) (state_of E.Sink err.new) text.now result }
 {
     write_all(err, text)
 }

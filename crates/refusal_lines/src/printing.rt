@@ -1,12 +1,13 @@
 //! Printing a text by one write, where a failure is a refusal.
 ghost use Rattle.refusal_lines.specs.Printed.{Printed};
+ghost use Rattle.refusal_lines.specs.SinkState.{state_of};
 
 use crate::refusal::Refusal;
 use outer_io::{Sink, write_all};
 
 /// Prints a text by one write. `WriteFault` if the write failed. It takes no memory.
 pub fn print<'a, S: Sink>(out: &mut S, text: &[u8]) -> Result<(), Refusal<'a>>
-    ensures { Printed (S.written out.old) (S.written out.new) (S.faults out.old) (S.faults out.new) text.now result }
+    ensures { Printed (state_of S.Sink out.old) (state_of S.Sink out.new) text.now result }
 {
     match write_all(out, text) {
         Ok(()) => Ok(()),

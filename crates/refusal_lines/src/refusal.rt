@@ -1,7 +1,7 @@
 //! Why a run ended before its output was complete.
 ghost use Rattle.std.specs.Prelude.{◌≡◌};
-ghost use Rattle.refusal_lines.specs.Answer.{status_of};
-ghost use Rattle.refusal_lines.specs.Refused.{answer_of};
+ghost use Rattle.refusal_lines.specs.Reason.{status_of};
+ghost use Rattle.refusal_lines.specs.Refused.{reason_of};
 
 /// Why a run ended before its output was complete. Items, keys, columns, rows and script lines
 /// count from 1. An offset is that of a byte of the query, from 0. Tables and files have the names
@@ -28,6 +28,8 @@ pub enum Refusal<'a> {
     UnknownColumn(u32),
     /// The column at this offset is in several items.
     Ambiguous(u32),
+    /// No item has the alias of `--best-of`.
+    UnknownBest,
     /// The table's file has no record.
     NoHeader(&'a [u8]),
     /// The column has the same name as an earlier one.
@@ -73,7 +75,7 @@ pub enum Refusal<'a> {
 impl<'a> Refusal<'a> {
     /// The exit status of the program after this refusal.
     pub fn status(self) -> u8
-        ensures { result ≡ status_of (answer_of self.entry) }
+        ensures { result ≡ status_of (reason_of self.entry) }
     {
         match self {
             Refusal::Usage => 2,
@@ -85,7 +87,8 @@ impl<'a> Refusal<'a> {
             | Refusal::DuplicateAlias(_)
             | Refusal::UnknownAlias(_)
             | Refusal::UnknownColumn(_)
-            | Refusal::Ambiguous(_) => 4,
+            | Refusal::Ambiguous(_)
+            | Refusal::UnknownBest => 4,
             Refusal::NoHeader(_)
             | Refusal::DuplicateName { .. }
             | Refusal::Ragged { .. }

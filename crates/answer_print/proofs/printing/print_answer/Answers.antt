@@ -6,7 +6,7 @@ use Rattle.answer_print.proofs.printing.print_answer.Goals as goal
 pub returns-in_err-write_line : goal.returns-in_err-write_line
 returns-in_err-write_line g c =
     let e : c.from_residual.result ≡ Err refusal.NoMemory = search rules in
-    rw e (unprinted _ _ _)
+    rw e (unprinted _ _)
 
 pub returns : goal.returns
 returns g c = rw (c.text.ensures, c.in_ok-write_line.ensures) at c.print.ensures

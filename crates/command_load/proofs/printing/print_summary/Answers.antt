@@ -8,7 +8,7 @@ use Rattle.command_load.proofs.printing.print_summary.Goals as goal
 pub returns-in_err-ends-clause-printed : goal.returns-in_err-ends-clause-printed
 returns-in_err-ends-clause-printed g c =
     let e : c.from_residual.result ≡ Err refusal.NoMemory = search rules in
-    rw e (unprinted _ _ _)
+    rw e (unprinted _ _)
 
 pub summary-requires-clause-first : goal.summary-requires-clause-first
 summary-requires-clause-first g c =

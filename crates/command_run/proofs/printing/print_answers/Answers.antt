@@ -18,7 +18,7 @@ returns-in_err-answer-clause-printed g c =
     let e : c.from_residual.result ≡ Err refusal.NoMemory = search rules in
     let low = limit-within query.limit c.loop-given._given _ _ (rw c.limit.ensures at c.unwrap_or-most.ensures) c.loop-given-test.true in
     rw e (stopped-short (λ (a : Seen). IsCombination (row_counts query.items tables) (take (length query.items) a.rows)) (line_text query tables (style_shown c.args.style.now)) (λ (a : Seen). take (length query.items) a.rows) (combinations_in query (g.E.Ranked.rest c.args.engine.now))
-    c.loop-given._given query.limit _ _ _ _ _ low c.loop-given.invariant.given)
+    c.loop-given._given query.limit _ _ _ low c.loop-given.invariant.given)
 
 pub returns-in_default-clause-printed : goal.returns-in_default-clause-printed
 returns-in_default-clause-printed g c =
@@ -27,7 +27,7 @@ returns-in_default-clause-printed g c =
     let low = limit-within query.limit c.loop-given._given _ _ (rw c.limit.ensures at c.unwrap_or-most.ensures) c.loop-given-test.true in
     let ended = rw c.in_default.is at c.in_ok-answer.ensures.end in
     printed-all (λ (a : Seen). IsCombination (row_counts query.items tables) (take (length query.items) a.rows)) (line_text query tables (style_shown c.args.style.now)) (λ (a : Seen). take (length query.items) a.rows) (combinations_in query (g.E.Ranked.rest c.args.engine.now))
-    c.loop-given._given query.limit _ _ _ _ _ low ended.0 c.loop-given.invariant.given
+    c.loop-given._given query.limit _ _ _ low ended.0 c.loop-given.invariant.given
 
 pub print_answer-requires-clause-rows : goal.print_answer-requires-clause-rows
 print_answer-requires-clause-rows g c =
@@ -46,7 +46,7 @@ returns-in_err-print_answer-clause-printed g c =
     let low = limit-below query.limit i _ _ (rw c.limit.ensures at c.unwrap_or-most.ensures) c.loop-given-test.true in
     let e : c.from_residual-in_err-print_answer.result ≡ Err c.in_err-print_answer.field-0.0 = search rules in
     rw e (cut-short (λ (a : Seen). IsCombination (row_counts query.items tables) (take (length query.items) a.rows)) (line_text query tables (style_shown c.args.style.now)) (λ (a : Seen). take (length query.items) a.rows)
-    (combinations_in query (g.E.Ranked.rest c.args.engine.now)) i [] _ _ _ c.loop-given.invariant.given.rest found query.limit _ _ _ _ _ _ c.in_err-print_answer.field-0.0 low
+    (combinations_in query (g.E.Ranked.rest c.args.engine.now)) i [] _ _ _ c.loop-given.invariant.given.rest found query.limit _ _ _ c.in_err-print_answer.field-0.0 low
     c.loop-given.invariant.given c.in_err-print_answer.ensures)
 
 pub loop-given-preserved : goal.loop-given-preserved
@@ -58,7 +58,7 @@ loop-given-preserved g c =
     let printed = c.in_ok-print_answer.ensures in
     record {
       given = given-more (λ (a : Seen). IsCombination (row_counts query.items tables) (take (length query.items) a.rows)) (line_text query tables (style_shown c.args.style.now)) (λ (a : Seen). take (length query.items) a.rows)
-          (combinations_in query (g.E.Ranked.rest c.args.engine.now)) i [] _ _ _ c.loop-given.invariant.given.rest found _ _ _ _ _ _ c.loop-given.invariant.given printed.whole printed.later;
+          (combinations_in query (g.E.Ranked.rest c.args.engine.now)) i [] _ _ _ c.loop-given.invariant.given.rest found _ _ _ c.loop-given.invariant.given printed.whole printed.later;
       called = called-more g.E.Ranked.share g.met.E.Ranked.share_rises _ _ i _ _ _ _ _ _ _ _ c.loop-given.invariant.called (g.met.E.Ranked.due_within c.loop-given.engine) c.next.ensures.cost
           (counted-few _ _ c.next.ensures.counted) c.next.ensures.size;
     }
@@ -70,7 +70,7 @@ returns-then-is_none-clause-printed g c =
     let none : query.limit ≡ None = search rules in
     let low = subst (λ (o : Option ℕ). IfSome o (λ n. c.loop-given._given ≤ n)) (sym none) tt in
     stopped-short (λ (a : Seen). IsCombination (row_counts query.items tables) (take (length query.items) a.rows)) (line_text query tables (style_shown c.args.style.now)) (λ (a : Seen). take (length query.items) a.rows) (combinations_in query (g.E.Ranked.rest c.args.engine.now))
-    c.loop-given._given query.limit _ _ _ _ _ low c.loop-given.invariant.given
+    c.loop-given._given query.limit _ _ _ low c.loop-given.invariant.given
 
 pub returns-clause-printed : goal.returns-clause-printed
 returns-clause-printed g c =
@@ -79,7 +79,7 @@ returns-clause-printed g c =
     let reached = limit-reached query.limit c.loop-given._given _ _ (rw c.limit.ensures at c.unwrap_or-most.ensures) (rw c.limit-2.ensures at c.if-is_none.ensures)
     c.loop-given-test.false c.loop-given.auto._given-end in
     printed-limit (λ (a : Seen). IsCombination (row_counts query.items tables) (take (length query.items) a.rows)) (line_text query tables (style_shown c.args.style.now)) (λ (a : Seen). take (length query.items) a.rows) (combinations_in query (g.E.Ranked.rest c.args.engine.now))
-    c.loop-given._given query.limit _ _ _ _ _ reached c.loop-given.invariant.given
+    c.loop-given._given query.limit _ _ _ reached c.loop-given.invariant.given
 
 pub returns-in_err-answer-clause-paced : goal.returns-in_err-answer-clause-paced
 returns-in_err-answer-clause-paced g c =

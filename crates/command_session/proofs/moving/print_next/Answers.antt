@@ -6,6 +6,7 @@ use Rattle.anyk_model.specs.Query.{IsCombination, row_counts}
 use Rattle.answer_print.specs.Shown.{style_shown}
 use Rattle.refusal_lines.specs.declared.refusal.Refusal.TheVariants as refusal
 use Rattle.refusal_lines.specs.Printed.{Printed}
+use Rattle.refusal_lines.specs.SinkState.{state_of}
 use Rattle.verdict.specs.Session.{next_text, with_name}
 use Rattle.tdp_core.specs.Seen.{Seen}
 use Rattle.witness_key.specs.WitnessKey.{combinations_in}
@@ -29,8 +30,8 @@ loop-given-init g c =
       answers = refl;
       places = sym (set-get_or c.args.set.now.places c.args.id.number None) ∙ ap (λ p. slice_set c.args.set.now.places c.args.id.number p) c.requires.place;
       here = c.requires.place;
-      left = next-start (λ left. HasLeft whole left (g.S.Sink.written c.args.out.now) (g.S.Sink.written c.args.out.now) (g.S.Sink.faults c.args.out.now) (g.S.Sink.faults c.args.out.now))
-          line ending members c.args.cursor.now.place c.args.count (left-whole whole (g.S.Sink.written c.args.out.now) (g.S.Sink.faults c.args.out.now));
+      left = next-start (λ left. HasLeft whole left (state_of g.S.Sink c.args.out.now) (state_of g.S.Sink c.args.out.now))
+          line ending members c.args.cursor.now.place c.args.count (left-whole whole (state_of g.S.Sink c.args.out.now));
       spent = spent-places g.E.Ranked.share g.met.E.Ranked.share_rises c.args.set.now c.args.set.now (c.args.cursor.now.place + 0) 0 c.args.steps.now c.args.steps.now refl
           (omega arith);
     }
@@ -41,7 +42,7 @@ next_member-requires g c = record { place = c.loop-given.invariant.here }
 pub returns-in_err-answer-clause-printed : goal.returns-in_err-answer-clause-printed
 returns-in_err-answer-clause-printed g c =
     let e : c.from_residual.result ≡ Err refusal.NoMemory = search rules in
-    rw e (left-unprinted _ _ _ _ _ _ c.loop-given.invariant.left)
+    rw e (left-unprinted _ _ _ _ c.loop-given.invariant.left)
 
 pub returns-in_default-clause-printed : goal.returns-in_default-clause-printed
 returns-in_default-clause-printed g c =
@@ -66,8 +67,8 @@ returns-in_default-clause-printed g c =
     omega (arith, at, ended.1, cut-length query.limit seen c.args.set.now.answers, ap (λ l. length (cut query.limit l)) same) in
     let last : left ≡ ending = next-ending line ending members (start + given) _ _ short more in
     let P : List ℕ → Type 0 = λ text.
-    Printed (g.S.Sink.written c.loop-given.out) (g.S.Sink.written c.print_end.new.out) (g.S.Sink.faults c.loop-given.out) (g.S.Sink.faults c.print_end.new.out) text c.print_end.result in
-    left-last whole left _ _ _ _ _ _ c.loop-given.invariant.left c.print_end.result
+    Printed (state_of g.S.Sink c.loop-given.out) (state_of g.S.Sink c.print_end.new.out) text c.print_end.result in
+    left-last whole left _ _ _ c.loop-given.invariant.left c.print_end.result
     (subst P (sym last)
     (let Q : List ℕ → Type 0 = λ name. P (name ++ codes "\n") in subst Q (c.in_ok-answer.ensures.name ∙ c.loop-given.invariant.name) c.print_end.ensures))
 
@@ -138,7 +139,7 @@ returns-in_err-print_answer-clause-printed g c =
     let rows : take (length query.items) c.in-Some.answer.rows ≡ get_or ranking place [] = told-is seen c.args.set.now.answers place _ [] at_place in
     let split = next-given line ending query.limit ranking start given c.args.count place [] c.loop-given.invariant.place less found.0 inside in
     let e : c.from_residual-in_err-print_answer.result ≡ Err c.in_err-print_answer.field-0.0 = search rules in
-    rw e (left-stopped whole left _ _ _ _ _ _ c.loop-given.invariant.left _ _ c.in_err-print_answer.field-0.0 split (rw rows at c.in_err-print_answer.ensures))
+    rw e (left-stopped whole left _ _ _ c.loop-given.invariant.left _ _ c.in_err-print_answer.field-0.0 split (rw rows at c.in_err-print_answer.ensures))
 
 pub loop-given-preserved : goal.loop-given-preserved
 loop-given-preserved g c =
@@ -173,7 +174,7 @@ loop-given-preserved g c =
           c.loop-given.invariant.places c.in_ok-answer.ensures.places;
       here = place-set c.loop-given.set.places c.next_member.new.set.places c.args.id.number place c.next_member.new.cursor.place c.loop-given.invariant.here
           c.in_ok-answer.ensures.places;
-      left = left-more whole left _ _ _ _ _ _ c.loop-given.invariant.left _ _ split printed.whole printed.later;
+      left = left-more whole left _ _ _ c.loop-given.invariant.left _ _ split printed.whole printed.later;
       spent = given-more g.E.Ranked.share g.met.E.Ranked.share_rises query.limit ranking start given c.args.count place c.args.set.now c.loop-given.set
           c.args.steps.now c.loop-given.steps at c.loop-given.invariant.within c.loop-given.invariant.spent c.next_member.new.set c.next_member.new.steps found.0
           (rw c.limit.ensures at c.in_ok-answer.ensures.paid.spent);
@@ -194,7 +195,7 @@ returns-clause-printed g c =
     let whole = next_text line ending (drop start members) c.args.count in
     let left = next_text line ending (drop (start + given) members) (c.args.count - given) in
     let over : c.args.count - given ≡ 0 = omega (arith, c.loop-given-test.false) in
-    left-none whole left _ _ _ _ c.loop-given.invariant.left (next-done line ending members (start + given) (c.args.count - given) over)
+    left-none whole left _ _ c.loop-given.invariant.left (next-done line ending members (start + given) (c.args.count - given) over)
 
 pub returns-clause-moved : goal.returns-clause-moved
 returns-clause-moved g c =

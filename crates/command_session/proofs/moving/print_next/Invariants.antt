@@ -3,6 +3,7 @@ use Rattle.std.specs.Prelude.{codes, slice_set}
 use Rattle.anyk_model.specs.Output.{cut, line_text}
 use Rattle.answer_print.specs.Shown.{style_shown}
 use Rattle.cursor_set.specs.CursorSet.{place_of}
+use Rattle.refusal_lines.specs.SinkState.{state_of}
 use Rattle.verdict.specs.Session.{next_text, with_name}
 use Rattle.witness_key.specs.WitnessKey.{combinations_in}
 use Rattle.command_session.specs.Spent.{Spent}
@@ -23,6 +24,6 @@ invariant-loop-given g l =
       places : l.set.places ≡ slice_set l.initial.set.places l.id.number (Some l.cursor.place);
       here : place_of l.set l.id.number ≡ Some l.cursor.place;
       left : HasLeft (next_text line ending (drop start members) l.count) (next_text line ending (drop (start + l._given) members) (l.count - l._given))
-          (g.S.Sink.written l.initial.out) (g.S.Sink.written l.out) (g.S.Sink.faults l.initial.out) (g.S.Sink.faults l.out);
+          (state_of g.S.Sink l.initial.out) (state_of g.S.Sink l.out);
       spent : Spent g.E.Ranked.share l.initial.set l.set (start + l._given) l._given l.initial.steps l.steps;
     }

@@ -7,12 +7,12 @@ use Rattle.command_session.proofs.session.print_session.Goals as goal
 pub returns-in_err-print_header-clause-printed : goal.returns-in_err-print_header-clause-printed
 returns-in_err-print_header-clause-printed g c =
     let e : c.from_residual.result ≡ Err c.in_err-print_header.field-0.0 = search rules in
-    rw e (printed-stopped _ _ _ _ _ _ c.in_err-print_header.field-0.0 c.in_err-print_header.ensures)
+    rw e (printed-stopped _ _ _ _ c.in_err-print_header.field-0.0 c.in_err-print_header.ensures)
 
 pub returns-clause-printed : goal.returns-clause-printed
 returns-clause-printed g c =
     let head = c.in_ok-print_header.ensures in
-    printed-then _ _ _ _ _ _ _ _ _ head.whole head.later (rw (ap (λ (s : CursorSet). s.answers) c.new-set.ensures.set) at c.print_steps.ensures.printed)
+    printed-then _ _ _ _ _ _ head.whole head.later (rw (ap (λ (s : CursorSet). s.answers) c.new-set.ensures.set) at c.print_steps.ensures.printed)
 
 pub returns-in_err-print_header-clause-bounded : goal.returns-in_err-print_header-clause-bounded
 returns-in_err-print_header-clause-bounded g c = omega arith

@@ -1,6 +1,7 @@
 use Rattle.std.proofs.Common.{◌≡◌, ℕ, List, [], Err, subst, sym, refl, ◌∙◌, ◌<◌, length, get_or, arith, rules}
 use Rattle.anyk_model.specs.Output.{cut, line_text}
 use Rattle.answer_print.specs.Shown.{style_shown}
+use Rattle.refusal_lines.specs.SinkState.{state_of}
 use Rattle.verdict.specs.Session.{no_cursors, places_after, steps_text, with_name}
 use Rattle.verdict.specs.SessionCalls.{calls_of_step, ends_by_itself, reach_of_step}
 use Rattle.witness_key.specs.WitnessKey.{AreCombinations, combinations_in}
@@ -23,7 +24,7 @@ loop-step-init g c =
         taken = record {
           held = none-held c.args.set.now _ refl c.requires.places;
           rules = can-follow members no_cursors [] c.args.script.now (λ name. refl) c.requires.rules;
-          left = left-whole (steps_text line members no_cursors c.args.script.now) (g.S.Sink.written c.args.out.now) (g.S.Sink.faults c.args.out.now);
+          left = left-whole (steps_text line members no_cursors c.args.script.now) (state_of g.S.Sink c.args.out.now);
         };
         paid = paid-start g.E.Ranked.share g.met.E.Ranked.share_rises (ends_by_itself query.limit (combinations_in query c.args.set.now.answers)) members c.args.script.now c.args.set.now c.args.steps.now;
       };
@@ -46,7 +47,7 @@ returns-in_err-take_step-clause-printed g c =
     let run = c.loop-step.invariant.run in
     let can = can-step line members script i step inside here run.places run.taken.rules in
     let e : c.from_residual.result ≡ Err c.in_err-take_step.field-0.0 = search rules in
-    rw e (taken-stopped line members script i step inside here run.places c.loop-step.set c.loop-step.cursors _ _ _ _ _ _ c.in_err-take_step.field-0.0 run.taken
+    rw e (taken-stopped line members script i step inside here run.places c.loop-step.set c.loop-step.cursors _ _ _ c.in_err-take_step.field-0.0 run.taken
     (rw c.loop-step.invariant.answers at (c.in_err-take_step.ensures.printed run.places run.taken.held can.0)))
 
 pub loop-step-preserved : goal.loop-step-preserved
@@ -65,7 +66,7 @@ loop-step-preserved g c =
       answers = c.in_ok-take_step.ensures.kept ∙ c.loop-step.invariant.answers;
       run = record {
         places = places_after members run.places step;
-        taken = taken-more line members script i step inside here run.places c.loop-step.set c.take_step.new.set c.loop-step.cursors _ _ _ _ _ _ _ run.taken
+        taken = taken-more line members script i step inside here run.places c.loop-step.set c.take_step.new.set c.loop-step.cursors _ _ _ _ run.taken
             (rw c.loop-step.invariant.answers at (c.in_ok-take_step.ensures.held run.places run.taken.held can.0)) (rw c.loop-step.invariant.answers at (c.in_ok-take_step.ensures.printed run.places run.taken.held can.0));
         paid = paid-more g.E.Ranked.share g.met.E.Ranked.share_rises (ends_by_itself query.limit (combinations_in query c.args.set.now.answers)) members script i step inside here run.places
             c.args.set.now c.loop-step.set c.args.steps.now c.loop-step.steps c.take_step.new.steps run.paid c.take_step.new.set
@@ -107,5 +108,5 @@ returns-clause-printed g c =
     let query = c.args.query.now.query in
     let line : List ℕ → List ℕ → List ℕ = λ name. line_text query c.args.tables.now (with_name (style_shown c.args.style.now) name) in
     let run = c.loop-step.invariant.run in
-    taken-all line (cut query.limit (combinations_in query c.args.set.now.answers)) c.args.script.now c.loop-step.step-index run.places c.loop-step.set c.loop-step.cursors _ _ _ _ (omega arith)
+    taken-all line (cut query.limit (combinations_in query c.args.set.now.answers)) c.args.script.now c.loop-step.step-index run.places c.loop-step.set c.loop-step.cursors _ _ (omega arith)
     run.taken

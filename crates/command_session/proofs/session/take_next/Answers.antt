@@ -4,6 +4,7 @@ use Rattle.anyk_model.specs.Output.{cut, line_text}
 use Rattle.answer_print.specs.Shown.{style_shown}
 use Rattle.refusal_lines.specs.declared.refusal.Refusal.{Refusal}
 use Rattle.refusal_lines.specs.Printed.{Printed}
+use Rattle.refusal_lines.specs.SinkState.{state_of}
 use Rattle.verdict.specs.Session.{with_name}
 use Rattle.command_session.specs.declared.open_cursors.OpenCursor.{OpenCursor}
 use Rattle.command_session.specs.Held.{IsHeld}
@@ -47,7 +48,7 @@ returns-in_err-print_next-clause-printed g c = λ places held opened.
     ∙ ap (λ (e : OpenCursor). Some e.place) same in
     let e : c.from_residual.result ≡ Err c.in_err-print_next.field-0.0 = search rules in
     rw e (next-told
-    (λ text. Printed (g.S.Sink.written c.args.out.now) (g.S.Sink.written c.print_next.new.out) (g.S.Sink.faults c.args.out.now) (g.S.Sink.faults c.print_next.new.out) text
+    (λ text. Printed (state_of g.S.Sink c.args.out.now) (state_of g.S.Sink c.print_next.new.out) text
     (Err c.in_err-print_next.field-0.0))
     line members places c.args.name.now c.in-Some-cursors.cursor.place c.args.count c.in-Some-cursors.cursor.name.now own at c.in_err-print_next.ensures.printed)
 
@@ -63,7 +64,7 @@ returns-clause-printed g c = λ places held opened.
     let at = place-named c.args.set.now c.args.set.now c.args.cursors.now places c.in-Some.number c.args.name.now found.cursor held found.within found.at found.is
     ∙ ap (λ (e : OpenCursor). Some e.place) same in
     next-told
-    (λ text. Printed (g.S.Sink.written c.args.out.now) (g.S.Sink.written c.print_next.new.out) (g.S.Sink.faults c.args.out.now) (g.S.Sink.faults c.print_next.new.out) text (Ok tt))
+    (λ text. Printed (state_of g.S.Sink c.args.out.now) (state_of g.S.Sink c.print_next.new.out) text (Ok tt))
     line members places c.args.name.now c.in-Some-cursors.cursor.place c.args.count c.in-Some-cursors.cursor.name.now own at c.in_ok-print_next.ensures.printed
 
 pub returns-clause-held : goal.returns-clause-held

@@ -6,7 +6,7 @@ pub returns-in_err-write_item : goal.returns-in_err-write_item
 returns-in_err-write_item g c =
     let e : c.from_residual.result ≡ Err c.in_err-write_item.field-0.0 = search rules in
     rw e
-    (places-cut c.args.core c.loop-place.place 16 _ _ _ _ _ _ _ c.loop-place-test.true c.loop-place.invariant.sent c.loop-place.invariant.faults c.in_err-write_item.ensures)
+    (places-cut c.args.core c.loop-place.place 16 _ _ _ _ c.loop-place-test.true c.loop-place.invariant.sent c.loop-place.invariant.faults c.in_err-write_item.ensures)
 
 pub loop-place-preserved : goal.loop-place-preserved
 loop-place-preserved g c = record {
@@ -17,4 +17,4 @@ loop-place-preserved g c = record {
 pub returns : goal.returns
 returns g c =
     let all : c.loop-place.place ≡ 16 = search rules in
-    places-sent c.args.core c.loop-place.place 16 _ _ _ _ all c.loop-place.invariant.sent c.loop-place.invariant.faults
+    places-sent c.args.core c.loop-place.place 16 _ _ all c.loop-place.invariant.sent c.loop-place.invariant.faults

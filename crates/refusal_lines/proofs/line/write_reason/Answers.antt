@@ -10,6 +10,9 @@ returns-in-CursorExists g c = rw c.in-CursorExists.is c.write_on_line-in-CursorE
 pub returns-in-UnknownColumn : goal.returns-in-UnknownColumn
 returns-in-UnknownColumn g c = rw c.in-UnknownColumn.is c.write_on_byte-in-UnknownColumn.ensures
 
+pub returns-in-UnknownBest : goal.returns-in-UnknownBest
+returns-in-UnknownBest g c = rw c.in-UnknownBest.is c.write_text-in-UnknownBest.ensures
+
 pub returns-in-NoHeader : goal.returns-in-NoHeader
 returns-in-NoHeader g c = rw c.in-NoHeader.is c.write_on_table.ensures
 

@@ -1,41 +1,42 @@
--- The answers of the program except success, each with its status and its line. Items, keys,
+-- Why a call ended before its output was complete: each reason with its status and its line. Items, keys,
 -- columns, rows and lines count from 1.
 use Rattle.std.specs.Prelude.{ℕ, List, ◌++◌, codes, decimal}
 use Rattle.std.specs.List.{flat_map}
 
-pub data Answer : Type 0 where
-  Usage : Answer
-  Syntax : (at : ℕ) → Answer
-  BadLine : (line : ℕ) → Answer
-  UnknownCursor : (line : ℕ) → Answer
-  CursorExists : (line : ℕ) → Answer
-  UnknownTable : (at : ℕ) → Answer
-  DuplicateAlias : (item : ℕ) → Answer
-  UnknownAlias : (at : ℕ) → Answer
-  UnknownColumn : (at : ℕ) → Answer
-  Ambiguous : (at : ℕ) → Answer
-  NoHeader : (table : List ℕ) → Answer
-  DuplicateName : (table : List ℕ) (column : ℕ) → Answer
-  Ragged : (table : List ℕ) (row : ℕ) → Answer
-  BadWeight : (item row column : ℕ) → Answer
-  Cyclic : (core : List ℕ) → Answer
-  RankRange : (key : ℕ) → Answer
-  TooLong : Answer
-  TooManyItems : Answer
-  TooManyKeys : Answer
-  LimitRange : (at : ℕ) → Answer
-  TooLarge : (file : List ℕ) → Answer
-  TooManyColumns : (table : List ℕ) → Answer
-  TooManyTableRows : (table : List ℕ) → Answer
-  TooManyNodeRows : Answer
-  TooManyLines : Answer
-  TooManyOpen : (line : ℕ) → Answer
-  NoFile : (file : List ℕ) → Answer
-  ReadFault : (file : List ℕ) → Answer
-  WriteFault : Answer
-  NoMemory : Answer
+pub data Reason : Type 0 where
+  Usage : Reason
+  Syntax : (at : ℕ) → Reason
+  BadLine : (line : ℕ) → Reason
+  UnknownCursor : (line : ℕ) → Reason
+  CursorExists : (line : ℕ) → Reason
+  UnknownTable : (at : ℕ) → Reason
+  DuplicateAlias : (item : ℕ) → Reason
+  UnknownAlias : (at : ℕ) → Reason
+  UnknownColumn : (at : ℕ) → Reason
+  Ambiguous : (at : ℕ) → Reason
+  UnknownBest : Reason
+  NoHeader : (table : List ℕ) → Reason
+  DuplicateName : (table : List ℕ) (column : ℕ) → Reason
+  Ragged : (table : List ℕ) (row : ℕ) → Reason
+  BadWeight : (item row column : ℕ) → Reason
+  Cyclic : (core : List ℕ) → Reason
+  RankRange : (key : ℕ) → Reason
+  TooLong : Reason
+  TooManyItems : Reason
+  TooManyKeys : Reason
+  LimitRange : (at : ℕ) → Reason
+  TooLarge : (file : List ℕ) → Reason
+  TooManyColumns : (table : List ℕ) → Reason
+  TooManyTableRows : (table : List ℕ) → Reason
+  TooManyNodeRows : Reason
+  TooManyLines : Reason
+  TooManyOpen : (line : ℕ) → Reason
+  NoFile : (file : List ℕ) → Reason
+  ReadFault : (file : List ℕ) → Reason
+  WriteFault : Reason
+  NoMemory : Reason
 
-abbrev pub status_of : Answer → ℕ
+abbrev pub status_of : Reason → ℕ
 status_of Usage = 2
 status_of (Syntax at) = 3
 status_of (BadLine line) = 3
@@ -46,6 +47,7 @@ status_of (DuplicateAlias item) = 4
 status_of (UnknownAlias at) = 4
 status_of (UnknownColumn at) = 4
 status_of (Ambiguous at) = 4
+status_of UnknownBest = 4
 status_of (NoHeader table) = 5
 status_of (DuplicateName table column) = 5
 status_of (Ragged table row) = 5
@@ -84,7 +86,7 @@ abbrev pub on_line : ℕ → List ℕ → List ℕ
 on_line line what = codes "script line " ++ (decimal line ++ (codes ": " ++ what))
 
 -- the text between `anyk: ` and the end of the line
-abbrev pub text_of : Answer → List ℕ
+abbrev pub text_of : Reason → List ℕ
 text_of Usage = codes "usage"
 text_of (Syntax at) = codes "syntax error at byte " ++ decimal at
 text_of (BadLine line) = on_line line (codes "bad line")
@@ -95,6 +97,7 @@ text_of (DuplicateAlias item) = codes "item " ++ (decimal item ++ codes ": alias
 text_of (UnknownAlias at) = on_byte at (codes "unknown alias")
 text_of (UnknownColumn at) = on_byte at (codes "unknown column")
 text_of (Ambiguous at) = on_byte at (codes "ambiguous column")
+text_of UnknownBest = codes "unknown alias in --best-of"
 text_of (NoHeader table) = on_table table (codes "no header")
 text_of (DuplicateName table column) = on_table table (codes "column " ++ (decimal column ++ codes ": name used twice"))
 text_of (Ragged table row) = on_table table (codes "row " ++ (decimal row ++ codes ": wrong number of fields"))
@@ -117,5 +120,5 @@ text_of (ReadFault file) = on_file file (codes ": read failed")
 text_of WriteFault = codes "write failed"
 text_of NoMemory = codes "out of memory"
 
-abbrev pub line_of : Answer → List ℕ
-line_of answer = codes "anyk: " ++ (text_of answer ++ codes "\n")
+abbrev pub line_of : Reason → List ℕ
+line_of reason = codes "anyk: " ++ (text_of reason ++ codes "\n")
