@@ -11,7 +11,7 @@ use Rattle.join_tree.specs.declared.tree.JoinTree.{JoinTree}
 use Rattle.anyk_model.specs.Table.{Table}
 use Rattle.query_bind.specs.Weighed.{BoundQuery}
 use Rattle.node_build.specs.Filled.{AreFilled}
-use Rattle.node_build.specs.Links.{AreNumbers}
+use Rattle.counted_index.specs.Pairs.{AreNumbers}
 
 none-at : (A : Type 0) (n q : ℕ) → (let none : List A = [] in get_or (replicate n none) q none ≡ none)
 none-at A n q = let none : List A = [] in elim (cases_lt q n) [

@@ -12,7 +12,8 @@ use Rattle.join_tree.specs.declared.tree.JoinTree.{JoinTree}
 use Rattle.anyk_model.specs.Table.{Table}
 use Rattle.query_bind.specs.Weighed.{BoundQuery}
 use Rattle.node_build.specs.Filled.{AreFilled, HasOnlyMore}
-use Rattle.node_build.specs.Links.{AreMore, HasRowsOf, IsRowOf}
+use Rattle.counted_index.specs.Pairs.{AreMore}
+use Rattle.node_build.specs.Links.{HasRowsOf, IsRowOf}
 use Rattle.node_build.proofs.Numbering.{link-kept}
 
 sum_set : {X : Type 0} (xss : List (List X)) (v : ℕ) (x : X) → v < length xss → sum_by length (set xss v (get_or xss v [] ++ x ∷ [])) ≡ sum_by length xss + 1

@@ -9,7 +9,8 @@ use Rattle.anyk_model.specs.Table.{Table, table_at}
 use Rattle.query_bind.specs.Names.{item_at}
 use Rattle.query_bind.specs.Weighed.{BoundQuery, Fits}
 use Rattle.node_build.specs.Columns.{HaveColumns}
-use Rattle.node_build.specs.Links.{AreMore, IsLink, NamesLinks, values_at}
+use Rattle.counted_index.specs.Pairs.{AreMore}
+use Rattle.node_build.specs.Links.{IsLink, NamesLinks, values_at}
 use Rattle.node_build.specs.Nodes.{item_of, parent_of}
 use Rattle.node_build.specs.Rows.{lists_of}
 use Rattle.node_build.proofs.Agreement.{other-inside, own-inside}

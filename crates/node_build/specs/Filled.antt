@@ -7,7 +7,8 @@ use Rattle.join_tree.specs.declared.tree.JoinTree.{JoinTree}
 use Rattle.anyk_model.specs.Table.{Table}
 use Rattle.query_bind.specs.Weighed.{BoundQuery}
 use Rattle.node_build.specs.Columns.{HaveColumns}
-use Rattle.node_build.specs.Links.{AreNumbers, HasRowsOf}
+use Rattle.counted_index.specs.Pairs.{AreNumbers}
+use Rattle.node_build.specs.Links.{HasRowsOf}
 
 -- node v has n rows more, and the other nodes have the same rows as before
 pub record HasOnlyMore {R : Type 0} (v n : ℕ) (old new : RawData R) : Type 0 where

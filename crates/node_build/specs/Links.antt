@@ -1,6 +1,5 @@
 -- Links: one number for the values that a row has in some columns.
 use Rattle.std.specs.Prelude.{◌≡◌, ◌<◌, ◌-◌, ℕ, List, [], ◌∷◌, map, length, slice_index, slice_index_or, slice_get, Some}
-use Rattle.std.specs.HashSet.{HashSet}
 use Rattle.rank_key.specs.Keys.{row_key}
 use Rattle.tdp_model.specs.KeyTuple.{KeyOf}
 use Rattle.tdp_core.specs.TreeData.{kids_below}
@@ -8,6 +7,7 @@ use Rattle.tdp_core.specs.RawData.{RawRowData}
 use Rattle.join_tree.specs.declared.tree.JoinTree.{JoinTree}
 use Rattle.anyk_model.specs.Table.{Table, field_at}
 use Rattle.csv_tables.specs.Values.{number_of}
+use Rattle.counted_index.specs.Pairs.{IsNumbered}
 use Rattle.query_bind.specs.Weighed.{BoundQuery}
 use Rattle.query_bind.specs.Weights.{table_in}
 use Rattle.node_build.specs.Nodes.{item_of, parent_of, row_parts}
@@ -15,19 +15,6 @@ use Rattle.node_build.specs.Nodes.{item_of, parent_of, row_parts}
 -- the numbers of the fields that a row has in some columns
 abbrev pub values_in : List Table → Table → ℕ → List ℕ → List ℕ
 values_in tables table row columns = map (λ (c : ℕ). number_of tables (field_at table (row - 1) c)) columns
-
--- the pairs of each set
-abbrev pub names_of : {S : Type 0} → List (HashSet (ℕ × ℕ) S) → List (List (ℕ × ℕ))
-names_of sets = map (λ s. s.keys) sets
-
--- pair number n of node q
-pub record IsNumbered (names : List (List (ℕ × ℕ))) (q n : ℕ) (pair : ℕ × ℕ) : Type 0 where
-  pub within : n < length (slice_index_or names q [])
-  pub is : slice_index_or (slice_index_or names q []) n (0, 0) ≡ pair
-
--- no pair has two numbers
-abbrev pub AreNumbers : List (List (ℕ × ℕ)) → Type 0
-AreNumbers names = (q m n : ℕ) (pair : ℕ × ℕ) → IsNumbered names q m pair → IsNumbered names q n pair → m ≡ n
 
 -- n is the number at node q of a list of values that begins with `first`. One value is its own number. The number of more is that
 -- of a pair: the number of all but the last, and the last.
@@ -39,12 +26,6 @@ IsListNumber names q first n (value ∷ rest) = (m : ℕ) × IsNumbered names q 
 abbrev pub IsLink : List (List (ℕ × ℕ)) → ℕ → ℕ → List ℕ → Type 0
 IsLink names q n [] = n ≡ 0
 IsLink names q n (value ∷ rest) = IsListNumber names q value n rest
-
--- pairs keep their numbers when others are added
-pub record AreMore (old new : List (List (ℕ × ℕ))) : Type 0 where
-  pub count : length new ≡ length old
-  pub kept : (q n : ℕ) (pair : ℕ × ℕ) → IsNumbered old q n pair → IsNumbered new q n pair
-  pub numbers : AreNumbers old → AreNumbers new
 
 module _ (bound : BoundQuery) (tables : List Table) (join : JoinTree) (own above : List (List ℕ)) where
   -- the values that a row of node v has in some columns

@@ -8,9 +8,9 @@ ghost use Rattle.node_build.specs.Rows.{HaveRows, lists_of};
 ghost use Rattle.node_build.specs.Shapes.{AreShapesOf};
 
 use crate::columns::columns_of;
-use crate::links::no_links;
 use crate::node::add_rows;
 use crate::shapes::shapes_of;
+use counted_index::PairIndex;
 use csv_tables::Tables;
 use join_tree::JoinTree;
 use query_bind::Query;
@@ -42,7 +42,7 @@ pub(crate) fn filled_tree<R: Rank, L: Ledger>(
     let keys = tables.keys();
     let mut tree = RawTree::with_keys(alloc, shapes.as_slice(), keys)?;
     let columns = columns_of(alloc, query, join)?;
-    let mut links = no_links(alloc, join.count, keys)?;
+    let mut links = PairIndex::new(alloc, join.count, keys)?;
     for node in 0..join.count {
         let list = rows[node as usize].as_slice();
         add_rows(

@@ -1,5 +1,5 @@
 //! The rows of one node.
-ghost use Rattle.std.specs.Prelude.{◌≡◌, ◌<◌, ◌≤◌, ◌+◌, ◌*◌, ℕ, [], length, vec_len, IfOk, OnOk};
+ghost use Rattle.std.specs.Prelude.{◌≡◌, ◌<◌, ◌≤◌, ◌+◌, ◌*◌, ℕ, [], length, IfOk, OnOk};
 ghost use Rattle.rankings.specs.Order.{IsMember};
 ghost use Rattle.tdp_core.specs.RawData.{RawRowData, row_total, rows_at, with_row};
 ghost use Rattle.tdp_core.specs.TreeData.{kids_below};
@@ -7,14 +7,16 @@ ghost use Rattle.query_bind.specs.Weighed.{Fits};
 ghost use Rattle.query_bind.specs.Weights.{table_in};
 ghost use Rattle.node_build.specs.Columns.{HaveColumns};
 ghost use Rattle.node_build.specs.Filled.{HasOnlyMore};
-ghost use Rattle.node_build.specs.Links.{AreMore, HasRowsOf, IsRowOf, NamesLinks, names_of};
+ghost use Rattle.counted_index.specs.Pairs.{AreMore};
+ghost use Rattle.node_build.specs.Links.{HasRowsOf, IsRowOf, NamesLinks};
 ghost use Rattle.node_build.specs.Nodes.{IsJoinTreeOf, item_of, parent_of};
 ghost use Rattle.node_build.specs.Rows.{lists_of};
 ghost use Rattle.node_build.specs.Shapes.{AreShapesOf};
 
 use crate::columns::Columns;
-use crate::links::{Links, link};
+use crate::links::link;
 use crate::shapes::rank_of;
+use counted_index::PairIndex;
 use csv_tables::Tables;
 use join_tree::JoinTree;
 use query_bind::Query;
@@ -32,7 +34,7 @@ fn child_links<L: Ledger>(
     columns: &Columns,
     node: u32,
     row: u32,
-    links: &mut Links,
+    links: &mut PairIndex,
     named: &mut Vec<u32>,
     steps: &mut Steps<L>,
 ) -> Result<(), NoMemory>
@@ -42,11 +44,11 @@ fn child_links<L: Ledger>(
     requires node { node < join.now.count }
     requires first { 1 ≤ row }
     requires row { row ≤ length (table_in tables.now query.now.query.items (item_of join.now node)).rows }
-    requires links { vec_len links.old ≡ join.now.count }
-    ensures more { OnOk result (AreMore (names_of links.old.items) (names_of links.new.items)) }
+    requires links { length links.old ≡ join.now.count }
+    ensures more { OnOk result (AreMore links.old links.new) }
     ensures count { OnOk result (length named.new.items ≡ kids_below (parent_of join.now) node join.now.count) }
     ensures names { OnOk result (NamesLinks query.now tables.now join.now (lists_of columns.now.own.items) (lists_of columns.now.above.items)
-        (names_of links.new.items) node row join.now.count named.new.items) }
+        links.new node row join.now.count named.new.items) }
     ensures cost { steps.new ≤ steps.old + kids_below (parent_of join.now) node join.now.count }
 {
     let table = query.table_of(join.atom[node as usize]);
@@ -70,7 +72,7 @@ fn add_row<R: Rank, L: Ledger>(
     columns: &Columns,
     node: u32,
     row: u32,
-    links: &mut Links,
+    links: &mut PairIndex,
     named: &mut Vec<u32>,
     tree: &mut RawTree<R>,
     steps: &mut Steps<L>,
@@ -82,12 +84,12 @@ fn add_row<R: Rank, L: Ledger>(
     requires node { node < join.now.count }
     requires first { 1 ≤ row }
     requires row { row ≤ length (table_in tables.now query.now.query.items (item_of join.now node)).rows }
-    requires links { vec_len links.old ≡ join.now.count }
+    requires links { length links.old ≡ join.now.count }
     requires shapes { AreShapesOf query.now tables.now join.now join.now.count tree.old.shapes }
     requires room { row_total tree.old < 4194304 }
-    ensures more { OnOk result (AreMore (names_of links.old.items) (names_of links.new.items)) }
+    ensures more { OnOk result (AreMore links.old links.new) }
     ensures added { OnOk result ((x : RawRowData R) × (tree.new ≡ with_row tree.old node x)
-        × IsRowOf query.now tables.now join.now (lists_of columns.now.own.items) (lists_of columns.now.above.items) R.KEYS R.key (names_of links.new.items) node row x) }
+        × IsRowOf query.now tables.now join.now (lists_of columns.now.own.items) (lists_of columns.now.above.items) R.KEYS R.key links.new node row x) }
     ensures cost { steps.new ≤ steps.old + join.now.count }
 {
     let item = join.atom[node as usize];
@@ -108,7 +110,7 @@ pub(crate) fn add_rows<R: Rank, L: Ledger>(
     columns: &Columns,
     node: u32,
     rows: &[u32],
-    links: &mut Links,
+    links: &mut PairIndex,
     tree: &mut RawTree<R>,
     steps: &mut Steps<L>,
 ) -> Result<(), NoMemory>
@@ -118,15 +120,15 @@ pub(crate) fn add_rows<R: Rank, L: Ledger>(
     requires columns { HaveColumns query.now join.now join.now.count (lists_of columns.now.own.items) (lists_of columns.now.above.items) }
     requires node { node < join.now.count }
     requires rows { (row : ℕ) → IsMember row rows.now → (1 ≤ row) × (row ≤ length (table_in tables.now query.now.query.items (item_of join.now node)).rows) }
-    requires links { vec_len links.old ≡ join.now.count }
+    requires links { length links.old ≡ join.now.count }
     requires shapes { AreShapesOf query.now tables.now join.now join.now.count tree.old.shapes }
     requires each_node { length tree.old.rows ≡ join.now.count }
     requires empty { rows_at tree.old node ≡ [] }
     requires room { row_total tree.old + length rows.now ≤ 4194304 }
-    ensures more { OnOk result (AreMore (names_of links.old.items) (names_of links.new.items)) }
+    ensures more { OnOk result (AreMore links.old links.new) }
     ensures others { OnOk result (HasOnlyMore node (length rows.now) tree.old tree.new) }
     ensures rows { OnOk result (HasRowsOf query.now tables.now join.now (lists_of columns.now.own.items) (lists_of columns.now.above.items)
-        R.KEYS R.key (names_of links.new.items) node (length rows.now) rows.now (rows_at tree.new node)) }
+        R.KEYS R.key links.new node (length rows.now) rows.now (rows_at tree.new node)) }
     ensures cost { steps.new ≤ steps.old + length rows.now * join.now.count }
 {
     tree.reserve(node, rows.len())?;

@@ -1,9 +1,10 @@
 -- The children of a node.
-use Rattle.std.proofs.Common.{◌≡◌, ℕ, zero, suc, ◌+◌, ◌-◌, ◌<◌, ◌≤◌, ◌⊎◌, inl, inr, Bool, true, false, cond, nat_eq, List, [], ◌∷◌, ◌++◌, length, get_or, refl, sym, ap, subst, ◌∙◌, arith, length-append, eqb-true, eq-eqb}
+use Rattle.std.proofs.Common.{◌≡◌, ℕ, zero, suc, ◌+◌, ◌-◌, ◌<◌, ◌≤◌, inl, inr, Bool, true, false, cond, nat_eq, List, [], ◌∷◌, ◌++◌, length, get_or, refl, sym, ap, subst, ◌∙◌, arith, length-append, eqb-true, eq-eqb}
 use Rattle.std.proofs.lemmas.Bool.{eqb-false}
 use Rattle.tdp_core.specs.RawData.{RawData, AreShapes, shape_parent, shape_children}
 use Rattle.tdp_core.specs.TreeData.{kids_below}
 use Rattle.tdp_core.proofs.Children.{kids_below-first, kids_below-child, kids_below-other}
+use Rattle.counted_index.proofs.Lists.{eqb_false, get_or-snoc}
 use Rattle.semi_join.specs.Reduction.{child_nodes}
 use Rattle.semi_join.proofs.FirstOnes.{children_among, children-more}
 
@@ -25,16 +26,6 @@ kids-few parent v zero = omega arith
 kids-few parent v (suc n) =
     subst (λ l. length l ≤ suc n) (sym (children-more parent v n)) (few-cond (nat_eq (parent (suc v + n)) v) (children_among parent v n) (suc v + n) n (kids-few parent v n))
 
--- an element of a list with one more at its end
-pub get_or-snoc : {X : Type 0} (xs : List X) (x : X) (c : ℕ) (d : X) → c < length (xs ++ (x ∷ []))
-    → ((c < length xs) × (get_or (xs ++ (x ∷ [])) c d ≡ get_or xs c d)) ⊎ ((c ≡ length xs) × (get_or (xs ++ (x ∷ [])) c d ≡ x))
-get_or-snoc [] x zero d h = inr (refl, refl)
-get_or-snoc [] x (suc c) d h = absurd (omega arith)
-get_or-snoc (y ∷ xs) x zero d h = inl (omega arith, refl)
-get_or-snoc (y ∷ xs) x (suc c) d h =
-    let less : c < length (xs ++ (x ∷ [])) = omega arith in
-    elim (get_or-snoc xs x c d less) [ inl p ↦ inl (omega (arith, p.0), p.1) | inr p ↦ inr (ap suc p.0, p.1) ]
-
 abbrev pub IsAfter : (ℕ → ℕ) → ℕ → ℕ → ℕ → Type 0
 IsAfter parent v end u = (v < u) × (u < end) × (parent u ≡ v)
 
@@ -53,13 +44,6 @@ kids-after parent v zero c h = absurd (omega arith)
 kids-after parent v (suc n) c h =
     subst (λ l. IsAfter parent v (suc v + suc n) (get_or l c 0)) (sym (children-more parent v n))
     (after-cond parent v n (nat_eq (parent (suc v + n)) v) (children_among parent v n) c refl (kids-after parent v n c) (subst (λ l. c < length l) (children-more parent v n) h))
-
-eqb_by : (a b : ℕ) (t : Bool) → nat_eq a b ≡ t → (a ≡ b → ⊥) → nat_eq a b ≡ false
-eqb_by a b true e not = absurd (not (eqb-true a b e))
-eqb_by a b false e not = e
-
-pub eqb_false : (a b : ℕ) → (a ≡ b → ⊥) → nat_eq a b ≡ false
-eqb_false a b not = eqb_by a b (nat_eq a b) refl not
 
 pub kid-added : (parent : ℕ → ℕ) (v q : ℕ) (items : List ℕ) → v < q → items ≡ children_among parent v (q - suc v) → parent q ≡ v → items ++ (q ∷ []) ≡ children_among parent v (q + 1 - suc v)
 kid-added parent v q items h e is =

@@ -7,7 +7,6 @@ pub mod SoFar
 pub mod Meets
 pub mod FromLast
 pub mod SameRows
-pub mod Tables
 pub mod Descends
 pub mod Places
 pub mod Extending

@@ -6,7 +6,7 @@ use Rattle.std.specs.List.{list_any}
 use Rattle.tdp_core.specs.RawData.{RawData, child_link}
 use Rattle.semi_join.specs.Reduction.{child_links, has_partners}
 use Rattle.semi_join.proofs.FirstOnes.{has_first, has-more, kept_first, kept-more}
-use Rattle.semi_join.proofs.Kids.{get_or-snoc}
+use Rattle.counted_index.proofs.Lists.{get_or-snoc}
 use Rattle.semi_join.proofs.Numbering.{get_or-last}
 
 -- x stands in the list

@@ -5,7 +5,7 @@ use Rattle.std.proofs.lemmas.List.{get_or_append_left}
 use Rattle.std.proofs.lemmas.List.Elements.{All-push, All-weaker, Contains-append_left, Contains-push}
 use Rattle.std.specs.List.{list_any}
 use Rattle.semi_join.specs.Reduction.{IsNumbering}
-use Rattle.semi_join.proofs.Kids.{get_or-snoc}
+use Rattle.counted_index.proofs.Lists.{get_or-snoc}
 
 pub get_or-last : {X : Type 0} (xs : List X) (x d : X) → get_or (xs ++ (x ∷ [])) (length xs) d ≡ x
 get_or-last [] x d = refl

@@ -5,7 +5,8 @@ use Rattle.tdp_core.specs.RawData.{RawData, AreShapes, shape_parent, shape_child
 use Rattle.tdp_core.specs.TreeData.{kids_below}
 use Rattle.semi_join.specs.Reduction.{child_nodes}
 use Rattle.semi_join.proofs.FirstOnes.{children_among, children-more}
-use Rattle.semi_join.proofs.Kids.{get_or-snoc, kids-after, kids-count}
+use Rattle.counted_index.proofs.Lists.{get_or-snoc}
+use Rattle.semi_join.proofs.Kids.{kids-after, kids-count}
 use Rattle.semi_join.proofs.Meets.{Stands, stands-cond, last-cond}
 
 place-cond : (parent : ℕ → ℕ) (v n : ℕ) (b : Bool) (ks : List ℕ) (c : ℕ) → ks ≡ children_among parent v n → (c < length ks → length (children_among parent v (get_or ks c 0 - suc v)) ≡ c)

@@ -1,4 +1,3 @@
 pub mod Grouped
-pub mod LinkTable
 pub mod Reduced
 pub mod Reduction

@@ -11,7 +11,7 @@ use Rattle.semi_join.specs.declared.group_links.GroupLinks.TheVariants.{Direct, 
 
 -- the links, by their numbers
 abbrev pub links_of : GroupLinks → List ℕ
-links_of (Hashed links) = links.keys
+links_of (Hashed links) = links
 links_of (Direct links) = links
 
 -- no node has more groups than a tree has rows

@@ -1,22 +1,22 @@
 //! The links of a node's groups, with the number of each one's group.
-ghost use Rattle.std.specs.Prelude.{◌≡◌, ◌<◌, ◌≤◌, [], OnOk, IfOk, length, nat_eq, position, slice_index};
+ghost use Rattle.std.specs.Prelude.{◌≡◌, ◌<◌, ◌≤◌, ◌+◌, [], OnOk, IfOk, length, nat_eq, position, slice_index};
 ghost use Rattle.indexmap.specs.IndexSet.{insert_key};
 ghost use Rattle.semi_join.specs.Reduction.{links_of};
 
-use crate::direct_links::DirectLinks;
+use counted_index::{DirectIndex, HashedIndex};
 use hash_keys::Keys;
-use indexmap::IndexSet;
 use std::alloc::Global;
-use step_counter::NoMemory;
+use std::sync::ledger::Ledger;
+use step_counter::{NoMemory, Steps};
 
 /// The links of the groups of a node, numbered from 0 in the order in which they came. The number of a link is that of
 /// its group.
 #[derive(Drop)]
 pub(crate) enum GroupLinks {
     /// Links that may be any numbers.
-    Hashed(IndexSet<u32, Keys>),
+    Hashed(HashedIndex),
     /// Links that are small numbers.
-    Direct(DirectLinks),
+    Direct(DirectIndex),
 }
 
 impl GroupLinks {
@@ -31,10 +31,10 @@ impl GroupLinks {
         ensures { IfOk result (λ links. links_of links ≡ []) }
     {
         if greatest as u64 <= 4 * rows as u64 + 65_536 {
-            let links = DirectLinks::new(alloc, greatest)?;
+            let links = DirectIndex::new(alloc, greatest)?;
             return Ok(GroupLinks::Direct(links));
         }
-        Ok(GroupLinks::Hashed(IndexSet::with_hasher(alloc, keys)))
+        Ok(GroupLinks::Hashed(HashedIndex::new(alloc, keys)))
     }
 
     /// The number of links.
@@ -47,29 +47,32 @@ impl GroupLinks {
         }
     }
 
-    /// The number of a link, or `None` if it is not there.
-    pub(crate) fn number_of(&self, link: u32) -> Option<usize>
-        ensures { result ≡ position (nat_eq link) (links_of self.now) }
+    /// The number of a link, or `None` if it is not there. It counts one step.
+    pub(crate) fn number_of<L: Ledger>(&self, link: u32, steps: &mut Steps<L>) -> Option<usize>
+        ensures number { result ≡ position (nat_eq link) (links_of self.now) }
+        ensures cost { steps.new ≡ steps.old + 1 }
     {
         match self {
-            GroupLinks::Hashed(links) => links.get_index_of(&link),
-            GroupLinks::Direct(links) => links.number_of(link),
+            GroupLinks::Hashed(links) => links.number_of(link, steps),
+            GroupLinks::Direct(links) => links.number_of(link, steps),
         }
     }
 
-    /// The number of a link. A new link is added after the others.
-    pub(crate) fn insert(&mut self, link: u32) -> Result<u32, NoMemory>
+    /// The number of a link. A new link is added after the others. It counts one step.
+    pub(crate) fn insert<L: Ledger>(
+        &mut self,
+        link: u32,
+        steps: &mut Steps<L>,
+    ) -> Result<u32, NoMemory>
         requires { length (links_of self.old) ≤ 4194304 }
         ensures links { OnOk result (links_of self.new ≡ insert_key nat_eq (links_of self.old) link) }
         ensures within { IfOk result (λ n. n < length (links_of self.new)) }
         ensures stands { IfOk result (λ n. slice_index (links_of self.new) n ≡ link) }
+        ensures cost { steps.new ≡ steps.old + 1 }
     {
         match self {
-            GroupLinks::Hashed(links) => {
-                let (number, _) = links.insert_full(link)?;
-                Ok(number as u32)
-            }
-            GroupLinks::Direct(links) => links.insert(link),
+            GroupLinks::Hashed(links) => links.insert(link, steps),
+            GroupLinks::Direct(links) => links.insert(link, steps),
         }
     }
 }

@@ -4,7 +4,6 @@
 //! 1981: a row is dropped if for some child of its node no remaining row has the link that it names.
 #![tactic(auto)]
 
-mod direct_links;
 mod group_links;
 mod node;
 mod reduction;

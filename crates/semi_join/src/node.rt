@@ -141,8 +141,7 @@ fn keep_row<R: Rank, L: Ledger>(
     ensures number { OnOk result (EndsInPlaceOf own (links_of kept.new.links) kept.old.numbers.items kept.new.numbers.items) }
     ensures cost { steps.new ≤ steps.old + 1 }
 {
-    steps.tick();
-    let number = kept.links.insert(own)?;
+    let number = kept.links.insert(own, steps)?;
     kept.numbers.push(number)?;
     kept.rows.push(row)?;
     kept.to_child.push(named)?;
@@ -197,8 +196,7 @@ fn child_groups<R: Rank, L: Ledger>(
     let mut numbers = SmallVec::new(alloc);
     for (place, child) in children.iter().enumerate() {
         let link = raw.link(node, i, place as u32);
-        steps.tick();
-        match later[(*child - node - 1) as usize].number_of(link) {
+        match later[(*child - node - 1) as usize].number_of(link, steps) {
             Some(number) => numbers.push(number as u32)?,
             None => return Ok(None),
         }

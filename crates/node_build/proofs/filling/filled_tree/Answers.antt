@@ -5,7 +5,7 @@ use Rattle.tdp_core.specs.declared.parts.NodeShape.{NodeShape}
 use Rattle.tdp_core.specs.RawData.{AreShapes, rows_at}
 use Rattle.rankings.specs.Order.{IsMember}
 use Rattle.node_build.specs.Filled.{AreFilled, HasOnlyMore}
-use Rattle.node_build.specs.Links.{HasRowsOf, names_of}
+use Rattle.node_build.specs.Links.{HasRowsOf}
 use Rattle.node_build.specs.Rows.{lists_of}
 use Rattle.node_build.proofs.Begun.{names-count, no-numbers, no-rows-yet}
 use Rattle.node_build.proofs.Growing.{filled-more}
@@ -23,7 +23,7 @@ loop-node-init g c =
     let join = c.args.join.now in
     let own = lists_of c.in_ok-columns.columns.own.items in
     let above = lists_of c.in_ok-columns.columns.above.items in
-    let names = names_of c.in_ok-links.links.items in
+    let names = c.in_ok-links.links in
     let of_join = c.in_ok-shapes.ensures c.args.tables.now c.requires.fits in
     let count : length c.as_slice.result.now ≡ join.count = ap (λ (xs : List NodeShape). length xs) c.as_slice.ensures.value ∙ of_join.count in
     record {
@@ -72,8 +72,8 @@ loop-node-preserved g c =
     let above = lists_of c.in_ok-columns.columns.above.items in
     let vs = c.args.rows.now in
     let node = c.loop-node.node in
-    let old = names_of c.loop-node.links.items in
-    let new = names_of c.add_rows.new.links.items in
+    let old = c.loop-node.links in
+    let new = c.add_rows.new.links in
     let before = c.loop-node.invariant in
     let now = c.in_ok-add_rows.ensures in
     let inside : node < length vs = omega (arith, c.requires.rows.count, lists-length vs, c.loop-node-test.true) in
@@ -95,7 +95,7 @@ pub returns-clause-filled : goal.returns-clause-filled
 returns-clause-filled g c =
     let own = lists_of c.in_ok-columns.columns.own.items in
     let above = lists_of c.in_ok-columns.columns.above.items in
-    let names = names_of c.loop-node.links.items in
+    let names = c.loop-node.links in
     let all : c.loop-node.node ≡ c.args.join.now.count = omega arith in
     record {
       own = own;

@@ -1,15 +1,15 @@
 use Rattle.std.proofs.Common.{◌≡◌, ◌≤◌, ◌+◌, ◌*◌, length, take}
 use Rattle.std.specs.List.{sum_by}
 use Rattle.node_build.specs.Filled.{AreFilled}
-use Rattle.node_build.specs.Links.{AreNumbers, names_of}
+use Rattle.counted_index.specs.Pairs.{AreNumbers}
 use Rattle.node_build.specs.Rows.{lists_of}
 use Rattle.node_build.proofs.filling.filled_tree.Given as goal
 
 abbrev pub invariant-loop-node : goal.invariant-loop-node
 invariant-loop-node g l = record {
   shapes : l.tree.shapes ≡ l.initial.tree.shapes;
-  count : length (names_of l.links.items) ≡ l.join.count;
-  numbers : AreNumbers (names_of l.links.items);
-  filled : AreFilled l.query l.tables l.join (lists_of l.columns.own.items) (lists_of l.columns.above.items) g.R.Rank.KEYS g.R.Rank.key (names_of l.links.items) l.node (lists_of l.rows) l.tree;
+  count : length l.links ≡ l.join.count;
+  numbers : AreNumbers l.links;
+  filled : AreFilled l.query l.tables l.join (lists_of l.columns.own.items) (lists_of l.columns.above.items) g.R.Rank.KEYS g.R.Rank.key l.links l.node (lists_of l.rows) l.tree;
   cost : l.steps ≤ l.initial.steps + sum_by length (take l.node (lists_of l.rows)) * l.join.count;
 }

@@ -1,7 +1,7 @@
 use Rattle.std.proofs.Common.{◌≡◌, ◌<◌, ◌∙◌, ℕ, List, [], length, get_or, refl, sym, ap, subst, arith}
 use Rattle.anyk_model.specs.Table.{table_at}
 use Rattle.query_bind.specs.Weights.{table_in}
-use Rattle.node_build.specs.Links.{IsLink, NamesLinks, names_of, values_at, values_in}
+use Rattle.node_build.specs.Links.{IsLink, NamesLinks, values_at, values_in}
 use Rattle.node_build.specs.Nodes.{item_of, parent_of}
 use Rattle.node_build.specs.Rows.{lists_of}
 use Rattle.node_build.proofs.Fitting.{children-are, row-fits}
@@ -39,7 +39,7 @@ add_row-requires-clause-fits g c =
 pub returns-clause-more : goal.returns-clause-more
 returns-clause-more g c =
     on-ok c.add_row.result
-    (more-trans (names_of c.args.links.now.items) (names_of c.link.new.links.items) (names_of c.child_links.new.links.items) c.in_ok-own_link.ensures.more c.in_ok-child_links.ensures.more)
+    (more-trans c.args.links.now c.link.new.links c.child_links.new.links c.in_ok-own_link.ensures.more c.in_ok-child_links.ensures.more)
 
 pub returns-clause-added : goal.returns-clause-added
 returns-clause-added g c =
@@ -54,7 +54,7 @@ returns-clause-added g c =
     ≡ values_at query tables join (lists_of vs) (lists_of c.args.columns.now.above.items) node c.args.row (get_or (lists_of vs) node []) =
     ap (λ (t : ℕ). values_in tables (table_at tables t) c.args.row c.as_slice-own.result.now) c.table_of-table.ensures
     ∙ ap (λ (l : List ℕ). values_in tables (table_in tables query.query.items (item_of join node)) c.args.row l) list in
-    let link = subst (λ (l : List ℕ). IsLink (names_of c.link.new.links.items) node c.in_ok-own_link.own_link l) values c.in_ok-own_link.ensures.link in
+    let link = subst (λ (l : List ℕ). IsLink c.link.new.links node c.in_ok-own_link.own_link l) values c.in_ok-own_link.ensures.link in
     on-ok-map c.add_row.result
     (λ e. (
       record { row = record { rank = c.rank_of-rank.result; row = c.args.row }; own = c.in_ok-own_link.own_link; children = c.as_slice.result.now },
@@ -62,8 +62,8 @@ returns-clause-added g c =
       record {
         number = refl;
         rank = c.rank_of-rank.ensures;
-        link = link-kept (names_of c.link.new.links.items) (names_of c.child_links.new.links.items) node c.in_ok-own_link.own_link _ c.in_ok-child_links.ensures.more link;
-        children = subst (λ (cs : List ℕ). NamesLinks query tables join (lists_of vs) (lists_of c.args.columns.now.above.items) (names_of c.child_links.new.links.items) node c.args.row join.count cs)
+        link = link-kept c.link.new.links c.child_links.new.links node c.in_ok-own_link.own_link _ c.in_ok-child_links.ensures.more link;
+        children = subst (λ (cs : List ℕ). NamesLinks query tables join (lists_of vs) (lists_of c.args.columns.now.above.items) c.child_links.new.links node c.args.row join.count cs)
             (sym c.as_slice.ensures.value) c.in_ok-child_links.ensures.names;
       },
     ))

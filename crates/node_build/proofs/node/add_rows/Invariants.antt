@@ -1,14 +1,15 @@
 use Rattle.std.proofs.Common.{◌≤◌, ◌+◌, ◌*◌}
 use Rattle.tdp_core.specs.RawData.{rows_at}
 use Rattle.node_build.specs.Filled.{HasOnlyMore}
-use Rattle.node_build.specs.Links.{AreMore, HasRowsOf, names_of}
+use Rattle.counted_index.specs.Pairs.{AreMore}
+use Rattle.node_build.specs.Links.{HasRowsOf}
 use Rattle.node_build.specs.Rows.{lists_of}
 use Rattle.node_build.proofs.node.add_rows.Given as goal
 
 abbrev pub invariant-loop-row : goal.invariant-loop-row
 invariant-loop-row g l = record {
-  more : AreMore (names_of l.initial.links.items) (names_of l.links.items);
+  more : AreMore l.initial.links l.links;
   others : HasOnlyMore l.node l.row-index l.initial.tree l.tree;
-  rows : HasRowsOf l.query l.tables l.join (lists_of l.columns.own.items) (lists_of l.columns.above.items) g.R.Rank.KEYS g.R.Rank.key (names_of l.links.items) l.node l.row-index l.rows (rows_at l.tree l.node);
+  rows : HasRowsOf l.query l.tables l.join (lists_of l.columns.own.items) (lists_of l.columns.above.items) g.R.Rank.KEYS g.R.Rank.key l.links l.node l.row-index l.rows (rows_at l.tree l.node);
   cost : l.steps ≤ l.initial.steps + l.row-index * l.join.count;
 }

@@ -6,7 +6,7 @@ use Rattle.node_build.specs.Nodes.{item_of, parent_of}
 use Rattle.node_build.specs.Rows.{lists_of}
 use Rattle.node_build.proofs.Naming.{above-there, kids-first, kids-rise, list-at, lists-length, names-more, names-none, names-skip}
 use Rattle.node_build.proofs.Numbering.{more-same, more-trans}
-use Rattle.node_build.specs.Links.{IsLink, names_of, values_at, values_in}
+use Rattle.node_build.specs.Links.{IsLink, values_at, values_in}
 use Rattle.node_build.proofs.node.child_links.Goals as goal
 
 pub loop-child-init : goal.loop-child-init
@@ -14,9 +14,9 @@ loop-child-init g c =
     let first = kids-first (parent_of c.args.join.now) c.args.node in
     let none : length c.clear.new.self.items ≡ 0 = ap length c.clear.ensures.items in
     record {
-      more = more-same (names_of c.args.links.now.items);
+      more = more-same c.args.links.now;
       count = omega (arith, first, none);
-      names = names-none c.args.query.now c.args.tables.now c.args.join.now (lists_of c.args.columns.now.own.items) (lists_of c.args.columns.now.above.items) (names_of c.args.links.now.items) c.args.node c.args.row c.clear.new.self.items;
+      names = names-none c.args.query.now c.args.tables.now c.args.join.now (lists_of c.args.columns.now.own.items) (lists_of c.args.columns.now.above.items) c.args.links.now c.args.node c.args.row c.clear.new.self.items;
       cost = omega arith;
     }
 
@@ -28,7 +28,7 @@ loop-child-preserved-then-join-child g c =
     record {
       more = before.more;
       count = before.count ∙ sym same;
-      names = names-skip c.args.query.now c.args.tables.now c.args.join.now (lists_of c.args.columns.now.own.items) (lists_of c.args.columns.now.above.items) (names_of c.loop-child.links.items) c.args.node c.args.row c.loop-child.child c.loop-child.named.items other before.names;
+      names = names-skip c.args.query.now c.args.tables.now c.args.join.now (lists_of c.args.columns.now.own.items) (lists_of c.args.columns.now.above.items) c.loop-child.links c.args.node c.args.row c.loop-child.child c.loop-child.named.items other before.names;
       cost = omega (arith, before.cost, same);
     }
 
@@ -72,12 +72,12 @@ loop-child-preserved g c =
     ≡ values_at query tables join own (lists_of vs) c.args.node c.args.row (get_or (lists_of vs) child []) =
     ap (λ (t : ℕ). values_in tables (table_at tables t) c.args.row c.as_slice-above.result.now) c.table_of-table.ensures
     ∙ ap (λ (l : List ℕ). values_in tables (table_in tables query.query.items (item_of join c.args.node)) c.args.row l) list in
-    let here = subst (λ (l : List ℕ). IsLink (names_of c.link.new.links.items) child c.in_ok-link.field-0 l) values c.in_ok-link.ensures.link in
+    let here = subst (λ (l : List ℕ). IsLink c.link.new.links child c.in_ok-link.field-0 l) values c.in_ok-link.ensures.link in
     let pushed = c.in_ok-push.ensures.items in
     record {
-      more = more-trans (names_of c.args.links.now.items) (names_of c.loop-child.links.items) (names_of c.link.new.links.items) before.more c.in_ok-link.ensures.more;
+      more = more-trans c.args.links.now c.loop-child.links c.link.new.links before.more c.in_ok-link.ensures.more;
       count = ap length pushed ∙ length-append c.loop-child.named.items (c.in_ok-link.field-0 ∷ []) ∙ ap (λ (n : ℕ). n + 1) before.count ∙ sym one;
-      names = names-more query tables join own (lists_of vs) (names_of c.loop-child.links.items) (names_of c.link.new.links.items) c.args.node c.args.row child c.loop-child.named.items c.push.new.self.items
+      names = names-more query tables join own (lists_of vs) c.loop-child.links c.link.new.links c.args.node c.args.row child c.loop-child.named.items c.push.new.self.items
           c.in_ok-link.field-0 c.in_ok-link.ensures.more (omega arith) below before.count pushed before.names here;
       cost = omega (arith, one, before.cost, c.in_ok-link.ensures.cost);
     }

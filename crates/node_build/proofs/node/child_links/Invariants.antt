@@ -1,14 +1,15 @@
 use Rattle.std.proofs.Common.{◌≡◌, ◌≤◌, ◌+◌, length}
 use Rattle.tdp_core.specs.TreeData.{kids_below}
-use Rattle.node_build.specs.Links.{AreMore, NamesLinks, names_of}
+use Rattle.counted_index.specs.Pairs.{AreMore}
+use Rattle.node_build.specs.Links.{NamesLinks}
 use Rattle.node_build.specs.Nodes.{parent_of}
 use Rattle.node_build.specs.Rows.{lists_of}
 use Rattle.node_build.proofs.node.child_links.Given as goal
 
 abbrev pub invariant-loop-child : goal.invariant-loop-child
 invariant-loop-child g l = record {
-  more : AreMore (names_of l.initial.links.items) (names_of l.links.items);
+  more : AreMore l.initial.links l.links;
   count : length l.named.items ≡ kids_below (parent_of l.join) l.node l.child;
-  names : NamesLinks l.query l.tables l.join (lists_of l.columns.own.items) (lists_of l.columns.above.items) (names_of l.links.items) l.node l.row l.child l.named.items;
+  names : NamesLinks l.query l.tables l.join (lists_of l.columns.own.items) (lists_of l.columns.above.items) l.links l.node l.row l.child l.named.items;
   cost : l.steps ≤ l.initial.steps + kids_below (parent_of l.join) l.node l.child;
 }

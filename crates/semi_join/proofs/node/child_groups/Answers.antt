@@ -34,7 +34,7 @@ overflow_cast-number g c =
     let inside = child-index c.args.raw.now c.args.node c.args.children.now c.requires.children c.loop-place.place c.loop-place-test.true (length c.args.later.now) c.requires.later in
     let few = few-read (map links_of c.args.later.now) at c.requires.few (subst (λ n. at < n) (sym (length-map links_of c.args.later.now)) inside) in
     let is = ap length (links-read c.args.later.now at c.index-later-child.result inside c.index-later-child.is) in
-    let here = found-any (nat_eq c.link-link.result) (links_of c.index-later-child.result) c.in-Some.number c.in-Some.ensures in
+    let here = found-any (nat_eq c.link-link.result) (links_of c.index-later-child.result) c.in-Some.number c.in-Some.ensures.number in
     omega (arith, few, is, here.0)
 
 pub returns-in-None-clause-missing : goal.returns-in-None-clause-missing
@@ -43,18 +43,18 @@ returns-in-None-clause-missing g c =
     let names = child-links-at c.args.raw.now c.args.node (map links_of c.args.later.now) c.args.later.now c.args.children.now c.loop-place.place c.index-later-child.result refl c.requires.children inside c.index-later-child.is in
     let less = subst (λ ks. c.loop-place.place < length ks) c.requires.children c.loop-place-test.true in
     missed c.args.raw.now c.args.node (map links_of c.args.later.now) c.loop-place.place _ c.args.i (links_of c.index-later-child.result) less names
-    (ap (λ l. list_any (nat_eq l) (links_of c.index-later-child.result)) (sym c.link-link.ensures) ∙ missing-any (nat_eq c.link-link.result) (links_of c.index-later-child.result) c.in-None.ensures)
+    (ap (λ l. list_any (nat_eq l) (links_of c.index-later-child.result)) (sym c.link-link.ensures) ∙ missing-any (nat_eq c.link-link.result) (links_of c.index-later-child.result) c.in-None.ensures.number)
 
 pub loop-place-preserved : goal.loop-place-preserved
 loop-place-preserved g c =
     let inside = child-index c.args.raw.now c.args.node c.args.children.now c.requires.children c.loop-place.place c.loop-place-test.true (length c.args.later.now) c.requires.later in
     let names = child-links-at c.args.raw.now c.args.node (map links_of c.args.later.now) c.args.later.now c.args.children.now c.loop-place.place c.index-later-child.result refl c.requires.children inside c.index-later-child.is in
-    let here = found-any (nat_eq c.link-link.result) (links_of c.index-later-child.result) c.in-Some.number c.in-Some.ensures in
+    let here = found-any (nat_eq c.link-link.result) (links_of c.index-later-child.result) c.in-Some.number c.in-Some.ensures.number in
     record {
       met = met-more c.args.raw.now c.args.node (map links_of c.args.later.now) c.loop-place.place c.args.i (links_of c.index-later-child.result) names c.loop-place.invariant.met
           (ap (λ l. list_any (nat_eq l) (links_of c.index-later-child.result)) (sym c.link-link.ensures) ∙ here.1);
       named = c.in_ok-push-in-Some.ensures.ok
           ∙ named-more c.args.raw.now c.args.node (map links_of c.args.later.now) c.loop-place.place c.args.i c.in-Some.number (links_of c.index-later-child.result) c.loop-place.numbers.items names c.loop-place.invariant.named
-          (c.in-Some.ensures ∙ ap (λ l. position (nat_eq l) (links_of c.index-later-child.result)) c.link-link.ensures);
+          (c.in-Some.ensures.number ∙ ap (λ l. position (nat_eq l) (links_of c.index-later-child.result)) c.link-link.ensures);
       counted = omega arith;
     }

@@ -1,22 +1,23 @@
 //! Links that are small numbers, found by a table that has the number of each.
-ghost use Rattle.std.specs.Prelude.{◌≡◌, ◌<◌, ◌≤◌, ◌^◌, ℕ, [], OnOk, IfOk, length, nat_eq, position, slice_index, vec_len};
+ghost use Rattle.std.specs.Prelude.{◌≡◌, ◌<◌, ◌≤◌, ◌^◌, ◌+◌, ℕ, [], OnOk, IfOk, length, nat_eq, position, slice_index, vec_len};
 ghost use Rattle.indexmap.specs.IndexSet.{insert_key};
 
 use std::alloc::Global;
 use std::marker::Model;
-use step_counter::NoMemory;
+use std::sync::ledger::Ledger;
+use step_counter::{NoMemory, Steps};
 
 /// Links that are small numbers. Contracts see them as a list: the number of a link is its place there, from 0.
 #[derive(Drop)]
-pub(crate) struct DirectLinks {
+pub struct DirectIndex {
     links: Vec<u32>,
     /// For each link its number plus 1, and 0 for a link that is not there.
     table: Vec<u32>,
 }
 
-impl Model for DirectLinks {
+impl Model for DirectIndex {
     ghost use Rattle.std.specs.Prelude.{ℕ, List};
-    ghost use Rattle.semi_join.specs.LinkTable.{IsTableOf};
+    ghost use Rattle.counted_index.specs.LinkTable.{IsTableOf};
 
     ghost Value = { List ℕ };
 
@@ -25,29 +26,31 @@ impl Model for DirectLinks {
     ghost invariant = { λ d. IsTableOf d.table.items d.links.items };
 }
 
-impl DirectLinks {
+impl DirectIndex {
     /// No links, and a table for links up to the greatest one. `NoMemory` if memory is refused.
-    pub(crate) fn new(alloc: Global, greatest: u32) -> Result<DirectLinks, NoMemory>
+    pub fn new(alloc: Global, greatest: u32) -> Result<DirectIndex, NoMemory>
         ensures { IfOk result (λ d. d ≡ []) }
     {
         let table = vec![in alloc; 0; greatest as usize + 1]?;
-        Ok(DirectLinks {
+        Ok(DirectIndex {
             links: Vec::new(alloc),
             table,
         })
     }
 
     /// The number of links.
-    pub(crate) fn len(&self) -> usize
+    pub fn len(&self) -> usize
         ensures { result ≡ length self.now }
     {
         self.links.len()
     }
 
-    /// The number of a link, or `None` if it is not there.
-    pub(crate) fn number_of(&self, link: u32) -> Option<usize>
-        ensures { result ≡ position (nat_eq link) self.now }
+    /// The number of a link, or `None` if it is not there. It counts one step.
+    pub fn number_of<L: Ledger>(&self, link: u32, steps: &mut Steps<L>) -> Option<usize>
+        ensures number { result ≡ position (nat_eq link) self.now }
+        ensures cost { steps.new ≡ steps.old + 1 }
     {
+        steps.tick();
         let place = link as usize;
         if place >= self.table.len() {
             return None;
@@ -56,13 +59,16 @@ impl DirectLinks {
         if after == 0 { None } else { Some(after - 1) }
     }
 
-    /// The number of a link. A new link is added after the others, and a table that is too short for it grows.
-    pub(crate) fn insert(&mut self, link: u32) -> Result<u32, NoMemory>
+    /// The number of a link. A new link is added after the others, and a table that is too short for it grows. It counts
+    /// one step. `NoMemory` if memory is refused.
+    pub fn insert<L: Ledger>(&mut self, link: u32, steps: &mut Steps<L>) -> Result<u32, NoMemory>
         requires { length self.old ≤ 4194304 }
         ensures links { OnOk result (self.new ≡ insert_key nat_eq self.old link) }
         ensures within { IfOk result (λ n. n < length self.new) }
         ensures stands { IfOk result (λ n. slice_index self.new n ≡ link) }
+        ensures cost { steps.new ≡ steps.old + 1 }
     {
+        steps.tick();
         let place = link as usize;
         reach(&mut self.table, place)?;
         let after = self.table[place];

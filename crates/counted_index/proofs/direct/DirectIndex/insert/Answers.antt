@@ -2,12 +2,12 @@ use Rattle.std.proofs.Common.{◌≡◌, ◌<◌, ◌+◌, ◌-◌, length, get_
 use Rattle.std.proofs.Math.ListN.{set}
 use Rattle.std.proofs.lemmas.List.{get_or_default}
 use Rattle.indexmap.specs.IndexSet.{insert_key}
-use Rattle.semi_join.specs.LinkTable.{IsTableOf}
-use Rattle.semi_join.proofs.Tables.{goes-last, stays, table-more, table-same}
-use Rattle.semi_join.proofs.direct_links.DirectLinks.insert.Goals as goal
+use Rattle.counted_index.specs.LinkTable.{IsTableOf}
+use Rattle.counted_index.proofs.Tables.{goes-last, stays, table-more, table-same}
+use Rattle.counted_index.proofs.direct.DirectIndex.insert.Goals as goal
 
 pub invariant_of-self : goal.invariant_of-self
-invariant_of-self c =
+invariant_of-self g c =
     let links = c.self.inside.links.items in
     let table = c.reach.new.table.items in
     let link = c.args.link in
@@ -15,7 +15,7 @@ invariant_of-self c =
     is_table
 
 pub invariant_of-self-then-after-gt0 : goal.invariant_of-self-then-after-gt0
-invariant_of-self-then-after-gt0 c =
+invariant_of-self-then-after-gt0 g c =
     let links = c.self.inside.links.items in
     let table = c.reach.new.table.items in
     let link = c.args.link in
@@ -23,7 +23,7 @@ invariant_of-self-then-after-gt0 c =
     is_table
 
 pub returns-then-after-gt0-clause-links : goal.returns-then-after-gt0-clause-links
-returns-then-after-gt0-clause-links c =
+returns-then-after-gt0-clause-links g c =
     let links = c.self.inside.links.items in
     let table = c.reach.new.table.items in
     let link = c.args.link in
@@ -35,7 +35,7 @@ returns-then-after-gt0-clause-links c =
     stays table links is_table link (r - 1) some ∙ ap (λ l. insert_key nat_eq l link) c.self.view_is
 
 pub returns-then-after-gt0-clause-within : goal.returns-then-after-gt0-clause-within
-returns-then-after-gt0-clause-within c =
+returns-then-after-gt0-clause-within g c =
     let links = c.self.inside.links.items in
     let table = c.reach.new.table.items in
     let link = c.args.link in
@@ -47,7 +47,7 @@ returns-then-after-gt0-clause-within c =
     (is_table.numbered link (r - 1) some).0
 
 pub invariant_of-self-in_err-push : goal.invariant_of-self-in_err-push
-invariant_of-self-in_err-push c =
+invariant_of-self-in_err-push g c =
     let links = c.self.inside.links.items in
     let table = c.reach.new.table.items in
     let link = c.args.link in
@@ -55,7 +55,7 @@ invariant_of-self-in_err-push c =
     subst (IsTableOf table) (sym c.in_err-push.ensures.items) is_table
 
 pub invariant_of-self-2 : goal.invariant_of-self-2
-invariant_of-self-2 c =
+invariant_of-self-2 g c =
     let links = c.self.inside.links.items in
     let table = c.reach.new.table.items in
     let link = c.args.link in
@@ -69,7 +69,7 @@ invariant_of-self-2 c =
     (subst (IsTableOf (set table link (length links + 1))) (sym c.in_ok-push.ensures.items) (table-more table links is_table link inside none))
 
 pub returns-clause-links : goal.returns-clause-links
-returns-clause-links c =
+returns-clause-links g c =
     let links = c.self.inside.links.items in
     let table = c.reach.new.table.items in
     let link = c.args.link in

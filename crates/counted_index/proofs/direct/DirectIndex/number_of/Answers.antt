@@ -1,10 +1,10 @@
 use Rattle.std.proofs.Common.{◌≡◌, ◌<◌, ◌≤◌, ◌+◌, ◌-◌, length, get_or, nat_eq, position, sym, ap, ◌∙◌, arith}
 use Rattle.std.proofs.lemmas.List.{get_or_default, get_or_past}
-use Rattle.semi_join.proofs.Tables.{found, missing}
-use Rattle.semi_join.proofs.direct_links.DirectLinks.number_of.Goals as goal
+use Rattle.counted_index.proofs.Tables.{found, missing}
+use Rattle.counted_index.proofs.direct.DirectIndex.number_of.Goals as goal
 
-pub returns-then-place-len : goal.returns-then-place-len
-returns-then-place-len c =
+pub returns-then-place-len-clause-number : goal.returns-then-place-len-clause-number
+returns-then-place-len-clause-number g c =
     let table = c.self.inside.table.items in
     let links = c.self.inside.links.items in
     let link = c.args.link in
@@ -12,8 +12,8 @@ returns-then-place-len c =
     let past : length table ≤ link = omega (arith, c.if-place-len.true, c.len.ensures, long) in
     sym (missing table links c.self.invariant link (get_or_past table link 0 past)) ∙ ap (position (nat_eq link)) c.self.view_is
 
-pub returns-then-after-eq0 : goal.returns-then-after-eq0
-returns-then-after-eq0 c =
+pub returns-then-after-eq0-clause-number : goal.returns-then-after-eq0-clause-number
+returns-then-after-eq0-clause-number g c =
     let table = c.self.inside.table.items in
     let links = c.self.inside.links.items in
     let link = c.args.link in
@@ -24,8 +24,8 @@ returns-then-after-eq0 c =
     let none : get_or table link 0 ≡ 0 = omega (arith, read, c.if-after-eq0.true) in
     sym (missing table links c.self.invariant link none) ∙ ap (position (nat_eq link)) c.self.view_is
 
-pub returns-else-after-eq0 : goal.returns-else-after-eq0
-returns-else-after-eq0 c =
+pub returns-else-after-eq0-clause-number : goal.returns-else-after-eq0-clause-number
+returns-else-after-eq0-clause-number g c =
     let table = c.self.inside.table.items in
     let links = c.self.inside.links.items in
     let link = c.args.link in

@@ -8,8 +8,8 @@ use Rattle.std.proofs.lemmas.List.Elements.{All-from_get_or}
 use Rattle.std.proofs.lemmas.List.Folds.{list_any_at, list_any_none}
 use Rattle.std.proofs.lemmas.List.Sums.{position_or_len_is}
 use Rattle.indexmap.specs.IndexSet.{insert_key}
-use Rattle.semi_join.specs.LinkTable.{IsTableOf}
-use Rattle.semi_join.proofs.Kids.{eqb_false, get_or-snoc}
+use Rattle.counted_index.specs.LinkTable.{IsTableOf}
+use Rattle.counted_index.proofs.Lists.{eqb_false, get_or-snoc}
 
 module _ (table links : List ℕ) (t : IsTableOf table links) where
   -- a longer table has the same links
