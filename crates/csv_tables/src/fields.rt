@@ -6,6 +6,9 @@ use std::alloc::Global;
 use std::marker::Model;
 use step_counter::NoMemory;
 
+/// The greatest number of bytes of all fields, so that each place is a `u32`.
+const MAX_BYTES: usize = 4_294_967_295;
+
 /// Fields one after another; each is found by the place where it ends.
 #[derive(Drop)]
 pub(crate) struct FieldList {
@@ -40,12 +43,13 @@ impl FieldList {
         ensures added { OnOk result (self.new ≡ self.old ++ field.now ∷ []) }
         ensures err { OnErr result (self.new ≡ self.old) }
     {
-        let Ok(end) = u32::try_from(self.bytes.len() + field.len()) else {
+        let end = self.bytes.len() + field.len();
+        if end > MAX_BYTES {
             return Err(NoMemory);
-        };
+        }
         self.ends.reserve(1)?;
         self.bytes.extend_from_slice(field)?;
-        self.ends.push_reserved(end);
+        self.ends.push_reserved(end as u32);
         Ok(())
     }
 

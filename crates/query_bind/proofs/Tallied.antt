@@ -1,13 +1,13 @@
 -- What the tallies of a key add to its items.
 use Rattle.std.proofs.Common.{◌≡◌, ◌+◌, ◌-◌, ◌*◌, ◌<◌, ◌≤◌, ◌==◌, ℕ, zero, suc, min, Bool, true, false, cond, if◌then◌else◌, ℤ, pos, negsuc, ◌+ℤ◌, ◌*ℤ◌, neg_ℤ, nat_abs, List, [], ◌∷◌, ◌++◌, map, length, take, get_or, set, replicate, Option, Some, None, unwrap_or, refl, sym, ap, subst, ◌∙◌, inl, inr, arith}
 use Rattle.std.specs.List.{AllByRecursion, range_with_len}
-use lib.IntN.{neg_ℤ-+ℤ, *ℤ-zero, *ℤ-negsuc, *ℤ_comm}
+use lib.IntN.{neg_ℤ-+ℤ, one, *ℤ-one, *ℤ-zero, *ℤ-negsuc, *ℤ_comm, +ℤ_idl}
 use Rattle.std.proofs.lemmas.Int.{ints, unsigned_abs-mul}
 use Rattle.std.proofs.lemmas.Nat.{mul-le}
 use Rattle.std.proofs.lemmas.Bool.{cases_eq}
 use Rattle.std.proofs.lemmas.Bool.Decides.{Decides-eqb}
 use Rattle.std.proofs.lemmas.List.{append-nil, ext_get_or, get_or-map, get_or-replicate, get_or-set_other, get_or-set_same, length-map, length-replicate, length-set}
-use Rattle.std.proofs.lemmas.List.FromFn.{get_or-map-range_with_len, length-map-range_with_len}
+use Rattle.std.proofs.lemmas.List.FromFn.{fill_by_all, get_or-map-range_with_len, length-map-range_with_len}
 use Rattle.anyk_model.specs.Table.{Table, field_at, table_at}
 use Rattle.anyk_model.specs.Weight.{weight_of}
 use Rattle.anyk_model.specs.Query.{Item, Column, Term, OrderKey, total}
@@ -460,3 +460,11 @@ module _ (tables : List Table) (items : List BoundItem) (c : ℕ × ℕ) (r : Bo
 
   pub inside-narrow : length (table_at tables (get_or items c.0 r).table).names ≤ 64
   inside-narrow = subst (λ (i : Item). length (table_at tables i.table).names ≤ 64) stored-at h.narrow
+
+-- the weights of a first column that counts once
+pub added-first : (weights : List ℤ) → added (pos 1) [] weights ≡ weights
+unfolding one
+added-first weights =
+    let once : (i : ℕ) → i < length weights → get_or weights i (pos 0) ≡ pos 0 +ℤ pos 1 *ℤ get_or weights i (pos 0) =
+    λ i h. let w = get_or weights i (pos 0) in sym (+ℤ_idl (pos 1 *ℤ w) ∙ *ℤ_comm (pos 1) w ∙ *ℤ-one w) in
+    sym (fill_by_all (λ i. pos 0 +ℤ pos 1 *ℤ get_or weights i (pos 0)) weights (length weights) (pos 0) refl once)

@@ -1,6 +1,7 @@
 //! The rows of a node before they are put into groups.
-ghost use Rattle.std.specs.Prelude.{◌≡◌, ◌<◌, Some, [], ◌∷◌, ◌++◌, length, map, slice_get, slice_index, slice_index_or, OnOk, OnErr};
+ghost use Rattle.std.specs.Prelude.{◌≡◌, ◌+◌, ◌<◌, ◌≤◌, Some, [], ◌∷◌, ◌++◌, length, map, slice_get, slice_index, slice_index_or, OnOk, OnErr};
 ghost use Rattle.std.specs.List.{All};
+ghost use Rattle.std.specs.Vec.{vec_capacity, vec_len};
 ghost use Rattle.tdp_core.specs.RawRows.{RawRowData};
 
 use crate::parts::NodeRow;
@@ -67,9 +68,10 @@ impl<R: Rank> RawRows<R> {
     {
         self.rows.reserve(1)?;
         self.owns.reserve(1)?;
-        self.named.extend_from_slice(children)?;
-        self.rows.push(row)?;
-        self.owns.push(own)?;
+        self.named.reserve(children.len())?;
+        self.rows.push_reserved(row);
+        self.owns.push_reserved(own);
+        push_each(&mut self.named, children);
         self.width = children.len();
         Ok(())
     }
@@ -104,5 +106,16 @@ impl<R: Rank> RawRows<R> {
         ensures { result ≡ slice_index (slice_index_or (map (λ r. r.children) self.now) i []) child }
     {
         self.named[i * self.width + child]
+    }
+}
+
+/// Appends numbers to a list that has room for them, one by one: for the few links of a row a call that copies memory
+/// takes longer.
+fn push_each(list: &mut Vec<u32>, numbers: &[u32])
+    requires { vec_len list.old + length numbers.now ≤ vec_capacity list.old }
+    ensures { list.new.items ≡ list.old.items ++ numbers.now }
+{
+    for number in numbers {
+        list.push_reserved(*number);
     }
 }

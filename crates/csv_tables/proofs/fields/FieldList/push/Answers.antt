@@ -1,4 +1,4 @@
-use Rattle.std.proofs.Common.{◌≡◌, ◌++◌, ◌∷◌, [], ◌∙◌, length, ap, arith, length-append}
+use Rattle.std.proofs.Common.{◌≡◌, ◌+◌, ◌++◌, ◌∷◌, [], ◌∙◌, length, ap, arith, length-append}
 use Rattle.csv.specs.Records.{cut_from}
 use Rattle.anyk_model.specs.Table.{Fields}
 use Rattle.csv_tables.proofs.Packed.{push-cut, push-rising, push-whole}
@@ -9,7 +9,7 @@ invariant_of-self-2 c =
     let ends = c.self.inside.ends.items in
     let bytes = c.self.inside.bytes.items in
     let field = c.args.field.now in
-    let end : c.in-Ok.end ≡ length (bytes ++ field) = omega (arith, c.in-Ok.ensures, c.len.ensures, c.self.inside.bytes.ok.0, length-append bytes field) in
+    let end : c.len.result + length field ≡ length (bytes ++ field) = omega (arith, c.len.ensures, c.self.inside.bytes.ok.0, length-append bytes field) in
     let grown : c.push_reserved.new.self.items ≡ ends ++ length (bytes ++ field) ∷ [] =
     c.push_reserved.ensures.items ∙ (λ i. c.in_ok-reserve.ensures.items i ++ end i ∷ []) in
     record {
@@ -22,7 +22,7 @@ returns-clause-added c =
     let ends = c.self.inside.ends.items in
     let bytes = c.self.inside.bytes.items in
     let field = c.args.field.now in
-    let end : c.in-Ok.end ≡ length (bytes ++ field) = omega (arith, c.in-Ok.ensures, c.len.ensures, c.self.inside.bytes.ok.0, length-append bytes field) in
+    let end : c.len.result + length field ≡ length (bytes ++ field) = omega (arith, c.len.ensures, c.self.inside.bytes.ok.0, length-append bytes field) in
     let grown : c.push_reserved.new.self.items ≡ ends ++ length (bytes ++ field) ∷ [] =
     c.push_reserved.ensures.items ∙ (λ i. c.in_ok-reserve.ensures.items i ++ end i ∷ []) in
     let put = c.in_ok-extend_from_slice.ensures.items in

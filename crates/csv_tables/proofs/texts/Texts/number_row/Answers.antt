@@ -8,7 +8,9 @@ use Rattle.csv_tables.proofs.Stands.{adds-none, adds-push, extends-trans, on-err
 use Rattle.csv_tables.proofs.texts.Texts.number_row.Goals as goal
 
 pub loop-i-init : goal.loop-i-init
-loop-i-init c = (refl, adds-none c.args.self.now c.args.cells.now.items, sym (append-nil c.args.fields.now))
+loop-i-init c =
+    let same : c.reserve.new.self.items ≡ c.args.cells.now.items = c.reserve.ensures.items in
+    (refl, rw same (adds-none c.args.self.now c.args.cells.now.items), omega (arith, c.in_ok-reserve.ensures, c.len.ensures), sym (append-nil c.args.fields.now))
 
 pub unreachable-requires : goal.unreachable-requires
 unreachable-requires c = field-there (fields_of c.args.row.now) c.loop-i.i (omega arith) (sym c.in_default.ensures.value)
@@ -18,7 +20,7 @@ returns-in_err-number-clause-err c =
     let old = c.args.self.now in
     let before = with_fields-extends old (take c.loop-i.i (fields_of c.args.row.now)) in
     let here : Extends old c.loop-i.self = (before.0, c.loop-i.invariant.0 ∙ before.1) in
-    on-err c.from_residual.result (extends-trans old c.loop-i.self c.number.new.self here c.in_err-number.ensures.err)
+    on-err c.from_residual-in_err-number.result (extends-trans old c.loop-i.self c.number.new.self here c.in_err-number.ensures.err)
 
 pub returns-in_err-push-clause-err : goal.returns-in_err-push-clause-err
 returns-in_err-push-clause-err c =
@@ -27,14 +29,6 @@ returns-in_err-push-clause-err c =
     let all = with_fields-extends old (fields ++ c.in-Some.field.now ∷ []) in
     let now = c.in_ok-number.ensures.texts ∙ ap (λ t. with_field t c.in-Some.field.now) c.loop-i.invariant.0 ∙ sym (with_fields-push old fields c.in-Some.field.now) in
     on-err c.from_residual-in_err-push.result (all.0, now ∙ all.1)
-
-pub returns-in_err-push-2-clause-err : goal.returns-in_err-push-2-clause-err
-returns-in_err-push-2-clause-err c =
-    let old = c.args.self.now in
-    let fields = take c.loop-i.i (fields_of c.args.row.now) in
-    let all = with_fields-extends old (fields ++ c.in-Some.field.now ∷ []) in
-    let now = c.in_ok-number.ensures.texts ∙ ap (λ t. with_field t c.in-Some.field.now) c.loop-i.invariant.0 ∙ sym (with_fields-push old fields c.in-Some.field.now) in
-    on-err c.from_residual-in_err-push-2.result (all.0, now ∙ all.1)
 
 pub loop-i-preserved : goal.loop-i-preserved
 loop-i-preserved c =
@@ -48,9 +42,10 @@ loop-i-preserved c =
     take_more row c.loop-i.i [] inside ∙ ap (λ (f : List ℕ). fields ++ f ∷ []) (field-get row c.loop-i.i field (sym c.in-Some.ensures.value)) in
     let here = with_field-extends c.loop-i.self field in
     let more : Extends c.loop-i.self new = (here.0, c.in_ok-number.ensures.texts ∙ here.1) in
-    rw (step, c.in_ok-push.ensures.items) (
+    rw (step, c.push_reserved.ensures.items) (
       c.in_ok-number.ensures.texts ∙ ap (λ t. with_field t field) c.loop-i.invariant.0 ∙ sym (with_fields-push old fields field),
       adds-push c.loop-i.self new c.args.cells.now.items c.loop-i.cells.items fields c.in_ok-number.field-0 field
           more c.loop-i.invariant.1 c.in_ok-number.ensures.number,
-      c.in_ok-push-2.ensures.added ∙ ap (λ (l : Fields). l ++ field ∷ []) c.loop-i.invariant.2 ∙ append_assoc c.args.fields.now fields (field ∷ []),
+      omega (arith, c.loop-i.invariant.2, c.push_reserved.ensures.len, c.push_reserved.ensures.capacity),
+      c.in_ok-push.ensures.added ∙ ap (λ (l : Fields). l ++ field ∷ []) c.loop-i.invariant.3 ∙ append_assoc c.args.fields.now fields (field ∷ []),
     )

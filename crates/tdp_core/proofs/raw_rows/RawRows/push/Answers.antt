@@ -13,11 +13,11 @@ invariant_of-self-2 g c =
     let owns = t.owns.items in
     let named = t.named.items in
     let all = subst (λ l. All (λ r. length r.children ≡ k) l) (sym c.self.view_is) c.requires in
-    let r : c.push.new.self.items ≡ rows ++ c.args.row ∷ [] = c.in_ok-push.ensures.items ∙ ap (λ l. l ++ c.args.row ∷ []) c.reserve.ensures.items in
-    let o : c.push-2.new.self.items ≡ owns ++ c.args.own ∷ [] = c.in_ok-push-2.ensures.items ∙ ap (λ l. l ++ c.args.own ∷ []) c.reserve-2.ensures.items in
-    let n : c.extend_from_slice.new.self.items ≡ named ++ more = c.in_ok-extend_from_slice.ensures.items in
-    subst (λ l. AreRawRows k l c.push-2.new.self.items c.extend_from_slice.new.self.items) (sym r)
-    (subst (λ l. AreRawRows k (rows ++ c.args.row ∷ []) l c.extend_from_slice.new.self.items) (sym o)
+    let r : c.push_reserved.new.self.items ≡ rows ++ c.args.row ∷ [] = c.push_reserved.ensures.items ∙ ap (λ l. l ++ c.args.row ∷ []) c.reserve.ensures.items in
+    let o : c.push_reserved-2.new.self.items ≡ owns ++ c.args.own ∷ [] = c.push_reserved-2.ensures.items ∙ ap (λ l. l ++ c.args.own ∷ []) c.reserve-2.ensures.items in
+    let n : c.push_each.new.list.items ≡ named ++ more = c.push_each.ensures ∙ ap (λ l. l ++ more) c.reserve-3.ensures.items in
+    subst (λ l. AreRawRows k l c.push_reserved-2.new.self.items c.push_each.new.list.items) (sym r)
+    (subst (λ l. AreRawRows k (rows ++ c.args.row ∷ []) l c.push_each.new.list.items) (sym o)
     (subst (λ l. AreRawRows k (rows ++ c.args.row ∷ []) (owns ++ c.args.own ∷ []) l) (sym n)
     (formed_rows c.args.row c.args.own more t.width rows owns named c.self.invariant all)))
 
@@ -30,11 +30,11 @@ returns-clause-ok g c =
     let owns = t.owns.items in
     let named = t.named.items in
     let all = subst (λ l. All (λ r. length r.children ≡ k) l) (sym c.self.view_is) c.requires in
-    let r : c.push.new.self.items ≡ rows ++ c.args.row ∷ [] = c.in_ok-push.ensures.items ∙ ap (λ l. l ++ c.args.row ∷ []) c.reserve.ensures.items in
-    let o : c.push-2.new.self.items ≡ owns ++ c.args.own ∷ [] = c.in_ok-push-2.ensures.items ∙ ap (λ l. l ++ c.args.own ∷ []) c.reserve-2.ensures.items in
-    let n : c.extend_from_slice.new.self.items ≡ named ++ more = c.in_ok-extend_from_slice.ensures.items in
-    ap (λ l. raw_rows k l c.push-2.new.self.items c.extend_from_slice.new.self.items) r
-    ∙ ap (λ l. raw_rows k (rows ++ c.args.row ∷ []) l c.extend_from_slice.new.self.items) o
+    let r : c.push_reserved.new.self.items ≡ rows ++ c.args.row ∷ [] = c.push_reserved.ensures.items ∙ ap (λ l. l ++ c.args.row ∷ []) c.reserve.ensures.items in
+    let o : c.push_reserved-2.new.self.items ≡ owns ++ c.args.own ∷ [] = c.push_reserved-2.ensures.items ∙ ap (λ l. l ++ c.args.own ∷ []) c.reserve-2.ensures.items in
+    let n : c.push_each.new.list.items ≡ named ++ more = c.push_each.ensures ∙ ap (λ l. l ++ more) c.reserve-3.ensures.items in
+    ap (λ l. raw_rows k l c.push_reserved-2.new.self.items c.push_each.new.list.items) r
+    ∙ ap (λ l. raw_rows k (rows ++ c.args.row ∷ []) l c.push_each.new.list.items) o
     ∙ ap (λ l. raw_rows k (rows ++ c.args.row ∷ []) (owns ++ c.args.own ∷ []) l) n
     ∙ rows_more c.args.row c.args.own more t.width rows owns named c.self.invariant all
     ∙ ap (λ l. l ++ record { row = c.args.row; own = c.args.own; children = more } ∷ []) c.self.view_is
