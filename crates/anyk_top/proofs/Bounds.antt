@@ -2,7 +2,6 @@
 use Rattle.std.proofs.Common.{◌≡◌, ◌≤◌, ◌+◌, ◌*◌, ℕ, List, length, Option, Some, None, Ok, subst, arith}
 use Rattle.std.proofs.lemmas.Nat.{mul-le}
 use Rattle.anyk_model.specs.Query.{row_counts}
-use Rattle.anyk_model.specs.Ranking.{ranking_of}
 use Rattle.outer_io.specs.Files.{Files}
 use Rattle.query_bind.specs.Parts.{sum_of_all}
 use Rattle.rank_key.specs.Bits.{bit_length}
@@ -10,6 +9,7 @@ use Rattle.step_bounds.specs.Bounded.{IsPrepared, cost_over, total_of}
 use Rattle.verdict.specs.SessionCalls.{session_reach}
 use Rattle.verdict.specs.Bound.{IsBounded, IsPaced, IsPrompt, IsWithin}
 use Rattle.verdict.specs.Found.{Found}
+use Rattle.verdict.specs.Output.{asked_list}
 use Rattle.verdict.specs.Verdict.{IsVerdict}
 use Rattle.verdict.specs.Words.{Asked, Command, no_command, built, run, plan, session, load}
 use Rattle.verdict.proofs.One.{one_verdict}
@@ -73,7 +73,7 @@ within-prepared : (command : Command) (found : Found) (before now : ℕ) → IsP
 within-prepared (run words) found before now h = prepared-over found before now _ h
 within-prepared (plan words) found before now h = prepared-over found before now 0 h
 within-prepared (session script words) found before now h =
-    let least = prepared-over found before now (session_reach found.query.limit (ranking_of found.query found.tables) found.steps) h in omega (arith, least)
+    let least = prepared-over found before now (session_reach found.query.limit (asked_list found) found.steps) h in omega (arith, least)
 within-prepared (load number rows) found before now h = prepared-over found before now _ h
 
 paced-prepared : (command : Command) (found : Found) (old new : Option (List ℕ)) (before now : ℕ) → IsPrepared found.query found.tables before now

@@ -1,14 +1,14 @@
 -- What the arguments of the command line ask for.
 use Rattle.std.specs.Prelude.{◌≡◌, ℕ, List, Option, Some, None}
-use Rattle.refusal_lines.specs.Answer as answer
-use Rattle.refusal_lines.specs.Answer.{Answer}
+use Rattle.refusal_lines.specs.Reason as reason
+use Rattle.refusal_lines.specs.Reason.{Reason}
 use Rattle.cmd_words.specs.Commands.{CommandSaid, run_said, session_said, plan_said, load_said}
 use Rattle.cmd_words.specs.Said.{WordsSaid}
 use Rattle.verdict.specs.Words.{Words, Asked, no_command, built, run, plan, session, load}
 
 -- all but the engine, which does not change the output
 abbrev pub words_of : WordsSaid → Words
-words_of said = record { ranks = said.ranks; rows = said.rows; query = said.query; tables = said.tables }
+words_of said = record { ranks = said.ranks; rows = said.rows; best_of = said.best_of; query = said.query; tables = said.tables }
 
 -- `clap` accepts the arguments of a session only if a script is among them
 abbrev pub asked_session : Option (List ℕ) → Words → Asked
@@ -23,7 +23,7 @@ asked_of (Some (plan_said said)) = built (plan (words_of said))
 asked_of (Some (load_said engine number rows)) = built (load number rows)
 
 -- the arguments are not a command, or memory ran out
-abbrev pub IsEarly : Asked → Answer → Type 0
-IsEarly asked answer.Usage = asked ≡ no_command
-IsEarly asked answer.NoMemory = Unit {0}
+abbrev pub IsEarly : Asked → Reason → Type 0
+IsEarly asked reason.Usage = asked ≡ no_command
+IsEarly asked reason.NoMemory = Unit {0}
 IsEarly asked other = ⊥

@@ -4,3 +4,4 @@ pub mod Requests
 pub mod Sides
 pub mod Judged
 pub mod Planned
+pub mod Begun

@@ -12,9 +12,9 @@ use Rattle.query_bind.specs.Weighed.{BoundQuery}
 use Rattle.query_shape.specs.Shape.{Shape}
 use Rattle.session_script.specs.declared.step.Step.{Step}
 use Rattle.refusal_lines.specs.declared.refusal.Refusal.{Refusal}
-use Rattle.refusal_lines.specs.Answer as answer
-use Rattle.refusal_lines.specs.Answer.{Answer}
-use Rattle.refusal_lines.specs.Refused.{answer_of}
+use Rattle.refusal_lines.specs.Reason as reason
+use Rattle.refusal_lines.specs.Reason.{Reason}
+use Rattle.refusal_lines.specs.Refused.{reason_of}
 use Rattle.step_bounds.specs.Bounded.{IsPrepared}
 use Rattle.input_load.specs.Input.{loaded_of}
 use Rattle.verdict.specs.Found.{Found, found_of}
@@ -28,25 +28,27 @@ abbrev pub shape_in : RankedPlan → Shape
 shape_in (Sum plan) = shape_of plan
 shape_in (Lex plan) = shape_of plan
 
-abbrev pub shown_plan : Loaded → Result RankedPlan Refusal → Result Found Answer
+abbrev pub shown_plan : Loaded → Result RankedPlan Refusal → Result Found Reason
 shown_plan loaded (Ok plan) = Ok (found_of loaded (shape_in plan))
-shown_plan loaded (Err refusal) = Err (answer_of refusal)
+shown_plan loaded (Err refusal) = Err (reason_of refusal)
 
--- what is known of a query, its tables and a script, with the structure of the query
-abbrev pub found_by : BoundQuery → List Table → List Step → Shape → Found
-found_by query tables steps shape = record { query = query.query; tables = tables; shape = shape; steps = steps }
+-- what is known of a query, its tables, the item whose rows are asked for and a script, with the
+-- structure of the query
+abbrev pub found_by : BoundQuery → List Table → Option ℕ → List Step → Shape → Found
+found_by query tables best steps shape =
+    record { query = query.query; tables = tables; shape = shape; best = best; steps = steps }
 
 abbrev pub found_in : Planned → Found
 found_in planned = found_of (loaded_of planned.input) (shape_in planned.plan)
 
-abbrev pub shown_planned : Result Planned Refusal → Result Found Answer
+abbrev pub shown_planned : Result Planned Refusal → Result Found Reason
 shown_planned (Ok planned) = Ok (found_in planned)
-shown_planned (Err refusal) = Err (answer_of refusal)
+shown_planned (Err refusal) = Err (reason_of refusal)
 
-abbrev pub plan_answer : PlanFault → Answer
-plan_answer (fault.Cyclic core) = answer.Cyclic (items_of core)
-plan_answer (fault.TooManyRows most) = answer.TooManyNodeRows
-plan_answer fault.NoMemory = answer.NoMemory
+abbrev pub plan_reason : PlanFault → Reason
+plan_reason (fault.Cyclic core) = reason.Cyclic (items_of core)
+plan_reason (fault.TooManyRows most) = reason.TooManyNodeRows
+plan_reason fault.NoMemory = reason.NoMemory
 
 -- if the files are known and the input is accepted, preparation took no more steps than it may take
 abbrev pub IsEarlyWithin : Command → Option Files → ℕ → ℕ → Type 0

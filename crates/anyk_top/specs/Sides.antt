@@ -9,6 +9,7 @@ abbrev pub outside : {F S E : Type 0} → ShelfGhosts F → SinkGhosts S → Sin
 outside files output errors shelf out err = record {
   misses = files.misses shelf;
   read_faults = files.faults shelf;
+  taken = files.taken shelf;
   output = output.written out;
   write_faults = output.faults out;
   errors = errors.written err;
@@ -20,6 +21,7 @@ abbrev pub seen_by : {F S : Type 0} → ShelfGhosts F → SinkGhosts S → F →
 seen_by files output shelf out = record {
   misses = files.misses shelf;
   read_faults = files.faults shelf;
+  taken = files.taken shelf;
   output = output.written out;
   write_faults = output.faults out;
   errors = None;

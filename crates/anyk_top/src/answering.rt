@@ -1,14 +1,16 @@
 //! A command, from its input to its output.
 ghost use Rattle.std.specs.Prelude.{◌≤◌, [], IfErr, None, OnOk, ℕ};
-ghost use Rattle.plan_build.specs.Plan.{IsPlan, shape_of};
+ghost use Rattle.plan_build.specs.Plan.{IsPlanOf, shape_of};
 ghost use Rattle.plan_build.specs.RankedPlan.{IsRankedPlan};
 ghost use Rattle.query_bind.specs.Weighed.{Fits};
 ghost use Rattle.refusal_lines.specs.Printed.{Printed};
-ghost use Rattle.refusal_lines.specs.Refused.{answer_of};
+ghost use Rattle.refusal_lines.specs.Refused.{reason_of};
+ghost use Rattle.refusal_lines.specs.SinkState.{state_of};
 ghost use Rattle.session_script.specs.Script.{KeepsRules};
 ghost use Rattle.step_bounds.specs.Bounded.{IsPrepared};
 ghost use Rattle.verdict.specs.Bound.{IsBounded, IsPaced, IsPrompt, IsWithin};
-ghost use Rattle.verdict.specs.Outcome.{IsAnswer, IsCaused, IsComplete, IsCut};
+ghost use Rattle.verdict.specs.Made.{known_to};
+ghost use Rattle.verdict.specs.Outcome.{IsReason, IsCaused, IsComplete, IsCut};
 ghost use Rattle.verdict.specs.Output.{output};
 ghost use Rattle.verdict.specs.Words.{built};
 ghost use Rattle.anyk_top.specs.Planned.{found_by, found_in};
@@ -44,18 +46,23 @@ pub(crate) fn answer<'a, F: Shelf, S: Sink, L: Ledger>(
     keys: Keys,
     steps: &mut Steps<L>,
 ) -> Result<(), Refusal<'a>>
-    ensures done { OnOk result (IsComplete (built (command_of request.now)) (F.files shelf.old)
+    ensures done { OnOk result (IsComplete (built (command_of request.now))
+        (known_to (built (command_of request.now)) (F.files shelf.old))
         (seen_by F.Shelf S.Sink shelf.old out.old)
         (seen_by F.Shelf S.Sink shelf.new out.new)) }
-    ensures fits { IfErr result (λ refusal. IsAnswer (built (command_of request.now)) (F.files shelf.old) (answer_of refusal)) }
+    ensures fits { IfErr result (λ refusal. IsReason (built (command_of request.now))
+        (known_to (built (command_of request.now)) (F.files shelf.old)) (reason_of refusal)) }
     ensures caused { IfErr result (λ refusal. IsCaused
         (seen_by F.Shelf S.Sink shelf.old out.old)
-        (seen_by F.Shelf S.Sink shelf.new out.new) (answer_of refusal)) }
-    ensures cut { IfErr result (λ refusal. IsCut (built (command_of request.now)) (F.files shelf.old)
+        (seen_by F.Shelf S.Sink shelf.new out.new) (reason_of refusal)) }
+    ensures cut { IfErr result (λ refusal. IsCut (built (command_of request.now))
+        (known_to (built (command_of request.now)) (F.files shelf.old))
         (seen_by F.Shelf S.Sink shelf.old out.old)
-        (seen_by F.Shelf S.Sink shelf.new out.new) (answer_of refusal)) }
-    ensures bounded { IsBounded (built (command_of request.now)) (F.files shelf.old) steps.old steps.new }
-    ensures prompt { IsPrompt (built (command_of request.now)) (F.files shelf.old) (S.written out.old) (S.written out.new) steps.old steps.new }
+        (seen_by F.Shelf S.Sink shelf.new out.new) (reason_of refusal)) }
+    ensures bounded { IsBounded (built (command_of request.now))
+        (known_to (built (command_of request.now)) (F.files shelf.old)) steps.old steps.new }
+    ensures prompt { IsPrompt (built (command_of request.now))
+        (known_to (built (command_of request.now)) (F.files shelf.old)) (S.written out.old) (S.written out.new) steps.old steps.new }
 {
     let planned = plan_request(alloc, request, shelf, keys, steps)?;
     print_planned(alloc, request, &planned, out, steps)
@@ -69,8 +76,9 @@ fn print_planned<'a, S: Sink, L: Ledger>(
     out: &mut S,
     steps: &mut Steps<L>,
 ) -> Result<(), Refusal<'a>>
-    requires plan { IsRankedPlan planned.now.input.query planned.now.input.tables planned.now.plan }
-    ensures printed { Printed (S.written out.old) (S.written out.new) (S.faults out.old) (S.faults out.new)
+    requires plan { IsRankedPlan planned.now.input.query planned.now.input.tables planned.now.input.best
+        planned.now.plan }
+    ensures printed { Printed (state_of S.Sink out.old) (state_of S.Sink out.new)
         (output (command_of request.now) (found_in planned.now)) result }
     ensures bounded { (before : ℕ) → IsPrepared planned.now.input.query.query planned.now.input.tables before steps.old
         → IsWithin (command_of request.now) (found_in planned.now) before steps.new }
@@ -83,10 +91,10 @@ fn print_planned<'a, S: Sink, L: Ledger>(
     let script = input.script.as_slice();
     match plan {
         RankedPlan::Sum(plan) => print_output(
-            alloc, request, plan, query, tables, script, out, steps,
+            alloc, request, plan, query, tables, input.best, script, out, steps,
         ),
         RankedPlan::Lex(plan) => print_output(
-            alloc, request, plan, query, tables, script, out, steps,
+            alloc, request, plan, query, tables, input.best, script, out, steps,
         ),
     }
 }
@@ -98,27 +106,30 @@ fn print_output<'a, R: Rank, S: Sink, L: Ledger>(
     plan: &Plan<R>,
     query: &Query,
     tables: &Tables,
+    best: Option<u32>,
     script: &[Step],
     out: &mut S,
     steps: &mut Steps<L>,
 ) -> Result<(), Refusal<'a>>
     requires fits { Fits query.now tables.now }
     requires rules { KeepsRules [] script.now }
-    requires plan { IsPlan R.KEYS R.key query.now tables.now plan.now }
-    ensures printed { Printed (S.written out.old) (S.written out.new) (S.faults out.old) (S.faults out.new)
-        (output (command_of request.now) (found_by query.now tables.now script.now (shape_of plan.now))) result }
+    requires plan { IsPlanOf R.KEYS R.key query.now tables.now best plan.now }
+    ensures printed { Printed (state_of S.Sink out.old) (state_of S.Sink out.new)
+        (output (command_of request.now) (found_by query.now tables.now best script.now (shape_of plan.now))) result }
     ensures bounded { (before : ℕ) → IsPrepared query.now.query tables.now before steps.old
-        → IsWithin (command_of request.now) (found_by query.now tables.now script.now (shape_of plan.now)) before steps.new }
+        → IsWithin (command_of request.now) (found_by query.now tables.now best script.now (shape_of plan.now)) before steps.new }
     ensures paced { (before : ℕ) → IsPrepared query.now.query tables.now before steps.old
-        → IsPaced (command_of request.now) (found_by query.now tables.now script.now (shape_of plan.now))
+        → IsPaced (command_of request.now) (found_by query.now tables.now best script.now (shape_of plan.now))
         (S.written out.old) (S.written out.new) before steps.new }
 {
     match request {
-        Request::Run(words) => print_run(alloc, words, plan, query, tables, out, steps),
+        Request::Run(words) => print_run(alloc, words, plan, query, tables, best, out, steps),
         Request::Plan(_) => print_report(alloc, plan, query, tables, out),
         Request::Session(_, words) => {
-            print_script(alloc, words, plan, query, tables, script, out, steps)
+            print_script(alloc, words, plan, query, tables, best, script, out, steps)
         }
-        Request::Load(engine, _) => print_load(alloc, *engine, plan, query, tables, out, steps),
+        Request::Load(engine, _) => {
+            print_load(alloc, *engine, plan, query, tables, best, out, steps)
+        }
     }
 }

@@ -4,8 +4,8 @@ ghost use Rattle.std.specs.String.{string_bytes};
 ghost use Rattle.cmd_words.specs.Commands.{KeepsRange, said_of, seen_command};
 ghost use Rattle.cmd_words.specs.Numbers.{IsInRange};
 ghost use Rattle.cmd_words.specs.Said.{seen_words};
-ghost use Rattle.refusal_lines.specs.Refused.{answer_of};
-ghost use Rattle.verdict.specs.Words.{built, command_words};
+ghost use Rattle.refusal_lines.specs.Refused.{reason_of};
+ghost use Rattle.verdict.specs.Words.{built};
 ghost use Rattle.anyk_top.specs.Asked.{IsEarly, asked_of, words_of};
 ghost use Rattle.anyk_top.specs.Requests.{command_of};
 
@@ -19,7 +19,7 @@ use std::alloc::Global;
 /// memory is refused.
 pub(crate) fn read_request<'a>(alloc: Global, words: &[String]) -> Result<Request, Refusal<'a>>
     ensures built { IfOk result (λ request. asked_of (said_of (map string_bytes words.now)) ≡ built (command_of request)) }
-    ensures early { IfErr result (λ refusal. IsEarly (asked_of (said_of (map string_bytes words.now))) (answer_of refusal)) }
+    ensures early { IfErr result (λ refusal. IsEarly (asked_of (said_of (map string_bytes words.now))) (reason_of refusal)) }
 {
     match read_words(alloc, words) {
         Ok(command) => request_of(alloc, command),
@@ -31,7 +31,7 @@ pub(crate) fn read_request<'a>(alloc: Global, words: &[String]) -> Result<Reques
 fn request_of<'a>(alloc: Global, command: Command) -> Result<Request, Refusal<'a>>
     requires { KeepsRange command }
     ensures built { IfOk result (λ request. asked_of (Some (seen_command command)) ≡ built (command_of request)) }
-    ensures early { IfErr result (λ refusal. IsEarly (asked_of (Some (seen_command command))) (answer_of refusal)) }
+    ensures early { IfErr result (λ refusal. IsEarly (asked_of (Some (seen_command command))) (reason_of refusal)) }
 {
     match command {
         Command::Run(words) => Ok(Request::Run(words)),
@@ -46,13 +46,14 @@ fn request_of<'a>(alloc: Global, command: Command) -> Result<Request, Refusal<'a
 // The session that these words ask for. `Usage` if they name no script.
 fn session_of<'a>(words: Words) -> Result<Request, Refusal<'a>>
     ensures built { IfOk result (λ request. asked_of (Some (seen_command (Command.Session words))) ≡ built (command_of request)) }
-    ensures early { IfErr result (λ refusal. IsEarly (asked_of (Some (seen_command (Command.Session words)))) (answer_of refusal)) }
+    ensures early { IfErr result (λ refusal. IsEarly (asked_of (Some (seen_command (Command.Session words)))) (reason_of refusal)) }
 {
     let Words {
         engine,
         ranks,
         rows,
         script,
+        best_of,
         query,
         tables,
     } = words;
@@ -64,6 +65,7 @@ fn session_of<'a>(words: Words) -> Result<Request, Refusal<'a>>
         ranks,
         rows,
         script: None,
+        best_of,
         query,
         tables,
     };

@@ -1,4 +1,5 @@
 //! How a call ends.
+ghost use Rattle.refusal_lines.specs.SinkState.{state_of};
 ghost use Rattle.anyk_top.specs.Finished.{Finished};
 
 use outer_io::Sink;
@@ -7,7 +8,7 @@ use refusal_lines::{Refusal, write_line};
 /// Writes the line of a refusal to `err`, if there is one, and returns the exit status. A write
 /// that fails there does not change the status.
 pub(crate) fn finish<E: Sink>(err: &mut E, outcome: Result<(), Refusal<'_>>) -> u8
-    ensures { Finished (E.written err.old) (E.written err.new) (E.faults err.old) (E.faults err.new) outcome.entry result }
+    ensures { Finished (state_of E.Sink err.old) (state_of E.Sink err.new) outcome.entry result }
 {
     match outcome {
         Ok(()) => 0,

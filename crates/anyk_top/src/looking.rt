@@ -1,16 +1,17 @@
-//! The input of a command.
-ghost use Rattle.std.specs.Prelude.{map, option_map, string_bytes};
+//! The input of a request.
+ghost use Rattle.std.specs.Prelude.{◌≡◌, Option, option_map};
+ghost use Rattle.std.specs.String.{string_bytes};
 ghost use Rattle.cmd_words.specs.Said.{seen_words};
 ghost use Rattle.input_load.specs.Shown.{shown_input};
 ghost use Rattle.verdict.specs.Staged.{shelved};
 ghost use Rattle.anyk_top.specs.Asked.{words_of};
-ghost use Rattle.anyk_top.specs.Judged.{IsLooked, IsLookedUp};
+ghost use Rattle.anyk_top.specs.Judged.{IsLooked, IsLookedUp, sought_in};
 ghost use Rattle.anyk_top.specs.Requests.{command_of};
 
 use crate::request::Request;
 use cmd_words::Words;
 use hash_keys::Keys;
-use input_load::{Input, load_input, load_made};
+use input_load::{Input, Sought, load_input, load_made};
 use outer_io::Shelf;
 use refusal_lines::Refusal;
 use std::alloc::Global;
@@ -27,16 +28,27 @@ pub(crate) fn look_at<'a, F: Shelf>(
         (shelved F.Shelf shelf.old) (shelved F.Shelf shelf.new) (shown_input result) }
 {
     match request {
-        Request::Run(words) => look_up(alloc, words, None, shelf, keys),
-        Request::Plan(words) => look_up(alloc, words, None, shelf, keys),
+        Request::Run(words) => look_up(alloc, words, None, text_of(&words.best_of), shelf, keys),
+        Request::Plan(words) => look_up(alloc, words, None, None, shelf, keys),
         Request::Session(script, words) => look_up(
             alloc,
             words,
             Some(script.as_str()),
+            text_of(&words.best_of),
             shelf,
             keys,
         ),
         Request::Load(_, made) => load_made(alloc, made),
+    }
+}
+
+// The text, if there is one.
+fn text_of(text: &Option<String>) -> Option<&str>
+    ensures { option_map (λ t. t.now) result ≡ option_map string_bytes text.now }
+{
+    match text {
+        Some(text) => Some(text.as_str()),
+        None => None,
     }
 }
 
@@ -45,18 +57,19 @@ fn look_up<'a, F: Shelf>(
     alloc: Global,
     words: &'a Words,
     script: Option<&'a str>,
+    best_of: Option<&'a str>,
     shelf: &mut F,
     keys: Keys,
 ) -> Result<Input, Refusal<'a>>
-    ensures { IsLookedUp (words_of (seen_words words.now)) (option_map (λ name. name.now) script.entry)
+    ensures { IsLookedUp (sought_in (words_of (seen_words words.now)) (option_map (λ t. t.now) script.entry)
+        (option_map (λ t. t.now) best_of.entry))
         (shelved F.Shelf shelf.old) (shelved F.Shelf shelf.new) (shown_input result) }
 {
-    load_input(
-        alloc,
-        words.query.as_str(),
+    let sought = Sought {
+        query: words.query.as_str(),
         script,
-        words.tables.as_slice(),
-        shelf,
-        keys,
-    )
+        named: words.tables.as_slice(),
+        best_of,
+    };
+    load_input(alloc, &sought, shelf, keys)
 }

@@ -1,7 +1,8 @@
 //! The command `plan`.
-ghost use Rattle.plan_build.specs.Plan.{IsPlan, shape_of};
+ghost use Rattle.plan_build.specs.Plan.{IsPlanFor, shape_of};
 ghost use Rattle.query_shape.specs.Report.{report_of};
 ghost use Rattle.refusal_lines.specs.Printed.{Printed};
+ghost use Rattle.refusal_lines.specs.SinkState.{state_of};
 
 use csv_tables::Tables;
 use outer_io::Sink;
@@ -20,8 +21,8 @@ pub(crate) fn print_report<'a, R: Rank, S: Sink>(
     tables: &Tables,
     out: &mut S,
 ) -> Result<(), Refusal<'a>>
-    requires plan { IsPlan R.KEYS R.key query.now tables.now plan.now }
-    ensures { Printed (S.written out.old) (S.written out.new) (S.faults out.old) (S.faults out.new)
+    requires plan { IsPlanFor R.KEYS R.key query.now tables.now plan.now }
+    ensures { Printed (state_of S.Sink out.old) (state_of S.Sink out.new)
         (report_of query.now.query tables.now (shape_of plan.now)) result }
 {
     let text = report(alloc, plan, query, tables)?;

@@ -1,11 +1,12 @@
 //! The command `session`.
 ghost use Rattle.std.specs.Prelude.{◌≤◌, [], ℕ};
 ghost use Rattle.anyk_model.specs.Output.{cut};
-ghost use Rattle.anyk_model.specs.Ranking.{ranking_of};
+ghost use Rattle.best_list.specs.BestList.{list_of};
 ghost use Rattle.cmd_words.specs.Said.{seen_words};
-ghost use Rattle.plan_build.specs.Plan.{IsPlan};
+ghost use Rattle.plan_build.specs.Plan.{IsPlanOf};
 ghost use Rattle.query_bind.specs.Weighed.{Fits};
 ghost use Rattle.refusal_lines.specs.Printed.{Printed};
+ghost use Rattle.refusal_lines.specs.SinkState.{state_of};
 ghost use Rattle.session_script.specs.Script.{KeepsRules};
 ghost use Rattle.step_bounds.specs.Bounded.{IsPrepared};
 ghost use Rattle.verdict.specs.Output.{style_of};
@@ -13,13 +14,12 @@ ghost use Rattle.verdict.specs.Session.{session_text};
 ghost use Rattle.verdict.specs.SessionBound.{KeepsSessionBound};
 ghost use Rattle.anyk_top.specs.Asked.{words_of};
 
-use crate::engine::kind_of;
+use crate::engine::engine_over;
 use answer_print::Style;
 use bumpalo::Bump;
 use cmd_words::Words;
 use command_session::print_session;
 use csv_tables::Tables;
-use engine_choice::choose_engine;
 use outer_io::Sink;
 use plan_build::Plan;
 use query_bind::Query;
@@ -31,7 +31,8 @@ use std::sync::ledger::Ledger;
 use step_counter::Steps;
 
 /// Prints the header with the title of the cursors' names, and then what the steps of the script
-/// print of the query's answers, as far as the limit allows. `WriteFault` if a write failed, and
+/// print of the query's answers, as far as the limit allows: of all of them, or of the best answer of
+/// each row of the item, if one is named. `WriteFault` if a write failed, and
 /// `NoMemory` if memory is refused.
 pub(crate) fn print_script<'a, R: Rank, S: Sink, L: Ledger>(
     alloc: Global,
@@ -39,18 +40,19 @@ pub(crate) fn print_script<'a, R: Rank, S: Sink, L: Ledger>(
     plan: &Plan<R>,
     query: &Query,
     tables: &Tables,
+    best: Option<u32>,
     script: &[Step],
     out: &mut S,
     steps: &mut Steps<L>,
 ) -> Result<(), Refusal<'a>>
     requires fits { Fits query.now tables.now }
-    requires plan { IsPlan R.KEYS R.key query.now tables.now plan.now }
+    requires plan { IsPlanOf R.KEYS R.key query.now tables.now best plan.now }
     requires rules { KeepsRules [] script.now }
-    ensures printed { Printed (S.written out.old) (S.written out.new) (S.faults out.old) (S.faults out.new)
+    ensures printed { Printed (state_of S.Sink out.old) (state_of S.Sink out.new)
         (session_text query.now.query tables.now (style_of (words_of (seen_words words.now)))
-        (cut query.now.query.limit (ranking_of query.now.query tables.now)) script.now) result }
+        (cut query.now.query.limit (list_of query.now.query tables.now best)) script.now) result }
     ensures bounded { (before : ℕ) → IsPrepared query.now.query tables.now before steps.old
-        → KeepsSessionBound query.now.query tables.now script.now before steps.new }
+        → KeepsSessionBound query.now.query tables.now (list_of query.now.query tables.now best) script.now before steps.new }
 {
     let style = Style {
         ranks: words.ranks,
@@ -58,7 +60,6 @@ pub(crate) fn print_script<'a, R: Rank, S: Sink, L: Ledger>(
         cursor: None,
     };
     let arena = Bump::new(alloc);
-    let kind = kind_of(words.engine);
-    let engine = choose_engine(alloc, kind, plan.tree(), &arena, steps)?;
+    let engine = engine_over(alloc, words.engine, plan, best, &arena, steps)?;
     print_session(alloc, query, tables, &style, engine, script, out, steps)
 }

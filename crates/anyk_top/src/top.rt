@@ -3,6 +3,7 @@ ghost use Rattle.std.specs.Prelude.{◌≡◌, ◌<◌, map};
 ghost use Rattle.std.specs.String.{string_bytes};
 ghost use Rattle.cmd_words.specs.Commands.{said_of};
 ghost use Rattle.verdict.specs.Bound.{IsBounded, IsPrompt};
+ghost use Rattle.verdict.specs.Made.{known_to};
 ghost use Rattle.verdict.specs.Outcome.{Outcome};
 ghost use Rattle.anyk_top.specs.Asked.{asked_of};
 ghost use Rattle.anyk_top.specs.Sides.{outside};
@@ -27,11 +28,14 @@ pub fn run_words<F: Shelf, S: Sink, E: Sink, L: Ledger>(
     err: &mut E,
     steps: &mut Steps<L>,
 ) -> u8
-    ensures outcome { Outcome (asked_of (said_of (map string_bytes words.now))) (F.files shelf.old)
+    ensures outcome { Outcome (asked_of (said_of (map string_bytes words.now)))
+        (known_to (asked_of (said_of (map string_bytes words.now))) (F.files shelf.old))
         (outside F.Shelf S.Sink E.Sink shelf.old out.old err.old)
         (outside F.Shelf S.Sink E.Sink shelf.new out.new err.new) result }
-    ensures bounded { IsBounded (asked_of (said_of (map string_bytes words.now))) (F.files shelf.old) steps.old steps.new }
-    ensures prompt { IsPrompt (asked_of (said_of (map string_bytes words.now))) (F.files shelf.old) (S.written out.old) (S.written out.new) steps.old steps.new }
+    ensures bounded { IsBounded (asked_of (said_of (map string_bytes words.now)))
+        (known_to (asked_of (said_of (map string_bytes words.now))) (F.files shelf.old)) steps.old steps.new }
+    ensures prompt { IsPrompt (asked_of (said_of (map string_bytes words.now)))
+        (known_to (asked_of (said_of (map string_bytes words.now))) (F.files shelf.old)) (S.written out.old) (S.written out.new) steps.old steps.new }
 {
     run_keyed(alloc, words, shelf, out, err, Keys::Known, steps)
 }
@@ -48,11 +52,14 @@ pub fn run_keyed<F: Shelf, S: Sink, E: Sink, L: Ledger>(
     keys: Keys,
     steps: &mut Steps<L>,
 ) -> u8
-    ensures outcome { Outcome (asked_of (said_of (map string_bytes words.now))) (F.files shelf.old)
+    ensures outcome { Outcome (asked_of (said_of (map string_bytes words.now)))
+        (known_to (asked_of (said_of (map string_bytes words.now))) (F.files shelf.old))
         (outside F.Shelf S.Sink E.Sink shelf.old out.old err.old)
         (outside F.Shelf S.Sink E.Sink shelf.new out.new err.new) result }
-    ensures bounded { IsBounded (asked_of (said_of (map string_bytes words.now))) (F.files shelf.old) steps.old steps.new }
-    ensures prompt { IsPrompt (asked_of (said_of (map string_bytes words.now))) (F.files shelf.old) (S.written out.old) (S.written out.new) steps.old steps.new }
+    ensures bounded { IsBounded (asked_of (said_of (map string_bytes words.now)))
+        (known_to (asked_of (said_of (map string_bytes words.now))) (F.files shelf.old)) steps.old steps.new }
+    ensures prompt { IsPrompt (asked_of (said_of (map string_bytes words.now)))
+        (known_to (asked_of (said_of (map string_bytes words.now))) (F.files shelf.old)) (S.written out.old) (S.written out.new) steps.old steps.new }
 {
     match read_request(alloc, words) {
         Ok(request) => finish(err, answer(alloc, &request, shelf, out, keys, steps)),
@@ -73,7 +80,8 @@ pub fn run_uncounted<F: Shelf, S: Sink, E: Sink, L: Ledger>(
     requires name { blank.name ≡ L.name }
     requires parts { blank.parts ≡ L.parts }
     requires some_part { 0 < blank.parts }
-    ensures outcome { Outcome (asked_of (said_of (map string_bytes words.now))) (F.files shelf.old)
+    ensures outcome { Outcome (asked_of (said_of (map string_bytes words.now)))
+        (known_to (asked_of (said_of (map string_bytes words.now))) (F.files shelf.old))
         (outside F.Shelf S.Sink E.Sink shelf.old out.old err.old)
         (outside F.Shelf S.Sink E.Sink shelf.new out.new err.new) result }
 {

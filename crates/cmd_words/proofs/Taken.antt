@@ -93,13 +93,15 @@ module _ (app : App) (words : List (List ℕ)) where
     unfolding load_of
     load_taken same = taken load_app app words load_by rows same e found
 
-abbrev pub made : Option (List ℕ) → Option (List ℕ) → Option (List ℕ) → Option (List ℕ) → Option (List ℕ) → Option (List (List ℕ)) → Texts
-made a b c d e f = record { engine = a; ranks = b; rows = c; script = d; query = e; tables = f }
+abbrev pub made : Option (List ℕ) → Option (List ℕ) → Option (List ℕ) → Option (List ℕ) → Option (List ℕ) → Option (List ℕ) → Option (List (List ℕ)) → Texts
+made a b c d e f g = record { engine = a; ranks = b; rows = c; script = d; best_of = e; query = f; tables = g }
 
-pub same_texts : (a a' b b' c c' d d' e e' : Option (List ℕ)) (f f' : Option (List (List ℕ))) → a ≡ a' → b ≡ b' → c ≡ c' → d ≡ d' → e ≡ e' → f ≡ f' → made a b c d e f ≡ made a' b' c' d' e' f'
-same_texts a a' b b' c c' d d' e e' f f' p q r s t u =
-    ap (λ (o : Option (List ℕ)). made o b c d e f) p ∙ ap (λ (o : Option (List ℕ)). made a' o c d e f) q ∙ ap (λ (o : Option (List ℕ)). made a' b' o d e f) r
-    ∙ ap (λ (o : Option (List ℕ)). made a' b' c' o e f) s ∙ ap (λ (o : Option (List ℕ)). made a' b' c' d' o f) t ∙ ap (λ (o : Option (List (List ℕ))). made a' b' c' d' e' o) u
+pub same_texts : (a a' b b' c c' d d' e e' f f' : Option (List ℕ)) (g g' : Option (List (List ℕ)))
+    → a ≡ a' → b ≡ b' → c ≡ c' → d ≡ d' → e ≡ e' → f ≡ f' → g ≡ g' → made a b c d e f g ≡ made a' b' c' d' e' f' g'
+same_texts a a' b b' c c' d d' e e' f f' g g' p q r s t u v =
+    ap (λ (o : Option (List ℕ)). made o b c d e f g) p ∙ ap (λ (o : Option (List ℕ)). made a' o c d e f g) q ∙ ap (λ (o : Option (List ℕ)). made a' b' o d e f g) r
+    ∙ ap (λ (o : Option (List ℕ)). made a' b' c' o e f g) s ∙ ap (λ (o : Option (List ℕ)). made a' b' c' d' o f g) t
+    ∙ ap (λ (o : Option (List ℕ)). made a' b' c' d' e' o g) u ∙ ap (λ (o : Option (List (List ℕ))). made a' b' c' d' e' f' o) v
 
 pub same_options : (a b c x y z : Option (List ℕ)) → a ≡ x → b ≡ y → c ≡ z → load_by_texts x y z ≡ load_by_texts a b c
 same_options a b c x y z p q r =

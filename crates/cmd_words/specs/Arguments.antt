@@ -12,6 +12,10 @@ engine_rule = record (new_rule (codes "engine")) { long = Some (codes "engine");
 abbrev pub flag_rule : List ℕ → Rule
 flag_rule name = record (new_rule name) { long = Some name; action = Some SetTrue }
 
+-- an option of this name, with one value
+abbrev pub option_rule : List ℕ → Rule
+option_rule name = record (new_rule name) { long = Some name; action = Some Set }
+
 -- a required option of this name, with one value
 abbrev pub required_rule : List ℕ → Rule
 required_rule name = record (new_rule name) { long = Some name; action = Some Set; required = true }
@@ -28,12 +32,16 @@ tables_rule = record (new_rule (codes "tables")) { action = Some Append; require
 abbrev pub with_files : App → App
 with_files app = with_rule (with_rule app query_rule) tables_rule
 
+-- a command with the options that say which answers are printed, and how
+abbrev pub with_answers : App → App
+with_answers app =
+    with_rule (with_rule (with_rule (with_rule app engine_rule) (flag_rule (codes "ranks"))) (flag_rule (codes "rows"))) (option_rule (codes "best-of"))
+
 unfoldable pub run_app : App
-run_app = with_files (with_rule (with_rule (with_rule (new_app (codes "run")) engine_rule) (flag_rule (codes "ranks"))) (flag_rule (codes "rows")))
+run_app = with_files (with_answers (new_app (codes "run")))
 
 unfoldable pub session_app : App
-session_app =
-    with_files (with_rule (with_rule (with_rule (with_rule (new_app (codes "session")) engine_rule) (flag_rule (codes "ranks"))) (flag_rule (codes "rows"))) (required_rule (codes "script")))
+session_app = with_files (with_rule (with_answers (new_app (codes "session"))) (required_rule (codes "script")))
 
 unfoldable pub plan_app : App
 plan_app = with_files (new_app (codes "plan"))

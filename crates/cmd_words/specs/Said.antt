@@ -11,12 +11,14 @@ use Rattle.cmd_words.specs.declared.command.Engine.{Engine}
 use Rattle.cmd_words.specs.declared.command.Engine.TheVariants.{Part, Rec}
 use Rattle.cmd_words.specs.declared.command.Words.{Words}
 
--- what the arguments of `run`, `session` or `plan` say; only `session` has a script
+-- what the arguments of `run`, `session` or `plan` say; only `session` has a script, and `plan` has
+-- no item of which each row's best answer is asked for
 pub record WordsSaid : Type 0 where
   pub engine : Engine
   pub ranks : Bool
   pub rows : Bool
   pub script : Option (List ℕ)
+  pub best_of : Option (List ℕ)
   pub query : List ℕ
   pub tables : List (List ℕ × List ℕ)
 
@@ -26,6 +28,7 @@ pub record Texts : Type 0 where
   pub ranks : Option (List ℕ)
   pub rows : Option (List ℕ)
   pub script : Option (List ℕ)
+  pub best_of : Option (List ℕ)
   pub query : Option (List ℕ)
   pub tables : Option (List (List ℕ))
 
@@ -35,6 +38,7 @@ texts_of rows = record {
   ranks = first_of (codes "ranks") rows;
   rows = first_of (codes "rows") rows;
   script = first_of (codes "script") rows;
+  best_of = first_of (codes "best-of") rows;
   query = first_of (codes "query") rows;
   tables = all_of (codes "tables") rows;
 }
@@ -45,7 +49,7 @@ run_texts texts = record texts { script = None }
 
 -- `plan` has no options: the engine is `part`, and the flags are not set
 abbrev pub plan_texts : Texts → Texts
-plan_texts texts = record texts { engine = Some (codes "part"); ranks = None; rows = None; script = None }
+plan_texts texts = record texts { engine = Some (codes "part"); ranks = None; rows = None; script = None; best_of = None }
 
 abbrev pub engine_of : Option (List ℕ) → Option Engine
 engine_of None = None
@@ -61,16 +65,16 @@ abbrev pub tables_of : Option (List (List ℕ)) → Option (List (List ℕ × Li
 tables_of None = None
 tables_of (Some words) = if are_pairs words && are_distinct (pairs_of words) then Some (pairs_of words) else None
 
-abbrev pub said : Bool → Bool → Option (List ℕ) → Option Engine → Option (List ℕ) → Option (List (List ℕ × List ℕ)) → Option WordsSaid
-said ranks rows script (Some engine) (Some query) (Some tables) =
-    Some (record { engine = engine; ranks = ranks; rows = rows; script = script; query = query; tables = tables })
-said ranks rows script (Some engine) (Some query) None = None
-said ranks rows script (Some engine) None tables = None
-said ranks rows script None query tables = None
+abbrev pub said : Bool → Bool → Option (List ℕ) → Option (List ℕ) → Option Engine → Option (List ℕ) → Option (List (List ℕ × List ℕ)) → Option WordsSaid
+said ranks rows script best_of (Some engine) (Some query) (Some tables) =
+    Some (record { engine = engine; ranks = ranks; rows = rows; script = script; best_of = best_of; query = query; tables = tables })
+said ranks rows script best_of (Some engine) (Some query) None = None
+said ranks rows script best_of (Some engine) None tables = None
+said ranks rows script best_of None query tables = None
 
 -- what the texts say, and none if they say nothing
 abbrev pub said_by : Texts → Option WordsSaid
-said_by texts = said (is_set texts.ranks) (is_set texts.rows) texts.script (engine_of texts.engine) texts.query (tables_of texts.tables)
+said_by texts = said (is_set texts.ranks) (is_set texts.rows) texts.script texts.best_of (engine_of texts.engine) texts.query (tables_of texts.tables)
 
 -- `session` has a script
 abbrev pub session_by : Texts → Option WordsSaid
@@ -96,6 +100,7 @@ seen_texts texts = record {
   ranks = option_map (λ s. s.now) texts.ranks;
   rows = option_map (λ s. s.now) texts.rows;
   script = option_map (λ s. s.now) texts.script;
+  best_of = option_map (λ s. s.now) texts.best_of;
   query = option_map (λ s. s.now) texts.query;
   tables = option_map (λ s. map (λ v. v.now) s.now) texts.tables;
 }
@@ -106,6 +111,7 @@ seen_words words = record {
   ranks = words.ranks;
   rows = words.rows;
   script = option_map string_bytes words.script;
+  best_of = option_map string_bytes words.best_of;
   query = string_bytes words.query;
   tables = map named_pair words.tables.items;
 }

@@ -3,7 +3,7 @@
 ghost use Rattle.std.specs.Prelude.{◌≡◌, false, IfOk};
 ghost use Rattle.clap.specs.Simple.{app_of, with_rule};
 ghost use Rattle.clap.specs.Walk.{rule_of};
-ghost use Rattle.cmd_words.specs.Arguments.{engine_rule, flag_rule, required_rule, query_rule, tables_rule, with_files, run_app, session_app, plan_app, load_app};
+ghost use Rattle.cmd_words.specs.Arguments.{engine_rule, flag_rule, option_rule, required_rule, query_rule, tables_rule, with_files, with_answers, run_app, session_app, plan_app, load_app};
 
 use clap::{Arg, ArgAction, Command as Parser};
 use std::alloc::{AllocError, Global};
@@ -24,6 +24,14 @@ fn flag<'a>(alloc: Global, name: &'a str) -> Arg<'a>
     ensures local { result.global ≡ false }
 {
     Arg::new(alloc, name).long(name).action(ArgAction::SetTrue)
+}
+
+// An option with a value.
+fn option<'a>(alloc: Global, name: &'a str) -> Arg<'a>
+    ensures rule { rule_of result ≡ option_rule name.entry.now }
+    ensures local { result.global ≡ false }
+{
+    Arg::new(alloc, name).long(name).action(ArgAction::Set)
 }
 
 // A required option with a value.
@@ -62,14 +70,22 @@ fn with_files<'a>(alloc: Global, command: Parser<'a>) -> Result<Parser<'a>, Allo
     command.arg(query(alloc))?.arg(tables(alloc))
 }
 
+// The command with the options that say which answers are printed, and how.
+fn with_answers<'a>(alloc: Global, command: Parser<'a>) -> Result<Parser<'a>, AllocError>
+    ensures { IfOk result (λ whole. app_of whole ≡ with_answers (app_of command.entry)) }
+{
+    command
+        .arg(engine(alloc))?
+        .arg(flag(alloc, "ranks"))?
+        .arg(flag(alloc, "rows"))?
+        .arg(option(alloc, "best-of"))
+}
+
 /// What `run` takes. `AllocError` if memory is refused.
 pub fn run_command<'a>(alloc: Global) -> Result<Parser<'a>, AllocError>
     ensures { IfOk result (λ command. app_of command ≡ run_app) }
 {
-    let options = Parser::new(alloc, "run")
-        .arg(engine(alloc))?
-        .arg(flag(alloc, "ranks"))?
-        .arg(flag(alloc, "rows"))?;
+    let options = with_answers(alloc, Parser::new(alloc, "run"))?;
     with_files(alloc, options)
 }
 
@@ -77,12 +93,8 @@ pub fn run_command<'a>(alloc: Global) -> Result<Parser<'a>, AllocError>
 pub fn session_command<'a>(alloc: Global) -> Result<Parser<'a>, AllocError>
     ensures { IfOk result (λ command. app_of command ≡ session_app) }
 {
-    let options = Parser::new(alloc, "session")
-        .arg(engine(alloc))?
-        .arg(flag(alloc, "ranks"))?
-        .arg(flag(alloc, "rows"))?
-        .arg(required(alloc, "script"))?;
-    with_files(alloc, options)
+    let answers = with_answers(alloc, Parser::new(alloc, "session"))?;
+    with_files(alloc, answers.arg(required(alloc, "script"))?)
 }
 
 /// What `plan` takes. `AllocError` if memory is refused.

@@ -22,6 +22,8 @@ pub struct Words {
     pub rows: bool,
     /// `--script`, which only `session` has.
     pub script: Option<String>,
+    /// The alias of `--best-of`, which only `run` and `session` have.
+    pub best_of: Option<String>,
     /// The file of the query.
     pub query: String,
     /// The tables in the order of the arguments; no two have the same name.

@@ -77,6 +77,7 @@ fn read_plan(alloc: Global, words: &[String]) -> Result<Words, WordsFault>
             ranks: None,
             rows: None,
             script: None,
+            best_of: None,
             query: texts.query,
             tables: texts.tables,
         },

@@ -21,6 +21,7 @@ pub struct Texts<'m, 'a> {
     pub ranks: Option<&'a str>,
     pub rows: Option<&'a str>,
     pub script: Option<&'a str>,
+    pub best_of: Option<&'a str>,
     pub query: Option<&'a str>,
     pub tables: Option<&'m [&'a str]>,
 }
@@ -34,6 +35,7 @@ pub fn texts_of<'m, 'a>(matches: &'m ArgMatches<'a>) -> Texts<'m, 'a>
         ranks: matches.get_str("ranks"),
         rows: matches.get_str("rows"),
         script: matches.get_str("script"),
+        best_of: matches.get_str("best-of"),
         query: matches.get_str("query"),
         tables: matches.get_strs("tables"),
     }
@@ -56,6 +58,7 @@ pub fn read_texts(alloc: Global, texts: Texts<'_, '_>) -> Result<Words, WordsFau
         ranks: is_set(texts.ranks),
         rows: is_set(texts.rows),
         script: owned(alloc, texts.script)?,
+        best_of: owned(alloc, texts.best_of)?,
         query: String::from_str(alloc, query)?,
         tables,
     })

@@ -7,11 +7,13 @@ ghost use Rattle.tdp_core.specs.Shares.{share_of, size_of};
 ghost use Rattle.tdp_core.specs.Solutions.{IsTreeRanking};
 ghost use Rattle.tdp_core.specs.TreeData.{row_count};
 ghost use Rattle.tdp_core.specs.WellFormed.{IsTieFreeTree};
+ghost use Rattle.tree_dp.specs.BestRanking.{IsBestRanking};
 ghost use Rattle.engine_choice.specs.Chosen.{calls_of, rest_of, tree_of};
 
 use crate::kind::EngineKind;
 use anyk_part::Part;
 use anyk_rec::Rec;
+use best_per::BestPer;
 use bumpalo::Bump;
 use rank_key::Rank;
 use std::alloc::Global;
@@ -19,11 +21,15 @@ use std::sync::ledger::Ledger;
 use step_counter::{NoMemory, Steps};
 use tdp_core::{Answer, Ranked, Tree};
 
-/// One of the two engines over a tree. What the engine by recursion finds is in an arena, which outlives it.
+/// One of the engines over a tree.
 #[derive(Drop)]
 pub enum ChosenEngine<'t, R: Rank> {
+    /// All answers, by regions.
     Part(Part<'t, R, Global>),
+    /// All answers, by recursion. What it finds is in an arena, which outlives it.
     Rec(Rec<'t, R, &'t Bump>),
+    /// The best answer of each row of the root.
+    Best(BestPer<'t, R, Global>),
 }
 
 /// Creates the named engine over `tree`, before its first answer. It takes at most 16 * m * (1 + N) steps for m nodes
@@ -53,6 +59,23 @@ pub fn choose_engine<'t, R: Rank, L: Ledger>(
     }
 }
 
+/// Creates the engine that gives the best answer of each row of the root of `tree`, before its first answer. It takes at
+/// most 16 * m * (1 + N) steps for m nodes with N rows in all, and returns `NoMemory` if memory is refused.
+pub fn best_engine<'t, R: Rank, L: Ledger>(
+    alloc: Global,
+    tree: &'t Tree<R>,
+    steps: &mut Steps<L>,
+) -> Result<ChosenEngine<'t, R>, NoMemory>
+    requires tie_free { IsTieFreeTree tree.now }
+    ensures tree { IfOk result (λ e. tree_of e ≡ tree.now) }
+    ensures calls { IfOk result (λ e. calls_of e ≡ 0) }
+    ensures best { IfOk result (λ e. (ks : List (KeyOf R.KEYS 16)) × IsBestRanking tree.now R.KEYS R.key ks × (rest_of R.KEYS R.key e ≡ answers_of R.KEYS ks)) }
+    ensures cost { steps.new ≤ steps.old + 16 * (length tree.now * (1 + row_count tree.now)) }
+{
+    let best = BestPer::new(alloc, tree, steps)?;
+    Ok(ChosenEngine::Best(best))
+}
+
 impl<'t, R: Rank> Ranked for ChosenEngine<'t, R> {
     type Key = R;
 
@@ -74,6 +97,7 @@ impl<'t, R: Rank> Ranked for ChosenEngine<'t, R> {
         match self {
             ChosenEngine::Part(part) => part.next(steps),
             ChosenEngine::Rec(rec) => rec.next(steps),
+            ChosenEngine::Best(best) => best.next(steps),
         }
     }
 }

@@ -9,18 +9,19 @@ use Rattle.query_bind.specs.Answers.{Tells}
 use Rattle.csv_tables.specs.declared.fault.TableFault.{TableFault}
 use Rattle.csv_tables.specs.Faults.{fault_of}
 use Rattle.csv_tables.specs.Faults as tables
+use Rattle.anyk_model.specs.Query.{Query}
 use Rattle.anyk_model.specs.Table.{Flaw, Table, no_header, too_many_columns, duplicate_name, too_many_rows, ragged}
 use Rattle.session_script.specs.declared.fault.ScriptFault.{ScriptFault}
 use Rattle.session_script.specs.declared.fault.ScriptFault.TheVariants as script
 use Rattle.session_script.specs.declared.step.Step.{Step}
 use Rattle.session_script.specs.Script.{Fails, steps_of}
 use Rattle.verdict.specs.Faults.{of_bind, of_flaw, of_parse, of_script}
-use Rattle.verdict.specs.Loading.{IsParse, Loaded, steps_said, told_steps}
+use Rattle.verdict.specs.Loading.{IsParse, steps_said, told_steps}
 use Rattle.verdict.specs.Stages.{Is, unless}
 use Rattle.verdict.specs.Staged.{Pure}
 use Rattle.input_load.specs.Entries.{table_after}
 use Rattle.input_load.specs.Limits.{IsWithinLimits}
-use Rattle.input_load.specs.Shown.{table_answer}
+use Rattle.input_load.specs.Shown.{table_reason}
 use Rattle.query_grammar.specs.Grammar.{IsItems, IsQuery, items, query}
 use Rattle.query_grammar.specs.Reading.{Clauses}
 use Rattle.query_grammar.specs.Lexeme.{Lexeme}
@@ -39,19 +40,19 @@ parse_refused bytes (parse.LimitRange at) h = (parse.LimitRange at, h, (λ e. cc
 parse_refused bytes parse.NoMemory h = tt
 
 -- the first fault of binding
-bind_fault_refused : (loaded : Loaded) (fault : BindFault) → Pure (Is (unless (Some (of_bind fault)) loaded)) (Err (of_bind fault))
-bind_fault_refused loaded (bind.DuplicateAlias item) = refl
-bind_fault_refused loaded (bind.UnknownAlias at) = refl
-bind_fault_refused loaded (bind.UnknownColumn at) = refl
-bind_fault_refused loaded (bind.Ambiguous at) = refl
-bind_fault_refused loaded (bind.BadWeight item row column) = refl
-bind_fault_refused loaded (bind.RankRange key) = refl
-bind_fault_refused loaded bind.NoMemory = tt
+bind_fault_refused : (bound : Query) (fault : BindFault) → Pure (Is (unless (Some (of_bind fault)) bound)) (Err (of_bind fault))
+bind_fault_refused bound (bind.DuplicateAlias item) = refl
+bind_fault_refused bound (bind.UnknownAlias at) = refl
+bind_fault_refused bound (bind.UnknownColumn at) = refl
+bind_fault_refused bound (bind.Ambiguous at) = refl
+bind_fault_refused bound (bind.BadWeight item row column) = refl
+bind_fault_refused bound (bind.RankRange key) = refl
+bind_fault_refused bound bind.NoMemory = tt
 
-pub bind_refused : (first : Option BindFault) (loaded : Loaded) (fault : BindFault) → Tells first fault
-    → Pure (Is (unless (option_map of_bind first) loaded)) (Err (of_bind fault))
-bind_refused first loaded fault (inl e) = rw e tt
-bind_refused first loaded fault (inr e) = rw e (bind_fault_refused loaded fault)
+pub bind_refused : (first : Option BindFault) (bound : Query) (fault : BindFault) → Tells first fault
+    → Pure (Is (unless (option_map of_bind first) bound)) (Err (of_bind fault))
+bind_refused first bound fault (inl e) = rw e tt
+bind_refused first bound fault (inr e) = rw e (bind_fault_refused bound fault)
 
 -- the first fault of a script
 pub script_told : (bytes : List ℕ) (steps : List Step) → steps_of bytes ≡ Ok steps → Pure (Is (steps_said bytes)) (Ok steps)
@@ -68,7 +69,7 @@ script_refused bytes (script.TooManyOpen line) (inr e) = sym (ap told_steps e)
 
 -- the first flaw of a table
 flaw_refused : (name : List ℕ) (old : List Table) (t : Table) (flaw : Flaw)
-    → Pure (Is (table_after old (unless (Some (of_flaw name flaw)) t))) (Err (table_answer name (fault_of flaw)))
+    → Pure (Is (table_after old (unless (Some (of_flaw name flaw)) t))) (Err (table_reason name (fault_of flaw)))
 flaw_refused name old t no_header = refl
 flaw_refused name old t too_many_columns = refl
 flaw_refused name old t (duplicate_name column) = refl
@@ -76,7 +77,7 @@ flaw_refused name old t too_many_rows = refl
 flaw_refused name old t (ragged row) = refl
 
 pub table_refused : (name : List ℕ) (old : List Table) (t : Table) (first : Option Flaw) (fault : TableFault) → tables.Tells first fault
-    → Pure (Is (table_after old (unless (option_map (of_flaw name) first) t))) (Err (table_answer name fault))
+    → Pure (Is (table_after old (unless (option_map (of_flaw name) first) t))) (Err (table_reason name fault))
 table_refused name old t first fault (inl e) = rw e tt
 table_refused name old t None fault (inr e) = cc
 table_refused name old t (Some flaw) fault (inr e) =

@@ -1,22 +1,22 @@
 -- One file, as reading it gives it.
 use Rattle.std.proofs.Common.{◌≡◌, ◌≤◌, ◌<◌, ℕ, List, Option, Some, None, Ok, Err, refl, sym, ◌∙◌, arith, ap}
 use Rattle.std.proofs.lemmas.Bool.Decides.{nat_tests}
-use Rattle.outer_io.specs.Counts.{Rose}
+use Rattle.outer_io.specs.Counts.{Rose, RoseAbove}
 use Rattle.outer_io.specs.Files.{Files, HasFile, LacksFile, IsNoShortFile}
 use Rattle.outer_io.specs.declared.reading.FileFault.{FileFault}
 use Rattle.outer_io.specs.declared.reading.FileFault.TheVariants as file
 use Rattle.std.specs.Prelude.{length}
-use Rattle.refusal_lines.specs.Answer as answer
-use Rattle.refusal_lines.specs.Answer.{Answer}
+use Rattle.refusal_lines.specs.Reason as reason
+use Rattle.refusal_lines.specs.Reason.{Reason}
 use Rattle.verdict.specs.Loading.{file_in, file_with, most_bytes, short_enough}
 use Rattle.verdict.specs.Staged.{Fits, Causes, Shelved, Staged}
 use Rattle.verdict.specs.Stages.{Is}
-use Rattle.input_load.specs.Shown.{file_answer}
+use Rattle.input_load.specs.Shown.{file_reason}
 
-short_bytes : (name bytes : List ℕ) → length bytes ≤ most_bytes → short_enough name bytes ≡ Ok bytes
+pub short_bytes : (name bytes : List ℕ) → length bytes ≤ most_bytes → short_enough name bytes ≡ Ok bytes
 short_bytes name bytes h = grind (arith, nat_tests)
 
-long_bytes : (name bytes : List ℕ) → most_bytes < length bytes → short_enough name bytes ≡ Err (answer.TooLarge name)
+long_bytes : (name bytes : List ℕ) → most_bytes < length bytes → short_enough name bytes ≡ Err (reason.TooLarge name)
 long_bytes name bytes h = grind (arith, nat_tests)
 
 -- a file that was read whole
@@ -27,7 +27,7 @@ loaded_fits (Some files) name bytes h short = sym (ap (file_with name) (sym h.0)
 
 -- a file that was not read whole
 refused_fits : (told : Option Files) (name : List ℕ) (fault : FileFault) → (fault ≡ file.Missing → LacksFile told name) → (fault ≡ file.TooLarge → IsNoShortFile most_bytes told name)
-    → Fits {A = List ℕ} (λ files. Is (file_in files name)) (λ files other. other ≡ name) told (Err (file_answer name fault))
+    → Fits {A = List ℕ} (λ files. Is (file_in files name)) (λ files other. other ≡ name) told (Err (file_reason name fault))
 refused_fits None name file.Missing lacks long = tt
 refused_fits None name file.Failed lacks long = tt
 refused_fits None name file.TooLarge lacks long = tt
@@ -39,20 +39,22 @@ refused_fits (Some files) name file.TooLarge lacks long =
 refused_fits (Some files) name file.NoMemory lacks long = tt
 
 refused_cause : (old new : Shelved) (name : List ℕ) (fault : FileFault) → (fault ≡ file.Missing → Rose old.misses new.misses) → (fault ≡ file.Failed → Rose old.faults new.faults)
-    → Causes {A = List ℕ} old new (Err (file_answer name fault))
-refused_cause old new name file.Missing missing failed = missing refl
-refused_cause old new name file.Failed missing failed = failed refl
-refused_cause old new name file.TooLarge missing failed = tt
-refused_cause old new name file.NoMemory missing failed = tt
+    → (fault ≡ file.TooLarge → RoseAbove most_bytes old.taken new.taken) → Causes {A = List ℕ} old new (Err (file_reason name fault))
+refused_cause old new name file.Missing missing failed too_large = missing refl
+refused_cause old new name file.Failed missing failed too_large = failed refl
+refused_cause old new name file.TooLarge missing failed too_large = too_large refl
+refused_cause old new name file.NoMemory missing failed too_large = tt
 
 pub refused_load : (old new : Shelved) (name : List ℕ) (fault : FileFault) → (fault ≡ file.Missing → LacksFile old.files name) → (fault ≡ file.TooLarge → IsNoShortFile most_bytes old.files name)
     → (fault ≡ file.Missing → Rose old.misses new.misses) → (fault ≡ file.Failed → Rose old.faults new.faults)
-    → new.files ≡ old.files → old.misses ≤ new.misses → old.faults ≤ new.faults
-    → Staged (λ files. Is (file_in files name)) (λ files other. other ≡ name) old new (Err (file_answer name fault))
-refused_load old new name fault lacks long missing failed same misses faults = record {
+    → (fault ≡ file.TooLarge → RoseAbove most_bytes old.taken new.taken)
+    → new.files ≡ old.files → old.misses ≤ new.misses → old.faults ≤ new.faults → old.taken ≤ new.taken
+    → Staged (λ files. Is (file_in files name)) (λ files other. other ≡ name) old new (Err (file_reason name fault))
+refused_load old new name fault lacks long missing failed too_large same misses faults taken = record {
   fits = refused_fits old.files name fault lacks long;
-  caused = refused_cause old new name fault missing failed;
+  caused = refused_cause old new name fault missing failed too_large;
   files = same;
   misses = misses;
   faults = faults;
+  taken = taken;
 }

@@ -10,7 +10,7 @@ use Rattle.cmd_words.specs.declared.pairs.Named.{Named}
 use Rattle.cmd_words.specs.NamedPairs.{named_pair}
 use Rattle.outer_io.specs.Files.{bytes_of}
 use Rattle.query_grammar.specs.declared.select.ItemRef.{ItemRef}
-use Rattle.refusal_lines.specs.Answer.{UnknownTable}
+use Rattle.refusal_lines.specs.Reason.{UnknownTable}
 use Rattle.verdict.specs.Loading.{first_uses, first_uses_after, table_names, table_numbers, unknown_table, unknown_with}
 use Rattle.input_load.specs.Entries.{IsEntryOf, tables_of}
 

@@ -4,7 +4,7 @@ use Rattle.std.proofs.lemmas.List.{append_assoc, append-nil, drop_all, drop_more
 use Rattle.outer_io.specs.Files.{Files}
 use Rattle.anyk_model.specs.Table.{Table}
 use Rattle.rankings.specs.Order.{IsMember}
-use Rattle.refusal_lines.specs.Answer.{Answer}
+use Rattle.refusal_lines.specs.Reason.{Reason}
 use Rattle.verdict.specs.Loading.{file_in, files_read, go_on, known_file, sound_table, table_in, tables_in}
 use Rattle.verdict.specs.Staged.{Fits, Pure, Shelved, Staged, NoTurn}
 use Rattle.verdict.specs.Stages.{Is, then_by}
@@ -21,32 +21,32 @@ module _ (named : List (List ℕ × List ℕ)) (entry : List ℕ × List ℕ) (i
   read-is files = sym (ap (λ (name : List ℕ). table_after tables (then_by (file_in files name) (sound_table entry.0))) its-file)
 
   -- its file is refused
-  pub file-refused : (old new : Shelved) (e : Answer) → Staged (λ files. Is (file_in files entry.1)) (λ files file. file ≡ entry.1) old new (Err e)
+  pub file-refused : (old new : Shelved) (e : Reason) → Staged (λ files. Is (file_in files entry.1)) (λ files file. file ≡ entry.1) old new (Err e)
       → Staged (λ files. Is (table_after tables (table_in files named entry.0))) (λ files file. file ≡ entry.1) old new (Err e)
   file-refused old new e =
       refusal_within (λ files. Is (file_in files entry.1)) (λ files file. file ≡ entry.1)
       (λ files. Is (table_after tables (table_in files named entry.0))) (λ files file. file ≡ entry.1) old new e
-      (λ files h. ap (λ (r : Result (List ℕ) Answer). table_after tables (then_by r (sound_table entry.0))) h ∙ read-is files)
+      (λ files h. ap (λ (r : Result (List ℕ) Reason). table_after tables (then_by r (sound_table entry.0))) h ∙ read-is files)
       (λ files file h. h)
 
   -- its file is read, and then its records
-  pub file-read : (old new : Shelved) (bytes : List ℕ) (r : Result (List Table) Answer) → Staged (λ files. Is (file_in files entry.1)) (λ files file. file ≡ entry.1) old new (Ok bytes)
+  pub file-read : (old new : Shelved) (bytes : List ℕ) (r : Result (List Table) Reason) → Staged (λ files. Is (file_in files entry.1)) (λ files file. file ≡ entry.1) old new (Ok bytes)
       → Pure (Is (table_after tables (sound_table entry.0 bytes))) r
       → Staged (λ files. Is (table_after tables (table_in files named entry.0))) (λ files file. file ≡ entry.1) old new r
   file-read old new bytes r s h =
       found_within (λ files. Is (file_in files entry.1)) (λ files file. file ≡ entry.1) (λ files. Is (table_after tables (sound_table entry.0 bytes))) NoTurn
       (λ files. Is (table_after tables (table_in files named entry.0))) (λ files file. file ≡ entry.1) old new new bytes r
-      (λ files file_is result_is. result_is ∙ ap (λ (f : Result (List ℕ) Answer). table_after tables (then_by f (sound_table entry.0))) file_is ∙ read-is files)
+      (λ files file_is result_is. result_is ∙ ap (λ (f : Result (List ℕ) Reason). table_after tables (then_by f (sound_table entry.0))) file_is ∙ read-is files)
       (λ files name file_is no_turn. absurd no_turn) s (pure_staged (Is (table_after tables (sound_table entry.0 bytes))) new r h)
 
 -- ---- one table after another
 
 -- the tables that come after others
-abbrev behind : List Table → Result (List Table) Answer → Result (List Table) Answer
+abbrev behind : List Table → Result (List Table) Reason → Result (List Table) Reason
 behind tables r = then_by r (λ later. Ok (tables ++ later))
 
 -- the tables up to i are these: with those that are left to read they are the whole
-abbrev pub IsReached : List (List ℕ × List ℕ) → List (List ℕ × List ℕ) → ℕ → Files → Result (List Table) Answer → Type 0
+abbrev pub IsReached : List (List ℕ × List ℕ) → List (List ℕ × List ℕ) → ℕ → Files → Result (List Table) Reason → Type 0
 IsReached named all i files (Ok tables) =
     (behind tables (tables_in files named (tables_of (drop i all))) ≡ tables_in files named (tables_of all))
     × ((file : List ℕ) → IsMember file (files_read files named (tables_of (drop i all))) → IsMember file (files_read files named (tables_of all)))
@@ -57,12 +57,12 @@ module _ (named all : List (List ℕ × List ℕ)) (i : ℕ) (entry : List ℕ �
   left : drop i all ≡ entry ∷ drop (i + 1) all
   left = drop_more all i entry inside ∙ ap (λ (x : List ℕ × List ℕ). x ∷ drop (i + 1) all) (sym is)
 
-  step-by : (later : Result (List Table) Answer) (t : Table)
+  step-by : (later : Result (List Table) Reason) (t : Table)
       → behind tables (then_by later (λ tables. Ok (t ∷ tables))) ≡ behind (tables ++ t ∷ []) later
   step-by (Ok later) t = ap Ok (sym (append_assoc tables (t ∷ []) later))
   step-by (Err e) t = refl
 
-  abbrev later_in : Files → Result (List Table) Answer
+  abbrev later_in : Files → Result (List Table) Reason
   later_in files = tables_in files named (tables_of (drop (i + 1) all))
 
   here-is : (files : Files) → tables_in files named (tables_of (drop i all)) ≡ then_by (table_in files named entry.0) (λ t. then_by (later_in files) (λ tables. Ok (t ∷ tables)))
@@ -76,25 +76,25 @@ module _ (named all : List (List ℕ × List ℕ)) (i : ℕ) (entry : List ℕ �
       → IsReached named all i files (Ok tables) → IsReached named all (i + 1) files (Ok new)
   after-ok files new e h = by (table_in files named entry.0) refl e
     where
-      by : (r : Result Table Answer) → table_in files named entry.0 ≡ r → Ok new ≡ table_after tables r → IsReached named all (i + 1) files (Ok new)
+      by : (r : Result Table Reason) → table_in files named entry.0 ≡ r → Ok new ≡ table_after tables r → IsReached named all (i + 1) files (Ok new)
       by (Err x) found e = cc
       by (Ok t) found e =
           let is_new : new ≡ tables ++ t ∷ [] = cc in (
             ap (λ (l : List Table). behind l (later_in files)) is_new ∙ sym (step-by (later_in files) t)
-                ∙ sym (ap (behind tables) (here-is files ∙ ap (λ (r : Result Table Answer). then_by r (λ t. then_by (later_in files) (λ tables. Ok (t ∷ tables)))) found)) ∙ h.0,
+                ∙ sym (ap (behind tables) (here-is files ∙ ap (λ (r : Result Table Reason). then_by r (λ t. then_by (later_in files) (λ tables. Ok (t ∷ tables)))) found)) ∙ h.0,
             λ file m. h.1 file (let P : List (List ℕ) → Type 0 = IsMember file in
-                subst P (sym (read-here files ∙ ap (λ (r : Result Table Answer). known_file named entry.0 ∷ go_on r (files_read files named (tables_of (drop (i + 1) all)))) found)) (inr m)),
+                subst P (sym (read-here files ∙ ap (λ (r : Result Table Reason). known_file named entry.0 ∷ go_on r (files_read files named (tables_of (drop (i + 1) all)))) found)) (inr m)),
           )
 
-  after-err : (files : Files) (e : Answer) → Err e ≡ table_after tables (table_in files named entry.0)
+  after-err : (files : Files) (e : Reason) → Err e ≡ table_after tables (table_in files named entry.0)
       → IsReached named all i files (Ok tables) → Is (tables_in files named (tables_of all)) (Err e)
   after-err files e h reached = by (table_in files named entry.0) refl h
     where
-      by : (r : Result Table Answer) → table_in files named entry.0 ≡ r → Err e ≡ table_after tables r → Is (tables_in files named (tables_of all)) (Err e)
+      by : (r : Result Table Reason) → table_in files named entry.0 ≡ r → Err e ≡ table_after tables r → Is (tables_in files named (tables_of all)) (Err e)
       by (Ok t) found h = cc
       by (Err x) found h =
           let same : e ≡ x = cc in
-          ap Err same ∙ sym (ap (behind tables) (here-is files ∙ ap (λ (r : Result Table Answer). then_by r (λ t. then_by (later_in files) (λ tables. Ok (t ∷ tables)))) found)) ∙ reached.0
+          ap Err same ∙ sym (ap (behind tables) (here-is files ∙ ap (λ (r : Result Table Reason). then_by r (λ t. then_by (later_in files) (λ tables. Ok (t ∷ tables)))) found)) ∙ reached.0
 
   turn-here : (files : Files) (file : List ℕ) → IsReached named all i files (Ok tables) → file ≡ entry.1 → IsMember file (files_read files named (tables_of all))
   turn-here files file reached same =
@@ -113,7 +113,7 @@ module _ (named all : List (List ℕ × List ℕ)) (i : ℕ) (entry : List ℕ �
       (λ files reached e. after-ok files tables' e reached) (λ files file reached same. turn-here files file reached same)
 
   -- one table is refused
-  pub reached-refused : (old mid new : Shelved) (e : Answer)
+  pub reached-refused : (old mid new : Shelved) (e : Reason)
       → Staged (IsReached named all i) (λ files file. IsMember file (files_read files named (tables_of all))) old mid (Ok tables)
       → Staged (λ files. Is (table_after tables (table_in files named entry.0))) (λ files file. file ≡ entry.1) mid new (Err e)
       → Staged (λ files. Is (tables_in files named (tables_of all))) (λ files file. IsMember file (files_read files named (tables_of all))) old new (Err e)
@@ -143,12 +143,13 @@ reached-none named all s = record {
   files = refl;
   misses = omega arith;
   faults = omega arith;
+  taken = omega arith;
 }
   where
     none : (files : Files) → behind [] (tables_in files named (tables_of all)) ≡ tables_in files named (tables_of all)
     none files = by_result (tables_in files named (tables_of all))
       where
-        by_result : (r : Result (List Table) Answer) → behind [] r ≡ r
+        by_result : (r : Result (List Table) Reason) → behind [] r ≡ r
         by_result (Ok tables) = refl
         by_result (Err e) = refl
 

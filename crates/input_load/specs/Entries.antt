@@ -2,7 +2,7 @@
 use Rattle.std.specs.Prelude.{◌≡◌, ℕ, List, [], ◌∷◌, ◌++◌, map, Some, Result, Ok, Err}
 use Rattle.outer_io.specs.Files.{bytes_of}
 use Rattle.anyk_model.specs.Table.{Table}
-use Rattle.refusal_lines.specs.Answer.{Answer}
+use Rattle.refusal_lines.specs.Reason.{Reason}
 
 -- the pair is the first of these that names its table
 abbrev pub IsEntryOf : List (List ℕ × List ℕ) → List ℕ × List ℕ → Type 0
@@ -12,6 +12,6 @@ abbrev pub tables_of : List (List ℕ × List ℕ) → List (List ℕ)
 tables_of entries = map (λ (entry : List ℕ × List ℕ). entry.0) entries
 
 -- these tables and one more after them, if it was read
-abbrev pub table_after : List Table → Result Table Answer → Result (List Table) Answer
+abbrev pub table_after : List Table → Result Table Reason → Result (List Table) Reason
 table_after tables (Ok table) = Ok (tables ++ table ∷ [])
-table_after tables (Err answer) = Err answer
+table_after tables (Err reason) = Err reason

@@ -3,8 +3,8 @@ ghost use Rattle.std.specs.Prelude.{◌≡◌, ◌≤◌, IfOk, length};
 ghost use Rattle.verdict.specs.Loading.{file_in};
 ghost use Rattle.verdict.specs.Stages.{Is};
 ghost use Rattle.verdict.specs.Staged.{Staged, shelved};
-ghost use Rattle.refusal_lines.specs.Refused.{answer_of};
-ghost use Rattle.input_load.specs.Shown.{file_answer, shown_bytes};
+ghost use Rattle.refusal_lines.specs.Refused.{reason_of};
+ghost use Rattle.input_load.specs.Shown.{file_reason, shown_bytes};
 
 use outer_io::{FileFault, Shelf, read_file};
 use refusal_lines::Refusal;
@@ -28,7 +28,7 @@ pub(crate) fn load<'a, F: Shelf>(
 }
 
 fn file_refusal<'a>(fault: FileFault, name: &'a str) -> Refusal<'a>
-    ensures { answer_of result ≡ file_answer name.now fault }
+    ensures { reason_of result ≡ file_reason name.now fault }
 {
     match fault {
         FileFault::Missing => Refusal::NoFile(name),

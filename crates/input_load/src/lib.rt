@@ -1,6 +1,7 @@
 //! The input of a command. Refusals are looked for in this order: the query file, the script, a
-//! table that no word names, each table in the order of its first use, and the query bound to its
-//! tables. The files are those of a shelf, or they are made from a number.
+//! table that no word names, each table in the order of its first use, the query bound to its
+//! tables, and the item whose alias is named. The files are those of a shelf, or they are made from
+//! a number.
 #![tactic(auto)]
 
 mod binding;
@@ -10,6 +11,7 @@ mod input;
 mod made;
 mod query;
 mod script;
+mod sought;
 mod tables;
 mod uses;
 
@@ -17,3 +19,4 @@ pub use binding::Input;
 pub use generated::MadeTables;
 pub use input::load_input;
 pub use made::load_made;
+pub use sought::Sought;

@@ -1,15 +1,16 @@
 //! An input that is made from a number.
-ghost use Rattle.std.specs.Prelude.{◌≡◌, IfOk, None, map};
-ghost use Rattle.make_input.specs.Input.{query_file, table_files};
+ghost use Rattle.std.specs.Prelude.{◌≡◌, IfOk, map};
 ghost use Rattle.outer_io.specs.Entries.{entry_of};
 ghost use Rattle.verdict.specs.Made.{made_files};
 ghost use Rattle.verdict.specs.Staged.{Pure};
 ghost use Rattle.verdict.specs.Verdict.{IsLoadedOn};
+ghost use Rattle.verdict.specs.Words.{load, sought_by};
 ghost use Rattle.input_load.specs.Shown.{shown_input};
 
 use crate::binding::Input;
 use crate::generated::MadeTables;
 use crate::input::load_input;
+use crate::sought::Sought;
 use hash_keys::Keys;
 use make_input::{query_of, tables_of};
 use outer_io::{MemFile, PureShelf};
@@ -20,18 +21,17 @@ use step_counter::NoMemory;
 /// The input of the query over the tables that are made, or its first refusal. No file is read. The
 /// tables are the program's own, so that they are hashed with known keys.
 pub fn load_made<'a>(alloc: Global, made: &'a MadeTables) -> Result<Input, Refusal<'a>>
-    ensures { let files = made_files made.now.number made.now.rows in
-        Pure (IsLoadedOn query_file None table_files files) (shown_input result) }
+    ensures { let asked = sought_by (load made.now.number made.now.rows) in
+        Pure (IsLoadedOn asked (made_files made.now.number made.now.rows)) (shown_input result) }
 {
     let mut shelf = PureShelf::new(made_shelf(alloc, made)?);
-    load_input(
-        alloc,
-        "load.sql",
-        None,
-        made.named.as_slice(),
-        &mut shelf,
-        Keys::Known,
-    )
+    let sought = Sought {
+        query: "load.sql",
+        script: None,
+        named: made.named.as_slice(),
+        best_of: None,
+    };
+    load_input(alloc, &sought, &mut shelf, Keys::Known)
 }
 
 // The file of the query and the files of the tables, in memory.

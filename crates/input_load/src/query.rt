@@ -1,6 +1,6 @@
 //! The query of the query file.
 ghost use Rattle.std.specs.Prelude.{◌≡◌, IfOk};
-ghost use Rattle.refusal_lines.specs.Refused.{answer_of};
+ghost use Rattle.refusal_lines.specs.Refused.{reason_of};
 ghost use Rattle.verdict.specs.Faults.{of_parse};
 ghost use Rattle.verdict.specs.Loading.{IsParse};
 ghost use Rattle.verdict.specs.Staged.{Pure};
@@ -25,7 +25,7 @@ pub(crate) fn parse_query<'a>(alloc: Global, bytes: &[u8]) -> Result<Select, Ref
 }
 
 fn parse_refusal<'a>(fault: ParseFault) -> Refusal<'a>
-    ensures { answer_of result ≡ of_parse fault }
+    ensures { reason_of result ≡ of_parse fault }
 {
     match fault {
         ParseFault::TooLong => Refusal::TooLong,

@@ -1,6 +1,6 @@
 //! The script, if there is one.
 ghost use Rattle.std.specs.Prelude.{◌≡◌, [], IfOk, Some, option_map};
-ghost use Rattle.refusal_lines.specs.Refused.{answer_of};
+ghost use Rattle.refusal_lines.specs.Refused.{reason_of};
 ghost use Rattle.session_script.specs.Script.{KeepsRules};
 ghost use Rattle.verdict.specs.Faults.{of_script};
 ghost use Rattle.verdict.specs.Loading.{steps_in, steps_said};
@@ -45,7 +45,7 @@ fn script_steps<'a>(alloc: Global, bytes: &[u8]) -> Result<Vec<Step>, Refusal<'a
 }
 
 fn script_refusal<'a>(fault: ScriptFault) -> Refusal<'a>
-    ensures { answer_of result ≡ of_script fault }
+    ensures { reason_of result ≡ of_script fault }
 {
     match fault {
         ScriptFault::TooManyLines => Refusal::TooManyLines,

@@ -4,12 +4,12 @@ ghost use Rattle.std.specs.List.{AllByRecursion};
 ghost use Rattle.std.specs.String.{string_bytes};
 ghost use Rattle.cmd_words.specs.NamedPairs.{named_pair};
 ghost use Rattle.rankings.specs.Order.{IsMember};
-ghost use Rattle.refusal_lines.specs.Refused.{answer_of};
+ghost use Rattle.refusal_lines.specs.Refused.{reason_of};
 ghost use Rattle.verdict.specs.Loading.{files_read, sound_table, table_in, tables_in};
 ghost use Rattle.verdict.specs.Stages.{Is};
 ghost use Rattle.verdict.specs.Staged.{Pure, Staged, shelved};
 ghost use Rattle.input_load.specs.Entries.{IsEntryOf, table_after, tables_of};
-ghost use Rattle.input_load.specs.Shown.{said_as, shown_tables, table_answer};
+ghost use Rattle.input_load.specs.Shown.{said_as, shown_tables, table_reason};
 
 use crate::file::load;
 use cmd_words::Named;
@@ -74,7 +74,7 @@ fn add_table<'a>(name: &'a [u8], bytes: &[u8], tables: &mut Tables) -> Result<()
 }
 
 fn table_refusal<'a>(table: &'a [u8], fault: TableFault) -> Refusal<'a>
-    ensures { answer_of result ≡ table_answer table.now fault }
+    ensures { reason_of result ≡ table_reason table.now fault }
 {
     match fault {
         TableFault::NoHeader => Refusal::NoHeader(table),

@@ -2,7 +2,10 @@ pub mod TreeSolutions
 pub mod PlanOf
 pub mod Sizes
 pub mod ShapeOf
+pub mod Filled
+pub mod Reordered
 pub mod Planned
+pub mod Rooted
 pub mod WitnessSums
 pub mod WitnessKeys
 pub mod WitnessTrees

@@ -9,7 +9,7 @@ use Rattle.query_bind.specs.Weighed.{BoundQuery}
 use Rattle.join_tree.specs.Rerooting.{IsTree}
 use Rattle.query_shape.specs.Shape.{Shape}
 use Rattle.query_shape.specs.Shown.{HasItems}
-use Rattle.plan_build.specs.Plan.{IsPlan, PlanData, shape_of}
+use Rattle.plan_build.specs.Plan.{IsPlanFor, PlanData, shape_of}
 
 map-same : (ns : List ℕ) → map (λ (n : ℕ). n) ns ≡ ns
 map-same [] = sym (append-nil [])
@@ -27,7 +27,7 @@ lines-more line n old new so_far one =
     one ∙ ap (λ (l : List ℕ). l ++ line n) so_far ∙ ap (λ (l : List ℕ). flat_map line (range_with_len 0 n) ++ l) (sym (append-nil (line n)))
     ∙ sym (flat_map-append line (range_with_len 0 n) (n ∷ [])) ∙ ap (flat_map line) (sym (range-more n))
 
-module _ {R : Type 0} (d : ℕ) (key : R → KeyOf d 16) (bound : BoundQuery) (tables : List Table) (plan : PlanData R) (is : IsPlan d key bound tables plan) where
+module _ {R : Type 0} (d : ℕ) (key : R → KeyOf d 16) (bound : BoundQuery) (tables : List Table) (plan : PlanData R) (is : IsPlanFor d key bound tables plan) where
   pub nodes-counted : length (shape_of plan).atoms ≡ plan.join.count
   nodes-counted = ap (λ (s : Shape). length s.atoms) (sym is.shown) ∙ is.is_shape.0.hung.join_tree.nodes ∙ is.is_shape.0.hung.of_query.atoms ∙ sym is.count
 

@@ -8,7 +8,7 @@ use Rattle.query_bind.specs.Weighed.{BoundQuery}
 use Rattle.query_shape.specs.Shape.{Flaw, IsShape, Shape}
 use Rattle.query_shape.proofs.OneShape.{one_shape}
 use Rattle.step_bounds.specs.Bounded.{total_of}
-use Rattle.plan_build.specs.Plan.{IsPlan, PlanData, shape_of}
+use Rattle.plan_build.specs.Plan.{IsPlanFor, PlanData, shape_of}
 
 -- a query has one shape
 pub shape-is : (query : Query) (tables : List Table) (x y : Shape) → IsShape query tables (Ok x) → IsShape query tables (Ok y) → x ≡ y
@@ -18,7 +18,7 @@ shape-is query tables x y a b = let e = one_shape query tables (Ok x) (Ok y) a b
 pub has-no-flaw : {A : Type 0} (query : Query) (tables : List Table) (x : Shape) (flaw : Flaw) → IsShape query tables (Ok x) → IsShape query tables (Err flaw) → A
 has-no-flaw query tables x flaw a b = let e = one_shape query tables (Ok x) (Err flaw) a b in cc
 
-module _ {R : Type 0} (d : ℕ) (key : R → KeyOf d 16) (bound : BoundQuery) (tables : List Table) (plan : PlanData R) (is : IsPlan d key bound tables plan) where
+module _ {R : Type 0} (d : ℕ) (key : R → KeyOf d 16) (bound : BoundQuery) (tables : List Table) (plan : PlanData R) (is : IsPlanFor d key bound tables plan) where
   -- the shape that the plan keeps is the query's
   pub plan-shape : IsShape bound.query tables (Ok (shape_of plan))
   plan-shape = subst (λ (s : Shape). IsShape bound.query tables (Ok s)) is.shown is.is_shape

@@ -47,15 +47,15 @@ module _ (bound : BoundQuery) (tables : List Table) (join : JoinTree) (stored : 
         (record { rows = slice_index_or node_rows k []; ascending = node.ascending; members = node.members; counted = sym long });
   }
 
-  pub rows-of-built : {R : Type 0} (d : ℕ) (key : R → KeyOf d 16) (raw : RawData R) → IsBuilt bound tables d key join raw → length raw.rows ≡ length raw.shapes
-      → AreRowsOfNodes bound tables join (numbers_of raw)
-  rows-of-built d key raw built each_node = record {
-    count = length-map raw.rows (map (λ x. x.row.row)) ∙ each_node ∙ built.nodes;
-    each = λ v l.
-        let inside : v < length raw.rows = (let n = built.nodes in omega (arith, l, each_node, n)) in
-        let same : slice_index_or (numbers_of raw) v [] ≡ map (λ x. x.row.row) (rows_at raw v) = get_or-map (map (λ x. x.row.row)) raw.rows v [] [] inside in
-        subst (AreNodeRows bound.query tables (item_of join v)) (sym same) (built.rows v l);
-  }
+pub rows-of-built : (bound : BoundQuery) (tables : List Table) (join : JoinTree) {R : Type 0} (d : ℕ) (key : R → KeyOf d 16) (raw : RawData R)
+    → IsBuilt bound tables d key join raw → length raw.rows ≡ length raw.shapes → AreRowsOfNodes bound tables join (numbers_of raw)
+rows-of-built bound tables join d key raw built each_node = record {
+  count = length-map raw.rows (map (λ x. x.row.row)) ∙ each_node ∙ built.nodes;
+  each = λ v l.
+      let inside : v < length raw.rows = (let n = built.nodes in omega (arith, l, each_node, n)) in
+      let same : slice_index_or (numbers_of raw) v [] ≡ map (λ x. x.row.row) (rows_at raw v) = get_or-map (map (λ x. x.row.row)) raw.rows v [] [] inside in
+      subst (AreNodeRows bound.query tables (item_of join v)) (sym same) (built.rows v l);
+}
 
 -- ---- the number of rows that stay
 

@@ -59,7 +59,7 @@ module _ (query : Query) (join : JoinTree) (tree : IsJoinTreeOf query join) wher
       let inside = k.1 in (k.0, omega (arith, inside, c), k.2)
 
   -- the nodes' items are the items, each once
-  items-ordered : IsOrderOf (length query.items) (item_of join)
+  pub items-ordered : IsOrderOf (length query.items) (item_of join)
   items-ordered =
       let c = length-atoms in
       let g = tree.of_query.atoms in

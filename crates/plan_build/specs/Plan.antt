@@ -1,5 +1,5 @@
 -- The plan of a query: the tree problem whose solutions are the query's witnesses.
-use Rattle.std.specs.Prelude.{◌≡◌, ◌↔◌, ◌⊎◌, ℕ, ◌<◌, ◌≤◌, List, Contains, map, length, slice_index, take, Ok, Err}
+use Rattle.std.specs.Prelude.{◌≡◌, ◌↔◌, ◌⊎◌, ℕ, ◌<◌, ◌≤◌, List, Contains, map, length, slice_index, take, Ok, Err, Option, None, Some}
 use Rattle.rankings.specs.Order.{IsAscending, IsMember}
 use Rattle.tdp_model.specs.KeyTuple.{KeyOf}
 use Rattle.tdp_core.specs.TreeData.{NodeData, group, item, node_at, number, parent, row_count, rows}
@@ -11,11 +11,11 @@ use Rattle.anyk_model.specs.Ranking.{ranking_of}
 use Rattle.query_bind.specs.Classes.{Passes}
 use Rattle.query_bind.specs.Parts.{sum_of_all}
 use Rattle.query_bind.specs.Weighed.{BoundQuery}
-use Rattle.join_tree.specs.Rerooting.{IsTree}
+use Rattle.join_tree.specs.Rerooting.{IsSameTree, IsTree}
 use Rattle.join_tree.specs.declared.tree.JoinTree.{JoinTree}
 use Rattle.query_shape.specs.Shape.{IsShape, Shape, cyclic, too_many_rows}
 use Rattle.query_shape.specs.Shown.{HasItems}
-use Rattle.node_build.specs.Nodes.{RowsAgree, RowsAlike}
+use Rattle.node_build.specs.Nodes.{IsJoinTreeOf, RowsAgree, RowsAlike}
 use Rattle.semi_join.specs.Reduced.{ShareGroup}
 use Rattle.hyper_graph.specs.Items.{items_of}
 use Rattle.step_bounds.specs.Bounded.{total_of}
@@ -74,8 +74,10 @@ module _ (bound : BoundQuery) (tables : List Table) {R : Type 0} (tree : List (N
     pub named : (v r i : ℕ) → 0 < v → v < length tree → r < rows tree (parent tree v)
         → Contains (group tree v r) i ↔ ((i < rows tree v) × RowsAgree bound tables (item tree v) (item tree (parent tree v)) (number tree v i) (number tree (parent tree v) r))
 
--- the plan of the query over these tables
-pub record IsPlan {R : Type 0} (d : ℕ) (key : R → KeyOf d 16) (bound : BoundQuery) (tables : List Table) (plan : PlanData R) : Type 0 where
+-- a tree of rows for the query over these tables, with the shape of the query: what all its plans have
+pub record IsPlanFor {R : Type 0} (d : ℕ) (key : R → KeyOf d 16) (bound : BoundQuery) (tables : List Table) (plan : PlanData R) : Type 0 where
+  -- the ranks have room for the order keys
+  pub keys : length bound.query.order ≤ d
   pub shape : Shape
   pub is_shape : IsShape bound.query tables (Ok shape)
   pub shown : shape ≡ shape_of plan
@@ -84,16 +86,36 @@ pub record IsPlan {R : Type 0} (d : ℕ) (key : R → KeyOf d 16) (bound : Bound
   pub count : plan.join.count ≡ length bound.query.items
   pub ordered : IsTree plan.join.count plan.join.atom plan.join.parent
   pub atoms : HasItems plan.join.count plan.join.atom (length bound.query.items)
-  -- the nodes are those of the join tree
+  -- the tree has one node for each item
   pub nodes : length plan.tree ≡ length bound.query.items
-  pub items : (v : ℕ) → v < length plan.tree → item plan.tree v ≡ slice_index shape.atoms v
-  pub parents : (v : ℕ) → v < length plan.tree → parent plan.tree v ≡ slice_index shape.parents v
   pub fewer : row_count plan.tree ≤ sum_of_all shape.node_rows
   pub reduced : HasReducedRows bound tables plan.tree
   pub witnesses : HasWitnesses d key bound.query tables plan.tree
   pub tie_free : IsTieFreeTree plan.tree
   -- the ranking of the tree is that of the witnesses
   pub ranking : (ks : List (KeyOf d 16)) → IsTreeRanking plan.tree d key ks → ks ≡ map (witness_key d bound.query tables) (ranking_of bound.query tables)
+
+-- the plan of the query over these tables: the nodes of its tree are those of the join tree
+pub record IsPlan {R : Type 0} (d : ℕ) (key : R → KeyOf d 16) (bound : BoundQuery) (tables : List Table) (plan : PlanData R) : Type 0 where
+  pub whole : IsPlanFor d key bound tables plan
+  pub items : (v : ℕ) → v < length plan.tree → item plan.tree v ≡ slice_index whole.shape.atoms v
+  pub parents : (v : ℕ) → v < length plan.tree → parent plan.tree v ≡ slice_index whole.shape.parents v
+
+-- the nodes of a tree, by their items and their parents
+abbrev pub nodes_in : {R : Type 0} → List (NodeData R) → JoinTree
+nodes_in tree = record { count = length tree; atom = map (λ n. n.shape.item) tree; parent = map (λ n. n.shape.parent) tree }
+
+-- the plan with the item `at` at the root: the nodes of its tree are those of a join tree that has the same links
+pub record IsPlanAt {R : Type 0} (d : ℕ) (key : R → KeyOf d 16) (bound : BoundQuery) (tables : List Table) (at : ℕ) (plan : PlanData R) : Type 0 where
+  pub whole : IsPlanFor d key bound tables plan
+  pub root : item plan.tree 0 ≡ at
+  pub joined : IsJoinTreeOf bound.query (nodes_in plan.tree)
+  pub same : IsSameTree plan.join.count plan.join.atom plan.join.parent (nodes_in plan.tree).atom (nodes_in plan.tree).parent
+
+-- the plan with a given item at the root, or with that of the join tree if none is given
+abbrev pub IsPlanOf : {R : Type 0} (d : ℕ) → (R → KeyOf d 16) → BoundQuery → List Table → Option ℕ → PlanData R → Type 0
+IsPlanOf d key bound tables None plan = IsPlan d key bound tables plan
+IsPlanOf d key bound tables (Some at) plan = IsPlanAt d key bound tables at plan
 
 -- the fault that may be returned: memory ran out, or the query has this flaw
 abbrev pub TellsFlaw : Query → List Table → PlanFault → Type 0

@@ -1,11 +1,11 @@
 -- The plan of a query, with the ranks that its order needs.
-use Rattle.std.specs.Prelude.{ℕ, List}
+use Rattle.std.specs.Prelude.{ℕ, List, Option}
 use Rattle.tdp_model.specs.KeyTuple.{KeyOf}
 use Rattle.tdp_model.specs.KeyNumbers.{key_of_lists}
 use Rattle.rank_key.specs.declared.fixed_rank.FixedRank.{FixedRank}
 use Rattle.anyk_model.specs.Table.{Table}
 use Rattle.query_bind.specs.Weighed.{BoundQuery}
-use Rattle.plan_build.specs.Plan.{IsPlan}
+use Rattle.plan_build.specs.Plan.{IsPlanOf}
 use Rattle.plan_build.specs.declared.ranked_plan.RankedPlan.{RankedPlan}
 use Rattle.plan_build.specs.declared.ranked_plan.RankedPlan.TheVariants.{Lex, Sum}
 
@@ -13,7 +13,7 @@ use Rattle.plan_build.specs.declared.ranked_plan.RankedPlan.TheVariants.{Lex, Su
 abbrev pub fixed_key : (n : ℕ) → FixedRank n → KeyOf n 16
 fixed_key n rank = key_of_lists n 16 rank.sums rank.slots
 
--- the plan of the query over these tables, with ranks of one sum or of eight
-abbrev pub IsRankedPlan : BoundQuery → List Table → RankedPlan → Type 0
-IsRankedPlan bound tables (Sum plan) = IsPlan 1 (fixed_key 1) bound tables plan
-IsRankedPlan bound tables (Lex plan) = IsPlan 8 (fixed_key 8) bound tables plan
+-- the plan of the query over these tables, with this item at the root if one is given, and with ranks of one sum or of eight
+abbrev pub IsRankedPlan : BoundQuery → List Table → Option ℕ → RankedPlan → Type 0
+IsRankedPlan bound tables at (Sum plan) = IsPlanOf 1 (fixed_key 1) bound tables at plan
+IsRankedPlan bound tables at (Lex plan) = IsPlanOf 8 (fixed_key 8) bound tables at plan

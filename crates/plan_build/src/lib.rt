@@ -8,11 +8,12 @@
 #![tactic(auto)]
 
 mod fault;
+mod node_rows;
 mod plan;
 mod ranked_plan;
 mod reporting;
 
 pub use fault::PlanFault;
-pub use plan::{Plan, prepare};
+pub use plan::{Plan, prepare, prepare_at};
 pub use ranked_plan::{RankedPlan, prepare_ranked};
 pub use reporting::report;

@@ -8,13 +8,15 @@ ghost use Rattle.join_tree.specs.Rerooting.{IsTree};
 ghost use Rattle.query_shape.specs.Shown.{HasItems, HasStoredTree};
 ghost use Rattle.tdp_core.specs.RawData.{IsRawFormed, row_total};
 ghost use Rattle.tdp_core.specs.Solutions.{IsTieFreeRaw};
-ghost use Rattle.node_build.specs.Nodes.{IsBuilt};
+ghost use Rattle.tdp_core.specs.TreeData.{item, parent};
+ghost use Rattle.node_build.specs.Nodes.{IsBuilt, IsJoinTreeOf, item_of, parent_of};
 ghost use Rattle.step_bounds.specs.Bounded.{IsPrepared};
-ghost use Rattle.plan_build.specs.Plan.{IsPlan, TellsFlaw};
+ghost use Rattle.plan_build.specs.Plan.{IsPlan, IsPlanAt, IsPlanFor, TellsFlaw};
 
 use crate::fault::PlanFault;
+use crate::node_rows::in_order;
 use csv_tables::Tables;
-use join_tree::JoinTree;
+use join_tree::{JoinTree, reroot};
 use node_build::{BuildFault, Built, build};
 use query_bind::Query;
 use query_shape::{ShapeFault, tree_shape};
@@ -82,15 +84,65 @@ pub fn prepare<R: Rank, L: Ledger>(
     ensures cost { IsPrepared query.now.query tables.now steps.old steps.new }
 {
     let join = join_tree_of(query)?;
-    let built = nodes_of(alloc, query, tables, &join, steps)?;
+    plan_over(alloc, query, tables, &join, &join, steps)
+}
+
+/// The plan with this item at the root of the tree, counted from 0. Its errors and its steps are
+/// those of `prepare`.
+pub fn prepare_at<R: Rank, L: Ledger>(
+    alloc: Global,
+    query: &Query,
+    tables: &Tables,
+    item: u32,
+    steps: &mut Steps<L>,
+) -> Result<Plan<R>, PlanFault>
+    requires fits { Fits query.now tables.now }
+    requires keys { length query.now.query.order ≤ R.KEYS }
+    requires item { item < length query.now.query.items }
+    ensures plan { IfOk result (IsPlanAt R.KEYS R.key query.now tables.now item) }
+    ensures refusal { IfErr result (TellsFlaw query.now.query tables.now) }
+    ensures cost { IsPrepared query.now.query tables.now steps.old steps.new }
+{
+    let tree = join_tree_of(query)?;
+    let rooted = reroot(&tree, item);
+    plan_over(alloc, query, tables, &tree, &rooted, steps)
+}
+
+// The plan of a query whose tree has the nodes of `over`, any join tree of the query. What is kept
+// of the query's shape is in the order of `join`, the join tree that ear removal gives.
+fn plan_over<R: Rank, L: Ledger>(
+    alloc: Global,
+    query: &Query,
+    tables: &Tables,
+    join: &JoinTree,
+    over: &JoinTree,
+    steps: &mut Steps<L>,
+) -> Result<Plan<R>, PlanFault>
+    requires fits { Fits query.now tables.now }
+    requires keys { length query.now.query.order ≤ R.KEYS }
+    requires stored { HasStoredTree query.now.query join.now }
+    requires count { join.now.count ≡ length query.now.query.items }
+    requires ordered { IsTree join.now.count join.now.atom join.now.parent }
+    requires atoms { HasItems join.now.count join.now.atom (length query.now.query.items) }
+    requires over { IsJoinTreeOf query.now.query over.now }
+    requires over_ordered { IsTree over.now.count over.now.atom over.now.parent }
+    ensures plan { IfOk result (IsPlanFor R.KEYS R.key query.now tables.now) }
+    ensures join { IfOk result (λ plan. plan.join ≡ join.now) }
+    ensures items { IfOk result (λ plan. (v : ℕ) → v < length plan.tree → item plan.tree v ≡ item_of over.now v) }
+    ensures parents { IfOk result (λ plan. (v : ℕ) → v < length plan.tree → parent plan.tree v ≡ parent_of over.now v) }
+    ensures refusal { IfErr result (TellsFlaw query.now.query tables.now) }
+    ensures cost { IsPrepared query.now.query tables.now steps.old steps.new }
+{
+    let built = nodes_of(alloc, query, tables, over, steps)?;
     let total = rows_of_tables(query, tables) + built.used;
+    let node_rows = in_order(built.rows_of, over, join);
     let reduced = reduce(alloc, built.tree, steps)?;
     let tree = solve(alloc, reduced, steps)?;
     let _nodes = tree.nodes();
     Ok(Plan {
         tree,
-        join,
-        node_rows: built.rows_of,
+        join: *join,
+        node_rows,
         total,
     })
 }
@@ -102,6 +154,7 @@ fn join_tree_of(query: &Query) -> Result<JoinTree, PlanFault>
     ensures ordered { IfOk result (λ tree. IsTree tree.count tree.atom tree.parent) }
     ensures items { IfOk result (λ tree. HasItems tree.count tree.atom (length query.now.query.items)) }
     ensures count { IfOk result (λ tree. tree.count ≡ length query.now.query.items) }
+    ensures joined { IfOk result (IsJoinTreeOf query.now.query) }
     ensures refusal { IfErr result (λ fault. (tables : List Table) → TellsFlaw query.now.query tables fault) }
 {
     match tree_shape(query) {
@@ -122,8 +175,8 @@ fn nodes_of<R: Rank, L: Ledger>(
 ) -> Result<Built<R>, PlanFault>
     requires fits { Fits query.now tables.now }
     requires keys { length query.now.query.order ≤ R.KEYS }
-    requires tree { HasStoredTree query.now.query join.now }
-    requires count { join.now.count ≡ length query.now.query.items }
+    requires tree { IsJoinTreeOf query.now.query join.now }
+    requires acyclic { (other : JoinTree) × HasStoredTree query.now.query other × (other.count ≡ length query.now.query.items) }
     ensures built { IfOk result (λ built. IsBuilt query.now tables.now R.KEYS R.key join.now built.tree) }
     ensures formed { IfOk result (λ built. IsRawFormed R.KEYS R.key built.tree) }
     ensures tie_free { IfOk result (λ built. IsTieFreeRaw built.tree) }

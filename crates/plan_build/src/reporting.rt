@@ -3,7 +3,7 @@ ghost use Rattle.std.specs.Prelude.{◌≡◌, ◌<◌, ◌≤◌, ◌+◌, ◌+
 ghost use Rattle.join_tree.specs.Rerooting.{IsTree};
 ghost use Rattle.query_shape.specs.Report.{node_line, node_text, parent_number, report_of};
 ghost use Rattle.query_shape.specs.Shown.{HasItems};
-ghost use Rattle.plan_build.specs.Plan.{IsPlan, shape_of, tree_shown};
+ghost use Rattle.plan_build.specs.Plan.{IsPlanFor, shape_of, tree_shown};
 
 use crate::plan::Plan;
 use csv_tables::Tables;
@@ -24,7 +24,7 @@ pub fn report<R: Rank>(
     query: &Query,
     tables: &Tables,
 ) -> Result<Vec<u8>, NoMemory>
-    requires plan { IsPlan R.KEYS R.key query.now tables.now plan.now }
+    requires plan { IsPlanFor R.KEYS R.key query.now tables.now plan.now }
     ensures { IfOk result (λ text. text.items ≡ report_of query.now.query tables.now (shape_of plan.now)) }
 {
     let mut text = Vec::new(alloc);

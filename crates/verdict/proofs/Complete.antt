@@ -2,18 +2,18 @@
 use Rattle.std.proofs.Common.{◌≡◌, ◌⊎◌, Option, Some, None, Result, Ok, Err, inl, inr, ap, sym, refl}
 use Rattle.outer_io.specs.Counts.{Rose}
 use Rattle.outer_io.specs.Files.{Files}
-use Rattle.refusal_lines.specs.Answer as answer
-use Rattle.refusal_lines.specs.Answer.{Answer, status_of}
+use Rattle.refusal_lines.specs.Reason as reason
+use Rattle.refusal_lines.specs.Reason.{Reason, status_of}
 use Rattle.verdict.specs.Words.{Asked, no_command, built}
 use Rattle.verdict.specs.Found.{Found}
-use Rattle.verdict.specs.Outcome.{Outside, Ended, GotAccepted, GotNothing, IsComplete, IsAnswer, IsCaused, IsCut, IsDoneWhereAccepted, IsRefusedWhereRefused, IsUnwrittenWhereRefused}
+use Rattle.verdict.specs.Outcome.{Outside, Ended, GotAccepted, GotNothing, IsComplete, IsReason, IsCaused, IsCut, IsDoneWhereAccepted, IsRefusedWhereRefused, IsUnwrittenWhereRefused}
 use Rattle.verdict.specs.Verdict.{IsVerdict}
 use Rattle.verdict.proofs.One.{one_verdict, usage_verdict}
 
-no_both : {A B : Type 0} {a : A} {b : Answer} → ◌≡◌ {A = Result A Answer} (Ok a) (Err b) → B
+no_both : {A B : Type 0} {a : A} {b : Reason} → ◌≡◌ {A = Result A Reason} (Ok a) (Err b) → B
 no_both e = cc
 
-same_refusal : {a b : Answer} → ◌≡◌ {A = Result Found Answer} (Err a) (Err b) → a ≡ b
+same_refusal : {a b : Reason} → ◌≡◌ {A = Result Found Reason} (Err a) (Err b) → a ≡ b
 same_refusal e = cc
 
 -- a complete output is written only if the input is accepted
@@ -25,40 +25,40 @@ complete_only (built command) (Some files) old new (found, accepted, written) =
     λ refusal is_refused no_fault. no_both (one_verdict (built command) files _ _ accepted is_refused)
 
 -- the refusal of a call that ended with it is the verdict's
-done_by : (asked : Asked) (files : Files) (old new : Outside) (a : Answer) → IsAnswer asked (Some files) a → IsCaused old new a
+done_by : (asked : Asked) (files : Files) (old new : Outside) (a : Reason) → IsReason asked (Some files) a → IsCaused old new a
     → (found : Found) → IsVerdict asked files (Ok found) → (Rose old.read_faults new.read_faults → ⊥) → (Rose old.write_faults new.write_faults → ⊥)
     → (status_of a ≡ 0) ⊎ (status_of a ≡ 12)
-done_by asked files old new answer.Usage fits caused found accepted read write = no_both (usage_verdict files asked (Ok found) fits accepted)
-done_by asked files old new (answer.ReadFault name) fits caused found accepted read write = absurd (read caused)
-done_by asked files old new answer.WriteFault fits caused found accepted read write = absurd (write caused)
-done_by asked files old new answer.NoMemory fits caused found accepted read write = inr refl
+done_by asked files old new reason.Usage fits caused found accepted read write = no_both (usage_verdict files asked (Ok found) fits accepted)
+done_by asked files old new (reason.ReadFault name) fits caused found accepted read write = absurd (read caused)
+done_by asked files old new reason.WriteFault fits caused found accepted read write = absurd (write caused)
+done_by asked files old new reason.NoMemory fits caused found accepted read write = inr refl
 done_by asked files old new a fits caused found accepted read write = no_both (one_verdict asked files _ _ accepted fits)
 
--- a call that ended with an answer is done if it must be
-pub done_only : (asked : Asked) (told : Option Files) (old new : Outside) (a : Answer)
+-- a call that ended with a reason is done if it must be
+pub done_only : (asked : Asked) (told : Option Files) (old new : Outside) (a : Reason)
     → Ended asked told old new a → IsDoneWhereAccepted asked told old new (status_of a)
 done_only asked None old new a h = tt
 done_only asked (Some files) old new a h = done_by asked files old new a h.fits h.caused
 
-refused_by : (asked : Asked) (files : Files) (old new : Outside) (a : Answer) → IsAnswer asked (Some files) a → IsCaused old new a
-    → (refusal : Answer) → IsVerdict asked files (Err refusal) → (Rose old.read_faults new.read_faults → ⊥)
+refused_by : (asked : Asked) (files : Files) (old new : Outside) (a : Reason) → IsReason asked (Some files) a → IsCaused old new a
+    → (refusal : Reason) → IsVerdict asked files (Err refusal) → (Rose old.read_faults new.read_faults → ⊥)
     → (status_of a ≡ status_of refusal) ⊎ (status_of a ≡ 12)
-refused_by asked files old new answer.Usage fits caused refusal is_refused read =
+refused_by asked files old new reason.Usage fits caused refusal is_refused read =
     inl (ap status_of (sym (same_refusal (usage_verdict files asked (Err refusal) fits is_refused))))
-refused_by asked files old new (answer.ReadFault name) fits caused refusal is_refused read = absurd (read caused)
-refused_by asked files old new answer.WriteFault fits caused refusal is_refused read = no_both (one_verdict asked files _ _ fits.1 is_refused)
-refused_by asked files old new answer.NoMemory fits caused refusal is_refused read = inr refl
+refused_by asked files old new (reason.ReadFault name) fits caused refusal is_refused read = absurd (read caused)
+refused_by asked files old new reason.WriteFault fits caused refusal is_refused read = no_both (one_verdict asked files _ _ fits.1 is_refused)
+refused_by asked files old new reason.NoMemory fits caused refusal is_refused read = inr refl
 refused_by asked files old new a fits caused refusal is_refused read = inl (ap status_of (same_refusal (one_verdict asked files _ _ fits is_refused)))
 
 -- and its status is the refusal's, if the input is refused
-pub refused_only : (asked : Asked) (told : Option Files) (old new : Outside) (a : Answer)
+pub refused_only : (asked : Asked) (told : Option Files) (old new : Outside) (a : Reason)
     → Ended asked told old new a → IsRefusedWhereRefused asked told old new (status_of a)
 refused_only asked None old new a h = tt
 refused_only asked (Some files) old new a h = refused_by asked files old new a h.fits h.caused
 
 -- if the output got a part of what an accepted input gives, the verdict is not a refusal
 accepted_alone : {A : Type 0} (asked : Asked) (files : Files) (old new : Outside) → GotAccepted asked (Some files) old new
-    → (refusal : Answer) → IsVerdict asked files (Err refusal) → A
+    → (refusal : Reason) → IsVerdict asked files (Err refusal) → A
 accepted_alone no_command files old new h refusal is_refused = absurd h
 accepted_alone (built command) files old new (found, accepted, got) refusal is_refused =
     no_both (one_verdict (built command) files _ _ accepted is_refused)
@@ -71,15 +71,15 @@ complete_unrefused no_command (Some files) old new h = absurd h
 complete_unrefused (built command) (Some files) old new (found, accepted, written) =
     λ refusal is_refused. no_both (one_verdict (built command) files _ _ accepted is_refused)
 
-unwritten_by : (asked : Asked) (files : Files) (old new : Outside) (a : Answer) → IsCut asked (Some files) old new a
-    → (refusal : Answer) → IsVerdict asked files (Err refusal) → GotNothing old new
-unwritten_by asked files old new answer.WriteFault cut refusal is_refused = accepted_alone asked files old new cut refusal is_refused
-unwritten_by asked files old new answer.NoMemory (inl nothing) refusal is_refused = nothing
-unwritten_by asked files old new answer.NoMemory (inr accepted) refusal is_refused = accepted_alone asked files old new accepted refusal is_refused
+unwritten_by : (asked : Asked) (files : Files) (old new : Outside) (a : Reason) → IsCut asked (Some files) old new a
+    → (refusal : Reason) → IsVerdict asked files (Err refusal) → GotNothing old new
+unwritten_by asked files old new reason.WriteFault cut refusal is_refused = accepted_alone asked files old new cut refusal is_refused
+unwritten_by asked files old new reason.NoMemory (inl nothing) refusal is_refused = nothing
+unwritten_by asked files old new reason.NoMemory (inr accepted) refusal is_refused = accepted_alone asked files old new accepted refusal is_refused
 unwritten_by asked files old new a cut refusal is_refused = cut
 
--- if the input is refused, a call that ended with an answer has written nothing
-pub unwritten_only : (asked : Asked) (told : Option Files) (old new : Outside) (a : Answer)
+-- if the input is refused, a call that ended with a reason has written nothing
+pub unwritten_only : (asked : Asked) (told : Option Files) (old new : Outside) (a : Reason)
     → Ended asked told old new a → IsUnwrittenWhereRefused asked told old new
 unwritten_only asked None old new a h = tt
 unwritten_only asked (Some files) old new a h = unwritten_by asked files old new a h.cut

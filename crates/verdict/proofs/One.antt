@@ -8,32 +8,33 @@ use Rattle.query_grammar.specs.Parse.{Agree}
 use Rattle.query_grammar.proofs.Exactly.{parses_agree}
 use Rattle.query_shape.specs.Shape.{Flaw, Shape}
 use Rattle.query_shape.proofs.OneShape.{one_shape}
-use Rattle.refusal_lines.specs.Answer.{Answer, Usage}
+use Rattle.anyk_model.specs.Table.{Table}
+use Rattle.refusal_lines.specs.Reason.{Reason, Usage}
 use Rattle.verdict.specs.Made.{files_of}
-use Rattle.verdict.specs.Words.{Asked, Command, no_command, built, command_words, command_script}
+use Rattle.verdict.specs.Words.{Asked, Command, Sought, no_command, built, sought_by}
 use Rattle.verdict.specs.Faults.{of_parse, of_shape}
 use Rattle.session_script.specs.declared.step.Step.{Step}
 use Rattle.verdict.specs.Laws.{OneLoading, OneVerdict}
-use Rattle.verdict.specs.Loading.{IsParse, Loaded, bound_in}
+use Rattle.verdict.specs.Loading.{IsParse, Loaded, loaded_in}
 use Rattle.verdict.specs.Found.{Found, found_of}
 use Rattle.verdict.specs.Stages.{Then, Is, refused, followed, AtMostOne}
-use Rattle.verdict.specs.Verdict.{Named, IsRead, IsScripted, IsSelected, IsShaped, IsTabled, IsVerdict}
+use Rattle.verdict.specs.Verdict.{IsBound, IsRead, IsScripted, IsSelected, IsShaped, IsTabled, IsVerdict}
 
 -- a stage that computes
-pub one_computed : {A : Type 0} (r : Result A Answer) → AtMostOne (Is r)
+pub one_computed : {A : Type 0} (r : Result A Reason) → AtMostOne (Is r)
 one_computed r x y p q = p ∙ sym q
 
-found_same : {A : Type 0} {a b : A} → ◌≡◌ {A = Result A Answer} (Ok a) (Ok b) → a ≡ b
+found_same : {A : Type 0} {a b : A} → ◌≡◌ {A = Result A Reason} (Ok a) (Ok b) → a ≡ b
 found_same e = cc
 
-refused_same : {A B : Type 0} {a b : Answer} → ◌≡◌ {A = Result A Answer} (Err a) (Err b) → ◌≡◌ {A = Result B Answer} (Err a) (Err b)
+refused_same : {A B : Type 0} {a b : Reason} → ◌≡◌ {A = Result A Reason} (Err a) (Err b) → ◌≡◌ {A = Result B Reason} (Err a) (Err b)
 refused_same e = cc
 
-no_both : {A : Type 0} {a : A} {b : Answer} → ◌≡◌ {A = Result A Answer} (Err b) (Ok a) → ⊥
+no_both : {A : Type 0} {a : A} {b : Reason} → ◌≡◌ {A = Result A Reason} (Err b) (Ok a) → ⊥
 no_both e = cc
 
 -- two stages
-pub one_then : {A B : Type 0} (First : Result A Answer → Type 0) (Second : A → Result B Answer → Type 0)
+pub one_then : {A B : Type 0} (First : Result A Reason → Type 0) (Second : A → Result B Reason → Type 0)
     → AtMostOne First → ((a : A) → AtMostOne (Second a)) → AtMostOne (Then First Second)
 one_then First Second f s _ _ (refused h) (refused k) = refused_same (f _ _ h k)
 one_then First Second f s _ _ (refused h) (followed k y) = absurd (no_both (f _ _ h k))
@@ -59,7 +60,7 @@ is_select select e = cc
 is_fault : (fault : ParseFault) → fault ≢ out_of_memory → Answered (Err fault) (Err out_of_memory) → ⊥
 is_fault fault some e = some (one_fault e)
 
-one_select : {a b : Select} → Answered (Ok a) (Ok b) → ◌≡◌ {A = Result Select Answer} (Ok a) (Ok b)
+one_select : {a b : Select} → Answered (Ok a) (Ok b) → ◌≡◌ {A = Result Select Reason} (Ok a) (Ok b)
 one_select e = cc
 
 no_two : {A : Type 0} {a : Select} {b : ParseFault} → Answered (Err b) (Ok a) → A
@@ -99,21 +100,24 @@ one_shaped loaded (Err a) (Err b) h k =
     ap Err (h.told ∙ ap of_shape same ∙ sym k.told)
 
 -- the stages of loading
-one_tabled : (named : Named) (files : Files) (select : Select) (steps : List Step) → AtMostOne (IsTabled named files select steps)
-one_tabled named files select steps = one_then _ _ (one_computed _) (λ tables. one_computed (bound_in select tables steps))
+one_bound : (sought : Sought) (select : Select) (tables : List Table) (steps : List Step) → AtMostOne (IsBound sought select tables steps)
+one_bound sought select tables steps = one_then _ _ (one_computed _) (λ query. one_computed (loaded_in sought.best_of query tables steps))
 
-one_selected : (named : Named) (files : Files) (select : Select) (steps : List Step) → AtMostOne (IsSelected named files select steps)
-one_selected named files select steps = one_then _ _ (one_computed _) (λ known. one_tabled named files known steps)
+one_tabled : (sought : Sought) (files : Files) (select : Select) (steps : List Step) → AtMostOne (IsTabled sought files select steps)
+one_tabled sought files select steps = one_then _ _ (one_computed _) (λ tables. one_bound sought select tables steps)
 
-one_scripted : (script : Option (List ℕ)) (named : Named) (files : Files) (select : Select) → AtMostOne (IsScripted script named files select)
-one_scripted script named files select = one_then _ _ (one_computed _) (one_selected named files select)
+one_selected : (sought : Sought) (files : Files) (select : Select) (steps : List Step) → AtMostOne (IsSelected sought files select steps)
+one_selected sought files select steps = one_then _ _ (one_computed _) (λ known. one_tabled sought files known steps)
 
-one_read : (script : Option (List ℕ)) (named : Named) (files : Files) (bytes : List ℕ) → AtMostOne (IsRead script named files bytes)
-one_read script named files bytes = one_then _ _ (one_parse bytes) (one_scripted script named files)
+one_scripted : (sought : Sought) (files : Files) (select : Select) → AtMostOne (IsScripted sought files select)
+one_scripted sought files select = one_then _ _ (one_computed _) (one_selected sought files select)
+
+one_read : (sought : Sought) (files : Files) (bytes : List ℕ) → AtMostOne (IsRead sought files bytes)
+one_read sought files bytes = one_then _ _ (one_parse bytes) (one_scripted sought files)
 
 pub one_loading : OneLoading
 one_loading no_command files = one_computed (Err Usage)
-one_loading (built command) files = one_then _ _ (one_computed _) (one_read (command_script command) (command_words command).tables (files_of command files))
+one_loading (built command) files = one_then _ _ (one_computed _) (one_read (sought_by command) (files_of command files))
 
 -- all together
 pub one_verdict : OneVerdict
@@ -126,7 +130,7 @@ Same a b = a ≡ b
 differ-built-none : {A : Type 0} {k : Command} → Same (built k) no_command → A
 differ-built-none h = cc
 
-pub usage_verdict : (files : Files) (asked : Asked) (result : Result Found Answer) → asked ≡ no_command → IsVerdict asked files result → result ≡ Err Usage
+pub usage_verdict : (files : Files) (asked : Asked) (result : Result Found Reason) → asked ≡ no_command → IsVerdict asked files result → result ≡ Err Usage
 usage_verdict files no_command _ e (refused h) = refused_same h
 usage_verdict files no_command result e (followed h k) = absurd (no_both (sym h))
 usage_verdict files (built command) result e v = differ-built-none e

@@ -3,22 +3,22 @@ use Rattle.std.proofs.Common.{◌≡◌, ◌⊎◌, ◌==◌, [], Option, Some, 
 use Rattle.std.specs.List.{list_any}
 use Rattle.std.specs.Io.KnownBytes.{Appends}
 use Rattle.outer_io.specs.Files.{Files}
-use Rattle.refusal_lines.specs.Answer as answer
-use Rattle.refusal_lines.specs.Answer.{Answer, status_of}
+use Rattle.refusal_lines.specs.Reason as reason
+use Rattle.refusal_lines.specs.Reason.{Reason, status_of}
 use Rattle.verdict.specs.Words.{Command, Asked, no_command, built}
-use Rattle.verdict.specs.Outcome.{Outside, Outcome, Ended, IsAnswer, IsComplete, IsDoneWhereAccepted, statuses}
+use Rattle.verdict.specs.Outcome.{Outside, Outcome, Ended, IsReason, IsComplete, IsDoneWhereAccepted, statuses}
 use Rattle.verdict.proofs.Complete.{complete_only, complete_unrefused, done_only, refused_only, unwritten_only}
 
-known_status : (asked : Asked) (told : Option Files) (a : Answer) → IsAnswer asked told a → list_any (λ s. s == status_of a) statuses ≡ true
-known_status asked told answer.NoMemory fits = refl
+known_status : (asked : Asked) (told : Option Files) (a : Reason) → IsReason asked told a → list_any (λ s. s == status_of a) statuses ≡ true
+known_status asked told reason.NoMemory fits = refl
 known_status asked told a fits = refl
 
-not_done : {A : Type 0} (a : Answer) → status_of a ≡ 0 → A
-not_done answer.Usage e = absurd (omega (arith, e))
+not_done : {A : Type 0} (a : Reason) → status_of a ≡ 0 → A
+not_done reason.Usage e = absurd (omega (arith, e))
 not_done a e = absurd (omega (arith, e))
 
--- a call that ended with an answer
-pub ended_outcome : (asked : Asked) (told : Option Files) (old new : Outside) (a : Answer) → Ended asked told old new a
+-- a call that ended with a reason
+pub ended_outcome : (asked : Asked) (told : Option Files) (old new : Outside) (a : Reason) → Ended asked told old new a
     → (asked ≡ no_command → (status_of a ≡ 2) ⊎ (status_of a ≡ 12)) → Outcome asked told old new (status_of a)
 ended_outcome asked told old new a h usage = record {
   known = known_status asked told a h.fits;

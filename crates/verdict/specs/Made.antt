@@ -1,9 +1,9 @@
 -- The files that a command reads.
-use Rattle.std.specs.Prelude.{ℕ, List, ◌∷◌, map}
+use Rattle.std.specs.Prelude.{ℕ, List, [], ◌∷◌, map, Option, Some}
 use Rattle.std.specs.List.{zip}
 use Rattle.make_input.specs.Input.{files, load_query, query_file, table_files}
 use Rattle.outer_io.specs.Files.{Files}
-use Rattle.verdict.specs.Words.{Command, run, plan, session, load}
+use Rattle.verdict.specs.Words.{Asked, Command, no_command, built, run, plan, session, load}
 
 -- the query over the four tables, and the tables that are made from the number
 abbrev pub made_files : ℕ → ℕ → Files
@@ -15,3 +15,11 @@ files_of (run words) given = given
 files_of (plan words) given = given
 files_of (session script words) given = given
 files_of (load number rows) given = made_files number rows
+
+-- the files that are known to a call: `load` needs to know none, since it makes those that it reads
+abbrev pub known_to : Asked → Option Files → Option Files
+known_to no_command told = told
+known_to (built (run words)) told = told
+known_to (built (plan words)) told = told
+known_to (built (session script words)) told = told
+known_to (built (load number rows)) told = Some []

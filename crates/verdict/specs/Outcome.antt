@@ -3,16 +3,16 @@
 use Rattle.std.specs.Prelude.{◌≡◌, ◌≢◌, ◌⊎◌, ◌==◌, true, ℕ, List, [], ◌∷◌, Option, Some, None, IfSome, Ok, Err}
 use Rattle.std.specs.List.{list_any}
 use Rattle.std.specs.Io.KnownBytes.{Appends}
-use Rattle.outer_io.specs.Counts.{Rose}
+use Rattle.outer_io.specs.Counts.{Rose, RoseAbove}
 use Rattle.outer_io.specs.Files.{Files}
 use Rattle.query_grammar.specs.declared.select.Select.{Select}
 use Rattle.session_script.specs.declared.step.Step.{Step}
 use Rattle.rankings.specs.Order.{IsMember}
-use Rattle.refusal_lines.specs.Answer as answer
-use Rattle.refusal_lines.specs.Answer.{Answer, status_of, line_of}
-use Rattle.verdict.specs.Words.{Words, Command, Asked, no_command, built, run, plan, session, load}
+use Rattle.refusal_lines.specs.Reason as reason
+use Rattle.refusal_lines.specs.Reason.{Reason, status_of, line_of}
+use Rattle.verdict.specs.Words.{Command, Asked, Sought, no_command, built, run, plan, session, load, sought_by}
 use Rattle.verdict.specs.Found.{Found}
-use Rattle.verdict.specs.Loading.{IsParse, file_in, steps_in, unknown_table, first_uses, files_read}
+use Rattle.verdict.specs.Loading.{IsParse, most_bytes, file_in, steps_in, unknown_table, first_uses, files_read}
 use Rattle.verdict.specs.Output.{output}
 use Rattle.refusal_lines.specs.Sent.{GotPrefix}
 use Rattle.verdict.specs.Verdict.{IsVerdict}
@@ -21,6 +21,8 @@ use Rattle.verdict.specs.Verdict.{IsVerdict}
 pub record Outside : Type 0 where
   pub misses : ℕ
   pub read_faults : ℕ
+  -- the number of bytes that were read
+  pub taken : ℕ
   pub output : Option (List ℕ)
   pub write_faults : ℕ
   pub errors : Option (List ℕ)
@@ -48,57 +50,59 @@ GotAccepted asked told old new = ⊥
 abbrev pub GotNothing : Outside → Outside → Type 0
 GotNothing old new = Appends old.output new.output []
 
--- ---- the answers
+-- ---- the reasons
 
 -- The file is read for this input. It is the file of the query; or of the script, once the query is
 -- parsed; or of one of the tables up to the first refusal, once the script is read.
-pub data IsTurnOf (words : Words) (script : Option (List ℕ)) (files : Files) (name : List ℕ) : Type 0 where
-  query_turn : name ≡ words.query → IsTurnOf words script files name
-  script_turn : {bytes : List ℕ} {select : Select} → file_in files words.query ≡ Ok bytes → IsParse bytes (Ok select)
-      → script ≡ Some name → IsTurnOf words script files name
-  table_turn : {bytes : List ℕ} {select : Select} {steps : List Step} → file_in files words.query ≡ Ok bytes → IsParse bytes (Ok select)
-      → steps_in files script ≡ Ok steps → unknown_table words.tables select.items ≡ None
-      → IsMember name (files_read files words.tables (first_uses select.items)) → IsTurnOf words script files name
+pub data IsTurnOf (sought : Sought) (files : Files) (name : List ℕ) : Type 0 where
+  query_turn : name ≡ sought.query → IsTurnOf sought files name
+  script_turn : {bytes : List ℕ} {select : Select} → file_in files sought.query ≡ Ok bytes → IsParse bytes (Ok select)
+      → sought.script ≡ Some name → IsTurnOf sought files name
+  table_turn : {bytes : List ℕ} {select : Select} {steps : List Step} → file_in files sought.query ≡ Ok bytes → IsParse bytes (Ok select)
+      → steps_in files sought.script ≡ Ok steps → unknown_table sought.named select.items ≡ None
+      → IsMember name (files_read files sought.named (first_uses select.items)) → IsTurnOf sought files name
 
 -- if the files are known, it is a file that the command reads; `load` reads none
 abbrev pub IsCommandTurn : Command → Option Files → List ℕ → Type 0
-IsCommandTurn (run words) told name = IfSome told (λ files. IsTurnOf words None files name)
-IsCommandTurn (plan words) told name = IfSome told (λ files. IsTurnOf words None files name)
-IsCommandTurn (session script words) told name = IfSome told (λ files. IsTurnOf words (Some script) files name)
+IsCommandTurn (run words) told name = IfSome told (λ files. IsTurnOf (sought_by (run words)) files name)
+IsCommandTurn (plan words) told name = IfSome told (λ files. IsTurnOf (sought_by (plan words)) files name)
+IsCommandTurn (session script words) told name = IfSome told (λ files. IsTurnOf (sought_by (session script words)) files name)
 IsCommandTurn (load number rows) told name = ⊥
 
 abbrev pub IsTurn : Asked → Option Files → List ℕ → Type 0
 IsTurn (built command) told name = IsCommandTurn command told name
 IsTurn no_command told name = ⊥
 
--- if the files are known, the answer is the verdict on the input, or it says what happened on the
+-- if the files are known, the reason is the verdict on the input, or it says what happened on the
 -- way
-abbrev pub IsAnswer : Asked → Option Files → Answer → Type 0
-IsAnswer asked told answer.Usage = asked ≡ no_command
-IsAnswer asked told (answer.ReadFault name) = IsTurn asked told name
-IsAnswer asked told answer.WriteFault = IfSome told (λ files. (found : Found) × IsVerdict asked files (Ok found))
-IsAnswer asked told answer.NoMemory = Unit {0}
-IsAnswer asked told refusal = IfSome told (λ files. IsVerdict asked files (Err refusal))
+abbrev pub IsReason : Asked → Option Files → Reason → Type 0
+IsReason asked told reason.Usage = asked ≡ no_command
+IsReason asked told (reason.ReadFault name) = IsTurn asked told name
+IsReason asked told reason.WriteFault = IfSome told (λ files. (found : Found) × IsVerdict asked files (Ok found))
+IsReason asked told reason.NoMemory = Unit {0}
+IsReason asked told refusal = IfSome told (λ files. IsVerdict asked files (Err refusal))
 
--- an answer about the outside is given only if the count that belongs to it rose
-abbrev pub IsCaused : Outside → Outside → Answer → Type 0
-IsCaused old new (answer.NoFile name) = Rose old.misses new.misses
-IsCaused old new (answer.ReadFault name) = Rose old.read_faults new.read_faults
-IsCaused old new answer.WriteFault = Rose old.write_faults new.write_faults
+-- A reason about the outside is given only if the count that belongs to it rose: for a file that is
+-- too large, more bytes were read than a file may have.
+abbrev pub IsCaused : Outside → Outside → Reason → Type 0
+IsCaused old new (reason.NoFile name) = Rose old.misses new.misses
+IsCaused old new (reason.ReadFault name) = Rose old.read_faults new.read_faults
+IsCaused old new (reason.TooLarge name) = RoseAbove most_bytes old.taken new.taken
+IsCaused old new reason.WriteFault = Rose old.write_faults new.write_faults
 IsCaused old new other = Unit {0}
 
--- what the output got if the answer is not success
-abbrev pub IsCut : Asked → Option Files → Outside → Outside → Answer → Type 0
-IsCut asked told old new answer.WriteFault = GotAccepted asked told old new
-IsCut asked told old new answer.NoMemory = GotNothing old new ⊎ GotAccepted asked told old new
+-- what the output got if the call ended with a reason
+abbrev pub IsCut : Asked → Option Files → Outside → Outside → Reason → Type 0
+IsCut asked told old new reason.WriteFault = GotAccepted asked told old new
+IsCut asked told old new reason.NoMemory = GotNothing old new ⊎ GotAccepted asked told old new
 IsCut asked told old new other = GotNothing old new
 
--- the call ended with this answer
-pub record Ended (asked : Asked) (told : Option Files) (old new : Outside) (answer : Answer) : Type 0 where
-  pub fits : IsAnswer asked told answer
-  pub caused : IsCaused old new answer
-  pub cut : IsCut asked told old new answer
-  pub line : HasLine old new (line_of answer)
+-- the call ended for this reason
+pub record Ended (asked : Asked) (told : Option Files) (old new : Outside) (reason : Reason) : Type 0 where
+  pub fits : IsReason asked told reason
+  pub caused : IsCaused old new reason
+  pub cut : IsCut asked told old new reason
+  pub line : HasLine old new (line_of reason)
 
 -- ---- completeness
 
@@ -109,13 +113,13 @@ IsDoneWhereAccepted asked told old new status = IfSome told (λ files. (found : 
 
 -- if the input is refused and no read failed, the status is the refusal's, or memory ran out
 abbrev pub IsRefusedWhereRefused : Asked → Option Files → Outside → Outside → ℕ → Type 0
-IsRefusedWhereRefused asked told old new status = IfSome told (λ files. (refusal : Answer) → IsVerdict asked files (Err refusal)
+IsRefusedWhereRefused asked told old new status = IfSome told (λ files. (refusal : Reason) → IsVerdict asked files (Err refusal)
     → (Rose old.read_faults new.read_faults → ⊥) → (status ≡ status_of refusal) ⊎ (status ≡ 12))
 
 -- if the input is refused, the output got nothing, whatever the status is
 abbrev pub IsUnwrittenWhereRefused : Asked → Option Files → Outside → Outside → Type 0
 IsUnwrittenWhereRefused asked told old new =
-    IfSome told (λ files. (refusal : Answer) → IsVerdict asked files (Err refusal) → GotNothing old new)
+    IfSome told (λ files. (refusal : Reason) → IsVerdict asked files (Err refusal) → GotNothing old new)
 
 -- ---- all together
 
@@ -127,7 +131,7 @@ pub record Outcome (asked : Asked) (told : Option Files) (old new : Outside) (st
   pub known : list_any (λ s. s == status) statuses ≡ true
   pub done : status ≡ 0 → IsComplete asked told old new
   pub quiet : status ≡ 0 → Appends old.errors new.errors []
-  pub refused : status ≢ 0 → (answer : Answer) × (status_of answer ≡ status) × Ended asked told old new answer
+  pub refused : status ≢ 0 → (reason : Reason) × (status_of reason ≡ status) × Ended asked told old new reason
   pub usage : asked ≡ no_command → (status ≡ 2) ⊎ (status ≡ 12)
   pub accepted : IsDoneWhereAccepted asked told old new status
   pub exact : IsRefusedWhereRefused asked told old new status

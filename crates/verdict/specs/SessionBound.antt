@@ -2,7 +2,6 @@
 use Rattle.std.specs.Prelude.{◌+◌, ◌*◌, ◌≤◌, ℕ, List, Ok}
 use Rattle.anyk_model.specs.Table.{Table}
 use Rattle.anyk_model.specs.Query.{Query}
-use Rattle.anyk_model.specs.Ranking.{ranking_of}
 use Rattle.query_shape.specs.Shape.{IsShape, Shape}
 use Rattle.session_script.specs.declared.step.Step.{Step}
 use Rattle.step_bounds.specs.Bounded.{cost_over}
@@ -10,7 +9,7 @@ use Rattle.verdict.specs.SessionCalls.{session_calls, session_reach}
 
 -- no more steps than the bound for as many calls as the script reaches far, and 4 more for each
 -- call that it makes
-abbrev pub KeepsSessionBound : Query → List Table → List Step → ℕ → ℕ → Type 0
-KeepsSessionBound query tables script before now =
+abbrev pub KeepsSessionBound : Query → List Table → List (List ℕ) → List Step → ℕ → ℕ → Type 0
+KeepsSessionBound query tables list script before now =
     (shape : Shape) → IsShape query tables (Ok shape)
-    → now ≤ before + cost_over query tables shape (session_reach query.limit (ranking_of query tables) script) + 4 * session_calls query.limit (ranking_of query tables) script
+    → now ≤ before + cost_over query tables shape (session_reach query.limit list script) + 4 * session_calls query.limit list script

@@ -1,12 +1,14 @@
 -- What the arguments of the command line ask for, without the engine: both engines give the same
 -- text.
-use Rattle.std.specs.Prelude.{ℕ, List, Bool, false, Option, Some, None}
+use Rattle.std.specs.Prelude.{ℕ, List, Bool, Option, Some, None}
 use Rattle.make_input.specs.Input.{query_file, table_files}
 
 -- the names of files and tables are written as on the command line
 pub record Words : Type 0 where
   pub ranks : Bool
   pub rows : Bool
+  -- the alias of the item of which each row's best answer is asked for, if there is one
+  pub best_of : Option (List ℕ)
   pub query : List ℕ
   -- the name of each table, and of its file
   pub tables : List (List ℕ × List ℕ)
@@ -19,22 +21,27 @@ pub data Command : Type 0 where
   -- a run over tables that are made from the number, with `rows` rows each
   load : (number rows : ℕ) → Command
 
--- the words of a run over the files that are made
-abbrev pub made_words : Words
-made_words = record { ranks = false; rows = false; query = query_file; tables = table_files }
+-- the files that the command line names for tables
+abbrev pub Named : Type 0
+Named = List (List ℕ × List ℕ)
 
-abbrev pub command_words : Command → Words
-command_words (run words) = words
-command_words (plan words) = words
-command_words (session script words) = words
-command_words (load number rows) = made_words
+-- what a command reads
+pub record Sought : Type 0 where
+  -- the file of its query
+  pub query : List ℕ
+  -- the file of its script, if it has one
+  pub script : Option (List ℕ)
+  -- the files of the tables
+  pub named : Named
+  -- the alias of the item of which each row's best answer is asked for, if there is one
+  pub best_of : Option (List ℕ)
 
--- the file of the script, if the command has one
-abbrev pub command_script : Command → Option (List ℕ)
-command_script (run words) = None
-command_script (plan words) = None
-command_script (session script words) = Some script
-command_script (load number rows) = None
+-- `plan` has no item, and `load` reads the files that it makes
+abbrev pub sought_by : Command → Sought
+sought_by (run words) = record { query = words.query; script = None; named = words.tables; best_of = words.best_of }
+sought_by (plan words) = record { query = words.query; script = None; named = words.tables; best_of = None }
+sought_by (session script words) = record { query = words.query; script = Some script; named = words.tables; best_of = words.best_of }
+sought_by (load number rows) = record { query = query_file; script = None; named = table_files; best_of = None }
 
 pub data Asked : Type 0 where
   -- the arguments are not a command

@@ -51,7 +51,7 @@ module _ (d : ℕ) (query : Query) (tables : List Table) (few : length query.ite
       (subst (IsCombination (row_counts query.items tables)) (sym (same-rows rows all.0)) all.0, combinations-all list all.1)
 
   -- each member of the ranking is a combination
-  members-combine : (list : List (List ℕ)) → ((rows : List ℕ) → IsMember rows list → IsWitness query tables rows)
+  pub members-combine : (list : List (List ℕ)) → ((rows : List ℕ) → IsMember rows list → IsWitness query tables rows)
       → AllByRecursion (IsCombination (row_counts query.items tables)) list
   members-combine [] sound = tt
   members-combine (rows ∷ list) sound = ((sound rows (inl refl)).0, members-combine list (λ other m. sound other (inr m)))

@@ -6,7 +6,7 @@ use Rattle.anyk_top.proofs.plan.print_report.Goals as goal
 pub returns-in_err-text : goal.returns-in_err-text
 returns-in_err-text g c =
     let e : c.from_residual.result ≡ Err refusal.NoMemory = search rules in
-    rw e (unprinted _ _ _)
+    rw e (unprinted _ _)
 
 pub returns : goal.returns
 returns g c = rw (c.deref.ensures.value, c.in_ok-text.ensures) at c.print.ensures

@@ -1,7 +1,9 @@
 use Rattle.std.proofs.Common.{◌≡◌, Err, Ok, rules}
 use Rattle.input_load.specs.Input.{loaded_of}
-use Rattle.refusal_lines.specs.Refused.{answer_of}
+use Rattle.refusal_lines.specs.Refused.{reason_of}
+use Rattle.verdict.specs.Made.{known_to}
 use Rattle.verdict.specs.Staged.{Shelved, shelved}
+use Rattle.verdict.specs.Words.{built}
 use Rattle.anyk_top.specs.Planned.{shown_plan}
 use Rattle.anyk_top.specs.Requests.{command_of}
 use Rattle.anyk_top.proofs.Judging.{early-prepared, early-still, looked-refused, looked-then}
@@ -12,19 +14,19 @@ returns-in_err-input-clause-judged g c =
     let before : Shelved = shelved g.F.Shelf c.args.shelf.now in
     let after : Shelved = shelved g.F.Shelf c.look_at.new.shelf in
     let e : c.from_residual.result ≡ Err c.in_err-input.field-0.0 = search rules in
-    rw e (looked-refused (command_of c.args.request.now) before after (answer_of c.in_err-input.field-0.0) c.in_err-input.ensures)
+    rw e (looked-refused (command_of c.args.request.now) before after (reason_of c.in_err-input.field-0.0) c.in_err-input.ensures)
 
 pub returns-in_err-input-clause-early : goal.returns-in_err-input-clause-early
 returns-in_err-input-clause-early g c =
     let e : c.from_residual.result ≡ Err c.in_err-input.field-0.0 = search rules in
-    rw e (early-still (command_of c.args.request.now) (g.F.Shelf.files c.args.shelf.now) c.args.steps.now)
+    rw e (early-still (command_of c.args.request.now) (known_to (built (command_of c.args.request.now)) (g.F.Shelf.files c.args.shelf.now)) c.args.steps.now)
 
 pub returns-in_err-plan-clause-judged : goal.returns-in_err-plan-clause-judged
 returns-in_err-plan-clause-judged g c =
     let before : Shelved = shelved g.F.Shelf c.args.shelf.now in
     let after : Shelved = shelved g.F.Shelf c.look_at.new.shelf in
     let e : c.from_residual-in_err-plan.result ≡ Err c.in_err-plan.field-0.0 = search rules in
-    rw e (looked-then (command_of c.args.request.now) before after (loaded_of c.in_ok-input.input) (Err (answer_of c.in_err-plan.field-0.0))
+    rw e (looked-then (command_of c.args.request.now) before after (loaded_of c.in_ok-input.input) (Err (reason_of c.in_err-plan.field-0.0))
     c.in_ok-input.ensures c.in_err-plan.ensures.shaped)
 
 pub returns-in_err-plan-clause-early : goal.returns-in_err-plan-clause-early

@@ -1,25 +1,23 @@
-use Rattle.std.proofs.Common.{◌≡◌, Err, Some, ℕ, List, Option, map, option_map, rules}
-use Rattle.cmd_words.specs.NamedPairs.{named_pair}
+use Rattle.std.proofs.Common.{◌≡◌, Err, Some, rules}
 use Rattle.verdict.specs.Loading.{steps_in}
 use Rattle.verdict.specs.Stages.{Is}
 use Rattle.verdict.specs.Verdict.{IsSelected}
 use Rattle.verdict.proofs.Staging.{found_then, refusal_then}
 use Rattle.input_load.specs.Turns.{IsSelectedTurn}
+use Rattle.input_load.specs.Sought.{sought_shown}
 use Rattle.input_load.proofs.input.script_input.Goals as goal
 
 pub returns-in_err-steps : goal.returns-in_err-steps
 returns-in_err-steps g c =
     let select = c.args.select.now in
-    let named = map named_pair c.args.named.now in
-    let script : Option (List ℕ) = option_map (λ name. name.now) c.args.script in
+    let sought = sought_shown c.args.sought.now in
     let e : c.from_residual.result ≡ Err c.in_err-steps.field-0.0 = search rules in
-    rw e (refusal_then (λ files. Is (steps_in files script)) (λ files file. script ≡ Some file) (λ steps files. IsSelected named files select steps) (λ steps files. IsSelectedTurn named files select)
+    rw e (refusal_then (λ files. Is (steps_in files sought.script)) (λ files file. sought.script ≡ Some file) (λ steps files. IsSelected sought files select steps) (λ steps files. IsSelectedTurn sought files select)
     _ _ _ c.in_err-steps.ensures.staged)
 
 pub returns : goal.returns
 returns g c =
     let select = c.args.select.now in
-    let named = map named_pair c.args.named.now in
-    let script : Option (List ℕ) = option_map (λ name. name.now) c.args.script in
-    found_then (λ files. Is (steps_in files script)) (λ files file. script ≡ Some file) (λ steps files. IsSelected named files select steps) (λ steps files. IsSelectedTurn named files select)
+    let sought = sought_shown c.args.sought.now in
+    found_then (λ files. Is (steps_in files sought.script)) (λ files file. sought.script ≡ Some file) (λ steps files. IsSelected sought files select steps) (λ steps files. IsSelectedTurn sought files select)
     _ _ _ c.in_ok-steps.steps.items _ c.in_ok-steps.ensures.staged c.select_input.ensures

@@ -1,27 +1,27 @@
-use Rattle.std.proofs.Common.{◌≡◌, Err, map, rules}
-use Rattle.cmd_words.specs.NamedPairs.{named_pair}
+use Rattle.std.proofs.Common.{◌≡◌, Err, rules}
 use Rattle.verdict.specs.Loading.{unknown_table}
 use Rattle.verdict.specs.Staged.{NoTurn}
 use Rattle.verdict.specs.Stages.{Is, unless}
 use Rattle.verdict.specs.Verdict.{IsTabled}
 use Rattle.verdict.proofs.Staging.{found_then, pure_staged, refusal_then}
 use Rattle.input_load.specs.Turns.{IsTabledTurn}
+use Rattle.input_load.specs.Sought.{sought_shown}
 use Rattle.input_load.proofs.input.select_input.Goals as goal
 
 pub returns-in_err-entries : goal.returns-in_err-entries
 returns-in_err-entries g c =
     let select = c.args.select.now in
     let steps = c.args.script.items in
-    let named = map named_pair c.args.named.now in
+    let sought = sought_shown c.args.sought.now in
     let e : c.from_residual.result ≡ Err c.in_err-entries.field-0.0 = search rules in
-    rw e (refusal_then (λ files. Is (unless (unknown_table named select.items) select)) NoTurn (λ known files. IsTabled named files known steps) (λ known files. IsTabledTurn named files known)
-    _ _ _ (pure_staged (Is (unless (unknown_table named select.items) select)) _ _ c.in_err-entries.ensures.known))
+    rw e (refusal_then (λ files. Is (unless (unknown_table sought.named select.items) select)) NoTurn (λ known files. IsTabled sought files known steps) (λ known files. IsTabledTurn sought files known)
+    _ _ _ (pure_staged (Is (unless (unknown_table sought.named select.items) select)) _ _ c.in_err-entries.ensures.known))
 
 pub returns : goal.returns
 returns g c =
     let select = c.args.select.now in
     let steps = c.args.script.items in
-    let named = map named_pair c.args.named.now in
-    found_then (λ files. Is (unless (unknown_table named select.items) select)) NoTurn (λ known files. IsTabled named files known steps) (λ known files. IsTabledTurn named files known)
-    _ _ _ select _ (pure_staged (Is (unless (unknown_table named select.items) select)) _ _ c.in_ok-entries.ensures.known)
-    (c.table_input.ensures named (rw c.deref.ensures.value c.in_ok-entries.ensures.entries))
+    let sought = sought_shown c.args.sought.now in
+    found_then (λ files. Is (unless (unknown_table sought.named select.items) select)) NoTurn (λ known files. IsTabled sought files known steps) (λ known files. IsTabledTurn sought files known)
+    _ _ _ select _ (pure_staged (Is (unless (unknown_table sought.named select.items) select)) _ _ c.in_ok-entries.ensures.known)
+    c.table_input.ensures

@@ -11,18 +11,20 @@ use Rattle.verdict.proofs.Staging.{found_then, pure_staged, refusal_then}
 use Rattle.verdict.specs.Verdict.{IsBound}
 use Rattle.input_load.specs.Entries.{tables_of}
 use Rattle.input_load.proofs.FirstUses.{numbers-within}
+use Rattle.input_load.specs.Sought.{sought_shown}
 use Rattle.input_load.proofs.input.table_input.Goals as goal
 
 pub returns-in_err-tables : goal.returns-in_err-tables
-returns-in_err-tables g c = λ named known.
+returns-in_err-tables g c =
+    let sought = sought_shown c.args.sought.now in
     let select = c.args.select.now in
     let steps = c.args.script.items in
     let firsts : tables_of (map (λ e. named_pair e.now) c.in_ok-firsts.firsts.items) ≡ first_uses select.items =
     c.in_ok-firsts.ensures.tables ∙ ap (first_uses_after []) c.requires.tables in
-    let read = c.in_err-tables.ensures.staged named (rw c.deref-2.ensures.value (c.in_ok-firsts.ensures.entries named known)) in
+    let read = c.in_err-tables.ensures.staged sought.named (rw c.deref-2.ensures.value (c.in_ok-firsts.ensures.entries sought.named c.requires.entries)) in
     let e : c.from_residual-in_err-tables.result ≡ Err c.in_err-tables.field-0.0 = search rules in
-    rw e (refusal_then (λ files. Is (tables_in files named (first_uses select.items))) (λ files file. IsMember file (files_read files named (first_uses select.items)))
-    (λ tables files. IsBound select tables steps) (λ tables. NoTurn) _ _ _ (rw (c.deref-2.ensures.value, firsts) at read))
+    rw e (refusal_then (λ files. Is (tables_in files sought.named (first_uses select.items))) (λ files file. IsMember file (files_read files sought.named (first_uses select.items)))
+    (λ tables files. IsBound sought select tables steps) (λ tables. NoTurn) _ _ _ (rw (c.deref-2.ensures.value, firsts) at read))
 
 pub bound_input-requires-clause-known : goal.bound_input-requires-clause-known
 bound_input-requires-clause-known g c =
@@ -40,13 +42,14 @@ bound_input-requires-clause-known g c =
     rw numbers (subst (λ n. AllByRecursion (λ t. t < n) (table_numbers select.items)) (sym count) (numbers-within select.items))
 
 pub returns : goal.returns
-returns g c = λ named known.
+returns g c =
+    let sought = sought_shown c.args.sought.now in
     let select = c.args.select.now in
     let steps = c.args.script.items in
     let tables = c.in_ok-tables.tables in
     let firsts : tables_of (map (λ e. named_pair e.now) c.in_ok-firsts.firsts.items) ≡ first_uses select.items =
     c.in_ok-firsts.ensures.tables ∙ ap (first_uses_after []) c.requires.tables in
-    let read = c.in_ok-tables.ensures.staged named (rw c.deref-2.ensures.value (c.in_ok-firsts.ensures.entries named known)) in
-    found_then (λ files. Is (tables_in files named (first_uses select.items))) (λ files file. IsMember file (files_read files named (first_uses select.items)))
-    (λ tables files. IsBound select tables steps) (λ tables. NoTurn) _ _ _ tables _ (rw (c.deref-2.ensures.value, firsts) at read)
-    (pure_staged (IsBound select tables steps) _ _ c.bound_input.ensures)
+    let read = c.in_ok-tables.ensures.staged sought.named (rw c.deref-2.ensures.value (c.in_ok-firsts.ensures.entries sought.named c.requires.entries)) in
+    found_then (λ files. Is (tables_in files sought.named (first_uses select.items))) (λ files file. IsMember file (files_read files sought.named (first_uses select.items)))
+    (λ tables files. IsBound sought select tables steps) (λ tables. NoTurn) _ _ _ tables _ (rw (c.deref-2.ensures.value, firsts) at read)
+    (pure_staged (IsBound sought select tables steps) _ _ c.bound_input.ensures)

@@ -5,11 +5,12 @@ use Rattle.outer_io.specs.Files.{Files}
 use Rattle.outer_io.specs.Holding.{Holding}
 use Rattle.verdict.specs.Made.{made_files}
 use Rattle.verdict.specs.Staged.{Fits, Shelved}
-use Rattle.verdict.specs.Verdict.{IsLoadedOn, Named}
+use Rattle.verdict.specs.Verdict.{IsLoadedOn}
+use Rattle.verdict.specs.Words.{Named, Sought, load, sought_by}
 use Rattle.input_load.specs.Turns.{IsTurn}
 use Rattle.input_load.specs.Shown.{shown_input}
 use Rattle.input_load.proofs.MadeShelf.{distinct-files}
-use Rattle.input_load.proofs.NoneMissing.{made-none, pure-told}
+use Rattle.input_load.proofs.NoneRefused.{made-none, pure-told}
 use Rattle.input_load.proofs.made.load_made.Goals as goal
 
 pub new-shelf-requires : goal.new-shelf-requires
@@ -19,11 +20,13 @@ pub returns : goal.returns
 returns c =
     let number = c.args.made.now.number in
     let rows = c.args.made.now.rows in
+    let asked : Sought = sought_by (load number rows) in
     let names : map named_pair c.as_slice.result.now ≡ table_files = ap (map named_pair) c.as_slice.ensures.value ∙ c.args.made.now.names in
     let held : c.new-shelf.result.files ≡ made_files number rows = ap (λ (s : Holding). s.files) c.new-shelf.ensures ∙ c.in_ok-made_shelf.ensures in
-    let P : Named → Type 0 = λ named. Fits (IsLoadedOn query_file None named) (IsTurn query_file None named) (Some c.new-shelf.result.files) (shown_input c.load_input.result) in
-    let Q : Files → Type 0 = λ files. Fits (IsLoadedOn query_file None table_files) (IsTurn query_file None table_files) (Some files) (shown_input c.load_input.result) in
-    let old : Shelved = record { files = Some c.new-shelf.result.files; misses = c.new-shelf.result.misses; faults = 0 } in
-    let new : Shelved = record { files = Some c.load_input.new.shelf.files; misses = c.load_input.new.shelf.misses; faults = 0 } in
-    pure-told (IsLoadedOn query_file None table_files) (IsTurn query_file None table_files) (made_files number rows) old new (shown_input c.load_input.result)
-    (made-none number rows (shown_input c.load_input.result)) (subst Q held (subst P names c.load_input.ensures.fits)) refl refl c.load_input.ensures.caused
+    let of : Named → Sought = λ named. record { query = query_file; script = None; named = named; best_of = None } in
+    let P : Named → Type 0 = λ named. Fits (IsLoadedOn (of named)) (IsTurn (of named)) (Some c.new-shelf.result.files) (shown_input c.load_input.result) in
+    let Q : Files → Type 0 = λ files. Fits (IsLoadedOn asked) (IsTurn asked) (Some files) (shown_input c.load_input.result) in
+    let old : Shelved = record { files = Some c.new-shelf.result.files; misses = c.new-shelf.result.misses; faults = 0; taken = c.new-shelf.result.taken } in
+    let new : Shelved = record { files = Some c.load_input.new.shelf.files; misses = c.load_input.new.shelf.misses; faults = 0; taken = c.load_input.new.shelf.taken } in
+    pure-told (IsLoadedOn asked) (IsTurn asked) (made_files number rows) old new (shown_input c.load_input.result)
+    (made-none number rows c.args.made.now.few_rows (shown_input c.load_input.result)) (subst Q held (subst P names c.load_input.ensures.fits)) refl refl c.load_input.ensures.caused

@@ -1,5 +1,5 @@
 use Rattle.std.proofs.Common.{◌≡◌, Err, rules}
-use Rattle.refusal_lines.specs.Refused.{answer_of}
+use Rattle.refusal_lines.specs.Refused.{reason_of}
 use Rattle.input_load.proofs.Scripts.{no-script, script-read, script-unread}
 use Rattle.input_load.proofs.script.load_script.Goals as goal
 
@@ -9,7 +9,7 @@ returns-in_default-clause-staged g c = rw c.in_default.is (no-script _ _ _ c.new
 pub returns-in_err-bytes-clause-staged : goal.returns-in_err-bytes-clause-staged
 returns-in_err-bytes-clause-staged g c =
     let e : c.from_residual.result ≡ Err c.in_err-bytes.field-0.0 = search rules in
-    rw (c.in-Some.is, e) (script-unread c.in-Some.name.now _ _ (answer_of c.in_err-bytes.field-0.0) c.in_err-bytes.ensures.staged)
+    rw (c.in-Some.is, e) (script-unread c.in-Some.name.now _ _ (reason_of c.in_err-bytes.field-0.0) c.in_err-bytes.ensures.staged)
 
 pub returns-clause-staged : goal.returns-clause-staged
 returns-clause-staged g c =

@@ -15,4 +15,5 @@ passed bound tables join budget told (inr (same, past)) = (let e : told ≡ budg
 pub returns-in-Err-TooManyRows-clause-refusal : goal.returns-in-Err-TooManyRows-clause-refusal
 returns-in-Err-TooManyRows-clause-refusal g c =
     let past = passed c.args.query.now c.args.tables.now c.args.join.now 4194304 c.in-Err-TooManyRows.budget (rw c.in-Err-TooManyRows.field-0-is at c.in-Err-TooManyRows.ensures.refusal) in
-    (past.0, too-many c.args.query.now c.args.tables.now c.args.join.now c.requires.tree c.requires.count 4194304 refl past.1)
+    let other = c.requires.acyclic in
+    (past.0, too-many c.args.query.now c.args.tables.now other.0 other.1 other.2 c.args.join.now c.requires.tree 4194304 refl past.1)

@@ -1,10 +1,5 @@
-use Rattle.std.proofs.Common.{◌≡◌, Err, rules, arith, length, sym, ap, ◌∙◌}
-use Rattle.std.proofs.lemmas.List.{length-map}
-use Rattle.tdp_core.specs.RawData.{row_total}
-use Rattle.tdp_core.specs.TreeData.{node_data, tree_data, row_count}
-use Rattle.plan_build.proofs.Planned.{planned}
-use Rattle.plan_build.proofs.ShapeOf.{kept-in-all}
-use Rattle.plan_build.proofs.Sizes.{steps-of-plan, steps-of-reduction}
+use Rattle.std.proofs.Common.{◌≡◌, Err, rules, refl}
+use Rattle.plan_build.proofs.Rooted.{plan-given}
 use Rattle.plan_build.proofs.plan.prepare.Goals as goal
 
 pub returns-in_err-join-clause-refusal : goal.returns-in_err-join-clause-refusal
@@ -12,42 +7,9 @@ returns-in_err-join-clause-refusal g c =
     let e : c.from_residual.result ≡ Err c.in_err-join.field-0.0 = search rules in
     rw e (c.in_err-join.ensures.refusal c.args.tables.now)
 
-pub returns-in_err-reduced-clause-cost : goal.returns-in_err-reduced-clause-cost
-returns-in_err-reduced-clause-cost g c =
-    let built = c.in_ok-built.ensures in
-    let nodes : length c.in_ok-built.built.tree.shapes ≡ length c.args.query.now.query.items = built.built.nodes ∙ c.in_ok-join.ensures.count in
-    steps-of-reduction _ _ _ _ _ _ (row_total c.in_ok-built.built.tree) c.requires.fits.some (omega (arith, built.used, built.fewer)) nodes built.cost c.reduce.ensures.cost
-
-pub returns-in_err-tree-clause-cost : goal.returns-in_err-tree-clause-cost
-returns-in_err-tree-clause-cost g c =
-    let built = c.in_ok-built.ensures in
-    let raw = c.in_ok-built.built.tree in
-    let parts = tree_data c.in_ok-reduced.reduced.nodes.items in
-    let reduced = c.in_ok-reduced.ensures.reduced in
-    let nodes : length raw.shapes ≡ length c.args.query.now.query.items = built.built.nodes ∙ c.in_ok-join.ensures.count in
-    let long : length parts ≡ length raw.shapes = sym (length-map parts (λ n. n.shape)) ∙ ap length reduced.shapes in
-    let alike : length c.in_ok-reduced.reduced.nodes.items ≡ length c.args.query.now.query.items = sym (length-map c.in_ok-reduced.reduced.nodes.items node_data) ∙ long ∙ nodes in
-    let kept = kept-in-all g.R.Rank.KEYS g.R.Rank.key raw parts reduced built.formed.each_node in
-    steps-of-plan _ _ _ _ _ _ _ (row_total raw) _ (row_count parts) c.requires.fits.some (omega (arith, built.used, built.fewer)) (rw long kept) nodes alike built.cost c.in_ok-reduced.ensures.cost c.solve.ensures.cost
-
 pub returns-clause-plan : goal.returns-clause-plan
 returns-clause-plan g c =
-    let query = c.args.query.now in
-    let built = c.in_ok-built.ensures in
-    let nodes : length c.in_ok-built.built.tree.shapes ≡ length query.query.items = built.built.nodes ∙ c.in_ok-join.ensures.count in
-    planned query c.args.tables.now c.in_ok-join.join c.in_ok-join.ensures.tree c.in_ok-join.ensures.count g.R.Rank.KEYS g.R.Rank.key c.requires.fits c.requires.keys
-    (omega (arith, nodes, built.formed.shaped.few_nodes)) c.in_ok-join.ensures.ordered c.in_ok-join.ensures.items
-    c.in_ok-built.built.tree built.built built.formed.each_node built.tie_free _ _ c.in_ok-reduced.ensures.reduced c.in_ok-tree.ensures.solved c.nodes-nodes.ensures.formed c.in_ok-built.built.rows_of.items c.in_ok-built.built.used _
-    built.rows_of built.used built.within (omega (arith, c.rows_of_tables.ensures.rows))
-
-pub returns-clause-cost : goal.returns-clause-cost
-returns-clause-cost g c =
-    let built = c.in_ok-built.ensures in
-    let raw = c.in_ok-built.built.tree in
-    let parts = tree_data c.in_ok-reduced.reduced.nodes.items in
-    let reduced = c.in_ok-reduced.ensures.reduced in
-    let nodes : length raw.shapes ≡ length c.args.query.now.query.items = built.built.nodes ∙ c.in_ok-join.ensures.count in
-    let long : length parts ≡ length raw.shapes = sym (length-map parts (λ n. n.shape)) ∙ ap length reduced.shapes in
-    let alike : length c.in_ok-reduced.reduced.nodes.items ≡ length c.args.query.now.query.items = sym (length-map c.in_ok-reduced.reduced.nodes.items node_data) ∙ long ∙ nodes in
-    let kept = kept-in-all g.R.Rank.KEYS g.R.Rank.key raw parts reduced built.formed.each_node in
-    steps-of-plan _ _ _ _ _ _ _ (row_total raw) _ (row_count parts) c.requires.fits.some (omega (arith, built.used, built.fewer)) (rw long kept) nodes alike built.cost c.in_ok-reduced.ensures.cost c.solve.ensures.cost
+    let join = c.in_ok-join.join in
+    let made = c.plan_over.ensures in
+    plan-given g.R.Rank.KEYS g.R.Rank.key c.args.query.now c.args.tables.now join join c.in_ok-join.ensures.joined
+    c.plan_over.result made.plan made.join made.items made.parents refl

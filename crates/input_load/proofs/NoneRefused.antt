@@ -1,0 +1,219 @@
+-- If there is a short file for each name of the command line, no file is refused.
+use Rattle.std.proofs.Common.{◌≡◌, ◌∷◌, ◌++◌, [], ℕ, Bool, true, false, IsTrue, if◌then◌else◌, is_some, List, Option, Some, None, Result, Ok, Err, option_map, length, ◌≤◌, unwrap_or, refl, sym, subst, arith, inl, inr}
+use Rattle.std.specs.List.{AllByRecursion, list_any}
+use Rattle.std.specs.Str.{bytes_eq}
+use Rattle.anyk_model.specs.Query.{Query}
+use Rattle.anyk_model.specs.Table.{Flaw, Table, flaw_of, no_header, too_many_columns, duplicate_name, too_many_rows, ragged, records_of}
+use Rattle.make_input.specs.Input.{query_file, table_files}
+use Rattle.outer_io.specs.Counts.{Rose}
+use Rattle.outer_io.specs.Files.{Files, bytes_of}
+use Rattle.query_bind.specs.Bind.{bind_fault}
+use Rattle.query_bind.specs.declared.fault.BindFault.{BindFault}
+use Rattle.query_bind.specs.declared.fault.BindFault.TheVariants as bind
+use Rattle.query_grammar.specs.declared.fault.ParseFault.{ParseFault}
+use Rattle.query_grammar.specs.declared.fault.ParseFault.TheVariants as parse
+use Rattle.query_grammar.specs.declared.select.ItemRef.{ItemRef}
+use Rattle.query_grammar.specs.declared.select.Select.{Select}
+use Rattle.refusal_lines.specs.Reason as reason
+use Rattle.refusal_lines.specs.Reason.{Reason}
+use Rattle.session_script.specs.declared.step.Step.{Step}
+use Rattle.verdict.specs.Faults.{of_bind, of_flaw, of_parse}
+use Rattle.verdict.specs.Loading.{IsParse, Loaded, bound_in, file_in, file_with, first_uses, first_uses_after, known_file, loaded_in, most_bytes, sound_table, steps_in, table_in, table_names, table_numbers, tables_in, unknown_table, unknown_with}
+use Rattle.verdict.specs.Made.{made_files}
+use Rattle.verdict.specs.Staged.{Causes, Fits, Pure, Shelved}
+use Rattle.verdict.specs.Stages.{Is, Then, followed, refused, then_by, unless}
+use Rattle.verdict.specs.Verdict.{IsBound, IsLoadedOn, IsRead, IsScripted, IsSelected, IsTabled}
+use Rattle.verdict.specs.Words.{Named, Sought, load, sought_by}
+use Rattle.make_input.proofs.Short.{files_short}
+use Rattle.input_load.proofs.Files.{short_bytes}
+
+-- the result is not that a file is missing or too large
+abbrev pub NoneRefused : {A : Type 0} → Result A Reason → Type 0
+NoneRefused (Err (reason.NoFile name)) = ⊥
+NoneRefused (Err (reason.TooLarge name)) = ⊥
+NoneRefused result = Unit {0}
+
+-- ---- stages, one after another
+
+same-none : (A B : Type 0) (e : Reason) → NoneRefused {A = A} (Err e) → NoneRefused {A = B} (Err e)
+same-none A B (reason.NoFile name) h = h
+same-none A B (reason.TooLarge name) h = h
+same-none A B e h = tt
+
+is-none : {A : Type 0} (computed r : Result A Reason) → NoneRefused computed → Is computed r → NoneRefused r
+is-none computed r none is = subst NoneRefused (sym is) none
+
+then-none : {A B : Type 0} (First : Result A Reason → Type 0) (Second : A → Result B Reason → Type 0) (r : Result B Reason)
+    → ((x : Result A Reason) → First x → NoneRefused x) → ((a : A) → First (Ok a) → (y : Result B Reason) → Second a y → NoneRefused y) → Then First Second r → NoneRefused r
+then-none {A} {B} First Second _ first second (refused {reason = e} h) = same-none A B e (first (Err e) h)
+then-none First Second _ first second (followed {a} {result} h k) = second a h result k
+
+then_by-none : {A B : Type 0} (r : Result A Reason) (go : A → Result B Reason) → NoneRefused r → ((a : A) → NoneRefused (go a)) → NoneRefused (then_by r go)
+then_by-none (Ok a) go none each = each a
+then_by-none {A} {B} (Err e) go none each = same-none A B e none
+
+-- ---- the parts
+
+-- a file that is there and is read whole
+abbrev IsShort : Option (List ℕ) → Type 0
+IsShort None = ⊥
+IsShort (Some bytes) = length bytes ≤ most_bytes
+
+file-none : (name : List ℕ) (o : Option (List ℕ)) → IsShort o → NoneRefused (file_with name o)
+file-none name None held = absurd held
+file-none name (Some bytes) held = subst NoneRefused (sym (short_bytes name bytes held)) tt
+
+parse-none : (bytes : List ℕ) (r : Result Select Reason) → IsParse bytes r → NoneRefused r
+parse-none bytes (Ok select) h = tt
+parse-none bytes (Err e) (fault, faults, some, is) = subst (λ (a : Reason). NoneRefused {A = Select} (Err a)) (sym is) (by fault)
+  where
+    by : (f : ParseFault) → NoneRefused {A = Select} (Err (of_parse f))
+    by parse.TooLong = tt
+    by (parse.Syntax at) = tt
+    by parse.TooManyItems = tt
+    by parse.TooManyKeys = tt
+    by (parse.LimitRange at) = tt
+    by parse.NoMemory = tt
+
+unknown-none : (named : Named) (items : List ItemRef) (select : Select) → NoneRefused (unless (unknown_table named items) select)
+unknown-none named [] select = tt
+unknown-none named (item ∷ items) select = by (bytes_of named item.table) (unknown-none named items select)
+  where
+    by : (o : Option (List ℕ)) → NoneRefused (unless (unknown_table named items) select) → NoneRefused (unless (unknown_with o item.at (unknown_table named items)) select)
+    by None later = tt
+    by (Some file) later = later
+
+table-none : (name bytes : List ℕ) (t : Table) (flaw : Option Flaw) → NoneRefused (unless (option_map (of_flaw name) flaw) t)
+table-none name bytes t None = tt
+table-none name bytes t (Some no_header) = tt
+table-none name bytes t (Some too_many_columns) = tt
+table-none name bytes t (Some (duplicate_name column)) = tt
+table-none name bytes t (Some too_many_rows) = tt
+table-none name bytes t (Some (ragged row)) = tt
+
+bind-none : (query : Query) (fault : Option BindFault) → NoneRefused (unless (option_map of_bind fault) query)
+bind-none query None = tt
+bind-none query (Some (bind.DuplicateAlias item)) = tt
+bind-none query (Some (bind.UnknownAlias at)) = tt
+bind-none query (Some (bind.UnknownColumn at)) = tt
+bind-none query (Some (bind.Ambiguous at)) = tt
+bind-none query (Some (bind.BadWeight item row column)) = tt
+bind-none query (Some (bind.RankRange key)) = tt
+bind-none query (Some bind.NoMemory) = tt
+
+-- ---- the tables that items use
+
+-- an entry names the table
+abbrev IsNamed : Named → List ℕ → Type 0
+IsNamed named name = IsTrue (is_some (bytes_of named name))
+
+named-all : (named : Named) (items : List ItemRef) → unknown_table named items ≡ None → AllByRecursion (IsNamed named) (table_names items)
+named-all named [] known = tt
+named-all named (item ∷ items) known = (by (bytes_of named item.table) known, named-all named items (later (bytes_of named item.table) known))
+  where
+    by : (o : Option (List ℕ)) → unknown_with o item.at (unknown_table named items) ≡ None → IsTrue (is_some o)
+    by None e = cc
+    by (Some file) e = refl
+
+    later : (o : Option (List ℕ)) → unknown_with o item.at (unknown_table named items) ≡ None → unknown_table named items ≡ None
+    later None e = cc
+    later (Some file) e = e
+
+uses-all : (P : List ℕ → Type 0) (earlier names : List (List ℕ)) → AllByRecursion P names → AllByRecursion P (first_uses_after earlier names)
+uses-all P earlier [] all = tt
+uses-all P earlier (name ∷ names) all =
+    by (list_any (λ other. bytes_eq other name) earlier) (uses-all P earlier names all.1) (uses-all P (earlier ++ name ∷ []) names all.1)
+  where
+    by : (b : Bool) → AllByRecursion P (first_uses_after earlier names) → AllByRecursion P (first_uses_after (earlier ++ name ∷ []) names)
+        → AllByRecursion P (if b then first_uses_after earlier names else name ∷ first_uses_after (earlier ++ name ∷ []) names)
+    by true known new = known
+    by false known new = (all.0, new)
+
+-- there is a short file of the name in the entry
+abbrev IsHeld : Files → List ℕ × List ℕ → Type 0
+IsHeld files entry = IsShort (bytes_of files entry.1)
+
+held-file : (files : Files) (named : Named) (name : List ℕ) → AllByRecursion (IsHeld files) named → IsNamed named name
+    → IsShort (bytes_of files (known_file named name))
+held-file files [] name held = λ is_named. absurd (let e : ◌≡◌ {A = Bool} false true = is_named in cc)
+held-file files (entry ∷ named) name held = by (bytes_eq entry.0 name) (held-file files named name held.1)
+  where
+    by : (b : Bool) → (IsNamed named name → IsShort (bytes_of files (known_file named name))) → IsTrue (is_some (if b then Some entry.1 else bytes_of named name))
+        → IsShort (bytes_of files (unwrap_or (if b then Some entry.1 else bytes_of named name) []))
+    by true later is_named = held.0
+    by false later is_named = later is_named
+
+tables-none : (files : Files) (named : Named) (names : List (List ℕ)) → AllByRecursion (IsHeld files) named → AllByRecursion (IsNamed named) names → NoneRefused (tables_in files named names)
+tables-none files named [] held all = tt
+tables-none files named (name ∷ names) held all =
+    let file = file-none (known_file named name) (bytes_of files (known_file named name)) (held-file files named name held all.0) in
+    then_by-none (table_in files named name) (λ table. then_by (tables_in files named names) (λ tables. Ok (table ∷ tables)))
+    (then_by-none (file_in files (known_file named name)) (sound_table name) file (λ bytes. table-none name bytes _ (flaw_of (records_of bytes))))
+    (λ table. then_by-none (tables_in files named names) (λ tables. Ok (table ∷ tables)) (tables-none files named names held all.1) (λ tables. tt))
+
+-- ---- all together
+
+known-is : (o : Option Reason) (select known : Select) → Ok known ≡ unless o select → (o ≡ None) × (known ≡ select)
+known-is None select known e = (refl, cc)
+known-is (Some e) select known is = cc
+
+-- a query file and tables' files, without a script and without an item
+module _ (query : List ℕ) (named : Named) (files : Files) (held : AllByRecursion (IsHeld files) named) where
+  abbrev asked : Sought
+  asked = record { query = query; script = None; named = named; best_of = None }
+
+  bound-none : (select : Select) (tables : List Table) (steps : List Step) (r : Result Loaded Reason) → IsBound asked select tables steps r → NoneRefused r
+  bound-none select tables steps r =
+      then-none (Is (bound_in select tables)) (λ bound. Is (loaded_in None bound tables steps)) r
+      (λ x is. is-none (bound_in select tables) x (bind-none _ (bind_fault select tables (table_numbers select.items))) is)
+      (λ bound given y h. is-none (loaded_in None bound tables steps) y tt h)
+
+  tabled-none : (select : Select) (steps : List Step) → unknown_table named select.items ≡ None → (r : Result Loaded Reason) → IsTabled asked files select steps r → NoneRefused r
+  tabled-none select steps known r =
+      let all = uses-all (IsNamed named) [] (table_names select.items) (named-all named select.items known) in
+      then-none (Is (tables_in files named (first_uses select.items))) (λ tables. IsBound asked select tables steps) r
+      (λ x is. is-none (tables_in files named (first_uses select.items)) x (tables-none files named (first_uses select.items) held all) is)
+      (λ tables given y h. bound-none select tables steps y h)
+
+  selected-none : (select : Select) (steps : List Step) (r : Result Loaded Reason) → IsSelected asked files select steps r → NoneRefused r
+  selected-none select steps r =
+      then-none (Is (unless (unknown_table named select.items) select)) (λ known. IsTabled asked files known steps) r
+      (λ x is. is-none (unless (unknown_table named select.items) select) x (unknown-none named select.items select) is)
+      (λ known given y h.
+      let is = known-is (unknown_table named select.items) select known given in
+      tabled-none known steps (subst (λ (s : Select). unknown_table named s.items ≡ None) (sym is.1) is.0) y h)
+
+  scripted-none : (select : Select) (r : Result Loaded Reason) → IsScripted asked files select r → NoneRefused r
+  scripted-none select r =
+      then-none (Is (steps_in files None)) (IsSelected asked files select) r (λ x is. is-none (Ok []) x tt is) (λ steps given y h. selected-none select steps y h)
+
+  read-none : (bytes : List ℕ) (r : Result Loaded Reason) → IsRead asked files bytes r → NoneRefused r
+  read-none bytes r = then-none (IsParse bytes) (IsScripted asked files) r (parse-none bytes) (λ select given y h. scripted-none select y h)
+
+  pub loaded-none : IsShort (bytes_of files query) → (r : Result Loaded Reason) → IsLoadedOn asked files r → NoneRefused r
+  loaded-none is_held r =
+      then-none (Is (file_in files query)) (IsRead asked files) r (λ x is. is-none (file_in files query) x (file-none query (bytes_of files query) is_held) is)
+      (λ bytes given y h. read-none bytes y h)
+
+-- the files that are made
+pub made-none : (number rows : ℕ) → rows ≤ 100000 → (r : Result Loaded Reason) → IsLoadedOn (sought_by (load number rows)) (made_files number rows) r → NoneRefused r
+made-none number rows few =
+    let short = files_short number rows few in
+    loaded-none query_file table_files (made_files number rows) (short.1.0, (short.1.1.0, (short.1.1.1.0, (short.1.1.1.1.0, tt)))) short.0
+
+-- ---- a stage over known files, none of which is refused and none of which fails
+
+no-rise : {A : Type 0} (before now : ℕ) → before ≡ 0 → now ≡ 0 → Rose before now → A
+no-rise before now first last (inl risen) = absurd (omega (arith, first, last, risen))
+no-rise before now first last (inr full) = absurd (omega (arith, last, full))
+
+pub pure-told : {A : Type 0} (G : Files → Result A Reason → Type 0) (T : Files → List ℕ → Type 0) (files : Files) (old new : Shelved) (r : Result A Reason)
+    → (G files r → NoneRefused r) → Fits G T (Some files) r → old.faults ≡ 0 → new.faults ≡ 0 → Causes old new r → Pure (G files) r
+pure-told G T files old new (Ok a) none fits first last caused = fits
+pure-told G T files old new (Err reason.NoMemory) none fits first last caused = tt
+pure-told G T files old new (Err (reason.NoFile name)) none fits first last caused = none fits
+pure-told G T files old new (Err (reason.TooLarge name)) none fits first last caused = none fits
+pure-told G T files old new (Err (reason.ReadFault name)) none fits first last caused = no-rise old.faults new.faults first last caused
+pure-told G T files old new (Err reason.WriteFault) none fits first last caused = fits
+pure-told G T files old new (Err reason.Usage) none fits first last caused = fits
+pure-told G T files old new (Err e) none fits first last caused = fits

@@ -1,0 +1,15 @@
+//! What a command reads.
+use cmd_words::Named;
+
+/// What a command reads. Files, tables and items have the names that the command line gives them.
+#[derive(Clone, Copy, Drop)]
+pub struct Sought<'a> {
+    /// The file of the query.
+    pub query: &'a str,
+    /// The file of the script, if there is one.
+    pub script: Option<&'a str>,
+    /// The files of the tables.
+    pub named: &'a [Named],
+    /// The alias of the item of which each row's best answer is asked for, if there is one.
+    pub best_of: Option<&'a str>,
+}
