@@ -1,0 +1,99 @@
+-- The sums of order keys as they are compared, and two lists of them.
+use Rattle.std.proofs.Common.{◌≡◌, ◌≢◌, ◌<◌, ◌≤◌, ◌+◌, ◌⊎◌, ◌∙◌, ℕ, ℤ, pos, ◌-ℤ◌, neg_ℤ, int_lt, nat_lt, Bool, true, false, if◌then◌else◌, List, [], ◌∷◌, map, length, drop, inl, inr, refl, sym, ap, arith, FitsSigned, length-drop}
+use mir.Syntax.{w128}
+use Rattle.std.proofs.lemmas.Int.{ints}
+use Rattle.std.proofs.lemmas.List.{get_or-map, length-map}
+use Rattle.anyk_model.specs.Table.{Table}
+use Rattle.anyk_model.specs.Query.{OrderKey, rank_of, sum_of}
+use Rattle.anyk_model.specs.Ranking.{is_before}
+use Rattle.query_bind.specs.Inside.{KeyInside}
+use Rattle.query_bind.specs.Weighed.{BoundQuery, Fits}
+use Rattle.query_bind.specs.Weights.{key_at}
+use Rattle.query_bind.proofs.Parts.{parts-add}
+use Rattle.query_bind.proofs.Search.{all-at, drop-step}
+use Rattle.answer_print.proofs.Sums.{sum-fits}
+
+-- # One sum
+
+negated : (b : Bool) (sum z : ℤ) → z ≡ sum → b ≡ true → pos 0 -ℤ z ≡ (if b then neg_ℤ sum else sum)
+negated true sum z e t = omega (arith, ints, e)
+negated false sum z e t = absurd (cc t)
+
+module _ (bound : BoundQuery) (tables : List Table) (fits : Fits bound tables) (rows : List ℕ) (k : ℕ) (there : k < length bound.query.order) where
+  abbrev key : OrderKey
+  key = key_at bound.query.order k
+
+  inside : KeyInside tables bound.query.items key
+  inside = all-at (KeyInside tables bound.query.items) bound.query.order k (record { terms = []; descending = false }) fits.within.order there
+
+  -- if the key descends, its sum is compared with the other sign
+  pub descending-rank : (z : ℤ) → z ≡ sum_of bound.query tables rows key → key.descending ≡ true → pos 0 -ℤ z ≡ rank_of bound.query tables rows key
+  descending-rank z is down = negated key.descending (sum_of bound.query tables rows key) z is down
+
+  -- and it fits 128 bits as it is compared
+  pub rank-fits : (z : ℤ) → z ≡ rank_of bound.query tables rows key → FitsSigned w128 z
+  rank-fits z is = sum-fits bound tables fits rows k there (length bound.query.items) z (omega arith) (is ∙ sym (parts-add bound.query tables rows key inside))
+
+-- # Lists of sums
+
+pub decided : (x y : ℤ) (xs ys : List ℤ) → x ≢ y → is_before (x ∷ xs) (y ∷ ys) ≡ int_lt x y
+decided x y xs ys apart = by (int_lt x y) (int_lt y x) refl refl
+  where
+    by : (l r : Bool) → int_lt x y ≡ l → int_lt y x ≡ r → (if l then true else if r then false else is_before xs ys) ≡ l
+    by true r p q = refl
+    by false true p q = refl
+    by false false p q = absurd (apart (grind (arith, ints)))
+
+none-less : (x y : ℤ) → x ≡ y → int_lt x y ≡ false
+none-less x y e = by (int_lt x y) refl
+  where
+    by : (l : Bool) → int_lt x y ≡ l → l ≡ false
+    by true p = absurd (grind (arith, ints))
+    by false p = refl
+
+pub passed : (x y : ℤ) (xs ys : List ℤ) → x ≡ y → is_before (x ∷ xs) (y ∷ ys) ≡ is_before xs ys
+passed x y xs ys e = by (int_lt x y) (int_lt y x) (none-less x y e) (none-less y x (sym e))
+  where
+    by : (l r : Bool) → l ≡ false → r ≡ false → (if l then true else if r then false else is_before xs ys) ≡ is_before xs ys
+    by true r p q = absurd (cc p)
+    by false true p q = absurd (cc q)
+    by false false p q = refl
+
+-- one list ends first, or both end
+pub at-end : (us vs : List ℤ) (n m i : ℕ) → i + length us ≡ n → i + length vs ≡ m → (length us ≡ 0) ⊎ (length vs ≡ 0) → is_before us vs ≡ nat_lt n m
+at-end [] [] n m i eu ev e = grind arith
+at-end [] (v ∷ vs) n m i eu ev e = grind arith
+at-end (u ∷ us) [] n m i eu ev e = grind arith
+at-end (u ∷ us) (v ∷ vs) n m i eu ev (inl e) = absurd (omega (arith, e))
+at-end (u ∷ us) (v ∷ vs) n m i eu ev (inr e) = absurd (omega (arith, e))
+
+-- the sums from key k on
+pub sums-from : (f : OrderKey → ℤ) (order : List OrderKey) (k : ℕ) → k < length order → drop k (map f order) ≡ f (key_at order k) ∷ drop (k + 1) (map f order)
+sums-from f order k inside =
+    let none : OrderKey = record { terms = []; descending = false } in
+    drop-step (map f order) k (f none) (omega (arith, inside, length-map order f)) ∙ ap (λ (x : ℤ). x ∷ drop (k + 1) (map f order)) (get_or-map f order k none (f none) inside)
+
+module _ (f g : OrderKey → ℤ) (ks ls : List OrderKey) (k : ℕ) (ink : k < length ks) (inl_ : k < length ls)
+    (so : is_before (map f ks) (map g ls) ≡ is_before (drop k (map f ks)) (drop k (map g ls))) where
+  at-key : is_before (map f ks) (map g ls) ≡ is_before (f (key_at ks k) ∷ drop (k + 1) (map f ks)) (g (key_at ls k) ∷ drop (k + 1) (map g ls))
+  at-key = so ∙ (λ i. is_before (sums-from f ks k ink i) (sums-from g ls k inl_ i))
+
+  -- the sums of key k differ
+  pub key-decides : (x y : ℤ) → x ≡ f (key_at ks k) → y ≡ g (key_at ls k) → x ≢ y → is_before (map f ks) (map g ls) ≡ int_lt x y
+  key-decides x y ex ey apart =
+      at-key ∙ decided (f (key_at ks k)) (g (key_at ls k)) (drop (k + 1) (map f ks)) (drop (k + 1) (map g ls)) (λ e. apart (ex ∙ e ∙ sym ey)) ∙ ap (λ (z : ℤ). int_lt z (g (key_at ls k))) (sym ex) ∙ ap (λ (z : ℤ). int_lt x z) (sym ey)
+
+  -- they do not
+  pub key-passes : (x y : ℤ) → x ≡ f (key_at ks k) → y ≡ g (key_at ls k) → x ≡ y → is_before (map f ks) (map g ls) ≡ is_before (drop (k + 1) (map f ks)) (drop (k + 1) (map g ls))
+  key-passes x y ex ey e = at-key ∙ passed (f (key_at ks k)) (g (key_at ls k)) (drop (k + 1) (map f ks)) (drop (k + 1) (map g ls)) (sym ex ∙ e ∙ ey)
+
+-- all keys that both have are passed
+pub keys-end : (f g : OrderKey → ℤ) (ks ls : List OrderKey) (k n m : ℕ) → n ≡ length ks → m ≡ length ls → k ≤ length ks → k ≤ length ls → (length ks ≤ k) ⊎ (length ls ≤ k)
+    → is_before (map f ks) (map g ls) ≡ is_before (drop k (map f ks)) (drop k (map g ls)) → is_before (map f ks) (map g ls) ≡ nat_lt n m
+keys-end f g ks ls k n m en em ink inl_ ends so =
+    let a = length-drop k (map f ks) in
+    let b = length-drop k (map g ls) in
+    let c = length-map ks f in
+    let d = length-map ls g in
+    so ∙ at-end (drop k (map f ks)) (drop k (map g ls)) n m k (omega (arith, a, c, en, ink)) (omega (arith, b, d, em, inl_))
+    (elim ends [ inl e ↦ inl (omega (arith, a, c, e)) | inr e ↦ inr (omega (arith, b, d, e)) ])

@@ -1,0 +1,86 @@
+-- What contracts see of a merge and of its branches.
+use Rattle.std.specs.Prelude.{◌≡◌, ◌≢◌, ◌≤◌, ◌+◌, ℕ, Option, None, Some, List, [], ◌∷◌, map, length, get_or, take}
+use Rattle.std.specs.List.{All, AllByRecursion}
+use Rattle.anyk_model.specs.Table.{Table}
+use Rattle.anyk_model.specs.Query.{IsCombination, Query, row_counts}
+use Rattle.query_bind.specs.Weighed.{BoundQuery, Fits}
+use Rattle.tdp_core.specs.Seen.{Seen, counted}
+use Rattle.witness_key.specs.WitnessKey.{combinations_in}
+use Rattle.union_list.specs.Tagged.{Tagged, branch_at}
+use Rattle.union_list.specs.Union.{AreAscending}
+
+-- an engine: the number of calls so far, the greatest number of steps of the next call, and what a bound on the steps
+-- depends on beside the calls
+pub record EngineSeen : Type 0 where
+  pub calls : ℕ
+  pub due : ℕ
+  pub size : List ℕ
+
+-- a branch: its query, the combinations that are left of it, and its engine
+pub record BranchSeen : Type 0 where
+  pub bound : BoundQuery
+  pub left : List (List ℕ)
+  pub engine : EngineSeen
+
+-- a merge: the queries of its branches, the members that are left of their union, and the branches' engines
+pub record Merged : Type 0 where
+  pub queries : List Query
+  pub rest : List Tagged
+  pub engines : List EngineSeen
+
+abbrev pub queries_of : List BranchSeen → List Query
+queries_of branches = map (λ (b : BranchSeen). b.bound.query) branches
+
+abbrev pub lists_of : List BranchSeen → List (List (List ℕ))
+lists_of branches = map (λ (b : BranchSeen). b.left) branches
+
+abbrev pub engines_of : List BranchSeen → List EngineSeen
+engines_of branches = map (λ (b : BranchSeen). b.engine) branches
+
+-- the combination of the first rows, one for each of n items, if there are rows
+abbrev pub first_of : ℕ → Option (List ℕ) → List (List ℕ)
+first_of n None = []
+first_of n (Some rows) = take n rows ∷ []
+
+-- the combinations that each branch's engine has left
+abbrev pub rests_of : {E : Type 0} → (E → List Seen) → List Query → List E → List (List (List ℕ))
+rests_of rest [] engines = []
+rests_of rest (query ∷ queries) [] = []
+rests_of rest (query ∷ queries) (engine ∷ engines) = combinations_in query (rest engine) ∷ rests_of rest queries engines
+
+-- each branch has combinations of its rows left, in the order of its own ranking
+pub record AreLeft (queries : List Query) (tables : List Table) (lists : List (List (List ℕ))) : Type 0 where
+  pub ascending : AreAscending queries tables lists
+  pub combinations : (b : ℕ) → AllByRecursion (IsCombination (row_counts (branch_at queries b).items tables)) (get_or lists b [])
+
+-- at most 8 branches, of queries that fit the tables
+pub record AreBranches (tables : List Table) (branches : List BranchSeen) : Type 0 where
+  pub few : length branches ≤ 8
+  pub fit : All (λ (b : BranchSeen). Fits b.bound tables) branches
+  pub left : AreLeft (queries_of branches) tables (lists_of branches)
+
+-- # Calls of engines
+
+-- one call was made
+pub record HasCalled (old new : EngineSeen) : Type 0 where
+  pub calls : new.calls ≡ counted old.calls
+  pub size : new.size ≡ old.size
+
+abbrev pub engine_at : List EngineSeen → ℕ → EngineSeen
+engine_at engines b = get_or engines b (record { calls = 0; due = 0; size = [] })
+
+-- each engine was called once
+abbrev pub AreBegun : List EngineSeen → List EngineSeen → Type 0
+AreBegun [] [] = Unit {0}
+AreBegun [] (new ∷ news) = ⊥
+AreBegun (old ∷ olds) [] = ⊥
+AreBegun (old ∷ olds) (new ∷ news) = HasCalled old new × AreBegun olds news
+
+-- The engine of branch b was called once, and no other. The steps that it took are within what it had due, and within the most that its size and calls allow.
+pub record IsCalled (most : List ℕ → ℕ → ℕ) (old new : Merged) (b before now : ℕ) : Type 0 where
+  pub queries : new.queries ≡ old.queries
+  pub count : length new.engines ≡ length old.engines
+  pub others : (c : ℕ) → c ≢ b → engine_at new.engines c ≡ engine_at old.engines c
+  pub called : HasCalled (engine_at old.engines b) (engine_at new.engines b)
+  pub cost : now ≤ before + (engine_at old.engines b).due
+  pub share : now ≤ before + most (engine_at old.engines b).size (engine_at old.engines b).calls

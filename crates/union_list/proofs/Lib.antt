@@ -1,0 +1,4 @@
+pub mod Keys
+pub mod Unions
+pub mod Merging
+mod Rows

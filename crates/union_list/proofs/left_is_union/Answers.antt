@@ -1,0 +1,5 @@
+use Rattle.union_list.proofs.Unions.{rankings-union}
+use Rattle.union_list.proofs.left_is_union.Goals as goal
+
+pub returns : goal.returns
+returns c = rankings-union

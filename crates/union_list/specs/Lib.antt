@@ -1,0 +1,4 @@
+pub mod Tagged
+pub mod TaggedOrder
+pub mod Union
+pub mod UnionOutput
