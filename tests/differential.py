@@ -6,7 +6,8 @@ usage: tests/differential.py [PROGRAM] [COUNT]
 PROGRAM is ./anyk if it is not given, and COUNT is 300. Each case has a seed of its own, from 1 on, so that a case that
 fails is the same in the next run. Tables and queries are small and their values few, so that rows join and sums tie. The
 evaluation here goes through all combinations of rows, keeps those for which every equality holds on bytes, sorts by the sums
-(negated if a key descends) and then by the row numbers, and cuts at the limit. A query is cyclic if ears are removed,
+(negated if a key descends) and then by the row numbers, keeps of these, in half of the cases, the first for each row of an item, and
+cuts at the limit. A query is cyclic if ears are removed,
 the greatest first, until none is left, and more than one item is left; it is refused with these items. `plan` is called on the
 same input, and its report is made from the same removal. So is `session`, with a script of its own. `run` and `session` are called
 with each engine. Output, error output and status are compared to the byte. After that come inputs with their output, and inputs
@@ -114,6 +115,9 @@ def canonical_name(name):
 class Case:
     """A query with its tables, as its text, its words and its expected output."""
 
+    # the item of which each row's best answer is asked for, if one is named
+    best, best_joined = None, False
+
     def __init__(self, seed):
         self.rng = rng = random.Random(seed)
         # (all tables draw from the same few texts, so that rows join)
@@ -140,6 +144,10 @@ class Case:
         self.keys = [it for it in (self.key() for _ in range(rng.choice([0, 1, 1, 1, 2, 3]))) if it]
         self.limit = rng.choice([None, None, 0, 1, 2, 5, 20, 18446744073709551615])
         self.ranks, self.rows = rng.random() < 0.5, rng.random() < 0.5
+        # (the item of which each row's best answer is asked for, drawn apart)
+        apart = random.Random(f"best of {seed}")
+        self.best = apart.randrange(len(self.items)) if apart.random() < 0.5 else None
+        self.best_joined = apart.random() < 0.3
 
     def table(self):
         rng = self.rng
@@ -293,6 +301,12 @@ class Case:
         count = least if rng.random() < 0.9 else least + rng.randint(0, 2)
         return "".join(rng.choice("    \n\t\r") for _ in range(count))
 
+    def best_option(self):
+        if self.best is None:
+            return []
+        alias = self.items[self.best][1]
+        return [f"--best-of={alias}"] if self.best_joined else ["--best-of", alias]
+
     def words(self):
         rng = self.rng
         named = [f"{name}=t{at}.csv" for at, name in enumerate(self.tables)]
@@ -304,7 +318,7 @@ class Case:
         engine = rng.choice([None, None, ["--engine", "part"], ["--engine", "rec"], ["--engine=rec"]])
         options = [[it] for it in options] + ([engine] if engine else [])
         rng.shuffle(options)
-        flat = [it for option in options for it in option]
+        flat = self.best_option() + [it for option in options for it in option]
         return ["run", *flat, "q.sql", *named] if rng.random() < 0.7 else ["run", "q.sql", *named, *flat]
 
     def files(self):
@@ -380,7 +394,7 @@ class Case:
         return text, [it for _, it in lines if it]
 
     def session_words(self):
-        flags = ["--ranks"] * self.ranks + ["--rows"] * self.rows
+        flags = ["--ranks"] * self.ranks + ["--rows"] * self.rows + self.best_option()
         return ["session", *flags, "--script", "s.txt", "q.sql", *[f"{name}=t{at}.csv" for at, name in enumerate(self.tables)]]
 
     def told_by(self, steps):
@@ -428,13 +442,24 @@ class Case:
                 compared = [-it if descending else it for it, (_, descending) in zip(sums, self.keys)]
                 found.append((compared, rows, sums))
         found.sort()
+        asked = found if self.best is None else self.first_of_rows(found)
         shown, records = self.shown(), []
-        for _, rows, sums in found[: self.limit]:
+        for _, rows, sums in asked[: self.limit]:
             record = [value(rows, it) for it in shown]
             record += [str(it) for it in sums] if self.ranks else []
             record += [str(it) for it in rows] if self.rows else []
             records.append(record)
         return self.header(), records, len(found)
+
+    def first_of_rows(self, found):
+        """Those before which none has the same row of the item."""
+        seen, first = set(), []
+        for it in found:
+            row = it[1][self.best]
+            if row not in seen:
+                seen.add(row)
+                first.append(it)
+        return first
 
     def shown(self):
         """The columns of the output, without those of the options."""
@@ -499,6 +524,11 @@ ANSWERS = [
           "b,b,b\n2,1,1\n2,1,2\n"),
     # (no row of the first item, so there is no combination)
     over(NODES, 0, "a\n", NODE_WORDS, N="a\n", M=MANY, L="a\nx\ny\nx\ny\n"),
+    # (the best answer of each row, and not of each value)
+    over(JOIN, 0, "a,c\n2,q\n3,q\n1,q\n", ["run", "--best-of", "R", "q.sql", "R=R.csv", "S=S.csv"]),
+    over(JOIN, 0, "a,c\n2,q\n3,q\n3,p\n", ["run", "--best-of", "S", "q.sql", "R=R.csv", "S=S.csv"]),
+    over(JOIN, 0, "a,c,row1,row2\n3,p,3,1\n3,p,3,2\n", ["run", "--rows", "--best-of", "S", "q.sql", "R=R.csv", "S=S.csv"], S="b,c,w\nx,p,5\nx,p,5\n"),
+    over('select "".a from R as "" order by "".w', 0, "a\n2\n3\n1\n", ["run", "--best-of=", "q.sql", "R=R.csv"]),
     # (an empty weight counts 0)
     over(JOIN, 0, "a,c\n3,p\n1,p\n", S="b,c,w\nx,p,\n"),
 ]
@@ -522,6 +552,10 @@ REFUSALS = [
     over(JOIN, 2, "usage", ["run", "--help"]),
     over(JOIN, 2, "usage", ["run", "--ranks", "--ranks", "q.sql", "R=R.csv"]),
     over(JOIN, 2, "usage", ["plan", "--ranks", "q.sql", "R=R.csv", "S=S.csv"]),
+    over(JOIN, 2, "usage", ["plan", "--best-of", "R", "q.sql", "R=R.csv", "S=S.csv"]),
+    over(JOIN, 2, "usage", ["run", "--best-of", "R", "--best-of", "S", "q.sql", "R=R.csv", "S=S.csv"]),
+    # (the alias takes the word, and the query's file is the next one)
+    over(JOIN, 9, "file R=R.csv: not found", ["run", "--best-of", "q.sql", "R=R.csv", "S=S.csv"]),
     over(JOIN, 2, "usage", ["load", "--number", "1", "--rows", "0"]),
     over("select R.a from R where R.a < 1", 3, "syntax error at byte 28"),
     over("select R.a R.b from R", 3, "syntax error at byte 11"),
@@ -543,6 +577,12 @@ REFUSALS = [
     over(JOIN, 5, "item 2: row 1: column 3: not a weight", S="b,c,w\nx,p,+\n"),
     over(JOIN, 5, "item 1: row 1: column 3: not a weight", R=f"a,b,w\n1,x,{GREATEST + 1}\n"),
     edges(f"select A.a from E A, E B, E C where {TRIANGLE}", 6, cyclic(1, 2, 3)),
+    edges(f"select A.a from E A, E B, E C where {TRIANGLE}", 6, cyclic(1, 2, 3), "--best-of", "C"),
+    # (an alias that no item has, after the weights and before the structure)
+    edges(f"select A.a from E A, E B, E C where {TRIANGLE}", 4, "unknown alias in --best-of", "--best-of", "X"),
+    over(JOIN, 4, "unknown alias in --best-of", ["run", "--best-of", "X", "q.sql", "R=R.csv", "S=S.csv"]),
+    over("select r.a from R r", 4, "unknown alias in --best-of", ["run", "--best-of", "R", "q.sql", "R=R.csv"]),
+    over(JOIN, 5, "item 1: row 2: column 3: not a weight", ["run", "--best-of", "X", "q.sql", "R=R.csv", "S=S.csv"], R="a,b,w\n1,x,3\n2,y,12x\n"),
     edges("select A.a from E A join E B on A.b = B.a join E C on C.b = A.a and B.b = C.a order by A.w + B.w limit 0", 6,
           cyclic(1, 2, 3), "--ranks"),
     edges(f"select A.a from E A, E B, E C where {TRIANGLE}", 6, cyclic(1, 2, 3), "--engine", "rec", E="a,b\n"),

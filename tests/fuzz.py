@@ -311,6 +311,8 @@ def wanted_of(case, files, words):
 def try_changed(program, seed):
     """Nothing, or what went wrong: what, files, words, what was wanted and what was got."""
     rng, case = random.Random(f"changed {seed}"), Case(seed)
+    # (--best-of is left to the comparison on generated queries)
+    case.best = None
     files, words = {name: bytes_of(text) for name, text in case.files().items()}, case.words()
     script, session, plan = case.script()[0], case.session_words(), case.plan_words()
     files["s.txt"] = bytes_of(script)
@@ -394,6 +396,7 @@ def sqlite_output(case):
 
 def try_large(program, seed):
     case = Large(f"large {seed}")
+    case.best = None
     case.limit = case.rng.choice([0, 1, 10, 100, 1000, 1000]) if case.limit is None else min(case.limit, 1000)
     files, words, core = case.files(), case.words(), case.core()
     if len(core) > 1:

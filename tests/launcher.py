@@ -714,7 +714,7 @@ FILES = {
     "semi.sql": "select price from semi", "one.sql": "select * from x", "many.sql": "select * from " + ", ".join(f"t a{it}" for it in range(17)),
     "beside.sql": 'SELECT trains.train FROM "trains""t"',
     "long.sql": "select " + "a" * 300 + ", ? from trains", "union.sql": "select n from bad order by n union all select n from bad",
-    "s1.txt": "open a\nnext a 1\nnext  a 1\n", "s2.txt": "open first\nopen second\nclose second\nnext frist 1\n", "s3.txt": "# one\nopen a\nopen a\n",
+    "s0.txt": "open a\n", "s1.txt": "open a\nnext a 1\nnext  a 1\n", "s2.txt": "open first\nopen second\nclose second\nnext frist 1\n", "s3.txt": "# one\nopen a\nopen a\n",
 }
 WORDS = ["stay.sql", "trains=t.csv", "hotels=h.csv"]
 
@@ -733,6 +733,9 @@ REFUSALS = [
     (["run", "--rank", *WORDS], 2, "usage", ["--rank is not an option of run; perhaps --ranks is meant"]),
     (["run", "--ranks", "--ranks", *WORDS], 2, "usage", ["--ranks is given twice"]),
     (["run", "--engine", "best", *WORDS], 2, "usage", ["--engine takes part or rec"]),
+    (["run", *WORDS, "--best-of"], 2, "usage", ["--best-of takes the alias of an item"]),
+    (["run", "--best-of", *WORDS[:2]], 2, "usage", ["TABLE=FILE is missing", "[--best-of ALIAS]"]),
+    (["plan", "--best-of", "t", *WORDS], 2, "usage", ["--best-of is not an option of plan"]),
     (["run", *WORDS, "trains=h.csv", "x"], 2, "usage", ["the table trains is given twice", "x is not of the form TABLE=FILE"]),
     (["session", *WORDS], 2, "usage", ["--script is missing", "usage: anyk session"]),
     (["load", "--rows", "3"], 2, "usage", ["--number is missing", "usage: anyk load"]),
@@ -761,6 +764,8 @@ REFUSALS = [
     (["run", "bare.sql", "trains=t.csv", "hotels=h.csv"], 4, "byte 7: unknown column", ["trains (t.csv)", "hotels (h.csv)", "perhaps price is meant"]),
     (["run", "semi.sql", "semi=semi.csv"], 4, "byte 7: unknown column", ["separated by semicolons"]),
     (["run", "both.sql", "trains=t.csv", "hotels=h.csv"], 4, "byte 7: ambiguous column", ["write trains.price or h.price"]),
+    (["run", "--best-of", "hotels", *WORDS], 4, "unknown alias in --best-of", ["the items are t, h; the table hotels is called h there"]),
+    (["session", "--script", "s0.txt", "--best-of=T", *WORDS], 4, "unknown alias in --best-of", ["the items are t, h; perhaps t is meant"]),
     (["run", "one.sql", "x=none.csv"], 5, "table x: no header", ["the file is none.csv, which is empty"]),
     (["run", "one.sql", "x=twice.csv"], 5, "table x: column 3: name used twice", ["columns 1 and 3 of twice.csv have the name a"]),
     (["run", "one.sql", "x=cut.csv"], 5, "table x: row 2: wrong number of fields", ["line 4 of cut.csv, with 1 where the header has 2:\n", "    1\n"]),
@@ -1061,7 +1066,7 @@ def test_completion(house):
     lines = ran_by.stdout.splitlines()
     same((ran_by.returncode, ran_by.stderr), (0, ""))
     check("stay.sql" in lines[7] and "trains.csv" in lines[7], lines[7])
-    same(lines[:7] + lines[8:], ["run", "--engine --ranks --rows", "--script", "part rec", "rec", "stay.sql", "trains.csv",
+    same(lines[:7] + lines[8:], ["run", "--engine --ranks --rows --best-of", "--script", "part rec", "rec", "stay.sql", "trains.csv",
                                  "--engine --number --rows", "plan picture", "", "--dot", "stay.sql", "trains.csv",
                                  "picture"])
     for shell, file in (("zsh", "_anyk"), ("fish", "anyk.fish"), ("bash", "anyk.bash")):

@@ -1,3 +1,2 @@
 pub mod SmallTies
 pub mod SmallTree
-pub mod SmallTrees

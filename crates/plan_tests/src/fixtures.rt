@@ -5,7 +5,7 @@ ghost use Rattle.query_bind.specs.Weighed.{Fits};
 ghost use Rattle.tdp_core.specs.WellFormed.{IsTieFreeTree};
 
 use csv_tables::{TableFault, Tables};
-use plan_build::{Plan, prepare};
+use plan_build::{Plan, prepare, prepare_at};
 use query_bind::{Query, bind};
 use query_grammar::{Select, parse};
 use rank_key::Rank;
@@ -113,6 +113,47 @@ pub(crate) fn plan_of<R: Rank, L: Ledger>(
     let mut tables = Tables::new(alloc);
     read_two(&mut tables, files).ok()?;
     plan_over(alloc, &tables, text, which, steps)
+}
+
+// The plan of the query of this text over the tables, with this item at the root.
+fn plan_over_at<R: Rank, L: Ledger>(
+    alloc: Global,
+    tables: &Tables,
+    text: &[u8],
+    which: &[u32],
+    item: u32,
+    steps: &mut Steps<L>,
+) -> Option<Plan<R>>
+    requires few { length which.now ≤ 16 }
+    requires known { AllByRecursion (λ t. t < length tables.now) which.now }
+    ensures tie_free { IfSome result (λ plan. IsTieFreeTree plan.tree) }
+{
+    let query = query_of(alloc, tables, text, which, R::KEYS)?;
+    if item >= query.items() {
+        return None;
+    }
+    match prepare_at(alloc, &query, tables, item, steps) {
+        Ok(plan) => Some(plan),
+        Err(_) => None,
+    }
+}
+
+/// The plan of the query of this text over the tables of two files, with this item at the root.
+pub(crate) fn plan_at<R: Rank, L: Ledger>(
+    alloc: Global,
+    files: Files,
+    text: &[u8],
+    which: &[u32],
+    item: u32,
+    steps: &mut Steps<L>,
+) -> Option<Plan<R>>
+    requires few { length which.now ≤ 16 }
+    requires known { AllByRecursion (λ t. t < 2) which.now }
+    ensures tie_free { IfSome result (λ plan. IsTieFreeTree plan.tree) }
+{
+    let mut tables = Tables::new(alloc);
+    read_two(&mut tables, files).ok()?;
+    plan_over_at(alloc, &tables, text, which, item, steps)
 }
 
 /// Whether there is an answer, and its first items have these rows.

@@ -5,7 +5,7 @@ ghost use Rattle.tdp_core.specs.WellFormed.{IsTieFreeTree};
 
 use crate::fixtures::{TWO, plan_of, query_of, read_two};
 use csv_tables::Tables;
-use plan_build::{Plan, PlanFault, prepare};
+use plan_build::{Plan, PlanFault, prepare, prepare_at};
 use query_bind::Query;
 use rank_key::{Rank, SumRank};
 use std::alloc::Global;
@@ -57,7 +57,15 @@ fn plans_two_tables(rt: HostRuntime) {
     assert!(rt; is_planned::<SumRank, Brand>(rt.alloc(), Blank::new(1)));
 }
 
-// Whether the query is cyclic, with three items left.
+// Whether there is no plan, and three items are left.
+fn leaves_three<R: Rank>(prepared: Result<Plan<R>, PlanFault>) -> bool {
+    match prepared {
+        Ok(_) => false,
+        Err(fault) => fault == PlanFault::Cyclic(0b111),
+    }
+}
+
+// Whether the query is cyclic, with three items left, also with its last item at the root.
 fn is_cyclic<R: Rank, L: Ledger>(
     alloc: Global,
     query: &Query,
@@ -67,10 +75,12 @@ fn is_cyclic<R: Rank, L: Ledger>(
     requires fits { Fits query.now tables.now }
     requires order { length query.now.query.order ≤ R.KEYS }
 {
-    match prepare::<R, L>(alloc, query, tables, steps) {
-        Ok(_) => false,
-        Err(fault) => fault == PlanFault::Cyclic(0b111),
+    if query.items() != 3 {
+        return false;
     }
+    let whole = prepare::<R, L>(alloc, query, tables, steps);
+    let rooted = prepare_at::<R, L>(alloc, query, tables, 2, steps);
+    leaves_three(whole) && leaves_three(rooted)
 }
 
 // Whether a triangle over the first table is cyclic.

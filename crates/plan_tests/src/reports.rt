@@ -1,8 +1,8 @@
 //! The reports of two tables that share a column, and of a table that is joined to itself.
-ghost use Rattle.std.specs.Prelude.{◌≡◌, ◌<◌, ◌≤◌, length};
+ghost use Rattle.std.specs.Prelude.{◌≡◌, ◌<◌, ◌≤◌, IfSome, Option, length, ℕ};
 ghost use Rattle.std.specs.List.{AllByRecursion};
 ghost use Rattle.query_bind.specs.Weighed.{Fits};
-ghost use Rattle.plan_build.specs.Plan.{IsPlan};
+ghost use Rattle.plan_build.specs.Plan.{IsPlanFor};
 ghost use Rattle.plan_build.specs.RankedPlan.{IsRankedPlan};
 
 use crate::fixtures::{TWO, query_of, read_two};
@@ -23,7 +23,7 @@ fn has_report<R: Rank>(
     tables: &Tables,
     expected: &[u8],
 ) -> bool
-    requires plan { IsPlan R.KEYS R.key query.now tables.now plan.now }
+    requires plan { IsPlanFor R.KEYS R.key query.now tables.now plan.now }
 {
     match report(alloc, plan, query, tables) {
         Ok(lines) => lines.as_slice() == expected,
@@ -39,7 +39,7 @@ fn is_reported(
     tables: &Tables,
     expected: &[u8],
 ) -> bool
-    requires plan { IsRankedPlan query.now tables.now plan.now }
+    requires plan { (item : Option ℕ) × IsRankedPlan query.now tables.now item plan.now }
 {
     match plan {
         RankedPlan::Sum(plan) => has_report(alloc, plan, query, tables, expected),
@@ -47,7 +47,25 @@ fn is_reported(
     }
 }
 
-// The same of the plan of this query.
+// The same of the plan of this query, with this item at the root if one is given.
+fn reports_at<L: Ledger>(
+    alloc: Global,
+    query: &Query,
+    tables: &Tables,
+    item: Option<u32>,
+    expected: &[u8],
+    steps: &mut Steps<L>,
+) -> bool
+    requires fits { Fits query.now tables.now }
+    requires item { IfSome item (λ i. i < length query.now.query.items) }
+{
+    match prepare_ranked(alloc, query, tables, item, steps) {
+        Ok(plan) => is_reported(alloc, &plan, query, tables, expected),
+        Err(_) => false,
+    }
+}
+
+// The same of the plan of this query, whichever item is at the root.
 fn reports_query<L: Ledger>(
     alloc: Global,
     query: &Query,
@@ -57,10 +75,12 @@ fn reports_query<L: Ledger>(
 ) -> bool
     requires fits { Fits query.now tables.now }
 {
-    match prepare_ranked(alloc, query, tables, steps) {
-        Ok(plan) => is_reported(alloc, &plan, query, tables, expected),
-        Err(_) => false,
+    for item in 0..query.items() {
+        if !reports_at(alloc, query, tables, Some(item), expected, steps) {
+            return false;
+        }
     }
+    reports_at(alloc, query, tables, None, expected, steps)
 }
 
 // The same of the query of this text.

@@ -1,12 +1,13 @@
 //! The best answer of each row of a tree's root.
-ghost use Rattle.std.specs.Prelude.{◌≡◌, ◌+◌, ◌<◌, ◌≤◌, IfOk, OnOk};
+ghost use Rattle.std.specs.Prelude.{◌≡◌, ◌+◌, ◌<◌, ◌≤◌, IfOk, OnOk, length};
+ghost use Rattle.std.specs.List.{AllByRecursion};
 ghost use Rattle.tdp_core.specs.RawData.{row_total};
 ghost use Rattle.tdp_core.specs.WellFormed.{IsTieFreeTree};
 ghost use Rattle.plan_tests.specs.SampleTrees.{IsSample};
 
-use crate::fixtures::{TWO, plan_of};
+use crate::fixtures::{Files, TWO, plan_at, plan_of};
 use crate::solving::{add, branching, tree_of};
-use crate::witnesses::gives_all;
+use crate::witnesses::{OF_FOUR_ITEMS, gives_all};
 use best_per::BestPer;
 use plan_build::Plan;
 use rank_key::{LexRank, Rank, SumRank};
@@ -96,43 +97,82 @@ fn each_row_of_the_root_has_its_best(rt: HostRuntime) {
     assert!(rt; six_are_given::<SumRank, Brand>(rt.alloc(), Blank::new(1)) == Ok(true));
 }
 
-// Over R and S, joined and ordered by the sum of their weights: the best answers of the rows of R, and of those of S.
-const OF_TWO: [[[u32; 4]; 3]; 2] = [
-    [[2, 2, 0, 0], [3, 3, 0, 0], [1, 3, 0, 0]],
-    [[2, 2, 0, 0], [3, 3, 0, 0], [3, 1, 0, 0]],
-];
-
-// Whether the tree gives those of its root's item.
-fn gives_of_two<R: Rank, L: Ledger>(alloc: Global, tree: &Tree<R>, steps: &mut Steps<L>) -> bool
-    requires tie_free { IsTieFreeTree tree.now }
-{
-    if tree.nodes() != 2 {
-        return false;
-    }
-    match OF_TWO.get(tree.shape(0).item as usize) {
-        Some(expected) => gives(alloc, tree, expected, steps) == Ok(true),
-        None => false,
-    }
+// Whether the root of the tree is this item.
+fn has_root<R: Rank>(tree: &Tree<R>, item: u32) -> bool {
+    tree.nodes() > 0 && tree.shape(0).item == item
 }
 
-fn two_are_planned<R: Rank, L: Ledger>(alloc: Global, blank: Blank) -> bool
+// Whether the plan with this item at the root has it there, and the best answers of its rows have these rows.
+fn gives_at<R: Rank, L: Ledger>(
+    alloc: Global,
+    files: Files,
+    text: &[u8],
+    which: &[u32],
+    item: u32,
+    expected: &[[u32; 4]],
+    blank: Blank,
+) -> bool
+    requires few { length which.now ≤ 16 }
+    requires known { AllByRecursion (λ t. t < 2) which.now }
     requires name { blank.name ≡ L.name }
     requires parts { blank.parts ≡ L.parts }
     requires share { 0 < L.parts }
 {
-    let text = b"select R.a, S.c from R, S where R.b = S.b order by R.w + S.w";
     let mut steps = Steps::<L>::new(blank);
-    let plan: Option<Plan<R>> = plan_of(alloc, TWO, text, &[0, 1], &mut steps);
+    let plan: Option<Plan<R>> = plan_at(alloc, files, text, which, item, &mut steps);
     match plan {
-        Some(plan) => gives_of_two(alloc, plan.tree(), &mut steps),
+        Some(plan) => {
+            let tree = plan.tree();
+            has_root(tree, item) && gives(alloc, tree, expected, &mut steps) == Ok(true)
+        }
         None => false,
     }
 }
 
 #[test]
-fn two_tables_have_best_answers(rt: HostRuntime) {
-    assert!(rt; two_are_planned::<SumRank, Brand>(rt.alloc(), Blank::new(1)));
-    assert!(rt; two_are_planned::<LexRank, Brand>(rt.alloc(), Blank::new(1)));
+fn each_item_of_two_tables_can_be_the_root(rt: HostRuntime) {
+    let alloc = rt.alloc();
+    let text = b"select R.a, S.c from R, S where R.b = S.b order by R.w + S.w";
+    let first = [[2, 2, 0, 0], [3, 3, 0, 0], [1, 3, 0, 0]];
+    assert!(rt; gives_at::<SumRank, Brand>(alloc, TWO, text, &[0, 1], 0, &first, Blank::new(1)));
+    assert!(rt; gives_at::<LexRank, Brand>(alloc, TWO, text, &[0, 1], 0, &first, Blank::new(1)));
+    let second = [[2, 2, 0, 0], [3, 3, 0, 0], [3, 1, 0, 0]];
+    assert!(rt; gives_at::<SumRank, Brand>(alloc, TWO, text, &[0, 1], 1, &second, Blank::new(1)));
+    assert!(rt; gives_at::<LexRank, Brand>(alloc, TWO, text, &[0, 1], 1, &second, Blank::new(1)));
+}
+
+// The sums are -2, 0 three times, and 2.
+#[test]
+fn each_item_of_a_table_joined_to_itself_can_be_the_root(rt: HostRuntime) {
+    let alloc = rt.alloc();
+    let text = b"select a.a, b.a from R a, R b where a.b = b.b order by a.w - b.w";
+    let first = [[3, 1, 0, 0], [1, 1, 0, 0], [2, 2, 0, 0]];
+    assert!(rt; gives_at::<SumRank, Brand>(alloc, TWO, text, &[0, 0], 0, &first, Blank::new(1)));
+    let second = [[3, 1, 0, 0], [2, 2, 0, 0], [3, 3, 0, 0]];
+    assert!(rt; gives_at::<SumRank, Brand>(alloc, TWO, text, &[0, 0], 1, &second, Blank::new(1)));
+}
+
+// Whether the query of four items gives these as the best answers of the rows of this item.
+fn gives_of_four<L: Ledger>(alloc: Global, item: u32, expected: &[[u32; 4]], blank: Blank) -> bool
+    requires name { blank.name ≡ L.name }
+    requires parts { blank.parts ≡ L.parts }
+    requires share { 0 < L.parts }
+{
+    let text =
+        b"select A.v from T A, U B, T C, U D where A.k = B.k and B.m = D.m and D.l = C.l order by A.w + B.w + C.v + D.w";
+    let which = [0, 1, 0, 1];
+    gives_at::<SumRank, L>(alloc, OF_FOUR_ITEMS, text, &which, item, expected, blank)
+}
+
+#[test]
+fn each_item_of_four_can_be_the_root(rt: HostRuntime) {
+    let alloc = rt.alloc();
+    let least = [2, 1, 2, 2];
+    assert!(rt; gives_of_four::<Brand>(alloc, 0, &[least, [1, 1, 2, 2]], Blank::new(1)));
+    assert!(rt; gives_of_four::<Brand>(alloc, 1, &[least], Blank::new(1)));
+    let third = [least, [2, 1, 1, 2], [2, 1, 4, 2], [2, 1, 3, 2]];
+    assert!(rt; gives_of_four::<Brand>(alloc, 2, &third, Blank::new(1)));
+    assert!(rt; gives_of_four::<Brand>(alloc, 3, &[least], Blank::new(1)));
 }
 
 // Whether the plan of a query without answers gives none.

@@ -1,5 +1,6 @@
 //! A call of the program over files in memory, and what it must do.
-ghost use Rattle.std.specs.Prelude.{◌≡◌, ◌<◌};
+ghost use Rattle.std.specs.Prelude.{◌≡◌, ◌<◌, IfOk};
+ghost use Rattle.outer_io.specs.Entries.{entry_of};
 
 use anyk_top::run_words;
 use outer_io::{MemFile, MemShelf, MemSink, have_distinct_names};
@@ -22,67 +23,86 @@ pub(super) const FOUND: &str = "a,c\n2,q\n3,q\n3,p\n1,q\n1,p\n";
 /// The two tables that share a column.
 const TWO: &[(&str, &str)] = &[("R.csv", LEFT), ("S.csv", RIGHT)];
 
-/// A run of the join of the two tables.
+/// A run of the join of the two tables, in which no call fails.
 pub(super) const RUN: Case<'static> = Case {
     words: "run q.sql R=R.csv S=S.csv",
     query: JOIN,
     files: TWO,
+    unread: 0,
+    unwritten: 0,
+    stuck: 0,
+    untold: 0,
+    most: 1000,
     status: 0,
     out: "",
     err: "",
 };
 
-/// The words of a call, the text of the query's file, the other files, and what the call must do.
+/// The words of a call, the text of the query's file and the other files; the numbers, from 1, of
+/// the calls that fail, where 0 stands for none; and what the call must do.
 #[derive(Clone, Copy)]
 pub(super) struct Case<'a> {
     pub(super) words: &'a str,
     pub(super) query: &'a str,
     pub(super) files: &'a [(&'a str, &'a str)],
+    /// The call of the shelf that fails.
+    pub(super) unread: u64,
+    /// The write of the output that fails.
+    pub(super) unwritten: u64,
+    /// The write of the output that takes nothing.
+    pub(super) stuck: u64,
+    /// The write of the errors that fails.
+    pub(super) untold: u64,
+    /// The greatest number of bytes that a write of the output takes.
+    pub(super) most: usize,
     pub(super) status: u8,
     pub(super) out: &'a str,
     pub(super) err: &'a str,
 }
 
-/// The numbers, from 1, of the calls that fail: of the shelf, of the output, and of the errors; the
-/// number of the write of the output that takes nothing; and the greatest number of bytes that a
-/// write of the output takes.
-#[derive(Clone, Copy)]
-pub(super) struct Failing {
-    pub(super) read: u64,
-    pub(super) write: u64,
-    pub(super) stuck: u64,
-    pub(super) line: u64,
-    pub(super) most: usize,
-}
-
-/// No call fails.
-pub(super) const NEVER: Failing = Failing {
-    read: 0,
-    write: 0,
-    stuck: 0,
-    line: 0,
-    most: 1000,
-};
-
 const ROOM: usize = 50000;
 
-fn file(alloc: Global, name: &str, text: &str) -> Result<MemFile, AllocError> {
-    Ok(MemFile {
-        name: String::from_str(alloc, name)?,
-        bytes: Vec::from_slice(alloc, text.as_bytes())?,
-    })
+/// A file of this name with this text.
+pub(super) fn file(alloc: Global, name: &str, text: &str) -> Result<MemFile, AllocError>
+    ensures { IfOk result (λ file. entry_of file ≡ (name.now, text.now)) }
+{
+    let name = String::from_str(alloc, name)?;
+    let bytes = Vec::from_slice(alloc, text.as_bytes())?;
+    Ok(MemFile { name, bytes })
 }
 
-// The words of the text, with these options after the first of them.
-fn words_of(alloc: Global, text: &str, options: &[&str]) -> Result<Vec<String>, AllocError> {
+// Appends a file.
+fn push_file(
+    alloc: Global,
+    files: &mut Vec<MemFile>,
+    name: &str,
+    text: &str,
+) -> Result<(), AllocError> {
+    files.push(file(alloc, name, text)?)?;
+    Ok(())
+}
+
+// The file of the query, and the other files.
+fn files_of(alloc: Global, case: &Case<'_>) -> Result<Vec<MemFile>, AllocError> {
+    let mut files = Vec::new(alloc);
+    push_file(alloc, &mut files, "q.sql", case.query)?;
+    for (name, text) in case.files {
+        push_file(alloc, &mut files, name, text)?;
+    }
+    Ok(files)
+}
+
+// Appends a word.
+fn push_word(alloc: Global, words: &mut Vec<String>, word: &str) -> Result<(), AllocError> {
+    words.push(String::from_str(alloc, word)?)?;
+    Ok(())
+}
+
+// The words of a text.
+fn words_of(alloc: Global, text: &str) -> Result<Vec<String>, AllocError> {
     let mut words = Vec::new(alloc);
     for word in text.split(' ') {
-        words.push(String::from_str(alloc, word)?)?;
-        if words.len() == 1 {
-            for option in options {
-                words.push(String::from_str(alloc, option)?)?;
-            }
-        }
+        push_word(alloc, &mut words, word)?;
     }
     Ok(words)
 }
@@ -91,20 +111,23 @@ fn one(alloc: Global, number: u64) -> Result<Vec<u64>, AllocError> {
     Ok(vec![in alloc; number]?)
 }
 
-fn shelf_of(alloc: Global, case: &Case<'_>, read: u64) -> Result<Option<MemShelf>, AllocError> {
-    let mut files = Vec::new(alloc);
-    files.push(file(alloc, "q.sql", case.query)?)?;
-    for (name, text) in case.files {
-        files.push(file(alloc, name, text)?)?;
-    }
+// The shelf with the files of the case, if their names differ.
+fn shelf_of(alloc: Global, case: &Case<'_>) -> Result<Option<MemShelf>, AllocError> {
+    let unread = one(alloc, case.unread)?;
+    let files = files_of(alloc, case)?;
     if !have_distinct_names(&files) {
         return Ok(None);
     }
-    Ok(Some(MemShelf::new(files, one(alloc, read)?)))
+    Ok(Some(MemShelf::new(files, unread)))
 }
 
-// A sink that takes at most `most` bytes in a call, fails at one call and takes nothing at another.
-fn sink_of(alloc: Global, most: usize, fails: u64, stuck: u64) -> Result<MemSink, AllocError> {
+/// A sink that takes at most `most` bytes in a call, fails at one call and takes nothing at another.
+pub(super) fn sink_of(
+    alloc: Global,
+    most: usize,
+    fails: u64,
+    stuck: u64,
+) -> Result<MemSink, AllocError> {
     let failing = one(alloc, fails)?;
     let stuck = one(alloc, stuck)?;
     MemSink::new(alloc, ROOM, most, failing, stuck)
@@ -144,31 +167,48 @@ fn comes_out(
         && err.bytes() == case.err.as_bytes()
 }
 
-// The same, over sinks with these failing calls.
-fn comes_out_with(
+// The same, over this output.
+fn comes_out_on(
     alloc: Global,
     case: &Case<'_>,
     words: &[String],
     shelf: &mut MemShelf,
-    failing: Failing,
+    out: &mut MemSink,
 ) -> Result<bool, AllocError> {
-    let mut out = sink_of(alloc, failing.most, failing.write, failing.stuck)?;
-    let mut err = sink_of(alloc, 3, failing.line, 0)?;
-    Ok(comes_out(alloc, case, words, shelf, &mut out, &mut err))
+    let mut err = sink_of(alloc, 3, case.untold, 0)?;
+    Ok(comes_out(alloc, case, words, shelf, out, &mut err))
 }
 
-// The same, over a shelf with these failing calls, and with these options.
-fn holds_with(
+// The same, over this shelf.
+fn comes_out_from(
     alloc: Global,
     case: &Case<'_>,
-    options: &[&str],
-    failing: Failing,
+    words: &[String],
+    shelf: &mut MemShelf,
 ) -> Result<bool, AllocError> {
-    let words = words_of(alloc, case.words, options)?;
-    match shelf_of(alloc, case, failing.read)? {
-        Some(mut shelf) => comes_out_with(alloc, case, &words, &mut shelf, failing),
+    let mut out = sink_of(alloc, case.most, case.unwritten, case.stuck)?;
+    comes_out_on(alloc, case, words, shelf, &mut out)
+}
+
+// The same with these words.
+fn holds_of(alloc: Global, case: &Case<'_>, words: &[String]) -> Result<bool, AllocError> {
+    match shelf_of(alloc, case)? {
+        Some(mut shelf) => comes_out_from(alloc, case, words, &mut shelf),
         None => Ok(false),
     }
+}
+
+// The same with the words of the case.
+fn holds_as_said(alloc: Global, case: &Case<'_>) -> Result<bool, AllocError> {
+    let words = words_of(alloc, case.words)?;
+    holds_of(alloc, case, &words)
+}
+
+// The same with one word more, which names the engine by recursion.
+fn holds_by_recursion(alloc: Global, case: &Case<'_>) -> Result<bool, AllocError> {
+    let mut words = words_of(alloc, case.words)?;
+    push_word(alloc, &mut words, "--engine=rec")?;
+    holds_of(alloc, case, &words)
 }
 
 // Whether the command has engines to choose from, and the words name none.
@@ -176,15 +216,12 @@ fn leaves_engine_open(words: &str) -> bool {
     !words.starts_with("plan ") && !words.contains("--engine")
 }
 
-/// Whether the case does what it says over these failing calls, with each engine.
-pub(super) fn holds(alloc: Global, case: &Case<'_>, failing: Failing) -> Result<bool, AllocError> {
-    if !holds_with(alloc, case, &[], failing)? {
+/// Whether the case does what it says, with each engine.
+pub(super) fn holds(alloc: Global, case: &Case<'_>) -> Result<bool, AllocError> {
+    if leaves_engine_open(case.words) && !holds_by_recursion(alloc, case)? {
         return Ok(false);
     }
-    if !leaves_engine_open(case.words) {
-        return Ok(true);
-    }
-    holds_with(alloc, case, &["--engine=rec"], failing)
+    holds_as_said(alloc, case)
 }
 
 /// The place of the first case that does not do what it says, with one engine or the other.
@@ -193,7 +230,7 @@ pub(super) fn first_failing(
     cases: &[Case<'_>],
 ) -> Result<Option<usize>, AllocError> {
     for (i, case) in cases.iter().enumerate() {
-        if !holds(alloc, case, NEVER)? {
+        if !holds(alloc, case)? {
             return Ok(Some(i));
         }
     }
@@ -216,11 +253,11 @@ pub(super) fn over<'a>(
 ) -> Case<'a> {
     Case {
         words,
-        query: JOIN,
         files,
         status,
         out,
         err,
+        ..RUN
     }
 }
 

@@ -1,6 +1,6 @@
 //! Four generated tables in a row, whose join is too large to be formed and sorted. Their answers
 //! were found without the program, from the least sums of what follows each value.
-use super::cases::{Case, NEVER, holds, named};
+use super::cases::{Case, holds, named, over};
 use make_input::{LOAD_QUERY, tables_of};
 use std::alloc::{AllocError, Global};
 
@@ -33,14 +33,10 @@ fn writes<'a>(
         named("s.txt", "open a\nnext a 100\n"),
     ];
     let call = Case {
-        words,
         query: LOAD_QUERY,
-        files: &files,
-        status: 0,
-        out,
-        err: "",
+        ..over(words, &files, 0, out, "")
     };
-    holds(alloc, &call, NEVER)
+    holds(alloc, &call)
 }
 
 // The same over the tables of 20,000 rows each that are made from the number 1.

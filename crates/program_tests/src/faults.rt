@@ -1,65 +1,155 @@
 //! Files that cannot be read, output that cannot be written, and files that are cut off.
-use super::cases::{Case, FOUND, Failing, LEFT, NEVER, RIGHT, RUN, holds, named, over};
+use super::cases::{Case, FOUND, LEFT, RIGHT, RUN, first_failing, holds, named, over};
 use std::alloc::{AllocError, Global};
 
 const ANSWERED: Case<'static> = Case { out: FOUND, ..RUN };
 
-// Whether a run ends at the read with this number, if that read fails. The first calls open the
-// query's file, read it and find its end. The calls for each table follow.
-fn ends_at_read(alloc: Global, read: u64) -> Result<bool, AllocError> {
-    let err = match read {
-        1..4 => "anyk: file q.sql: read failed\n",
-        4..7 => "anyk: file R.csv: read failed\n",
-        _ => "anyk: file S.csv: read failed\n",
-    };
-    let unread = Case {
-        status: 10,
-        err,
-        ..RUN
-    };
-    holds(alloc, &unread, Failing { read, ..NEVER })
-}
+const OF_QUERY: Case<'static> = Case {
+    status: 10,
+    err: "anyk: file q.sql: read failed\n",
+    ..RUN
+};
+
+const OF_LEFT: Case<'static> = Case {
+    err: "anyk: file R.csv: read failed\n",
+    ..OF_QUERY
+};
+
+const OF_RIGHT: Case<'static> = Case {
+    err: "anyk: file S.csv: read failed\n",
+    ..OF_QUERY
+};
+
+// The first calls open the query's file, read it and find its end. The calls for each table follow.
+const READS: &[Case<'static>] = &[
+    Case {
+        unread: 1,
+        ..OF_QUERY
+    },
+    Case {
+        unread: 2,
+        ..OF_QUERY
+    },
+    Case {
+        unread: 3,
+        ..OF_QUERY
+    },
+    Case {
+        unread: 4,
+        ..OF_LEFT
+    },
+    Case {
+        unread: 5,
+        ..OF_LEFT
+    },
+    Case {
+        unread: 6,
+        ..OF_LEFT
+    },
+    Case {
+        unread: 7,
+        ..OF_RIGHT
+    },
+    Case {
+        unread: 8,
+        ..OF_RIGHT
+    },
+    Case {
+        unread: 9,
+        ..OF_RIGHT
+    },
+    Case {
+        unread: 10,
+        ..ANSWERED
+    },
+];
 
 #[test]
 fn failing_reads_end_a_run(rt: HostRuntime) {
-    for read in 1..10 {
-        assert!(rt; ends_at_read(rt.alloc(), read) == Ok(true), "call {read}");
-    }
-    let late = Failing { read: 10, ..NEVER };
-    assert!(rt; holds(rt.alloc(), &ANSWERED, late) == Ok(true));
+    assert!(rt; first_failing(rt.alloc(), READS) == Ok(None));
 }
 
-// Whether a run that cannot write its record with this number ends there. The header is number 1.
-fn ends_at(alloc: Global, write: u64, whole: usize) -> Result<bool, AllocError> {
-    let unwritten = Case {
-        status: 11,
-        out: FOUND.get(..whole).unwrap_or(""),
-        err: "anyk: write failed\n",
+const UNWRITTEN: Case<'static> = Case {
+    status: 11,
+    err: "anyk: write failed\n",
+    ..RUN
+};
+
+// A run that cannot write its record with one of these numbers ends there. The header is number 1.
+const WRITES: &[Case<'static>] = &[
+    Case {
+        unwritten: 1,
+        ..UNWRITTEN
+    },
+    Case {
+        stuck: 1,
+        ..UNWRITTEN
+    },
+    Case {
+        unwritten: 2,
+        out: "a,c\n",
+        ..UNWRITTEN
+    },
+    Case {
+        stuck: 2,
+        out: "a,c\n",
+        ..UNWRITTEN
+    },
+    Case {
+        unwritten: 3,
+        out: "a,c\n2,q\n",
+        ..UNWRITTEN
+    },
+    Case {
+        stuck: 3,
+        out: "a,c\n2,q\n",
+        ..UNWRITTEN
+    },
+    Case {
+        unwritten: 4,
+        out: "a,c\n2,q\n3,q\n",
+        ..UNWRITTEN
+    },
+    Case {
+        stuck: 4,
+        out: "a,c\n2,q\n3,q\n",
+        ..UNWRITTEN
+    },
+    Case {
+        unwritten: 5,
+        out: "a,c\n2,q\n3,q\n3,p\n",
+        ..UNWRITTEN
+    },
+    Case {
+        stuck: 5,
+        out: "a,c\n2,q\n3,q\n3,p\n",
+        ..UNWRITTEN
+    },
+    Case {
+        unwritten: 6,
+        out: "a,c\n2,q\n3,q\n3,p\n1,q\n",
+        ..UNWRITTEN
+    },
+    Case {
+        stuck: 6,
+        out: "a,c\n2,q\n3,q\n3,p\n1,q\n",
+        ..UNWRITTEN
+    },
+    Case {
+        most: 1,
+        ..ANSWERED
+    },
+    Case {
+        query: "select",
+        untold: 1,
+        status: 3,
         ..RUN
-    };
-    let failing = Failing { write, ..NEVER };
-    let stuck = Failing {
-        stuck: write,
-        ..NEVER
-    };
-    Ok(holds(alloc, &unwritten, failing)? && holds(alloc, &unwritten, stuck)?)
-}
+    },
+];
 
 #[test]
 fn failing_writes_end_a_run(rt: HostRuntime) {
-    let alloc = rt.alloc();
-    for (write, whole) in [(1, 0), (2, 4), (3, 8), (4, 12), (5, 16), (6, 20)] {
-        assert!(rt; ends_at(alloc, write, whole) == Ok(true), "call {write}");
-    }
-    let bytewise = Failing { most: 1, ..NEVER };
-    assert!(rt; holds(alloc, &ANSWERED, bytewise) == Ok(true));
-    let silent = Failing { line: 1, ..NEVER };
-    let refused = Case {
-        query: "select",
-        status: 3,
-        ..RUN
-    };
-    assert!(rt; holds(alloc, &refused, silent) == Ok(true));
+    assert!(rt; first_failing(rt.alloc(), WRITES) == Ok(None));
 }
 
 // What a run does over a table that is cut off after each number of bytes from the first to the
@@ -106,7 +196,7 @@ fn is_told(
 ) -> Result<bool, AllocError> {
     let cut = RIGHT.get(..length).unwrap_or("");
     let files = [named("R.csv", LEFT), named("S.csv", cut)];
-    holds(alloc, &over(RUN.words, &files, status, out, err), NEVER)
+    holds(alloc, &over(RUN.words, &files, status, out, err))
 }
 
 // The least of these lengths at which the run gives something else.

@@ -6,6 +6,8 @@
 #[cfg(test)]
 mod answers;
 #[cfg(test)]
+mod best_rows;
+#[cfg(test)]
 mod cases;
 #[cfg(test)]
 mod chains;
@@ -23,3 +25,5 @@ mod refusals;
 mod sessions;
 #[cfg(test)]
 mod stars;
+#[cfg(test)]
+mod steps;

@@ -1,5 +1,5 @@
 //! Reports of join trees.
-use super::cases::{Case, Failing, NEVER, RUN, first_failing, holds};
+use super::cases::{Case, RUN, first_failing};
 use std::alloc::AllocError;
 
 const PLAN: Case<'static> = Case {
@@ -51,21 +51,16 @@ const REPORTS: &[Case<'static>] = &[
         err: "anyk: syntax error at byte 28\n",
         ..PLAN
     },
+    Case {
+        unwritten: 1,
+        status: 11,
+        out: "",
+        err: "anyk: write failed\n",
+        ..PLAN
+    },
 ];
 
 #[test]
 fn plans_are_reported(rt: HostRuntime) {
     assert!(rt; first_failing(rt.alloc(), REPORTS) == Ok(None));
-}
-
-#[test]
-fn failing_writes_end_a_plan(rt: HostRuntime) {
-    let failing = Failing { write: 1, ..NEVER };
-    let unwritten = Case {
-        status: 11,
-        out: "",
-        err: "anyk: write failed\n",
-        ..PLAN
-    };
-    assert!(rt; holds(rt.alloc(), &unwritten, failing) == Ok(true));
 }

@@ -261,12 +261,23 @@ const IN_ORDER: &[Case<'static>] = &[
 ];
 
 #[test]
-fn refusals_are_told(rt: HostRuntime) {
-    let alloc = rt.alloc();
-    assert!(rt; first_failing(alloc, OF_WORDS_AND_FILES) == Ok(None));
-    assert!(rt; first_failing(alloc, OF_QUERIES) == Ok(None));
-    assert!(rt; first_failing(alloc, OF_TABLES) == Ok(None));
-    assert!(rt; first_failing(alloc, OF_CYCLES) == Ok(None));
+fn words_and_files_are_refused(rt: HostRuntime) {
+    assert!(rt; first_failing(rt.alloc(), OF_WORDS_AND_FILES) == Ok(None));
+}
+
+#[test]
+fn queries_are_refused(rt: HostRuntime) {
+    assert!(rt; first_failing(rt.alloc(), OF_QUERIES) == Ok(None));
+}
+
+#[test]
+fn tables_are_refused(rt: HostRuntime) {
+    assert!(rt; first_failing(rt.alloc(), OF_TABLES) == Ok(None));
+}
+
+#[test]
+fn cycles_are_refused(rt: HostRuntime) {
+    assert!(rt; first_failing(rt.alloc(), OF_CYCLES) == Ok(None));
 }
 
 #[test]

@@ -1,5 +1,5 @@
 //! Sessions: cursors over one list of answers.
-use super::cases::{Case, LEFT, NEVER, RIGHT, RUN, first_failing, holds, named, over, repeated};
+use super::cases::{Case, LEFT, RIGHT, RUN, first_failing, holds, named, over, repeated};
 use std::alloc::{AllocError, Global};
 
 /// A session over the join of the two tables.
@@ -190,38 +190,56 @@ fn follows(
         named("S.csv", RIGHT),
         named("s.txt", script),
     ];
-    holds(alloc, &over(SESSION.words, &files, status, out, err), NEVER)
+    holds(alloc, &over(SESSION.words, &files, status, out, err))
+}
+
+// The same with the script that opens `count` cursors before these lines.
+fn follows_opened(
+    alloc: Global,
+    count: u32,
+    lines: &str,
+    status: u8,
+    out: &str,
+    err: &str,
+) -> Result<bool, AllocError> {
+    let script = opened(alloc, count, lines)?;
+    follows(alloc, &script, status, out, err)
 }
 
 #[test]
-fn sixty_four_cursors_are_open_at_once(rt: HostRuntime) -> Result<(), AllocError> {
+fn sixty_four_cursors_are_open_at_once(rt: HostRuntime) {
     let alloc = rt.alloc();
     let lines = "next c63 2\nnext c0 1\nclose c7\nfork c63 d\nnext d 1\nnext c1 1\n";
-    let script = opened(alloc, 64, lines)?;
     let out = "cursor,a,c\nc63,2,q\nc63,3,q\nc0,2,q\nd,3,p\nc1,2,q\n";
-    assert!(rt; follows(alloc, &script, 0, out, "") == Ok(true));
+    assert!(rt; follows_opened(alloc, 64, lines, 0, out, "") == Ok(true));
     let err = "anyk: script line 65: more than 64 cursors\n";
-    assert!(rt; follows(alloc, &opened(alloc, 65, "")?, 8, "", err) == Ok(true));
-    let script = opened(alloc, 64, "fork c1 d\n")?;
-    assert!(rt; follows(alloc, &script, 8, "", err) == Ok(true));
-    Ok(())
+    assert!(rt; follows_opened(alloc, 65, "", 8, "", err) == Ok(true));
+    assert!(rt; follows_opened(alloc, 64, "fork c1 d\n", 8, "", err) == Ok(true));
+}
+
+// Whether a script of 10,000 lines, which takes the first answer again and again, gives this.
+fn follows_rewinds(alloc: Global, out: &str) -> Result<bool, AllocError> {
+    let rewinds = "next a 1\nrewind a\n";
+    let script = repeated(alloc, "open a\n", rewinds, 4999, "next a 6\n")?;
+    follows(alloc, &script, 0, out, "")
+}
+
+// The first answer 4,999 times, and then all answers.
+fn follows_ten_thousand_lines(alloc: Global) -> Result<bool, AllocError> {
+    let all = "a,2,q\na,3,q\na,3,p\na,1,q\na,1,p\na\n";
+    let out = repeated(alloc, "cursor,a,c\n", "a,2,q\n", 4999, all)?;
+    follows_rewinds(alloc, &out)
+}
+
+// Whether a script with one line more is refused.
+fn refuses_one_line_more(alloc: Global) -> Result<bool, AllocError> {
+    let script = repeated(alloc, "", "#\n", 10001, "")?;
+    let err = "anyk: script: more than 10000 lines\n";
+    follows(alloc, &script, 8, "", err)
 }
 
 #[test]
-fn scripts_have_ten_thousand_lines(rt: HostRuntime) -> Result<(), AllocError> {
-    let alloc = rt.alloc();
-    let script = repeated(
-        alloc,
-        "open a\n",
-        "next a 1\nrewind a\n",
-        4999,
-        "next a 6\n",
-    )?;
-    let all = "a,2,q\na,3,q\na,3,p\na,1,q\na,1,p\na\n";
-    let out = repeated(alloc, "cursor,a,c\n", "a,2,q\n", 4999, all)?;
-    assert!(rt; follows(alloc, &script, 0, &out, "") == Ok(true));
-    let script = repeated(alloc, "", "#\n", 10001, "")?;
-    let err = "anyk: script: more than 10000 lines\n";
-    assert!(rt; follows(alloc, &script, 8, "", err) == Ok(true));
-    Ok(())
+fn scripts_have_ten_thousand_lines(rt: HostRuntime) {
+    assert!(rt; follows_ten_thousand_lines(rt.alloc()) == Ok(true));
+    assert!(rt; refuses_one_line_more(rt.alloc()) == Ok(true));
 }

@@ -61,6 +61,11 @@ const ON_THE_QUERY: &[Row] = &[
         "anyk: byte 65535: unknown column\n",
     ),
     (Refusal::Ambiguous(7), 4, "anyk: byte 7: ambiguous column\n"),
+    (
+        Refusal::UnknownBest,
+        4,
+        "anyk: unknown alias in --best-of\n",
+    ),
     (Refusal::Cyclic(7), 6, "anyk: cyclic query: items 1 2 3\n"),
     (
         Refusal::Cyclic(0x8015),

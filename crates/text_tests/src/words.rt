@@ -17,6 +17,7 @@ struct Said {
     ranks: bool,
     rows: bool,
     script: Option<&'static str>,
+    best_of: Option<&'static str>,
     query: &'static str,
     tables: &'static [(&'static str, &'static str)],
 }
@@ -30,12 +31,12 @@ enum Read {
     Load(Engine, u32, u32),
 }
 
-fn is_script(script: &Option<String>, wanted: Option<&str>) -> bool {
-    let Some(script) = script else {
+fn is_text(text: &Option<String>, wanted: Option<&str>) -> bool {
+    let Some(text) = text else {
         return wanted.is_none();
     };
     match wanted {
-        Some(name) => script.as_str() == name,
+        Some(wanted) => text.as_str() == wanted,
         None => false,
     }
 }
@@ -58,7 +59,8 @@ fn say(words: &Words, said: &Said) -> bool {
         && words.ranks == said.ranks
         && words.rows == said.rows
         && words.query.as_str() == said.query
-        && is_script(&words.script, said.script)
+        && is_text(&words.script, said.script)
+        && is_text(&words.best_of, said.best_of)
         && are_tables(words, said.tables)
 }
 
@@ -82,6 +84,7 @@ const PLAIN: Said = Said {
     ranks: false,
     rows: false,
     script: None,
+    best_of: None,
     query: "q.sql",
     tables: &[("R", "a")],
 };
@@ -103,6 +106,47 @@ const COMMANDS: &[Line] = &[
         Read::Session(Said {
             rows: true,
             script: Some("s.txt"),
+            ..PLAIN
+        }),
+    ),
+    (
+        &["run", "--best-of", "R", "q.sql", "R=R.csv"],
+        Read::Run(Said {
+            best_of: Some("R"),
+            tables: &[("R", "R.csv")],
+            ..PLAIN
+        }),
+    ),
+    (
+        &[
+            "session",
+            "--script=s.txt",
+            "q.sql",
+            "R=a",
+            "--best-of",
+            "second leg",
+        ],
+        Read::Session(Said {
+            script: Some("s.txt"),
+            best_of: Some("second leg"),
+            ..PLAIN
+        }),
+    ),
+    // An alias may be any text, also the empty one.
+    (
+        &["run", "--best-of=", "q.sql", "R=a"],
+        Read::Run(Said {
+            best_of: Some(""),
+            ..PLAIN
+        }),
+    ),
+    // What follows the option is its alias, also if it was meant as the query file.
+    (
+        &["run", "--best-of", "q.sql", "R=R.csv", "S=S.csv"],
+        Read::Run(Said {
+            best_of: Some("q.sql"),
+            query: "R=R.csv",
+            tables: &[("S", "S.csv")],
             ..PLAIN
         }),
     ),
@@ -189,10 +233,14 @@ const REFUSED: &[&[&str]] = &[
     &["run", "--eng", "part", "q.sql", "R=a"],
     &["run", "--ranks=true", "q.sql", "R=a"],
     &["run", "--script", "s.txt", "q.sql", "R=a"],
+    &["run", "--best-of", "R", "--best-of", "R", "q.sql", "R=a"],
+    &["run", "q.sql", "R=a", "--best-of"],
     &["session", "q.sql", "R=a"],
     &["plan", "--ranks", "q.sql", "R=a"],
     &["plan", "--engine", "rec", "q.sql", "R=a"],
+    &["plan", "--best-of", "R", "q.sql", "R=a"],
     &["load", "--number", "5"],
+    &["load", "--number", "5", "--rows", "5", "--best-of", "R"],
     &["load", "--number", "2147483648", "--rows", "5"],
     &["load", "--number", "5", "--rows", "0"],
     &["load", "--number", "5", "--rows", "100001"],

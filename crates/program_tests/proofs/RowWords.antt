@@ -1,0 +1,46 @@
+-- What the command line of the worked row says, and the steps of its call.
+use Rattle.std.proofs.Common.{◌≡◌, ◌≤◌, ◌+◌, ℕ, List, [], ◌∷◌, Option, Some, None, false, refl, subst}
+use Rattle.std.specs.Prelude.{codes}
+use Rattle.clap.proofs.OnLiterals.{clap_on_literals}
+use Rattle.cmd_words.specs.Arguments.{run_app}
+use Rattle.cmd_words.specs.Commands.{CommandSaid, run_of, run_said, said_of}
+use Rattle.cmd_words.specs.Said.{WordsSaid}
+use Rattle.cmd_words.specs.declared.command.Engine.TheVariants.{Part}
+use Rattle.outer_io.specs.Files.{Files}
+use Rattle.verdict.specs.Bound.{IsBounded}
+use Rattle.verdict.specs.Made.{known_to}
+use Rattle.verdict.specs.Words.{Asked}
+use Rattle.row_law.specs.Row.{row_arguments, row_files}
+use Rattle.row_law.proofs.Accepted.{row_bounded}
+use Rattle.anyk_top.specs.Asked.{asked_of}
+
+abbrev row_said : WordsSaid
+row_said = record {
+  engine = Part;
+  ranks = false;
+  rows = false;
+  script = None;
+  best_of = None;
+  query = codes "q.sql";
+  tables = (codes "R", codes "R.csv") ∷ (codes "S", codes "S.csv") ∷ [];
+}
+
+abbrev AreSaid : Option CommandSaid → Option CommandSaid → Type 0
+AreSaid a b = a ≡ b
+
+row_is_said : AreSaid (said_of row_arguments) (Some (run_said row_said))
+unfolding clap_on_literals run_of run_app
+row_is_said = refl
+
+-- the bound is kept by a call that asks for this, over these files
+abbrev Keeps : Asked → Files → ℕ → ℕ → Type 0
+Keeps asked files before now = IsBounded asked (known_to asked (Some files)) before now
+
+pub row_within : (words : List (List ℕ)) (files : Files) (before now : ℕ) → words ≡ row_arguments → files ≡ row_files
+    → Keeps (asked_of (said_of words)) files before now → now ≤ before + 7936
+row_within words files before now named held kept =
+    let over : Keeps (asked_of (said_of words)) row_files before now =
+    subst (λ (all : Files). Keeps (asked_of (said_of words)) all before now) held kept in
+    let asked : Keeps (asked_of (said_of row_arguments)) row_files before now =
+    subst (λ (line : List (List ℕ)). Keeps (asked_of (said_of line)) row_files before now) named over in
+    row_bounded before now (subst (λ (said : Option CommandSaid). Keeps (asked_of said) row_files before now) row_is_said asked)
