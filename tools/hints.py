@@ -18,8 +18,8 @@ HERE = os.path.dirname(os.path.realpath(__file__))
 # Beside the sources, and where the program is installed.
 PAGES = (f"{HERE}/../docs/USING.md", f"{HERE}/../doc/anyk/USING.md")
 COMMANDS = ("run", "session", "plan", "picture", "load")
-OPTIONS = {"run": ("--engine", "--ranks", "--rows"), "session": ("--engine", "--ranks", "--rows", "--script"), "plan": (),
-           "picture": ("--dot",), "load": ("--engine", "--number", "--rows")}
+OPTIONS = {"run": ("--engine", "--ranks", "--rows", "--best-of"), "session": ("--engine", "--ranks", "--rows", "--best-of", "--script"),
+           "plan": (), "picture": ("--dot",), "load": ("--engine", "--number", "--rows")}
 KEYWORDS = {b"select", b"from", b"where", b"and", b"order", b"by", b"limit", b"asc", b"desc", b"as", b"join", b"inner", b"on",
             b"union", b"all"}
 # What other dialects have and this one has not, by the token where it shows.
@@ -131,7 +131,7 @@ class Call:
                 self.plain.append(word)
             elif equals:
                 self.options.append((name, value))
-            elif name in ("--engine", "--script", "--number") or (name == "--rows" and self.command == "load"):
+            elif name in ("--engine", "--script", "--best-of", "--number") or (name == "--rows" and self.command == "load"):
                 self.options.append((name, rest.pop(0) if rest else None))
             else:
                 self.options.append((name, None))
@@ -284,11 +284,19 @@ def on_alias_twice(call, query, number):
     return [*query.caret(at), f"item {first} has the alias {shown(alias)} too"]
 
 
-def on_unknown_alias(call, query, at):
-    name, items = query.name_at(query.place_of(at)), query.items(at)
+def items_like(items, name):
+    """The aliases of the items, and which of them a name that is none may mean."""
     tables = [alias for _, table, alias in items if table == name]
     more = f"; the table {shown(name)} is called {listed(tables)} there" if tables else perhaps(name, [it for _, _, it in items])
-    return [*query.caret(at), f"the items are {listed([it for _, _, it in items])}{more}"]
+    return [f"the items are {listed([it for _, _, it in items])}{more}"] if items else []
+
+
+def on_unknown_alias(call, query, at):
+    return query.caret(at) + items_like(query.items(at), query.name_at(query.place_of(at)))
+
+
+def on_unknown_best(call, query):
+    return items_like(query.items(), dict(call.options).get("--best-of")) if query.is_one else []
 
 
 def on_unknown_column(call, query, at):
@@ -488,6 +496,8 @@ def wrong_words(call):
             lines.append(f"{name} is given twice")
         elif name == "--engine" and value not in ("part", "rec"):
             lines.append("--engine takes part or rec")
+        elif name == "--best-of" and value is None:
+            lines.append("--best-of takes the alias of an item")
         seen.add(name)
     wanted = {"session": ("--script",), "load": ("--number", "--rows")}.get(call.command, ())
     lines += [f"{it} is missing" for it in wanted if it not in seen]
@@ -520,6 +530,7 @@ TELLERS = {
     "byte {at}: unknown alias": on_unknown_alias,
     "byte {at}: unknown column": on_unknown_column,
     "byte {at}: ambiguous column": on_ambiguous,
+    "unknown alias in --best-of": on_unknown_best,
     "table {name}: no header": on_no_header,
     "table {name}: column {c}: name used twice": on_name_twice,
     "table {name}: row {r}: wrong number of fields": on_ragged,

@@ -18,18 +18,18 @@ _anyk() {
             return
             ;;
         --script | '=')
-            if [ "${COMP_WORDS[COMP_CWORD - 2]-}" = --engine ]; then
-                mapfile -t COMPREPLY < <(compgen -W 'part rec' -- "$word")
-            else
-                mapfile -t COMPREPLY < <(compgen -f -- "$word")
-            fi
+            case ${COMP_WORDS[COMP_CWORD - 2]-} in
+                --engine) mapfile -t COMPREPLY < <(compgen -W 'part rec' -- "$word") ;;
+                --best-of) ;;
+                *) mapfile -t COMPREPLY < <(compgen -f -- "$word") ;;
+            esac
             return
             ;;
-        --number) return ;;
+        --best-of | --number) return ;;
     esac
     case $command in
-        run) options='--engine --ranks --rows' ;;
-        session) options='--engine --ranks --rows --script' ;;
+        run) options='--engine --ranks --rows --best-of' ;;
+        session) options='--engine --ranks --rows --best-of --script' ;;
         picture) options='--dot' ;;
         load) options='--engine --number --rows' ;;
         help)

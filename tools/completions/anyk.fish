@@ -9,6 +9,7 @@ complete -c anyk -n __fish_use_subcommand -f -a install -d 'Put the program unde
 complete -c anyk -n '__fish_seen_subcommand_from run session load' -l engine -x -a 'part rec' -d 'How the answers are found'
 complete -c anyk -n '__fish_seen_subcommand_from run session' -l ranks -d 'Add a column for each sum of ORDER BY'
 complete -c anyk -n '__fish_seen_subcommand_from run session' -l rows -d 'Add a column for each table in FROM, with its row'
+complete -c anyk -n '__fish_seen_subcommand_from run session' -l best-of -x -d 'Print the best answer of each row of a table'
 complete -c anyk -n '__fish_seen_subcommand_from session' -l script -r -F -d 'The script'
 complete -c anyk -n '__fish_seen_subcommand_from picture' -l dot -d 'Write it in the language of Graphviz'
 complete -c anyk -n '__fish_seen_subcommand_from load' -f -l number -x -d 'What the tables are made from'
