@@ -75,8 +75,9 @@ fn collect_fields<'a>(
     Ok(fields)
 }
 
-/// Appends the selected columns of the rows.
-fn push_values<'a>(
+/// Appends the selected columns of the rows, one row for each item, counted from 1. `NoMemory` if
+/// memory is refused.
+pub fn push_values<'a>(
     fields: &mut Vec<&'a [u8]>,
     query: &Query,
     tables: &'a Tables,
@@ -119,8 +120,9 @@ fn numbers(
     Ok(numbers)
 }
 
-/// Appends the sums of the order keys.
-fn push_sums(
+/// Appends the sums of the order keys over these rows, one for each item, counted from 1. `NoMemory`
+/// if memory is refused.
+pub fn push_sums(
     numbers: &mut Vec<NumberText>,
     query: &Query,
     tables: &Tables,
@@ -139,8 +141,12 @@ fn push_sums(
     Ok(())
 }
 
-/// Appends the row numbers of the items.
-fn push_rows(numbers: &mut Vec<NumberText>, query: &Query, rows: &[u32; 16]) -> Result<(), NoMemory>
+/// Appends the row numbers of the items, counted from 1. `NoMemory` if memory is refused.
+pub fn push_rows(
+    numbers: &mut Vec<NumberText>,
+    query: &Query,
+    rows: &[u32; 16],
+) -> Result<(), NoMemory>
     ensures { OnOk result (numbers.new.items ≡ numbers.old.items ++ map decimal (take (length query.now.query.items) rows.now)) }
 {
     let items = query.items() as usize;

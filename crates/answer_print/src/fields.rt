@@ -5,8 +5,8 @@ ghost use Rattle.anyk_model.specs.Output.{optional_field};
 use number_text::NumberText;
 use step_counter::NoMemory;
 
-/// Appends a field, if there is one.
-pub(crate) fn push_optional<'a>(
+/// Appends a field, if there is one. `NoMemory` if memory is refused.
+pub fn push_optional<'a>(
     fields: &mut Vec<&'a [u8]>,
     field: Option<&'a [u8]>,
 ) -> Result<(), NoMemory>
@@ -18,11 +18,8 @@ pub(crate) fn push_optional<'a>(
     Ok(())
 }
 
-/// Appends texts.
-pub(crate) fn push_texts<'a>(
-    fields: &mut Vec<&'a [u8]>,
-    texts: &'a [String],
-) -> Result<(), NoMemory>
+/// Appends texts. `NoMemory` if memory is refused.
+pub fn push_texts<'a>(fields: &mut Vec<&'a [u8]>, texts: &'a [String]) -> Result<(), NoMemory>
     ensures { OnOk result (map (λ f. f.now) fields.new.items ≡ map (λ f. f.now) fields.old.items ++ map string_bytes texts.now) }
 {
     for text in texts {
@@ -31,8 +28,8 @@ pub(crate) fn push_texts<'a>(
     Ok(())
 }
 
-/// Appends the texts of numbers.
-pub(crate) fn push_numbers<'a>(
+/// Appends the texts of numbers. `NoMemory` if memory is refused.
+pub fn push_numbers<'a>(
     fields: &mut Vec<&'a [u8]>,
     numbers: &'a [NumberText],
 ) -> Result<(), NoMemory>

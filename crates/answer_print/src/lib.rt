@@ -7,7 +7,8 @@ mod printing;
 mod style;
 mod titles;
 
-pub use answer::{key_sum, line, write_line};
+pub use answer::{key_sum, line, push_rows, push_sums, push_values, write_line};
+pub use fields::{push_numbers, push_optional, push_texts};
 pub use printing::{print_answer, print_header};
 pub use style::Style;
-pub use titles::header;
+pub use titles::{header, push_names, push_numbered, title_of_cursor};

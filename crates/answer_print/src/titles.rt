@@ -32,7 +32,7 @@ pub fn header(
 }
 
 /// The title above the cursors' names, if a cursor is named.
-fn title_of_cursor<'a>(style: &Style<'_>) -> Option<&'a [u8]>
+pub fn title_of_cursor<'a>(style: &Style<'_>) -> Option<&'a [u8]>
     ensures { optional_field (option_map (λ f. f.now) result) ≡ cursor_title (style_shown style.now) }
 {
     match style.cursor {
@@ -55,8 +55,8 @@ fn number_titles(alloc: Global, query: &Query, style: &Style<'_>) -> Result<Vec<
     Ok(titles)
 }
 
-/// Appends `word` with each number from 1 to `count` after it.
-fn push_numbered(
+/// Appends `word` with each number from 1 to `count` after it. `NoMemory` if memory is refused.
+pub fn push_numbered(
     alloc: Global,
     titles: &mut Vec<String>,
     word: &str,
@@ -71,8 +71,8 @@ fn push_numbered(
     Ok(())
 }
 
-/// Appends the names of the selected columns.
-fn push_names<'a>(
+/// Appends the names of the selected columns. `NoMemory` if memory is refused.
+pub fn push_names<'a>(
     fields: &mut Vec<&'a [u8]>,
     query: &Query,
     tables: &'a Tables,

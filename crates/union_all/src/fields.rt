@@ -1,48 +1,7 @@
-//! The fields of a record, in order, borrowed from their sources.
-ghost use Rattle.std.specs.Prelude.{◌≡◌, ◌++◌, [], OnOk, map, option_map, replicate, string_bytes};
-ghost use Rattle.anyk_model.specs.Output.{optional_field};
+//! The empty fields of a record.
+ghost use Rattle.std.specs.Prelude.{◌≡◌, ◌++◌, [], OnOk, map, replicate};
 
-use number_text::NumberText;
 use step_counter::NoMemory;
-
-/// Appends a field, if there is one.
-pub(crate) fn push_optional<'a>(
-    fields: &mut Vec<&'a [u8]>,
-    field: Option<&'a [u8]>,
-) -> Result<(), NoMemory>
-    ensures { OnOk result (map (λ f. f.now) fields.new.items ≡ map (λ f. f.now) fields.old.items ++ optional_field (option_map (λ f. f.now) field.entry)) }
-{
-    if let Some(field) = field {
-        fields.push(field)?;
-    }
-    Ok(())
-}
-
-/// Appends texts.
-pub(crate) fn push_texts<'a>(
-    fields: &mut Vec<&'a [u8]>,
-    texts: &'a [String],
-) -> Result<(), NoMemory>
-    ensures { OnOk result (map (λ f. f.now) fields.new.items ≡ map (λ f. f.now) fields.old.items ++ map string_bytes texts.now) }
-{
-    for text in texts {
-        fields.push(text.as_bytes())?;
-    }
-    Ok(())
-}
-
-/// Appends the texts of numbers.
-pub(crate) fn push_numbers<'a>(
-    fields: &mut Vec<&'a [u8]>,
-    numbers: &'a [NumberText],
-) -> Result<(), NoMemory>
-    ensures { OnOk result (map (λ f. f.now) fields.new.items ≡ map (λ f. f.now) fields.old.items ++ numbers.now) }
-{
-    for number in numbers {
-        fields.push(number.as_bytes())?;
-    }
-    Ok(())
-}
 
 /// Appends empty fields.
 pub(crate) fn push_empty(fields: &mut Vec<&[u8]>, count: u32) -> Result<(), NoMemory>

@@ -1,13 +1,12 @@
 //! The record above the members of a union.
-ghost use Rattle.std.specs.Prelude.{◌≡◌, ◌≤◌, ◌++◌, ◌∷◌, [], codes, if◌then◌else◌, length, map, option_map, string_bytes, IfOk, OnOk};
+ghost use Rattle.std.specs.Prelude.{◌≡◌, ◌≤◌, ◌++◌, ◌∷◌, [], codes, if◌then◌else◌, length, map, string_bytes, IfOk};
 ghost use Rattle.std.specs.List.{All};
-ghost use Rattle.anyk_model.specs.Output.{column_name, cursor_title, numbered, optional_field};
+ghost use Rattle.anyk_model.specs.Output.{numbered};
 ghost use Rattle.query_bind.specs.Weighed.{Fits};
 ghost use Rattle.answer_print.specs.Shown.{style_shown};
 ghost use Rattle.union_list.specs.UnionOutput as output;
 
-use crate::fields::{push_optional, push_texts};
-use answer_print::Style;
+use answer_print::{Style, push_names, push_numbered, push_optional, push_texts, title_of_cursor};
 use csv_tables::Tables;
 use query_bind::Query;
 use std::alloc::Global;
@@ -47,16 +46,6 @@ pub(crate) fn most_items(queries: &[Query]) -> u32
     most
 }
 
-/// The title above the cursors' names, if a cursor is named.
-fn title_of_cursor<'a>(style: &Style<'_>) -> Option<&'a [u8]>
-    ensures { optional_field (option_map (λ f. f.now) result) ≡ cursor_title (style_shown style.now) }
-{
-    match style.cursor {
-        None => None,
-        Some(_) => Some(b"cursor"),
-    }
-}
-
 /// The titles above the numbers that the style shows.
 fn number_titles(
     alloc: Global,
@@ -76,35 +65,4 @@ fn number_titles(
         push_numbered(alloc, &mut titles, "row", most)?;
     }
     Ok(titles)
-}
-
-/// Appends `word` with each number from 1 to `count` after it.
-fn push_numbered(
-    alloc: Global,
-    titles: &mut Vec<String>,
-    word: &str,
-    count: u32,
-) -> Result<(), NoMemory>
-    ensures { OnOk result (map string_bytes titles.new.items ≡ map string_bytes titles.old.items ++ numbered word.now count) }
-{
-    for place in 0..count {
-        let number = place + 1;
-        titles.push(format!(in alloc; "{word}{number}")?)?;
-    }
-    Ok(())
-}
-
-/// Appends the names of the selected columns.
-fn push_names<'a>(
-    fields: &mut Vec<&'a [u8]>,
-    query: &Query,
-    tables: &'a Tables,
-) -> Result<(), NoMemory>
-    requires { Fits query.now tables.now }
-    ensures { OnOk result (map (λ f. f.now) fields.new.items ≡ map (λ f. f.now) fields.old.items ++ map (column_name query.now.query tables.now) query.now.query.list) }
-{
-    for (item, place) in query.columns() {
-        fields.push(tables.name(query.table_of(*item), *place))?;
-    }
-    Ok(())
 }

@@ -11,10 +11,10 @@ ghost use Rattle.union_list.specs.UnionOutput as output;
 ghost use Rattle.union_all.specs.Firsts.{tagged_shown};
 ghost use Rattle.union_all.specs.Rows.{HasRows, rows_of};
 
-use crate::fields::{push_empty, push_numbers, push_optional};
+use crate::fields::push_empty;
 use crate::header::most_items;
 use crate::tagged::Tagged;
-use answer_print::{Style, key_sum};
+use answer_print::{Style, push_numbers, push_optional, push_rows, push_sums, push_values};
 use csv_tables::{RecordWriter, Tables};
 use number_text::NumberText;
 use query_bind::Query;
@@ -111,26 +111,6 @@ fn collect_fields<'a>(
     Ok(fields)
 }
 
-/// Appends the selected columns of the rows.
-fn push_values<'a>(
-    fields: &mut Vec<&'a [u8]>,
-    query: &Query,
-    tables: &'a Tables,
-    rows: &[u32; 16],
-) -> Result<(), NoMemory>
-    requires fits { Fits query.now tables.now }
-    requires rows { HasRows query.now tables.now rows.now }
-    ensures { OnOk result (map (λ f. f.now) fields.new.items ≡ map (λ f. f.now) fields.old.items
-        ++ map (value_of query.now.query tables.now (rows_of query.now rows.now)) query.now.query.list) }
-{
-    for (item, place) in query.columns() {
-        let table = query.table_of(*item);
-        let row = rows[*item as usize];
-        fields.push(tables.field(table, row, *place))?;
-    }
-    Ok(())
-}
-
 /// The numbers that the style shows, in decimal.
 fn numbers(
     alloc: Global,
@@ -154,36 +134,4 @@ fn numbers(
         push_rows(&mut numbers, query, &tagged.rows)?;
     }
     Ok(numbers)
-}
-
-/// Appends the sums of the order keys.
-fn push_sums(
-    numbers: &mut Vec<NumberText>,
-    query: &Query,
-    tables: &Tables,
-    rows: &[u32; 16],
-) -> Result<(), NoMemory>
-    requires fits { Fits query.now tables.now }
-    requires rows { HasRows query.now tables.now rows.now }
-    ensures { let chosen = rows_of query.now rows.now in OnOk result (numbers.new.items ≡ numbers.old.items
-        ++ map (λ k. signed_decimal (sum_of query.now.query tables.now chosen k)) query.now.query.order) }
-{
-    numbers.reserve(query.keys() as usize)?;
-    for key in 0..query.keys() {
-        let sum = key_sum(query, tables, rows, key);
-        numbers.push(NumberText::of_signed(sum))?;
-    }
-    Ok(())
-}
-
-/// Appends the row numbers of the items.
-fn push_rows(numbers: &mut Vec<NumberText>, query: &Query, rows: &[u32; 16]) -> Result<(), NoMemory>
-    ensures { OnOk result (numbers.new.items ≡ numbers.old.items ++ map decimal (rows_of query.now rows.now)) }
-{
-    let items = query.items() as usize;
-    numbers.reserve(items)?;
-    for row in &rows[..items] {
-        numbers.push(NumberText::of(*row))?;
-    }
-    Ok(())
 }
