@@ -1,8 +1,8 @@
 -- The first fault in the order of a select's parts is the first in the order of the text.
 use Rattle.std.proofs.Common.{◌≡◌, ◌⊎◌, ◌<◌, ◌+◌, ℕ, List, [], ◌∷◌, map, Option, Some, None, option_map, refl, ap, subst, ◌∙◌, inl, inr, arith}
-use Rattle.query_grammar.specs.declared.select.ColumnRef.{ColumnRef}
-use Rattle.query_grammar.specs.declared.select.Select.{Select}
-use Rattle.query_grammar.specs.TextOrder.{AreInTextOrder, columns_of}
+use Rattle.query_select.specs.declared.select.ColumnRef.{ColumnRef}
+use Rattle.query_select.specs.declared.select.Select.{Select}
+use Rattle.query_select.specs.TextOrder.{AreInTextOrder, columns_of}
 use Rattle.anyk_model.specs.Table.{Table}
 use Rattle.anyk_model.specs.Query.{Item, OrderKey, Term}
 use Rattle.rankings.specs.Order.{IsMember}

@@ -1,6 +1,6 @@
 -- The first reference in the order of the text that means no column.
 use Rattle.std.specs.Prelude.{◌≡◌, ◌<◌, List, Some, None}
-use Rattle.query_grammar.specs.declared.select.ColumnRef.{ColumnRef}
+use Rattle.query_select.specs.declared.select.ColumnRef.{ColumnRef}
 use Rattle.anyk_model.specs.Table.{Table}
 use Rattle.anyk_model.specs.Query.{Item}
 use Rattle.rankings.specs.Order.{IsMember}

@@ -1,7 +1,7 @@
 //! Binding a select to tables.
 ghost use Rattle.std.specs.Prelude.{◌≡◌, ◌<◌, ◌≤◌, length, map, IfOk, OnOk, IfErr, None};
 ghost use Rattle.std.specs.List.{AllByRecursion};
-ghost use Rattle.query_grammar.specs.TextOrder.{AreInTextOrder, columns_of};
+ghost use Rattle.query_select.specs.TextOrder.{AreInTextOrder, columns_of};
 ghost use Rattle.query_bind.specs.Answers.{Tells};
 ghost use Rattle.query_bind.specs.Bind.{bind_fault};
 ghost use Rattle.query_bind.specs.Binding.{bound_query};
@@ -26,7 +26,7 @@ use crate::selection::Selection;
 use crate::variables::{Variables, find_variables, places_of_all};
 use crate::weighing::weigh;
 use csv_tables::Tables;
-use query_grammar::select::Select;
+use query_select::select::Select;
 use std::alloc::{AllocError, Global};
 
 /// The query with a column for each reference, before its weights are read.

@@ -4,7 +4,7 @@ ghost use Rattle.std.specs.List.{AllByRecursion};
 ghost use Rattle.query_bind.specs.Answers.{Tells, equality_fault, key_names_fault, term_fault};
 ghost use Rattle.query_bind.specs.Binding.{bound_column, bound_equality, bound_key, bound_list, bound_side, bound_term, columns_from, item_columns};
 ghost use Rattle.query_bind.specs.Names.{alias_fault, first_of, items_of, ref_fault};
-ghost use Rattle.query_grammar.specs.TextOrder.{list_columns, side_columns};
+ghost use Rattle.query_select.specs.TextOrder.{list_columns, side_columns};
 ghost use Rattle.query_bind.specs.Stored.{column_shown, equality_shown, items_shown, key_shown, side_shown, term_shown};
 ghost use Rattle.query_bind.specs.declared.bound.BoundItem.{BoundItem};
 
@@ -12,8 +12,8 @@ use crate::bound::{BoundEquality, BoundItem, BoundKey, BoundSide, BoundTerm};
 use crate::fault::BindFault;
 use crate::names::{has_alias, look_up};
 use csv_tables::Tables;
-use query_grammar::name::{Bytes, Name};
-use query_grammar::select::{ColumnRef, Equality, ItemRef, KeyRef, SelectList, Side, Term};
+use query_select::name::{Bytes, Name};
+use query_select::select::{ColumnRef, Equality, ItemRef, KeyRef, SelectList, Side, Term};
 use std::alloc::{AllocError, Global};
 
 /// The items, each with the number of its table.

@@ -1,6 +1,6 @@
 //! The parts of a query once their names are bound.
 
-use query_grammar::name::{Bytes, Name};
+use query_select::name::{Bytes, Name};
 
 /// An item of the from-list.
 #[derive(Drop)]

@@ -13,7 +13,7 @@ ghost use Rattle.query_bind.specs.Stored.{equality_shown, items_shown};
 use crate::bound::{BoundEquality, BoundItem, BoundSide};
 use crate::classes::{Member, first_place, least_of};
 use csv_tables::Tables;
-use query_grammar::name::Bytes;
+use query_select::name::Bytes;
 use std::alloc::{AllocError, Global};
 
 /// A place of an item, and the constant that it must have.

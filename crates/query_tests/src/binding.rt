@@ -6,7 +6,7 @@ ghost use Rattle.query_bind.specs.Weighed.{Fits};
 use crate::fixtures::{R, S, parse_small, read_two};
 use csv_tables::Tables;
 use query_bind::{BindFault, Query, bind};
-use query_grammar::select::Select;
+use query_select::select::Select;
 use std::alloc::Global;
 
 const PAIRS: &[u8] = b"p,q\n1,1\n1,2\n";

@@ -1,5 +1,6 @@
 //! When two queries are equal.
-use query_grammar::{Select, parse};
+use query_grammar::parse;
+use query_select::Select;
 use std::alloc::Global;
 
 const QUERY: &str =

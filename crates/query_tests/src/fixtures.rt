@@ -3,7 +3,7 @@ ghost use Rattle.std.specs.Prelude.{◌≡◌, ◌≤◌, [], length, IfSome, On
 
 use csv_tables::{TableFault, Tables};
 use query_grammar::parse;
-use query_grammar::select::Select;
+use query_select::select::Select;
 use std::alloc::Global;
 
 pub(crate) const R: &[u8] = b"a,b,w\n1,x,3\n2,y,1\n3,x,1\n";

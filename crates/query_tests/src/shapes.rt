@@ -6,7 +6,7 @@ use crate::fixtures::{R, S, parse_small, read_two};
 use csv_tables::Tables;
 use join_tree::JoinTree;
 use query_bind::bind;
-use query_grammar::select::Select;
+use query_select::select::Select;
 use query_shape::{ShapeFault, tree_shape};
 use std::alloc::Global;
 

@@ -1,5 +1,5 @@
 use Rattle.std.proofs.lemmas.Result.{IfErr-weaker}
-use Rattle.query_grammar.specs.TextOrder.{AreInTextOrder, columns_of}
+use Rattle.query_select.specs.TextOrder.{AreInTextOrder, columns_of}
 use Rattle.query_bind.specs.Answers.{Tells}
 use Rattle.query_bind.specs.Bind.{bind_fault}
 use Rattle.query_bind.specs.Names.{items_of}

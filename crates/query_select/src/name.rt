@@ -1,0 +1,65 @@
+//! Names and constants, as lists of bytes.
+
+ghost use Rattle.std.specs.Prelude.{◌≡◌, IfOk, List, ℕ};
+
+use std::alloc::{AllocError, Global};
+use std::marker::Model;
+
+/// A name, without quotes. Names are compared byte by byte, with case.
+#[derive(Debug, Drop)]
+pub struct Name {
+    bytes: Vec<u8>,
+}
+
+impl Model for Name {
+    ghost Value = { List ℕ };
+
+    ghost view = { λ a. a.bytes.items };
+}
+
+impl Name {
+    /// A copy of these bytes. The error is that memory is refused.
+    pub fn from_slice(alloc: Global, bytes: &[u8]) -> Result<Name, AllocError>
+        ensures { IfOk result (λ n. n ≡ bytes.now) }
+    {
+        Ok(Name {
+            bytes: Vec::from_slice(alloc, bytes)?,
+        })
+    }
+
+    /// The bytes of the name.
+    pub fn bytes(&self) -> &[u8]
+        ensures { result.now ≡ self.now }
+    {
+        self.bytes.as_slice()
+    }
+}
+
+/// The bytes of a constant: those of a string with each doubled quote once, or those of a number
+/// with its minus.
+#[derive(Debug, Drop)]
+pub struct Bytes {
+    bytes: Vec<u8>,
+}
+
+impl Model for Bytes {
+    ghost Value = { List ℕ };
+
+    ghost view = { λ a. a.bytes.items };
+}
+
+impl Bytes {
+    /// A constant with these bytes.
+    pub fn from_vec(bytes: Vec<u8>) -> Bytes
+        ensures { result ≡ bytes.items }
+    {
+        Bytes { bytes }
+    }
+
+    /// The bytes of the constant.
+    pub fn bytes(&self) -> &[u8]
+        ensures { result.now ≡ self.now }
+    {
+        self.bytes.as_slice()
+    }
+}
