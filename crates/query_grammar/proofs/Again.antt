@@ -2,19 +2,20 @@
 use Rattle.std.proofs.Common.{◌≡◌, ℕ, zero, suc, ◌≤◌, List, [], length, Option, Some, None, Ok, Bool, true, false, refl, ap, ◌∙◌, arith, unwrap_or}
 use Rattle.query_grammar.specs.declared.token.Kind.{Kind}
 use Rattle.query_grammar.specs.declared.token.Kind.TheVariants as kind
-use Rattle.query_grammar.specs.declared.select.ColumnRef.{ColumnRef}
-use Rattle.query_grammar.specs.declared.select.SelectList.{SelectList}
-use Rattle.query_grammar.specs.declared.select.Side.TheVariants.{Column, Constant}
-use Rattle.query_grammar.specs.declared.select.Equality.{Equality}
-use Rattle.query_grammar.specs.declared.select.ItemRef.{ItemRef}
-use Rattle.query_grammar.specs.declared.select.KeyRef.{KeyRef}
-use Rattle.query_grammar.specs.declared.select.Term.{Term}
+use Rattle.query_select.specs.declared.select.ColumnRef.{ColumnRef}
+use Rattle.query_select.specs.declared.select.SelectList.{SelectList}
+use Rattle.query_select.specs.declared.select.Side.TheVariants.{Column, Constant}
+use Rattle.query_select.specs.declared.select.Equality.{Equality}
+use Rattle.query_select.specs.declared.select.ItemRef.{ItemRef}
+use Rattle.query_select.specs.declared.select.KeyRef.{KeyRef}
+use Rattle.query_select.specs.declared.select.Term.{Term}
+use Rattle.query_select.specs.declared.select.Select.{Select}
 use Rattle.query_grammar.specs.Lexeme.{Lexeme}
-use Rattle.query_grammar.specs.Reading.{same, Next, Joined, Clauses, expect_at, optional_at, many_at, column_at, next_column_at, columns_at, list_at, side_at, condition_at, next_condition_at, conditions_at, item_at, plain_item_at, joined_item_at, inner_item_at, next_item_at, items_at, where_at, sign_at, term_at, next_term_at, direction_at, terms_at, key_at, next_key_at, keys_at, order_at, limit_at, finish_at, query_at}
-use Rattle.query_grammar.specs.Grammar.{One, one, Many, none, more, Behind, after_sign, IsColumn, bare, qualified, IsColumns, columns, IsList, star, listed, IsConstant, text, digits, negative, IsCondition, two_columns, constant_left, constant_right, IsConditions, conditions, IsItem, named, aliased, aliased_as, IsJoined, joined, IsNextItem, comma, join, inner_join, IsItems, items, IsWhere, no_where, some_where, IsSigned, plus, minus, IsFirstTerm, unsigned, signed, IsDirection, unsaid, ascending, descending, IsKey, key, IsOrder, no_order, some_order, IsLimit, no_limit, some_limit, IsEnd, no_sign, semicolon, IsQuery, query}
+use Rattle.query_grammar.specs.Reading.{same, Next, Joined, Clauses, Branches, expect_at, optional_at, many_at, column_at, next_column_at, columns_at, list_at, side_at, condition_at, next_condition_at, conditions_at, item_at, plain_item_at, joined_item_at, inner_item_at, next_item_at, items_at, where_at, sign_at, term_at, next_term_at, direction_at, terms_at, key_at, next_key_at, keys_at, order_at, limit_at, finish_at, branch_at, query_at, next_branch_at, branches_at, queries_at}
+use Rattle.query_grammar.specs.Grammar.{One, one, Many, none, more, Behind, after_sign, IsColumn, bare, qualified, IsColumns, columns, IsList, star, listed, IsConstant, text, digits, negative, IsCondition, two_columns, constant_left, constant_right, IsConditions, conditions, IsItem, named, aliased, aliased_as, IsJoined, joined, IsNextItem, comma, join, inner_join, IsItems, items, IsWhere, no_where, some_where, IsSigned, plus, minus, IsFirstTerm, unsigned, signed, IsDirection, unsaid, ascending, descending, IsKey, key, IsOrder, no_order, some_order, IsLimit, no_limit, some_limit, IsEnd, no_sign, semicolon, IsBranch, branch, IsQuery, query, IsNextBranch, next_branch, IsQueries, queries}
 use Rattle.query_grammar.proofs.SameKind.{same_self}
 use Rattle.query_grammar.proofs.Outcomes.{Shortens}
-use Rattle.query_grammar.proofs.Shorter.{column_shortens, behind_shortens, condition_shortens, next_item_shortens, signed_shortens, key_shortens}
+use Rattle.query_grammar.proofs.Shorter.{column_shortens, behind_shortens, condition_shortens, next_item_shortens, signed_shortens, key_shortens, next_branch_shortens}
 
 -- no token of this kind is next
 abbrev Lacks : Kind → List Lexeme → Type 0
@@ -217,7 +218,7 @@ order_again (some_order {c = c} {rest = rest} {ks = ks} o w first others) f no_w
     let m = many_again EndsKey next_key_at (behind_shortens kind.Comma key_shortens) next_key_again next_key_ends (length c) c rest ks others f stops (omega arith) in
     rw (has_one kind.Order o, expect_one kind.By w, key_again first m.1, m.0) refl
 
--- ---- the query
+-- ---- the end
 
 limit_again : {ts rest : List Lexeme} {d : Option Lexeme} → IsLimit ts rest d → Lacks kind.Limit rest → limit_at ts ≡ Ok (d, rest)
 unfolding limit_at
@@ -245,18 +246,95 @@ unfolding finish_at
 end_again no_sign = rw (end_lacks_all kind.Semicolon) refl
 end_again (semicolon s) = rw (has_one kind.Semicolon s) refl
 
+-- ---- branches
+
+-- what may not follow a branch
+record EndsBranch (rest : List Lexeme) : Type 0 where
+  no_as : Lacks kind.As rest
+  no_name : Lacks kind.Name rest
+  no_dot : Lacks kind.Dot rest
+  no_and : Lacks kind.And rest
+  no_comma : Lacks kind.Comma rest
+  no_inner : Lacks kind.Inner rest
+  no_join : Lacks kind.Join rest
+  no_where : Lacks kind.Where rest
+  no_order : Lacks kind.Order rest
+  no_plus : Lacks kind.Plus rest
+  no_minus : Lacks kind.Minus rest
+  no_asc : Lacks kind.Asc rest
+  no_desc : Lacks kind.Desc rest
+
+branch_again : {ts rest : List Lexeme} {s : Select} → IsBranch ts rest s → EndsBranch rest → branch_at ts ≡ Ok (s, rest)
+unfolding branch_at
+branch_again {rest = rest} (branch {d = d} {e = e} s list f found_items found_where found_order) ends =
+    let ends_key : EndsKey rest = record { no_dot = ends.no_dot; no_plus = ends.no_plus; no_minus = ends.no_minus; no_asc = ends.no_asc; no_desc = ends.no_desc } in
+    let behind_where = λ (j : Kind) (u : same kind.Order j ≡ false) (r : Lacks j rest). order_lacks j u found_order r in
+    let behind_items = λ (j : Kind) (u : same kind.Order j ≡ false) (t : same kind.Where j ≡ false) (r : Lacks j rest). where_lacks j t found_where (order_lacks j u found_order r) in
+    let ends_item : EndsItem d = record { no_as = behind_items kind.As refl refl ends.no_as; no_name = behind_items kind.Name refl refl ends.no_name; no_dot = behind_items kind.Dot refl refl ends.no_dot; no_and = behind_items kind.And refl refl ends.no_and } in
+    let a_list = list_again list (one_lacks kind.From kind.Dot refl f) (one_lacks kind.From kind.Comma refl f) in
+    let the_items = items_again found_items ends_item (behind_items kind.Comma refl refl ends.no_comma) (behind_items kind.Inner refl refl ends.no_inner) (behind_items kind.Join refl refl ends.no_join) in
+    let the_where = where_again found_where (behind_where kind.Where refl ends.no_where) (behind_where kind.Dot refl ends.no_dot) (behind_where kind.And refl ends.no_and) in
+    let the_order = order_again found_order ends_key ends.no_order ends.no_comma in
+    rw (expect_one kind.Select s, a_list, expect_one kind.From f, the_items, the_where, the_order) refl
+
+union_ends : {ts rest : List Lexeme} {t : Lexeme} → One kind.Union ts rest t → EndsBranch ts
+union_ends u = record {
+  no_as = one_lacks kind.Union kind.As refl u;
+  no_name = one_lacks kind.Union kind.Name refl u;
+  no_dot = one_lacks kind.Union kind.Dot refl u;
+  no_and = one_lacks kind.Union kind.And refl u;
+  no_comma = one_lacks kind.Union kind.Comma refl u;
+  no_inner = one_lacks kind.Union kind.Inner refl u;
+  no_join = one_lacks kind.Union kind.Join refl u;
+  no_where = one_lacks kind.Union kind.Where refl u;
+  no_order = one_lacks kind.Union kind.Order refl u;
+  no_plus = one_lacks kind.Union kind.Plus refl u;
+  no_minus = one_lacks kind.Union kind.Minus refl u;
+  no_asc = one_lacks kind.Union kind.Asc refl u;
+  no_desc = one_lacks kind.Union kind.Desc refl u;
+}
+
+limit_end_lacks : (j : Kind) → same kind.Limit j ≡ false → same kind.Semicolon j ≡ false → {ts rest : List Lexeme} {d : Option Lexeme} → IsLimit ts rest d → IsEnd rest → Lacks j ts
+limit_end_lacks j l s limit ends = limit_lacks j l limit (end_lacks j s ends)
+
+limit_ends : {ts rest : List Lexeme} {d : Option Lexeme} → IsLimit ts rest d → IsEnd rest → EndsBranch ts
+limit_ends l e = record {
+  no_as = limit_end_lacks kind.As refl refl l e;
+  no_name = limit_end_lacks kind.Name refl refl l e;
+  no_dot = limit_end_lacks kind.Dot refl refl l e;
+  no_and = limit_end_lacks kind.And refl refl l e;
+  no_comma = limit_end_lacks kind.Comma refl refl l e;
+  no_inner = limit_end_lacks kind.Inner refl refl l e;
+  no_join = limit_end_lacks kind.Join refl refl l e;
+  no_where = limit_end_lacks kind.Where refl refl l e;
+  no_order = limit_end_lacks kind.Order refl refl l e;
+  no_plus = limit_end_lacks kind.Plus refl refl l e;
+  no_minus = limit_end_lacks kind.Minus refl refl l e;
+  no_asc = limit_end_lacks kind.Asc refl refl l e;
+  no_desc = limit_end_lacks kind.Desc refl refl l e;
+}
+
+next_branch_again : (many : Bool) (ts rest : List Lexeme) (s : Select) → IsNextBranch many ts rest s → EndsBranch rest → next_branch_at many ts ≡ Ok (Some (s, rest))
+unfolding next_branch_at
+next_branch_again many _ _ _ (next_branch allowed u w b) ends = rw (allowed, has_one kind.Union u, expect_one kind.All w, branch_again b ends) refl
+
+next_branch_ends : (many : Bool) (ts rest : List Lexeme) (s : Select) → IsNextBranch many ts rest s → EndsBranch ts
+next_branch_ends many _ _ _ (next_branch allowed u w b) = union_ends u
+
+no_next_branch : (many : Bool) (ts : List Lexeme) → Lacks kind.Union ts → next_branch_at many ts ≡ Ok None
+unfolding next_branch_at
+no_next_branch true ts h = rw h refl
+no_next_branch false ts h = refl
+
 pub query_again : {ts : List Lexeme} {x : Clauses} → IsQuery ts x → query_at ts ≡ Ok x
 unfolding query_at
-query_again (query {d = d} {e = e} {g = g} {h = h} {l = l} {i = i} {es = es} {ks = ks} {n = n} s list f found_items found_where found_order found_limit ends) =
-    let behind_limit = λ (j : Kind) (w : same kind.Semicolon j ≡ false). end_lacks j w ends in
-    let behind_order = λ (j : Kind) (w : same kind.Semicolon j ≡ false) (v : same kind.Limit j ≡ false). limit_lacks j v found_limit (behind_limit j w) in
-    let behind_where = λ (j : Kind) (w : same kind.Semicolon j ≡ false) (v : same kind.Limit j ≡ false) (u : same kind.Order j ≡ false). order_lacks j u found_order (behind_order j w v) in
-    let behind_items = λ (j : Kind) (w : same kind.Semicolon j ≡ false) (v : same kind.Limit j ≡ false) (u : same kind.Order j ≡ false) (t : same kind.Where j ≡ false). where_lacks j t found_where (behind_where j w v u) in
-    let ends_item : EndsItem d = record { no_as = behind_items kind.As refl refl refl refl; no_name = behind_items kind.Name refl refl refl refl; no_dot = behind_items kind.Dot refl refl refl refl; no_and = behind_items kind.And refl refl refl refl } in
-    let ends_key : EndsKey g = record { no_dot = behind_order kind.Dot refl refl; no_plus = behind_order kind.Plus refl refl; no_minus = behind_order kind.Minus refl refl; no_asc = behind_order kind.Asc refl refl; no_desc = behind_order kind.Desc refl refl } in
-    let a_list = list_again list (one_lacks kind.From kind.Dot refl f) (one_lacks kind.From kind.Comma refl f) in
-    let the_items = items_again found_items ends_item (behind_items kind.Comma refl refl refl refl) (behind_items kind.Inner refl refl refl refl) (behind_items kind.Join refl refl refl refl) in
-    let the_where = where_again found_where (behind_where kind.Where refl refl refl) (behind_where kind.Dot refl refl refl) (behind_where kind.And refl refl refl) in
-    let the_order = order_again found_order ends_key (behind_order kind.Order refl refl) (behind_order kind.Comma refl refl) in
-    let the_limit = limit_again found_limit (behind_limit kind.Limit refl) in
-    rw (expect_one kind.Select s, a_list, expect_one kind.From f, the_items, the_where, the_order, the_limit, end_again ends) refl
+query_again (query found limit ends) =
+    rw (branch_again found (limit_ends limit ends), limit_again limit (end_lacks kind.Limit refl ends), end_again ends) refl
+
+pub queries_again : (many : Bool) {ts : List Lexeme} {x : Branches} → IsQueries many ts x → queries_at many ts ≡ Ok x
+unfolding queries_at branches_at
+queries_again many (queries {a = a} {b = b} {ss = ss} first others limit ends) =
+    let stops = no_next_branch many b (limit_end_lacks kind.Union refl refl limit ends) in
+    let m = many_again EndsBranch (next_branch_at many) (next_branch_shortens many) (next_branch_again many) (next_branch_ends many) (length a) a b ss others (limit_ends limit ends) stops (omega arith) in
+    let the_limit = limit_again limit (end_lacks kind.Limit refl ends) in
+    rw (branch_again first m.1, m.0, the_limit, end_again ends) refl

@@ -1,22 +1,23 @@
 -- The column references of a query that was read are in the order of its text.
-use Rattle.std.proofs.Common.{◌≡◌, ℕ, zero, suc, ◌+◌, ◌-◌, ◌<◌, ◌≤◌, List, [], ◌∷◌, ◌++◌, true, false, cond, refl, sym, ap, ◌∙◌, subst, append_assoc, arith, Bool}
-use Rattle.std.specs.List.{flat_map}
+use Rattle.std.proofs.Common.{◌≡◌, ℕ, zero, suc, ◌+◌, ◌-◌, ◌<◌, ◌≤◌, List, [], ◌∷◌, ◌++◌, length, true, false, cond, refl, sym, ap, ◌∙◌, subst, append_assoc, arith, Bool}
+use Rattle.std.specs.List.{AllByRecursion, flat_map}
 use Rattle.std.proofs.lemmas.List.{append-nil, map-id}
 use Rattle.std.proofs.lemmas.List.Concat.{flat_map_single}
 use Rattle.std.proofs.lemmas.Grind.{flat_map-append}
 use Rattle.rankings.specs.Order.{BelowAll}
 use Rattle.query_grammar.specs.declared.token.Kind.{Kind}
 use Rattle.query_grammar.specs.declared.token.Kind.TheVariants as kind
-use Rattle.query_grammar.specs.declared.select.ColumnRef.{ColumnRef}
-use Rattle.query_grammar.specs.declared.select.ItemRef.{ItemRef}
-use Rattle.query_grammar.specs.declared.select.Term.{Term}
-use Rattle.query_grammar.specs.declared.select.Select.{Select}
+use Rattle.query_select.specs.declared.select.ColumnRef.{ColumnRef}
+use Rattle.query_select.specs.declared.select.ItemRef.{ItemRef}
+use Rattle.query_select.specs.declared.select.Term.{Term}
+use Rattle.query_select.specs.declared.select.Select.{Select}
+use Rattle.query_select.specs.declared.select.SelectAll.{SelectAll}
 use Rattle.query_grammar.specs.Lexeme.{Lexeme}
-use Rattle.query_grammar.specs.Reading.{Joined, Clauses}
-use Rattle.query_grammar.specs.Grammar.{One, one, Many, none, more, Behind, after_sign, IsColumn, bare, qualified, IsColumns, columns, IsList, star, listed, IsConstant, text, digits, negative, IsCondition, two_columns, constant_right, constant_left, IsConditions, conditions, IsItem, named, aliased, aliased_as, IsJoined, joined, IsNextItem, comma, join, inner_join, IsItems, items, IsWhere, no_where, some_where, IsSigned, plus, minus, IsFirstTerm, unsigned, signed, IsDirection, unsaid, ascending, descending, IsKey, key, IsOrder, no_order, some_order, IsQuery, query}
+use Rattle.query_grammar.specs.Reading.{Joined, Clauses, Branches}
+use Rattle.query_grammar.specs.Grammar.{One, one, Many, none, more, Behind, after_sign, IsColumn, bare, qualified, IsColumns, columns, IsList, star, listed, IsConstant, text, digits, negative, IsCondition, two_columns, constant_right, constant_left, IsConditions, conditions, IsItem, named, aliased, aliased_as, IsJoined, joined, IsNextItem, comma, join, inner_join, IsItems, items, IsWhere, no_where, some_where, IsSigned, plus, minus, IsFirstTerm, unsigned, signed, IsDirection, unsaid, ascending, descending, IsKey, key, IsOrder, no_order, some_order, IsBranch, branch, IsQuery, query, IsNextBranch, next_branch, IsQueries, queries}
 use Rattle.query_grammar.specs.Tokens.{is_blank, scan_of, tokens_from}
-use Rattle.query_grammar.specs.Parse.{IsParsed}
-use Rattle.query_grammar.specs.TextOrder.{list_columns, equality_columns, key_columns, columns_of, Ascend, AreInTextOrder, ItemsAreInTextOrder}
+use Rattle.query_grammar.specs.Parse.{IsParsed, IsParsedAll}
+use Rattle.query_select.specs.TextOrder.{list_columns, equality_columns, key_columns, columns_of, Ascend, AreInTextOrder, ItemsAreInTextOrder}
 
 -- ---- offsets
 
@@ -214,19 +215,19 @@ order_taken _ _ _ (some_order {k = k} {ks = ks} o w first others) lo p =
     and_then lo [] refs _ _ (passed kind.Order _ _ _ o lo p) (λ hi q. and_then hi [] refs _ _ (passed kind.By _ _ _ w hi q)
     (λ from r. and_then from (key_columns k) (flat_map key_columns ks) _ _ (key_taken _ _ _ first from r) (many_taken key_columns (behind_taken kind.Comma key_columns key_taken) _ _ _ others)))
 
-query_in_order : (ts : List Lexeme) (x : Clauses) → IsQuery ts x → From 0 ts → AreInTextOrder (columns_of x.0)
-query_in_order _ _ (query {l = l} {i = i} {es = es} {ks = ks} s list f found_items found_where found_order found_limit ends) p =
+branch_taken : Takes column_place IsBranch columns_of
+branch_taken _ rest _ (branch {l = l} {i = i} {es = es} {ks = ks} s list f found_items found_where found_order) lo p =
     let on = flat_map equality_columns i.1 in
     let filters = flat_map equality_columns es in
     let ranks = flat_map key_columns ks in
-    let all = and_then 0 [] (list_columns l ++ (on ++ (filters ++ ranks))) _ _ (passed kind.Select _ _ _ s 0 p)
+    let all = and_then lo [] (list_columns l ++ (on ++ (filters ++ ranks))) _ _ (passed kind.Select _ _ _ s lo p)
     (λ a pa. and_then a (list_columns l) (on ++ (filters ++ ranks)) _ _ (list_taken _ _ _ list a pa)
     (λ b pb. and_then b [] (on ++ (filters ++ ranks)) _ _ (passed kind.From _ _ _ f b pb)
     (λ c pc. and_then c on (filters ++ ranks) _ _ (items_taken _ _ _ found_items c pc)
     (λ d pd. and_then d filters ranks _ _ (where_taken _ _ _ found_where d pd) (order_taken _ _ _ found_order))))) in
     let same : list_columns l ++ (flat_map equality_columns (i.1 ++ es) ++ ranks) ≡ list_columns l ++ (on ++ (filters ++ ranks))
     = ap (λ m. list_columns l ++ (m ++ ranks)) (flat_map-append equality_columns i.1 es) ∙ ap (λ m. list_columns l ++ m) (append_assoc on filters ranks) in
-    subst AreInTextOrder (sym same) (ascend column_place 0 all.hi _ all.taken)
+    subst (λ refs. Taken column_place lo refs rest) (sym same) all
 
 -- ---- items
 
@@ -272,12 +273,47 @@ all_items _ rest _ (items {i = i} {js = js} first others) lo p =
     subst (λ l. Taken item_place lo (i ∷ l) rest) (flat_map_single (λ (j : Joined). j.0) js)
     (and_then lo (i ∷ []) (flat_map joined_items js) _ _ (one_item _ _ _ first lo p) (many_taken joined_items one_next_item _ _ _ others))
 
+branch_items : Takes item_place IsBranch (λ s. s.items)
+branch_items _ rest _ (branch {i = i} s list f found_items found_where found_order) lo p =
+    let all = and_then lo [] (i.0 ++ []) _ _ (passed kind.Select _ _ _ s lo p)
+    (λ a pa. and_then a [] (i.0 ++ []) _ _ (no_items list_columns list_taken _ _ _ list a pa)
+    (λ b pb. and_then b [] (i.0 ++ []) _ _ (passed kind.From _ _ _ f b pb)
+    (λ c pc. and_then c i.0 [] _ _ (all_items _ _ _ found_items c pc)
+    (λ d pd. and_then d [] [] _ _ (no_items (λ es. flat_map equality_columns es) where_taken _ _ _ found_where d pd)
+    (no_items (λ ks. flat_map key_columns ks) order_taken _ _ _ found_order))))) in
+    subst (λ refs. Taken item_place lo refs rest) (append-nil i.0) all
+
+-- ---- the branches
+
+module _ {R : Type 0} (place : R → ℕ) (refs : Select → List R) (takes : Takes place IsBranch refs) where
+  query_ascends : (ts : List Lexeme) (x : Clauses) → IsQuery ts x → From 0 ts → Ascend place (refs x.0)
+  query_ascends _ _ (query found limit ends) p =
+      let t = takes _ _ _ found 0 p in
+      ascend place 0 t.hi _ t.taken
+
+  next_taken : Takes place (IsNextBranch true) refs
+  next_taken _ _ s (next_branch allowed u w found) lo p =
+      and_then lo [] (refs s) _ _ (passed kind.Union _ _ _ u lo p)
+      (λ hi q. and_then hi [] (refs s) _ _ (passed kind.All _ _ _ w hi q) (takes _ _ _ found))
+
+  each_ascends : (ts rest : List Lexeme) (ss : List Select) → Many (IsNextBranch true) ts rest ss
+      → (lo : ℕ) → From lo ts → AllByRecursion (λ s. Ascend place (refs s)) ss
+  each_ascends _ _ _ none lo p = tt
+  each_ascends _ _ _ (more first others) lo p =
+      let t = next_taken _ _ _ first lo p in
+      (ascend place lo t.hi _ t.taken, each_ascends _ _ _ others t.hi t.left)
+
+  queries_ascend : (ts : List Lexeme) (x : Branches) → IsQueries true ts x → From 0 ts
+      → AllByRecursion (λ s. Ascend place (refs s)) x.0
+  queries_ascend _ _ (queries first others limit ends) p =
+      let t = takes _ _ _ first 0 p in
+      (ascend place 0 t.hi _ t.taken, each_ascends _ _ _ others t.hi t.left)
+
+query_in_order : (ts : List Lexeme) (x : Clauses) → IsQuery ts x → From 0 ts → AreInTextOrder (columns_of x.0)
+query_in_order = query_ascends column_place columns_of branch_taken
+
 query_items_in_order : (ts : List Lexeme) (x : Clauses) → IsQuery ts x → From 0 ts → ItemsAreInTextOrder x.0.items
-query_items_in_order _ _ (query {i = i} s list f found_items found_where found_order found_limit ends) p =
-    let all = and_then 0 [] i.0 _ _ (passed kind.Select _ _ _ s 0 p)
-    (λ a pa. and_then a [] i.0 _ _ (no_items list_columns list_taken _ _ _ list a pa)
-    (λ b pb. and_then b [] i.0 _ _ (passed kind.From _ _ _ f b pb) (all_items _ _ _ found_items))) in
-    ascend item_place 0 all.hi _ all.taken
+query_items_in_order = query_ascends item_place (λ s. s.items) branch_items
 
 -- the items of a query that was parsed are in the order of the text
 pub parsed_items_in_order : (bytes : List ℕ) (select : Select) → IsParsed bytes select → ItemsAreInTextOrder select.items
@@ -288,3 +324,42 @@ parsed_items_in_order bytes select parsed =
 pub parsed_in_order : (bytes : List ℕ) (select : Select) → IsParsed bytes select → AreInTextOrder (columns_of select)
 parsed_in_order bytes select parsed =
     subst (λ s. AreInTextOrder (columns_of s)) (sym parsed.is) (query_in_order _ parsed.clauses parsed.says.query (tokens_ascend bytes 0 0 0 (omega arith)))
+
+-- the items of each branch that was parsed are in the order of the text
+pub all_items_in_order : (bytes : List ℕ) (all : SelectAll) → IsParsedAll bytes all
+    → AllByRecursion (λ (s : Select). ItemsAreInTextOrder s.items) all.branches
+all_items_in_order bytes all parsed =
+    subst (λ (a : SelectAll). AllByRecursion (λ (s : Select). ItemsAreInTextOrder s.items) a.branches) (sym parsed.is)
+    (queries_ascend item_place (λ s. s.items) branch_items _ parsed.clauses parsed.says.queries
+    (tokens_ascend bytes 0 0 0 (omega arith)))
+
+-- the references of each branch that was parsed are in the order of the text
+pub all_in_order : (bytes : List ℕ) (all : SelectAll) → IsParsedAll bytes all
+    → AllByRecursion (λ s. AreInTextOrder (columns_of s)) all.branches
+all_in_order bytes all parsed =
+    subst (λ (a : SelectAll). AllByRecursion (λ s. AreInTextOrder (columns_of s)) a.branches) (sym parsed.is)
+    (queries_ascend column_place columns_of branch_taken _ parsed.clauses parsed.says.queries
+    (tokens_ascend bytes 0 0 0 (omega arith)))
+
+-- ---- each branch has an item
+
+abbrev pub HasItems : Select → Type 0
+HasItems s = 1 ≤ length s.items
+
+branch_some : {ts rest : List Lexeme} {s : Select} → IsBranch ts rest s → HasItems s
+branch_some (branch s list f (items first others) found_where found_order) = omega arith
+
+each_some : {ts rest : List Lexeme} {ss : List Select} → Many (IsNextBranch true) ts rest ss
+    → AllByRecursion HasItems ss
+each_some none = tt
+each_some (more (next_branch allowed u w found) others) = (branch_some found, each_some others)
+
+queries_some : {ts : List Lexeme} {x : Branches} → IsQueries true ts x
+    → (1 ≤ length x.0) × AllByRecursion HasItems x.0
+queries_some (queries first others limit ends) = (omega arith, (branch_some first, each_some others))
+
+pub all_some : (bytes : List ℕ) (all : SelectAll) → IsParsedAll bytes all
+    → (1 ≤ length all.branches) × AllByRecursion HasItems all.branches
+all_some bytes all parsed =
+    subst (λ (a : SelectAll). (1 ≤ length a.branches) × AllByRecursion HasItems a.branches) (sym parsed.is)
+    (queries_some parsed.says.queries)

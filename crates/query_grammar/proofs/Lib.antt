@@ -4,12 +4,14 @@ pub mod Shorter
 pub mod Rules
 pub mod Again
 pub mod Stuck
+pub mod OneQuery
 pub mod Loops
 pub mod Stepping
 pub mod Strings
 pub mod ScanLength
 pub mod Examples
 pub mod Decimal
+pub mod Limited
 pub mod Answered
 pub mod Exactly
 pub mod OnLiterals

@@ -1,11 +1,11 @@
 -- Reading any number of things one after another, as a loop does.
-use Rattle.std.proofs.Common.{◌≡◌, ℕ, zero, suc, ◌≤◌, ◌<◌, List, [], ◌∷◌, ◌++◌, length, map, Some, None, Ok, Err, refl, sym, ap, ◌∙◌, append_assoc, arith, subst}
+use Rattle.std.proofs.Common.{◌≡◌, ℕ, zero, suc, ◌≤◌, ◌<◌, List, [], ◌∷◌, ◌++◌, length, map, Some, None, Ok, Err, refl, sym, ap, ◌∙◌, append_assoc, arith, subst, Bool}
 use Rattle.std.proofs.lemmas.List.{append-nil}
 use Rattle.query_grammar.specs.declared.fault.ParseFault.{ParseFault}
 use Rattle.query_grammar.specs.declared.fault.ParseFault.TheVariants as fault
 use Rattle.std.specs.List.{flat_map}
-use Rattle.query_grammar.specs.declared.select.ItemRef.{ItemRef}
-use Rattle.query_grammar.specs.declared.select.Equality.{Equality}
+use Rattle.query_select.specs.declared.select.ItemRef.{ItemRef}
+use Rattle.query_select.specs.declared.select.Equality.{Equality}
 use Rattle.query_grammar.specs.Lexeme.{Lexeme}
 use Rattle.query_grammar.specs.Reading.{Read, Next, ◌>>=◌, one_more, many_at, all_at, Fails, Joined, next_item_at}
 use Rattle.query_grammar.specs.Places.{Choice}
@@ -20,14 +20,14 @@ pub record Steps {A : Type 0} (next : List Lexeme → Next A) : Type 0 where
   pub consumes : (ts rest : List Lexeme) (x : A) → next ts ≡ Ok (Some (x, rest)) → length rest < length ts
   pub at_end : next [] ≡ Ok None
 
-consumes_out : {A : Type 0} {Thing : List Lexeme → List Lexeme → A → Type 0} {c d : Choice} {ts : List Lexeme} {r : Next A} → NextOut Thing c d ts r → Shortens Thing → (rest : List Lexeme) (x : A) → r ≡ Ok (Some (x, rest)) → length rest < length ts
+consumes_out : {many : Bool} {A : Type 0} {Thing : List Lexeme → List Lexeme → A → Type 0} {c d : Choice} {ts : List Lexeme} {r : Next A} → NextOut many Thing c d ts r → Shortens Thing → (rest : List Lexeme) (x : A) → r ≡ Ok (Some (x, rest)) → length rest < length ts
 consumes_out {A} {ts = ts} (further {rest = mid} {x = y} thing h) short rest x e =
     let same_pair : ◌≡◌ {A = A × List Lexeme} (y, mid) (x, rest) = cc in
     subst (λ (p : A × List Lexeme). length p.1 < length ts) same_pair (short _ _ _ thing)
 consumes_out (stop h) short rest x e = absurd cc
 consumes_out (failed h) short rest x e = absurd cc
 
-pub steps_from : {A : Type 0} {Thing : List Lexeme → List Lexeme → A → Type 0} {c d : Choice} (next : List Lexeme → Next A) → ((ts : List Lexeme) → NextOut Thing c d ts (next ts)) → Shortens Thing → next [] ≡ Ok None → Steps next
+pub steps_from : {many : Bool} {A : Type 0} {Thing : List Lexeme → List Lexeme → A → Type 0} {c d : Choice} (next : List Lexeme → Next A) → ((ts : List Lexeme) → NextOut many Thing c d ts (next ts)) → Shortens Thing → next [] ≡ Ok None → Steps next
 steps_from next out short at_end = record { consumes = λ ts rest x e. consumes_out (out ts) short rest x e; at_end = at_end }
 
 enough_more : {A : Type 0} (o : Next A) (a b : List Lexeme → Read (List A)) (ts : List Lexeme) → ((x : A) (rest : List Lexeme) → o ≡ Ok (Some (x, rest)) → a rest ≡ b rest) → (o >>= one_more a ts) ≡ (o >>= one_more b ts)
@@ -67,6 +67,7 @@ ends {next = next} s end (fault.Syntax at) front ts total h so_far =
     let one : with_front front (all_at next ts) ≡ Err h.0 = rw (all_more next s ts, stopped) refl in
     (h.0, sym so_far ∙ one, h.2)
 ends s end fault.TooLong front ts total h so_far = h
+ends s end fault.TooManyBranches front ts total h so_far = h
 ends s end fault.TooManyItems front ts total h so_far = h
 ends s end fault.TooManyKeys front ts total h so_far = h
 ends s end (fault.LimitRange at) front ts total h so_far = h
@@ -104,6 +105,7 @@ items_end s end (fault.Syntax at) is on ts total h so_far =
     let one : with_items is on (all_at next_item_at ts) ≡ Err h.0 = rw (all_more next_item_at s ts, stopped) refl in
     (h.0, sym so_far ∙ one, h.2)
 items_end s end fault.TooLong is on ts total h so_far = h
+items_end s end fault.TooManyBranches is on ts total h so_far = h
 items_end s end fault.TooManyItems is on ts total h so_far = h
 items_end s end fault.TooManyKeys is on ts total h so_far = h
 items_end s end (fault.LimitRange at) is on ts total h so_far = h

@@ -1,9 +1,13 @@
 -- What is left after each thing of the grammar is shorter.
-use Rattle.std.proofs.Common.{◌≤◌, List, length, arith}
+use Rattle.std.proofs.Common.{◌≤◌, List, length, arith, Bool}
 use Rattle.query_grammar.specs.declared.token.Kind.{Kind}
 use Rattle.query_grammar.specs.declared.token.Kind.TheVariants as kind
+use Rattle.query_select.specs.declared.select.SelectList.{SelectList}
+use Rattle.query_select.specs.declared.select.ItemRef.{ItemRef}
+use Rattle.query_select.specs.declared.select.Equality.{Equality}
+use Rattle.query_select.specs.declared.select.KeyRef.{KeyRef}
 use Rattle.query_grammar.specs.Lexeme.{Lexeme}
-use Rattle.query_grammar.specs.Grammar.{One, one, Many, none, more, Behind, after_sign, IsColumn, bare, qualified, IsConstant, text, digits, negative, IsCondition, two_columns, constant_left, constant_right, IsConditions, conditions, IsItem, named, aliased, aliased_as, IsJoined, joined, IsNextItem, comma, join, inner_join, IsSigned, plus, minus, IsFirstTerm, unsigned, signed, IsDirection, unsaid, ascending, descending, IsKey, key}
+use Rattle.query_grammar.specs.Grammar.{One, one, Many, none, more, Behind, after_sign, IsColumn, bare, qualified, IsConstant, text, digits, negative, IsCondition, two_columns, constant_left, constant_right, IsConditions, conditions, IsItem, named, aliased, aliased_as, IsJoined, joined, IsNextItem, comma, join, inner_join, IsSigned, plus, minus, IsFirstTerm, unsigned, signed, IsDirection, unsaid, ascending, descending, IsKey, key, columns, IsList, star, listed, IsItems, items, IsWhere, no_where, some_where, IsOrder, no_order, some_order, IsBranch, branch, IsNextBranch, next_branch}
 use Rattle.query_grammar.proofs.Outcomes.{Shortens}
 
 pub one_shortens : (k : Kind) → Shortens (One k)
@@ -61,3 +65,32 @@ direction_shortens (descending w) = omega (arith, one_shortens kind.Desc _ _ _ w
 
 pub key_shortens : Shortens IsKey
 key_shortens _ _ _ (key first others d) = omega (arith, first_term_shortens _ _ _ first, many_shortens signed_shortens _ _ _ others, direction_shortens d)
+
+-- ---- branches
+
+list_leaves : (ts rest : List Lexeme) (l : SelectList) → IsList ts rest l → length rest ≤ length ts
+list_leaves _ _ _ (star s) = omega (arith, one_shortens kind.Star _ _ _ s)
+list_leaves _ _ _ (listed (columns c cs)) = omega (arith, column_shortens _ _ _ c, many_shortens (behind_shortens kind.Comma column_shortens) _ _ _ cs)
+
+conditions_leave : (ts rest : List Lexeme) (es : List Equality) → IsConditions ts rest es → length rest ≤ length ts
+conditions_leave _ _ _ (conditions e es) = omega (arith, condition_shortens _ _ _ e, many_shortens (behind_shortens kind.And condition_shortens) _ _ _ es)
+
+items_leave : (ts rest : List Lexeme) (r : List ItemRef × List Equality) → IsItems ts rest r → length rest ≤ length ts
+items_leave _ _ _ (items i js) = omega (arith, item_shortens _ _ _ i, many_shortens next_item_shortens _ _ _ js)
+
+where_leaves : (ts rest : List Lexeme) (es : List Equality) → IsWhere ts rest es → length rest ≤ length ts
+where_leaves _ _ _ no_where = omega arith
+where_leaves _ _ _ (some_where w es) = omega (arith, one_shortens kind.Where _ _ _ w, conditions_leave _ _ _ es)
+
+order_leaves : (ts rest : List Lexeme) (ks : List KeyRef) → IsOrder ts rest ks → length rest ≤ length ts
+order_leaves _ _ _ no_order = omega arith
+order_leaves _ _ _ (some_order o w k ks) =
+    omega (arith, one_shortens kind.Order _ _ _ o, one_shortens kind.By _ _ _ w, key_shortens _ _ _ k, many_shortens (behind_shortens kind.Comma key_shortens) _ _ _ ks)
+
+pub branch_shortens : Shortens IsBranch
+branch_shortens _ _ _ (branch s l f i c k) =
+    omega (arith, one_shortens kind.Select _ _ _ s, list_leaves _ _ _ l, one_shortens kind.From _ _ _ f, items_leave _ _ _ i, where_leaves _ _ _ c, order_leaves _ _ _ k)
+
+pub next_branch_shortens : (many : Bool) → Shortens (IsNextBranch many)
+next_branch_shortens many _ _ _ (next_branch allowed u w b) =
+    omega (arith, one_shortens kind.Union _ _ _ u, one_shortens kind.All _ _ _ w, branch_shortens _ _ _ b)

@@ -3,16 +3,17 @@ use Rattle.std.specs.Prelude.{◌≡◌, ℕ, List, [], ◌∷◌, ◌++◌, map
 use Rattle.std.specs.List.{flat_map}
 use Rattle.query_grammar.specs.declared.token.Kind.{Kind}
 use Rattle.query_grammar.specs.declared.token.Kind.TheVariants as kind
-use Rattle.query_grammar.specs.declared.select.ColumnRef.{ColumnRef}
-use Rattle.query_grammar.specs.declared.select.SelectList.{SelectList}
-use Rattle.query_grammar.specs.declared.select.SelectList.TheVariants.{Star, Columns}
-use Rattle.query_grammar.specs.declared.select.ItemRef.{ItemRef}
-use Rattle.query_grammar.specs.declared.select.Side.TheVariants.{Column, Constant}
-use Rattle.query_grammar.specs.declared.select.Equality.{Equality}
-use Rattle.query_grammar.specs.declared.select.Term.{Term}
-use Rattle.query_grammar.specs.declared.select.KeyRef.{KeyRef}
+use Rattle.query_select.specs.declared.select.ColumnRef.{ColumnRef}
+use Rattle.query_select.specs.declared.select.SelectList.{SelectList}
+use Rattle.query_select.specs.declared.select.SelectList.TheVariants.{Star, Columns}
+use Rattle.query_select.specs.declared.select.ItemRef.{ItemRef}
+use Rattle.query_select.specs.declared.select.Side.TheVariants.{Column, Constant}
+use Rattle.query_select.specs.declared.select.Equality.{Equality}
+use Rattle.query_select.specs.declared.select.Term.{Term}
+use Rattle.query_select.specs.declared.select.KeyRef.{KeyRef}
+use Rattle.query_select.specs.declared.select.Select.{Select}
 use Rattle.query_grammar.specs.Lexeme.{Lexeme}
-use Rattle.query_grammar.specs.Reading.{undoubled, Joined, Clauses}
+use Rattle.query_grammar.specs.Reading.{undoubled, Joined, Clauses, Branches}
 
 -- a token of this kind
 pub data One (k : Kind) : List Lexeme → List Lexeme → Lexeme → Type 0 where
@@ -117,8 +118,32 @@ pub data IsEnd : List Lexeme → Type 0 where
   no_sign : IsEnd []
   semicolon : {ts : List Lexeme} {s : Lexeme} → One kind.Semicolon ts [] s → IsEnd ts
 
--- SELECT list FROM items [WHERE conds] [ORDER BY key {"," key}] [LIMIT digits] [";"]
+-- SELECT list FROM items [WHERE conds] [ORDER BY key {"," key}]
+pub data IsBranch : List Lexeme → List Lexeme → Select → Type 0 where
+  branch : {ts a b c d e rest : List Lexeme} {s f : Lexeme} {l : SelectList} {i : List ItemRef × List Equality}
+      {es : List Equality} {ks : List KeyRef}
+      → One kind.Select ts a s → IsList a b l → One kind.From b c f → IsItems c d i → IsWhere d e es → IsOrder e rest ks
+      → IsBranch ts rest (record { list = l; items = i.0; equalities = i.1 ++ es; keys = ks; limit = None })
+
+-- branch [LIMIT digits] [";"]
 pub data IsQuery : List Lexeme → Clauses → Type 0 where
-  query : {ts a b c d e g h : List Lexeme} {s f : Lexeme} {l : SelectList} {i : List ItemRef × List Equality} {es : List Equality} {ks : List KeyRef} {n : Option Lexeme}
-      → One kind.Select ts a s → IsList a b l → One kind.From b c f → IsItems c d i → IsWhere d e es → IsOrder e g ks → IsLimit g h n → IsEnd h
-      → IsQuery ts (record { list = l; items = i.0; equalities = i.1 ++ es; keys = ks; limit = None }, n)
+  query : {ts g h : List Lexeme} {s : Select} {n : Option Lexeme}
+      → IsBranch ts g s → IsLimit g h n → IsEnd h → IsQuery ts (s, n)
+
+-- UNION ALL branch, if there may be several branches
+pub data IsNextBranch (many : Bool) : List Lexeme → List Lexeme → Select → Type 0 where
+  next_branch : {ts a b rest : List Lexeme} {u w : Lexeme} {s : Select}
+      → many ≡ true → One kind.Union ts a u → One kind.All a b w → IsBranch b rest s → IsNextBranch many ts rest s
+
+-- branch {UNION ALL branch} [LIMIT digits] [";"], or branch [LIMIT digits] [";"] if there may not be several
+pub data IsQueries (many : Bool) : List Lexeme → Branches → Type 0 where
+  queries : {ts a b c : List Lexeme} {s : Select} {ss : List Select} {n : Option Lexeme}
+      → IsBranch ts a s → Many (IsNextBranch many) a b ss → IsLimit b c n → IsEnd c → IsQueries many ts (s ∷ ss, n)
+
+-- the tokens are a query
+abbrev pub AreQuery : List Lexeme → Type 0
+AreQuery ts = (x : Clauses) × IsQuery ts x
+
+-- the tokens are one or more queries, or one alone if there may not be several
+abbrev pub AreQueries : Bool → List Lexeme → Type 0
+AreQueries many ts = (x : Branches) × IsQueries many ts x

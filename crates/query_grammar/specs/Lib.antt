@@ -7,6 +7,3 @@ pub mod Tokens
 pub mod Scanned
 pub mod Parse
 pub mod Text
-pub mod Same
-pub mod SameLaws
-pub mod TextOrder

@@ -5,16 +5,16 @@ use Rattle.query_grammar.specs.declared.token.Kind.{Kind}
 use Rattle.query_grammar.specs.declared.token.Kind.TheVariants as kind
 use Rattle.query_grammar.specs.declared.fault.ParseFault.{ParseFault}
 use Rattle.query_grammar.specs.declared.fault.ParseFault.TheVariants as fault
-use Rattle.query_grammar.specs.declared.select.ColumnRef.{ColumnRef}
-use Rattle.query_grammar.specs.declared.select.SelectList.{SelectList}
-use Rattle.query_grammar.specs.declared.select.SelectList.TheVariants.{Star, Columns}
-use Rattle.query_grammar.specs.declared.select.ItemRef.{ItemRef}
-use Rattle.query_grammar.specs.declared.select.Side.{Side}
-use Rattle.query_grammar.specs.declared.select.Side.TheVariants.{Column, Constant}
-use Rattle.query_grammar.specs.declared.select.Equality.{Equality}
-use Rattle.query_grammar.specs.declared.select.Term.{Term}
-use Rattle.query_grammar.specs.declared.select.KeyRef.{KeyRef}
-use Rattle.query_grammar.specs.declared.select.Select.{Select}
+use Rattle.query_select.specs.declared.select.ColumnRef.{ColumnRef}
+use Rattle.query_select.specs.declared.select.SelectList.{SelectList}
+use Rattle.query_select.specs.declared.select.SelectList.TheVariants.{Star, Columns}
+use Rattle.query_select.specs.declared.select.ItemRef.{ItemRef}
+use Rattle.query_select.specs.declared.select.Side.{Side}
+use Rattle.query_select.specs.declared.select.Side.TheVariants.{Column, Constant}
+use Rattle.query_select.specs.declared.select.Equality.{Equality}
+use Rattle.query_select.specs.declared.select.Term.{Term}
+use Rattle.query_select.specs.declared.select.KeyRef.{KeyRef}
+use Rattle.query_select.specs.declared.select.Select.{Select}
 use Rattle.query_grammar.specs.declared.token.Token.{Token}
 use Rattle.query_grammar.specs.Lexeme.{Lexeme, lexeme}
 
@@ -41,6 +41,7 @@ abbrev pub Fails : {Y : Type 0} → ℕ → ParseFault → Result Y (List Lexeme
 Fails end fault.NoMemory read = Unit {0}
 Fails end (fault.Syntax at) read = (left : List Lexeme) × (read ≡ Err left) × (at ≡ place_of end left)
 Fails end fault.TooLong read = ⊥
+Fails end fault.TooManyBranches read = ⊥
 Fails end fault.TooManyItems read = ⊥
 Fails end fault.TooManyKeys read = ⊥
 Fails end (fault.LimitRange at) read = ⊥
@@ -352,14 +353,61 @@ finish_at tokens = nothing_left (optional_at kind.Semicolon tokens).1
 abbrev pub Clauses : Type 0
 Clauses = Select × Option Lexeme
 
-unfoldable pub query_at : List Lexeme → Result Clauses (List Lexeme)
-query_at tokens = do
+-- a query up to its order keys
+unfoldable pub branch_at : List Lexeme → Read Select
+branch_at tokens = do
   select_word ← expect_at kind.Select tokens
   list ← list_at select_word.1
   from_word ← expect_at kind.From list.1
   items ← items_at from_word.1
   condition ← where_at items.1
   keys ← order_at condition.1
-  digits ← limit_at keys.1
+  Ok (
+    record {
+      list = list.0;
+      items = items.0.0;
+      equalities = items.0.1 ++ condition.0;
+      keys = keys.0;
+      limit = None;
+    },
+    keys.1,
+  )
+
+unfoldable pub query_at : List Lexeme → Result Clauses (List Lexeme)
+query_at tokens = do
+  branch ← branch_at tokens
+  digits ← limit_at branch.1
   done ← finish_at digits.1
-  Ok (record { list = list.0; items = items.0.0; equalities = items.0.1 ++ condition.0; keys = keys.0; limit = None }, digits.0)
+  Ok (branch.0, digits.0)
+
+-- ---- several queries
+
+-- branches without their limit, and the digits of the limit of the whole, whose number may be too great
+abbrev pub Branches : Type 0
+Branches = List Select × Option Lexeme
+
+abbrev pub all_branch_at : List Lexeme → Read Select
+all_branch_at tokens = do
+  all_word ← expect_at kind.All tokens
+  branch_at all_word.1
+
+abbrev pub with_union : Option Lexeme × List Lexeme → Next Select
+with_union (Some union_word, rest) = found (all_branch_at rest)
+with_union (None, rest) = Ok None
+
+-- another branch, if there may be several
+unfoldable pub next_branch_at : Bool → List Lexeme → Next Select
+next_branch_at many tokens = if many then with_union (optional_at kind.Union tokens) else Ok None
+
+unfoldable pub branches_at : Bool → List Lexeme → Read (List Select)
+branches_at many tokens = do
+  first ← branch_at tokens
+  others ← all_at (next_branch_at many) first.1
+  Ok (first.0 ∷ others.0, others.1)
+
+unfoldable pub queries_at : Bool → List Lexeme → Result Branches (List Lexeme)
+queries_at many tokens = do
+  branches ← branches_at many tokens
+  digits ← limit_at branches.1
+  done ← finish_at digits.1
+  Ok (branches.0, digits.0)

@@ -5,8 +5,8 @@ ghost use Rattle.query_grammar.specs.declared.fault.ParseFault.TheVariants.{NoMe
 
 use std::alloc::{AllocError, AllocFailed};
 
-/// Why bytes are not a query within the limits. The fault is the first of these that holds, except
-/// that memory may run out at any point. Offsets are in bytes, from 0.
+/// Why bytes are not a query, or several, within the limits. The fault is the first of these that
+/// holds, except that memory may run out at any point. Offsets are in bytes, from 0.
 #[derive(Debug, PartialEq, Eq, Drop)]
 pub enum ParseFault {
     /// There are more than 65,536 bytes.
@@ -14,9 +14,11 @@ pub enum ParseFault {
     /// The bytes are not a query. The token at this offset, or the end there, is the first that no
     /// query has after the tokens before it.
     Syntax(u32),
-    /// There are more than 16 from-items.
+    /// There are more than 8 branches. `parse`, which reads one query, never returns this.
+    TooManyBranches,
+    /// There are more than 16 from-items, in all branches together.
     TooManyItems,
-    /// There are more than 8 order keys.
+    /// There are more than 8 order keys in one branch.
     TooManyKeys,
     /// The limit, whose digits begin at this offset, is not a 64-bit number.
     LimitRange(u32),

@@ -1,15 +1,15 @@
 //! Reading the grammar, token by token.
 
-ghost use Rattle.std.specs.Prelude.{◌≡◌, length, ◌≤◌, ◌++◌, ◌∷◌, [], MatchOption, Some, None, IfOk, OnOk, option_copied, Option, Bool, List, ℕ};
+ghost use Rattle.std.specs.Prelude.{◌≡◌, length, ◌≤◌, ◌++◌, ◌∷◌, [], MatchOption, Some, None, true, IfOk, OnOk, option_copied, Option, Bool, List, ℕ};
 ghost use Rattle.std.specs.Option.{option_map};
 ghost use Rattle.query_grammar.specs.Lexeme.{Lexeme, lexeme, lexemes};
-ghost use Rattle.query_grammar.specs.Reading.{Gives, expect_at, optional_at, place_of, same, column_at, next_column_at, columns_at, list_at, undoubled, undoubled_from, side_at, condition_at, next_condition_at, conditions_at, alias_at, item_at, plain_item_at, joined_item_at, inner_item_at, next_item_at, items_at, where_at, sign_at, term_at, next_term_at, direction_at, terms_at, key_at, next_key_at, keys_at, order_at, limit_at, finish_at, query_at, some_lexeme};
+ghost use Rattle.query_grammar.specs.Reading.{Gives, expect_at, optional_at, place_of, same, column_at, next_column_at, columns_at, list_at, undoubled, undoubled_from, side_at, condition_at, next_condition_at, conditions_at, alias_at, item_at, plain_item_at, joined_item_at, inner_item_at, next_item_at, items_at, where_at, sign_at, term_at, next_term_at, direction_at, terms_at, key_at, next_key_at, keys_at, order_at, limit_at, finish_at, branch_at, query_at, next_branch_at, branches_at, queries_at, some_lexeme};
 
 use crate::fault::ParseFault;
-use crate::name::{Bytes, Name};
-use crate::select::{ColumnRef, Equality, ItemRef, KeyRef, Select, SelectList, Side, Term};
-use crate::sequence::Sequence;
 use crate::token::{Kind, Token};
+use query_select::name::{Bytes, Name};
+use query_select::select::{ColumnRef, Equality, ItemRef, KeyRef, Select, SelectList, Side, Term};
+use query_select::sequence::Sequence;
 use std::alloc::{AllocError, Global};
 
 fn is_kind(token: &Token<'_>, kind: Kind) -> bool
@@ -568,6 +568,25 @@ fn finish(tokens: &[Token<'_>], end: u32) -> Result<(), ParseFault>
     }
 }
 
+/// A query up to its order keys, without its limit.
+#[tactic(auto, unfolding(crate::specs::Reading::branch_at))]
+fn branch<'a, 't>(
+    alloc: Global,
+    tokens: &'t [Token<'a>],
+    end: u32,
+) -> Result<(Select, &'t [Token<'a>]), ParseFault>
+    ensures { Gives end (λ x. (x.0, lexemes x.1.now)) result (branch_at (lexemes tokens.now)) }
+{
+    let (_, rest) = expect(tokens, end, Kind::Select)?;
+    let (list, rest) = list(alloc, rest, end)?;
+    let (_, rest) = expect(rest, end, Kind::From)?;
+    let (found, rest) = items(alloc, rest, end)?;
+    let (conditions, rest) = where_clause(alloc, rest, end)?;
+    let (keys, rest) = order_clause(alloc, rest, end)?;
+    let select = selected(list, found, conditions, keys)?;
+    Ok((select, rest))
+}
+
 /// A query without its limit, and the limit's digits.
 #[tactic(auto, unfolding(crate::specs::Reading::query_at))]
 pub(crate) fn query<'a>(
@@ -577,16 +596,61 @@ pub(crate) fn query<'a>(
 ) -> Result<(Select, Option<Token<'a>>), ParseFault>
     ensures { Gives end (λ x. (x.0, some_lexeme x.1)) result (query_at (lexemes tokens.now)) }
 {
-    let (_, rest) = expect(tokens, end, Kind::Select)?;
-    let (list, rest) = list(alloc, rest, end)?;
-    let (_, rest) = expect(rest, end, Kind::From)?;
-    let (found, rest) = items(alloc, rest, end)?;
-    let (conditions, rest) = where_clause(alloc, rest, end)?;
-    let (keys, rest) = order_clause(alloc, rest, end)?;
+    let (select, rest) = branch(alloc, tokens, end)?;
     let (digits, rest) = limit_clause(rest, end)?;
     finish(rest, end)?;
-    let select = selected(list, found, conditions, keys)?;
     Ok((select, digits))
+}
+
+/// UNION ALL and the branch after it.
+#[tactic(auto, unfolding(crate::specs::Reading::next_branch_at))]
+fn next_branch<'a, 't>(
+    alloc: Global,
+    tokens: &'t [Token<'a>],
+    end: u32,
+) -> Result<Option<(Select, &'t [Token<'a>])>, ParseFault>
+    ensures { Gives end (option_map (λ x. (x.0, lexemes x.1.now))) result (next_branch_at true (lexemes tokens.now)) }
+{
+    let (union, rest) = optional(tokens, Kind::Union);
+    if union.is_none() {
+        return Ok(None);
+    }
+    let (_, rest) = expect(rest, end, Kind::All)?;
+    let found = branch(alloc, rest, end)?;
+    Ok(Some(found))
+}
+
+#[tactic(auto, unfolding(crate::specs::Reading::branches_at))]
+fn branches<'a, 't>(
+    alloc: Global,
+    tokens: &'t [Token<'a>],
+    end: u32,
+) -> Result<(Sequence<Select>, &'t [Token<'a>]), ParseFault>
+    ensures { Gives end (λ x. (x.0, lexemes x.1.now)) result (branches_at true (lexemes tokens.now)) }
+{
+    let (first, mut rest) = branch(alloc, tokens, end)?;
+    let mut branches = Vec::new(alloc);
+    branches.push(first)?;
+    while let Some((branch, after)) = next_branch(alloc, rest, end)? {
+        branches.push(branch)?;
+        rest = after;
+    }
+    Ok((Sequence::from_vec(branches), rest))
+}
+
+/// The branches without their limit, and the limit's digits.
+#[tactic(auto, unfolding(crate::specs::Reading::queries_at))]
+pub(crate) fn queries<'a>(
+    alloc: Global,
+    tokens: &[Token<'a>],
+    end: u32,
+) -> Result<(Sequence<Select>, Option<Token<'a>>), ParseFault>
+    ensures { Gives end (λ x. (x.0, some_lexeme x.1)) result (queries_at true (lexemes tokens.now)) }
+{
+    let (branches, rest) = branches(alloc, tokens, end)?;
+    let (digits, rest) = limit_clause(rest, end)?;
+    finish(rest, end)?;
+    Ok((branches, digits))
 }
 
 /// The select of the clauses that were read, without a limit.

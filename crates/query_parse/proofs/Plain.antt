@@ -1,16 +1,16 @@
 -- A query that can be written: no name has a quote, and no list is empty if the grammar requires an
 -- element.
 use Rattle.std.proofs.Common.{ℕ, List, [], ◌∷◌, Option, Some, None}
-use Rattle.query_grammar.specs.declared.select.ColumnRef.{ColumnRef}
-use Rattle.query_grammar.specs.declared.select.SelectList.{SelectList}
-use Rattle.query_grammar.specs.declared.select.SelectList.TheVariants.{Star, Columns}
-use Rattle.query_grammar.specs.declared.select.ItemRef.{ItemRef}
-use Rattle.query_grammar.specs.declared.select.Side.{Side}
-use Rattle.query_grammar.specs.declared.select.Side.TheVariants.{Column, Constant}
-use Rattle.query_grammar.specs.declared.select.Equality.{Equality}
-use Rattle.query_grammar.specs.declared.select.Term.{Term}
-use Rattle.query_grammar.specs.declared.select.KeyRef.{KeyRef}
-use Rattle.query_grammar.specs.declared.select.Select.{Select}
+use Rattle.query_select.specs.declared.select.ColumnRef.{ColumnRef}
+use Rattle.query_select.specs.declared.select.SelectList.{SelectList}
+use Rattle.query_select.specs.declared.select.SelectList.TheVariants.{Star, Columns}
+use Rattle.query_select.specs.declared.select.ItemRef.{ItemRef}
+use Rattle.query_select.specs.declared.select.Side.{Side}
+use Rattle.query_select.specs.declared.select.Side.TheVariants.{Column, Constant}
+use Rattle.query_select.specs.declared.select.Equality.{Equality}
+use Rattle.query_select.specs.declared.select.Term.{Term}
+use Rattle.query_select.specs.declared.select.KeyRef.{KeyRef}
+use Rattle.query_select.specs.declared.select.Select.{Select}
 use Rattle.query_parse.proofs.Written.{HasNoQuote}
 
 abbrev pub Each : {A : Type 0} → (A → Type 0) → List A → Type 0

@@ -5,7 +5,7 @@ use Rattle.query_grammar.specs.declared.token.Kind.{Kind}
 use Rattle.query_grammar.specs.declared.token.Kind.TheVariants as kind
 use Rattle.query_grammar.specs.Lexeme.{Lexeme}
 use Rattle.query_grammar.specs.Reading.{Joined, Clauses}
-use Rattle.query_grammar.specs.Grammar.{One, one, Many, none, more, Behind, after_sign, IsColumn, bare, qualified, IsColumns, columns, IsList, star, listed, IsConstant, text, digits, negative, IsCondition, two_columns, constant_right, constant_left, IsConditions, conditions, IsItem, named, aliased, aliased_as, IsJoined, joined, IsNextItem, comma, join, inner_join, IsItems, items, IsWhere, no_where, some_where, IsSigned, plus, minus, IsFirstTerm, unsigned, signed, IsDirection, unsaid, ascending, descending, IsKey, key, IsOrder, no_order, some_order, IsQuery, query}
+use Rattle.query_grammar.specs.Grammar.{One, one, Many, none, more, Behind, after_sign, IsColumn, bare, qualified, IsColumns, columns, IsList, star, listed, IsConstant, text, digits, negative, IsCondition, two_columns, constant_right, constant_left, IsConditions, conditions, IsItem, named, aliased, aliased_as, IsJoined, joined, IsNextItem, comma, join, inner_join, IsItems, items, IsWhere, no_where, some_where, IsSigned, plus, minus, IsFirstTerm, unsigned, signed, IsDirection, unsaid, ascending, descending, IsKey, key, IsOrder, no_order, some_order, branch, IsQuery, query}
 use Rattle.query_grammar.specs.Tokens.{Scan, quoted_scan, word_scan, digits_scan, is_blank, is_letter, is_word_byte, closing, scan_of, tokens_from}
 use Rattle.std.specs.Char.{is_ascii_digit}
 use Rattle.query_parse.proofs.Plain.{Each, EachOfSome, PlainColumn, PlainItem, PlainEquality, PlainTerm, PlainKey, PlainList, PlainSelect}
@@ -203,7 +203,7 @@ order_plain _ _ _ (some_order o w first others) p =
     ((f.0, others_plain.0), others_plain.1)
 
 pub query_plain : (ts : List Lexeme) (x : Clauses) → IsQuery ts x → Plain ts → PlainSelect x.0
-query_plain _ _ (query s list f found_items found_where found_order found_limit ends) p =
+query_plain _ _ (query (branch s list f found_items found_where found_order) found_limit ends) p =
     let l = list_plain _ _ _ list (passed kind.Select _ _ _ s p).1 in
     let i = items_plain _ _ _ found_items (passed kind.From _ _ _ f l.1).1 in
     let w = where_plain _ _ _ found_where i.1 in

@@ -9,16 +9,16 @@ use Rattle.std.proofs.lemmas.List.{append-nil, length-map}
 use Rattle.std.proofs.lemmas.Str.Parse.{IsNumeralModel, numerals_by_fold, tells_all_ascii_digits}
 use Rattle.std.proofs.lemmas.Fmt.{decimal_nonempty, digits_decimal, digits_value-decimal}
 use Rattle.query_grammar.specs.declared.token.Kind.TheVariants as kind
-use Rattle.query_grammar.specs.declared.select.ItemRef.{ItemRef}
-use Rattle.query_grammar.specs.declared.select.Equality.{Equality}
-use Rattle.query_grammar.specs.declared.select.KeyRef.{KeyRef}
-use Rattle.query_grammar.specs.declared.select.Select.{Select}
+use Rattle.query_select.specs.declared.select.ItemRef.{ItemRef}
+use Rattle.query_select.specs.declared.select.Equality.{Equality}
+use Rattle.query_select.specs.declared.select.KeyRef.{KeyRef}
+use Rattle.query_select.specs.declared.select.Select.{Select}
 use Rattle.query_grammar.specs.Reading.{Clauses}
-use Rattle.query_grammar.specs.Grammar.{IsLimit, no_limit, some_limit, IsEnd, no_sign, IsQuery, query}
+use Rattle.query_grammar.specs.Grammar.{IsLimit, no_limit, some_limit, IsEnd, no_sign, branch, IsQuery, query}
 use Rattle.query_grammar.specs.Tokens.{tokens_from, tokens_of, kind_of_word}
 use Rattle.query_grammar.specs.Parse.{decimal_from, limit_of, select_of, IsParsed}
 use Rattle.query_parse.specs.Text.{list_text, items_text, where_text, order_text, limit_text, text_of}
-use Rattle.query_grammar.specs.Same.{placeless_item, placeless_key, placeless}
+use Rattle.query_select.specs.Same.{placeless_item, placeless_key, placeless}
 use Rattle.query_parse.specs.ReadBack.{ReadsBack}
 use Rattle.query_parse.proofs.Plain.{PlainSelect}
 use Rattle.query_parse.proofs.PlainNames.{tokens_plain, query_plain}
@@ -94,7 +94,7 @@ again s p small =
     let wh = where_reads s.equalities p.equalities behind_where order_end it.next in
     let or = order_reads s.keys p.keys behind_order limit_end wh.next in
     let lm = limit_reads s.limit small or.next in
-    let found = query se.found li.found fr.found it.found wh.found or.found lm.found (no_tokens lm.next) in
+    let found = query (branch se.found li.found fr.found it.found wh.found or.found) lm.found (no_tokens lm.next) in
     let items_same : map placeless_item it.value.0 ≡ map placeless_item s.items = ap (λ (x : List ItemRef × List Equality). x.0) it.same in
     let no_on : it.value.1 ≡ [] = ap (λ (x : List ItemRef × List Equality). x.1) it.same in
     record {

@@ -1,14 +1,14 @@
 //! The query language: `parse` reads a query, `text` writes it in one form, and the laws say that
-//! tokens are the longest forms that begin at their places. The grammar and the parts of a query
-//! are in `query_grammar`, so that crates which need only these do not wait for the rest.
+//! tokens are the longest forms that begin at their places. The grammar is in `query_grammar` and the
+//! parts of a query are in `query_select`, so that crates which need only these do not wait for the rest.
 #![tactic(auto)]
 
 mod laws;
 mod writing;
 
 pub use laws::{scans_are_longest, tokens_are_longest};
-pub use query_grammar::{
-    Bytes, ColumnRef, Equality, ItemRef, KeyRef, MAX_BYTES, MAX_ITEMS, MAX_KEYS, Name, ParseFault,
-    Select, SelectList, Sequence, Side, Term, name_text, parse,
+pub use query_grammar::{MAX_BYTES, MAX_ITEMS, MAX_KEYS, ParseFault, name_text, parse};
+pub use query_select::{
+    Bytes, ColumnRef, Equality, ItemRef, KeyRef, Name, Select, SelectList, Sequence, Side, Term,
 };
 pub use writing::text;

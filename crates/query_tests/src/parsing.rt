@@ -1,4 +1,5 @@
 //! The faults of texts, and the texts of queries.
+use query_grammar::parse_all;
 use query_parse::{ParseFault, Select, SelectList, Side, name_text, parse, text};
 use std::alloc::{AllocError, Global};
 
@@ -61,6 +62,151 @@ fn faults_have_their_places(rt: HostRuntime) {
     assert_eq!(rt; first_failing(alloc, FAULTS), None);
     assert!(rt; have_fault(alloc, 65_537, &ParseFault::TooLong) == Ok(true));
     assert!(rt; have_fault(alloc, 65_536, &ParseFault::Syntax(65_536)) == Ok(true));
+}
+
+// Whether a text of several queries is refused with this fault.
+fn has_fault_of_all(alloc: Global, queries: &[u8], fault: &ParseFault) -> bool {
+    match parse_all(alloc, queries) {
+        Ok(_) => false,
+        Err(found) => found == *fault,
+    }
+}
+
+// The same for one branch and this many more.
+fn have_fault_of_all(alloc: Global, more: u32, fault: &ParseFault) -> Result<bool, AllocError> {
+    let mut queries = String::from_str(alloc, "select a from R")?;
+    for _ in 0..more {
+        queries.push_str(" union all select a from R")?;
+    }
+    Ok(has_fault_of_all(alloc, queries.as_bytes(), fault))
+}
+
+const FAULTS_OF_ALL: &[(&str, ParseFault)] = &[
+    ("", ParseFault::Syntax(0)),
+    ("select R.a from R union", ParseFault::Syntax(23)),
+    ("select R.a from R union all", ParseFault::Syntax(27)),
+    (
+        "select R.a from R union select S.c from S",
+        ParseFault::Syntax(24),
+    ),
+    (
+        "select R.a from R limit 1 union all select S.c from S",
+        ParseFault::Syntax(26),
+    ),
+    (
+        "select R.a from R; union all select S.c from S",
+        ParseFault::Syntax(19),
+    ),
+    ("union all select S.c from S", ParseFault::Syntax(0)),
+    (
+        "select R.a from R union all union all select S.c from S",
+        ParseFault::Syntax(28),
+    ),
+    (
+        "select a from R, R, R, R, R, R, R, R, R union all select a from R, R, R, R, R, R, R, R limit 18446744073709551616",
+        ParseFault::TooManyItems,
+    ),
+    (
+        "select a from R union all select a from R order by a, a, a, a, a, a, a, a, a limit 18446744073709551616",
+        ParseFault::TooManyKeys,
+    ),
+    (
+        "select R.a from R union all select S.c from S limit 18446744073709551616",
+        ParseFault::LimitRange(52),
+    ),
+];
+
+// The place of the first text of several queries that has another fault, or none.
+fn first_failing_of_all(alloc: Global, texts: &[(&str, ParseFault)]) -> Option<usize> {
+    for (i, (queries, fault)) in texts.iter().enumerate() {
+        if !has_fault_of_all(alloc, queries.as_bytes(), fault) {
+            return Some(i);
+        }
+    }
+    None
+}
+
+#[test]
+fn faults_of_several_queries_have_their_places(rt: HostRuntime) {
+    let alloc = rt.alloc();
+    assert_eq!(rt; first_failing_of_all(alloc, FAULTS_OF_ALL), None);
+    assert!(rt; have_fault_of_all(alloc, 8, &ParseFault::TooManyBranches) == Ok(true));
+}
+
+// How many items each branch has, if there are two.
+fn items_of_two(branches: &[Select]) -> Option<[usize; 2]> {
+    let [first, second] = branches else {
+        return None;
+    };
+    Some([first.items.as_slice().len(), second.items.as_slice().len()])
+}
+
+// Whether a text has two queries with these numbers of items, and this limit.
+fn are_two(alloc: Global, queries: &str, items: [usize; 2], limit: Option<u64>) -> bool {
+    match parse_all(alloc, queries.as_bytes()) {
+        Ok(all) => items_of_two(all.branches.as_slice()) == Some(items) && all.limit == limit,
+        Err(_) => false,
+    }
+}
+
+const TWO_QUERIES: &[(&str, [usize; 2], Option<u64>)] = &[
+    (
+        "select a from R, S order by a Union ALL select b from T limit 007;",
+        [2, 1],
+        Some(7),
+    ),
+    (
+        "select a from R union all select b from T join S on b = c order by b desc",
+        [1, 2],
+        None,
+    ),
+    (
+        "select a from \"union\" union all select b from \"all\" x, R, S",
+        [1, 3],
+        None,
+    ),
+    // Sixteen items in all, or eight keys in each.
+    (
+        "select a from R, R, R, R, R, R, R, R union all select a from R, R, R, R, R, R, R, R",
+        [8, 8],
+        None,
+    ),
+    (
+        "select a from R order by a, a, a, a, a, a, a, a union all select a from R order by a, a, a, a, a, a, a, a",
+        [1, 1],
+        None,
+    ),
+];
+
+// The place of the first text that has other queries, or none.
+fn first_read_otherwise(alloc: Global, texts: &[(&str, [usize; 2], Option<u64>)]) -> Option<usize> {
+    for (i, text) in texts.iter().enumerate() {
+        let (queries, items, limit) = *text;
+        if !are_two(alloc, queries, items, limit) {
+            return Some(i);
+        }
+    }
+    None
+}
+
+#[test]
+fn two_queries_are_read(rt: HostRuntime) {
+    assert_eq!(rt; first_read_otherwise(rt.alloc(), TWO_QUERIES), None);
+}
+
+// Whether a text has one query, and it is read with this limit of the whole.
+fn is_one_with_limit(alloc: Global, query: &str, limit: Option<u64>) -> bool {
+    match parse_all(alloc, query.as_bytes()) {
+        Ok(all) => all.branches.as_slice().len() == 1 && all.limit == limit,
+        Err(_) => false,
+    }
+}
+
+#[test]
+fn one_query_is_read_as_one_branch(rt: HostRuntime) {
+    let alloc = rt.alloc();
+    assert!(rt; is_one_with_limit(alloc, "select a from R limit 3", Some(3)));
+    assert!(rt; is_one_with_limit(alloc, "select a from R", None));
 }
 
 // Where the selected columns and the items begin, if there are two of each.

@@ -2,12 +2,12 @@ use Rattle.std.proofs.Common.{Result, Ok, Err, List, ℕ, ◌∙◌, ap}
 use Rattle.std.specs.Prelude.{IfOk}
 use Rattle.std.proofs.lemmas.Result.{err_from_is_err_and}
 use Rattle.query_grammar.specs.declared.fault.ParseFault.{ParseFault}
-use Rattle.query_grammar.specs.declared.select.Select.{Select}
+use Rattle.query_select.specs.declared.select.Select.{Select}
 use Rattle.query_grammar.specs.Lexeme.{lexemes}
 use Rattle.query_grammar.specs.Reading.{Clauses, some_lexeme}
 use Rattle.query_grammar.specs.Parse.{Agree, Parses}
 use Rattle.query_grammar.proofs.Answered.{fails_faults, says_read, limit_faults, parsed}
-use Rattle.query_grammar.specs.TextOrder.{columns_of, AreInTextOrder, ItemsAreInTextOrder}
+use Rattle.query_select.specs.TextOrder.{columns_of, AreInTextOrder, ItemsAreInTextOrder}
 use Rattle.query_grammar.proofs.Exactly.{parses_agree}
 use Rattle.query_grammar.proofs.InOrder.{parsed_in_order, parsed_items_in_order}
 use Rattle.query_grammar.proofs.parsing.parse.Goals as goal
