@@ -1,5 +1,5 @@
 //! Ranks as arrays of a fixed number of sums and 16 slots.
-ghost use Rattle.std.specs.Prelude.{◌≡◌, ℕ, ◌+◌, ◌-◌, ◌^◌, ◌<◌, ◌≤◌, ℤ, pos, length, ◌++◌, map, All, FitsSigned};
+ghost use Rattle.std.specs.Prelude.{◌≡◌, ℕ, ◌+◌, ◌-◌, ◌^◌, ◌<◌, ◌≤◌, ℤ, pos, length, drop, ◌++◌, map, All, FitsSigned};
 ghost use Rattle.std.specs.Int.{FitsUnsigned, w32, w128};
 ghost use Rattle.tdp_model.specs.KeyNumbers.{plus, key_of_lists};
 ghost use Rattle.rank_key.specs.Keys.{NumbersFit, flat, minus};
@@ -31,6 +31,16 @@ fn add_sums(to: &mut [i128], from: &[i128])
 {
     for place in 0..from.len() {
         to[place] += from[place];
+    }
+}
+
+/// The sums in place of the first ones.
+fn copy_sums(to: &mut [i128], from: &[i128])
+    requires len { length from.now ≤ length to.old }
+    ensures { to.new ≡ from.now ++ drop (length from.now) to.old }
+{
+    for place in 0..from.len() {
+        to[place] = from[place];
     }
 }
 
@@ -104,7 +114,7 @@ impl<const N: usize> Rank for FixedRank<N> {
 
     fn of_row(sums: &[i128], slot: u32, row: u32) -> Self {
         let mut padded = [0; N];
-        padded[..sums.len()].copy_from_slice(sums);
+        copy_sums(&mut padded, sums);
         let mut slots = [0; SLOTS];
         slots[slot as usize] = row;
         FixedRank {
