@@ -1,8 +1,8 @@
 -- Lines, computed.
-use Rattle.std.proofs.Common.{◌≡◌, ◌∷◌, [], codes, refl}
+use Rattle.std.proofs.Common.{◌≡◌, ◌∷◌, [], None, Some, codes, refl}
 use Rattle.std.specs.Fmt.{digits}
 use Rattle.hyper_graph.specs.Items.{items_below, items_of}
-use Rattle.refusal_lines.specs.Reason.{BadWeight, Cyclic, DuplicateName, LimitRange, line_of}
+use Rattle.refusal_lines.specs.Reason.{BadWeight, BranchShape, Cyclic, DuplicateName, LimitRange, line_of}
 
 triangle : items_of 7 ≡ 1 ∷ 2 ∷ 3 ∷ []
 unfolding items_below
@@ -12,13 +12,21 @@ some_items : items_of 32788 ≡ 3 ∷ 5 ∷ 16 ∷ []
 unfolding items_below
 some_items = refl
 
-cyclic_line : line_of (Cyclic (1 ∷ 2 ∷ 16 ∷ [])) ≡ codes "anyk: cyclic query: items 1 2 16\n"
+cyclic_line : line_of (Cyclic None (1 ∷ 2 ∷ 16 ∷ [])) ≡ codes "anyk: cyclic query: items 1 2 16\n"
 unfolding digits
 cyclic_line = refl
 
-weight_line : line_of (BadWeight 1 2 3) ≡ codes "anyk: item 1: row 2: column 3: not a weight\n"
+weight_line : line_of (BadWeight None 1 2 3) ≡ codes "anyk: item 1: row 2: column 3: not a weight\n"
 unfolding digits
 weight_line = refl
+
+branch_line : line_of (BadWeight (Some 2) 1 2 3) ≡ codes "anyk: branch 2: item 1: row 2: column 3: not a weight\n"
+unfolding digits
+branch_line = refl
+
+shape_line : line_of (BranchShape 2) ≡ codes "anyk: branch 2: shape differs\n"
+unfolding digits
+shape_line = refl
 
 name_line : line_of (DuplicateName (codes "R") 2) ≡ codes "anyk: table R: column 2: name used twice\n"
 unfolding digits

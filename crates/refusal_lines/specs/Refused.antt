@@ -1,7 +1,7 @@
 -- The reasons of the program's refusals.
 use Rattle.refusal_lines.specs.declared.refusal.Refusal.{Refusal}
 use Rattle.refusal_lines.specs.declared.refusal.Refusal.TheVariants as refusal
-use Rattle.refusal_lines.specs.Reason.{Reason, Usage, Syntax, BadLine, UnknownCursor, CursorExists, UnknownTable, DuplicateAlias, UnknownAlias, UnknownColumn, Ambiguous, UnknownBest, NoHeader, DuplicateName, Ragged, BadWeight, Cyclic, RankRange, TooLong, TooManyItems, TooManyKeys, LimitRange, TooLarge, TooManyColumns, TooManyTableRows, TooManyNodeRows, TooManyLines, TooManyOpen, NoFile, ReadFault, WriteFault, NoMemory}
+use Rattle.refusal_lines.specs.Reason.{Reason, Usage, Syntax, BadLine, UnknownCursor, CursorExists, UnknownTable, DuplicateAlias, UnknownAlias, UnknownColumn, Ambiguous, UnknownBest, NoHeader, DuplicateName, Ragged, BadWeight, Cyclic, RankRange, TooLong, TooManyBranches, TooManyItems, TooManyKeys, LimitRange, TooLarge, TooManyColumns, TooManyTableRows, TooManyNodeRows, TooManyLines, TooManyOpen, NoFile, ReadFault, WriteFault, NoMemory, BranchShape, UnionBest}
 use Rattle.hyper_graph.specs.Items.{items_of}
 
 -- the reason of a refusal
@@ -12,7 +12,7 @@ reason_of (refusal.BadLine line) = BadLine line
 reason_of (refusal.UnknownCursor line) = UnknownCursor line
 reason_of (refusal.CursorExists line) = CursorExists line
 reason_of (refusal.UnknownTable at) = UnknownTable at
-reason_of (refusal.DuplicateAlias item) = DuplicateAlias item
+reason_of (refusal.DuplicateAlias branch item) = DuplicateAlias branch item
 reason_of (refusal.UnknownAlias at) = UnknownAlias at
 reason_of (refusal.UnknownColumn at) = UnknownColumn at
 reason_of (refusal.Ambiguous at) = Ambiguous at
@@ -20,10 +20,11 @@ reason_of refusal.UnknownBest = UnknownBest
 reason_of (refusal.NoHeader table) = NoHeader table.now
 reason_of (refusal.DuplicateName table column) = DuplicateName table.now column
 reason_of (refusal.Ragged table row) = Ragged table.now row
-reason_of (refusal.BadWeight item row column) = BadWeight item row column
-reason_of (refusal.Cyclic core) = Cyclic (items_of core)
-reason_of (refusal.RankRange key) = RankRange key
+reason_of (refusal.BadWeight branch item row column) = BadWeight branch item row column
+reason_of (refusal.Cyclic branch core) = Cyclic branch (items_of core)
+reason_of (refusal.RankRange branch key) = RankRange branch key
 reason_of refusal.TooLong = TooLong
+reason_of refusal.TooManyBranches = TooManyBranches
 reason_of refusal.TooManyItems = TooManyItems
 reason_of refusal.TooManyKeys = TooManyKeys
 reason_of (refusal.LimitRange at) = LimitRange at
@@ -37,3 +38,5 @@ reason_of (refusal.NoFile file) = NoFile file.now
 reason_of (refusal.ReadFault file) = ReadFault file.now
 reason_of refusal.WriteFault = WriteFault
 reason_of refusal.NoMemory = NoMemory
+reason_of (refusal.BranchShape branch) = BranchShape branch
+reason_of refusal.UnionBest = UnionBest

@@ -1,6 +1,6 @@
 //! The line that says why a run ended.
-ghost use Rattle.std.specs.Prelude.{◌≡◌, ◌<◌, ◌+◌, ◌++◌, codes, decimal};
-ghost use Rattle.refusal_lines.specs.Reason.{BadWeight, DuplicateName, RankRange, Ragged, line_of, on_byte, on_file, on_line, on_table, spaced, text_of};
+ghost use Rattle.std.specs.Prelude.{◌≡◌, ◌<◌, ◌+◌, ◌++◌, None, codes, decimal};
+ghost use Rattle.refusal_lines.specs.Reason.{BadWeight, branch_text, DuplicateName, RankRange, Ragged, line_of, on_byte, on_file, on_line, on_table, spaced, text_of};
 ghost use Rattle.hyper_graph.specs.Graph.{is_in};
 ghost use Rattle.hyper_graph.specs.Items.{items_of};
 ghost use Rattle.refusal_lines.specs.Core.{item_text};
@@ -18,11 +18,22 @@ pub fn write_line<E: Sink>(err: &mut E, refusal: Refusal<'_>) -> Result<(), Unwr
     ensures { Sent (state_of E.Sink err.old) (state_of E.Sink err.new) (line_of (reason_of refusal.entry)) result }
 {
     write_text(err, b"anyk: ")?;
+    write_branch(err, refusal.branch())?;
     write_reason(err, refusal)?;
     write_text(err, b"\n")
 }
 
-/// Writes the reason, without `anyk: ` and without the line feed.
+/// Writes the branch, if there is one.
+fn write_branch<E: Sink>(err: &mut E, branch: Option<u32>) -> Result<(), Unwritten>
+    ensures { Sent (state_of E.Sink err.old) (state_of E.Sink err.new) (branch_text branch) result }
+{
+    match branch {
+        Some(branch) => write_numbered(err, b"branch ", branch, b": "),
+        None => write_text(err, b""),
+    }
+}
+
+/// Writes the reason, without what stands before it and without the line feed.
 fn write_reason<E: Sink>(err: &mut E, refusal: Refusal<'_>) -> Result<(), Unwritten>
     ensures { Sent (state_of E.Sink err.old) (state_of E.Sink err.new) (text_of (reason_of refusal.entry)) result }
 {
@@ -33,7 +44,12 @@ fn write_reason<E: Sink>(err: &mut E, refusal: Refusal<'_>) -> Result<(), Unwrit
         Refusal::UnknownCursor(line) => write_on_line(err, line, b"unknown cursor"),
         Refusal::CursorExists(line) => write_on_line(err, line, b"cursor exists"),
         Refusal::UnknownTable(at) => write_on_byte(err, at, b"unknown table"),
-        Refusal::DuplicateAlias(item) => write_numbered(err, b"item ", item, b": alias used twice"),
+        Refusal::DuplicateAlias { item, .. } => write_numbered(
+            err,
+            b"item ",
+            item,
+            b": alias used twice",
+        ),
         Refusal::UnknownAlias(at) => write_on_byte(err, at, b"unknown alias"),
         Refusal::UnknownColumn(at) => write_on_byte(err, at, b"unknown column"),
         Refusal::Ambiguous(at) => write_on_byte(err, at, b"ambiguous column"),
@@ -41,10 +57,16 @@ fn write_reason<E: Sink>(err: &mut E, refusal: Refusal<'_>) -> Result<(), Unwrit
         Refusal::NoHeader(table) => write_on_table(err, table, b"no header"),
         Refusal::DuplicateName { table, column } => write_duplicate_name(err, table, column),
         Refusal::Ragged { table, row } => write_ragged(err, table, row),
-        Refusal::BadWeight { item, row, column } => write_bad_weight(err, item, row, column),
-        Refusal::Cyclic(core) => write_cyclic(err, core),
-        Refusal::RankRange(key) => write_rank_range(err, key),
+        Refusal::BadWeight {
+            item,
+            row,
+            column,
+            ..
+        } => write_bad_weight(err, item, row, column),
+        Refusal::Cyclic { core, .. } => write_cyclic(err, core),
+        Refusal::RankRange { key, .. } => write_rank_range(err, key),
         Refusal::TooLong => write_text(err, b"query longer than 65536 bytes"),
+        Refusal::TooManyBranches => write_text(err, b"more than 8 branches"),
         Refusal::TooManyItems => write_text(err, b"more than 16 items"),
         Refusal::TooManyKeys => write_text(err, b"more than 8 order keys"),
         Refusal::LimitRange(at) => write_numbered(err, b"limit at byte ", at, b" out of range"),
@@ -58,6 +80,8 @@ fn write_reason<E: Sink>(err: &mut E, refusal: Refusal<'_>) -> Result<(), Unwrit
         Refusal::ReadFault(file) => write_on_file(err, file, b": read failed"),
         Refusal::WriteFault => write_text(err, b"write failed"),
         Refusal::NoMemory => write_text(err, b"out of memory"),
+        Refusal::BranchShape(_) => write_text(err, b"shape differs"),
+        Refusal::UnionBest => write_text(err, b"several branches with --best-of"),
     }
 }
 
@@ -163,7 +187,7 @@ fn write_ragged<E: Sink>(err: &mut E, table: &[u8], row: u32) -> Result<(), Unwr
 
 /// Writes that the sums of an order key may be too great.
 fn write_rank_range<E: Sink>(err: &mut E, key: u32) -> Result<(), Unwritten>
-    ensures { Sent (state_of E.Sink err.old) (state_of E.Sink err.new) (text_of (RankRange key)) result }
+    ensures { Sent (state_of E.Sink err.old) (state_of E.Sink err.new) (text_of (RankRange None key)) result }
 {
     write_numbered(err, b"order key ", key, b": rank may pass 128 bits")
 }
@@ -171,7 +195,7 @@ fn write_rank_range<E: Sink>(err: &mut E, key: u32) -> Result<(), Unwritten>
 /// Writes that a field of an order column is not a weight.
 fn write_bad_weight<E: Sink>(err: &mut E, item: u32, row: u32, column: u32) -> Result<(), Unwritten>
     ensures { Sent (state_of E.Sink err.old) (state_of E.Sink err.new)
-        (text_of (BadWeight item row column)) result }
+        (text_of (BadWeight None item row column)) result }
 {
     let pieces = [
         Piece::Text(b"item "),

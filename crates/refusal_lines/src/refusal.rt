@@ -1,10 +1,10 @@
 //! Why a run ended before its output was complete.
 ghost use Rattle.std.specs.Prelude.{◌≡◌};
-ghost use Rattle.refusal_lines.specs.Reason.{status_of};
+ghost use Rattle.refusal_lines.specs.Reason.{branch_of, status_of};
 ghost use Rattle.refusal_lines.specs.Refused.{reason_of};
 
-/// Why a run ended before its output was complete. Items, keys, columns, rows and script lines
-/// count from 1. An offset is that of a byte of the query, from 0. Tables and files have the names
+/// Why a run ended before its output was complete. Branches, items, keys, columns, rows and script
+/// lines count from 1. The branch is given only if the query has several. An offset is that of a byte of the query, from 0. Tables and files have the names
 /// that the command line gives them.
 #[derive(Clone, Copy, Drop)]
 pub enum Refusal<'a> {
@@ -21,7 +21,10 @@ pub enum Refusal<'a> {
     /// The command line gives no file for the table at this offset.
     UnknownTable(u32),
     /// The item has the same alias as an earlier one.
-    DuplicateAlias(u32),
+    DuplicateAlias {
+        branch: Option<u32>,
+        item: u32,
+    },
     /// No item has the alias of the column at this offset.
     UnknownAlias(u32),
     /// There is no column as named at this offset.
@@ -33,17 +36,36 @@ pub enum Refusal<'a> {
     /// The table's file has no record.
     NoHeader(&'a [u8]),
     /// The column has the same name as an earlier one.
-    DuplicateName { table: &'a [u8], column: u32 },
+    DuplicateName {
+        table: &'a [u8],
+        column: u32,
+    },
     /// The row has more or fewer fields than the header.
-    Ragged { table: &'a [u8], row: u32 },
+    Ragged {
+        table: &'a [u8],
+        row: u32,
+    },
     /// A field of an order column is not a weight.
-    BadWeight { item: u32, row: u32, column: u32 },
+    BadWeight {
+        branch: Option<u32>,
+        item: u32,
+        row: u32,
+        column: u32,
+    },
     /// The query is cyclic. The items of its core are bits, and bit 0 is item 1.
-    Cyclic(u16),
+    Cyclic {
+        branch: Option<u32>,
+        core: u16,
+    },
     /// The sum of the greatest weights of this order key is too great.
-    RankRange(u32),
+    RankRange {
+        branch: Option<u32>,
+        key: u32,
+    },
     /// The query has too many bytes.
     TooLong,
+    /// The query has too many branches.
+    TooManyBranches,
     /// The query has too many items.
     TooManyItems,
     /// The query has too many order keys.
@@ -70,6 +92,11 @@ pub enum Refusal<'a> {
     WriteFault,
     /// Memory was refused.
     NoMemory,
+    /// The branch differs from the first one in its number of selected columns, in its number of
+    /// order keys, or in the direction of a key.
+    BranchShape(u32),
+    /// The query has several branches, and an item is named for the best answer of each of its rows.
+    UnionBest,
 }
 
 impl<'a> Refusal<'a> {
@@ -84,7 +111,7 @@ impl<'a> Refusal<'a> {
             | Refusal::UnknownCursor(_)
             | Refusal::CursorExists(_) => 3,
             Refusal::UnknownTable(_)
-            | Refusal::DuplicateAlias(_)
+            | Refusal::DuplicateAlias { .. }
             | Refusal::UnknownAlias(_)
             | Refusal::UnknownColumn(_)
             | Refusal::Ambiguous(_)
@@ -93,9 +120,10 @@ impl<'a> Refusal<'a> {
             | Refusal::DuplicateName { .. }
             | Refusal::Ragged { .. }
             | Refusal::BadWeight { .. } => 5,
-            Refusal::Cyclic(_) => 6,
-            Refusal::RankRange(_) => 7,
+            Refusal::Cyclic { .. } => 6,
+            Refusal::RankRange { .. } => 7,
             Refusal::TooLong
+            | Refusal::TooManyBranches
             | Refusal::TooManyItems
             | Refusal::TooManyKeys
             | Refusal::LimitRange(_)
@@ -109,6 +137,21 @@ impl<'a> Refusal<'a> {
             Refusal::ReadFault(_) => 10,
             Refusal::WriteFault => 11,
             Refusal::NoMemory => 12,
+            Refusal::BranchShape(_) | Refusal::UnionBest => 15,
+        }
+    }
+
+    /// The branch that the line of this refusal names, from 1, if it names one.
+    pub(crate) fn branch(self) -> Option<u32>
+        ensures { result ≡ branch_of (reason_of self.entry) }
+    {
+        match self {
+            Refusal::DuplicateAlias { branch, .. }
+            | Refusal::BadWeight { branch, .. }
+            | Refusal::Cyclic { branch, .. }
+            | Refusal::RankRange { branch, .. } => branch,
+            Refusal::BranchShape(branch) => Some(branch),
+            _ => None,
         }
     }
 }

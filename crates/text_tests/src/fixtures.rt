@@ -5,7 +5,8 @@ ghost use Rattle.query_bind.specs.Weighed.{Fits};
 
 use csv_tables::{TableFault, Tables};
 use query_bind::{Query, bind};
-use query_grammar::{Select, parse};
+use query_grammar::parse;
+use query_select::Select;
 use std::alloc::Global;
 
 pub(crate) const R: &str = "a,b,w\n1,x,3\n2,y,1\n3,x,1\n";

@@ -50,7 +50,10 @@ const ON_THE_QUERY: &[Row] = &[
         "anyk: byte 24: unknown table\n",
     ),
     (
-        Refusal::DuplicateAlias(2),
+        Refusal::DuplicateAlias {
+            branch: None,
+            item: 2,
+        },
         4,
         "anyk: item 2: alias used twice\n",
     ),
@@ -66,18 +69,32 @@ const ON_THE_QUERY: &[Row] = &[
         4,
         "anyk: unknown alias in --best-of\n",
     ),
-    (Refusal::Cyclic(7), 6, "anyk: cyclic query: items 1 2 3\n"),
     (
-        Refusal::Cyclic(0x8015),
+        Refusal::Cyclic {
+            branch: None,
+            core: 7,
+        },
+        6,
+        "anyk: cyclic query: items 1 2 3\n",
+    ),
+    (
+        Refusal::Cyclic {
+            branch: None,
+            core: 0x8015,
+        },
         6,
         "anyk: cyclic query: items 1 3 5 16\n",
     ),
     (
-        Refusal::RankRange(1),
+        Refusal::RankRange {
+            branch: None,
+            key: 1,
+        },
         7,
         "anyk: order key 1: rank may pass 128 bits\n",
     ),
     (Refusal::TooLong, 8, "anyk: query longer than 65536 bytes\n"),
+    (Refusal::TooManyBranches, 8, "anyk: more than 8 branches\n"),
     (Refusal::TooManyItems, 8, "anyk: more than 16 items\n"),
     (Refusal::TooManyKeys, 8, "anyk: more than 8 order keys\n"),
     (
@@ -90,6 +107,58 @@ const ON_THE_QUERY: &[Row] = &[
 #[test]
 fn writes_lines_on_the_query(rt: HostRuntime) {
     assert_eq!(rt; first_failing(rt.alloc(), ON_THE_QUERY), None);
+}
+
+const ON_A_BRANCH: &[Row] = &[
+    (
+        Refusal::DuplicateAlias {
+            branch: Some(2),
+            item: 16,
+        },
+        4,
+        "anyk: branch 2: item 16: alias used twice\n",
+    ),
+    (
+        Refusal::BadWeight {
+            branch: Some(1),
+            item: 1,
+            row: 1,
+            column: 2,
+        },
+        5,
+        "anyk: branch 1: item 1: row 1: column 2: not a weight\n",
+    ),
+    (
+        Refusal::Cyclic {
+            branch: Some(8),
+            core: 7,
+        },
+        6,
+        "anyk: branch 8: cyclic query: items 1 2 3\n",
+    ),
+    (
+        Refusal::RankRange {
+            branch: Some(2),
+            key: 1,
+        },
+        7,
+        "anyk: branch 2: order key 1: rank may pass 128 bits\n",
+    ),
+    (
+        Refusal::BranchShape(2),
+        15,
+        "anyk: branch 2: shape differs\n",
+    ),
+    (
+        Refusal::UnionBest,
+        15,
+        "anyk: several branches with --best-of\n",
+    ),
+];
+
+#[test]
+fn writes_lines_on_a_branch(rt: HostRuntime) {
+    assert_eq!(rt; first_failing(rt.alloc(), ON_A_BRANCH), None);
 }
 
 const ON_FILES_AND_LIMITS: &[Row] = &[
@@ -112,6 +181,7 @@ const ON_FILES_AND_LIMITS: &[Row] = &[
     ),
     (
         Refusal::BadWeight {
+            branch: None,
             item: 1,
             row: 2,
             column: 3,
