@@ -96,33 +96,31 @@ module _ (number rows : ℕ) (few : rows ≤ 100000) where
       (tables_then _ _ _ _ (table_found (codes "P4") (codes "d,e,w\n") names_4 rows (draw number (6 * rows)) header_4 few (codes "P4.csv") short.1.1.1.1.0)
       refl)))
 
-  query_found : bound_in load_select load_tables ≡ Ok load_bound
+  query_found : bound_in (load_select ∷ []) load_tables ≡ Ok (load_bound ∷ [])
   query_found =
-      ap (λ (fault : Option BindFault). unless (option_map of_bind fault) load_bound)
+      ap (λ (fault : Option BindFault). then_by (unless (option_map (of_bind None) fault) load_bound) (λ query. Ok (query ∷ [])))
       (bind_sound rows_1 rows_2 rows_3 rows_4 (rows_weighed modulus rows number) (rows_weighed modulus rows (draw number (2 * rows)))
       (rows_weighed modulus rows (draw number (4 * rows))) (rows_weighed modulus rows (draw number (6 * rows))))
 
   -- ---- the stages
 
   abbrev load_found : Loaded
-  load_found = record { query = load_bound; tables = load_tables; best = None; steps = [] }
+  load_found = record { queries = load_bound ∷ []; tables = load_tables; best = None; steps = [] }
 
   loaded : (given : Files) → IsLoaded (built (load number rows)) given (Ok load_found)
   loaded given =
-      followed {a = load_query} refl (followed {a = load_select} load_parsed (followed {a = []} refl (followed {a = load_select} refl
-      (followed {a = load_tables} (sym tables_found) (followed {a = load_bound} (sym query_found) refl)))))
+      followed {a = load_query} refl (followed {a = load_select ∷ []} (followed {a = load_select} load_parsed refl) (followed {a = []} refl
+      (followed {a = load_select ∷ []} refl (followed {a = load_tables} (sym tables_found) (followed {a = load_bound ∷ []} (sym query_found) refl)))))
 
-  pub is_accepted : (given : Files) → IsVerdict (built (load number rows)) given (Ok (found_of load_found (load_shape rows)))
+  pub is_accepted : (given : Files) → IsVerdict (built (load number rows)) given (Ok (found_of load_found (load_shape rows ∷ [])))
   is_accepted given =
-      followed {a = load_found} (loaded given) (record {
-        shape = load_shape rows;
-        is_shape = load_is_shaped rows_1 rows_2 rows_3 rows_4 rows (made_count modulus rows number) (made_count modulus rows (draw number (2 * rows)))
-            (made_count modulus rows (draw number (4 * rows))) (made_count modulus rows (draw number (6 * rows))) few;
-        same = refl;
-      })
+      let shaped = load_is_shaped rows_1 rows_2 rows_3 rows_4 rows (made_count modulus rows number) (made_count modulus rows (draw number (2 * rows)))
+      (made_count modulus rows (draw number (4 * rows))) (made_count modulus rows (draw number (6 * rows))) few in
+      followed {a = load_found} (loaded given)
+      (followed {a = load_shape rows ∷ []} (followed {a = load_shape rows} shaped (followed {a = []} refl refl)) refl)
 
 pub accepted : LoadAccepted
-accepted number rows in_range some few given = (found_of (load_found number rows few) (load_shape rows), is_accepted number rows few given)
+accepted number rows in_range some few given = (found_of (load_found number rows few) (load_shape rows ∷ []), is_accepted number rows few given)
 
 -- ---- how a call ends
 

@@ -1,6 +1,8 @@
 -- The row is accepted, and the bound on its steps is a number.
-use Rattle.std.proofs.Common.{◌≡◌, ◌≤◌, ◌+◌, ℕ, [], Some, None, Ok, refl, sym, arith}
+use Rattle.std.proofs.Common.{◌≡◌, ◌≤◌, ◌+◌, ℕ, [], ◌∷◌, Some, None, Ok, refl, sym, arith}
 use Rattle.rank_key.specs.Bits.{bit_length, bits_within}
+use Rattle.query_grammar.specs.Parse.{as_one_branch}
+use Rattle.query_grammar.proofs.OneQuery.{one_branch}
 use Rattle.step_bounds.specs.Steps.{calls_for, cost}
 use Rattle.step_bounds.proofs.Rising.{calls_few, cost_rises}
 use Rattle.verdict.specs.Bound.{IsBounded}
@@ -14,18 +16,21 @@ use Rattle.row_law.proofs.Loaded.{row_bound, row_parsed, row_query, row_select, 
 use Rattle.row_law.proofs.Shaped.{row_shape, row_shaped}
 
 abbrev pub row_loaded : Loaded
-row_loaded = record { query = row_query; tables = row_tables; best = None; steps = [] }
+row_loaded = record { queries = row_query ∷ []; tables = row_tables; best = None; steps = [] }
 
 abbrev pub row_found : Found
-row_found = found_of row_loaded row_shape
+row_found = found_of row_loaded (row_shape ∷ [])
 
 row_is_loaded : IsLoaded row_asked row_files (Ok row_loaded)
 row_is_loaded =
-    followed {a = query_text} refl (followed {a = row_select} row_parsed (followed {a = []} refl (followed {a = row_select} refl
-    (followed {a = row_tables} (sym row_tabled) (followed {a = row_query} (sym row_bound) refl)))))
+    followed {a = query_text} refl (followed {a = row_select ∷ []} (followed {a = as_one_branch row_select} (one_branch query_text row_select row_parsed) refl)
+    (followed {a = []} refl (followed {a = row_select ∷ []} refl
+    (followed {a = row_tables} (sym row_tabled) (followed {a = row_query ∷ []} (sym row_bound) refl)))))
 
 pub row_verdict : IsVerdict row_asked row_files (Ok row_found)
-row_verdict = followed {a = row_loaded} row_is_loaded (record { shape = row_shape; is_shape = row_shaped; same = refl })
+row_verdict =
+    followed {a = row_loaded} row_is_loaded
+    (followed {a = row_shape ∷ []} (followed {a = row_shape} row_shaped (followed {a = []} refl refl)) refl)
 
 most_steps : cost 2 12 3 ≡ 7936
 unfolding bit_length bits_within

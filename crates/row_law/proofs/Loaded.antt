@@ -4,10 +4,10 @@ use Rattle.std.specs.Prelude.{codes}
 use Rattle.csv.proofs.OnLiterals.{csv_on_literals}
 use Rattle.anyk_model.specs.Query.{Column, Equality, Query, of_column}
 use Rattle.anyk_model.specs.Table.{Table}
-use Rattle.query_grammar.specs.declared.select.ColumnRef.{ColumnRef}
-use Rattle.query_grammar.specs.declared.select.SelectList.TheVariants.{Columns}
-use Rattle.query_grammar.specs.declared.select.Side.TheVariants.{Column as column_side}
-use Rattle.query_grammar.specs.declared.select.Select.{Select}
+use Rattle.query_select.specs.declared.select.ColumnRef.{ColumnRef}
+use Rattle.query_select.specs.declared.select.SelectList.TheVariants.{Columns}
+use Rattle.query_select.specs.declared.select.Side.TheVariants.{Column as column_side}
+use Rattle.query_select.specs.declared.select.Select.{Select}
 use Rattle.query_grammar.specs.Parse.{IsParsed}
 use Rattle.query_grammar.proofs.Literals.{parsed_as}
 use Rattle.query_grammar.proofs.OnLiterals.{query_grammar_on_literals}
@@ -68,5 +68,5 @@ row_query = record {
   limit = Some 3;
 }
 
-pub row_bound : Told (bound_in row_select row_tables) (Ok row_query)
+pub row_bound : Told (bound_in (row_select ∷ []) row_tables) (Ok (row_query ∷ []))
 row_bound = refl

@@ -1,13 +1,14 @@
 -- An input is loaded in at most one way, and has at most one verdict.
-use Rattle.std.proofs.Common.{◌≡◌, ◌≢◌, ℕ, List, Option, Result, Ok, Err, inl, inr, ap, subst, sym, ◌∙◌}
+use Rattle.std.proofs.Common.{◌≡◌, ◌≢◌, ◌+◌, ℕ, Bool, true, false, List, [], ◌∷◌, Option, Result, Ok, Err, inl, inr, ap, subst, sym, ◌∙◌}
 use Rattle.outer_io.specs.Files.{Files}
 use Rattle.query_grammar.specs.declared.fault.ParseFault.{ParseFault}
 use Rattle.query_grammar.specs.declared.fault.ParseFault.TheVariants.{NoMemory as out_of_memory}
-use Rattle.query_grammar.specs.declared.select.Select.{Select}
-use Rattle.query_grammar.specs.Parse.{Agree}
-use Rattle.query_grammar.proofs.Exactly.{parses_agree}
+use Rattle.query_select.specs.declared.select.Select.{Select}
+use Rattle.query_grammar.specs.Parse.{Agree, Parses, ParsesAll}
+use Rattle.query_grammar.proofs.Exactly.{parses_agree, parses_all_agree}
 use Rattle.query_shape.specs.Shape.{Flaw, Shape}
 use Rattle.query_shape.proofs.OneShape.{one_shape}
+use Rattle.anyk_model.specs.Query.{Query}
 use Rattle.anyk_model.specs.Table.{Table}
 use Rattle.refusal_lines.specs.Reason.{Reason, Usage}
 use Rattle.verdict.specs.Made.{files_of}
@@ -15,10 +16,10 @@ use Rattle.verdict.specs.Words.{Asked, Command, Sought, no_command, built, sough
 use Rattle.verdict.specs.Faults.{of_parse, of_shape}
 use Rattle.session_script.specs.declared.step.Step.{Step}
 use Rattle.verdict.specs.Laws.{OneLoading, OneVerdict}
-use Rattle.verdict.specs.Loading.{IsParse, Loaded, loaded_in}
+use Rattle.verdict.specs.Loading.{IsParse, IsParseAll, IsReading, Loaded, are_several, branches_of, loaded_in, told_branch}
 use Rattle.verdict.specs.Found.{Found, found_of}
 use Rattle.verdict.specs.Stages.{Then, Is, refused, followed, AtMostOne}
-use Rattle.verdict.specs.Verdict.{IsBound, IsRead, IsScripted, IsSelected, IsShaped, IsTabled, IsVerdict}
+use Rattle.verdict.specs.Verdict.{AreStructures, IsBound, IsRead, IsScripted, IsSelected, IsShaped, IsStructure, IsTabled, IsVerdict}
 
 -- a stage that computes
 pub one_computed : {A : Type 0} (r : Result A Reason) → AtMostOne (Is r)
@@ -42,39 +43,63 @@ one_then First Second f s _ _ (followed h x) (refused k) = absurd (no_both (f _ 
 one_then First Second f s result other (followed {a} h x) (followed {a = b} k y) =
     s b result other (subst (λ c. Second c result) (found_same (f _ _ h k)) x) y
 
--- the parse of the query
-agreed : (a b : Result Select ParseFault) → a ≢ Err out_of_memory → b ≢ Err out_of_memory → Agree a b → a ≡ b
-agreed a b no_a no_b (inl e) = absurd (no_a e)
-agreed a b no_a no_b (inr (inl e)) = absurd (no_b e)
-agreed a b no_a no_b (inr (inr e)) = e
+-- the parse of the query, or of its branches
+module _ {A : Type 0} where
+  abbrev Answered : Result A ParseFault → Result A ParseFault → Type 0
+  Answered a b = a ≡ b
 
-abbrev Answered : Result Select ParseFault → Result Select ParseFault → Type 0
-Answered a b = a ≡ b
+  agreed : (a b : Result A ParseFault) → a ≢ Err out_of_memory → b ≢ Err out_of_memory → Agree a b → a ≡ b
+  agreed a b no_a no_b (inl e) = absurd (no_a e)
+  agreed a b no_a no_b (inr (inl e)) = absurd (no_b e)
+  agreed a b no_a no_b (inr (inr e)) = e
 
-one_fault : {a b : ParseFault} → Answered (Err a) (Err b) → a ≡ b
-one_fault e = cc
+  one_fault : {a b : ParseFault} → Answered (Err a) (Err b) → a ≡ b
+  one_fault e = cc
 
-is_select : (select : Select) → Answered (Ok select) (Err out_of_memory) → ⊥
-is_select select e = cc
+  is_found : (a : A) → Answered (Ok a) (Err out_of_memory) → ⊥
+  is_found a e = cc
 
-is_fault : (fault : ParseFault) → fault ≢ out_of_memory → Answered (Err fault) (Err out_of_memory) → ⊥
-is_fault fault some e = some (one_fault e)
+  is_fault : (fault : ParseFault) → fault ≢ out_of_memory → Answered (Err fault) (Err out_of_memory) → ⊥
+  is_fault fault some e = some (one_fault e)
 
-one_select : {a b : Select} → Answered (Ok a) (Ok b) → ◌≡◌ {A = Result Select Reason} (Ok a) (Ok b)
-one_select e = cc
+  one_found : {a b : A} → Answered (Ok a) (Ok b) → ◌≡◌ {A = Result A Reason} (Ok a) (Ok b)
+  one_found e = cc
 
-no_two : {A : Type 0} {a : Select} {b : ParseFault} → Answered (Err b) (Ok a) → A
-no_two e = cc
+  no_two : {B : Type 0} {a : A} {b : ParseFault} → Answered (Err b) (Ok a) → B
+  no_two e = cc
+
+  -- a result of parsing, and the reason that it tells
+  module _ (Parsed : Result A ParseFault → Type 0) (agree : (a b : Result A ParseFault) → Parsed a → Parsed b → Agree a b) where
+    abbrev Told : Reason → Type 0
+    Told reason = (fault : ParseFault) × Parsed (Err fault) × (fault ≢ out_of_memory) × (reason ≡ of_parse fault)
+
+    both_found : (a b : A) → Parsed (Ok a) → Parsed (Ok b) → ◌≡◌ {A = Result A Reason} (Ok a) (Ok b)
+    both_found a b h k = one_found (agreed _ _ (is_found a) (is_found b) (agree (Ok a) (Ok b) h k))
+
+    not_both : {B : Type 0} (a : A) (reason : Reason) → Parsed (Ok a) → Told reason → B
+    not_both a reason h (fault, faults, some, is) =
+        no_two (agreed _ _ (is_fault fault some) (is_found a) (agree (Err fault) (Ok a) faults h))
+
+    both_told : (a b : Reason) → Told a → Told b → ◌≡◌ {A = Result A Reason} (Err a) (Err b)
+    both_told a b (fault, faults, some, is) (fault', faults', some', is') =
+        let same : fault ≡ fault' = one_fault (agreed _ _ (is_fault fault some) (is_fault fault' some') (agree (Err fault) (Err fault') faults faults')) in
+        ap Err (is ∙ ap of_parse same ∙ sym is')
 
 pub one_parse : (bytes : List ℕ) → AtMostOne (IsParse bytes)
-one_parse bytes (Ok a) (Ok b) h k = one_select (agreed _ _ (is_select a) (is_select b) (parses_agree bytes (Ok a) (Ok b) h k))
-one_parse bytes (Ok a) (Err b) h (fault, faults, some, is) =
-    no_two (agreed _ _ (is_fault fault some) (is_select a) (parses_agree bytes (Err fault) (Ok a) faults h))
-one_parse bytes (Err a) (Ok b) (fault, faults, some, is) k =
-    no_two (agreed _ _ (is_fault fault some) (is_select b) (parses_agree bytes (Err fault) (Ok b) faults k))
-one_parse bytes (Err a) (Err b) (fault, faults, some, is) (fault', faults', some', is') =
-    let same : fault ≡ fault' = one_fault (agreed _ _ (is_fault fault some) (is_fault fault' some') (parses_agree bytes (Err fault) (Err fault') faults faults')) in
-    ap Err (is ∙ ap of_parse same ∙ sym is')
+one_parse bytes (Ok a) (Ok b) h k = both_found (Parses bytes) (parses_agree bytes) a b h k
+one_parse bytes (Ok a) (Err b) h k = not_both (Parses bytes) (parses_agree bytes) a b h k
+one_parse bytes (Err a) (Ok b) h k = not_both (Parses bytes) (parses_agree bytes) b a k h
+one_parse bytes (Err a) (Err b) h k = both_told (Parses bytes) (parses_agree bytes) a b h k
+
+pub one_parse_all : (bytes : List ℕ) → AtMostOne (IsParseAll bytes)
+one_parse_all bytes (Ok a) (Ok b) h k = both_found (ParsesAll bytes) (parses_all_agree bytes) a b h k
+one_parse_all bytes (Ok a) (Err b) h k = not_both (ParsesAll bytes) (parses_all_agree bytes) a b h k
+one_parse_all bytes (Err a) (Ok b) h k = not_both (ParsesAll bytes) (parses_all_agree bytes) b a k h
+one_parse_all bytes (Err a) (Err b) h k = both_told (ParsesAll bytes) (parses_all_agree bytes) a b h k
+
+pub one_reading : (several : Bool) (bytes : List ℕ) → AtMostOne (IsReading several bytes)
+one_reading true bytes = one_then _ _ (one_parse_all bytes) (λ all. one_computed (Ok (branches_of all)))
+one_reading false bytes = one_then _ _ (one_parse bytes) (λ select. one_computed (Ok (select ∷ [])))
 
 -- the structure
 abbrev Shaped : Result Shape Flaw → Result Shape Flaw → Type 0
@@ -89,31 +114,39 @@ same_shape e = cc
 same_flaw : {a b : Flaw} → Shaped (Err a) (Err b) → a ≡ b
 same_flaw e = cc
 
+one_structure : (branch : Option ℕ) (tables : List Table) (query : Query) → AtMostOne (IsStructure branch tables query)
+one_structure branch tables query (Ok a) (Ok b) h k = ap Ok (same_shape (one_shape query tables (Ok a) (Ok b) h k))
+one_structure branch tables query (Ok a) (Err b) h k = no_shape (one_shape query tables (Ok a) (Err k.flaw) h k.is_flaw)
+one_structure branch tables query (Err a) (Ok b) h k = no_shape (one_shape query tables (Ok b) (Err h.flaw) k h.is_flaw)
+one_structure branch tables query (Err a) (Err b) h k =
+    let same = same_flaw (one_shape query tables (Err h.flaw) (Err k.flaw) h.is_flaw k.is_flaw) in
+    ap Err (h.told ∙ ap (of_shape branch) same ∙ sym k.told)
+
+one_structures : (several : Bool) (number : ℕ) (tables : List Table) (queries : List Query) → AtMostOne (AreStructures several number tables queries)
+one_structures several number tables [] = one_computed (Ok [])
+one_structures several number tables (query ∷ queries) =
+    one_then _ _ (one_structure (told_branch several number) tables query)
+    (λ shape. one_then _ _ (one_structures several (number + 1) tables queries) (λ shapes. one_computed (Ok (shape ∷ shapes))))
+
 one_shaped : (loaded : Loaded) → AtMostOne (IsShaped loaded)
-one_shaped loaded (Ok a) (Ok b) h k =
-    let same = same_shape (one_shape loaded.query loaded.tables (Ok h.shape) (Ok k.shape) h.is_shape k.is_shape) in
-    ap Ok (h.same ∙ ap (found_of loaded) same ∙ sym k.same)
-one_shaped loaded (Ok a) (Err b) h k = no_shape (one_shape loaded.query loaded.tables (Ok h.shape) (Err k.flaw) h.is_shape k.is_flaw)
-one_shaped loaded (Err a) (Ok b) h k = no_shape (one_shape loaded.query loaded.tables (Ok k.shape) (Err h.flaw) k.is_shape h.is_flaw)
-one_shaped loaded (Err a) (Err b) h k =
-    let same = same_flaw (one_shape loaded.query loaded.tables (Err h.flaw) (Err k.flaw) h.is_flaw k.is_flaw) in
-    ap Err (h.told ∙ ap of_shape same ∙ sym k.told)
+one_shaped loaded =
+    one_then _ _ (one_structures (are_several loaded.queries) 1 loaded.tables loaded.queries) (λ shapes. one_computed (Ok (found_of loaded shapes)))
 
 -- the stages of loading
-one_bound : (sought : Sought) (select : Select) (tables : List Table) (steps : List Step) → AtMostOne (IsBound sought select tables steps)
-one_bound sought select tables steps = one_then _ _ (one_computed _) (λ query. one_computed (loaded_in sought.best_of query tables steps))
+one_bound : (sought : Sought) (selects : List Select) (tables : List Table) (steps : List Step) → AtMostOne (IsBound sought selects tables steps)
+one_bound sought selects tables steps = one_then _ _ (one_computed _) (λ queries. one_computed (loaded_in sought.best_of queries tables steps))
 
-one_tabled : (sought : Sought) (files : Files) (select : Select) (steps : List Step) → AtMostOne (IsTabled sought files select steps)
-one_tabled sought files select steps = one_then _ _ (one_computed _) (λ tables. one_bound sought select tables steps)
+one_tabled : (sought : Sought) (files : Files) (selects : List Select) (steps : List Step) → AtMostOne (IsTabled sought files selects steps)
+one_tabled sought files selects steps = one_then _ _ (one_computed _) (λ tables. one_bound sought selects tables steps)
 
-one_selected : (sought : Sought) (files : Files) (select : Select) (steps : List Step) → AtMostOne (IsSelected sought files select steps)
-one_selected sought files select steps = one_then _ _ (one_computed _) (λ known. one_tabled sought files known steps)
+one_selected : (sought : Sought) (files : Files) (selects : List Select) (steps : List Step) → AtMostOne (IsSelected sought files selects steps)
+one_selected sought files selects steps = one_then _ _ (one_computed _) (λ known. one_tabled sought files known steps)
 
-one_scripted : (sought : Sought) (files : Files) (select : Select) → AtMostOne (IsScripted sought files select)
-one_scripted sought files select = one_then _ _ (one_computed _) (one_selected sought files select)
+one_scripted : (sought : Sought) (files : Files) (selects : List Select) → AtMostOne (IsScripted sought files selects)
+one_scripted sought files selects = one_then _ _ (one_computed _) (one_selected sought files selects)
 
 one_read : (sought : Sought) (files : Files) (bytes : List ℕ) → AtMostOne (IsRead sought files bytes)
-one_read sought files bytes = one_then _ _ (one_parse bytes) (one_scripted sought files)
+one_read sought files bytes = one_then _ _ (one_reading sought.several bytes) (one_scripted sought files)
 
 pub one_loading : OneLoading
 one_loading no_command files = one_computed (Err Usage)

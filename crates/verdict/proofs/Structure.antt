@@ -1,17 +1,73 @@
 -- The structure of what was loaded, as a stage that reads no file.
-use Rattle.std.proofs.Common.{Ok, Err, refl}
+use Rattle.std.proofs.Common.{◌≡◌, ◌+◌, ℕ, suc, zero, Bool, true, false, List, [], ◌∷◌, ◌++◌, length, None, Option, Result, Ok, Err, refl, ap, sym, subst, arith}
+use Rattle.anyk_model.specs.Query.{Query}
+use Rattle.anyk_model.specs.Table.{Table}
 use Rattle.query_shape.specs.Shape.{Flaw, IsShape, Shape, cyclic, too_many_rows}
+use Rattle.refusal_lines.specs.Reason.{Reason}
 use Rattle.verdict.specs.Faults.{of_shape}
 use Rattle.verdict.specs.Found.{found_of}
-use Rattle.verdict.specs.Loading.{Loaded}
+use Rattle.verdict.specs.Loading.{Loaded, are_several, told_branch}
 use Rattle.verdict.specs.Staged.{Pure}
-use Rattle.verdict.specs.Verdict.{IsShaped}
+use Rattle.verdict.specs.Stages.{Is, Then, followed, refused}
+use Rattle.verdict.specs.UnionBound.{HaveShapes}
+use Rattle.verdict.specs.Verdict.{AreStructures, IsFlawed, IsShaped, IsStructure}
 
--- a join tree, with node rows within their limit
-pub shape_found : (loaded : Loaded) (shape : Shape) → IsShape loaded.query loaded.tables (Ok shape) → Pure (IsShaped loaded) (Ok (found_of loaded shape))
-shape_found loaded shape is = record { shape = shape; is_shape = is; same = refl }
+-- a fault of the structure is not one of the outside
+pub pure_flaw : {A : Type 0} (Gives : Result A Reason → Type 0) (branch : Option ℕ) (flaw : Flaw) → Gives (Err (of_shape branch flaw)) → Pure Gives (Err (of_shape branch flaw))
+pure_flaw Gives branch (cyclic items) h = h
+pure_flaw Gives branch too_many_rows h = h
 
--- no join tree, or too many node rows
-pub flaw_found : (loaded : Loaded) (flaw : Flaw) → IsShape loaded.query loaded.tables (Err flaw) → Pure (IsShaped loaded) (Err (of_shape flaw))
-flaw_found loaded (cyclic items) is = record { flaw = cyclic items; is_flaw = is; told = refl }
-flaw_found loaded too_many_rows is = record { flaw = too_many_rows; is_flaw = is; told = refl }
+-- each query has a structure
+pub structures_found : (several : Bool) (number : ℕ) (tables : List Table) (queries : List Query) (shapes : List Shape)
+    → HaveShapes tables queries shapes → AreStructures several number tables queries (Ok shapes)
+structures_found several number tables [] [] h = refl
+structures_found several number tables [] (shape ∷ shapes) h = absurd h
+structures_found several number tables (query ∷ queries) [] h = absurd h
+structures_found several number tables (query ∷ queries) (shape ∷ shapes) h =
+    followed {a = shape} h.0 (followed {a = shapes} (structures_found several (number + 1) tables queries shapes h.1) refl)
+
+-- these have one, and the next one has none
+pub structures_refused : (several : Bool) (number place : ℕ) (tables : List Table) (before : List Query) (query : Query) (later : List Query) (shapes : List Shape)
+    (reason : Reason) → HaveShapes tables before shapes → place ≡ number + length before → IsFlawed (told_branch several place) query tables reason
+    → AreStructures several number tables (before ++ query ∷ later) (Err reason)
+structures_refused several number place tables [] query later shapes reason h e flawed =
+    let same : place ≡ number = omega (arith, e) in
+    refused (subst (λ n. IsFlawed (told_branch several n) query tables reason) same flawed)
+structures_refused several number place tables (first ∷ before) query later [] reason h e flawed = absurd h
+structures_refused several number place tables (first ∷ before) query later (shape ∷ shapes) reason h e flawed =
+    followed {a = shape} h.0
+    (refused (structures_refused several (number + 1) place tables before query later shapes reason h.1 (omega (arith, e)) flawed))
+
+abbrev Found : Result (List Shape) Reason → Result (List Shape) Reason → Type 0
+Found a b = a ≡ b
+
+no_found : {A : Type 0} {shapes : List Shape} {reason : Reason} → Found (Err reason) (Ok shapes) → A
+no_found e = cc
+
+same_found : {a b : List Shape} → Found (Ok a) (Ok b) → a ≡ b
+same_found e = cc
+
+-- the structures that were found are those of the queries
+pub shapes_had : (several : Bool) (number : ℕ) (tables : List Table) (queries : List Query) (shapes : List Shape)
+    → AreStructures several number tables queries (Ok shapes) → HaveShapes tables queries shapes
+shapes_had several number tables [] shapes h = subst (HaveShapes tables []) (sym (same_found h)) tt
+shapes_had several number tables (query ∷ queries) shapes (followed {a = shape} is (followed {a = others} more same)) =
+    subst (HaveShapes tables (query ∷ queries)) (sym (same_found same)) (is, shapes_had several (number + 1) tables queries others more)
+
+-- what was loaded has these structures
+pub shapes_found : (loaded : Loaded) (shapes : List Shape) → HaveShapes loaded.tables loaded.queries shapes
+    → Pure (IsShaped loaded) (Ok (found_of loaded shapes))
+shapes_found loaded shapes h =
+    followed {a = shapes} (structures_found (are_several loaded.queries) 1 loaded.tables loaded.queries shapes h) refl
+
+-- one query of it has none
+pub flaw_found : (loaded : Loaded) (before : List Query) (query : Query) (later : List Query) (shapes : List Shape) (place : ℕ) (flaw : Flaw)
+    → loaded.queries ≡ before ++ query ∷ later → HaveShapes loaded.tables before shapes → place ≡ 1 + length before → IsShape query loaded.tables (Err flaw)
+    → Pure (IsShaped loaded) (Err (of_shape (told_branch (are_several loaded.queries) place) flaw))
+flaw_found loaded before query later shapes place flaw parts h e is =
+    let several = are_several loaded.queries in
+    let branch = told_branch several place in
+    let one = structures_refused several 1 place loaded.tables before query later shapes (of_shape branch flaw) h e
+    (record { flaw = flaw; is_flaw = is; told = refl }) in
+    pure_flaw (IsShaped loaded) branch flaw
+    (refused (subst (λ qs. AreStructures several 1 loaded.tables qs (Err (of_shape branch flaw))) (sym parts) one))

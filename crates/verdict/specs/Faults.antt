@@ -1,5 +1,5 @@
 -- The reason for a fault of a part. Running out of memory is not a fault of the input.
-use Rattle.std.specs.Prelude.{ℕ, List}
+use Rattle.std.specs.Prelude.{ℕ, List, Option}
 use Rattle.query_grammar.specs.declared.fault.ParseFault.{ParseFault}
 use Rattle.query_grammar.specs.declared.fault.ParseFault.TheVariants as parse
 use Rattle.session_script.specs.declared.fault.ScriptFault.{ScriptFault}
@@ -14,6 +14,7 @@ use Rattle.refusal_lines.specs.Reason.{Reason}
 abbrev pub of_parse : ParseFault → Reason
 of_parse parse.TooLong = reason.TooLong
 of_parse (parse.Syntax at) = reason.Syntax at
+of_parse parse.TooManyBranches = reason.TooManyBranches
 of_parse parse.TooManyItems = reason.TooManyItems
 of_parse parse.TooManyKeys = reason.TooManyKeys
 of_parse (parse.LimitRange at) = reason.LimitRange at
@@ -27,14 +28,15 @@ of_script (script.CursorExists line) = reason.CursorExists line
 of_script (script.TooManyOpen line) = reason.TooManyOpen line
 of_script script.NoMemory = reason.NoMemory
 
-abbrev pub of_bind : BindFault → Reason
-of_bind (bind.DuplicateAlias item) = reason.DuplicateAlias item
-of_bind (bind.UnknownAlias at) = reason.UnknownAlias at
-of_bind (bind.UnknownColumn at) = reason.UnknownColumn at
-of_bind (bind.Ambiguous at) = reason.Ambiguous at
-of_bind (bind.BadWeight item row column) = reason.BadWeight item row column
-of_bind (bind.RankRange key) = reason.RankRange key
-of_bind bind.NoMemory = reason.NoMemory
+-- the branch is told if there are several
+abbrev pub of_bind : Option ℕ → BindFault → Reason
+of_bind branch (bind.DuplicateAlias item) = reason.DuplicateAlias branch item
+of_bind branch (bind.UnknownAlias at) = reason.UnknownAlias at
+of_bind branch (bind.UnknownColumn at) = reason.UnknownColumn at
+of_bind branch (bind.Ambiguous at) = reason.Ambiguous at
+of_bind branch (bind.BadWeight item row column) = reason.BadWeight branch item row column
+of_bind branch (bind.RankRange key) = reason.RankRange branch key
+of_bind branch bind.NoMemory = reason.NoMemory
 
 abbrev pub of_flaw : List ℕ → Flaw → Reason
 of_flaw table no_header = reason.NoHeader table
@@ -43,6 +45,6 @@ of_flaw table (duplicate_name column) = reason.DuplicateName table column
 of_flaw table too_many_rows = reason.TooManyTableRows table
 of_flaw table (ragged row) = reason.Ragged table row
 
-abbrev pub of_shape : ShapeFlaw → Reason
-of_shape (cyclic items) = reason.Cyclic items
-of_shape too_many_node_rows = reason.TooManyNodeRows
+abbrev pub of_shape : Option ℕ → ShapeFlaw → Reason
+of_shape branch (cyclic items) = reason.Cyclic branch items
+of_shape branch too_many_node_rows = reason.TooManyNodeRows

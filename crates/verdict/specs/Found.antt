@@ -1,22 +1,35 @@
 -- What is known of an accepted input.
-use Rattle.std.specs.Prelude.{ℕ, List, Option}
+use Rattle.std.specs.Prelude.{ℕ, nat_lt, List, [], Bool, Option, get_or, length}
 use Rattle.anyk_model.specs.Table.{Table}
 use Rattle.anyk_model.specs.Query.{Query}
 use Rattle.query_shape.specs.Shape.{Shape}
 use Rattle.session_script.specs.declared.step.Step.{Step}
+use Rattle.union_list.specs.Tagged.{branch_at}
 use Rattle.verdict.specs.Loading.{Loaded}
 
 pub record Found : Type 0 where
-  pub query : Query
+  -- the query of each branch, and one query if there are no branches
+  pub queries : List Query
   pub tables : List Table
-  -- the join tree, with the numbers of its node rows
-  pub shape : Shape
+  -- the join tree of each, with the numbers of its node rows
+  pub shapes : List Shape
   -- the item of which each row's best answer is asked for, if one is named
   pub best : Option ℕ
   -- the steps of the script, and none if there is no script
   pub steps : List Step
 
 -- what was loaded, with its structure
-abbrev pub found_of : Loaded → Shape → Found
-found_of loaded shape =
-    record { query = loaded.query; tables = loaded.tables; shape = shape; best = loaded.best; steps = loaded.steps }
+abbrev pub found_of : Loaded → List Shape → Found
+found_of loaded shapes =
+    record { queries = loaded.queries; tables = loaded.tables; shapes = shapes; best = loaded.best; steps = loaded.steps }
+
+-- it has several branches
+abbrev pub is_union : Found → Bool
+is_union found = nat_lt 1 (length found.queries)
+
+-- the first query, which is the only one if there are no branches, and its structure
+abbrev pub query_of : Found → Query
+query_of found = branch_at found.queries 0
+
+abbrev pub structure_of : Found → Shape
+structure_of found = get_or found.shapes 0 (record { atoms = []; parents = []; node_rows = [] })

@@ -9,6 +9,7 @@ pub mod Output
 pub mod Session
 pub mod SessionCalls
 pub mod SessionBound
+pub mod UnionBound
 pub mod Summary
 pub mod Outcome
 pub mod Bound

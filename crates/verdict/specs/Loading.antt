@@ -1,23 +1,26 @@
--- The stages of loading an input: its query, its script, its tables, and the query bound to them.
-use Rattle.std.specs.Prelude.{◌≡◌, ◌≢◌, ℕ, nat_lt, if◌then◌else◌, List, [], ◌∷◌, ◌++◌, map, length, Option, None, Some, option_map, position, unwrap_or, Result, Ok, Err}
+-- The stages of loading an input: its query, or the branches of it, its script, its tables, and the queries bound to
+-- them.
+use Rattle.std.specs.Prelude.{◌≡◌, ◌≢◌, ◌+◌, ◌&&◌, ℕ, nat_eq, nat_lt, Bool, true, false, if◌then◌else◌, List, [], ◌∷◌, ◌++◌, map, length, Option, None, Some, option_map, position, unwrap_or, Result, Ok, Err}
 use Rattle.std.specs.List.{list_any, position_or_len}
 use Rattle.std.specs.Str.{bytes_eq}
+use mathlib.Core.Bool.{beq}
 use Rattle.outer_io.specs.Files.{Files, bytes_of}
 use Rattle.query_grammar.specs.declared.fault.ParseFault.{ParseFault}
 use Rattle.query_grammar.specs.declared.fault.ParseFault.TheVariants.{NoMemory as out_of_memory}
-use Rattle.query_grammar.specs.declared.select.ItemRef.{ItemRef}
-use Rattle.query_grammar.specs.declared.select.Select.{Select}
-use Rattle.query_grammar.specs.Parse.{IsParsed, Faults}
+use Rattle.query_select.specs.declared.select.ItemRef.{ItemRef}
+use Rattle.query_select.specs.declared.select.Select.{Select}
+use Rattle.query_select.specs.declared.select.SelectAll.{SelectAll}
+use Rattle.query_grammar.specs.Parse.{IsParsed, IsParsedAll, Faults, FaultsAll}
 use Rattle.anyk_model.specs.Table.{Table, flaw_of, records_of, table_of}
-use Rattle.anyk_model.specs.Query.{Item, Query}
+use Rattle.anyk_model.specs.Query.{Item, OrderKey, Query}
 use Rattle.query_bind.specs.Bind.{bind_fault}
 use Rattle.query_bind.specs.Binding.{bound_query}
-use Rattle.refusal_lines.specs.Reason.{Reason, NoFile, TooLarge, UnknownBest, UnknownTable}
+use Rattle.refusal_lines.specs.Reason.{Reason, BranchShape, NoFile, TooLarge, UnionBest, UnknownBest, UnknownTable}
 use Rattle.session_script.specs.declared.fault.ScriptFault.{ScriptFault}
 use Rattle.session_script.specs.declared.step.Step.{Step}
 use Rattle.session_script.specs.Script.{steps_of}
 use Rattle.verdict.specs.Faults.{of_parse, of_script, of_bind, of_flaw}
-use Rattle.verdict.specs.Stages.{then_by, unless}
+use Rattle.verdict.specs.Stages.{Then, Is, then_by, unless}
 
 -- ---- one file
 
@@ -42,6 +45,26 @@ abbrev pub IsParse : List ℕ → Result Select Reason → Type 0
 IsParse bytes (Ok select) = IsParsed bytes select
 IsParse bytes (Err reason) =
     (fault : ParseFault) × Faults bytes fault × (fault ≢ out_of_memory) × (reason ≡ of_parse fault)
+
+abbrev pub IsParseAll : List ℕ → Result SelectAll Reason → Type 0
+IsParseAll bytes (Ok all) = IsParsedAll bytes all
+IsParseAll bytes (Err reason) =
+    (fault : ParseFault) × FaultsAll bytes fault × (fault ≢ out_of_memory) × (reason ≡ of_parse fault)
+
+-- each branch with the limit of the whole
+abbrev pub branches_of : SelectAll → List Select
+branches_of all = map (λ (select : Select). record select { limit = all.limit }) all.branches
+
+-- the query, or its branches if it may have several
+abbrev pub IsReading : Bool → List ℕ → Result (List Select) Reason → Type 0
+IsReading true bytes = Then (IsParseAll bytes) (λ all. Is (Ok (branches_of all)))
+IsReading false bytes = Then (IsParse bytes) (λ select. Is (Ok (select ∷ [])))
+
+-- the items of all branches; those of one query are its own
+abbrev pub all_items : List Select → List ItemRef
+all_items [] = []
+all_items (select ∷ []) = select.items
+all_items (select ∷ other ∷ selects) = select.items ++ all_items (other ∷ selects)
 
 -- ---- the script
 
@@ -84,9 +107,9 @@ table_names items = map (λ (item : ItemRef). item.table) items
 abbrev pub first_uses : List ItemRef → List (List ℕ)
 first_uses items = first_uses_after [] (table_names items)
 
--- the number of each item's table in that order
-abbrev pub table_numbers : List ItemRef → List ℕ
-table_numbers items = map (λ name. position_or_len (λ other. bytes_eq other name) (first_uses items)) (table_names items)
+-- the number of each item's table among these names
+abbrev pub table_numbers : List (List ℕ) → List ItemRef → List ℕ
+table_numbers names items = map (λ name. position_or_len (λ other. bytes_eq other name) names) (table_names items)
 
 -- the file of a table that the command line names
 abbrev pub known_file : List (List ℕ × List ℕ) → List ℕ → List ℕ
@@ -115,13 +138,55 @@ abbrev pub files_read : Files → List (List ℕ × List ℕ) → List (List ℕ
 files_read files named [] = []
 files_read files named (name ∷ names) = known_file named name ∷ go_on (table_in files named name) (files_read files named names)
 
--- ---- the query bound to its tables
+-- ---- the queries bound to their tables
 
--- the names, the weights and the ranges are checked
-abbrev pub bound_in : Select → List Table → Result Query Reason
-bound_in select tables =
-    unless (option_map of_bind (bind_fault select tables (table_numbers select.items)))
-    (bound_query select tables (table_numbers select.items))
+-- there are several branches
+abbrev pub are_several : {A : Type 0} → List A → Bool
+are_several list = nat_lt 1 (length list)
+
+-- how a refusal tells a branch: not at all if there is one
+abbrev pub told_branch : Bool → ℕ → Option ℕ
+told_branch several number = if several then Some number else None
+
+-- the names, the weights and the ranges of a query are checked
+abbrev pub bound_as : Option ℕ → List (List ℕ) → List Table → Select → Result Query Reason
+bound_as branch names tables select =
+    unless (option_map (of_bind branch) (bind_fault select tables (table_numbers names select.items)))
+    (bound_query select tables (table_numbers names select.items))
+
+-- those of each branch in order, of which the first has this number
+abbrev pub bound_from : List (List ℕ) → List Table → Bool → ℕ → List Select → Result (List Query) Reason
+bound_from names tables several number [] = Ok []
+bound_from names tables several number (select ∷ selects) =
+    then_by (bound_as (told_branch several number) names tables select)
+    (λ query. then_by (bound_from names tables several (number + 1) selects) (λ queries. Ok (query ∷ queries)))
+
+-- all tables are there, for each branch those that its items name
+abbrev pub bound_in : List Select → List Table → Result (List Query) Reason
+bound_in selects tables = bound_from (first_uses (all_items selects)) tables (are_several selects) 1 selects
+
+-- ---- the shape of the branches
+
+-- as many keys, and each in the same direction
+abbrev pub have_directions : List OrderKey → List OrderKey → Bool
+have_directions [] [] = true
+have_directions [] (key ∷ keys) = false
+have_directions (key ∷ keys) [] = false
+have_directions (key ∷ keys) (other ∷ others) = beq key.descending other.descending && have_directions keys others
+
+-- as many selected columns, and keys of the same directions
+abbrev pub have_one_shape : Query → Query → Bool
+have_one_shape a b = nat_eq (length a.list) (length b.list) && have_directions a.order b.order
+
+-- the first branch that is not of the first one's shape; the first of these has this number
+abbrev pub odd_from : Query → ℕ → List Query → Option Reason
+odd_from first number [] = None
+odd_from first number (query ∷ queries) =
+    if have_one_shape first query then odd_from first (number + 1) queries else Some (BranchShape number)
+
+abbrev pub odd_branch : List Query → Option Reason
+odd_branch [] = None
+odd_branch (first ∷ queries) = odd_from first 2 queries
 
 -- ---- the item of which each row's best answer is asked for
 
@@ -129,23 +194,27 @@ abbrev pub known_item : Option ℕ → Result (Option ℕ) Reason
 known_item None = Err UnknownBest
 known_item (Some item) = Ok (Some item)
 
--- the number of the item that has the alias, if one is named
-abbrev pub best_in : Option (List ℕ) → Query → Result (Option ℕ) Reason
-best_in None query = Ok None
-best_in (Some alias) query = known_item (position (λ (item : Item). bytes_eq item.alias alias) query.items)
+-- the number of the item that has the alias, if one is named; then there may not be several branches
+abbrev pub best_in : Option (List ℕ) → List Query → Result (Option ℕ) Reason
+best_in None queries = Ok None
+best_in (Some alias) [] = Err UnknownBest
+best_in (Some alias) (query ∷ []) = known_item (position (λ (i : Item). bytes_eq i.alias alias) query.items)
+best_in (Some alias) (query ∷ other ∷ queries) = Err UnionBest
 
 -- ---- all together
 
--- what is known of an input once its query is bound to its tables
+-- what is known of an input once its queries are bound to their tables
 pub record Loaded : Type 0 where
-  pub query : Query
+  -- the query of each branch, and one query if there are no branches
+  pub queries : List Query
   pub tables : List Table
   -- the item of which each row's best answer is asked for, if one is named
   pub best : Option ℕ
   -- the steps of the script, and none if there is no script
   pub steps : List Step
 
--- the query, the tables and the script, with the item that is named
-abbrev pub loaded_in : Option (List ℕ) → Query → List Table → List Step → Result Loaded Reason
-loaded_in alias query tables steps =
-    then_by (best_in alias query) (λ best. Ok (record { query = query; tables = tables; best = best; steps = steps }))
+-- the queries of one shape, the tables and the script, with the item that is named
+abbrev pub loaded_in : Option (List ℕ) → List Query → List Table → List Step → Result Loaded Reason
+loaded_in alias queries tables steps =
+    then_by (unless (odd_branch queries) queries)
+    (λ queries. then_by (best_in alias queries) (λ best. Ok (record { queries = queries; tables = tables; best = best; steps = steps })))

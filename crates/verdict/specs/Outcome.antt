@@ -5,14 +5,14 @@ use Rattle.std.specs.List.{list_any}
 use Rattle.std.specs.Io.KnownBytes.{Appends}
 use Rattle.outer_io.specs.Counts.{Rose, RoseAbove}
 use Rattle.outer_io.specs.Files.{Files}
-use Rattle.query_grammar.specs.declared.select.Select.{Select}
+use Rattle.query_select.specs.declared.select.Select.{Select}
 use Rattle.session_script.specs.declared.step.Step.{Step}
 use Rattle.rankings.specs.Order.{IsMember}
 use Rattle.refusal_lines.specs.Reason as reason
 use Rattle.refusal_lines.specs.Reason.{Reason, status_of, line_of}
 use Rattle.verdict.specs.Words.{Command, Asked, Sought, no_command, built, run, plan, session, load, sought_by}
 use Rattle.verdict.specs.Found.{Found}
-use Rattle.verdict.specs.Loading.{IsParse, most_bytes, file_in, steps_in, unknown_table, first_uses, files_read}
+use Rattle.verdict.specs.Loading.{IsReading, all_items, most_bytes, file_in, steps_in, unknown_table, first_uses, files_read}
 use Rattle.verdict.specs.Output.{output}
 use Rattle.refusal_lines.specs.Sent.{GotPrefix}
 use Rattle.verdict.specs.Verdict.{IsVerdict}
@@ -56,11 +56,11 @@ GotNothing old new = Appends old.output new.output []
 -- parsed; or of one of the tables up to the first refusal, once the script is read.
 pub data IsTurnOf (sought : Sought) (files : Files) (name : List ℕ) : Type 0 where
   query_turn : name ≡ sought.query → IsTurnOf sought files name
-  script_turn : {bytes : List ℕ} {select : Select} → file_in files sought.query ≡ Ok bytes → IsParse bytes (Ok select)
+  script_turn : {bytes : List ℕ} (selects : List Select) → file_in files sought.query ≡ Ok bytes → IsReading sought.several bytes (Ok selects)
       → sought.script ≡ Some name → IsTurnOf sought files name
-  table_turn : {bytes : List ℕ} {select : Select} {steps : List Step} → file_in files sought.query ≡ Ok bytes → IsParse bytes (Ok select)
-      → steps_in files sought.script ≡ Ok steps → unknown_table sought.named select.items ≡ None
-      → IsMember name (files_read files sought.named (first_uses select.items)) → IsTurnOf sought files name
+  table_turn : {bytes : List ℕ} (selects : List Select) {steps : List Step} → file_in files sought.query ≡ Ok bytes → IsReading sought.several bytes (Ok selects)
+      → steps_in files sought.script ≡ Ok steps → unknown_table sought.named (all_items selects) ≡ None
+      → IsMember name (files_read files sought.named (first_uses (all_items selects))) → IsTurnOf sought files name
 
 -- if the files are known, it is a file that the command reads; `load` reads none
 abbrev pub IsCommandTurn : Command → Option Files → List ℕ → Type 0
@@ -124,7 +124,7 @@ IsUnwrittenWhereRefused asked told old new =
 -- ---- all together
 
 abbrev pub statuses : List ℕ
-statuses = 0 ∷ 2 ∷ 3 ∷ 4 ∷ 5 ∷ 6 ∷ 7 ∷ 8 ∷ 9 ∷ 10 ∷ 11 ∷ 12 ∷ []
+statuses = 0 ∷ 2 ∷ 3 ∷ 4 ∷ 5 ∷ 6 ∷ 7 ∷ 8 ∷ 9 ∷ 10 ∷ 11 ∷ 12 ∷ 15 ∷ []
 
 -- all that is stated about one call of the program
 pub record Outcome (asked : Asked) (told : Option Files) (old new : Outside) (status : ℕ) : Type 0 where

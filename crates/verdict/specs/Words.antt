@@ -1,6 +1,6 @@
 -- What the arguments of the command line ask for, without the engine: both engines give the same
 -- text.
-use Rattle.std.specs.Prelude.{ℕ, List, Bool, Option, Some, None}
+use Rattle.std.specs.Prelude.{ℕ, List, Bool, true, false, Option, Some, None}
 use Rattle.make_input.specs.Input.{query_file, table_files}
 
 -- the names of files and tables are written as on the command line
@@ -29,6 +29,8 @@ Named = List (List ℕ × List ℕ)
 pub record Sought : Type 0 where
   -- the file of its query
   pub query : List ℕ
+  -- whether the query may have several branches
+  pub several : Bool
   -- the file of its script, if it has one
   pub script : Option (List ℕ)
   -- the files of the tables
@@ -36,12 +38,12 @@ pub record Sought : Type 0 where
   -- the alias of the item of which each row's best answer is asked for, if there is one
   pub best_of : Option (List ℕ)
 
--- `plan` has no item, and `load` reads the files that it makes
+-- only `run` may have several branches, `plan` has no item, and `load` reads the files that it makes
 abbrev pub sought_by : Command → Sought
-sought_by (run words) = record { query = words.query; script = None; named = words.tables; best_of = words.best_of }
-sought_by (plan words) = record { query = words.query; script = None; named = words.tables; best_of = None }
-sought_by (session script words) = record { query = words.query; script = Some script; named = words.tables; best_of = words.best_of }
-sought_by (load number rows) = record { query = query_file; script = None; named = table_files; best_of = None }
+sought_by (run words) = record { query = words.query; several = true; script = None; named = words.tables; best_of = words.best_of }
+sought_by (plan words) = record { query = words.query; several = false; script = None; named = words.tables; best_of = None }
+sought_by (session script words) = record { query = words.query; several = false; script = Some script; named = words.tables; best_of = words.best_of }
+sought_by (load number rows) = record { query = query_file; several = false; script = None; named = table_files; best_of = None }
 
 pub data Asked : Type 0 where
   -- the arguments are not a command
