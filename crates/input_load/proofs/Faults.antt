@@ -1,8 +1,10 @@
 -- The faults of the parts as refusals of their stages.
-use Rattle.std.proofs.Common.{◌≡◌, inl, inr, ℕ, List, Option, Some, None, option_map, Err, ap, refl, sym, ◌≤◌, Ok, arith, subst, length}
+use Rattle.std.proofs.Common.{◌≡◌, inl, inr, ℕ, List, Option, Some, None, option_map, Err, ap, refl, sym, ◌≤◌, ◌∷◌, ◌++◌, [], true, false, Ok, arith, subst, length, map}
+use Rattle.std.proofs.lemmas.List.{length-append, length-map}
+use Rattle.std.specs.List.{AllByRecursion}
 use Rattle.query_grammar.specs.declared.fault.ParseFault.{ParseFault}
 use Rattle.query_grammar.specs.declared.fault.ParseFault.TheVariants as parse
-use Rattle.query_grammar.specs.Parse.{Parses}
+use Rattle.query_grammar.specs.Parse.{IsParsed, IsParsedAll, Parses, ParsesAll, items_in}
 use Rattle.query_bind.specs.declared.fault.BindFault.{BindFault}
 use Rattle.query_bind.specs.declared.fault.BindFault.TheVariants as bind
 use Rattle.query_bind.specs.Answers.{Tells}
@@ -16,43 +18,68 @@ use Rattle.session_script.specs.declared.fault.ScriptFault.TheVariants as script
 use Rattle.session_script.specs.declared.step.Step.{Step}
 use Rattle.session_script.specs.Script.{Fails, steps_of}
 use Rattle.verdict.specs.Faults.{of_bind, of_flaw, of_parse, of_script}
-use Rattle.verdict.specs.Loading.{IsParse, steps_said, told_steps}
-use Rattle.verdict.specs.Stages.{Is, unless}
+use Rattle.verdict.specs.Loading.{IsParse, IsParseAll, IsReading, all_items, branches_of, steps_said, told_steps}
+use Rattle.verdict.specs.Stages.{Is, followed, unless}
+use Rattle.verdict.proofs.Staging.{pure_refused}
 use Rattle.verdict.specs.Staged.{Pure}
 use Rattle.input_load.specs.Entries.{table_after}
-use Rattle.input_load.specs.Limits.{IsWithinLimits}
+use Rattle.input_load.specs.Limits.{AreWithinLimits, IsWithinLimits}
 use Rattle.input_load.specs.Shown.{table_reason}
-use Rattle.query_grammar.specs.Grammar.{IsItems, IsQuery, items, query}
+use Rattle.input_load.proofs.AllItems.{all_items-cons}
+use Rattle.query_grammar.specs.Grammar.{IsBranch, IsItems, IsQuery, branch, items, query}
 use Rattle.query_grammar.specs.Reading.{Clauses}
 use Rattle.query_grammar.specs.Lexeme.{Lexeme}
-use Rattle.query_grammar.specs.declared.select.Equality.{Equality}
-use Rattle.query_grammar.specs.declared.select.ItemRef.{ItemRef}
-use Rattle.query_grammar.specs.declared.select.Select.{Select}
-use Rattle.query_grammar.specs.Parse.{IsParsed}
+use Rattle.query_select.specs.declared.select.Equality.{Equality}
+use Rattle.query_select.specs.declared.select.ItemRef.{ItemRef}
+use Rattle.query_select.specs.declared.select.Select.{Select}
+use Rattle.query_select.specs.declared.select.SelectAll.{SelectAll}
 
 -- a fault of the parser
-pub parse_refused : (bytes : List ℕ) (fault : ParseFault) → Parses bytes (Err fault) → Pure (IsParse bytes) (Err (of_parse fault))
-parse_refused bytes parse.TooLong h = (parse.TooLong, h, (λ e. cc), refl)
-parse_refused bytes (parse.Syntax at) h = (parse.Syntax at, h, (λ e. cc), refl)
-parse_refused bytes parse.TooManyItems h = (parse.TooManyItems, h, (λ e. cc), refl)
-parse_refused bytes parse.TooManyKeys h = (parse.TooManyKeys, h, (λ e. cc), refl)
-parse_refused bytes (parse.LimitRange at) h = (parse.LimitRange at, h, (λ e. cc), refl)
-parse_refused bytes parse.NoMemory h = tt
+parse_told : (bytes : List ℕ) (fault : ParseFault) → Parses bytes (Err fault) → Pure (IsParse bytes) (Err (of_parse fault))
+parse_told bytes parse.TooLong h = (parse.TooLong, h, (λ e. cc), refl)
+parse_told bytes (parse.Syntax at) h = (parse.Syntax at, h, (λ e. cc), refl)
+parse_told bytes parse.TooManyBranches h = (parse.TooManyBranches, h, (λ e. cc), refl)
+parse_told bytes parse.TooManyItems h = (parse.TooManyItems, h, (λ e. cc), refl)
+parse_told bytes parse.TooManyKeys h = (parse.TooManyKeys, h, (λ e. cc), refl)
+parse_told bytes (parse.LimitRange at) h = (parse.LimitRange at, h, (λ e. cc), refl)
+parse_told bytes parse.NoMemory h = tt
+
+parse_all_told : (bytes : List ℕ) (fault : ParseFault) → ParsesAll bytes (Err fault) → Pure (IsParseAll bytes) (Err (of_parse fault))
+parse_all_told bytes parse.TooLong h = (parse.TooLong, h, (λ e. cc), refl)
+parse_all_told bytes (parse.Syntax at) h = (parse.Syntax at, h, (λ e. cc), refl)
+parse_all_told bytes parse.TooManyBranches h = (parse.TooManyBranches, h, (λ e. cc), refl)
+parse_all_told bytes parse.TooManyItems h = (parse.TooManyItems, h, (λ e. cc), refl)
+parse_all_told bytes parse.TooManyKeys h = (parse.TooManyKeys, h, (λ e. cc), refl)
+parse_all_told bytes (parse.LimitRange at) h = (parse.LimitRange at, h, (λ e. cc), refl)
+parse_all_told bytes parse.NoMemory h = tt
+
+-- what the parser found or refused, as the stage of reading
+pub one-refused : (bytes : List ℕ) (fault : ParseFault) → Parses bytes (Err fault) → Pure (IsReading false bytes) (Err (of_parse fault))
+one-refused bytes fault h = pure_refused (IsParse bytes) (λ select. Is (Ok (select ∷ []))) (of_parse fault) (parse_told bytes fault h)
+
+pub one-read : (bytes : List ℕ) (select : Select) (selects : List Select) → Parses bytes (Ok select) → selects ≡ select ∷ [] → IsReading false bytes (Ok selects)
+one-read bytes select selects h is = followed {a = select} h (ap Ok is)
+
+pub branches-refused : (bytes : List ℕ) (fault : ParseFault) → ParsesAll bytes (Err fault) → Pure (IsReading true bytes) (Err (of_parse fault))
+branches-refused bytes fault h = pure_refused (IsParseAll bytes) (λ all. Is (Ok (branches_of all))) (of_parse fault) (parse_all_told bytes fault h)
+
+pub branches-read : (bytes : List ℕ) (all : SelectAll) (selects : List Select) → ParsesAll bytes (Ok all) → selects ≡ branches_of all → IsReading true bytes (Ok selects)
+branches-read bytes all selects h is = followed {a = all} h (ap Ok is)
 
 -- the first fault of binding
-bind_fault_refused : (bound : Query) (fault : BindFault) → Pure (Is (unless (Some (of_bind fault)) bound)) (Err (of_bind fault))
-bind_fault_refused bound (bind.DuplicateAlias item) = refl
-bind_fault_refused bound (bind.UnknownAlias at) = refl
-bind_fault_refused bound (bind.UnknownColumn at) = refl
-bind_fault_refused bound (bind.Ambiguous at) = refl
-bind_fault_refused bound (bind.BadWeight item row column) = refl
-bind_fault_refused bound (bind.RankRange key) = refl
-bind_fault_refused bound bind.NoMemory = tt
+bind_fault_refused : (told : Option ℕ) (bound : Query) (fault : BindFault) → Pure (Is (unless (Some (of_bind told fault)) bound)) (Err (of_bind told fault))
+bind_fault_refused told bound (bind.DuplicateAlias item) = refl
+bind_fault_refused told bound (bind.UnknownAlias at) = refl
+bind_fault_refused told bound (bind.UnknownColumn at) = refl
+bind_fault_refused told bound (bind.Ambiguous at) = refl
+bind_fault_refused told bound (bind.BadWeight item row column) = refl
+bind_fault_refused told bound (bind.RankRange key) = refl
+bind_fault_refused told bound bind.NoMemory = tt
 
-pub bind_refused : (first : Option BindFault) (bound : Query) (fault : BindFault) → Tells first fault
-    → Pure (Is (unless (option_map of_bind first) bound)) (Err (of_bind fault))
-bind_refused first bound fault (inl e) = rw e tt
-bind_refused first bound fault (inr e) = rw e (bind_fault_refused bound fault)
+pub bind_refused : (told : Option ℕ) (first : Option BindFault) (bound : Query) (fault : BindFault) → Tells first fault
+    → Pure (Is (unless (option_map (of_bind told) first) bound)) (Err (of_bind told fault))
+bind_refused told first bound fault (inl e) = rw e tt
+bind_refused told first bound fault (inr e) = rw e (bind_fault_refused told bound fault)
 
 -- the first fault of a script
 pub script_told : (bytes : List ℕ) (steps : List Step) → steps_of bytes ≡ Ok steps → Pure (Is (steps_said bytes)) (Ok steps)
@@ -88,10 +115,58 @@ table_refused name old t (Some flaw) fault (inr e) =
 some-items : {ts rest : List Lexeme} {r : List ItemRef × List Equality} → IsItems ts rest r → 1 ≤ length r.0
 some-items (items one others) = omega arith
 
-some-clauses : {ts : List Lexeme} {x : Clauses} → IsQuery ts x → 1 ≤ length x.0.items
-some-clauses (query s l f i w o n e) = some-items i
+some-branch : {ts rest : List Lexeme} {s : Select} → IsBranch ts rest s → 1 ≤ length s.items
+some-branch (branch s l f i w o) = some-items i
 
-pub parsed-limits : (bytes : List ℕ) (select : Select) → IsParsed bytes select → IsWithinLimits select
+some-clauses : {ts : List Lexeme} {x : Clauses} → IsQuery ts x → 1 ≤ length x.0.items
+some-clauses (query b l e) = some-branch b
+
+parsed-limits : (bytes : List ℕ) (select : Select) → IsParsed bytes select → IsWithinLimits select
 parsed-limits bytes select h =
     let P : Select → Type 0 = λ s. 1 ≤ length s.items in
     record { some = subst P (sym h.is) (some-clauses h.says.query); items = h.items; keys = h.keys }
+
+pub one-limits : (bytes : List ℕ) (select : Select) → IsParsed bytes select → AreWithinLimits (select ∷ [])
+one-limits bytes select h = record { some = omega arith; few = omega arith; each = (parsed-limits bytes select h, tt); items = h.items }
+
+items-counted : (selects : List Select) → items_in selects ≡ length (all_items selects)
+items-counted [] = refl
+items-counted (select ∷ selects) =
+    let later = items-counted selects in
+    let whole : length (all_items (select ∷ selects)) ≡ length (select.items ++ all_items selects) = ap length (all_items-cons select selects) in
+    let both = length-append select.items (all_items selects) in
+    omega (arith, later, whole, both)
+
+-- no more branches than a query may have, and no more items in all of them
+all-limits : (bytes : List ℕ) (all : SelectAll) → IsParsedAll bytes all → (length all.branches ≤ 8) × (length (all_items all.branches) ≤ 16)
+all-limits bytes all h =
+    let counted = items-counted all.branches in
+    let items = h.items in
+    (h.branches, omega (arith, counted, items))
+
+-- the limits of the branches change nothing else
+limited-items : (limit : Option ℕ) (selects : List Select) → all_items (map (λ (s : Select). record s { limit = limit }) selects) ≡ all_items selects
+limited-items limit [] = refl
+limited-items limit (select ∷ []) = refl
+limited-items limit (select ∷ other ∷ selects) = ap (λ (l : List ItemRef). select.items ++ l) (limited-items limit (other ∷ selects))
+
+limited-each : (limit : Option ℕ) (selects : List Select) → AllByRecursion (λ (s : Select). (1 ≤ length s.items) × ((length s.items ≤ 16) × (length s.keys ≤ 8))) selects
+    → AllByRecursion IsWithinLimits (map (λ (s : Select). record s { limit = limit }) selects)
+limited-each limit [] all = tt
+limited-each limit (select ∷ selects) all =
+    (record { some = all.0.0; items = all.0.1.0; keys = all.0.1.1 }, limited-each limit selects all.1)
+
+pub branches-limits : (bytes : List ℕ) (all : SelectAll) → IsParsedAll bytes all → 1 ≤ length all.branches
+    → AllByRecursion (λ (s : Select). (1 ≤ length s.items) × ((length s.items ≤ 16) × (length s.keys ≤ 8))) all.branches → AreWithinLimits (branches_of all)
+branches-limits bytes all h some filled =
+    let limits = all-limits bytes all h in
+    let few = limits.0 in
+    let items = limits.1 in
+    let as_many = length-map all.branches (λ (s : Select). record s { limit = all.limit }) in
+    let as_many_items = ap length (limited-items all.limit all.branches) in
+    record {
+      some = omega (arith, some, as_many);
+      few = omega (arith, few, as_many);
+      each = limited-each all.limit all.branches filled;
+      items = omega (arith, items, as_many_items);
+    }

@@ -1,6 +1,6 @@
 -- The entries that name the items' tables, and which of them come first.
 use Rattle.std.proofs.Common.{◌≡◌, ◌+◌, ◌<◌, ◌≤◌, ◌||◌, ◌∷◌, ◌++◌, [], ℕ, Bool, true, false, cond, if◌then◌else◌, List, length, map, drop, take, get_or, find, option_map, Some, None, refl, sym, ap, ◌∙◌, arith, subst, suc, zero, not}
-use Rattle.std.proofs.lemmas.List.{append_assoc, drop_more, get_or-map, length-append, length-map, take_more, map-append}
+use Rattle.std.proofs.lemmas.List.{append_assoc, append-nil, drop_all, drop_more, get_or-map, length-append, length-map, take_all, take_more, map-append}
 use Rattle.std.proofs.lemmas.List.Folds.{list_any-append}
 use Rattle.std.proofs.lemmas.Slice.Eq.{bytes_eq-Decides}
 use Rattle.std.specs.List.{AllByRecursion, list_any, position_or_len}
@@ -9,10 +9,10 @@ use Rattle.std.specs.String.{string_bytes}
 use Rattle.cmd_words.specs.declared.pairs.Named.{Named}
 use Rattle.cmd_words.specs.NamedPairs.{named_pair}
 use Rattle.outer_io.specs.Files.{bytes_of}
-use Rattle.query_grammar.specs.declared.select.ItemRef.{ItemRef}
+use Rattle.query_select.specs.declared.select.ItemRef.{ItemRef}
 use Rattle.refusal_lines.specs.Reason.{UnknownTable}
 use Rattle.verdict.specs.Loading.{first_uses, first_uses_after, table_names, table_numbers, unknown_table, unknown_with}
-use Rattle.input_load.specs.Entries.{IsEntryOf, tables_of}
+use Rattle.input_load.specs.Entries.{HasAdded, IsEntryOf, tables_of}
 
 -- ---- the entry that names a table
 
@@ -52,37 +52,54 @@ none-file table named is = file-of_found table named ∙ ap (option_map (λ (e :
 
 -- ---- the items, one after another
 
--- the items up to i have tables that entries name, and these are the entries
-pub record HasEntries (named : List (List ℕ × List ℕ)) (items : List ItemRef) (i : ℕ) (words : List (List ℕ × List ℕ)) : Type 0 where
+-- the items up to i have tables that entries name, and the entries were added to those that were there
+pub record HasEntries (named : List (List ℕ × List ℕ)) (items : List ItemRef) (i : ℕ) (before words : List (List ℕ × List ℕ)) : Type 0 where
   pub known : unknown_table named (drop i items) ≡ unknown_table named items
-  pub tables : tables_of words ≡ table_names (take i items)
-  pub entries : AllByRecursion (IsEntryOf named) words
+  pub tables : tables_of words ≡ tables_of before ++ table_names (take i items)
+  pub entries : AllByRecursion (IsEntryOf named) before → AllByRecursion (IsEntryOf named) words
 
 pub all-append : {A : Type 0} (P : A → Type 0) (xs : List A) (x : A) → AllByRecursion P xs → P x → AllByRecursion P (xs ++ x ∷ [])
 all-append P [] x all h = (h, tt)
 all-append P (y ∷ xs) x all h = (all.0, all-append P xs x all.1 h)
 
-pub entries-more : (named : List (List ℕ × List ℕ)) (items : List ItemRef) (i : ℕ) (item : ItemRef) (entries : List (List ℕ × List ℕ)) (e : List ℕ × List ℕ)
+pub entries-none : (named : List (List ℕ × List ℕ)) (items : List ItemRef) (before : List (List ℕ × List ℕ)) → HasEntries named items 0 before before
+entries-none named items before = record {
+  known = refl;
+  tables = sym (append-nil (tables_of before));
+  entries = λ all. all;
+}
+
+pub entries-more : (named : List (List ℕ × List ℕ)) (items : List ItemRef) (i : ℕ) (item : ItemRef) (before entries : List (List ℕ × List ℕ)) (e : List ℕ × List ℕ)
     → i < length items → item ≡ get_or items i item → e.0 ≡ item.table → IsEntryOf named e
-    → HasEntries named items i entries → HasEntries named items (i + 1) (entries ++ e ∷ [])
-entries-more named items i item entries e inside is table entry h =
+    → HasEntries named items i before entries → HasEntries named items (i + 1) before (entries ++ e ∷ [])
+entries-more named items i item before entries e inside is table entry h =
     let step : drop i items ≡ item ∷ drop (i + 1) items = drop_more items i item inside ∙ ap (λ (x : ItemRef). x ∷ drop (i + 1) items) (sym is) in
     let file : bytes_of named item.table ≡ Some e.1 = ap (bytes_of named) (sym table) ∙ entry in
+    let names : table_names (take (i + 1) items) ≡ table_names (take i items) ++ item.table ∷ [] =
+    ap table_names (take_more items i item inside ∙ ap (λ (x : ItemRef). take i items ++ x ∷ []) (sym is))
+    ∙ map-append (λ (x : ItemRef). x.table) (take i items) (item ∷ []) in
     record {
       known = sym (ap (unknown_table named) step ∙ ap (λ o. unknown_with o item.at (unknown_table named (drop (i + 1) items))) file) ∙ h.known;
       tables = map-append (λ (x : List ℕ × List ℕ). x.0) entries (e ∷ [])
           ∙ ap (λ (t : List (List ℕ)). t ++ e.0 ∷ []) h.tables
-          ∙ ap (λ (t : List ℕ). table_names (take i items) ++ t ∷ []) table
-          ∙ sym (ap table_names (take_more items i item inside ∙ ap (λ (x : ItemRef). take i items ++ x ∷ []) (sym is))
-          ∙ map-append (λ (x : ItemRef). x.table) (take i items) (item ∷ []));
-      entries = all-append (IsEntryOf named) entries e h.entries entry;
+          ∙ append_assoc (tables_of before) (table_names (take i items)) (e.0 ∷ [])
+          ∙ ap (λ (t : List ℕ). tables_of before ++ (table_names (take i items) ++ t ∷ [])) table
+          ∙ sym (ap (λ (l : List (List ℕ)). tables_of before ++ l) names);
+      entries = λ all. all-append (IsEntryOf named) entries e (h.entries all) entry;
     }
 
+-- all items have such tables
+pub entries-all : (named : List (List ℕ × List ℕ)) (items : List ItemRef) (i : ℕ) (before entries : List (List ℕ × List ℕ)) → length items ≤ i
+    → HasEntries named items i before entries → (unknown_table named items ≡ None) × HasAdded named items before entries
+entries-all named items i before entries end h =
+    let tables = h.tables ∙ ap (λ (l : List ItemRef). tables_of before ++ table_names l) (take_all i items end) in
+    (sym h.known ∙ ap (unknown_table named) (drop_all i items end), record { tables = tables; entries = h.entries })
+
 -- the first item whose table no entry names
-pub entries-end : (named : List (List ℕ × List ℕ)) (items : List ItemRef) (i : ℕ) (item : ItemRef) (entries : List (List ℕ × List ℕ))
-    → i < length items → item ≡ get_or items i item → bytes_of named item.table ≡ None → HasEntries named items i entries
+pub entries-end : (named : List (List ℕ × List ℕ)) (items : List ItemRef) (i : ℕ) (item : ItemRef) (before entries : List (List ℕ × List ℕ))
+    → i < length items → item ≡ get_or items i item → bytes_of named item.table ≡ None → HasEntries named items i before entries
     → unknown_table named items ≡ Some (UnknownTable item.at)
-entries-end named items i item entries inside is none h =
+entries-end named items i item before entries inside is none h =
     let step : drop i items ≡ item ∷ drop (i + 1) items = drop_more items i item inside ∙ ap (λ (x : ItemRef). x ∷ drop (i + 1) items) (sym is) in
     sym h.known ∙ ap (unknown_table named) step ∙ ap (λ o. unknown_with o item.at (unknown_table named (drop (i + 1) items))) none
 
@@ -194,7 +211,7 @@ all-weaker P Q [] f all = tt
 all-weaker P Q (x ∷ xs) f all = (f x all.0, all-weaker P Q xs f all.1)
 
 -- the numbers of the tables of items are numbers of tables
-pub numbers-within : (items : List ItemRef) → AllByRecursion (λ t. t < length (first_uses items)) (table_numbers items)
+pub numbers-within : (items : List ItemRef) → AllByRecursion (λ t. t < length (first_uses items)) (table_numbers (first_uses items) items)
 numbers-within items =
     all-map (λ t. t < length (first_uses items)) (λ name. position_or_len (λ other. bytes_eq other name) (first_uses items)) (table_names items)
     (all-weaker (λ name. has_name name (first_uses items) ≡ true) (λ name. position_or_len (λ other. bytes_eq other name) (first_uses items) < length (first_uses items))

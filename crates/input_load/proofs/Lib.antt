@@ -1,4 +1,6 @@
+pub mod AllItems
 pub mod Best
+pub mod BoundQueries
 pub mod Faults
 pub mod Files
 pub mod FirstUses
@@ -6,3 +8,4 @@ pub mod MadeShelf
 pub mod NoneRefused
 pub mod Reading
 pub mod Scripts
+pub mod Shapes

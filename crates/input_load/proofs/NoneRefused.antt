@@ -1,5 +1,5 @@
 -- If there is a short file for each name of the command line, no file is refused.
-use Rattle.std.proofs.Common.{◌≡◌, ◌∷◌, ◌++◌, [], ℕ, Bool, true, false, IsTrue, if◌then◌else◌, is_some, List, Option, Some, None, Result, Ok, Err, option_map, length, ◌≤◌, unwrap_or, refl, sym, subst, arith, inl, inr}
+use Rattle.std.proofs.Common.{◌≡◌, ◌+◌, ◌∷◌, ◌++◌, [], ℕ, Bool, true, false, IsTrue, if◌then◌else◌, is_some, List, Option, Some, None, Result, Ok, Err, option_map, length, ◌≤◌, unwrap_or, refl, sym, subst, arith, inl, inr}
 use Rattle.std.specs.List.{AllByRecursion, list_any}
 use Rattle.std.specs.Str.{bytes_eq}
 use Rattle.anyk_model.specs.Query.{Query}
@@ -8,17 +8,18 @@ use Rattle.make_input.specs.Input.{query_file, table_files}
 use Rattle.outer_io.specs.Counts.{Rose}
 use Rattle.outer_io.specs.Files.{Files, bytes_of}
 use Rattle.query_bind.specs.Bind.{bind_fault}
+use Rattle.query_bind.specs.Binding.{bound_query}
 use Rattle.query_bind.specs.declared.fault.BindFault.{BindFault}
 use Rattle.query_bind.specs.declared.fault.BindFault.TheVariants as bind
 use Rattle.query_grammar.specs.declared.fault.ParseFault.{ParseFault}
 use Rattle.query_grammar.specs.declared.fault.ParseFault.TheVariants as parse
-use Rattle.query_grammar.specs.declared.select.ItemRef.{ItemRef}
-use Rattle.query_grammar.specs.declared.select.Select.{Select}
+use Rattle.query_select.specs.declared.select.ItemRef.{ItemRef}
+use Rattle.query_select.specs.declared.select.Select.{Select}
 use Rattle.refusal_lines.specs.Reason as reason
 use Rattle.refusal_lines.specs.Reason.{Reason}
 use Rattle.session_script.specs.declared.step.Step.{Step}
 use Rattle.verdict.specs.Faults.{of_bind, of_flaw, of_parse}
-use Rattle.verdict.specs.Loading.{IsParse, Loaded, bound_in, file_in, file_with, first_uses, first_uses_after, known_file, loaded_in, most_bytes, sound_table, steps_in, table_in, table_names, table_numbers, tables_in, unknown_table, unknown_with}
+use Rattle.verdict.specs.Loading.{IsParse, IsReading, Loaded, all_items, are_several, bound_as, bound_from, bound_in, file_in, file_with, first_uses, first_uses_after, known_file, loaded_in, most_bytes, odd_branch, sound_table, steps_in, table_in, table_names, table_numbers, tables_in, told_branch, unknown_table, unknown_with}
 use Rattle.verdict.specs.Made.{made_files}
 use Rattle.verdict.specs.Staged.{Causes, Fits, Pure, Shelved}
 use Rattle.verdict.specs.Stages.{Is, Then, followed, refused, then_by, unless}
@@ -26,6 +27,7 @@ use Rattle.verdict.specs.Verdict.{IsBound, IsLoadedOn, IsRead, IsScripted, IsSel
 use Rattle.verdict.specs.Words.{Named, Sought, load, sought_by}
 use Rattle.make_input.proofs.Short.{files_short}
 use Rattle.input_load.proofs.Files.{short_bytes}
+use Rattle.input_load.proofs.Shapes.{odd-told}
 
 -- the result is not that a file is missing or too large
 abbrev pub NoneRefused : {A : Type 0} → Result A Reason → Type 0
@@ -70,16 +72,17 @@ parse-none bytes (Err e) (fault, faults, some, is) = subst (λ (a : Reason). Non
     by : (f : ParseFault) → NoneRefused {A = Select} (Err (of_parse f))
     by parse.TooLong = tt
     by (parse.Syntax at) = tt
+    by parse.TooManyBranches = tt
     by parse.TooManyItems = tt
     by parse.TooManyKeys = tt
     by (parse.LimitRange at) = tt
     by parse.NoMemory = tt
 
-unknown-none : (named : Named) (items : List ItemRef) (select : Select) → NoneRefused (unless (unknown_table named items) select)
-unknown-none named [] select = tt
-unknown-none named (item ∷ items) select = by (bytes_of named item.table) (unknown-none named items select)
+unknown-none : (named : Named) (items : List ItemRef) (selects : List Select) → NoneRefused (unless (unknown_table named items) selects)
+unknown-none named [] selects = tt
+unknown-none named (item ∷ items) selects = by (bytes_of named item.table) (unknown-none named items selects)
   where
-    by : (o : Option (List ℕ)) → NoneRefused (unless (unknown_table named items) select) → NoneRefused (unless (unknown_with o item.at (unknown_table named items)) select)
+    by : (o : Option (List ℕ)) → NoneRefused (unless (unknown_table named items) selects) → NoneRefused (unless (unknown_with o item.at (unknown_table named items)) selects)
     by None later = tt
     by (Some file) later = later
 
@@ -91,15 +94,33 @@ table-none name bytes t (Some (duplicate_name column)) = tt
 table-none name bytes t (Some too_many_rows) = tt
 table-none name bytes t (Some (ragged row)) = tt
 
-bind-none : (query : Query) (fault : Option BindFault) → NoneRefused (unless (option_map of_bind fault) query)
-bind-none query None = tt
-bind-none query (Some (bind.DuplicateAlias item)) = tt
-bind-none query (Some (bind.UnknownAlias at)) = tt
-bind-none query (Some (bind.UnknownColumn at)) = tt
-bind-none query (Some (bind.Ambiguous at)) = tt
-bind-none query (Some (bind.BadWeight item row column)) = tt
-bind-none query (Some (bind.RankRange key)) = tt
-bind-none query (Some bind.NoMemory) = tt
+bind-none : (branch : Option ℕ) (query : Query) (fault : Option BindFault) → NoneRefused (unless (option_map (of_bind branch) fault) query)
+bind-none branch query None = tt
+bind-none branch query (Some (bind.DuplicateAlias item)) = tt
+bind-none branch query (Some (bind.UnknownAlias at)) = tt
+bind-none branch query (Some (bind.UnknownColumn at)) = tt
+bind-none branch query (Some (bind.Ambiguous at)) = tt
+bind-none branch query (Some (bind.BadWeight item row column)) = tt
+bind-none branch query (Some (bind.RankRange key)) = tt
+bind-none branch query (Some bind.NoMemory) = tt
+
+queries-none : (names : List (List ℕ)) (tables : List Table) (several : Bool) (number : ℕ) (selects : List Select)
+    → NoneRefused (bound_from names tables several number selects)
+queries-none names tables several number [] = tt
+queries-none names tables several number (select ∷ selects) =
+    let which = table_numbers names select.items in
+    then_by-none (bound_as (told_branch several number) names tables select)
+    (λ query. then_by (bound_from names tables several (number + 1) selects) (λ queries. Ok (query ∷ queries)))
+    (bind-none (told_branch several number) (bound_query select tables which) (bind_fault select tables which))
+    (λ query. then_by-none (bound_from names tables several (number + 1) selects) (λ queries. Ok (query ∷ queries))
+    (queries-none names tables several (number + 1) selects) (λ queries. tt))
+
+shapes-none : (queries : List Query) → NoneRefused (unless (odd_branch queries) queries)
+shapes-none queries = by (odd_branch queries) refl
+  where
+    by : (o : Option Reason) → odd_branch queries ≡ o → NoneRefused (unless o queries)
+    by None is = tt
+    by (Some e) is = subst (λ (x : Reason). NoneRefused {A = List Query} (Err x)) (sym (odd-told queries e is).1) tt
 
 -- ---- the tables that items use
 
@@ -153,42 +174,51 @@ tables-none files named (name ∷ names) held all =
 
 -- ---- all together
 
-known-is : (o : Option Reason) (select known : Select) → Ok known ≡ unless o select → (o ≡ None) × (known ≡ select)
-known-is None select known e = (refl, cc)
-known-is (Some e) select known is = cc
+known-is : (o : Option Reason) (selects known : List Select) → Ok known ≡ unless o selects → (o ≡ None) × (known ≡ selects)
+known-is None selects known e = (refl, cc)
+known-is (Some e) selects known is = cc
 
--- a query file and tables' files, without a script and without an item
+-- a query file with one query and tables' files, without a script and without an item
 module _ (query : List ℕ) (named : Named) (files : Files) (held : AllByRecursion (IsHeld files) named) where
   abbrev asked : Sought
-  asked = record { query = query; script = None; named = named; best_of = None }
+  asked = record { query = query; several = false; script = None; named = named; best_of = None }
 
-  bound-none : (select : Select) (tables : List Table) (steps : List Step) (r : Result Loaded Reason) → IsBound asked select tables steps r → NoneRefused r
-  bound-none select tables steps r =
-      then-none (Is (bound_in select tables)) (λ bound. Is (loaded_in None bound tables steps)) r
-      (λ x is. is-none (bound_in select tables) x (bind-none _ (bind_fault select tables (table_numbers select.items))) is)
-      (λ bound given y h. is-none (loaded_in None bound tables steps) y tt h)
+  loaded-in-none : (queries : List Query) (tables : List Table) (steps : List Step) → NoneRefused (loaded_in None queries tables steps)
+  loaded-in-none queries tables steps =
+      then_by-none (unless (odd_branch queries) queries) (λ queries. Ok (record { queries = queries; tables = tables; best = None; steps = steps }))
+      (shapes-none queries) (λ queries. tt)
 
-  tabled-none : (select : Select) (steps : List Step) → unknown_table named select.items ≡ None → (r : Result Loaded Reason) → IsTabled asked files select steps r → NoneRefused r
-  tabled-none select steps known r =
-      let all = uses-all (IsNamed named) [] (table_names select.items) (named-all named select.items known) in
-      then-none (Is (tables_in files named (first_uses select.items))) (λ tables. IsBound asked select tables steps) r
-      (λ x is. is-none (tables_in files named (first_uses select.items)) x (tables-none files named (first_uses select.items) held all) is)
-      (λ tables given y h. bound-none select tables steps y h)
+  bound-none : (selects : List Select) (tables : List Table) (steps : List Step) (r : Result Loaded Reason) → IsBound asked selects tables steps r → NoneRefused r
+  bound-none selects tables steps r =
+      then-none (Is (bound_in selects tables)) (λ bound. Is (loaded_in None bound tables steps)) r
+      (λ x is. is-none (bound_in selects tables) x (queries-none (first_uses (all_items selects)) tables (are_several selects) 1 selects) is)
+      (λ bound given y h. is-none (loaded_in None bound tables steps) y (loaded-in-none bound tables steps) h)
 
-  selected-none : (select : Select) (steps : List Step) (r : Result Loaded Reason) → IsSelected asked files select steps r → NoneRefused r
-  selected-none select steps r =
-      then-none (Is (unless (unknown_table named select.items) select)) (λ known. IsTabled asked files known steps) r
-      (λ x is. is-none (unless (unknown_table named select.items) select) x (unknown-none named select.items select) is)
+  tabled-none : (selects : List Select) (steps : List Step) → unknown_table named (all_items selects) ≡ None → (r : Result Loaded Reason) → IsTabled asked files selects steps r → NoneRefused r
+  tabled-none selects steps known r =
+      let all = uses-all (IsNamed named) [] (table_names (all_items selects)) (named-all named (all_items selects) known) in
+      then-none (Is (tables_in files named (first_uses (all_items selects)))) (λ tables. IsBound asked selects tables steps) r
+      (λ x is. is-none (tables_in files named (first_uses (all_items selects))) x (tables-none files named (first_uses (all_items selects)) held all) is)
+      (λ tables given y h. bound-none selects tables steps y h)
+
+  selected-none : (selects : List Select) (steps : List Step) (r : Result Loaded Reason) → IsSelected asked files selects steps r → NoneRefused r
+  selected-none selects steps r =
+      then-none (Is (unless (unknown_table named (all_items selects)) selects)) (λ known. IsTabled asked files known steps) r
+      (λ x is. is-none (unless (unknown_table named (all_items selects)) selects) x (unknown-none named (all_items selects) selects) is)
       (λ known given y h.
-      let is = known-is (unknown_table named select.items) select known given in
-      tabled-none known steps (subst (λ (s : Select). unknown_table named s.items ≡ None) (sym is.1) is.0) y h)
+      let is = known-is (unknown_table named (all_items selects)) selects known given in
+      tabled-none known steps (subst (λ (s : List Select). unknown_table named (all_items s) ≡ None) (sym is.1) is.0) y h)
 
-  scripted-none : (select : Select) (r : Result Loaded Reason) → IsScripted asked files select r → NoneRefused r
-  scripted-none select r =
-      then-none (Is (steps_in files None)) (IsSelected asked files select) r (λ x is. is-none (Ok []) x tt is) (λ steps given y h. selected-none select steps y h)
+  scripted-none : (selects : List Select) (r : Result Loaded Reason) → IsScripted asked files selects r → NoneRefused r
+  scripted-none selects r =
+      then-none (Is (steps_in files None)) (IsSelected asked files selects) r (λ x is. is-none (Ok []) x tt is) (λ steps given y h. selected-none selects steps y h)
+
+  reading-none : (bytes : List ℕ) (r : Result (List Select) Reason) → IsReading false bytes r → NoneRefused r
+  reading-none bytes r =
+      then-none (IsParse bytes) (λ select. Is (Ok (select ∷ []))) r (parse-none bytes) (λ select given y h. is-none (Ok (select ∷ [])) y tt h)
 
   read-none : (bytes : List ℕ) (r : Result Loaded Reason) → IsRead asked files bytes r → NoneRefused r
-  read-none bytes r = then-none (IsParse bytes) (IsScripted asked files) r (parse-none bytes) (λ select given y h. scripted-none select y h)
+  read-none bytes r = then-none (IsReading false bytes) (IsScripted asked files) r (reading-none bytes) (λ selects given y h. scripted-none selects y h)
 
   pub loaded-none : IsShort (bytes_of files query) → (r : Result Loaded Reason) → IsLoadedOn asked files r → NoneRefused r
   loaded-none is_held r =

@@ -1,25 +1,36 @@
 -- An input, as contracts see it.
-use Rattle.std.specs.Prelude.{◌<◌, ℕ, List, [], length, Option, IfSome}
+use Rattle.std.specs.Prelude.{◌<◌, ◌≤◌, ℕ, List, [], length, map, Option, IfSome}
+use Rattle.std.specs.List.{All, AllByRecursion}
 use Rattle.anyk_model.specs.Table.{Table}
+use Rattle.anyk_model.specs.Query.{Query}
 use Rattle.query_bind.specs.Weighed.{BoundQuery, Fits}
 use Rattle.session_script.specs.declared.step.Step.{Step}
 use Rattle.session_script.specs.Script.{KeepsRules}
+use Rattle.union_list.specs.Tagged.{HaveKeys}
 use Rattle.verdict.specs.Loading.{Loaded}
 
 pub record InputData : Type 0 where
-  pub query : BoundQuery
+  -- the query of each branch, and one query if there are no branches
+  pub queries : List BoundQuery
   pub tables : List Table
   -- the item of which each row's best answer is asked for, if one is named
   pub best : Option ℕ
   -- the steps of the script, and none if there is no script
   pub steps : List Step
 
--- the query was bound to the tables and has the item, and the steps keep the rules of scripts
+abbrev pub queries_in : List BoundQuery → List Query
+queries_in queries = map (λ (q : BoundQuery). q.query) queries
+
+-- the queries were bound to the tables and have as many order keys each, a query has the item if one is
+-- named, and the steps keep the rules of scripts
 pub record IsSound (input : InputData) : Type 0 where
-  pub fits : Fits input.query input.tables
-  pub item : IfSome input.best (λ item. item < length input.query.query.items)
+  pub some : 1 ≤ length input.queries
+  pub few : length input.queries ≤ 8
+  pub fits : All (λ (q : BoundQuery). Fits q input.tables) input.queries
+  pub keys : (keys : ℕ) × HaveKeys keys (queries_in input.queries)
+  pub item : IfSome input.best (λ item. AllByRecursion (λ (q : BoundQuery). item < length q.query.items) input.queries)
   pub rules : KeepsRules [] input.steps
 
 -- what is known of the input
 abbrev pub loaded_of : InputData → Loaded
-loaded_of input = record { query = input.query.query; tables = input.tables; best = input.best; steps = input.steps }
+loaded_of input = record { queries = queries_in input.queries; tables = input.tables; best = input.best; steps = input.steps }

@@ -8,18 +8,14 @@ use Rattle.outer_io.specs.declared.reading.FileFault.TheVariants as file
 use Rattle.anyk_model.specs.Table.{Table}
 use Rattle.anyk_model.specs.Query.{Query}
 use Rattle.query_bind.specs.Weighed.{BoundQuery}
-use Rattle.query_grammar.specs.declared.select.Select.{Select}
+use Rattle.query_select.specs.declared.select.Select.{Select}
 use Rattle.refusal_lines.specs.declared.refusal.Refusal.{Refusal}
 use Rattle.refusal_lines.specs.Reason as reason
 use Rattle.refusal_lines.specs.Reason.{Reason}
 use Rattle.refusal_lines.specs.Refused.{reason_of}
 use Rattle.session_script.specs.declared.step.Step.{Step}
 use Rattle.verdict.specs.Loading.{Loaded}
-use Rattle.input_load.specs.Input.{InputData, loaded_of}
-
-abbrev pub shown_select : Result Select Refusal → Result Select Reason
-shown_select (Ok select) = Ok select
-shown_select (Err refusal) = Err (reason_of refusal)
+use Rattle.input_load.specs.Input.{InputData, loaded_of, queries_in}
 
 abbrev pub shown_tables : Result (List Table) Refusal → Result (List Table) Reason
 shown_tables (Ok tables) = Ok tables
@@ -55,6 +51,18 @@ shown_steps (Err refusal) = Err (reason_of refusal)
 abbrev pub shown_query : Result BoundQuery Refusal → Result Query Reason
 shown_query (Ok bound) = Ok bound.query
 shown_query (Err refusal) = Err (reason_of refusal)
+
+abbrev pub shown_selects : Result (Vec Select Global) Refusal → Result (List Select) Reason
+shown_selects (Ok selects) = Ok selects.items
+shown_selects (Err refusal) = Err (reason_of refusal)
+
+abbrev pub shown_queries : Result (Vec BoundQuery Global) Refusal → Result (List Query) Reason
+shown_queries (Ok queries) = Ok (queries_in queries.items)
+shown_queries (Err refusal) = Err (reason_of refusal)
+
+abbrev pub shown_check : Result (Unit {0}) Refusal → Result (Unit {0}) Reason
+shown_check (Ok done) = Ok done
+shown_check (Err refusal) = Err (reason_of refusal)
 
 abbrev pub shown_item : Result (Option ℕ) Refusal → Result (Option ℕ) Reason
 shown_item (Ok item) = Ok item

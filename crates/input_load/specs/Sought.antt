@@ -8,6 +8,7 @@ use Rattle.verdict.specs.Words.{Sought}
 abbrev pub sought_shown : SoughtText → Sought
 sought_shown sought = record {
   query = sought.query.now;
+  several = sought.several;
   script = option_map (λ name. name.now) sought.script;
   named = map named_pair sought.named.now;
   best_of = option_map (λ alias. alias.now) sought.best_of;

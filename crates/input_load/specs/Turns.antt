@@ -1,28 +1,28 @@
 -- The files that the stages of loading read.
 use Rattle.std.specs.Prelude.{◌≡◌, ℕ, List, Some}
 use Rattle.outer_io.specs.Files.{Files}
-use Rattle.query_grammar.specs.declared.select.Select.{Select}
+use Rattle.query_select.specs.declared.select.Select.{Select}
 use Rattle.rankings.specs.Order.{IsMember}
-use Rattle.verdict.specs.Loading.{IsParse, file_in, files_read, first_uses, steps_in, tables_in, unknown_table}
+use Rattle.verdict.specs.Loading.{IsReading, all_items, file_in, files_read, first_uses, steps_in, tables_in, unknown_table}
 use Rattle.verdict.specs.Staged.{EitherTurn, NoTurn}
 use Rattle.verdict.specs.Stages.{Is, unless}
 use Rattle.verdict.specs.Words.{Sought}
 
-abbrev pub IsTabledTurn : Sought → Files → Select → List ℕ → Type 0
-IsTabledTurn sought files select =
-    EitherTurn (λ files. Is (tables_in files sought.named (first_uses select.items))) (λ files file. IsMember file (files_read files sought.named (first_uses select.items)))
+abbrev pub IsTabledTurn : Sought → Files → List Select → List ℕ → Type 0
+IsTabledTurn sought files selects =
+    EitherTurn (λ files. Is (tables_in files sought.named (first_uses (all_items selects)))) (λ files file. IsMember file (files_read files sought.named (first_uses (all_items selects))))
     (λ tables. NoTurn) files
 
-abbrev pub IsSelectedTurn : Sought → Files → Select → List ℕ → Type 0
-IsSelectedTurn sought files select =
-    EitherTurn (λ files. Is (unless (unknown_table sought.named select.items) select)) NoTurn (λ known files. IsTabledTurn sought files known) files
+abbrev pub IsSelectedTurn : Sought → Files → List Select → List ℕ → Type 0
+IsSelectedTurn sought files selects =
+    EitherTurn (λ files. Is (unless (unknown_table sought.named (all_items selects)) selects)) NoTurn (λ known files. IsTabledTurn sought files known) files
 
-abbrev pub IsScriptedTurn : Sought → Files → Select → List ℕ → Type 0
-IsScriptedTurn sought files select =
-    EitherTurn (λ files. Is (steps_in files sought.script)) (λ files file. sought.script ≡ Some file) (λ steps files. IsSelectedTurn sought files select) files
+abbrev pub IsScriptedTurn : Sought → Files → List Select → List ℕ → Type 0
+IsScriptedTurn sought files selects =
+    EitherTurn (λ files. Is (steps_in files sought.script)) (λ files file. sought.script ≡ Some file) (λ steps files. IsSelectedTurn sought files selects) files
 
 abbrev pub IsReadTurn : Sought → Files → List ℕ → List ℕ → Type 0
-IsReadTurn sought files bytes = EitherTurn (λ files. IsParse bytes) NoTurn (λ select files. IsScriptedTurn sought files select) files
+IsReadTurn sought files bytes = EitherTurn (λ files. IsReading sought.several bytes) NoTurn (λ selects files. IsScriptedTurn sought files selects) files
 
 abbrev pub IsTurn : Sought → Files → List ℕ → Type 0
 IsTurn sought files =

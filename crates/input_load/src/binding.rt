@@ -1,35 +1,39 @@
-//! An input, and the binding of its query to its tables.
-ghost use Rattle.std.specs.Prelude.{◌≡◌, ◌<◌, [], IfOk, IfSome, length, option_map, position};
-ghost use Rattle.std.specs.List.{AllByRecursion};
+//! An input, and the binding of its queries to its tables.
+ghost use Rattle.std.specs.Prelude.{◌≡◌, ◌<◌, ◌≤◌, ◌+◌, [], IfOk, IfSome, length, option_map, position};
+ghost use Rattle.std.specs.List.{All, AllByRecursion};
 ghost use Rattle.std.specs.Str.{bytes_eq};
 ghost use Rattle.anyk_model.specs.Query.{Item};
+ghost use Rattle.query_bind.specs.Bind.{bind_fault};
+ghost use Rattle.query_bind.specs.Binding.{bound_query};
 ghost use Rattle.query_bind.specs.Weighed.{Fits};
 ghost use Rattle.refusal_lines.specs.Refused.{reason_of};
 ghost use Rattle.session_script.specs.Script.{KeepsRules};
 ghost use Rattle.verdict.specs.Faults.{of_bind};
-ghost use Rattle.verdict.specs.Loading.{best_in, bound_in, table_numbers};
-ghost use Rattle.verdict.specs.Stages.{Is};
+ghost use Rattle.verdict.specs.Loading.{all_items, best_in, bound_in, first_uses};
+ghost use Rattle.verdict.specs.Loading.{have_directions, have_one_shape, odd_branch, table_numbers, told_branch};
+ghost use Rattle.verdict.specs.Stages.{Is, unless};
 ghost use Rattle.verdict.specs.Staged.{Pure};
 ghost use Rattle.verdict.specs.Verdict.{IsBound};
-ghost use Rattle.input_load.specs.Limits.{IsWithinLimits};
-ghost use Rattle.input_load.specs.Shown.{shown_input, shown_item, shown_query};
+ghost use Rattle.input_load.specs.Limits.{AreWithinLimits, IsWithinLimits};
+ghost use Rattle.input_load.specs.Input.{queries_in};
+ghost use Rattle.input_load.specs.Shown.{shown_check, shown_input, shown_item, shown_queries, shown_query};
 ghost use Rattle.input_load.specs.Sought.{sought_shown};
 
 use crate::sought::Sought;
 use csv_tables::Tables;
 use query_bind::{BindFault, Query, bind};
-use query_grammar::select::Select;
+use query_select::select::Select;
 use refusal_lines::Refusal;
 use session_script::Step;
 use std::alloc::Global;
 use std::marker::Model;
 
-/// An input before its structure is found. The query fits the tables and has the item, and the
-/// steps keep the rules of scripts.
+/// An input before its structure is found. The queries fit the tables and have as many order keys
+/// each, a query has the item if one is named, and the steps keep the rules of scripts.
 #[derive(Drop)]
 pub struct Input {
-    /// The query, bound to the tables.
-    pub query: Query,
+    /// The query of each branch, bound to the tables; one query if there are no branches.
+    pub queries: Vec<Query>,
     /// The tables, in the order of their first use.
     pub tables: Tables,
     /// The item of which each row's best answer is asked for, from 0; none if no item is named.
@@ -44,70 +48,160 @@ impl Model for Input {
     ghost Value = { InputData };
 
     ghost view = { λ a.
-        record { query = a.query; tables = a.tables; best = a.best; steps = a.script.items } };
+        record { queries = a.queries.items; tables = a.tables; best = a.best; steps = a.script.items } };
 
     ghost invariant = { λ a. IsSound
-        (record { query = a.query; tables = a.tables; best = a.best; steps = a.script.items }) };
+        (record { queries = a.queries.items; tables = a.tables; best = a.best; steps = a.script.items }) };
 }
 
-/// The input of this select over the tables. `which` has the number of each item's table, from 0.
-/// The error is the refusal for the first fault of binding, `UnknownBest` if no item has the alias
-/// that is named, or `NoMemory`.
+/// The input of these selects over the tables. `which` has the number of the table of each item of
+/// all selects, from 0. The error is the refusal for the first fault of binding, `BranchShape` for
+/// the first branch that is not of the first one's shape, `UnknownBest` if no item has the alias
+/// that is named, `UnionBest` if an item is named and there are several branches, or `NoMemory`.
 pub(crate) fn bound_input<'a>(
     alloc: Global,
     sought: &Sought<'a>,
-    select: &Select,
+    selects: &[Select],
     tables: Tables,
     which: &[u32],
     script: Vec<Step>,
 ) -> Result<Input, Refusal<'a>>
-    requires limits { IsWithinLimits select.now }
-    requires numbers { which.now ≡ table_numbers select.now.items }
+    requires limits { AreWithinLimits selects.now }
+    requires numbers { let items = all_items selects.now in
+        which.now ≡ table_numbers (first_uses items) items }
     requires known { AllByRecursion (λ t. t < length tables) which.now }
     requires rules { KeepsRules [] script.items }
-    ensures { let asked = sought_shown sought.now in
-        Pure (IsBound asked select.now tables script.items) (shown_input result) }
+    ensures bound { let asked = sought_shown sought.now in
+        Pure (IsBound asked selects.now tables script.items) (shown_input result) }
+    ensures branches { IfOk result (λ input. length input.queries ≡ length selects.now) }
 {
-    let query = bind_query(alloc, select, &tables, which)?;
-    let best = list_item(&query, sought.best_of)?;
+    let queries = bind_queries(alloc, selects, &tables, which)?;
+    check_shapes(&queries)?;
+    let best = list_item(&queries, sought.best_of)?;
     Ok(Input {
-        query,
+        queries,
         tables,
         best,
         script,
     })
 }
 
+// The queries of these selects over the tables, or the refusal for the first fault of binding.
+fn bind_queries<'a>(
+    alloc: Global,
+    selects: &[Select],
+    tables: &Tables,
+    which: &[u32],
+) -> Result<Vec<Query>, Refusal<'a>>
+    requires limits { AreWithinLimits selects.now }
+    requires numbers { let items = all_items selects.now in
+        which.now ≡ table_numbers (first_uses items) items }
+    requires known { AllByRecursion (λ t. t < length tables.now) which.now }
+    ensures bound { Pure (Is (bound_in selects.now tables.now)) (shown_queries result) }
+    ensures count { IfOk result (λ queries. length queries.items ≡ length selects.now) }
+    ensures fits { IfOk result (λ queries. All (λ q. Fits q tables.now) queries.items) }
+{
+    let several = selects.len() > 1;
+    let mut queries = Vec::new(alloc);
+    let mut rest = which;
+    for select in selects {
+        let branch = told_branch(several, queries.len());
+        let (own, later) = rest.split_at(select.items.as_slice().len());
+        let query = bind_query(alloc, branch, select, tables, own)?;
+        let Ok(()) = queries.push(query) else {
+            return Err(Refusal::NoMemory);
+        };
+        rest = later;
+    }
+    Ok(queries)
+}
+
+// The number of the branch that comes after these, from 1, if there are several.
+fn told_branch(several: bool, before: usize) -> Option<u32>
+    requires { before < 8 }
+    ensures { result ≡ told_branch several (before + 1) }
+{
+    if several {
+        Some(before as u32 + 1)
+    } else {
+        None
+    }
+}
+
 // The query of this select over the tables, or the refusal for the first fault of binding.
 fn bind_query<'a>(
     alloc: Global,
+    branch: Option<u32>,
     select: &Select,
     tables: &Tables,
     which: &[u32],
 ) -> Result<Query, Refusal<'a>>
     requires limits { IsWithinLimits select.now }
-    requires numbers { which.now ≡ table_numbers select.now.items }
+    requires count { length which.now ≡ length select.now.items }
     requires known { AllByRecursion (λ t. t < length tables.now) which.now }
-    ensures bound { Pure (Is (bound_in select.now tables.now)) (shown_query result) }
+    ensures bound { let fault = bind_fault select.now tables.now which.now in
+        let query = bound_query select.now tables.now which.now in
+        Pure (Is (unless (option_map (of_bind branch) fault) query)) (shown_query result) }
     ensures fits { IfOk result (λ query. Fits query tables.now) }
 {
     match bind(alloc, select, tables, which) {
         Ok(query) => Ok(query),
-        Err(fault) => Err(bind_refusal(fault)),
+        Err(fault) => Err(bind_refusal(branch, fault)),
     }
 }
 
+// `BranchShape` for the first branch, from 2, that is not of the shape of branch 1.
+fn check_shapes<'a>(queries: &[Query]) -> Result<(), Refusal<'a>>
+    requires some { 1 ≤ length queries.now }
+    requires few { length queries.now ≤ 8 }
+    ensures { shown_check result ≡ unless (odd_branch (queries_in queries.now)) tt }
+{
+    for branch in 1..queries.len() {
+        if !have_one_shape(&queries[0], &queries[branch]) {
+            return Err(Refusal::BranchShape(branch as u32 + 1));
+        }
+    }
+    Ok(())
+}
+
+// Whether the two have as many selected columns, and keys of the same directions.
+fn have_one_shape(a: &Query, b: &Query) -> bool
+    ensures { result ≡ have_one_shape a.now.query b.now.query }
+{
+    a.columns().len() == b.columns().len() && have_directions(a, b)
+}
+
+// Whether the two have as many order keys, and each in the same direction.
+fn have_directions(a: &Query, b: &Query) -> bool
+    ensures { result ≡ have_directions a.now.query.order b.now.query.order }
+{
+    if a.keys() != b.keys() {
+        return false;
+    }
+    for key in 0..a.keys() {
+        if a.descending(key) != b.descending(key) {
+            return false;
+        }
+    }
+    true
+}
+
 // The number of the item with this alias, from 0; none if no alias is named. `UnknownBest` if no
-// item has the alias.
-fn list_item<'a>(query: &Query, best_of: Option<&str>) -> Result<Option<u32>, Refusal<'a>>
+// item has the alias, and `UnionBest` if there are several branches.
+fn list_item<'a>(queries: &[Query], best_of: Option<&str>) -> Result<Option<u32>, Refusal<'a>>
+    requires { 1 ≤ length queries.now }
     ensures best { let alias = option_map (λ alias. alias.now) best_of.entry in
-        shown_item result ≡ best_in alias query.now.query }
-    ensures item { IfOk result (λ best. IfSome best (λ item. item < length query.now.query.items)) }
+        shown_item result ≡ best_in alias (queries_in queries.now) }
+    ensures item { IfOk result (λ best. IfSome best
+        (λ item. AllByRecursion (λ q. item < length q.query.items) queries.now)) }
 {
     let Some(alias) = best_of else {
         return Ok(None);
     };
-    match item_of(query, alias.as_bytes()) {
+    if queries.len() > 1 {
+        return Err(Refusal::UnionBest);
+    }
+    match item_of(&queries[0], alias.as_bytes()) {
         Some(item) => Ok(Some(item)),
         None => Err(Refusal::UnknownBest),
     }
@@ -127,20 +221,21 @@ fn item_of(query: &Query, alias: &[u8]) -> Option<u32>
     None
 }
 
-fn bind_refusal<'a>(fault: BindFault) -> Refusal<'a>
-    ensures { reason_of result ≡ of_bind fault }
+fn bind_refusal<'a>(branch: Option<u32>, fault: BindFault) -> Refusal<'a>
+    ensures { reason_of result ≡ of_bind branch fault }
 {
     match fault {
-        BindFault::DuplicateAlias(item) => Refusal::DuplicateAlias(item),
+        BindFault::DuplicateAlias(item) => Refusal::DuplicateAlias { branch, item },
         BindFault::UnknownAlias(at) => Refusal::UnknownAlias(at),
         BindFault::UnknownColumn(at) => Refusal::UnknownColumn(at),
         BindFault::Ambiguous(at) => Refusal::Ambiguous(at),
         BindFault::BadWeight { item, row, col } => Refusal::BadWeight {
+            branch,
             item,
             row,
             column: col,
         },
-        BindFault::RankRange(key) => Refusal::RankRange(key),
+        BindFault::RankRange(key) => Refusal::RankRange { branch, key },
         BindFault::NoMemory => Refusal::NoMemory,
     }
 }

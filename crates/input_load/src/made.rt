@@ -1,5 +1,5 @@
 //! An input that is made from a number.
-ghost use Rattle.std.specs.Prelude.{◌≡◌, IfOk, map};
+ghost use Rattle.std.specs.Prelude.{◌≡◌, IfOk, length, map};
 ghost use Rattle.outer_io.specs.Entries.{entry_of};
 ghost use Rattle.verdict.specs.Made.{made_files};
 ghost use Rattle.verdict.specs.Staged.{Pure};
@@ -21,12 +21,14 @@ use step_counter::NoMemory;
 /// The input of the query over the tables that are made, or its first refusal. No file is read. The
 /// tables are the program's own, so that they are hashed with known keys.
 pub fn load_made<'a>(alloc: Global, made: &'a MadeTables) -> Result<Input, Refusal<'a>>
-    ensures { let asked = sought_by (load made.now.number made.now.rows) in
+    ensures made { let asked = sought_by (load made.now.number made.now.rows) in
         Pure (IsLoadedOn asked (made_files made.now.number made.now.rows)) (shown_input result) }
+    ensures alone { IfOk result (λ input. length input.queries ≡ 1) }
 {
     let mut shelf = PureShelf::new(made_shelf(alloc, made)?);
     let sought = Sought {
         query: "load.sql",
+        several: false,
         script: None,
         named: made.named.as_slice(),
         best_of: None,

@@ -6,6 +6,8 @@ use cmd_words::Named;
 pub struct Sought<'a> {
     /// The file of the query.
     pub query: &'a str,
+    /// Whether the query may have several branches.
+    pub several: bool,
     /// The file of the script, if there is one.
     pub script: Option<&'a str>,
     /// The files of the tables.

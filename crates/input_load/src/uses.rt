@@ -1,34 +1,55 @@
 //! The tables that the items use.
-ghost use Rattle.std.specs.Prelude.{◌≡◌, ◌≤◌, [], IfOk, List, ℕ, find, length, map, option_map};
+ghost use Rattle.std.specs.Prelude.{◌≡◌, ◌≤◌, [], IfOk, OnOk, List, ℕ, find, length, map, option_map};
 ghost use Rattle.std.specs.List.{AllByRecursion, list_any, position_or_len};
 ghost use Rattle.std.specs.Str.{bytes_eq};
 ghost use Rattle.std.specs.String.{string_bytes};
 ghost use Rattle.cmd_words.specs.NamedPairs.{named_pair};
-ghost use Rattle.verdict.specs.Loading.{first_uses_after, table_names, unknown_table};
+ghost use Rattle.verdict.specs.Loading.{all_items, first_uses_after, table_names, unknown_table};
 ghost use Rattle.verdict.specs.Stages.{Is, unless};
 ghost use Rattle.verdict.specs.Staged.{Pure};
-ghost use Rattle.input_load.specs.Entries.{IsEntryOf, tables_of};
+ghost use Rattle.input_load.specs.Entries.{HasAdded, IsEntryOf, tables_of};
 ghost use Rattle.input_load.specs.Shown.{said_as};
 
 use cmd_words::Named;
-use query_grammar::select::Select;
+use query_select::select::{ItemRef, Select};
 use refusal_lines::Refusal;
 use std::alloc::Global;
 use step_counter::NoMemory;
 
-/// The entry that names the table of each item. `UnknownTable` at the first item whose table has no
-/// entry, and `NoMemory` if memory is refused.
+/// The entry that names the table of each item, for all items of all selects in order. `UnknownTable`
+/// at the first item whose table has no entry, and `NoMemory` if memory is refused.
 pub(crate) fn entries_of<'a>(
     alloc: Global,
     named: &'a [Named],
-    select: &Select,
+    selects: &[Select],
 ) -> Result<Vec<&'a Named>, Refusal<'a>>
-    ensures known { Pure (Is (unless (unknown_table (map named_pair named.now) select.now.items) select.now)) (said_as select.now result) }
-    ensures tables { IfOk result (λ entries. tables_of (map (λ e. named_pair e.now) entries.items) ≡ table_names select.now.items) }
-    ensures entries { IfOk result (λ entries. AllByRecursion (IsEntryOf (map named_pair named.now)) (map (λ e. named_pair e.now) entries.items)) }
+    ensures known { let words = map named_pair named.now in
+        Pure (Is (unless (unknown_table words (all_items selects.now)) selects.now))
+        (said_as selects.now result) }
+    ensures tables { IfOk result (λ entries.
+        tables_of (map (λ e. named_pair e.now) entries.items) ≡ table_names (all_items selects.now)) }
+    ensures entries { IfOk result (λ entries.
+        AllByRecursion (IsEntryOf (map named_pair named.now)) (map (λ e. named_pair e.now) entries.items)) }
 {
     let mut entries = Vec::new(alloc);
-    let items = select.items.as_slice();
+    for select in selects {
+        add_entries(named, select.items.as_slice(), &mut entries)?;
+    }
+    Ok(entries)
+}
+
+// Adds the entry that names the table of each item. `UnknownTable` at the first item whose table has
+// no entry, and `NoMemory` if memory is refused.
+fn add_entries<'a>(
+    named: &'a [Named],
+    items: &[ItemRef],
+    entries: &mut Vec<&'a Named>,
+) -> Result<(), Refusal<'a>>
+    ensures known { let words = map named_pair named.now in
+        Pure (Is (unless (unknown_table words items.now) items.now)) (said_as items.now result) }
+    ensures added { OnOk result (HasAdded (map named_pair named.now) items.now
+        (map (λ e. named_pair e.now) entries.old.items) (map (λ e. named_pair e.now) entries.new.items)) }
+{
     for item in items {
         let Some(entry) = entry_of(named, item.table.bytes()) else {
             return Err(Refusal::UnknownTable(item.at));
@@ -37,7 +58,7 @@ pub(crate) fn entries_of<'a>(
             return Err(Refusal::NoMemory);
         };
     }
-    Ok(entries)
+    Ok(())
 }
 
 // The first entry for this table, if there is one.

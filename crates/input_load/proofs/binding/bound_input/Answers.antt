@@ -1,33 +1,62 @@
-use Rattle.std.proofs.Common.{◌≡◌, Err, rules}
+use Rattle.std.proofs.Common.{◌≡◌, Err, rules, arith}
 use Rattle.refusal_lines.specs.Refused.{reason_of}
 use Rattle.verdict.specs.Loading.{bound_in, loaded_in}
 use Rattle.verdict.specs.Stages.{Is, followed}
 use Rattle.verdict.proofs.Staging.{pure_found, pure_refused}
+use Rattle.input_load.specs.Input.{queries_in}
 use Rattle.input_load.specs.Sought.{sought_shown}
-use Rattle.input_load.proofs.Best.{item-found, item-refused}
+use Rattle.input_load.proofs.Best.{item-found, item-refused, shape-refused}
+use Rattle.input_load.proofs.Shapes.{keys-none-odd, odd-none}
 use Rattle.input_load.proofs.binding.bound_input.Goals as goal
 
-pub returns-in_err-query : goal.returns-in_err-query
-returns-in_err-query c =
+pub returns-in_err-queries-clause-bound : goal.returns-in_err-queries-clause-bound
+returns-in_err-queries-clause-bound c =
     let sought = sought_shown c.args.sought.now in
     let tables = c.args.tables in
     let steps = c.args.script.items in
-    let e : c.from_residual.result ≡ Err c.in_err-query.field-0.0 = search rules in
-    rw e (pure_refused (Is (bound_in c.args.select.now tables)) (λ query. Is (loaded_in sought.best_of query tables steps)) _ c.in_err-query.ensures.bound)
+    let e : c.from_residual.result ≡ Err c.in_err-queries.field-0.0 = search rules in
+    rw e (pure_refused (Is (bound_in c.args.selects.now tables)) (λ queries. Is (loaded_in sought.best_of queries tables steps)) _ c.in_err-queries.ensures.bound)
 
-pub returns-in_err-best : goal.returns-in_err-best
-returns-in_err-best c =
+pub returns-in_err-check_shapes-clause-bound : goal.returns-in_err-check_shapes-clause-bound
+returns-in_err-check_shapes-clause-bound c =
     let sought = sought_shown c.args.sought.now in
     let tables = c.args.tables in
     let steps = c.args.script.items in
-    let query = c.in_ok-query.query.query in
+    let queries = queries_in c.in_ok-queries.queries.items in
+    let reason = reason_of c.in_err-check_shapes.field-0.0 in
+    let e : c.from_residual-in_err-check_shapes.result ≡ Err c.in_err-check_shapes.field-0.0 = search rules in
+    rw e (pure_found (Is (bound_in c.args.selects.now tables)) (λ queries. Is (loaded_in sought.best_of queries tables steps)) queries (Err reason) c.in_ok-queries.ensures.bound
+    (shape-refused queries tables steps sought.best_of reason (rw c.deref.ensures.value at c.in_err-check_shapes.ensures)))
+
+pub returns-in_err-best-clause-bound : goal.returns-in_err-best-clause-bound
+returns-in_err-best-clause-bound c =
+    let sought = sought_shown c.args.sought.now in
+    let tables = c.args.tables in
+    let steps = c.args.script.items in
+    let queries = queries_in c.in_ok-queries.queries.items in
     let reason = reason_of c.in_err-best.field-0.0 in
     let e : c.from_residual-in_err-best.result ≡ Err c.in_err-best.field-0.0 = search rules in
-    rw e (pure_found (Is (bound_in c.args.select.now tables)) (λ query. Is (loaded_in sought.best_of query tables steps)) query (Err reason) c.in_ok-query.ensures.bound
-    (item-refused query tables steps sought.best_of reason c.in_err-best.ensures.best))
+    rw e (pure_found (Is (bound_in c.args.selects.now tables)) (λ queries. Is (loaded_in sought.best_of queries tables steps)) queries (Err reason) c.in_ok-queries.ensures.bound
+    (item-refused queries tables steps sought.best_of reason (rw c.deref.ensures.value at c.in_ok-check_shapes.ensures) (rw c.deref-2.ensures.value at c.in_err-best.ensures.best)))
 
-pub returns : goal.returns
-returns c =
+pub invariant_of-result : goal.invariant_of-result
+invariant_of-result c =
+    let queries = queries_in c.in_ok-queries.queries.items in
+    let as_many = c.in_ok-queries.ensures.count in
+    let some = c.requires.limits.some in
+    let few = c.requires.limits.few in
+    record {
+      some = omega (arith, as_many, some);
+      few = omega (arith, as_many, few);
+      fits = c.in_ok-queries.ensures.fits;
+      keys = keys-none-odd queries (odd-none queries (rw c.deref.ensures.value at c.in_ok-check_shapes.ensures));
+      item = rw c.deref-2.ensures.value at c.in_ok-best.ensures.item;
+      rules = c.requires.rules;
+    }
+
+pub returns-clause-bound : goal.returns-clause-bound
+returns-clause-bound c =
     let sought = sought_shown c.args.sought.now in
-    let query = c.in_ok-query.query.query in
-    followed c.in_ok-query.ensures.bound (item-found query c.args.tables c.args.script.items sought.best_of c.in_ok-best.best c.in_ok-best.ensures.best)
+    let queries = queries_in c.in_ok-queries.queries.items in
+    followed {a = queries} c.in_ok-queries.ensures.bound
+    (item-found queries c.args.tables c.args.script.items sought.best_of c.in_ok-best.best (rw c.deref.ensures.value at c.in_ok-check_shapes.ensures) (rw c.deref-2.ensures.value at c.in_ok-best.ensures.best))

@@ -1,5 +1,5 @@
 use Rattle.std.proofs.Common.{◌≡◌, Err, rules}
-use Rattle.verdict.specs.Loading.{IsParse}
+use Rattle.verdict.specs.Loading.{IsReading}
 use Rattle.verdict.specs.Staged.{NoTurn}
 use Rattle.verdict.specs.Verdict.{IsScripted}
 use Rattle.verdict.proofs.Staging.{found_then, pure_staged, refusal_then}
@@ -7,17 +7,17 @@ use Rattle.input_load.specs.Turns.{IsScriptedTurn}
 use Rattle.input_load.specs.Sought.{sought_shown}
 use Rattle.input_load.proofs.input.read_input.Goals as goal
 
-pub returns-in_err-select : goal.returns-in_err-select
-returns-in_err-select g c =
+pub returns-in_err-selects-clause-staged : goal.returns-in_err-selects-clause-staged
+returns-in_err-selects-clause-staged g c =
     let bytes = c.args.bytes.now in
     let sought = sought_shown c.args.sought.now in
-    let e : c.from_residual.result ≡ Err c.in_err-select.field-0.0 = search rules in
-    rw e (refusal_then (λ files. IsParse bytes) NoTurn (λ select files. IsScripted sought files select) (λ select files. IsScriptedTurn sought files select)
-    _ _ _ (pure_staged (IsParse bytes) _ _ c.in_err-select.ensures.parsed))
+    let e : c.from_residual.result ≡ Err c.in_err-selects.field-0.0 = search rules in
+    rw e (refusal_then (λ files. IsReading sought.several bytes) NoTurn (λ selects files. IsScripted sought files selects) (λ selects files. IsScriptedTurn sought files selects)
+    _ _ _ (pure_staged (IsReading sought.several bytes) _ _ c.in_err-selects.ensures.parsed))
 
-pub returns : goal.returns
-returns g c =
+pub returns-clause-staged : goal.returns-clause-staged
+returns-clause-staged g c =
     let bytes = c.args.bytes.now in
     let sought = sought_shown c.args.sought.now in
-    found_then (λ files. IsParse bytes) NoTurn (λ select files. IsScripted sought files select) (λ select files. IsScriptedTurn sought files select)
-    _ _ _ c.in_ok-select.select _ (pure_staged (IsParse bytes) _ _ c.in_ok-select.ensures.parsed) c.script_input.ensures
+    found_then (λ files. IsReading sought.several bytes) NoTurn (λ selects files. IsScripted sought files selects) (λ selects files. IsScriptedTurn sought files selects)
+    _ _ _ c.in_ok-selects.selects.items _ (pure_staged (IsReading sought.several bytes) _ _ c.in_ok-selects.ensures.parsed) (rw c.deref.ensures.value at c.script_input.ensures.staged)

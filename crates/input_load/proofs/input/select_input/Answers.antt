@@ -1,5 +1,5 @@
 use Rattle.std.proofs.Common.{◌≡◌, Err, rules}
-use Rattle.verdict.specs.Loading.{unknown_table}
+use Rattle.verdict.specs.Loading.{all_items, unknown_table}
 use Rattle.verdict.specs.Staged.{NoTurn}
 use Rattle.verdict.specs.Stages.{Is, unless}
 use Rattle.verdict.specs.Verdict.{IsTabled}
@@ -8,20 +8,20 @@ use Rattle.input_load.specs.Turns.{IsTabledTurn}
 use Rattle.input_load.specs.Sought.{sought_shown}
 use Rattle.input_load.proofs.input.select_input.Goals as goal
 
-pub returns-in_err-entries : goal.returns-in_err-entries
-returns-in_err-entries g c =
-    let select = c.args.select.now in
+pub returns-in_err-entries-clause-staged : goal.returns-in_err-entries-clause-staged
+returns-in_err-entries-clause-staged g c =
+    let selects = c.args.selects.now in
     let steps = c.args.script.items in
     let sought = sought_shown c.args.sought.now in
     let e : c.from_residual.result ≡ Err c.in_err-entries.field-0.0 = search rules in
-    rw e (refusal_then (λ files. Is (unless (unknown_table sought.named select.items) select)) NoTurn (λ known files. IsTabled sought files known steps) (λ known files. IsTabledTurn sought files known)
-    _ _ _ (pure_staged (Is (unless (unknown_table sought.named select.items) select)) _ _ c.in_err-entries.ensures.known))
+    rw e (refusal_then (λ files. Is (unless (unknown_table sought.named (all_items selects)) selects)) NoTurn (λ known files. IsTabled sought files known steps) (λ known files. IsTabledTurn sought files known)
+    _ _ _ (pure_staged (Is (unless (unknown_table sought.named (all_items selects)) selects)) _ _ c.in_err-entries.ensures.known))
 
-pub returns : goal.returns
-returns g c =
-    let select = c.args.select.now in
+pub returns-clause-staged : goal.returns-clause-staged
+returns-clause-staged g c =
+    let selects = c.args.selects.now in
     let steps = c.args.script.items in
     let sought = sought_shown c.args.sought.now in
-    found_then (λ files. Is (unless (unknown_table sought.named select.items) select)) NoTurn (λ known files. IsTabled sought files known steps) (λ known files. IsTabledTurn sought files known)
-    _ _ _ select _ (pure_staged (Is (unless (unknown_table sought.named select.items) select)) _ _ c.in_ok-entries.ensures.known)
-    c.table_input.ensures
+    found_then (λ files. Is (unless (unknown_table sought.named (all_items selects)) selects)) NoTurn (λ known files. IsTabled sought files known steps) (λ known files. IsTabledTurn sought files known)
+    _ _ _ selects _ (pure_staged (Is (unless (unknown_table sought.named (all_items selects)) selects)) _ _ c.in_ok-entries.ensures.known)
+    c.table_input.ensures.staged

@@ -1,4 +1,4 @@
-use Rattle.std.proofs.Common.{◌≡◌, ◌∙◌, None, Some, map, ap, refl, subst}
+use Rattle.std.proofs.Common.{◌≡◌, ◌∙◌, None, Some, false, map, ap, refl, subst}
 use Rattle.cmd_words.specs.NamedPairs.{named_pair}
 use Rattle.make_input.specs.Input.{query_file, table_files}
 use Rattle.outer_io.specs.Files.{Files}
@@ -16,17 +16,20 @@ use Rattle.input_load.proofs.made.load_made.Goals as goal
 pub new-shelf-requires : goal.new-shelf-requires
 new-shelf-requires c = distinct-files _ c.args.made.now.number c.args.made.now.rows c.in_ok-made_shelf.ensures
 
-pub returns : goal.returns
-returns c =
+pub returns-clause-made : goal.returns-clause-made
+returns-clause-made c =
     let number = c.args.made.now.number in
     let rows = c.args.made.now.rows in
     let asked : Sought = sought_by (load number rows) in
     let names : map named_pair c.as_slice.result.now ≡ table_files = ap (map named_pair) c.as_slice.ensures.value ∙ c.args.made.now.names in
     let held : c.new-shelf.result.files ≡ made_files number rows = ap (λ (s : Holding). s.files) c.new-shelf.ensures ∙ c.in_ok-made_shelf.ensures in
-    let of : Named → Sought = λ named. record { query = query_file; script = None; named = named; best_of = None } in
+    let of : Named → Sought = λ named. record { query = query_file; several = false; script = None; named = named; best_of = None } in
     let P : Named → Type 0 = λ named. Fits (IsLoadedOn (of named)) (IsTurn (of named)) (Some c.new-shelf.result.files) (shown_input c.load_input.result) in
     let Q : Files → Type 0 = λ files. Fits (IsLoadedOn asked) (IsTurn asked) (Some files) (shown_input c.load_input.result) in
     let old : Shelved = record { files = Some c.new-shelf.result.files; misses = c.new-shelf.result.misses; faults = 0; taken = c.new-shelf.result.taken } in
     let new : Shelved = record { files = Some c.load_input.new.shelf.files; misses = c.load_input.new.shelf.misses; faults = 0; taken = c.load_input.new.shelf.taken } in
     pure-told (IsLoadedOn asked) (IsTurn asked) (made_files number rows) old new (shown_input c.load_input.result)
-    (made-none number rows c.args.made.now.few_rows (shown_input c.load_input.result)) (subst Q held (subst P names c.load_input.ensures.fits)) refl refl c.load_input.ensures.caused
+    (made-none number rows c.args.made.now.few_rows (shown_input c.load_input.result)) (subst Q held (subst P names c.load_input.ensures.staged.fits)) refl refl c.load_input.ensures.staged.caused
+
+pub returns-clause-alone : goal.returns-clause-alone
+returns-clause-alone c = c.load_input.ensures.alone refl

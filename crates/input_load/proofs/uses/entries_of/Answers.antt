@@ -1,27 +1,27 @@
-use Rattle.std.proofs.Common.{◌≡◌, ◌∙◌, None, [], ◌∷◌, map, option_map, sym, ap, rules}
-use Rattle.std.proofs.lemmas.List.{map-append}
+use Rattle.std.proofs.Common.{◌≡◌, ◌∙◌, Err, map, ap, rules, arith}
+use Rattle.std.proofs.lemmas.List.{take_all}
 use Rattle.cmd_words.specs.NamedPairs.{named_pair}
-use Rattle.verdict.specs.Loading.{unknown_table}
-use Rattle.verdict.specs.Stages.{unless}
-use Rattle.input_load.proofs.FirstUses.{entries-end, entries-more, found-entry, found-table, none-file}
+use Rattle.refusal_lines.specs.Refused.{reason_of}
+use Rattle.verdict.specs.Loading.{all_items, table_names}
+use Rattle.input_load.proofs.AllItems.{all-known, all-more, all-refused}
 use Rattle.input_load.proofs.uses.entries_of.Goals as goal
 
-pub returns-in_default-clause-known : goal.returns-in_default-clause-known
-returns-in_default-clause-known c =
-    let named = c.args.named.now in
-    let item = c.item-item.result in
-    let none : c.entry_of.result ≡ None = search rules in
-    let missing = none-file item.table named (rw c.bytes.ensures at (sym c.entry_of.ensures ∙ ap (option_map (λ e. e.now)) none)) in
-    let unknown = entries-end (map named_pair named) c.as_slice-items.result.now c.loop-item.item-index item _ c.loop-item-test.true c.item-item.is missing c.loop-item.invariant in
-    sym (ap (λ o. unless o c.args.select.now) (ap (λ items. unknown_table (map named_pair named) items) (sym c.as_slice-items.ensures) ∙ unknown))
+pub returns-in_err-add_entries-clause-known : goal.returns-in_err-add_entries-clause-known
+returns-in_err-add_entries-clause-known c =
+    let e : c.from_residual.result ≡ Err c.in_err-add_entries.field-0.0 = search rules in
+    rw e (all-refused (map named_pair c.args.named.now) c.args.selects.now c.loop-select.select-index c.select-item.result _ c.loop-select-test.true c.select-item.is
+    c.loop-select.invariant c.args.selects.now (reason_of c.in_err-add_entries.field-0.0) (rw c.as_slice.ensures at c.in_err-add_entries.ensures.known))
 
-pub loop-item-preserved : goal.loop-item-preserved
-loop-item-preserved c =
-    let named = c.args.named.now in
-    let item = c.item-item.result in
-    let entry = c.in-Some.entry.now in
-    let some = rw c.bytes.ensures at (sym c.entry_of.ensures ∙ ap (option_map (λ e. e.now)) c.in-Some.is) in
-    let pushed = ap (map (λ e. named_pair e.now)) c.in-Ok.ensures.items ∙ map-append (λ e. named_pair e.now) c.loop-item.entries.items (c.in-Some.entry ∷ []) in
-    rw pushed
-    (entries-more (map named_pair named) c.as_slice-items.result.now c.loop-item.item-index item _ (named_pair entry) c.loop-item-test.true c.item-item.is
-    (found-table item.table named entry some) (found-entry item.table named entry some) c.loop-item.invariant)
+pub loop-select-preserved : goal.loop-select-preserved
+loop-select-preserved c =
+    all-more (map named_pair c.args.named.now) c.args.selects.now c.loop-select.select-index c.select-item.result _ c.loop-select-test.true c.select-item.is
+    c.loop-select.invariant _ (rw c.as_slice.ensures at c.in_ok-add_entries.ensures.known) (rw c.as_slice.ensures at c.in_ok-add_entries.ensures.added)
+
+pub returns-clause-known : goal.returns-clause-known
+returns-clause-known c =
+    all-known (map named_pair c.args.named.now) c.args.selects.now c.loop-select.select-index _ c.args.selects.now (omega (arith, c.loop-select-test.false)) c.loop-select.invariant
+
+pub returns-clause-tables : goal.returns-clause-tables
+returns-clause-tables c =
+    c.loop-select.invariant.tables
+    ∙ ap (λ l. table_names (all_items l)) (take_all c.loop-select.select-index c.args.selects.now (omega (arith, c.loop-select-test.false)))
