@@ -3,7 +3,7 @@ use Rattle.std.proofs.Common.{◌≡◌, [], ℕ, List, Option, Some, None, IfSo
 use Rattle.std.specs.Io.KnownBytes.{Appends}
 use Rattle.outer_io.specs.Files.{Files}
 use Rattle.outer_io.specs.declared.writing.Unwritten.{Unwritten}
-use Rattle.query_grammar.specs.declared.select.Select.{Select}
+use Rattle.query_select.specs.declared.select.Select.{Select}
 use Rattle.rankings.specs.Order.{IsMember}
 use Rattle.refusal_lines.specs.declared.refusal.Refusal.{Refusal}
 use Rattle.refusal_lines.specs.Reason as reason
@@ -13,7 +13,7 @@ use Rattle.refusal_lines.specs.Sent.{GotPrefix, Sent}
 use Rattle.refusal_lines.specs.SinkState.{SinkState}
 use Rattle.input_load.specs.Turns.{IsTurn as IsLoadTurn}
 use Rattle.verdict.specs.Found.{Found}
-use Rattle.verdict.specs.Loading.{files_read, first_uses, unknown_table}
+use Rattle.verdict.specs.Loading.{all_items, files_read, first_uses, unknown_table}
 use Rattle.verdict.specs.Outcome.{GotAccepted, GotNothing, HasLine, IsReason, IsCaused, IsComplete, IsCut, IsTurn, IsTurnOf, Outcome, Outside, query_turn, script_turn, table_turn}
 use Rattle.verdict.specs.Made.{known_to}
 use Rattle.verdict.specs.Output.{output}
@@ -111,12 +111,12 @@ unless-ok (Some reason) a k e = cc
 turn-of : (sought : Sought) (files : Files) (name : List ℕ) → IsLoadTurn sought files name → IsTurnOf sought files name
 turn-of sought files name (first_turn is) = query_turn is
 turn-of sought files name (second_turn read (first_turn no_turn)) = absurd no_turn
-turn-of sought files name (second_turn read (second_turn parsed (first_turn is))) = script_turn (sym read) parsed is
+turn-of sought files name (second_turn read (second_turn {a = selects} parsed (first_turn is))) = script_turn selects (sym read) parsed is
 turn-of sought files name (second_turn read (second_turn parsed (second_turn said (first_turn no_turn)))) = absurd no_turn
-turn-of sought files name (second_turn read (second_turn {a = select} parsed (second_turn said (second_turn {a = known} all_known (first_turn member))))) =
-    let h = unless-ok (unknown_table sought.named select.items) select known all_known in
-    let P : Select → Type 0 = λ s. IsMember name (files_read files sought.named (first_uses s.items)) in
-    table_turn (sym read) parsed (sym said) h.0 (subst P h.1 member)
+turn-of sought files name (second_turn read (second_turn {a = selects} parsed (second_turn said (second_turn {a = known} all_known (first_turn member))))) =
+    let h = unless-ok (unknown_table sought.named (all_items selects)) selects known all_known in
+    let P : List Select → Type 0 = λ s. IsMember name (files_read files sought.named (first_uses (all_items s))) in
+    table_turn selects (sym read) parsed (sym said) h.0 (subst P h.1 member)
 turn-of sought files name (second_turn read (second_turn parsed (second_turn said (second_turn known (second_turn tables no_turn))))) = absurd no_turn
 
 turn-told : (sought : Sought) (told : Option Files) (name : List ℕ) → IfSome told (λ files. IsLoadTurn sought files name) → IfSome told (λ files. IsTurnOf sought files name)

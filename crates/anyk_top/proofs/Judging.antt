@@ -1,16 +1,15 @@
 -- From what is loaded, and its structure, to the verdict.
-use Rattle.std.proofs.Common.{◌≡◌, ℕ, List, Option, Some, None, IfSome, Result, Ok, Err, refl, subst, sym, ap, arith}
-use Rattle.hyper_graph.specs.Items.{items_of}
+use Rattle.std.proofs.Common.{◌≡◌, ◌∙◌, ℕ, List, [], ◌∷◌, length, Option, Some, None, IfSome, Result, Ok, Err, subst}
+use Rattle.std.proofs.Common.{sym, ap, arith}
+use Rattle.std.proofs.lemmas.List.{length-map}
+use Rattle.std.proofs.lemmas.List.Sums.{sum_by-cons}
+use Rattle.anyk_model.specs.Query.{Query}
+use Rattle.anyk_model.specs.Table.{Table}
 use Rattle.outer_io.specs.Files.{Files}
-use Rattle.plan_build.specs.Plan.{IsPlanOf, PlanData, TellsFlaw, shape_of}
-use Rattle.plan_build.specs.RankedPlan.{IsRankedPlan, fixed_key}
-use Rattle.plan_build.specs.declared.fault.PlanFault.{PlanFault}
-use Rattle.plan_build.specs.declared.fault.PlanFault.TheVariants as fault
-use Rattle.plan_build.specs.declared.ranked_plan.RankedPlan.{RankedPlan}
-use Rattle.plan_build.specs.declared.ranked_plan.RankedPlan.TheVariants.{Lex, Sum}
-use Rattle.query_shape.specs.Shape.{cyclic, too_many_rows}
-use Rattle.tdp_model.specs.KeyTuple.{KeyOf}
-use Rattle.input_load.specs.Input.{InputData, loaded_of}
+use Rattle.query_bind.specs.Weighed.{BoundQuery}
+use Rattle.query_shape.specs.Shape.{Shape}
+use Rattle.union_list.specs.Tagged.{branch_at}
+use Rattle.input_load.specs.Input.{InputData, loaded_of, queries_in}
 use Rattle.input_load.specs.Turns.{IsTurn}
 use Rattle.refusal_lines.specs.Reason.{Reason}
 use Rattle.step_bounds.specs.Bounded.{IsPrepared}
@@ -23,19 +22,20 @@ use Rattle.verdict.specs.Verdict.{IsLoaded, IsLoadedOn, IsShaped, IsVerdict}
 use Rattle.verdict.specs.Words.{Command, built, run, plan, session, load, sought_by}
 use Rattle.verdict.proofs.One.{one_loading}
 use Rattle.verdict.proofs.Staging.{found_within, pure_found, pure_refused, pure_staged, refusal_within}
-use Rattle.anyk_top.specs.Judged.{IsJudged, IsJudgedOn, IsLooked, IsLookedUp}
-use Rattle.anyk_top.specs.Planned.{IsEarlyWithin, plan_reason, shown_plan}
-use Rattle.plan_build.proofs.Rooted.{whole-of}
+use Rattle.anyk_top.specs.Judged.{HasOne, IsJudged, IsJudgedOn, IsLooked, IsLookedUp}
+use Rattle.anyk_top.specs.Planned.{ArePrepared, IsEarlyFor, IsEarlyWithin, preparation_of}
 
 -- a refusal while the input is read is that of the verdict
 up-refused : (command : Command) (old new : Shelved) (a : Reason)
     → ((files : Files) → IsLoadedOn (sought_by command) files (Err a) → IsVerdict (built command) files (Err a))
     → IsLookedUp (sought_by command) old new (Err a) → IsJudgedOn command old new (Err a)
 up-refused command old new a gives h =
-    refusal_within (IsLoadedOn (sought_by command)) (IsTurn (sought_by command)) (IsVerdict (built command)) (IsTurn (sought_by command)) old new a
+    refusal_within (IsLoadedOn (sought_by command)) (IsTurn (sought_by command)) (IsVerdict (built command))
+    (IsTurn (sought_by command)) old new a
     gives (λ files name turn. turn) h
 
-pub looked-refused : (command : Command) (old new : Shelved) (a : Reason) → IsLooked command old new (Err a) → IsJudged command old new (Err a)
+pub looked-refused : (command : Command) (old new : Shelved) (a : Reason) → IsLooked command old new (Err a)
+    → IsJudged command old new (Err a)
 looked-refused (run words) old new a h = up-refused (run words) old new a (λ files g. refused g) h
 looked-refused (plan words) old new a h = up-refused (plan words) old new a (λ files g. refused g) h
 looked-refused (session script words) old new a h = up-refused (session script words) old new a (λ files g. refused g) h
@@ -44,7 +44,8 @@ looked-refused (load number rows) old new a h =
 
 -- what is loaded and then has a structure has that verdict
 up-then : (command : Command) (old new : Shelved) (loaded : Loaded) (r : Result Found Reason)
-    → ((files : Files) → IsLoadedOn (sought_by command) files (Ok loaded) → IsShaped loaded r → IsVerdict (built command) files r)
+    → ((files : Files) → IsLoadedOn (sought_by command) files (Ok loaded) → IsShaped loaded r
+    → IsVerdict (built command) files r)
     → IsLookedUp (sought_by command) old new (Ok loaded) → Pure (IsShaped loaded) r → IsJudgedOn command old new r
 up-then command old new loaded r gives h shaped =
     found_within (IsLoadedOn (sought_by command)) (IsTurn (sought_by command)) (λ files. IsShaped loaded) NoTurn
@@ -53,9 +54,12 @@ up-then command old new loaded r gives h shaped =
 
 pub looked-then : (command : Command) (old new : Shelved) (loaded : Loaded) (r : Result Found Reason)
     → IsLooked command old new (Ok loaded) → Pure (IsShaped loaded) r → IsJudged command old new r
-looked-then (run words) old new loaded r h shaped = up-then (run words) old new loaded r (λ files g s. followed g s) h shaped
-looked-then (plan words) old new loaded r h shaped = up-then (plan words) old new loaded r (λ files g s. followed g s) h shaped
-looked-then (session script words) old new loaded r h shaped = up-then (session script words) old new loaded r (λ files g s. followed g s) h shaped
+looked-then (run words) old new loaded r h shaped =
+    up-then (run words) old new loaded r (λ files g s. followed g s) h shaped
+looked-then (plan words) old new loaded r h shaped =
+    up-then (plan words) old new loaded r (λ files g s. followed g s) h shaped
+looked-then (session script words) old new loaded r h shaped =
+    up-then (session script words) old new loaded r (λ files g s. followed g s) h shaped
 looked-then (load number rows) old new loaded r h shaped =
     (pure_found (IsLoadedOn (sought_by (load number rows)) (made_files number rows)) IsShaped loaded r h.0 shaped, h.1)
 
@@ -70,42 +74,63 @@ looked-loads (load number rows) old new loaded h = h.0
 
 pub early-still : (command : Command) (told : Option Files) (n : ℕ) → IsEarlyWithin command told n n
 early-still command None n = tt
-early-still command (Some files) n = λ found verdict. omega arith
+early-still command (Some files) n = λ found verdict. still command found
+  where
+    still : (command : Command) (found : Found) → IsEarlyFor command found n n
+    still (run words) found = omega arith
+    still (plan words) found = omega arith
+    still (session script words) found = omega arith
+    still (load number rows) found = omega arith
+
+-- the preparation of the only query
+one-prepared : (queries : List Query) (tables : List Table) (before now : ℕ) → length queries ≡ 1
+    → ArePrepared queries tables before now
+    → IsPrepared (branch_at queries 0) tables before now
+one-prepared [] tables before now one h = absurd (omega (arith, one))
+one-prepared (query ∷ []) tables before now one h =
+    let sum = sum_by-cons (preparation_of tables) query [] in omega (arith, h, sum)
+one-prepared (query ∷ other ∷ queries) tables before now one h = absurd (omega (arith, one))
+
+count-queries : (input : InputData) → length input.queries ≡ 1 → length (queries_in input.queries) ≡ 1
+count-queries input one = length-map input.queries (λ (q : BoundQuery). q.query) ∙ one
+
+input-prepared : (command : Command) (input : InputData) (shapes : List Shape) (before now : ℕ) → HasOne command input
+    → ArePrepared (queries_in input.queries) input.tables before now
+    → IsEarlyFor command (found_of (loaded_of input) shapes) before now
+input-prepared (run words) input shapes before now one h = h
+input-prepared (plan words) input shapes before now one h =
+    one-prepared (queries_in input.queries) input.tables before now (count-queries input one) h
+input-prepared (session script words) input shapes before now one h =
+    one-prepared (queries_in input.queries) input.tables before now (count-queries input one) h
+input-prepared (load number rows) input shapes before now one h =
+    one-prepared (queries_in input.queries) input.tables before now (count-queries input one) h
 
 same-loaded : {a b : Loaded} → ◌≡◌ {A = Result Loaded Reason} (Ok a) (Ok b) → a ≡ b
 same-loaded e = cc
 
-accepted-prepared : (command : Command) (files : Files) (loaded : Loaded) (before now : ℕ) → IsLoaded (built command) files (Ok loaded)
-    → IsPrepared loaded.query loaded.tables before now
-    → (found : Found) → IsVerdict (built command) files (Ok found) → IsPrepared found.query found.tables before now
-accepted-prepared command files loaded before now h prepared found (followed {a} loads shaped) =
-    let same = same-loaded (one_loading (built command) files (Ok loaded) (Ok a) h loads) in
-    let of_a : IsPrepared a.query a.tables before now = subst (λ l. IsPrepared l.query l.tables before now) same prepared in
-    subst (λ f. IsPrepared f.query f.tables before now) (sym shaped.same) of_a
+same-found : {a b : Found} → ◌≡◌ {A = Result Found Reason} (Ok a) (Ok b) → a ≡ b
+same-found e = cc
 
-pub early-prepared : (command : Command) (old new : Shelved) (loaded : Loaded) (before now : ℕ) → IsLooked command old new (Ok loaded)
-    → IsPrepared loaded.query loaded.tables before now → IsEarlyWithin command (known_to (built command) old.files) before now
-early-prepared command old new loaded before now h prepared = by (known_to (built command) old.files) (looked-loads command old new loaded h)
+accepted-prepared : (command : Command) (files : Files) (input : InputData) (before now : ℕ)
+    → IsLoaded (built command) files (Ok (loaded_of input))
+    → HasOne command input → ArePrepared (queries_in input.queries) input.tables before now
+    → (found : Found) → IsVerdict (built command) files (Ok found) → IsEarlyFor command found before now
+accepted-prepared command files input before now h one prepared found
+    (followed {a = loaded} loads (followed {a = shapes} are same)) =
+    let is_input = same-loaded (one_loading (built command) files (Ok (loaded_of input)) (Ok loaded) h loads) in
+    let whole : found_of (loaded_of input) shapes ≡ found =
+    ap (λ (l : Loaded). found_of l shapes) is_input ∙ sym (same-found same) in
+    subst (λ (f : Found). IsEarlyFor command f before now) whole
+    (input-prepared command input shapes before now one prepared)
+
+pub early-prepared : (command : Command) (old new : Shelved) (input : InputData) (before now : ℕ)
+    → IsLooked command old new (Ok (loaded_of input))
+    → HasOne command input → ArePrepared (queries_in input.queries) input.tables before now
+    → IsEarlyWithin command (known_to (built command) old.files) before now
+early-prepared command old new input before now h one prepared =
+    by (known_to (built command) old.files) (looked-loads command old new (loaded_of input) h)
   where
-    by : (told : Option Files) → IfSome told (λ files. IsLoaded (built command) files (Ok loaded)) → IsEarlyWithin command told before now
+    by : (told : Option Files) → IfSome told (λ files. IsLoaded (built command) files (Ok (loaded_of input)))
+        → IsEarlyWithin command told before now
     by None loads = tt
-    by (Some files) loads = accepted-prepared command files loaded before now loads prepared
-
--- ---- the structure that a plan shows
-
-plan-accepted : {R : Type 0} (d : ℕ) (key : R → KeyOf d 16) (input : InputData) (made : PlanData R) → IsPlanOf d key input.query input.tables input.best made
-    → IsShaped (loaded_of input) (Ok (found_of (loaded_of input) (shape_of made)))
-plan-accepted d key input made is =
-    let whole = whole-of d key input.query input.tables input.best made is in
-    record { shape = whole.shape; is_shape = whole.is_shape; same = ap (found_of (loaded_of input)) (sym whole.shown) }
-
-pub planned-shown : (input : InputData) (made : RankedPlan) → IsRankedPlan input.query input.tables input.best made
-    → Pure (IsShaped (loaded_of input)) (shown_plan (loaded_of input) (Ok made))
-planned-shown input (Sum made) is = plan-accepted 1 (fixed_key 1) input made is
-planned-shown input (Lex made) is = plan-accepted 8 (fixed_key 8) input made is
-
-pub flawed-shown : (input : InputData) (fault : PlanFault) → TellsFlaw input.query.query input.tables fault
-    → Pure (IsShaped (loaded_of input)) (Err (plan_reason fault))
-flawed-shown input fault.NoMemory tells = tt
-flawed-shown input (fault.Cyclic core) tells = record { flaw = cyclic (items_of core); is_flaw = tells; told = refl }
-flawed-shown input (fault.TooManyRows most) tells = record { flaw = too_many_rows; is_flaw = tells.1; told = refl }
+    by (Some files) loads = accepted-prepared command files input before now loads one prepared

@@ -3,3 +3,5 @@ pub mod Left
 pub mod Ends
 pub mod Judging
 pub mod Bounds
+pub mod PlanList
+pub mod UnionRun

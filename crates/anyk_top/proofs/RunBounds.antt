@@ -42,7 +42,7 @@ module _ {R : Type 0} (d : ℕ) (key : R → KeyOf d 16) (query : Query) (tables
         omega (arith, first, second, more, all, engine)
 
     -- with this many calls
-    called : (before prepared made now calls : ℕ) → prepared ≤ before + 16 * (length query.items * length query.items * (1 + table_total))
+    pub called : (before prepared made now calls : ℕ) → prepared ≤ before + 16 * (length query.items * length query.items * (1 + table_total))
         → made ≤ prepared + 16 * (length plan.tree * (1 + row_count plan.tree)) → now ≤ made + steps_for (λ n. share_of (size_of plan.tree) (0 + n)) calls
         → now ≤ before + cost_over query tables shape calls
     called before prepared made now calls first second third =

@@ -1,5 +1,6 @@
 -- What reading the input of a command and planning its query give.
-use Rattle.std.specs.Prelude.{◌≡◌, ℕ, List, [], Option, Result}
+use Rattle.std.specs.Prelude.{◌≡◌, ℕ, Bool, List, [], Option, Result, length}
+use Rattle.input_load.specs.Input.{InputData}
 use Rattle.input_load.specs.Turns.{IsTurn}
 use Rattle.refusal_lines.specs.Reason.{Reason}
 use Rattle.verdict.specs.Found.{Found}
@@ -9,9 +10,10 @@ use Rattle.verdict.specs.Staged.{Pure, Shelved, Staged}
 use Rattle.verdict.specs.Verdict.{IsLoadedOn, IsVerdict}
 use Rattle.verdict.specs.Words.{Command, Sought, Words, built, run, plan, session, load, sought_by}
 
--- what words name, with this script and this alias
-abbrev pub sought_in : Words → Option (List ℕ) → Option (List ℕ) → Sought
-sought_in words script best_of = record { query = words.query; script = script; named = words.tables; best_of = best_of }
+-- what words name, with several branches if they are allowed, and with this script and this alias
+abbrev pub sought_in : Words → Bool → Option (List ℕ) → Option (List ℕ) → Sought
+sought_in words several script best_of =
+    record { query = words.query; several = several; script = script; named = words.tables; best_of = best_of }
 
 -- the input that the files of the shelf have, or a cause on the way
 abbrev pub IsLookedUp : Sought → Shelved → Shelved → Result Loaded Reason → Type 0
@@ -24,6 +26,13 @@ IsLooked (plan words) old new result = IsLookedUp (sought_by (plan words)) old n
 IsLooked (session script words) old new result = IsLookedUp (sought_by (session script words)) old new result
 IsLooked (load number rows) old new result =
     Pure (IsLoadedOn (sought_by (load number rows)) (made_files number rows)) result × (new ≡ old)
+
+-- there is one query, unless the command is `run`
+abbrev pub HasOne : Command → InputData → Type 0
+HasOne (run words) input = Unit {0}
+HasOne (plan words) input = length input.queries ≡ 1
+HasOne (session script words) input = length input.queries ≡ 1
+HasOne (load number rows) input = length input.queries ≡ 1
 
 -- the verdict on the files of the shelf, or a cause on the way
 abbrev pub IsJudgedOn : Command → Shelved → Shelved → Result Found Reason → Type 0

@@ -1,7 +1,7 @@
 //! A command, from its input to its output.
-ghost use Rattle.std.specs.Prelude.{◌≤◌, [], IfErr, None, OnOk, ℕ};
+ghost use Rattle.std.specs.Prelude.{◌<◌, ◌≤◌, [], ◌∷◌, IfErr, None, OnOk, length, ℕ};
+ghost use Rattle.input_load.specs.Input.{loaded_of, queries_in};
 ghost use Rattle.plan_build.specs.Plan.{IsPlanOf, shape_of};
-ghost use Rattle.plan_build.specs.RankedPlan.{IsRankedPlan};
 ghost use Rattle.query_bind.specs.Weighed.{Fits};
 ghost use Rattle.refusal_lines.specs.Printed.{Printed};
 ghost use Rattle.refusal_lines.specs.Refused.{reason_of};
@@ -9,22 +9,27 @@ ghost use Rattle.refusal_lines.specs.SinkState.{state_of};
 ghost use Rattle.session_script.specs.Script.{KeepsRules};
 ghost use Rattle.step_bounds.specs.Bounded.{IsPrepared};
 ghost use Rattle.verdict.specs.Bound.{IsBounded, IsPaced, IsPrompt, IsWithin};
+ghost use Rattle.verdict.specs.Found.{found_of};
 ghost use Rattle.verdict.specs.Made.{known_to};
 ghost use Rattle.verdict.specs.Outcome.{IsReason, IsCaused, IsComplete, IsCut};
 ghost use Rattle.verdict.specs.Output.{output};
 ghost use Rattle.verdict.specs.Words.{built};
-ghost use Rattle.anyk_top.specs.Planned.{found_by, found_in};
+ghost use Rattle.anyk_top.specs.Judged.{HasOne};
+ghost use Rattle.anyk_top.specs.Planned.{ArePlans, ArePrepared, HavePlans, IsOnePlan, found_by};
+ghost use Rattle.anyk_top.specs.Planned.{found_in, shape_in, shapes_of};
 ghost use Rattle.anyk_top.specs.Requests.{command_of};
 ghost use Rattle.anyk_top.specs.Sides.{seen_by};
 
 use crate::load::print_load;
 use crate::plan::print_report;
-use crate::planning::{Planned, plan_request};
+use crate::planning::{Planned, Plans, plan_request};
 use crate::request::Request;
 use crate::run::print_run;
 use crate::session::print_script;
+use crate::union::print_union_run;
 use csv_tables::Tables;
 use hash_keys::Keys;
+use input_load::Input;
 use outer_io::{Shelf, Sink};
 use plan_build::{Plan, RankedPlan};
 use query_bind::Query;
@@ -68,7 +73,7 @@ pub(crate) fn answer<'a, F: Shelf, S: Sink, L: Ledger>(
     print_planned(alloc, request, &planned, out, steps)
 }
 
-// Prints the output, with the rank type of the plan.
+// Prints the output, with the rank type of the plans.
 fn print_planned<'a, S: Sink, L: Ledger>(
     alloc: Global,
     request: &Request,
@@ -76,17 +81,49 @@ fn print_planned<'a, S: Sink, L: Ledger>(
     out: &mut S,
     steps: &mut Steps<L>,
 ) -> Result<(), Refusal<'a>>
-    requires plan { IsRankedPlan planned.now.input.query planned.now.input.tables planned.now.input.best
-        planned.now.plan }
+    requires plans { ArePlans planned.now.input planned.now.plans }
+    requires alone { HasOne (command_of request.now) planned.now.input }
     ensures printed { Printed (state_of S.Sink out.old) (state_of S.Sink out.new)
         (output (command_of request.now) (found_in planned.now)) result }
-    ensures bounded { (before : ℕ) → IsPrepared planned.now.input.query.query planned.now.input.tables before steps.old
+    ensures bounded { (before : ℕ)
+        → ArePrepared (queries_in planned.now.input.queries) planned.now.input.tables before steps.old
         → IsWithin (command_of request.now) (found_in planned.now) before steps.new }
-    ensures paced { (before : ℕ) → IsPrepared planned.now.input.query.query planned.now.input.tables before steps.old
-        → IsPaced (command_of request.now) (found_in planned.now) (S.written out.old) (S.written out.new) before steps.new }
+    ensures paced { (before : ℕ)
+        → ArePrepared (queries_in planned.now.input.queries) planned.now.input.tables before steps.old
+        → IsPaced (command_of request.now) (found_in planned.now)
+        (S.written out.old) (S.written out.new) before steps.new }
 {
-    let Planned { input, plan } = planned;
-    let query = &input.query;
+    let Planned { input, plans } = planned;
+    match plans {
+        Plans::One(plan) => print_one(alloc, request, plan, input, out, steps),
+        Plans::Sums(plans) => {
+            print_branches(alloc, request, plans.as_slice(), input, out, steps)
+        }
+        Plans::Lexes(plans) => {
+            print_branches(alloc, request, plans.as_slice(), input, out, steps)
+        }
+    }
+}
+
+// Prints the output over one query, with the rank type of its plan.
+fn print_one<'a, S: Sink, L: Ledger>(
+    alloc: Global,
+    request: &Request,
+    plan: &RankedPlan,
+    input: &Input,
+    out: &mut S,
+    steps: &mut Steps<L>,
+) -> Result<(), Refusal<'a>>
+    requires plan { IsOnePlan input.now.queries input.now.tables input.now.best plan.now }
+    ensures printed { Printed (state_of S.Sink out.old) (state_of S.Sink out.new)
+        (output (command_of request.now) (found_of (loaded_of input.now) (shape_in plan.now ∷ []))) result }
+    ensures bounded { (before : ℕ) → ArePrepared (queries_in input.now.queries) input.now.tables before steps.old
+        → IsWithin (command_of request.now) (found_of (loaded_of input.now) (shape_in plan.now ∷ [])) before steps.new }
+    ensures paced { (before : ℕ) → ArePrepared (queries_in input.now.queries) input.now.tables before steps.old
+        → IsPaced (command_of request.now) (found_of (loaded_of input.now) (shape_in plan.now ∷ []))
+        (S.written out.old) (S.written out.new) before steps.new }
+{
+    let query = &input.queries[0];
     let tables = &input.tables;
     let script = input.script.as_slice();
     match plan {
@@ -96,6 +133,35 @@ fn print_planned<'a, S: Sink, L: Ledger>(
         RankedPlan::Lex(plan) => print_output(
             alloc, request, plan, query, tables, input.best, script, out, steps,
         ),
+    }
+}
+
+// Prints the output over several queries, which only `run` may have.
+fn print_branches<'a, R: Rank, S: Sink, L: Ledger>(
+    alloc: Global,
+    request: &Request,
+    plans: &[Plan<R>],
+    input: &Input,
+    out: &mut S,
+    steps: &mut Steps<L>,
+) -> Result<(), Refusal<'a>>
+    requires several { 1 < length input.now.queries }
+    requires alone { HasOne (command_of request.now) input.now }
+    requires plans { HavePlans R.KEYS R.key input.now.tables input.now.queries plans.now }
+    ensures printed { Printed (state_of S.Sink out.old) (state_of S.Sink out.new)
+        (output (command_of request.now) (found_of (loaded_of input.now) (shapes_of plans.now))) result }
+    ensures bounded { (before : ℕ) → ArePrepared (queries_in input.now.queries) input.now.tables before steps.old
+        → IsWithin (command_of request.now) (found_of (loaded_of input.now) (shapes_of plans.now)) before steps.new }
+    ensures paced { (before : ℕ) → ArePrepared (queries_in input.now.queries) input.now.tables before steps.old
+        → IsPaced (command_of request.now) (found_of (loaded_of input.now) (shapes_of plans.now))
+        (S.written out.old) (S.written out.new) before steps.new }
+{
+    match request {
+        Request::Run(words) => {
+            let queries = input.queries.as_slice();
+            print_union_run(alloc, words, plans, queries, &input.tables, out, steps)
+        }
+        _ => Err(Refusal::NoMemory),
     }
 }
 

@@ -15,5 +15,6 @@ mod request;
 mod run;
 mod session;
 mod top;
+mod union;
 
 pub use top::{run_keyed, run_uncounted, run_words};

@@ -1,11 +1,11 @@
 //! The input of a request.
-ghost use Rattle.std.specs.Prelude.{◌≡◌, Option, option_map};
+ghost use Rattle.std.specs.Prelude.{◌≡◌, false, IfOk, Option, length, option_map};
 ghost use Rattle.std.specs.String.{string_bytes};
 ghost use Rattle.cmd_words.specs.Said.{seen_words};
 ghost use Rattle.input_load.specs.Shown.{shown_input};
 ghost use Rattle.verdict.specs.Staged.{shelved};
 ghost use Rattle.anyk_top.specs.Asked.{words_of};
-ghost use Rattle.anyk_top.specs.Judged.{IsLooked, IsLookedUp, sought_in};
+ghost use Rattle.anyk_top.specs.Judged.{HasOne, IsLooked, IsLookedUp, sought_in};
 ghost use Rattle.anyk_top.specs.Requests.{command_of};
 
 use crate::request::Request;
@@ -17,22 +17,34 @@ use refusal_lines::Refusal;
 use std::alloc::Global;
 
 /// The input of the request, or its first refusal. It is read from the files of the shelf that the
-/// words name, or it is the tables that are made.
+/// words name, or it is the tables that are made. Only `run` may have several queries.
 pub(crate) fn look_at<'a, F: Shelf>(
     alloc: Global,
     request: &'a Request,
     shelf: &mut F,
     keys: Keys,
 ) -> Result<Input, Refusal<'a>>
-    ensures { IsLooked (command_of request.now)
+    ensures looked { IsLooked (command_of request.now)
         (shelved F.Shelf shelf.old) (shelved F.Shelf shelf.new) (shown_input result) }
+    ensures alone { IfOk result (HasOne (command_of request.now)) }
 {
     match request {
-        Request::Run(words) => look_up(alloc, words, None, text_of(&words.best_of), shelf, keys),
-        Request::Plan(words) => look_up(alloc, words, None, None, shelf, keys),
+        Request::Run(words) => {
+            look_up(
+                alloc,
+                words,
+                true,
+                None,
+                text_of(&words.best_of),
+                shelf,
+                keys,
+            )
+        }
+        Request::Plan(words) => look_up(alloc, words, false, None, None, shelf, keys),
         Request::Session(script, words) => look_up(
             alloc,
             words,
+            false,
             Some(script.as_str()),
             text_of(&words.best_of),
             shelf,
@@ -52,21 +64,24 @@ fn text_of(text: &Option<String>) -> Option<&str>
     }
 }
 
-// The input that is in the files of the shelf.
+// The input that is in the files of the shelf. It has one query if several are not allowed.
 fn look_up<'a, F: Shelf>(
     alloc: Global,
     words: &'a Words,
+    several: bool,
     script: Option<&'a str>,
     best_of: Option<&'a str>,
     shelf: &mut F,
     keys: Keys,
 ) -> Result<Input, Refusal<'a>>
-    ensures { IsLookedUp (sought_in (words_of (seen_words words.now)) (option_map (λ t. t.now) script.entry)
-        (option_map (λ t. t.now) best_of.entry))
+    ensures looked { IsLookedUp (sought_in (words_of (seen_words words.now)) several
+        (option_map (λ t. t.now) script.entry) (option_map (λ t. t.now) best_of.entry))
         (shelved F.Shelf shelf.old) (shelved F.Shelf shelf.new) (shown_input result) }
+    ensures alone { several ≡ false → IfOk result (λ input. length input.queries ≡ 1) }
 {
     let sought = Sought {
         query: words.query.as_str(),
+        several,
         script,
         named: words.tables.as_slice(),
         best_of,

@@ -1,8 +1,11 @@
-use Rattle.std.proofs.Common.{sym}
 use Rattle.anyk_top.proofs.answering.print_planned.Goals as goal
 
-pub print_output-requires-clause-plan : goal.print_output-requires-clause-plan
-print_output-requires-clause-plan g c = rw (c.in-Sum.is, sym c.input.view_is) at c.requires.plan
+pub returns-in-One-clause-bounded : goal.returns-in-One-clause-bounded
+returns-in-One-clause-bounded g c = rw c.in-One.is c.print_one.ensures.bounded
 
-pub print_output-requires-in-Lex-clause-plan : goal.print_output-requires-in-Lex-clause-plan
-print_output-requires-in-Lex-clause-plan g c = rw (c.in-Lex.is, sym c.input.view_is) at c.requires.plan
+pub returns-in-Sums-clause-bounded : goal.returns-in-Sums-clause-bounded
+returns-in-Sums-clause-bounded g c = rw c.in-Sums.is (rw c.as_slice.ensures.value at c.print_branches.ensures.bounded)
+
+pub returns-in-Lexes-clause-bounded : goal.returns-in-Lexes-clause-bounded
+returns-in-Lexes-clause-bounded g c =
+    rw c.in-Lexes.is (rw c.as_slice-in-Lexes.ensures.value at c.print_branches-in-Lexes.ensures.bounded)

@@ -1,14 +1,11 @@
-use Rattle.std.proofs.Common.{◌≡◌, None, Some, List, Option, ℕ, Result, Ok, Err, IfOk, refl, sym, subst}
+use Rattle.std.proofs.Common.{List, Option, ℕ, subst}
 use Rattle.std.proofs.lemmas.Result.{IfOk-weaker}
-use Rattle.anyk_model.specs.Table.{Table}
 use Rattle.engine_choice.specs.Chosen.{rest_of}
 use Rattle.plan_build.specs.Plan.{IsPlanOf}
-use Rattle.query_bind.specs.Weighed.{BoundQuery}
 use Rattle.tdp_core.specs.Solutions.{IsTreeRanking}
 use Rattle.tdp_core.specs.TreeData.{NodeData}
 use Rattle.tdp_core.specs.WellFormed.{IsFormed}
 use Rattle.tree_dp.specs.BestRanking.{IsBestRanking}
-use Rattle.anyk_top.specs.Begun.{IsAskedList}
 use Rattle.anyk_top.proofs.Left.{best-left, ranking-left}
 use Rattle.anyk_top.proofs.engine.engine_over.Goals as goal
 

@@ -1,14 +1,33 @@
-use Rattle.std.proofs.Common.{refl}
+use Rattle.std.proofs.Common.{Result, Ok, Err, IfOk, refl}
+use Rattle.input_load.specs.Input.{InputData}
+use Rattle.refusal_lines.specs.declared.refusal.Refusal.{Refusal}
 use Rattle.anyk_top.proofs.looking.look_at.Goals as goal
 
-pub returns-in-Run : goal.returns-in-Run
-returns-in-Run g c = rw c.in-Run.is (rw c.text_of.ensures at c.look_up.ensures)
+-- nothing is asked of the number of queries
+any-count : (r : Result InputData Refusal) → IfOk r (λ input. Unit {0})
+any-count (Ok input) = tt
+any-count (Err refusal) = tt
 
-pub returns-in-Plan : goal.returns-in-Plan
-returns-in-Plan g c = rw c.in-Plan.is c.look_up-in-Plan.ensures
+pub returns-in-Run-clause-looked : goal.returns-in-Run-clause-looked
+returns-in-Run-clause-looked g c = rw c.in-Run.is (rw c.text_of.ensures at c.look_up.ensures.looked)
 
-pub returns-in-Session : goal.returns-in-Session
-returns-in-Session g c = rw c.in-Session.is (rw (c.as_str.ensures.value, c.text_of-in-Session.ensures) at c.look_up-in-Session.ensures)
+pub returns-in-Run-clause-alone : goal.returns-in-Run-clause-alone
+returns-in-Run-clause-alone g c = rw c.in-Run.is (any-count c.look_up.result)
 
-pub returns-in-Load : goal.returns-in-Load
-returns-in-Load g c = rw c.in-Load.is (c.load_made.ensures, refl)
+pub returns-in-Plan-clause-looked : goal.returns-in-Plan-clause-looked
+returns-in-Plan-clause-looked g c = rw c.in-Plan.is c.look_up-in-Plan.ensures.looked
+
+pub returns-in-Plan-clause-alone : goal.returns-in-Plan-clause-alone
+returns-in-Plan-clause-alone g c = rw c.in-Plan.is (c.look_up-in-Plan.ensures.alone refl)
+
+pub returns-in-Session-clause-looked : goal.returns-in-Session-clause-looked
+returns-in-Session-clause-looked g c = rw c.in-Session.is (rw (c.as_str.ensures.value, c.text_of-in-Session.ensures) at c.look_up-in-Session.ensures.looked)
+
+pub returns-in-Session-clause-alone : goal.returns-in-Session-clause-alone
+returns-in-Session-clause-alone g c = rw c.in-Session.is (c.look_up-in-Session.ensures.alone refl)
+
+pub returns-in-Load-clause-looked : goal.returns-in-Load-clause-looked
+returns-in-Load-clause-looked g c = rw c.in-Load.is (c.load_made.ensures.made, refl)
+
+pub returns-in-Load-clause-alone : goal.returns-in-Load-clause-alone
+returns-in-Load-clause-alone g c = rw c.in-Load.is c.load_made.ensures.alone

@@ -1,4 +1,4 @@
-use Rattle.std.proofs.Common.{None, map}
+use Rattle.std.proofs.Common.{map}
 use Rattle.std.specs.String.{string_bytes}
 use Rattle.cmd_words.specs.Commands.{said_of}
 use Rattle.anyk_top.specs.Asked.{asked_of}

@@ -1,0 +1,84 @@
+use Rattle.std.proofs.Common.{◌<◌, ℕ, List, length, sym, subst}
+use Rattle.cmd_words.specs.Said.{seen_words}
+use Rattle.refusal_lines.specs.Printed.{Printed}
+use Rattle.refusal_lines.specs.SinkState.{state_of}
+use Rattle.input_load.specs.Input.{InputData, loaded_of, queries_in}
+use Rattle.verdict.specs.Bound.{IsPaced, IsWithin}
+use Rattle.verdict.specs.Found.{found_of}
+use Rattle.verdict.specs.Output.{output}
+use Rattle.verdict.specs.Words.{run}
+use Rattle.anyk_top.specs.Asked.{words_of}
+use Rattle.anyk_top.specs.Planned.{ArePrepared, HavePlans, shapes_of}
+use Rattle.anyk_top.proofs.Bounds.{several-output, several-paced, several-within}
+use Rattle.anyk_top.proofs.PlanList.{plans-shaped}
+use Rattle.anyk_top.proofs.answering.print_branches.Goals as goal
+
+pub returns-in-Run-clause-printed : goal.returns-in-Run-clause-printed
+returns-in-Run-clause-printed g c =
+    let input : InputData =
+    record {
+      queries = c.input.inside.queries.items;
+      tables = c.input.inside.tables;
+      best = c.input.inside.best;
+      steps = c.input.inside.script.items;
+    } in
+    let words = words_of (seen_words c.in-Run.words) in
+    let shapes = shapes_of c.args.plans.now in
+    let more : 1 < length input.queries =
+    subst (λ (i : InputData). 1 < length i.queries) (sym c.input.view_is) c.requires.several in
+    let P = λ (text : List ℕ). Printed (state_of g.S.Sink c.args.out.now)
+    (state_of g.S.Sink c.print_union_run.new.out) text c.print_union_run.result in
+    let own : P (output (run words) (found_of (loaded_of input) shapes)) =
+    subst P (sym (several-output words input shapes more))
+    (rw c.as_slice-queries.ensures.value at c.print_union_run.ensures.printed) in
+    rw c.in-Run.is (subst (λ (i : InputData). P (output (run words) (found_of (loaded_of i) shapes))) c.input.view_is
+    own)
+
+pub returns-in-Run-clause-bounded : goal.returns-in-Run-clause-bounded
+returns-in-Run-clause-bounded g c =
+    let input : InputData =
+    record {
+      queries = c.input.inside.queries.items;
+      tables = c.input.inside.tables;
+      best = c.input.inside.best;
+      steps = c.input.inside.script.items;
+    } in
+    let words = words_of (seen_words c.in-Run.words) in
+    let shapes = shapes_of c.args.plans.now in
+    let more : 1 < length input.queries =
+    subst (λ (i : InputData). 1 < length i.queries) (sym c.input.view_is) c.requires.several in
+    let have = subst (λ (i : InputData). HavePlans g.R.Rank.KEYS g.R.Rank.key i.tables i.queries c.args.plans.now)
+    (sym c.input.view_is) c.requires.plans in
+    let has = plans-shaped g.R.Rank.KEYS g.R.Rank.key input.tables input.queries c.args.plans.now have in
+    let spent = rw c.as_slice-queries.ensures.value at c.print_union_run.ensures.bounded in
+    let P = λ (i : InputData). (before : ℕ) → ArePrepared (queries_in i.queries) i.tables before c.args.steps.now
+    → IsWithin (run words) (found_of (loaded_of i) shapes) before c.print_union_run.new.steps in
+    let own : P input = λ before prepared.
+    several-within words input shapes before c.print_union_run.new.steps more (spent before prepared shapes has) in
+    rw c.in-Run.is (subst P c.input.view_is own)
+
+pub returns-in-Run-clause-paced : goal.returns-in-Run-clause-paced
+returns-in-Run-clause-paced g c =
+    let input : InputData =
+    record {
+      queries = c.input.inside.queries.items;
+      tables = c.input.inside.tables;
+      best = c.input.inside.best;
+      steps = c.input.inside.script.items;
+    } in
+    let words = words_of (seen_words c.in-Run.words) in
+    let shapes = shapes_of c.args.plans.now in
+    let more : 1 < length input.queries =
+    subst (λ (i : InputData). 1 < length i.queries) (sym c.input.view_is) c.requires.several in
+    let have = subst (λ (i : InputData). HavePlans g.R.Rank.KEYS g.R.Rank.key i.tables i.queries c.args.plans.now)
+    (sym c.input.view_is) c.requires.plans in
+    let has = plans-shaped g.R.Rank.KEYS g.R.Rank.key input.tables input.queries c.args.plans.now have in
+    let spent = rw c.as_slice-queries.ensures.value at c.print_union_run.ensures.paced in
+    let old = g.S.Sink.written c.args.out.now in
+    let new = g.S.Sink.written c.print_union_run.new.out in
+    let P = λ (i : InputData). (before : ℕ) → ArePrepared (queries_in i.queries) i.tables before c.args.steps.now
+    → IsPaced (run words) (found_of (loaded_of i) shapes) old new before c.print_union_run.new.steps in
+    let own : P input = λ before prepared.
+    several-paced words input shapes old new before c.print_union_run.new.steps more
+    (spent before prepared shapes has) in
+    rw c.in-Run.is (subst P c.input.view_is own)
