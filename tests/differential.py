@@ -10,8 +10,11 @@ evaluation here goes through all combinations of rows, keeps those for which eve
 cuts at the limit. A query is cyclic if ears are removed,
 the greatest first, until none is left, and more than one item is left; it is refused with these items. `plan` is called on the
 same input, and its report is made from the same removal. So is `session`, with a script of its own. `run` and `session` are called
-with each engine. Output, error output and status are compared to the byte. After that come inputs with their output, and inputs
-that are refused, each with its line and status.
+with each engine. Output, error output and status are compared to the byte.
+
+Each seed also gives a union of one to three queries over the same tables. Its answers are those of all its queries, sorted by the sums,
+then by the number of the query, and then by the row numbers. `run` is called on it with each engine. `plan` and `session` take no union,
+and refuse it at the word. After that come inputs with their output, and inputs that are refused, each with its line and status.
 """
 import itertools
 import os
@@ -27,6 +30,7 @@ COLUMN_NAMES = ["a", "b", "c", "k", "A", "two words", "limit", "søk", "x,y", ""
 WEIGHT_NAMES = ["w", "v", "price", "W", "by"]
 TEXTS = ["x", "y", "x", "z", "", "1", "01", "-1", "a,b", 'q"q', "it's", "two\nlines", "é", "x "]
 WEIGHTS = ["0", "1", "2", "2", "3", "-1", "-3", "+2", "007", "-0", "", "10" + "0" * 36, "-1" + "0" * 36]
+LIMITS = [None, None, 0, 1, 2, 5, 20, 18446744073709551615]
 
 
 # ---- csv
@@ -125,6 +129,17 @@ class Case:
         self.tables = {}
         for name in rng.sample(TABLE_NAMES, rng.randint(1, 3)):
             self.tables[name] = self.table()
+        self.draw_query()
+        self.limit = rng.choice(LIMITS)
+        self.ranks, self.rows = rng.random() < 0.5, rng.random() < 0.5
+        # (the item of which each row's best answer is asked for, drawn apart)
+        apart = random.Random(f"best of {seed}")
+        self.best = apart.randrange(len(self.items)) if apart.random() < 0.5 else None
+        self.best_joined = apart.random() < 0.3
+
+    def draw_query(self):
+        """The items, columns, equalities and order keys."""
+        rng = self.rng
         self.items = []
         for _ in range(rng.choice([1, 2, 2, 2, 3, 3, 4])):
             self.items.append(self.item())
@@ -142,12 +157,6 @@ class Case:
         for _ in range(rng.choice([0, 0, 1, 1, 2])):
             self.where.append(self.equality(None))
         self.keys = [it for it in (self.key() for _ in range(rng.choice([0, 1, 1, 1, 2, 3]))) if it]
-        self.limit = rng.choice([None, None, 0, 1, 2, 5, 20, 18446744073709551615])
-        self.ranks, self.rows = rng.random() < 0.5, rng.random() < 0.5
-        # (the item of which each row's best answer is asked for, drawn apart)
-        apart = random.Random(f"best of {seed}")
-        self.best = apart.randrange(len(self.items)) if apart.random() < 0.5 else None
-        self.best_joined = apart.random() < 0.3
 
     def table(self):
         rng = self.rng
@@ -251,7 +260,8 @@ class Case:
             tokens += [self.word("and")] * (at > 0) + self.equality_tokens(it)
         return tokens
 
-    def tokens(self):
+    def query_tokens(self):
+        """The tokens up to the limit."""
         rng = self.rng
         tokens = [self.word("select")]
         if self.list is None:
@@ -281,20 +291,27 @@ class Case:
                 tokens.append(self.word("desc"))
             elif rng.random() < 0.3:
                 tokens.append(self.word("asc"))
-        if self.limit is not None:
-            tokens += [self.word("limit"), "0" * rng.randint(0, 1) + str(self.limit)]
+        return tokens
+
+    def end_tokens(self, limit):
+        rng = self.rng
+        tokens = [] if limit is None else [self.word("limit"), "0" * rng.randint(0, 1) + str(limit)]
         return tokens + [";"] * (rng.random() < 0.3)
 
     def text(self):
-        """The tokens with blanks between them: at least one where two words would run together."""
-        joined, last = self.blanks(0), ""
-        for token in self.tokens():
+        return self.spaced(self.query_tokens() + self.end_tokens(self.limit))[0]
+
+    def spaced(self, tokens):
+        """The tokens with blanks between them, at least one where two words would run together; and the offset of each, in bytes."""
+        joined, last, offsets = self.blanks(0), "", []
+        for token in tokens:
             runs_on = last != "" and (last[-1].isalnum() or last[-1] == "_") and (token[0].isalnum() or token[0] == "_")
             # (two quotes of one kind beside each other would read as another token)
             meets = last != "" and last[-1] in "'\"" and token[0] == last[-1]
-            joined += self.blanks(1 if runs_on or meets or self.rng.random() < 0.8 else 0) + token
-            last = token
-        return joined + self.blanks(0)
+            joined += self.blanks(1 if runs_on or meets or self.rng.random() < 0.8 else 0)
+            offsets.append(len(joined.encode()))
+            joined, last = joined + token, token
+        return joined + self.blanks(0), offsets
 
     def blanks(self, least):
         rng = self.rng
@@ -322,10 +339,10 @@ class Case:
         return ["run", *flat, "q.sql", *named] if rng.random() < 0.7 else ["run", "q.sql", *named, *flat]
 
     def files(self):
-        made = {"q.sql": self.text()}
-        for at, (names, rows, _) in enumerate(self.tables.values()):
-            made[f"t{at}.csv"] = table_file(self.rng, names, rows)
-        return made
+        return {"q.sql": self.text(), **self.table_files()}
+
+    def table_files(self):
+        return {f"t{at}.csv": table_file(self.rng, names, rows) for at, (names, rows, _) in enumerate(self.tables.values())}
 
     # -- the evaluation
 
@@ -426,30 +443,39 @@ class Case:
 
     def listed(self):
         """The header, the records, and how many witnesses there are."""
-        lists = [self.tables[table][1] for table, _ in self.items]
-
-        def value(rows, column):
-            return lists[column[0]][rows[column[0]] - 1][column[1]]
-
-        def side(rows, it):
-            return value(rows, it) if isinstance(it, tuple) else it
-
-        equalities = self.equalities()
-        found = []
-        for rows in itertools.product(*[range(1, len(it) + 1) for it in lists]):
-            if all(side(rows, left) == side(rows, right) for left, right in equalities):
-                sums = [sum(sign * weight(value(rows, column)) for sign, column in terms) for terms, _ in self.keys]
-                compared = [-it if descending else it for it, (_, descending) in zip(sums, self.keys)]
-                found.append((compared, rows, sums))
-        found.sort()
+        found = self.witnesses()
         asked = found if self.best is None else self.first_of_rows(found)
-        shown, records = self.shown(), []
+        records = []
         for _, rows, sums in asked[: self.limit]:
-            record = [value(rows, it) for it in shown]
+            record = self.fields(rows)
             record += [str(it) for it in sums] if self.ranks else []
             record += [str(it) for it in rows] if self.rows else []
             records.append(record)
         return self.header(), records, len(found)
+
+    def value(self, rows, column):
+        """The field of a column in these rows, which count from 1."""
+        item, place = column
+        return self.tables[self.items[item][0]][1][rows[item] - 1][place]
+
+    def fields(self, rows):
+        return [self.value(rows, it) for it in self.shown()]
+
+    def witnesses(self):
+        """All in their order: the sums as they are compared, the row numbers, and the sums."""
+
+        def side(rows, it):
+            return self.value(rows, it) if isinstance(it, tuple) else it
+
+        equalities = self.equalities()
+        found = []
+        for rows in itertools.product(*[range(1, len(self.tables[table][1]) + 1) for table, _ in self.items]):
+            if all(side(rows, left) == side(rows, right) for left, right in equalities):
+                sums = [sum(sign * weight(self.value(rows, column)) for sign, column in terms) for terms, _ in self.keys]
+                compared = [-it if descending else it for it, (_, descending) in zip(sums, self.keys)]
+                found.append((compared, rows, sums))
+        found.sort()
+        return found
 
     def first_of_rows(self, found):
         """Those before which none has the same row of the item."""
@@ -466,9 +492,133 @@ class Case:
         return self.list or [(item, place) for item in range(len(self.items)) for place in range(len(self.names(item)))]
 
     def header(self):
+        return self.titles() + ([f"row{it + 1}" for it in range(len(self.items))] if self.rows else [])
+
+    def titles(self):
+        """The header without the titles of row numbers."""
         names = [self.names(item)[place] for item, place in self.shown()]
-        names += [f"rank{it + 1}" for it in range(len(self.keys))] if self.ranks else []
-        return names + ([f"row{it + 1}" for it in range(len(self.items))] if self.rows else [])
+        return names + ([f"rank{it + 1}" for it in range(len(self.keys))] if self.ranks else [])
+
+
+# ---- unions
+
+class Branch(Case):
+    """One more query over the tables of another."""
+
+    def __init__(self, first):
+        self.rng, self.few, self.tables = first.rng, first.few, first.tables
+        self.draw_query()
+
+    def take_shape(self, first):
+        """Takes as many columns and keys as another query has, and the directions of its keys. Gives whether that can be done."""
+        if len(self.shown()) != len(first.shown()):
+            self.list = [self.column() for _ in first.shown()]
+        keys = [self.key() for _ in first.keys]
+        if not all(keys):
+            return False
+        self.keys = [(terms, descending) for (terms, _), (_, descending) in zip(keys, first.keys)]
+        return True
+
+
+class Union:
+    """Queries over the same tables, whose answers come in one order. One query alone is as if it were no union."""
+
+    # whether an item is named for the best answer of each of its rows
+    has_best = False
+
+    def __init__(self, branches, limit):
+        self.branches, self.limit = branches, limit
+
+    def shape(self, branch):
+        return len(branch.shown()), [descending for _, descending in branch.keys]
+
+    def refusal(self):
+        """The status and the line if the union is refused for its shape or its structure, and else nothing."""
+        several = len(self.branches) > 1
+        for number, branch in enumerate(self.branches, 1):
+            if self.shape(branch) != self.shape(self.branches[0]):
+                return 15, f"branch {number}: shape differs"
+        if several and self.has_best:
+            return 15, "several branches with --best-of"
+        for number, branch in enumerate(self.branches, 1):
+            core = branch.core()
+            if len(core) > 1:
+                return 6, (f"branch {number}: " if several else "") + cyclic(*[it + 1 for it in core])
+        return None
+
+    def expected(self):
+        """Status, output and error output, and how many answers there are in all."""
+        refused = self.refusal()
+        if refused:
+            return (refused[0], b"", f"anyk: {refused[1]}\n".encode()), 0
+        records, found = self.listed()
+        return (0, "".join(map(output_record, [self.header(), *records])).encode(), b""), found
+
+    def longest(self):
+        return max(len(it.items) for it in self.branches)
+
+    def header(self):
+        first = self.branches[0]
+        if len(self.branches) == 1:
+            return first.header()
+        return first.titles() + (["branch", *[f"row{it + 1}" for it in range(self.longest())]] if first.rows else [])
+
+    def listed(self):
+        """The records, and how many answers there are in all."""
+        first, longest = self.branches[0], self.longest()
+        if len(self.branches) == 1:
+            first.limit = self.limit
+            return first.listed()[1:]
+        found = sorted((compared, at, rows, sums) for at, it in enumerate(self.branches) for compared, rows, sums in it.witnesses())
+        records = []
+        for _, at, rows, sums in found[: self.limit]:
+            record = self.branches[at].fields(rows)
+            record += [str(it) for it in sums] if first.ranks else []
+            record += [str(at + 1), *map(str, rows), *[""] * (longest - len(rows))] if first.rows else []
+            records.append(record)
+        return records, len(found)
+
+
+class DrawnUnion(Union):
+    """A query, and in most cases one or two more over its tables, as their text and their words. Most are of one shape."""
+
+    def __init__(self, first):
+        self.case, self.rng = first, first.rng
+        branches = [first]
+        for _ in range(self.rng.choice([0, 1, 1, 1, 2, 2])):
+            branches.append(self.branch(first))
+        super().__init__(branches, self.rng.choice(LIMITS))
+        if len(branches) > 1 and self.rng.random() < 0.9:
+            first.best = None
+        self.has_best = first.best is not None
+
+    def branch(self, first):
+        """Another query of the same shape, in most cases; or now and then the first one again."""
+        if self.rng.random() < 0.05:
+            return first
+        for _ in range(20):
+            made = Branch(first)
+            if self.rng.random() < 0.08 or made.take_shape(first):
+                return made
+        return first
+
+    def files(self):
+        """The files, and the offset of the first word `union`, if there is one."""
+        tokens, first_union = [], None
+        for at, branch in enumerate(self.branches):
+            if at == 1:
+                first_union = len(tokens)
+            tokens += ([self.case.word("union"), self.case.word("all")] if at else []) + branch.query_tokens()
+        text, offsets = self.case.spaced(tokens + self.case.end_tokens(self.limit))
+        return {"q.sql": text, **self.case.table_files()}, None if first_union is None else offsets[first_union]
+
+    def words(self):
+        return self.case.words()
+
+    def other_words(self):
+        """Those of the commands that take no union."""
+        session = self.case.session_words()
+        return [self.case.plan_words(), session, with_other_engine(session)]
 
 
 # ---- fixed inputs: files, words, status, and the output or the line on the error output
@@ -506,6 +656,27 @@ def cyclic(*items):
 
 SESSION_WORDS = ["session", "--script", "s.txt", "q.sql", "R=R.csv", "S=S.csv"]
 
+# ---- unions over R and S
+
+OF_R, OF_S = "select R.a from R order by R.w", "select S.c from S order by S.w"
+PLAIN = "select R.a from R"
+
+
+def union(*queries):
+    return " union all ".join(queries)
+
+
+def united(query, status, line, *options, **files):
+    return over(query, status, line, ["run", *options, "q.sql", "R=R.csv", "S=S.csv", *[f"{it}={it}.csv" for it in files if it not in ("R", "S")]], **files)
+
+
+def crossed(table, count):
+    """A query over a table as often."""
+    return f"select {table.lower()}1.w from " + ", ".join(f"{table} {table.lower()}{it + 1}" for it in range(count))
+
+
+OF_TRIANGLE = f"select A.a from E A, E B, E C where {TRIANGLE}"
+
 # each is answered with this output
 ANSWERS = [
     ({"q.sql": JOIN, "R.csv": R, "S.csv": S, "s.txt": "open a\nnext a 2\nfork a b\nnext b 1\nnext a 2\nrewind b\nnext b 3\nnext a 2\n"}, SESSION_WORDS, 0,
@@ -531,6 +702,23 @@ ANSWERS = [
     over('select "".a from R as "" order by "".w', 0, "a\n2\n3\n1\n", ["run", "--best-of=", "q.sql", "R=R.csv"]),
     # (an empty weight counts 0)
     over(JOIN, 0, "a,c\n3,p\n1,p\n", S="b,c,w\nx,p,\n"),
+    # (at equal sums the query that comes first, and only then the row numbers)
+    united(f"{union(OF_R, OF_S)} limit 4", 0, "a,rank1,branch,row1\n2,1,1,2\n3,1,1,3\nq,2,2,2\n1,3,1,1\n", "--ranks", "--rows"),
+    united(union(OF_R, OF_R), 0, "a,rank1,branch,row1\n2,1,1,2\n3,1,1,3\n2,1,2,2\n3,1,2,3\n1,3,1,1\n1,3,2,1\n", "--ranks", "--rows"),
+    # (a query of fewer items has empty fields in the place of the row numbers that it lacks)
+    united(union(JOIN, "select R.a, R.b from R order by R.w"), 0,
+           "a,c,rank1,branch,row1,row2\n2,y,1,2,2,\n3,x,1,2,3,\n2,q,3,1,2,2\n1,x,3,2,1,\n3,q,5,1,3,3\n3,p,6,1,3,1\n1,q,7,1,1,3\n1,p,8,1,1,1\n",
+           "--ranks", "--rows"),
+    # (the sums are shown as they are, also those of a key that descends)
+    united(union(f"{OF_R} desc", f"{OF_S} desc"), 0, "a,rank1\np,5\nq,4\n1,3\nq,2\n2,1\n3,1\n", "--ranks"),
+    # (no keys: query by query)
+    united(union("select S.c from S", PLAIN), 0, "c,branch,row1\np,1,1\nq,1,2\nq,1,3\n1,2,1\n2,2,2\n3,2,3\n", "--rows"),
+    united(union("select S.c from S where S.c = 'z'", PLAIN), 0, "c\n1\n2\n3\n"),
+    united(f"{union(JOIN, JOIN)} limit 0", 0, "a,c,rank1,branch,row1,row2\n", "--ranks", "--rows"),
+    # (one query has no column for its number)
+    united(f"{OF_R} limit 2", 0, "a,row1\n2,2\n3,3\n", "--rows"),
+    united(f"{union(*[PLAIN] * 8)} limit 4;", 0, "a,branch,row1\n1,1,1\n2,1,2\n3,1,3\n1,2,1\n", "--rows"),
+    united(f"{union(crossed('R', 8), crossed('S', 8))} limit 1", 0, "w\n3\n"),
 ]
 
 
@@ -627,6 +815,46 @@ REFUSALS = [
     # (the query before the script, and the script before the tables)
     scripted("open", 3, "syntax error at byte 0", ""),
     scripted("open", 3, "script line 1: bad line", "select X.a from X"),
+    # (unions: the words, and where they may be)
+    united(f"{PLAIN} union", 3, "syntax error at byte 23"),
+    united(f"{PLAIN} union all", 3, "syntax error at byte 27"),
+    united(f"{PLAIN} union select S.c from S", 3, "syntax error at byte 24"),
+    united(f"{PLAIN} limit 1 union all {OF_S}", 3, "syntax error at byte 26"),
+    united(f"{PLAIN}; union all {OF_S}", 3, "syntax error at byte 19"),
+    scripted("open a\n", 3, "syntax error at byte 18", union(PLAIN, "select S.c from S")),
+    over(union(PLAIN, "select S.c from S"), 3, "syntax error at byte 18", ["plan", "q.sql", "R=R.csv", "S=S.csv"]),
+    # (a text with a byte names no branch)
+    united(union(PLAIN, "select X.c from S"), 4, "byte 35: unknown alias"),
+    united(union(PLAIN, "select S.zz from S"), 4, "byte 35: unknown column"),
+    united(union(PLAIN, "select T.c from T"), 4, "byte 44: unknown table"),
+    united(union(PLAIN, "select w from R, S"), 4, "byte 35: ambiguous column"),
+    united(f"{union(PLAIN, PLAIN)} limit 18446744073709551616", 8, "limit at byte 52 out of range"),
+    # (limits of the whole, and of each query)
+    united(union(*[PLAIN] * 9), 8, "more than 8 branches"),
+    united(union(*[crossed("R", 2)] * 9), 8, "more than 8 branches"),
+    united(union(crossed("R", 9), crossed("S", 8)), 8, "more than 16 items"),
+    united(union(PLAIN, f"{PLAIN} order by " + ", ".join(["R.w"] * 9)), 8, "more than 8 order keys"),
+    # (those that name the branch)
+    united(union(PLAIN, "select S.c from S, S"), 4, "branch 2: item 2: alias used twice"),
+    united(union(OF_R, "select S.c from S order by S.c"), 5, "branch 2: item 1: row 1: column 2: not a weight"),
+    united(union(OF_R, OF_S), 7, "branch 2: order key 1: rank may pass 128 bits", S=f"b,c,w\nx,p,-{GREATEST + 1}\n"),
+    united(union(PLAIN, OF_TRIANGLE), 6, f"branch 2: {cyclic(1, 2, 3)}", E=E),
+    # (names, weights and ranges branch by branch; and all tables before them)
+    united(union("select R.a from R order by R.b", "select S.zz from S order by S.w"), 5, "branch 1: item 1: row 1: column 2: not a weight"),
+    united(union("select R.zz from R", "select T.c from T"), 5, "table T: no header", T=""),
+    # (then the shape, and then the structure)
+    united(union("select R.a, R.b from R", "select S.c from S"), 15, "branch 2: shape differs"),
+    united(union("select * from R, S", "select * from R"), 15, "branch 2: shape differs"),
+    united(union(OF_R, f"{OF_S} desc"), 15, "branch 2: shape differs"),
+    united(union(OF_R, "select S.c from S"), 15, "branch 2: shape differs"),
+    united(union(OF_R, OF_S, f"{OF_S}, S.w"), 15, "branch 3: shape differs"),
+    united(union(OF_TRIANGLE, "select R.a, R.b from R"), 15, "branch 2: shape differs", E=E),
+    united(union("select R.a, R.b from R", "select S.c from S order by S.c"), 5, "branch 2: item 1: row 1: column 2: not a weight"),
+    # (--best-of comes after the shape and before the structure)
+    united(union(OF_R, OF_S), 15, "several branches with --best-of", "--best-of", "R"),
+    united(union(PLAIN, OF_TRIANGLE), 15, "several branches with --best-of", "--best-of=R", E=E),
+    united(union(OF_R, f"{OF_S} desc"), 15, "branch 2: shape differs", "--best-of", "R"),
+    united(OF_R, 4, "unknown alias in --best-of", "--best-of", "S"),
 ]
 
 
@@ -674,7 +902,7 @@ def failures(program, what, files, words, wanted, shown):
 def main():
     program = os.path.abspath(sys.argv[1] if len(sys.argv) > 1 else "./anyk")
     count = int(sys.argv[2]) if len(sys.argv) > 2 else 300
-    failed = answers = cycles = 0
+    failed = answers = cycles = of_unions = uneven = 0
     for seed in range(1, count + 1):
         case = Case(seed)
         files, words = case.files(), case.words()
@@ -686,6 +914,15 @@ def main():
         script, steps = case.script()
         files["s.txt"], wanted, words = script, case.told_by(steps), case.session_words()
         failed += failures(program, f"session of seed {seed}", files, (words, with_other_engine(words)), wanted, failed)
+        drawn = DrawnUnion(Case(f"union {seed}"))
+        (files, place), words = drawn.files(), drawn.words()
+        wanted, found = drawn.expected()
+        of_unions += found
+        uneven += wanted[0] == 15
+        failed += failures(program, f"union of seed {seed}", files, (words, with_other_engine(words)), wanted, failed)
+        if place is not None:
+            files["s.txt"], wanted = "open a\n", (3, b"", f"anyk: syntax error at byte {place}\n".encode())
+            failed += failures(program, f"other commands on the union of seed {seed}", files, drawn.other_words(), wanted, failed)
     fixed = [(files, words, (0, text.encode(), b"")) for files, words, _, text in ANSWERS]
     fixed += [(files, words, (status, b"", f"anyk: {line}\n".encode())) for files, words, status, line in REFUSALS]
     answered = refused = 0
@@ -704,7 +941,8 @@ def main():
         told("a word that is no text", {}, ["run", "0xff"], (16, b"", b""), got)
     verdict = f"FAILED: {failed}" if failed else "passed"
     of_fixed = f"{answered} of {len(ANSWERS)} fixed answers, {refused} of {len(REFUSALS)} refusals"
-    print(f"differential: {count} queries, {cycles} of them cyclic, with {answers} witnesses, {of_fixed}: {verdict}")
+    unions = f"as many unions, {uneven} of them of status 15, with {of_unions} answers"
+    print(f"differential: {count} queries, {cycles} of them cyclic, with {answers} witnesses, {unions}, {of_fixed}: {verdict}")
     return 1 if failed else 0
 
 

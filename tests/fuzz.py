@@ -6,13 +6,14 @@ usage: tests/fuzz.py [PROGRAM] [SECONDS] [SEED]
 PROGRAM is ./anyk if it is not given, SECONDS is 60 and SEED is 1. Inputs are those of tests/differential.py, each from a seed of its
 own that is printed if a test fails. Half of the time goes to each of two parts.
 
-Changed bytes: a few bytes of the query, of the tables or of the script are changed, left out, put in or doubled. Each status is one of
-the table. Where the status is not 0, there is no output and one line on the error output. Both engines say the same, and `plan` refuses
-what `run` refuses, in the same words. The query and the tables are also read here, by the grammar and the rules of docs/USING.md: the
-program accepts what is accepted here and nothing else, and its output is that of the plain evaluation.
+Changed bytes: a few bytes of the query, of the tables or of the script are changed, left out, put in or doubled. A third of the inputs are
+unions. Each status is one of the table. Where the status is not 0, there is no output and one line on the error output. Both engines say
+the same. `plan` refuses what `run` refuses, in the same words, except for a union, which is no query to it. The query and the tables are
+also read here, by the grammar and the rules of docs/USING.md: the program accepts what is accepted here and nothing else, and its output
+is that of the plain evaluation.
 
-Large queries: tables of up to 200 rows, with up to 1,000 answers. The output of both engines is that of sqlite3, to the byte. Where Python
-has no sqlite3, this part is passed over.
+Large queries: tables of up to 200 rows, with up to 1,000 answers, a third of them unions. The output of both engines is that of sqlite3, to
+the byte. Where Python has no sqlite3, this part is passed over.
 """
 import os
 import random
@@ -26,12 +27,12 @@ try:
 except ImportError:
     sqlite3 = None
 
-from differential import KEYWORDS, TEXTS, WEIGHT_NAMES, COLUMN_NAMES, Case, output_record, run, told, weight, with_other_engine
+from differential import KEYWORDS, TEXTS, WEIGHT_NAMES, COLUMN_NAMES, Case, DrawnUnion, Union, output_record, run, told, weight, with_other_engine
 
-STATUSES = (0, 3, 4, 5, 6, 7, 8)
+STATUSES = (0, 3, 4, 5, 6, 7, 8, 15)
 PIECES = [b'"', b"'", b",", b"\n", b"\r", b"\r\n", b"\xef\xbb\xbf", b"\0", b"\xff", b"\xc3\xa9", b"-", b"+", b"0", b"1", b"9" * 40, b"=", b".", b";", b"*",
           b" ", b" and ", b" where ", b" order by ", b" limit ", b" limit 3", b" desc", b" asc", b" join ", b" inner join ", b" on ", b" as ",
-          b"select", b"from", b" a", b"x", b'""', b"''", b",,", b"\n\n", b"open a\n", b"next a 1\n", b"#"]
+          b"select", b"from", b" union all ", b" union ", b" a", b"x", b'""', b"''", b",,", b"\n\n", b"open a\n", b"next a 1\n", b"#"]
 GREATEST = 2**127 - 1
 MOST_WITNESSES, MOST_STEPS = 20000, 2000
 
@@ -109,11 +110,31 @@ def tokens_of(text):
     return tokens
 
 
-class Read(Case):
-    """A query that was read from its text, over tables that were read from their files."""
+def read_all(text, files, options):
+    """The queries of a text and its limit, over tables that were read from their files. One query alone is a union too."""
+    if len(bytes_of(text)) > 65536:
+        raise Refused("length")
+    tokens = tokens_of(text)
+    branches = [Read(tokens, files, options)]
+    while branches[-1].may("union"):
+        branches[-1].keyword("all")
+        branches.append(Read(tokens, files, options))
+    last = branches[-1]
+    limit = int(last.take("digits")) if last.may("limit") else None
+    last.sign(";")
+    items = sum(len(it.items) for it in branches)
+    if tokens or (limit or 0) >= 2**64 or len(branches) > 8 or items > 16 or any(len(it.keys_read) > 8 for it in branches):
+        raise Refused("query")
+    for it in branches:
+        it.bind()
+    return Union(branches, limit)
 
-    def __init__(self, text, files, options):
-        self.tokens_left = tokens_of(text)
+
+class Read(Case):
+    """A query that is read from tokens up to its limit, which are taken off the list; and bound to its tables."""
+
+    def __init__(self, tokens, files, options):
+        self.tokens_left = tokens
         self.tables, self.files_read = {}, files
         self.ranks, self.rows = "--ranks" in options, "--rows" in options
         self.keyword("select")
@@ -129,16 +150,11 @@ class Read(Case):
             self.items.append(self.item())
             on.append(self.conditions() if is_join and (self.keyword("on") or True) else [])
         where = self.conditions() if self.may("where") else []
-        keys = []
+        self.keys_read = []
         if self.may("order"):
             self.keyword("by")
-            keys = self.several(self.order_key)
-        limit = int(self.take("digits")) if self.may("limit") else None
-        self.sign(";")
-        if self.tokens_left or (limit or 0) >= 2**64 or len(self.items) > 16 or len(keys) > 8 or len(text.encode("utf-8", "surrogateescape")) > 65536:
-            raise Refused("query")
-        self.limit = limit
-        self.bind(listed, where, on, keys)
+            self.keys_read = self.several(self.order_key)
+        self.list_read, self.where_read, self.on_read = listed, where, on
 
     # -- the grammar
 
@@ -212,17 +228,17 @@ class Read(Case):
 
     # -- names and weights
 
-    def bind(self, listed, where, on, keys):
+    def bind(self):
         if len({alias for _, alias in self.items}) < len(self.items):
             raise Refused("aliases")
         for table, _ in self.items:
             if table not in self.files_read:
                 raise Refused("table")
             self.tables[table] = table_of(self.files_read[table])
-        self.list = None if listed is None else [self.place_of(it) for it in listed]
-        self.where = [self.bound(it) for it in where]
-        self.on = [[self.bound(it) for it in each] for each in on]
-        self.keys = [([(sign, self.place_of(it)) for sign, it in terms], descends) for terms, descends in keys]
+        self.list = None if self.list_read is None else [self.place_of(it) for it in self.list_read]
+        self.where = [self.bound(it) for it in self.where_read]
+        self.on = [[self.bound(it) for it in each] for each in self.on_read]
+        self.keys = [([(sign, self.place_of(it)) for sign, it in terms], descends) for terms, descends in self.keys_read]
         for terms, _ in self.keys:
             self.check(terms)
 
@@ -255,6 +271,18 @@ def is_large(case):
     for table, _ in case.items:
         count *= max(1, len(case.tables[table][1]))
     return count > MOST_WITNESSES
+
+
+def is_refused_by_plan(got, of_run, text):
+    """Whether `plan` refuses what `run` refuses, by what they gave; a union is no query to it."""
+    if "union" not in text.lower():
+        return (got[0] and got) == (of_run[0] and of_run)
+    try:
+        is_union = ("keyword", "union") in tokens_of(text)
+    except Refused:
+        # (both stop at a token, but a union may come first)
+        return got[0] in (3, 8)
+    return got[0] in (3, 8) if is_union else (got[0] and got) == (of_run[0] and of_run)
 
 
 # ---- changed bytes
@@ -297,15 +325,15 @@ def wanted_of(case, files, words):
     """What the evaluation here gives: status, output and error output; a refusal is none of these, and too large an input is None."""
     named = dict(it.split("=", 1) for it in words if it.startswith(tuple(f"{name}=" for name in case.tables)))
     try:
-        read = Read(text_of(files["q.sql"]), {name: text_of(files[file]) for name, file in named.items() if file in files}, words)
-        core = read.core()
-        if len(core) > 1:
-            return 6, b"", f"anyk: cyclic query: items {' '.join(str(it + 1) for it in core)}\n".encode()
-        if is_large(read):
-            return None
-        return 0, bytes_of(read.answered()[0]), b""
+        read = read_all(text_of(files["q.sql"]), {name: text_of(files[file]) for name, file in named.items() if file in files}, words)
     except Refused:
         return "refused"
+    refused = read.refusal()
+    if refused:
+        return refused[0], b"", f"anyk: {refused[1]}\n".encode()
+    if any(is_large(it) for it in read.branches):
+        return None
+    return 0, bytes_of("".join(map(output_record, [read.header(), *read.listed()[0]]))), b""
 
 
 def try_changed(program, seed):
@@ -313,7 +341,8 @@ def try_changed(program, seed):
     rng, case = random.Random(f"changed {seed}"), Case(seed)
     # (--best-of is left to the comparison on generated queries)
     case.best = None
-    files, words = {name: bytes_of(text) for name, text in case.files().items()}, case.words()
+    made = DrawnUnion(case).files()[0] if seed % 3 == 0 else case.files()
+    files, words = {name: bytes_of(text) for name, text in made.items()}, case.words()
     script, session, plan = case.script()[0], case.session_words(), case.plan_words()
     files["s.txt"] = bytes_of(script)
     touched = rng.choice([["q.sql"], [it for it in files if it.startswith("t")], ["q.sql"], ["s.txt"], list(files)])
@@ -327,11 +356,10 @@ def try_changed(program, seed):
         if name in results and results[name] != got:
             return f"seed {seed}: the engines differ", files, each, results[name], got
         results[name] = got
-    refusal = results["run"][0] and results["run"]
-    if (results["plan"][0] and results["plan"]) != refusal:
+    if not is_refused_by_plan(results["plan"], results["run"], text_of(files["q.sql"])):
         return f"seed {seed}: plan does not refuse what run refuses", files, plan, results["run"], results["plan"]
     wanted = wanted_of(case, files, words)
-    is_refusal = results["run"][0] not in (0, 6)
+    is_refusal = results["run"][0] not in (0, 6, 15)
     if wanted is not None and (is_refusal if wanted != "refused" else not is_refusal) or isinstance(wanted, tuple) and wanted != results["run"]:
         return f"seed {seed}: the evaluation gives another result", files, words, wanted if wanted != "refused" else ("refused", "", ""), results["run"]
     return None
@@ -355,21 +383,8 @@ class Large(Case):
         return names, rows, [it in weights for it in names]
 
 
-def sqlite_output(case):
-    """The output by sqlite3, or None if it takes too long."""
-    steps = [0]
-
-    def is_enough():
-        steps[0] += 1
-        return steps[0] > MOST_STEPS
-
-    base = sqlite3.connect(":memory:")
-    base.set_progress_handler(is_enough, 10000)
-    numbers = {name: at for at, name in enumerate(case.tables)}
-    for name, (names, rows, _) in case.tables.items():
-        base.execute(f"create table t{numbers[name]} ({', '.join(f'c{it} text' for it in range(len(names)))})")
-        base.executemany(f"insert into t{numbers[name]} values ({', '.join('?' * len(names))})", rows)
-    values = []
+def sqlite_query(case, at, longest, values):
+    """What sqlite3 is asked for a query with this number in its union: columns, sums, the number and the rows. Constants go to the values."""
 
     def side(it):
         if isinstance(it, tuple):
@@ -377,32 +392,70 @@ def sqlite_output(case):
         values.append(it)
         return "?"
 
+    numbers = {name: number for number, name in enumerate(case.tables)}
     sums = [" ".join(f"{'+' if sign > 0 else '-'} cast(i{item}.c{place} as integer)" for sign, (item, place) in terms) for terms, _ in case.keys]
-    shown = [f"i{item}.c{place}" for item, place in case.shown()] + (sums if case.ranks else [])
-    shown += [f"i{it}.rowid" for it in range(len(case.items))] if case.rows else []
+    rows = [f"i{it}.rowid" for it in range(len(case.items))] + ["null"] * (longest - len(case.items))
+    asked = [f"i{item}.c{place}" for item, place in case.shown()] + sums + [str(at)] + rows
     conditions = " and ".join(["1"] + [f"{side(left)} = {side(right)}" for left, right in case.equalities()])
-    order = [f"{it} {'desc' if descends else 'asc'}" for it, (_, descends) in zip(sums, case.keys)] + [f"i{it}.rowid" for it in range(len(case.items))]
-    tables = ", ".join(f"t{numbers[table]} i{at}" for at, (table, _) in enumerate(case.items))
+    tables = ", ".join(f"t{numbers[table]} i{number}" for number, (table, _) in enumerate(case.items))
+    return f"select {', '.join(asked)} from {tables} where {conditions}"
+
+
+def sqlite_rows(union):
+    """What sqlite3 finds for all queries together, in order, or None if it takes too long."""
+    steps = [0]
+
+    def is_enough():
+        steps[0] += 1
+        return steps[0] > MOST_STEPS
+
+    first, longest, values = union.branches[0], union.longest(), []
+    base = sqlite3.connect(":memory:")
+    base.set_progress_handler(is_enough, 10000)
+    for at, (names, rows, _) in enumerate(first.tables.values()):
+        base.execute(f"create table t{at} ({', '.join(f'c{it} text' for it in range(len(names)))})")
+        base.executemany(f"insert into t{at} values ({', '.join('?' * len(names))})", rows)
+    queries = " union all ".join(sqlite_query(it, at + 1, longest, values) for at, it in enumerate(union.branches))
+    place = len(first.shown()) + 1
+    order = [f"{place + it} {'desc' if descends else 'asc'}" for it, (_, descends) in enumerate(first.keys)]
+    order += [str(place + len(first.keys) + it) for it in range(longest + 1)]
     try:
-        rows = base.execute(f"select {', '.join(shown)} from {tables} where {conditions} order by {', '.join(order)} limit {case.limit}", values).fetchall()
+        return base.execute(f"{queries} order by {', '.join(order)} limit {union.limit}", values).fetchall()
     except sqlite3.OperationalError as error:
         if "interrupted" in str(error):
             return None
         raise
     finally:
         base.close()
-    return "".join(map(output_record, [case.header(), *([str(it) for it in row] for row in rows)]))
+
+
+def sqlite_output(union):
+    """The output by sqlite3, or None if it takes too long."""
+    first, found = union.branches[0], sqlite_rows(union)
+    if found is None:
+        return None
+    columns = len(first.shown())
+    is_shown = [True] * columns + [first.ranks] * len(first.keys) + [first.rows and len(union.branches) > 1] + [first.rows] * union.longest()
+    records = [["" if it is None else str(it) for it, is_in in zip(row, is_shown) if is_in] for row in found]
+    return "".join(map(output_record, [union.header(), *records]))
 
 
 def try_large(program, seed):
     case = Large(f"large {seed}")
     case.best = None
-    case.limit = case.rng.choice([0, 1, 10, 100, 1000, 1000]) if case.limit is None else min(case.limit, 1000)
-    files, words, core = case.files(), case.words(), case.core()
-    if len(core) > 1:
-        wanted = 6, b"", f"anyk: cyclic query: items {' '.join(str(it + 1) for it in core)}\n".encode()
+    limit = case.rng.choice([0, 1, 10, 100, 1000, 1000]) if case.limit is None else min(case.limit, 1000)
+    if seed % 3 == 0:
+        union = DrawnUnion(case)
+        union.limit = limit
+        files = union.files()[0]
     else:
-        output = sqlite_output(case)
+        case.limit = limit
+        union, files = Union([case], limit), case.files()
+    words, refused = case.words(), union.refusal()
+    if refused:
+        wanted = refused[0], b"", f"anyk: {refused[1]}\n".encode()
+    else:
+        output = sqlite_output(union)
         wanted = None if output is None else (0, output.encode(), b"")
     for each in (words, with_other_engine(words)):
         got = run(program, files, each)

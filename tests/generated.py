@@ -6,8 +6,8 @@ usage: tests/generated.py [PROGRAM] [ROWS]
 PROGRAM is ./anyk if it is not given, and ROWS is 20000. Four tables in a row are made by a linear congruential generator
 (1103515245 x + 12345 modulo 2^31), joined on their shared columns and ranked by the sum of their weights. The first 100 sums are
 found here by keeping, for each value of a join column, the 100 least sums of what follows. With both engines `run` and `session`
-are to give these over files, in this order, and `load`, which makes the tables itself, the first and the last of them. A small input
-whose sums are known is run first.
+are to give these over files, in this order, and `load`, which makes the tables itself, the first and the last of them. `run` is also to
+give the first 100 sums of a union with the join of the first two tables. A small input whose sums are known is run first.
 """
 import heapq
 import os
@@ -18,6 +18,7 @@ import tempfile
 COLUMNS = ["a,b,w", "b,c,w", "c,d,w", "d,e,w"]
 QUERY = ("select P1.a, P4.e from P1, P2, P3, P4 where P1.b = P2.b and P2.c = P3.c and P3.d = P4.d "
          "order by P1.w + P2.w + P3.w + P4.w limit 100")
+UNION = QUERY.replace(" limit 100", " union all select P1.a, P2.c from P1, P2 where P1.b = P2.b order by P1.w + P2.w limit 100")
 FIRST = 100
 
 
@@ -60,27 +61,30 @@ def printed(program, folder, words):
 
 
 def calls(engine, number, rows):
-    """The arguments of each call, and the column of its sums, or none if it prints a summary."""
-    files = ["q.sql"] + ["P%d=P%d.csv" % (n, n) for n in range(1, 5)]
-    yield ["run", "--engine", engine, "--ranks"] + files, 2
-    yield ["session", "--engine", engine, "--ranks", "--script", "s.txt"] + files, 3
-    yield ["load", "--engine", engine, "--number", str(number), "--rows", str(rows)], None
+    """The arguments of each call, the column of its sums, or none if it prints a summary, and whether it is of the union."""
+    files = ["P%d=P%d.csv" % (n, n) for n in range(1, 5)]
+    yield ["run", "--engine", engine, "--ranks", "q.sql"] + files, 2, False
+    yield ["run", "--engine", engine, "--ranks", "u.sql"] + files, 2, True
+    yield ["session", "--engine", engine, "--ranks", "--script", "s.txt", "q.sql"] + files, 3, False
+    yield ["load", "--engine", engine, "--number", str(number), "--rows", str(rows)], None, False
 
 
 def agrees(program, number, rows):
     tables = tables_of(number, rows)
     wanted = least_sums(tables)
+    of_union = sorted(wanted + least_sums(tables[:2]))[:FIRST]
     summary = ["rows %d" % (4 * rows), "answers %d" % len(wanted), "first %d" % wanted[0], "last %d" % wanted[-1]]
     with tempfile.TemporaryDirectory() as folder:
         for n, (columns, table) in enumerate(zip(COLUMNS, tables), 1):
             with open(os.path.join(folder, "P%d.csv" % n), "w") as file:
                 file.write(columns + "\n" + "".join("%d,%d,%d\n" % row for row in table))
-        for name, text in (("q.sql", QUERY + "\n"), ("s.txt", "open a\nnext a %d\n" % len(wanted))):
+        for name, text in (("q.sql", QUERY + "\n"), ("u.sql", UNION + "\n"), ("s.txt", "open a\nnext a %d\n" % len(wanted))):
             with open(os.path.join(folder, name), "w") as file:
                 file.write(text)
-        for words, column in [it for engine in ("part", "rec") for it in calls(engine, number, rows)]:
+        for words, column, is_union in [it for engine in ("part", "rec") for it in calls(engine, number, rows)]:
             status, lines = printed(program, folder, words)
-            same = lines == summary if column is None else [int(it.split(",")[column]) for it in lines[1:]] == wanted
+            sums = of_union if is_union else wanted
+            same = lines == summary if column is None else [int(it.split(",")[column]) for it in lines[1:]] == sums
             if status != 0 or not same:
                 print("generated tables, number %d, %d rows, %s: FAILED, status %d, %d lines" % (number, rows, " ".join(words), status, len(lines)))
                 return False

@@ -714,6 +714,8 @@ FILES = {
     "semi.sql": "select price from semi", "one.sql": "select * from x", "many.sql": "select * from " + ", ".join(f"t a{it}" for it in range(17)),
     "beside.sql": 'SELECT trains.train FROM "trains""t"',
     "long.sql": "select " + "a" * 300 + ", ? from trains", "union.sql": "select n from bad order by n union all select n from bad",
+    "uneven.sql": "select train from trains union all select city, hotel from hotels", "even.sql": "select train from trains union all select hotel from hotels",
+    "second.sql": "select train from trains order by price union all select n from bad order by n",
     "s0.txt": "open a\n", "s1.txt": "open a\nnext a 1\nnext  a 1\n", "s2.txt": "open first\nopen second\nclose second\nnext frist 1\n", "s3.txt": "# one\nopen a\nopen a\n",
 }
 WORDS = ["stay.sql", "trains=t.csv", "hotels=h.csv"]
@@ -778,12 +780,16 @@ REFUSALS = [
     (["run", "stay.sql", "trains=~/t.csv", "hotels=h.csv"], 9, "file ~/t.csv: not found", ["write $HOME"]),
     (["run", "none/q.sql", "trains=t.csv"], 9, "file none/q.sql: not found", ["no folder none"]),
     (["run", "stay.sql", "trains=.", "hotels=h.csv"], 10, "file .: read failed", ["it is a folder"]),
+    (["run", "uneven.sql", "trains=t.csv", "hotels=h.csv"], 15, "branch 2: shape differs", []),
+    (["run", "--best-of", "t", "even.sql", "trains=t.csv", "hotels=h.csv"], 15, "several branches with --best-of", []),
+    (["run", "second.sql", "trains=t.csv", "bad=bad.csv"], 5, "branch 2: item 1: row 3: column 3: not a weight", []),
 ]
 # Those that the stand-in alone says.
 LARGE = [
     (["run", *WORDS], 11, "write failed", ["head"]),
     (["run", *WORDS], 12, "out of memory", []),
     (["run", "stay.sql"], 8, "query longer than 65536 bytes", ["stay.sql has"]),
+    (["run", "union.sql", "bad=bad.csv"], 8, "more than 8 branches", []),
     (["run", "range.sql", "big=big.csv"], 8, "more than 8 order keys", ["there are 2"]),
     (["run", *WORDS], 8, "file t.csv longer than 67108864 bytes", ["it has"]),
     (["run", *WORDS], 8, "table trains: more than 64 columns", ["the header of t.csv has 4"]),
@@ -806,7 +812,7 @@ def hinted(house, words, status, line, parts):
     got, output, said = house.on_terminal(*words, cwd=f"{house.room}/files", more={"SAYS": line, "STATUS": str(status)})
     same((words, got, output, said[: len(line) + 7]), (words, status, "", f"anyk: {line}\n"))
     hint = said[len(line) + 7 :]
-    has(hint, *parts, *(sentences for form, sentences in SENTENCES if form.fullmatch(line)))
+    has(hint, *parts, *(sentences for form, sentences in SENTENCES if form.fullmatch(line) or form.fullmatch(HINTS.without_branch(line))))
     check(all(it.isprintable() for it in hint.splitlines()), repr(hint))
     check(hint.endswith(("\n")) and hint.splitlines()[0].startswith("  "), hint)
     # Where there is no terminal, nothing is added.
@@ -861,7 +867,8 @@ def test_each_refusal_has_a_sentence(house):
     for form, _ in SENTENCES:
         check(any(form.fullmatch(it) for it in lines), f"no line is tried of the form {form.pattern}")
     for line in lines:
-        same((line, sum(bool(form.fullmatch(line)) for form, _ in SENTENCES)), (line, 1))
+        forms = sum(bool(form.fullmatch(line)) for form, _ in SENTENCES)
+        same((line, forms or sum(bool(form.fullmatch(HINTS.without_branch(line))) for form, _ in SENTENCES)), (line, 1))
 
 
 # A report of `plan`, with the query that it is of.

@@ -71,7 +71,7 @@ run_program() {
     status=$?
     exec {output}>&-
     [ -z "$line" ] || printf '%s\n' "$line" >&2
-    if [ "$status" -ge 2 ] && [ "$status" -le 12 ]; then
+    if [ "$status" -ge 2 ] && [ "$status" -le 12 ] || [ "$status" -eq 15 ]; then
         python3 -ISB "$tools/hints.py" "$status" "$line" "$@" >&2 2> /dev/null
     fi
     exit "$status"

@@ -574,6 +574,11 @@ def told(form, values, call):
         return []
 
 
+def without_branch(line):
+    """What a line says after the number of a branch, if it begins with one."""
+    return re.sub(r"^branch [0-9]+: ", "", line)
+
+
 def sentence(text):
     text = text.replace("`", "").strip()
     return text[:1].upper() + text[1:] + ("" if text.endswith((".", ":")) else ".")
@@ -588,7 +593,7 @@ def main(status, line, *words):
     with open(page, encoding="utf-8") as it:
         known = refusals(it.read())
     for form, meaning, remedy in known:
-        found = pattern_of(form).fullmatch(said)
+        found = pattern_of(form).fullmatch(said) or pattern_of(form).fullmatch(without_branch(said))
         if found:
             for it in told(form, found.groups(), Call(words)):
                 print(f"  {it}")

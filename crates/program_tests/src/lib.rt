@@ -27,3 +27,5 @@ mod sessions;
 mod stars;
 #[cfg(test)]
 mod steps;
+#[cfg(test)]
+mod unions;
