@@ -1,0 +1,3 @@
+SELECT train FROM trains
+UNION ALL
+SELECT city, hotel FROM hotels
