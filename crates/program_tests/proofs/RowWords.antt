@@ -1,4 +1,4 @@
--- What the command line of the worked row says, and the steps of its call.
+-- What the command line of the worked rows says, and the steps of their calls.
 use Rattle.std.proofs.Common.{◌≡◌, ◌≤◌, ◌+◌, ℕ, List, [], ◌∷◌, Option, Some, None, false, refl, subst}
 use Rattle.std.specs.Prelude.{codes}
 use Rattle.clap.proofs.OnLiterals.{clap_on_literals}
@@ -11,7 +11,9 @@ use Rattle.verdict.specs.Bound.{IsBounded}
 use Rattle.verdict.specs.Made.{known_to}
 use Rattle.verdict.specs.Words.{Asked}
 use Rattle.row_law.specs.Row.{row_arguments, row_files}
+use Rattle.row_law.specs.UnionRow.{union_files}
 use Rattle.row_law.proofs.Accepted.{row_bounded}
+use Rattle.row_law.proofs.UnionAccepted.{union_bounded}
 use Rattle.anyk_top.specs.Asked.{asked_of}
 
 abbrev row_said : WordsSaid
@@ -36,11 +38,21 @@ row_is_said = refl
 abbrev Keeps : Asked → Files → ℕ → ℕ → Type 0
 Keeps asked files before now = IsBounded asked (known_to asked (Some files)) before now
 
+said_over : (words : List (List ℕ)) (files known : Files) (before now : ℕ) → words ≡ row_arguments → files ≡ known
+    → Keeps (asked_of (said_of words)) files before now → Keeps (asked_of (Some (run_said row_said))) known before now
+said_over words files known before now named held kept =
+    let over : Keeps (asked_of (said_of words)) known before now =
+    subst (λ (all : Files). Keeps (asked_of (said_of words)) all before now) held kept in
+    let asked : Keeps (asked_of (said_of row_arguments)) known before now =
+    subst (λ (line : List (List ℕ)). Keeps (asked_of (said_of line)) known before now) named over in
+    subst (λ (said : Option CommandSaid). Keeps (asked_of said) known before now) row_is_said asked
+
 pub row_within : (words : List (List ℕ)) (files : Files) (before now : ℕ) → words ≡ row_arguments → files ≡ row_files
     → Keeps (asked_of (said_of words)) files before now → now ≤ before + 7936
 row_within words files before now named held kept =
-    let over : Keeps (asked_of (said_of words)) row_files before now =
-    subst (λ (all : Files). Keeps (asked_of (said_of words)) all before now) held kept in
-    let asked : Keeps (asked_of (said_of row_arguments)) row_files before now =
-    subst (λ (line : List (List ℕ)). Keeps (asked_of (said_of line)) row_files before now) named over in
-    row_bounded before now (subst (λ (said : Option CommandSaid). Keeps (asked_of said) row_files before now) row_is_said asked)
+    row_bounded before now (said_over words files row_files before now named held kept)
+
+pub union_within : (words : List (List ℕ)) (files : Files) (before now : ℕ) → words ≡ row_arguments → files ≡ union_files
+    → Keeps (asked_of (said_of words)) files before now → now ≤ before + 2816
+union_within words files before now named held kept =
+    union_bounded before now (said_over words files union_files before now named held kept)

@@ -17,7 +17,7 @@ use Rattle.row_law.specs.Row.{query_text, row_files, row_words}
 
 -- ---- the query
 
-abbrev ref : List ℕ → List ℕ → ℕ → ColumnRef
+abbrev pub ref : List ℕ → List ℕ → ℕ → ColumnRef
 ref alias column at = record { alias = Some alias; column = column; at = at }
 
 abbrev pub row_select : Select
@@ -44,7 +44,7 @@ row_tables =
     ∷ record { names = three (codes "b") (codes "c") (codes "w"); rows = three (codes "x") (codes "p") (codes "5") ∷ three (codes "y") (codes "q") (codes "2") ∷ three (codes "x") (codes "q") (codes "4") ∷ [] }
     ∷ []
 
-abbrev Told : {A : Type 0} → Result A Reason → Result A Reason → Type 0
+abbrev pub Told : {A : Type 0} → Result A Reason → Result A Reason → Type 0
 Told a b = a ≡ b
 
 pub row_tabled : Told (tables_in row_files row_words.tables (first_uses row_select.items)) (Ok row_tables)
