@@ -1,0 +1,6 @@
+mod Examples
+pub mod Cuts
+pub mod FormTexts
+pub mod Numbers
+pub mod RoundTrip
+pub mod Turns

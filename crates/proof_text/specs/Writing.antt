@@ -1,0 +1,25 @@
+-- A certificate as it is written.
+use Rattle.std.specs.Prelude.{ℕ, Bool, if◌then◌else◌, List, ◌++◌, codes, decimal}
+use Rattle.std.specs.List.{flat_map}
+use Rattle.proof_text.specs.Certificate.{BoundLine, AnswerLine, Certificate}
+
+-- numbers with a space before each
+abbrev pub spaced : List ℕ → List ℕ
+spaced numbers = flat_map (λ n. codes " " ++ decimal n) numbers
+
+abbrev pub header_text : List ℕ
+header_text = codes "anyk-proof 1\n"
+
+abbrev pub bound_text : ℕ → List ℕ → List ℕ
+bound_text node rows = codes "bound " ++ (decimal node ++ (spaced rows ++ codes "\n"))
+
+abbrev pub answer_text : List ℕ → List ℕ
+answer_text rows = codes "answer" ++ (spaced rows ++ codes "\n")
+
+abbrev pub last_text : Bool → List ℕ
+last_text ended = if ended then codes "end\n" else codes "more\n"
+
+abbrev pub proof_text : Certificate → List ℕ
+proof_text c =
+    header_text ++ (flat_map (λ (b : BoundLine). bound_text b.node b.rows) c.bounds
+    ++ (flat_map (λ (a : AnswerLine). answer_text a.rows) c.answers ++ last_text c.ended))
