@@ -1,0 +1,12 @@
+pub mod Sums
+pub mod Splitting
+pub mod Covering
+pub mod Choices
+pub mod Soundness
+pub mod Completing
+pub mod Completeness
+pub mod QueryLaws
+pub mod FirstOnes
+pub mod Wider
+pub mod OneFlaw
+pub mod FirstAnswers

@@ -1,0 +1,48 @@
+-- Wide keys are added and compared as the keys that they stand for.
+use Rattle.std.proofs.Common.{◌≡◌, ◌↔◌, ℕ, zero, suc, ◌≤◌, ℤ, pos, ◌+ℤ◌, ◌<ℤ◌, List, [], ◌∷◌, length, refl, inl, inr}
+use Rattle.std.proofs.Common.{arith}
+use Rattle.std.proofs.lemmas.Int.{ints}
+use Rattle.tdp_model.specs.KeyTuple.{KeyOf, key_add, key_none, key_below}
+use Rattle.tdp_model.specs.KeyNumbers.{key_of_lists}
+use Rattle.proof_model.specs.Wide.{wide}
+
+zero-sum : pos 0 ≡ pos 0 +ℤ pos 0
+zero-sum = omega (arith, ints)
+
+not-less : (z : ℤ) → z <ℤ z → ⊥
+not-less z p = omega (arith, ints)
+
+pub wide-add : (few more e : ℕ) → few ≤ more → (a b : KeyOf few e)
+    → wide few more e (key_add few e a b) ≡ key_add more e (wide few more e a) (wide few more e b)
+wide-add zero zero e h a b = refl
+wide-add zero (suc more) e h a b = λ i. (zero-sum i, wide-add zero more e (omega arith) a b i)
+wide-add (suc few) zero e h a b = absurd (omega arith)
+wide-add (suc few) (suc more) e h a b = λ i. (a.0 +ℤ b.0, wide-add few more e (omega arith) a.1 b.1 i)
+
+pub wide-none : (few more e : ℕ) → few ≤ more → wide few more e (key_none few e) ≡ key_none more e
+wide-none zero zero e h = refl
+wide-none zero (suc more) e h = λ i. (pos 0, wide-none zero more e (omega arith) i)
+wide-none (suc few) zero e h = absurd (omega arith)
+wide-none (suc few) (suc more) e h = λ i. (pos 0, wide-none few more e (omega arith) i)
+
+pub wide-below : (few more e : ℕ) → few ≤ more → (a b : KeyOf few e)
+    → key_below more e (wide few more e a) (wide few more e b) ↔ key_below few e a b
+wide-below zero zero e h a b = (λ p. p, λ p. p)
+wide-below zero (suc more) e h a b =
+    let later = wide-below zero more e (omega arith) a b in
+    (λ p. elim p [ inl l ↦ absurd (not-less (pos 0) l) | inr q ↦ later.0 q.1 ], λ p. inr (refl, later.1 p))
+wide-below (suc few) zero e h a b = absurd (omega arith)
+wide-below (suc few) (suc more) e h a b =
+    let later = wide-below few more e (omega arith) a.1 b.1 in (
+      λ p. elim p [ inl l ↦ inl l | inr q ↦ inr (q.0, later.0 q.1) ],
+      λ p. elim p [ inl l ↦ inl l | inr q ↦ inr (q.0, later.1 q.1) ],
+    )
+
+pub wide-lists : (few more e : ℕ) → few ≤ more → (xs : List ℤ) (us : List ℕ) → length xs ≤ few
+    → wide few more e (key_of_lists few e xs us) ≡ key_of_lists more e xs us
+wide-lists zero zero e h xs us l = refl
+wide-lists zero (suc more) e h [] us l = λ i. (pos 0, wide-lists zero more e (omega arith) [] us (omega arith) i)
+wide-lists zero (suc more) e h (x ∷ xs) us l = absurd (omega arith)
+wide-lists (suc few) zero e h xs us l = absurd (omega arith)
+wide-lists (suc few) (suc more) e h [] us l = λ i. (pos 0, wide-lists few more e (omega arith) [] us (omega arith) i)
+wide-lists (suc few) (suc more) e h (x ∷ xs) us l = λ i. (x, wide-lists few more e (omega arith) xs us (omega arith) i)

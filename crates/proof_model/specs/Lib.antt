@@ -1,0 +1,9 @@
+pub mod FirstAnswers
+pub mod Full
+pub mod Laws
+pub mod Problem
+pub mod QueryProblem
+pub mod Theorems
+pub mod Valid
+pub mod Wide
+pub mod Written

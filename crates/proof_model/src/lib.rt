@@ -1,0 +1,41 @@
+//! Certificates of the first answers of a query: when one is valid, and what a valid one shows. No code.
+//!
+//! A certificate has a bound for each group of rows, and the answers. Each row is compared with the bounds of the
+//! groups below it, as in dynamic programming over trees. Each way to leave the listed answers is compared by its rows
+//! and the bounds of the groups that it leaves open: these ways are the parts of Lawler's procedure ("A procedure for
+//! computing the K best solutions to discrete optimization problems", 1972). So a certificate is checked with no queue
+//! and no engine. That it then shows the first answers is proved here; its form is this project's own.
+#![tactic(auto)]
+
+ghost use Rattle.proof_model.specs.Theorems.{AnswersAreFirst, FullIsValid, OneFirstFlaw};
+ghost use Rattle.proof_model.specs.Theorems.{UnlistedComeAfter, ValidHasNoFlaw, WideKeysAgree};
+
+/// Of a valid certificate each solution is listed, or it comes after the last answer.
+pub fn unlisted_come_after()
+    ensures { UnlistedComeAfter }
+{}
+
+/// The keys of a valid certificate's answers are those that the limit leaves of the ranking of all solutions.
+pub fn answers_are_first()
+    ensures { AnswersAreFirst }
+{}
+
+/// A valid certificate has no flaw.
+pub fn valid_has_no_flaw()
+    ensures { ValidHasNoFlaw }
+{}
+
+/// One flaw at most is the first one of a certificate.
+pub fn one_first_flaw()
+    ensures { OneFirstFlaw }
+{}
+
+/// A certificate is valid if each group with a solution has its least bound, and its answers are the first solutions.
+pub fn full_is_valid()
+    ensures { FullIsValid }
+{}
+
+/// Keys with room for more sums are added and compared as the keys that they stand for.
+pub fn wide_keys_agree()
+    ensures { WideKeysAgree }
+{}
