@@ -48,13 +48,17 @@ def first_inputs():
 
 
 def other_inputs():
-    """Each other command and option, keys of both directions, constants, quotes, and refusals."""
+    """Each other command and option, two queries in one ranking, keys of both directions, constants, quotes, and refusals."""
     two_keys = {**TWO, "q.sql": "select * from R join S on R.b = S.b where S.c = 'q' order by R.w desc, S.w limit 2;\n"}
     quoted = {"q.sql": 'SELECT a."to", b."to" FROM f a JOIN f b ON a."to" = b.src WHERE a.src = \'Oslo\' ORDER BY a.p + b.p LIMIT 2;',
               "f.csv": 'src,to,p\r\nOslo,Paris,120\r\nParis,Lima,700\r\nParis,"New York, ""NY""",350\r\n'}
+    union = {**TWO, "q.sql": JOIN + " union all select R.a, R.b from R order by R.w"}
+    merged = ("a,c,rank1,branch,row1,row2\n2,y,1,2,2,\n3,x,1,2,3,\n2,q,3,1,2,2\n1,x,3,2,1,\n3,q,5,1,3,3\n3,p,6,1,3,1\n"
+              "1,q,7,1,1,3\n1,p,8,1,1,1\n")
     shown = "a,c,rank1,row1,row2\n2,q,3,2,2\n3,q,5,3,3\n3,p,6,3,1\n1,q,7,1,3\n1,p,8,1,1\n"
     inputs = [
         *both("ranks and rows", TWO, ["run", "--ranks", "--rows"], OVER_TWO, shown),
+        *both("two queries", union, ["run", "--ranks", "--rows"], OVER_TWO, merged),
         *both("two keys", two_keys, ["run"], OVER_TWO, "a,b,w,b,c,w\n1,x,3,x,q,4\n2,y,1,y,q,2\n"),
         *both("quotes", quoted, ["run"], ["q.sql", "f=f.csv"], 'to,to\nParis,"New York, ""NY"""\nParis,Lima\n'),
         *both("session with ranks", {**TWO, "s.txt": "open a\nnext a 1\nclose a\n"}, ["session", "--ranks", "--rows", "--script=s.txt"],
@@ -69,6 +73,8 @@ def other_inputs():
         Input("unknown column", {**TWO, "q.sql": "select R.zz from R"}, ["run", *OVER_TWO], "", 4, "anyk: byte 7: unknown column\n"),
         Input("no header", {**TWO, "S.csv": ""}, ["run", *OVER_TWO], "", 5, "anyk: table S: no header\n"),
         Input("cyclic", triangle, ["run", "q.sql", "R=R.csv"], "", 6, "anyk: cyclic query: items 1 2 3\n"),
+        Input("another shape", {**TWO, "q.sql": JOIN + " union all select R.a from R order by R.w"}, ["run", *OVER_TWO], "", 15,
+              "anyk: branch 2: shape differs\n"),
         Input("no file", TWO, ["run", "q.sql", "R=R.csv", "S=none.csv"], "", 9, "anyk: file none.csv: not found\n"),
     ]
     return inputs
