@@ -87,6 +87,9 @@ pub(crate) fn rank_of<R: Rank>(
     // there are at most 16 items
     let _items = query.items();
     let item = join.atom[node as usize];
+    if query.keys() == 1 {
+        return R::of_row(&[query.part(tables, item, row, 0)], item, row);
+    }
     let parts = parts_of(query, tables, item, row);
     R::of_row(&parts[..query.keys() as usize], item, row)
 }

@@ -113,14 +113,13 @@ impl<const N: usize> Rank for FixedRank<N> {
     }
 
     fn of_row(sums: &[i128], slot: u32, row: u32) -> Self {
-        let mut padded = [0; N];
-        copy_sums(&mut padded, sums);
-        let mut slots = [0; SLOTS];
-        slots[slot as usize] = row;
-        FixedRank {
-            sums: padded,
-            slots,
-        }
+        let mut rank = FixedRank {
+            sums: [0; N],
+            slots: [0; SLOTS],
+        };
+        copy_sums(&mut rank.sums, sums);
+        rank.slots[slot as usize] = row;
+        rank
     }
 
     fn join<L: Ledger>(a: Self, b: Self, steps: &mut Steps<L>) -> Self {
