@@ -7,10 +7,11 @@ use Rattle.std.specs.Char.{is_ascii_digit}
 use Rattle.std.proofs.lemmas.Bool.{eqb-true, false≢true}
 use Rattle.std.proofs.lemmas.Slice.Eq.{bytes_eq-Decides}
 use Rattle.std.proofs.lemmas.List.Splits.{join_with_byte-slice_split}
+use Rattle.text_lines.specs.Parts.{parts}
 use Rattle.session_script.specs.declared.step.Step.{Step}
 use Rattle.session_script.specs.declared.step.Step.TheVariants.{Open, Next, Fork, Rewind, Close}
 use Rattle.session_script.specs.Names.{is_name_byte, is_name, name_of}
-use Rattle.session_script.specs.Words.{parts, is_count, decimal_value, count_of, one_name_step, next_step, fork_step, two_part_step, step_of_parts, step_of}
+use Rattle.session_script.specs.Words.{is_count, decimal_value, count_of, one_name_step, next_step, fork_step, two_part_step, step_of_parts, step_of}
 use Rattle.session_script.specs.Forms.{Says, opens, moves, forks, rewinds, closes, IsSaid}
 
 both_true : (a b : Bool) → (a && b) ≡ true → (a ≡ true) × (b ≡ true)

@@ -2,9 +2,10 @@
 use Rattle.std.proofs.Common.{◌≡◌, ℕ, ◌+◌, ◌<◌, List, [], ◌∷◌, ◌++◌, length, None, Result, Ok, Err, true, false, refl, ap, sym, ◌∙◌, arith, append_assoc, eqb, inl, inr}
 use Rattle.std.proofs.lemmas.List.{append-nil}
 use Rattle.std.proofs.lemmas.List.Splits.{length-slice_split}
+use Rattle.text_lines.specs.Parts.{parts}
 use Rattle.session_script.specs.declared.step.Step.{Step}
 use Rattle.session_script.specs.declared.fault.ScriptFault.{ScriptFault}
-use Rattle.session_script.specs.Words.{is_skipped, parts, step_of_parts, step_of}
+use Rattle.session_script.specs.Words.{is_skipped, step_of_parts, step_of}
 use Rattle.session_script.specs.Script.{names_after, turn, onto, steps_from, Fails}
 
 pub skip_turn : (n : ℕ) (names : List (List ℕ)) (text : List ℕ) (more : List (List ℕ)) → is_skipped text ≡ true → steps_from n names (text ∷ more) ≡ steps_from (n + 1) names more

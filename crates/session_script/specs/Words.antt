@@ -1,8 +1,9 @@
 -- What a line of a script says.
 use Rattle.std.specs.Prelude.{ℕ, ◌+◌, ◌-◌, ◌*◌, List, [], ◌∷◌, length, Option, Some, None, Bool, true, ◌==◌, ◌&&◌, nat_le, if◌then◌else◌, codes, fold, option_and_then}
-use Rattle.std.specs.List.{slice_split, list_all}
+use Rattle.std.specs.List.{list_all}
 use Rattle.std.specs.Str.{bytes_eq}
 use Rattle.std.specs.Char.{is_ascii_digit}
+use Rattle.text_lines.specs.Parts.{parts}
 use Rattle.session_script.specs.Names.{name_of}
 use Rattle.session_script.specs.declared.step.Step.{Step}
 use Rattle.session_script.specs.declared.step.Step.TheVariants as step
@@ -11,10 +12,6 @@ use Rattle.session_script.specs.declared.step.Step.TheVariants as step
 abbrev pub is_skipped : List ℕ → Bool
 is_skipped [] = true
 is_skipped (b ∷ bs) = b == 35
-
--- the parts of a line between spaces
-abbrev pub parts : List ℕ → List (List ℕ)
-parts line = slice_split (λ b. b == 32) line
 
 -- 1 to 9 digits
 abbrev pub is_count : List ℕ → Bool

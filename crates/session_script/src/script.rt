@@ -6,12 +6,13 @@ ghost use Rattle.session_script.specs.Forms.{SayEach, said_lines, NamesBadLine};
 ghost use Rattle.session_script.specs.Script.{turn, steps_from, steps_of, names_after, Fails, KeepsRules};
 
 use crate::fault::ScriptFault;
-use crate::lines::{count_lines, first_line, is_skipped};
+use crate::lines::{count_lines, is_skipped};
 use crate::name::Name;
 use crate::open_names::{fault_of, follow};
 use crate::step::Step;
 use crate::words::read_line;
 use std::alloc::Global;
+use text_lines::first_line;
 
 /// The greatest number of lines.
 pub const MAX_LINES: usize = 10000;
