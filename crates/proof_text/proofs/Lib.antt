@@ -1,5 +1,4 @@
 mod Examples
-pub mod Cuts
 pub mod FormTexts
 pub mod Numbers
 pub mod RoundTrip

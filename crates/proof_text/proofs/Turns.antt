@@ -5,10 +5,11 @@ use Rattle.std.specs.Str.{bytes_eq}
 use Rattle.std.specs.Str.Lines.{lines}
 use Rattle.std.proofs.lemmas.Bool.{cond-true}
 use Rattle.std.proofs.lemmas.List.Splits.{length-slice_split}
+use Rattle.text_lines.specs.Parts.{parts}
 use Rattle.proof_text.specs.declared.fault.ProofFault.{ProofFault}
 use Rattle.proof_text.specs.declared.fault.ProofFault.TheVariants.{BadHeader, BadLine}
 use Rattle.proof_text.specs.Certificate.{Certificate}
-use Rattle.proof_text.specs.Forms.{last_line, line_of, line_of_parts, numbers_line, parts}
+use Rattle.proof_text.specs.Forms.{last_line, line_of, line_of_parts, numbers_line}
 use Rattle.proof_text.specs.Reading.{Lines, Fails, by_line, no_lines, proof_of, proof_of_lines, read_from}
 
 pub one-part : (text word : List ℕ) → parts text ≡ word ∷ [] → line_of text ≡ last_line word

@@ -2,11 +2,11 @@
 use Rattle.std.specs.Prelude.{ℕ, ◌==◌, ◌&&◌, ◌||◌, Bool, true, false, not, nat_le, if◌then◌else◌, List, [], ◌∷◌}
 use Rattle.std.specs.Prelude.{length}
 use Rattle.std.specs.Prelude.{Option, Some, None, option_map, option_and_then, codes, slice_index}
-use Rattle.std.specs.List.{slice_split, list_all}
+use Rattle.std.specs.List.{list_all}
 use Rattle.std.specs.Str.{bytes_eq}
 use Rattle.std.specs.Str.Parse.{digits_value}
-use Rattle.std.specs.Borrow.{Bor}
 use Rattle.std.specs.Char.{is_ascii_digit}
+use Rattle.text_lines.specs.Parts.{parts}
 
 -- 1 to 7 digits, of which the first is 0 in `0` alone
 abbrev pub is_number : List ℕ → Bool
@@ -55,15 +55,6 @@ unfoldable pub line_of_parts : List (List ℕ) → Option LineForm
 line_of_parts [] = None
 line_of_parts (word ∷ []) = last_line word
 line_of_parts (word ∷ part ∷ parts) = numbers_line word (part ∷ parts)
-
--- the parts of a line between spaces
-abbrev pub parts : List ℕ → List (List ℕ)
-parts text = slice_split (λ b. b == 32) text
-
--- the parts of what is after a space
-abbrev pub parts_after : Option (Bor (List ℕ)) → List (List ℕ)
-parts_after None = []
-parts_after (Some rest) = parts rest.now
 
 -- what a line says, and None if it has no form
 abbrev pub line_of : List ℕ → Option LineForm

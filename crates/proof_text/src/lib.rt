@@ -11,7 +11,6 @@
 mod fault;
 mod laws;
 mod line;
-mod lines;
 mod number;
 mod proof;
 mod reading;

@@ -2,12 +2,13 @@
 
 ghost use Rattle.std.specs.Prelude.{◌≡◌, option_map, IfOk};
 ghost use Rattle.std.specs.Str.{bytes_eq};
-ghost use Rattle.proof_text.specs.Forms.{answer_line, bound_line, last_line, line_of, numbers_line, parts};
+ghost use Rattle.text_lines.specs.Parts.{parts};
+ghost use Rattle.proof_text.specs.Forms.{answer_line, bound_line, last_line, line_of, numbers_line};
 ghost use Rattle.proof_text.specs.Seen.{seen_line};
 
-use crate::lines::first_part;
 use crate::number::read_numbers;
 use std::alloc::{AllocFailed, Global};
+use text_lines::first_part;
 
 /// What a line after the first one says.
 #[derive(Drop)]

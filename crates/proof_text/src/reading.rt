@@ -14,9 +14,9 @@ ghost use Rattle.proof_text.specs.Writing.{proof_text};
 
 use crate::fault::ProofFault;
 use crate::line::{Line, read_line};
-use crate::lines::first_line;
 use crate::proof::{Bound, Listed, Proof};
 use std::alloc::Global;
+use text_lines::first_line;
 
 const HEADER: &[u8] = b"anyk-proof 1";
 

@@ -1,6 +1,7 @@
 use Rattle.std.proofs.Common.{◌≡◌, ◌++◌, length}
 use Rattle.std.specs.Prelude.{option_map}
-use Rattle.proof_text.specs.Forms.{numbers_of, parts, parts_after}
+use Rattle.text_lines.specs.Parts.{parts, parts_after}
+use Rattle.proof_text.specs.Forms.{numbers_of}
 use Rattle.proof_text.proofs.number.read_numbers.Given as goal
 
 abbrev pub invariant-parts : goal.invariant-parts
