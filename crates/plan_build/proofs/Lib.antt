@@ -6,10 +6,6 @@ pub mod Filled
 pub mod Reordered
 pub mod Planned
 pub mod Rooted
-pub mod WitnessSums
-pub mod WitnessKeys
-pub mod WitnessTrees
-pub mod WitnessRows
 pub mod Witnesses
 pub mod Places
 pub mod PlanRows

@@ -8,17 +8,18 @@ use Rattle.std.proofs.lemmas.List.Sorted.{Contains-permutation, IsPermutation-sy
 use Rattle.std.proofs.lemmas.Grind.{get_or_default_zero}
 use Rattle.rankings.specs.Order.{IsMember}
 use Rattle.join_tree.specs.declared.tree.JoinTree.{JoinTree}
-use Rattle.tdp_model.specs.KeyTuple.{KeyOf}
+use Rattle.tdp_model.specs.KeyTuple.{KeyOf, key_none}
 use Rattle.tdp_model.specs.Regions.{place_of}
-use Rattle.tdp_core.specs.RawData.{RawData, child_link, own_link, raw_len, raw_number, rows_at, shape_child_place, shape_parent}
-use Rattle.tdp_core.specs.TreeData.{NodeData, group, group_number, item, members, node_at, number, parent, rows}
+use Rattle.tdp_core.specs.RawData.{RawData, child_link, own_link, raw_len, raw_number, raw_rank, rows_at, shape_child_place, shape_parent}
+use Rattle.tdp_core.specs.TreeData.{NodeData, group, group_number, item, members, node_at, number, parent, rank, rows}
 use Rattle.tdp_core.specs.Solutions.{Extends, RawExtends, RawLinked}
 use Rattle.tdp_core.specs.WellFormed.{IsFormed}
 use Rattle.anyk_model.specs.Table.{Table}
 use Rattle.anyk_model.specs.Query.{item_table}
 use Rattle.query_bind.specs.Classes.{Passes}
 use Rattle.query_bind.specs.Weighed.{BoundQuery}
-use Rattle.node_build.specs.Nodes.{IsBuilt, RowsAgree, RowsAlike, item_of, parent_of}
+use Rattle.rank_key.specs.Keys.{row_key}
+use Rattle.node_build.specs.Nodes.{IsBuilt, RowsAgree, RowsAlike, item_of, parent_of, row_parts}
 use Rattle.semi_join.specs.Reduced.{IsReduced, ShareGroup}
 use Rattle.semi_join.proofs.NodeRows.{row-field, rows-count}
 use Rattle.semi_join.proofs.SameShapes.{count-same, parent-same, shape-same}
@@ -265,3 +266,20 @@ module _ {R : Type 0} (d : ℕ) (key : R → KeyOf d 16) (bound : BoundQuery) (t
     groups = groups-alike;
     named = named-agree;
   }
+
+  -- # Keys of rows
+
+  rank-kept : (v i : ℕ) → v < n → i < length (reduced.kept v) → rank tree d key v i ≡ raw_rank raw d key v (slice_index (reduced.kept v) i)
+  rank-kept v i l inside =
+      ap (λ xs. get_or (map (λ x. key x.rank) xs) i (key_none d 16)) (kept-rows v)
+      ∙ row-field raw v (reduced.kept v) (node_at parts v).rows (reduced.rows v (in-raw v l)) (λ x. key x.rank) (key_none d 16) i inside
+
+  -- the key of a row is that of its item's row
+  pub ranks-are : (v i : ℕ) → v < n → i < rows tree v
+      → rank tree d key v i ≡ row_key d (row_parts bound tables (item tree v) (number tree v i)) (item tree v) (number tree v i)
+  ranks-are v i l row =
+      let size = rows-kept v l in
+      let low : i < length (reduced.kept v) = omega (arith, size, row) in
+      rank-kept v i l low ∙ built.ranks v (slice_index (reduced.kept v) i) (in-join v l) (kept-inside v i l low)
+      ∙ ap (λ x. row_key d (row_parts bound tables (item_of join v) x) (item_of join v) x) (sym (number-kept v i l low))
+      ∙ ap (λ a. row_key d (row_parts bound tables a (number tree v i)) a (number tree v i)) (sym (item-is v l))

@@ -20,7 +20,7 @@ use Rattle.semi_join.specs.Reduced.{IsReduced}
 use Rattle.tree_dp.specs.Solved.{IsSolved}
 use Rattle.plan_build.specs.Plan.{IsPlanFor, tree_shown}
 use Rattle.plan_build.proofs.PlanOf.{AreWitnesses, has-witnesses, ranking-agrees}
-use Rattle.plan_build.proofs.PlanRows.{reduced-rows}
+use Rattle.plan_build.proofs.PlanRows.{ranks-are, reduced-rows}
 use Rattle.plan_build.proofs.Reordered.{moved-count, moved-length, moved-rows, moved-sum, node-item, node-within, node_from, rows_moved}
 use Rattle.plan_build.proofs.ShapeOf.{kept-in-all, numbers-in-all, numbers_of, rows-of-built, same-lengths, shape-of-rows, shape_with}
 use Rattle.plan_build.proofs.Sizes.{fewer-in-all, sum-of-lengths}
@@ -140,6 +140,7 @@ module _ (bound : BoundQuery) (tables : List Table) (join : JoinTree) (stored : 
             nodes = nodes bound tables d key over raw built parts tree reduced solved ∙ joined.count;
             fewer = let r = rows-in-all in omega (arith, r, all, is);
             reduced = reduced-rows d key bound tables over raw built parts tree reduced solved formed;
+            ranks = ranks-are d key bound tables over raw built parts tree reduced solved formed;
             witnesses = has;
             tie_free = apart;
             ranking = ranking-agrees d key bound.query tables raw parts tree reduced solved few items has;

@@ -12,7 +12,7 @@ use Rattle.query_bind.specs.Parts.{sum_of_all}
 use Rattle.query_bind.specs.Weighed.{BoundQuery}
 use Rattle.node_build.specs.Nodes.{AreNodeRows, AreRowsOfNodes, IsJoinTreeOf, item_of}
 use Rattle.plan_build.proofs.Witnesses.{items-ordered}
-use Rattle.plan_build.proofs.WitnessSums.{Chosen, IsOrderOf, choose, total-reordered, total-same}
+use Rattle.tree_witnesses.proofs.WitnessSums.{Chosen, IsOrderOf, choose, total-reordered, total-same}
 
 -- ---- sums
 

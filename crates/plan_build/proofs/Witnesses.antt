@@ -4,9 +4,6 @@ use Rattle.std.proofs.lemmas.Bool.{cases_eq, cases_order}
 use Rattle.std.proofs.lemmas.Grind.{get_or_default_zero}
 use Rattle.std.proofs.lemmas.List.{get_or-take, length-map}
 use Rattle.rankings.proofs.Members.{contains-member, member-contains}
-use Rattle.hyper_graph.specs.Graph.{HasVar}
-use Rattle.hyper_graph.proofs.Paths.{IsRunning}
-use Rattle.hyper_graph.proofs.Routes.{running_from_connected}
 use Rattle.join_tree.specs.declared.tree.JoinTree.{JoinTree}
 use Rattle.tdp_model.specs.KeyTuple.{KeyOf, key_add, key_none}
 use Rattle.tdp_model.specs.TreeProblem.{sum_from}
@@ -18,13 +15,13 @@ use Rattle.anyk_model.specs.Query.{IsCombination, IsWitness, Query, item_table, 
 use Rattle.query_bind.specs.Classes.{HasVariable, PassAndAgreeAtLeast, Passes, row_field}
 use Rattle.query_bind.specs.Weighed.{BoundQuery, Fits}
 use Rattle.query_bind.proofs.Least.{least-iff}
-use Rattle.query_bind.proofs.Witness.{linked-append, linked-back, witness-iff}
+use Rattle.query_bind.proofs.Witness.{witness-iff}
 use Rattle.node_build.specs.Nodes.{IsBuilt, IsJoinTreeOf, RowsAgree, item_of, parent_of, row_parts}
 use Rattle.witness_key.specs.WitnessKey.{witness_key}
-use Rattle.plan_build.proofs.WitnessKeys.{keys-add}
-use Rattle.plan_build.proofs.WitnessRows.{combination-of_each, each-of_combination, length-of_combination, numbered-again, other-number}
-use Rattle.plan_build.proofs.WitnessSums.{IsOrderOf, choose}
-use Rattle.plan_build.proofs.WitnessTrees.{agree-anywhere}
+use Rattle.tree_witnesses.proofs.TreeWitnesses.{links-witness}
+use Rattle.tree_witnesses.proofs.WitnessKeys.{keys-add}
+use Rattle.tree_witnesses.proofs.WitnessRows.{combination-of_each, each-of_combination, length-of_combination}
+use Rattle.tree_witnesses.proofs.WitnessSums.{IsOrderOf, choose}
 
 -- # The tree
 
@@ -191,47 +188,10 @@ module _ {R : Type 0} (bound : BoundQuery) (tables : List Table) (d : ℕ) (key 
           let top : atom (above_of k) ≡ item (up k) = ap atom parent ∙ item-at bound.query join tree (up k) (omega (arith, early, l)) in
           subst (λ a. Agree a (atom (above_of k))) (sym (item-at bound.query join tree k l)) (subst (λ b. Agree (item k) b) (sym top) base)
 
-      module _ (number : ℕ) (known : number < length bound.variables) where
-        running : IsRunning (parents bound.query join tree) (λ k. (p : ℕ) × Has (atom k) number p)
-        running j k less l a b =
-            let es = bound.query.equalities in
-            let graph = tree.graph in
-            let others = tree.of_query.variables in
-            let there = other-number es bound.variables others fits.variables tree.of_query.are_variables number known in
-            let to_graph : (i : ℕ) → ((p : ℕ) × Has (atom i) number p) → HasVar graph there.0 (atom i) =
-            λ i h. (tree.of_query.has there.0 (atom i) there.1).1 (h.0, numbered-again es bound.variables others number there.0 (atom i) h.0 there.1 there.2 h.1) in
-            let back : (i : ℕ) → HasVar graph there.0 (atom i) → (p : ℕ) × Has (atom i) number p =
-            λ i h. (let g = (tree.of_query.has there.0 (atom i) there.1).0 h in (g.0, numbered-again es others bound.variables there.0 number (atom i) g.0 known (sym there.2) g.1)) in
-            let run = running_from_connected (parents bound.query join tree) (λ i. HasVar graph there.0 (atom i)) tree.tree.first (tree.tree.connected there.0) in
-            back (above_of k) (run j k less l (to_graph j a) (to_graph k b))
-
-        one-place : (k p q : ℕ) → Has (atom k) number p → Has (atom k) number q → p ≡ q
-        one-place k p q a b =
-            let less = a.least q (linked-append (linked-back a.linked) b.linked) in
-            let more = b.least p (linked-append (linked-back b.linked) a.linked) in
-            omega (arith, less, more)
-
-        atoms-agree : (j k p q : ℕ) → j < n → k < n → Has (atom j) number p → Has (atom k) number q → field (atom j) p ≡ field (atom k) q
-        atoms-agree j k p q lj lk a b =
-            let c = length-parents bound.query join tree in
-            agree-anywhere (parents bound.query join tree) (λ i r. Has (atom i) number r) (λ i r. field (atom i) r) tree.tree.first running one-place
-            (λ i r t above inside g h. edge-agrees i above (omega (arith, c, inside)) number r t g h)
-            j k p q (omega (arith, c, lj)) (omega (arith, c, lk)) a b
-
-      items-agree : (i j : ℕ) → i < n → j < n → Agree i j
-      items-agree i j li lj number p q a b =
-          let u = atom-of bound.query join tree i li in
-          let v = atom-of bound.query join tree j lj in
-          let first = subst (λ x. Agree x (atom v.0)) u.2 (λ m r t g h. atoms-agree m g.known u.0 v.0 r t u.1 v.1 g h) in
-          subst (λ y. Agree i y) v.2 first number p q a b
-
       is-witness : IsWitness bound.query tables rows
       is-witness =
-          (witness-iff bound.query tables rows fits.within).1 (
-            combination,
-            (least-iff bound.query tables rows bound.variables fits.variables).1
-                (record { pass = λ a l. (item-good a l).2; agree = items-agree }),
-          )
+          links-witness bound.query tables tree.graph (atoms bound.query join tree) (parents bound.query join tree) tree.of_query tree.tree
+          rows bound.variables fits.variables edge-agrees fits.within combination (λ a l. (item-good a l).2)
 
     -- # From a witness
 

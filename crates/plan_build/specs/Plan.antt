@@ -2,7 +2,7 @@
 use Rattle.std.specs.Prelude.{◌≡◌, ◌↔◌, ◌⊎◌, ℕ, ◌<◌, ◌≤◌, List, Contains, map, length, slice_index, take, Ok, Err, Option, None, Some}
 use Rattle.rankings.specs.Order.{IsAscending, IsMember}
 use Rattle.tdp_model.specs.KeyTuple.{KeyOf}
-use Rattle.tdp_core.specs.TreeData.{NodeData, group, item, node_at, number, parent, row_count, rows}
+use Rattle.tdp_core.specs.TreeData.{NodeData, group, item, node_at, number, parent, rank, row_count, rows}
 use Rattle.tdp_core.specs.Solutions.{Extends, IsTreeRanking, IsTreeSolution, solution_key}
 use Rattle.tdp_core.specs.WellFormed.{IsTieFreeTree}
 use Rattle.anyk_model.specs.Table.{Table}
@@ -11,6 +11,8 @@ use Rattle.anyk_model.specs.Ranking.{ranking_of}
 use Rattle.query_bind.specs.Classes.{Passes}
 use Rattle.query_bind.specs.Parts.{sum_of_all}
 use Rattle.query_bind.specs.Weighed.{BoundQuery}
+use Rattle.query_bind.specs.Weights.{part_of}
+use Rattle.rank_key.specs.Keys.{row_key}
 use Rattle.join_tree.specs.Rerooting.{IsSameTree, IsTree}
 use Rattle.join_tree.specs.declared.tree.JoinTree.{JoinTree}
 use Rattle.query_shape.specs.Shape.{IsShape, Shape, cyclic, too_many_rows}
@@ -90,6 +92,9 @@ pub record IsPlanFor {R : Type 0} (d : ℕ) (key : R → KeyOf d 16) (bound : Bo
   pub nodes : length plan.tree ≡ length bound.query.items
   pub fewer : row_count plan.tree ≤ sum_of_all shape.node_rows
   pub reduced : HasReducedRows bound tables plan.tree
+  -- the key of a row has the parts that the row has of the order keys, and the row's number in the slot of its item
+  pub ranks : (v r : ℕ) → v < length plan.tree → r < rows plan.tree v
+      → rank plan.tree d key v r ≡ row_key d (map (part_of tables bound.query.items (item plan.tree v) (number plan.tree v r)) bound.query.order) (item plan.tree v) (number plan.tree v r)
   pub witnesses : HasWitnesses d key bound.query tables plan.tree
   pub tie_free : IsTieFreeTree plan.tree
   -- the ranking of the tree is that of the witnesses

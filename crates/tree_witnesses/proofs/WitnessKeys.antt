@@ -18,7 +18,7 @@ use Rattle.tdp_model.proofs.KeyNumbers.{key_same, slot_of_lists, sum_of_add, sum
 use Rattle.tdp_model.proofs.KeyTuples.{slot_of_add, slot_of_none}
 use Rattle.rank_key.specs.Keys.{row_key}
 use Rattle.witness_key.specs.WitnessKey.{witness_key}
-use Rattle.plan_build.proofs.WitnessSums.{IsOrderOf, equal-test, other-test, total-one, total-reordered, total-same, total-zeros}
+use Rattle.tree_witnesses.proofs.WitnessSums.{IsOrderOf, equal-test, other-test, total-one, total-reordered, total-same, total-zeros}
 
 -- ---- the components of a sum of keys
 

@@ -1,0 +1,5 @@
+pub mod WitnessSums
+pub mod WitnessKeys
+pub mod WitnessTrees
+pub mod WitnessRows
+pub mod TreeWitnesses
