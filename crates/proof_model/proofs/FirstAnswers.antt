@@ -15,6 +15,7 @@ use Rattle.proof_model.specs.Problem.{Problem, key_at, row_in}
 use Rattle.proof_model.specs.Laws.{IsProblem, subtree_key}
 use Rattle.proof_model.specs.Valid.{Begins, IsCount, IsValid, answer_at, answer_key, answer_row}
 use Rattle.proof_model.proofs.FirstOnes.{all-ones, first-ones}
+use Rattle.proof_model.proofs.MapPlaces.{member-at, place-of}
 use Rattle.proof_model.proofs.Soundness.{listed-or-after}
 
 -- ---- a list, and what a function gives at each of its places
@@ -39,16 +40,6 @@ module _ {X K : Type 0} (Below : K → K → Type 0) (transitive : (a b c : K) �
   rising (x ∷ xs) up =
       let later : Rises xs = λ i l. up (suc i) (omega (arith, l)) in
       (below-all (f x) xs later (λ some. up 0 (omega (arith, some))), rising xs later)
-
-  place-of : (xs : List X) (k : K) → IsMember k (map f xs) → (i : ℕ) × (i < length xs) × (k ≡ f (get_or xs i d))
-  place-of [] k m = absurd m
-  place-of (x ∷ xs) k (inl e) = (0, omega arith, e)
-  place-of (x ∷ xs) k (inr m) = let r = place-of xs k m in (suc r.0, omega (arith, r.1), r.2)
-
-  member-at : (xs : List X) (i : ℕ) → i < length xs → IsMember (f (get_or xs i d)) (map f xs)
-  member-at [] i l = absurd (omega arith)
-  member-at (x ∷ xs) zero l = inl refl
-  member-at (x ∷ xs) (suc i) l = inr (member-at xs i (omega (arith, l)))
 
 -- ---- the answers
 
@@ -88,7 +79,7 @@ module _ {K : Type 0} (t : Problem K) (laws : IsProblem t) (c : Certificate) (li
   -- each answer is a solution
   there : (k : K) → IsMember k (answer_keys t c) → IsMember k keys
   there k m =
-      let at = place-of t.Below trans f none c.answers k m in
+      let at = place-of f none c.answers k m in
       let solution = valid.answers at.0 at.1 in
       ranking.complete k (
         row_in t 0 (answer_at t c at.0).rows,
@@ -104,7 +95,7 @@ module _ {K : Type 0} (t : Problem K) (laws : IsProblem t) (c : Certificate) (li
       (λ q. cond (nat_eq (is_below t.parent 0 q) 1) (t.key q (answer_row t c i q)) t.none)
       (λ q. cond (nat_eq (is_below t.parent 0 q) 1) (t.key q (s q)) t.none) t.nodes 0
       (λ q _ l. ap (λ r. cond (nat_eq (is_below t.parent 0 q) 1) (t.key q r) t.none) (b.1 q (omega (arith, l)))))
-      (member-at t.Below trans f none c.answers i b.0)
+      (member-at f none c.answers i b.0)
 
   -- any other one comes after all answers, and the certificate says `more`
   others : (k : K) → IsMember k keys
@@ -116,7 +107,7 @@ module _ {K : Type 0} (t : Problem K) (laws : IsProblem t) (c : Certificate) (li
         | inr after ↦ inr (
           after.0,
           λ x n.
-              let at = place-of t.Below trans f none c.answers x n in
+              let at = place-of f none c.answers x n in
               let i = at.0 in
               let l : i < length c.answers = at.1 in
               let last = to-last (length c.answers - suc i) i (omega (arith, l)) in
@@ -136,7 +127,7 @@ module _ {K : Type 0} (t : Problem K) (laws : IsProblem t) (c : Certificate) (li
       (λ k m. elim (others k m) [ inl n ↦ inl n | inr after ↦ inr after.1 ])
       ∙ ap (λ (n : ℕ). take n keys) (length-map c.answers f)
 
-  whole : c.ended ≡ true → answer_keys t c ≡ keys
+  pub whole : c.ended ≡ true → answer_keys t c ≡ keys
   whole e =
       all-ones t.Below laws.keys.order (answer_keys t c) keys up ranking.ascending there
       (λ k m. elim (others k m) [ inl n ↦ n | inr after ↦ absurd (let x : true ≡ false = sym e ∙ after.0 in cc) ])

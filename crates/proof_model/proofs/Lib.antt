@@ -1,4 +1,8 @@
 pub mod Sums
+pub mod SumsFit
+pub mod ItemPlaces
+pub mod SolutionRows
+pub mod QueryItems
 pub mod Splitting
 pub mod Covering
 pub mod Choices
@@ -6,7 +10,10 @@ pub mod Soundness
 pub mod Completing
 pub mod Completeness
 pub mod QueryLaws
+pub mod MapPlaces
+pub mod Matching
 pub mod FirstOnes
 pub mod Wider
 pub mod OneFlaw
 pub mod FirstAnswers
+pub mod OneText

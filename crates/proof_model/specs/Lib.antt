@@ -1,7 +1,10 @@
+pub mod Faults
 pub mod FirstAnswers
 pub mod Full
 pub mod Laws
+pub mod Parts
 pub mod Problem
+pub mod ProofTexts
 pub mod QueryProblem
 pub mod Theorems
 pub mod Valid

@@ -1,5 +1,6 @@
 -- The tree problem of a query: the nodes of its join tree, with the rows of their items that pass.
-use Rattle.std.specs.Prelude.{◌≡◌, ◌⊎◌, ℕ, ◌≤◌, List, map, length, slice_index}
+use Rattle.std.specs.Prelude.{◌≡◌, ◌⊎◌, ℕ, ◌≤◌, List, map, length, slice_index, take}
+use Rattle.join_tree.specs.declared.tree.JoinTree.{JoinTree}
 use Rattle.tdp_model.specs.KeyTuple.{KeyOf, key_below, key_add, key_none}
 use Rattle.anyk_model.specs.Table.{Table}
 use Rattle.anyk_model.specs.Query.{Query, item_table}
@@ -47,3 +48,7 @@ module _ (query : Query) (tables : List Table) where
     add = key_add (length query.order) 16;
     none = key_none (length query.order) 16;
   }
+
+  -- the nodes are those of a stored join tree
+  abbrev pub problem_in : JoinTree → Problem (KeyOf (length query.order) 16)
+  problem_in join = problem_of (take join.count join.atom) (take join.count join.parent)

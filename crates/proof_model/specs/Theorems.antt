@@ -4,11 +4,17 @@ use Rattle.anyk_model.specs.Table.{Table}
 use Rattle.anyk_model.specs.Query.{Query}
 use Rattle.anyk_model.specs.Output.{cut}
 use Rattle.rankings.specs.Order.{IsRanking}
-use Rattle.tdp_model.specs.KeyTuple.{KeyOf, key_add, key_below}
+use Rattle.tdp_model.specs.KeyTuple.{KeyOf, key_add, key_below, key_none}
+use Rattle.tdp_model.specs.TreeProblem.{sum_from}
+use Rattle.rank_key.specs.Keys.{KeyFits}
+use Rattle.query_bind.specs.Weighed.{BoundQuery, Fits}
+use Rattle.query_shape.specs.Shape.{HasTree}
 use Rattle.proof_text.specs.Certificate.{Certificate}
+use Rattle.proof_model.specs.ProofTexts.{IsProofText}
 use Rattle.proof_model.specs.QueryProblem.{problem_of}
 use Rattle.proof_model.specs.Laws.{IsSubtree, subtree_key}
 use Rattle.proof_model.specs.FirstAnswers.{IsSolutionKey, answer_keys}
+use Rattle.proof_model.specs.Parts.{HaveFewRows, IsPart}
 use Rattle.proof_model.specs.Wide.{wide}
 use Rattle.proof_model.specs.Full.{IsFull}
 use Rattle.proof_model.specs.Valid.{IsValid, IsFirst, Begins, Flaw, Holds, answer_key}
@@ -67,3 +73,19 @@ WideKeysAgree =
     (few more e : ℕ) → few ≤ more → (a b : KeyOf few e)
     → (wide few more e (key_add few e a b) ≡ key_add more e (wide few more e a) (wide few more e b))
     × (key_below more e (wide few more e a) (wide few more e b) ↔ key_below few e a b)
+
+-- a sum of keys of rows, at most one of each node, fits the ranks that have room for the query's order keys
+abbrev pub SumsFit : Type 0
+SumsFit =
+    (bound : BoundQuery) (tables : List Table) (atoms parents : List ℕ) (d : ℕ)
+    → Fits bound tables → HaveFewRows tables → HasTree bound.query atoms parents → length bound.query.order ≤ d
+    → (part : ℕ → KeyOf (length bound.query.order) 16)
+    → ((q : ℕ) → q < length atoms → IsPart (problem_of bound.query tables atoms parents) q (part q))
+    → KeyFits d (wide (length bound.query.order) d 16
+    (sum_from (key_add (length bound.query.order) 16) (key_none (length bound.query.order) 16) part (length atoms) 0))
+
+-- the text that is written for a query is one text
+abbrev pub OneText : Type 0
+OneText =
+    (query : Query) (tables : List Table) (a b : List ℕ) → IsProofText query tables a → IsProofText query tables b
+    → a ≡ b

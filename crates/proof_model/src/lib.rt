@@ -7,8 +7,8 @@
 //! and no engine. That it then shows the first answers is proved here; its form is this project's own.
 #![tactic(auto)]
 
-ghost use Rattle.proof_model.specs.Theorems.{AnswersAreFirst, FullIsValid, OneFirstFlaw};
-ghost use Rattle.proof_model.specs.Theorems.{UnlistedComeAfter, ValidHasNoFlaw, WideKeysAgree};
+ghost use Rattle.proof_model.specs.Theorems.{AnswersAreFirst, FullIsValid, OneFirstFlaw, OneText};
+ghost use Rattle.proof_model.specs.Theorems.{SumsFit, UnlistedComeAfter, ValidHasNoFlaw, WideKeysAgree};
 
 /// Of a valid certificate each solution is listed, or it comes after the last answer.
 pub fn unlisted_come_after()
@@ -38,4 +38,14 @@ pub fn full_is_valid()
 /// Keys with room for more sums are added and compared as the keys that they stand for.
 pub fn wide_keys_agree()
     ensures { WideKeysAgree }
+{}
+
+/// A sum of keys of rows, at most one of each node, fits the ranks that have room for the query's order keys.
+pub fn sums_fit()
+    ensures { SumsFit }
+{}
+
+/// At most one text is the one that is written for a query over its tables.
+pub fn one_text()
+    ensures { OneText }
 {}

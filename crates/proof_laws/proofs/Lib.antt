@@ -1,0 +1,5 @@
+pub mod Lists
+pub mod Solutions
+pub mod Ranked
+pub mod WrittenFull
+pub mod WrittenText

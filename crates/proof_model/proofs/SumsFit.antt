@@ -1,0 +1,281 @@
+-- Sums of keys of rows, at most one of each node, fit a rank.
+use Rattle.std.proofs.Common.{◌≡◌, ◌≢◌, ◌<◌, ◌≤◌, ◌+◌, ◌-◌, ◌^◌, ◌==◌, ℕ, zero, suc, Bool, true, false, cond}
+use Rattle.std.proofs.Common.{ℤ, pos, ◌+ℤ◌, unsigned_abs, List, [], ◌∷◌, map, length, get_or, slice_index}
+use Rattle.std.proofs.Common.{replicate, refl, sym, ap, subst, ◌∙◌, inl, inr, arith}
+use Rattle.std.specs.Int.{w128}
+use Rattle.std.specs.List.{AllByRecursion, range_with_len}
+use Rattle.std.proofs.Math.ListN.{set}
+use Rattle.std.proofs.lemmas.Bool.{cases_eq}
+use Rattle.std.proofs.lemmas.Bool.Decides.{Decides-eqb}
+use Rattle.std.proofs.lemmas.Grind.{get_or-set_at}
+use Rattle.std.proofs.lemmas.Int.{ints, fits_signed_from_abs}
+use Rattle.std.proofs.lemmas.List.{get_or-map, get_or-set_other, get_or-replicate}
+use Rattle.tdp_model.specs.KeyTuple.{KeyOf, key_add, key_none, slot_of}
+use Rattle.tdp_model.specs.KeyNumbers.{sum_of}
+use Rattle.tdp_model.specs.TreeProblem.{sum_from}
+use Rattle.tdp_model.proofs.KeyNumbers.{sum_of_add, sum_of_lists, sum_of_none, slot_of_lists}
+use Rattle.tdp_model.proofs.KeyTuples.{slot_of_add, slot_of_none}
+use Rattle.tdp_model.proofs.Ranges as ranges
+use Rattle.rank_key.specs.Keys.{KeyFits}
+use Rattle.anyk_model.specs.Table.{Table, most_rows, table_at}
+use Rattle.anyk_model.specs.Query.{OrderKey}
+use Rattle.csv_tables.specs.Tables.{IsSound}
+use Rattle.csv_tables.proofs.Places.{sound-few_rows}
+use Rattle.query_bind.specs.Parts.{sum_of_all}
+use Rattle.query_bind.specs.Weighed.{BoundQuery, Fits}
+use Rattle.query_bind.specs.Weights.{cap_of, key_at, part_of}
+use Rattle.query_bind.proofs.Parts.{counts, part-capped}
+use Rattle.query_bind.proofs.Range.{caps-fit}
+use Rattle.query_shape.specs.Shape.{HasTree}
+use Rattle.proof_model.specs.Problem.{Problem}
+use Rattle.proof_model.specs.QueryProblem.{problem_of}
+use Rattle.proof_model.specs.Parts.{HaveFewRows, IsPart}
+use Rattle.proof_model.specs.Wide.{wide}
+
+-- ---- sums of numbers over nodes whose items differ
+
+abbrev over : (ℕ → ℕ) → ℕ → ℕ
+over f n = sum_of_all (map f (range_with_len 0 n))
+
+-- the values without that of one item
+abbrev without : ℕ → (ℕ → ℕ) → ℕ → ℕ
+without i f k = cond (i == k) 0 (f k)
+
+sum-ap : (f g : ℕ → ℕ) (ns : List ℕ) → ((i : ℕ) → f i ≡ g i) → sum_of_all (map f ns) ≡ sum_of_all (map g ns)
+sum-ap f g [] e = refl
+sum-ap f g (n ∷ ns) e = (λ j. e n j + sum-ap f g ns e j)
+
+split-at : (i : ℕ) (f : ℕ → ℕ) (k : ℕ) → f k ≡ cond (i == k) (f k + without i f k) (without i f k)
+split-at i f k = by (i == k)
+  where
+    by : (b : Bool) → f k ≡ cond b (f k + cond {A = ℕ} b 0 (f k)) (cond {A = ℕ} b 0 (f k))
+    by true = omega arith
+    by false = refl
+
+take-out : (i n : ℕ) (f : ℕ → ℕ) → i < n → over f n ≡ f i + over (without i f) n
+take-out i n f inside =
+    sum-ap f (λ k. cond (i == k) (f k + without i f k) (without i f k)) (range_with_len 0 n) (split-at i f)
+    ∙ counts i f (without i f) 0 n (omega arith) (omega (arith, inside))
+
+without-other : (i k : ℕ) (f : ℕ → ℕ) → i ≢ k → without i f k ≡ f k
+without-other i k f other = by (i == k) refl
+  where
+    by : (b : Bool) → (i == k) ≡ b → cond {A = ℕ} b 0 (f k) ≡ f k
+    by true e = absurd (other ((Decides-eqb i k).0 e))
+    by false e = refl
+
+module _ (n : ℕ) (item : ℕ → ℕ) where
+  -- the items of the nodes from q on, k of them, are there and differ
+  record AreApart (k q : ℕ) : Type 0 where
+    pub within : (v : ℕ) → q ≤ v → v < q + k → item v < n
+    pub differ : (u v : ℕ) → q ≤ u → u < v → v < q + k → item u ≢ item v
+
+  -- a sum over the nodes is at most the sum over all items
+  fewer : (k q : ℕ) (f : ℕ → ℕ) → AreApart k q → ranges.sum_of (λ v. f (item v)) k q ≤ over f n
+  unfolding ranges.sum_of
+  fewer zero q f apart = omega arith
+  fewer (suc k) q f apart =
+      let i = item q in
+      let out = take-out i n f (apart.within q (omega arith) (omega arith)) in
+      let later : AreApart k (suc q) = record {
+        within = λ v a b. apart.within v (omega (arith, a)) (omega (arith, b));
+        differ = λ u v a b c. apart.differ u v (omega (arith, a)) b (omega (arith, c));
+      } in
+      let rest = fewer k (suc q) (without i f) later in
+      let same = ranges.sum_of_le (λ v. f (item v)) (λ v. without i f (item v)) k (suc q) (λ v a b.
+      let e = without-other i (item v) f (apart.differ q v (omega arith) (omega (arith, a)) (omega (arith, b))) in
+      omega (arith, e)) in
+      omega (arith, out, rest, same)
+
+-- ---- wide keys
+
+-- a wide key fits if its sums and its slots do
+pub wide-fits : (few d : ℕ) (k : KeyOf few 16) → few ≤ d
+    → ((i : ℕ) → i < few → unsigned_abs (sum_of few 16 i k) < 2 ^ 127)
+    → ((i : ℕ) → i < 16 → slot_of few 16 i k < 2 ^ 32)
+    → KeyFits d (wide few d 16 k)
+wide-fits few d k less sums slots = (
+  λ i l. fits_signed_from_abs w128 (sum_of d 16 i (wide few d 16 k)) (at few d k i less sums l),
+  λ i l. subst (λ (n : ℕ). n < 2 ^ 32) (sym (slot few d k i less)) (slots i l),
+)
+  where
+    slot : (few d : ℕ) (k : KeyOf few 16) (i : ℕ) → few ≤ d → slot_of d 16 i (wide few d 16 k) ≡ slot_of few 16 i k
+    slot zero zero k i h = refl
+    slot zero (suc d) k i h = slot zero d k i (omega arith)
+    slot (suc few) zero k i h = absurd (omega arith)
+    slot (suc few) (suc d) k i h = slot few d k.1 i (omega arith)
+
+    at : (few d : ℕ) (k : KeyOf few 16) (i : ℕ) → few ≤ d
+        → ((i : ℕ) → i < few → unsigned_abs (sum_of few 16 i k) < 2 ^ 127) → i < d
+        → unsigned_abs (sum_of d 16 i (wide few d 16 k)) < 2 ^ 127
+    at zero zero k i h sums l = absurd (omega arith)
+    at zero (suc d) k zero h sums l = omega arith
+    at zero (suc d) k (suc i) h sums l = at zero d k i (omega arith) (λ j m. absurd (omega arith)) (omega arith)
+    at (suc few) zero k i h sums l = absurd (omega arith)
+    at (suc few) (suc d) k zero h sums l = sums 0 (omega arith)
+    at (suc few) (suc d) k (suc i) h sums l =
+        at few d k.1 i (omega arith) (λ j m. sums (suc j) (omega arith)) (omega arith)
+
+-- ---- the parts of the nodes of a query
+
+slot-small : (slot row i : ℕ) → i < 16 → row < 2 ^ 32
+    → get_or (set (replicate 16 0) slot row) i 0 ≤ cond (slot == i) (2 ^ 32 - 1) 0
+slot-small slot row i inside less = elim (cases_eq i slot) [
+  | inl same ↦
+      let at : get_or (set (replicate 16 0) slot row) i 0 ≡ row =
+      get_or-set_at (replicate 16 0) slot i row 0 same (omega arith) in
+      let hit : (slot == i) ≡ true = (Decides-eqb slot i).1 (sym same) in
+      subst (λ (b : Bool). get_or (set (replicate 16 0) slot row) i 0 ≤ cond {A = ℕ} b (2 ^ 32 - 1) 0) (sym hit)
+      (omega (arith, at, less))
+  | inr other ↦ omega (
+    arith,
+    get_or-set_other {A = ℕ} (replicate 16 0) slot i row 0 other,
+    get_or-replicate {A = ℕ} 16 i 0 0 inside,
+  )
+]
+
+pub few-rows-at : (tables : List Table) (i : ℕ) → HaveFewRows tables → length (table_at tables i).rows ≤ most_rows
+few-rows-at [] i h = omega arith
+few-rows-at (t ∷ ts) zero h = h.0
+few-rows-at (t ∷ ts) (suc i) h = few-rows-at ts i h.1
+
+-- tables without a flaw have few rows
+pub sound-few : (tables : List Table) → AllByRecursion IsSound tables → HaveFewRows tables
+sound-few [] h = tt
+sound-few (t ∷ ts) h = (sound-few_rows t h.0, sound-few ts h.1)
+
+abs_add : (a b : ℤ) → unsigned_abs (a +ℤ b) ≤ unsigned_abs a + unsigned_abs b
+abs_add a b = grind (arith, ints)
+
+module _ (bound : BoundQuery) (tables : List Table) (atoms parents : List ℕ) (fits : Fits bound tables)
+    (few : HaveFewRows tables) (hung : HasTree bound.query atoms parents) where
+  abbrev d : ℕ
+  d = length bound.query.order
+
+  abbrev item : ℕ → ℕ
+  item = slice_index atoms
+
+  abbrev t : Problem (KeyOf (length bound.query.order) 16)
+  t = problem_of bound.query tables atoms parents
+
+  apart : AreApart (length bound.query.items) item (length atoms) 0
+  apart = record {
+    within = λ v a b.
+        let h = hung.join_tree.within v (omega (arith, b)) in
+        let n = hung.of_query.atoms in
+        omega (arith, h, n);
+    differ = λ u v a b c. hung.join_tree.distinct u v b (omega (arith, c));
+  }
+
+  row-small : (q row : ℕ) → t.IsRow q row → row < 2 ^ 32
+  row-small q row h =
+      let l = h.1 in
+      let f = few-rows-at tables
+      ((get_or bound.query.items (item q) (record { table = 0; alias = [] })).table) few in
+      omega (arith, l, f)
+
+  -- sum i of a row's key is within the cap of the node's item
+  abbrev sum_cap : ℕ → ℕ → ℕ
+  sum_cap i item = cap_of tables bound.query.items item (key_at bound.query.order i)
+
+  abbrev weight : ℕ → KeyOf (length bound.query.order) 16 → ℕ
+  weight i k = unsigned_abs (sum_of d 16 i k)
+
+  weight-add : (i : ℕ) (a b : KeyOf (length bound.query.order) 16)
+      → weight i (key_add d 16 a b) ≤ weight i a + weight i b
+  weight-add i a b =
+      subst (λ z. unsigned_abs z ≤ weight i a + weight i b) (sym (sum_of_add d 16 i a b))
+      (abs_add (sum_of d 16 i a) (sum_of d 16 i b))
+
+  weight-none : (i : ℕ) → weight i (key_none d 16) ≡ 0
+  weight-none i = ap unsigned_abs (sum_of_none d 16 i)
+
+  row-weight : (i q row : ℕ) → i < d → weight i (t.key q row) ≤ sum_cap i (item q)
+  row-weight i q row l =
+      let part : OrderKey → ℤ = part_of tables bound.query.items (item q) row in
+      let at : sum_of d 16 i (t.key q row) ≡ part (key_at bound.query.order i) =
+      sum_of_lists d 16 i (map part bound.query.order) (set (replicate 16 0) (item q) row) l
+      ∙ get_or-map part bound.query.order i (record { terms = []; descending = false }) (pos 0) l in
+      let small = part-capped tables bound.query.items row (item q) (key_at bound.query.order i) in
+      subst (λ z. unsigned_abs z ≤ sum_cap i (item q)) (sym at) small
+
+  abbrev slot_cap : ℕ → ℕ → ℕ
+  slot_cap i item = cond (item == i) (2 ^ 32 - 1) 0
+
+  row-slot : (i q row : ℕ) → i < 16 → t.IsRow q row → slot_of d 16 i (t.key q row) ≤ slot_cap i (item q)
+  row-slot i q row l h =
+      let at = slot_of_lists d 16 i (map (part_of tables bound.query.items (item q) row) bound.query.order)
+      (set (replicate 16 0) (item q) row) l in
+      let small = slot-small (item q) row i l (row-small q row h) in
+      omega (arith, at, small)
+
+  slot-add : (i : ℕ) (a b : KeyOf (length bound.query.order) 16)
+      → slot_of d 16 i (key_add d 16 a b) ≤ slot_of d 16 i a + slot_of d 16 i b
+  slot-add i a b = let h = slot_of_add d 16 i a b in omega (arith, h)
+
+  -- the slots of all items: each number is the slot of one item at most
+  slots-all : (i : ℕ) → over (slot_cap i) (length bound.query.items) ≤ 2 ^ 32 - 1
+  slots-all i = from (length bound.query.items) 0
+    where
+      none-before : (n a : ℕ) → i < a → sum_of_all (map (slot_cap i) (range_with_len a n)) ≡ 0
+      none-before zero a h = refl
+      none-before (suc n) a h =
+          let miss : (a == i) ≡ false = by (a == i) refl in
+          let here : slot_cap i a ≡ 0 = ap (λ (b : Bool). cond {A = ℕ} b (2 ^ 32 - 1) 0) miss in
+          let rest = none-before n (a + 1) (omega (arith, h)) in
+          omega (arith, here, rest)
+        where
+          by : (b : Bool) → (a == i) ≡ b → b ≡ false
+          by true e = absurd (let s = (Decides-eqb a i).0 e in omega (arith, s, h))
+          by false e = refl
+
+      from : (n a : ℕ) → sum_of_all (map (slot_cap i) (range_with_len a n)) ≤ 2 ^ 32 - 1
+      from zero a = omega arith
+      from (suc n) a = by (a == i) refl (from n (a + 1))
+        where
+          by : (b : Bool) → (a == i) ≡ b → sum_of_all (map (slot_cap i) (range_with_len (a + 1) n)) ≤ 2 ^ 32 - 1
+              → cond {A = ℕ} b (2 ^ 32 - 1) 0 + sum_of_all (map (slot_cap i) (range_with_len (a + 1) n)) ≤ 2 ^ 32 - 1
+          by true e later =
+              let s = (Decides-eqb a i).0 e in
+              let rest = none-before n (a + 1) (omega (arith, s)) in
+              omega (arith, rest)
+          by false e later = omega (arith, later)
+
+  module _ (part : ℕ → KeyOf (length bound.query.order) 16) (parts : (q : ℕ) → q < length atoms
+      → IsPart t q (part q)) where
+    abbrev whole : KeyOf (length bound.query.order) 16
+    whole = sum_from (key_add d 16) (key_none d 16) part (length atoms) 0
+
+    part-weight : (i q : ℕ) → i < d → q < length atoms → weight i (part q) ≤ sum_cap i (item q)
+    part-weight i q l h = elim (parts q h) [
+      | inl none ↦ let e = ap (weight i) none in let z = weight-none i in omega (arith, e, z)
+      | inr row ↦ let e = ap (weight i) row.2 in let small = row-weight i q row.0 l in omega (arith, e, small)
+    ]
+
+    part-slot : (i q : ℕ) → i < 16 → q < length atoms → slot_of d 16 i (part q) ≤ slot_cap i (item q)
+    part-slot i q l h = elim (parts q h) [
+      | inl none ↦ let e = ap (slot_of d 16 i) none in let z = slot_of_none d 16 i in omega (arith, e, z)
+      | inr row ↦ let e = ap (slot_of d 16 i) row.2 in let small = row-slot i q row.0 l row.1 in omega (arith, e, small)
+    ]
+
+    sums-small : (i : ℕ) → i < d → weight i whole < 2 ^ 127
+    sums-small i l =
+        let a = ranges.weight_sum (key_add d 16) (key_none d 16) (weight i) (weight-add i) (weight-none i) part
+        (λ v. sum_cap i (item v)) (length atoms) 0 (λ q _ b. part-weight i q l (omega (arith, b))) in
+        let b = fewer (length bound.query.items) item (length atoms) 0 (sum_cap i) apart in
+        let c : over (sum_cap i) (length bound.query.items) ≤ 170141183460469231731687303715884105727 =
+        caps-fit bound tables i fits l in
+        omega (arith, a, b, c)
+
+    slots-small : (i : ℕ) → i < 16 → slot_of d 16 i whole < 2 ^ 32
+    slots-small i l =
+        let a = ranges.weight_sum (key_add d 16) (key_none d 16) (slot_of d 16 i) (slot-add i)
+        (slot_of_none d 16 i) part
+        (λ v. slot_cap i (item v)) (length atoms) 0 (λ q _ b. part-slot i q l (omega (arith, b))) in
+        let b = fewer (length bound.query.items) item (length atoms) 0 (slot_cap i) apart in
+        let c = slots-all i in
+        omega (arith, a, b, c)
+
+    pub sums-fit : (more : ℕ) → length bound.query.order ≤ more
+        → KeyFits more (wide (length bound.query.order) more 16 whole)
+    sums-fit more less = wide-fits (length bound.query.order) more whole less sums-small slots-small
