@@ -1,0 +1,11 @@
+pub mod DoubleSums
+pub mod AnswerLists
+pub mod Nodes
+pub mod RawSums
+pub mod LowParts
+pub mod LowKeys
+pub mod Coverings
+pub mod Roots
+pub mod Ordering
+pub mod Firsts
+pub mod Tellings

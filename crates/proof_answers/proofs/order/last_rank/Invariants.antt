@@ -1,0 +1,18 @@
+use Rattle.std.proofs.Common.{◌≤◌, List, length, option_map}
+use Rattle.anyk_model.specs.Table.{Table}
+use Rattle.anyk_model.specs.Query.{Query}
+use Rattle.join_tree.specs.declared.tree.JoinTree.{JoinTree}
+use Rattle.proof_text.specs.Seen.{seen_proof}
+use Rattle.proof_model.specs.QueryProblem.{problem_in}
+use Rattle.proof_bounds.specs.Bounded.{HasProblemRows}
+use Rattle.proof_answers.specs.Solutions.{AreAnswers, AreOrdered}
+use Rattle.proof_answers.proofs.Ordering.{IsRankBefore}
+use Rattle.proof_answers.proofs.order.last_rank.Given as goal
+
+abbrev pub invariant-loop-i : goal.invariant-loop-i
+invariant-loop-i g l =
+    (query : Query) (tables : List Table) (join : JoinTree) → length query.order ≤ g.R.Rank.KEYS
+    → HasProblemRows query tables join g.R.Rank.KEYS g.R.Rank.key l.raw
+    → AreAnswers query tables join l.raw (seen_proof l.proof) l.places
+    → IsRankBefore query tables join g.R.Rank.KEYS (seen_proof l.proof) l.i (option_map g.R.Rank.key l.last)
+    × AreOrdered (problem_in query tables join) (seen_proof l.proof) l.i

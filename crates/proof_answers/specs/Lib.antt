@@ -1,0 +1,4 @@
+pub mod Covered
+pub mod Lows
+pub mod Placed
+pub mod Solutions

@@ -1,0 +1,113 @@
+use Rattle.std.proofs.Common.{◌≡◌, ◌≢◌, ◌+◌, ◌-◌, ◌<◌, ◌++◌, ◌∷◌, [], ℕ, length, get_or, sym, ap, subst, ◌∙◌, inr, arith}
+use Rattle.std.proofs.Math.ListN.{set}
+use Rattle.std.proofs.lemmas.List.{length-map}
+use Rattle.tdp_core.proofs.RawReads.{list_read}
+use Rattle.proof_text.specs.Certificate.{BoundLine}
+use Rattle.proof_text.specs.Seen.{seen_bound, seen_proof}
+use Rattle.proof_text.specs.declared.fault.ProofFault.TheVariants as fault
+use Rattle.proof_bounds.specs.Lines.{AreLineGroups}
+use Rattle.proof_bounds.proofs.LineFaults.{groups-few, groups-more, line-is, node-read, node-within, rows-few, some-node, twice}
+use Rattle.proof_bounds.proofs.groups.line_groups.Goals as goal
+
+pub overflow_sub-node : goal.overflow_sub-node
+overflow_sub-node g c =
+    let h = c.requires in
+    let value = c.deref-bound-items.ensures.value in
+    some-node h.query h.tables h.join g.R.Rank.KEYS g.R.Rank.key c.args.raw.now c.nodes.ensures.formed.shaped h.tree c.args.proof.now
+    c.args.tops.now h.ranks h.placed c.loop-line.line c.bound-item.result
+    (subst (λ xs. c.loop-line.line < length xs) value c.loop-line-test.true)
+    (subst (λ xs. c.bound-item.result ≡ get_or xs c.loop-line.line c.bound-item.result) value c.bound-item.is)
+
+pub group_link-link-requires-clause-node : goal.group_link-link-requires-clause-node
+group_link-link-requires-clause-node g c =
+    let h = c.requires in
+    let value = c.deref-bound-items.ensures.value in
+    node-within h.query h.tables h.join g.R.Rank.KEYS g.R.Rank.key c.args.raw.now c.nodes.ensures.formed.shaped h.tree c.args.proof.now
+    c.args.tops.now h.ranks h.placed c.loop-line.line c.bound-item.result
+    (subst (λ xs. c.loop-line.line < length xs) value c.loop-line-test.true)
+    (subst (λ xs. c.bound-item.result ≡ get_or xs c.loop-line.line c.bound-item.result) value c.bound-item.is)
+
+pub group_link-link-requires-clause-place : goal.group_link-link-requires-clause-place
+group_link-link-requires-clause-place g c =
+    let h = c.requires in
+    let value = c.deref-bound-items.ensures.value in
+    let inside = subst (λ xs. c.loop-line.line < length xs) value c.loop-line-test.true in
+    h.placed.within (c.bound-item.result.node - 1) c.loop-line.line inside
+    (node-read h.query h.tables h.join g.R.Rank.KEYS g.R.Rank.key c.args.raw.now c.nodes.ensures.formed.shaped h.tree c.args.proof.now
+    c.args.tops.now h.ranks h.placed c.loop-line.line c.bound-item.result inside
+    (subst (λ xs. c.bound-item.result ≡ get_or xs c.loop-line.line c.bound-item.result) value c.bound-item.is))
+
+pub index_mut-requires : goal.index_mut-requires
+index_mut-requires g c =
+    let h = c.requires in
+    let value = c.deref-bound-items.ensures.value in
+    let low = node-within h.query h.tables h.join g.R.Rank.KEYS g.R.Rank.key c.args.raw.now c.nodes.ensures.formed.shaped h.tree c.args.proof.now
+    c.args.tops.now h.ranks h.placed c.loop-line.line c.bound-item.result
+    (subst (λ xs. c.loop-line.line < length xs) value c.loop-line-test.true)
+    (subst (λ xs. c.bound-item.result ≡ get_or xs c.loop-line.line c.bound-item.result) value c.bound-item.is) in
+    omega (arith, low, c.loop-line.invariant.each_node, c.loop-line.groups.ok.0)
+
+pub add_group-requires : goal.add_group-requires
+add_group-requires g c =
+    let h = c.requires in
+    let value = c.deref-bound-items.ensures.value in
+    let inside = subst (λ xs. c.loop-line.line < length xs) value c.loop-line-test.true in
+    let low = node-within h.query h.tables h.join g.R.Rank.KEYS g.R.Rank.key c.args.raw.now c.nodes.ensures.formed.shaped h.tree c.args.proof.now
+    c.args.tops.now h.ranks h.placed c.loop-line.line c.bound-item.result inside
+    (subst (λ xs. c.bound-item.result ≡ get_or xs c.loop-line.line c.bound-item.result) value c.bound-item.is) in
+    let few = groups-few h.query h.tables h.join g.R.Rank.KEYS g.R.Rank.key c.args.raw.now c.nodes.ensures.formed.shaped h.tree
+    (seen_proof c.args.proof.now) (length c.args.proof.now.bounds.items) c.args.tops.now h.ranks h.placed c.loop-line.line
+    (omega (arith, inside)) c.loop-line.groups.items c.loop-line.invariant (c.bound-item.result.node - 1) low in
+    let all = rows-few g.R.Rank.KEYS g.R.Rank.key c.args.raw.now c.nodes.ensures.formed (c.bound-item.result.node - 1) in
+    let read = list_read c.loop-line.groups.items (c.bound-item.result.node - 1) c.index_mut.result.now
+    (omega (arith, low, c.loop-line.invariant.each_node)) c.index_mut.ensures.value in
+    let long = ap length read in
+    omega (arith, few, all, long)
+
+pub returns-in-Ok-false-clause-fault : goal.returns-in-Ok-false-clause-fault
+returns-in-Ok-false-clause-fault g c = λ query tables join ranks has p.
+    let shaped = c.nodes.ensures.formed.shaped in
+    let items = c.args.proof.now.bounds.items in
+    let none_at : BoundLine = record { line = 0; node = 0; rows = [] } in
+    let value = c.deref-bound-items.ensures.value in
+    let inside = subst (λ xs. c.loop-line.line < length xs) value c.loop-line-test.true in
+    let is = subst (λ xs. c.bound-item.result ≡ get_or xs c.loop-line.line c.bound-item.result) value c.bound-item.is in
+    let low = node-within query tables join g.R.Rank.KEYS g.R.Rank.key c.args.raw.now shaped has c.args.proof.now c.args.tops.now ranks p
+    c.loop-line.line c.bound-item.result inside is in
+    let node = node-read query tables join g.R.Rank.KEYS g.R.Rank.key c.args.raw.now shaped has c.args.proof.now c.args.tops.now ranks p
+    c.loop-line.line c.bound-item.result inside is in
+    let read = list_read c.loop-line.groups.items (c.bound-item.result.node - 1) c.index_mut.result.now
+    (omega (arith, low, c.loop-line.invariant.each_node)) c.index_mut.ensures.value in
+    let at = c.in-Ok-false.ensures.there c.in-Ok-false.field-0-test in
+    inr (
+      c.loop-line.line,
+      ap (λ x. fault.BoundTwice x.line) (sym (line-is items c.loop-line.line c.bound-item.result none_at inside is)),
+      twice query tables join g.R.Rank.KEYS g.R.Rank.key c.args.raw.now shaped has (seen_proof c.args.proof.now) (length items) c.args.tops.now
+          ranks p c.loop-line.line (omega (arith, inside)) c.loop-line.groups.items c.loop-line.invariant query.limit
+          (c.bound-item.result.node - 1) at.0 (sym (length-map items seen_bound)) low
+          (subst (λ xs. at.0 < length xs) (sym read) at.1) inside node
+          (ap (λ xs. get_or xs at.0 0) read ∙ at.2 ∙ c.group_link-link.ensures),
+    )
+
+pub loop-line-preserved : goal.loop-line-preserved
+loop-line-preserved g c =
+    let h = c.requires in
+    let shaped = c.nodes.ensures.formed.shaped in
+    let value = c.deref-bound-items.ensures.value in
+    let inside = subst (λ xs. c.loop-line.line < length xs) value c.loop-line-test.true in
+    let is = subst (λ xs. c.bound-item.result ≡ get_or xs c.loop-line.line c.bound-item.result) value c.bound-item.is in
+    let low = node-within h.query h.tables h.join g.R.Rank.KEYS g.R.Rank.key c.args.raw.now shaped h.tree c.args.proof.now c.args.tops.now
+    h.ranks h.placed c.loop-line.line c.bound-item.result inside is in
+    let node = node-read h.query h.tables h.join g.R.Rank.KEYS g.R.Rank.key c.args.raw.now shaped h.tree c.args.proof.now c.args.tops.now
+    h.ranks h.placed c.loop-line.line c.bound-item.result inside is in
+    let read = list_read c.loop-line.groups.items (c.bound-item.result.node - 1) c.index_mut.result.now
+    (omega (arith, low, c.loop-line.invariant.each_node)) c.index_mut.ensures.value in
+    let absent = c.in-Ok-true.ensures.absent c.in-Ok-true.field-0-test in
+    subst (λ xs. AreLineGroups c.args.raw.now (seen_proof c.args.proof.now) c.args.tops.now (c.loop-line.line + 1)
+    (set c.loop-line.groups.items (c.bound-item.result.node - 1) xs))
+    (ap (λ xs. xs ++ (c.group_link-link.result ∷ [])) read ∙ sym (c.in-Ok-true.ensures.added c.in-Ok-true.field-0-test))
+    (groups-more h.query h.tables h.join g.R.Rank.KEYS g.R.Rank.key c.args.raw.now shaped h.tree (seen_proof c.args.proof.now)
+    (length c.args.proof.now.bounds.items) c.args.tops.now h.ranks h.placed c.loop-line.line (omega (arith, inside))
+    c.loop-line.groups.items c.loop-line.invariant (c.bound-item.result.node - 1) c.group_link-link.result low inside node
+    c.group_link-link.ensures
+    (subst (λ xs. (b : ℕ) → b < length xs → get_or xs b 0 ≢ c.group_link-link.result) (sym read) absent))

@@ -1,0 +1,124 @@
+//! The numbers of bounds, row by row.
+ghost use Rattle.std.specs.Prelude.{◌≡◌, ◌≤◌, ◌<◌, ℕ, List, [], length, map, nat_eq, position, slice_index_or, IfOk, OnOk, None};
+ghost use Rattle.tdp_core.specs.RawData.{raw_len, shape_parent};
+ghost use Rattle.proof_bounds.specs.Lines.{AreNamed, group_link, named_link};
+
+use crate::bounded::NodeBounds;
+use crate::groups::group_link;
+use crate::subtree::child_place;
+use counted_index::HashedIndex;
+use rank_key::Rank;
+use std::alloc::{AllocError, Global};
+use std::sync::ledger::Ledger;
+use step_counter::Steps;
+use tdp_core::RawTree;
+
+// The number of the group with this link, if it is there.
+fn group_number<L: Ledger>(groups: &HashedIndex, link: u32, steps: &mut Steps<L>) -> Option<u32>
+    requires { length groups.now ≤ 4194304 }
+    ensures { result ≡ position (nat_eq link) groups.now }
+{
+    match groups.number_of(link, steps) {
+        Some(number) => Some(number as u32),
+        None => None,
+    }
+}
+
+// For each row of a node the number of its group.
+fn own_numbers<R: Rank, L: Ledger>(
+    alloc: Global,
+    raw: &RawTree<R>,
+    node: u32,
+    groups: &HashedIndex,
+    steps: &mut Steps<L>,
+) -> Result<Vec<Option<u32>>, AllocError>
+    requires node { node < length raw.now.shapes }
+    requires groups { length groups.now ≤ 4194304 }
+    ensures count { IfOk result (λ own. length own.items ≡ raw_len raw.now node) }
+    ensures numbers { IfOk result (λ own. (i : ℕ) → i < raw_len raw.now node
+        → slice_index_or own.items i None ≡ position (nat_eq (group_link raw.now node i)) groups.now) }
+{
+    let count = raw.len(node);
+    let mut own = Vec::with_capacity(alloc, count as usize)?;
+    for place in 0..count {
+        own.push(group_number(groups, group_link(raw, node, place), steps))?;
+    }
+    Ok(own)
+}
+
+// For each row of the parent of a node the number of the group that it names.
+fn named_numbers<R: Rank, L: Ledger>(
+    alloc: Global,
+    raw: &RawTree<R>,
+    node: u32,
+    groups: &HashedIndex,
+    steps: &mut Steps<L>,
+) -> Result<Vec<Option<u32>>, AllocError>
+    requires below_root { 0 < node }
+    requires node { node < length raw.now.shapes }
+    requires groups { length groups.now ≤ 4194304 }
+    ensures count { IfOk result (λ named. length named.items ≡ raw_len raw.now (shape_parent raw.now.shapes node)) }
+    ensures numbers { IfOk result (λ named. (r : ℕ) → r < raw_len raw.now (shape_parent raw.now.shapes node)
+        → slice_index_or named.items r None ≡ position (nat_eq (named_link raw.now node r)) groups.now) }
+{
+    let _nodes = raw.nodes();
+    let parent = raw.shape(node).parent;
+    let child = child_place(raw, node);
+    let count = raw.len(parent);
+    let mut named = Vec::with_capacity(alloc, count as usize)?;
+    for row in 0..count {
+        named.push(group_number(groups, raw.link(parent, row, child), steps))?;
+    }
+    Ok(named)
+}
+
+/// Names the groups of a node for its rows and for those of its parent. The ranks of the bounds stay.
+pub(crate) fn name_groups<R: Rank, L: Ledger>(
+    alloc: Global,
+    raw: &RawTree<R>,
+    node: u32,
+    groups: &HashedIndex,
+    bounds: &mut NodeBounds<R>,
+    steps: &mut Steps<L>,
+) -> Result<(), AllocError>
+    requires node { node < length raw.now.shapes }
+    requires groups { length groups.now ≤ 4194304 }
+    ensures named { OnOk result (AreNamed raw.now groups.now node bounds.new.own.items bounds.new.named.items) }
+    ensures ranks { bounds.new.ranks ≡ bounds.old.ranks }
+{
+    bounds.own = own_numbers(alloc, raw, node, groups, steps)?;
+    if node > 0 {
+        bounds.named = named_numbers(alloc, raw, node, groups, steps)?;
+    }
+    Ok(())
+}
+
+/// Names the groups of all nodes for their rows and for those of their parents. The ranks of the bounds stay.
+pub(crate) fn name_all<R: Rank, L: Ledger>(
+    alloc: Global,
+    raw: &RawTree<R>,
+    groups: &[HashedIndex],
+    bounds: &mut [NodeBounds<R>],
+    steps: &mut Steps<L>,
+) -> Result<(), AllocError>
+    requires each_group { length groups.now ≡ length raw.now.shapes }
+    requires each_node { length bounds.old ≡ length raw.now.shapes }
+    requires few { (v : ℕ) → v < length raw.now.shapes → length (slice_index_or groups.now v []) ≤ 4194304 }
+    ensures named { OnOk result ((v : ℕ) → v < length raw.now.shapes
+        → AreNamed raw.now (slice_index_or groups.now v []) v
+        (slice_index_or (map (λ b. b.own.items) bounds.new) v [])
+        (slice_index_or (map (λ b. b.named.items) bounds.new) v [])) }
+    ensures ranks { map (λ b. b.ranks.items) bounds.new ≡ map (λ b. b.ranks.items) bounds.old }
+{
+    for node in 0..raw.nodes() {
+        name_groups(
+            alloc,
+            raw,
+            node,
+            &groups[node as usize],
+            &mut bounds[node as usize],
+            steps,
+        )?;
+    }
+    Ok(())
+}

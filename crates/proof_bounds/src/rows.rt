@@ -1,0 +1,49 @@
+//! The rows of the nodes of a query that pass.
+ghost use Rattle.std.specs.Prelude.{◌≡◌, ◌≤◌, length, IfErr, IfOk, OnOk, Ok};
+ghost use Rattle.query_bind.specs.Weighed.{Fits};
+ghost use Rattle.query_shape.specs.Shape.{IsShape, Shape};
+ghost use Rattle.query_shape.specs.Shown.{HasStoredTree};
+ghost use Rattle.proof_text.specs.Certificate.{Certificate};
+ghost use Rattle.proof_model.specs.Faults.{TellsFlaw};
+ghost use Rattle.proof_bounds.specs.Bounded.{HasProblemRows};
+
+use csv_tables::Tables;
+use join_tree::JoinTree;
+use node_build::{BuildFault, build};
+use proof_text::ProofFault;
+use query_bind::Query;
+use rank_key::Rank;
+use std::alloc::Global;
+use std::sync::ledger::Ledger;
+use step_counter::Steps;
+use tdp_core::RawTree;
+
+/// The greatest number of rows of all nodes of a join tree together.
+const MOST_NODE_ROWS: u32 = 4_194_304;
+
+/// The raw tree of a query. `TooManyRows` exactly if more than 4,194,304 rows of all nodes pass, and `NoMemory` if
+/// memory is refused.
+pub(crate) fn query_rows<R: Rank, L: Ledger>(
+    alloc: Global,
+    query: &Query,
+    tables: &Tables,
+    join: &JoinTree,
+    steps: &mut Steps<L>,
+) -> Result<RawTree<R>, ProofFault>
+    requires fits { Fits query.now tables.now }
+    requires keys { length query.now.query.order ≤ R.KEYS }
+    requires tree { HasStoredTree query.now.query join.now }
+    requires count { join.now.count ≡ length query.now.query.items }
+    ensures rows { IfOk result (HasProblemRows query.now.query tables.now join.now R.KEYS R.key) }
+    ensures shape { OnOk result ((shape : Shape) × IsShape query.now.query tables.now (Ok shape)) }
+    ensures fault { IfErr result (λ told. (c : Certificate) → TellsFlaw query.now.query tables.now join.now c told) }
+{
+    match build(alloc, query, tables, join, MOST_NODE_ROWS as u64, steps) {
+        Ok(built) => {
+            let _nodes = built.tree.nodes();
+            Ok(built.tree)
+        }
+        Err(BuildFault::TooManyRows(_)) => Err(ProofFault::TooManyRows(MOST_NODE_ROWS)),
+        Err(BuildFault::NoMemory) => Err(ProofFault::NoMemory),
+    }
+}

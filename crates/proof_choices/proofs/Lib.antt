@@ -1,0 +1,15 @@
+pub mod Keys
+pub mod Supported
+pub mod Ways
+pub mod Pairs
+pub mod Beginnings
+pub mod Known
+pub mod Bridge
+pub mod FirstOpen
+pub mod Least
+pub mod Passing
+pub mod Branching
+pub mod Grouping
+pub mod Walking
+pub mod Testing
+pub mod Preparing

@@ -1,0 +1,67 @@
+use Rattle.std.proofs.Common.{◌≡◌, not, option_map, length, refl, sym, ap, subst, ◌∙◌}
+use Rattle.std.proofs.Common.{inl, inr}
+use Rattle.std.proofs.lemmas.Bool.{false≢true}
+use Rattle.proof_text.specs.Seen.{seen_proof}
+use Rattle.proof_choices.specs.Levels.{IsMissedAt, IsPassedAt}
+use Rattle.proof_choices.proofs.Passing.{IsLimit, all-passed, is-missed, limit-from}
+use Rattle.proof_choices.proofs.choices.check_choices.Goals as goal
+use Rattle.proof_choices.proofs.choices.check_choices.Goals.{then-proof, else-proof}
+use Rattle.proof_choices.proofs.choices.check_choices.Goals.{else-not-proof-via-then-not-proof+else-is_none}
+use Rattle.proof_choices.proofs.choices.check_choices.Goals.{else-not-proof-via-else-not-proof}
+
+pub returns-in-Ok-true-clause-passed : goal.returns-in-Ok-true-clause-passed
+returns-in-Ok-true-clause-passed g c =
+    let d = g.R.Rank.KEYS in
+    let key = g.R.Rank.key in
+    let query = c.args.query.now.query in
+    let tables = c.args.tables.now in
+    let join = c.args.join.now in
+    let cert = seen_proof c.args.proof.now in
+    let tree = c.args.tree.now in
+    let long : length join.atom ≡ 16 = c.all_leave_after.ensures.room in
+    let limit : IsLimit query tables join d key cert tree c.requires.keys c.requires.bounded c.requires.ordered long
+    c.args.answers.now.places.items c.requires.placed (option_map key c.if-proof.last) = elim c.if-proof.branch [
+      | then-proof w ↦ inl (w.if-proof.true, ap (option_map key) w.last-is)
+      | else-proof w ↦ elim c.else-not-proof.branch [
+        | else-not-proof-via-then-not-proof+else-is_none v ↦
+            limit-from query tables join d key cert tree c.requires.keys c.requires.bounded c.requires.ordered long
+            c.args.answers.now.places.items c.requires.placed c.args.answers.now.last c.requires.last
+            (v.is_none.ensures ∙ ap not v.if-is_none.false) w.if-proof.false (option_map key c.if-proof.last)
+            (ap (option_map key) w.last-is)
+        | else-not-proof-via-else-not-proof v ↦ absurd (false≢true (sym w.if-proof.false ∙ v.if-not-proof.false))
+      ]
+    ] in
+    all-passed query tables join d key cert tree c.requires.keys c.requires.bounded c.requires.ordered long
+    c.args.answers.now.places.items c.requires.placed (option_map key c.if-proof.last) limit
+    (λ p l. subst (λ xs. IsPassedAt join tree d key xs (option_map key c.if-proof.last) p) c.deref.ensures.value
+    (c.in-Ok-true.ensures.passed c.in-Ok-true.field-0-test p l))
+
+pub returns-in-Ok-false-clause-fault : goal.returns-in-Ok-false-clause-fault
+returns-in-Ok-false-clause-fault g c =
+    let d = g.R.Rank.KEYS in
+    let key = g.R.Rank.key in
+    let query = c.args.query.now.query in
+    let tables = c.args.tables.now in
+    let join = c.args.join.now in
+    let cert = seen_proof c.args.proof.now in
+    let tree = c.args.tree.now in
+    let long : length join.atom ≡ 16 = c.all_leave_after.ensures.room in
+    let limit : IsLimit query tables join d key cert tree c.requires.keys c.requires.bounded c.requires.ordered long
+    c.args.answers.now.places.items c.requires.placed (option_map key c.if-proof.last) = elim c.if-proof.branch [
+      | then-proof w ↦ inl (w.if-proof.true, ap (option_map key) w.last-is)
+      | else-proof w ↦ elim c.else-not-proof.branch [
+        | else-not-proof-via-then-not-proof+else-is_none v ↦
+            limit-from query tables join d key cert tree c.requires.keys c.requires.bounded c.requires.ordered long
+            c.args.answers.now.places.items c.requires.placed c.args.answers.now.last c.requires.last
+            (v.is_none.ensures ∙ ap not v.if-is_none.false) w.if-proof.false (option_map key c.if-proof.last)
+            (ap (option_map key) w.last-is)
+        | else-not-proof-via-else-not-proof v ↦ absurd (false≢true (sym w.if-proof.false ∙ v.if-not-proof.false))
+      ]
+    ] in
+    inr (
+      refl,
+      is-missed query tables join d key cert tree c.requires.keys c.requires.bounded c.requires.ordered long
+          c.args.answers.now.places.items c.requires.placed (option_map key c.if-proof.last) limit
+          (subst (λ xs. IsMissedAt join tree d key xs (option_map key c.if-proof.last)) c.deref.ensures.value
+          (c.in-Ok-false.ensures.missed c.in-Ok-false.field-0-test)),
+    )

@@ -1,0 +1,34 @@
+use Rattle.std.proofs.Common.{◌≡◌, ◌<◌, Some, [], length, map, option_map, get_or, slice_index, sym, ap, subst, ◌∙◌, arith}
+use Rattle.std.proofs.Math.ListN.{set}
+use Rattle.std.proofs.lemmas.List.{get_or-set_other, get_or-set_same, length-map, map-set}
+use Rattle.proof_choices.specs.Levels.{AreOffers, HasLow}
+use Rattle.proof_choices.proofs.leaving.fill.Goals as goal
+
+pub offers_of-requires-clause-fits : goal.offers_of-requires-clause-fits
+offers_of-requires-clause-fits g c m low l has =
+    let e = c.group.ensures in
+    c.requires.fits m low (subst (λ xs. m < length xs) e l)
+    (subst (λ xs. HasLow c.args.join.now c.args.tree.now g.R.Rank.KEYS g.R.Rank.key c.args.node (slice_index xs m) (Some low)) e has)
+
+pub returns-in_ok-lists-clause-others : goal.returns-in_ok-lists-clause-others
+returns-in_ok-lists-clause-others g c h other =
+    let lists = c.args.lists.now.items in
+    let new = c.in_ok-lists.field-0 in
+    ap (λ xs. get_or xs h []) (map-set (λ v. v.items) lists c.args.group new)
+    ∙ get_or-set_other (map (λ v. v.items) lists) c.args.group h new.items [] other
+
+pub returns-in_ok-lists-clause-list : goal.returns-in_ok-lists-clause-list
+returns-in_ok-lists-clause-list g c =
+    let d = g.R.Rank.KEYS in
+    let key = g.R.Rank.key in
+    let lists = c.args.lists.now.items in
+    let new = c.in_ok-lists.field-0 in
+    let within : c.args.group < length (map (λ v. v.items) lists) =
+    let l = c.requires.group in let v = c.args.lists.now in omega (arith, l, length-map lists (λ v. v.items)) in
+    let is : get_or (map (λ v. v.items) (set lists c.args.group new)) c.args.group [] ≡ new.items =
+    ap (λ xs. get_or xs c.args.group []) (map-set (λ v. v.items) lists c.args.group new)
+    ∙ get_or-set_same (map (λ v. v.items) lists) c.args.group new.items [] within in
+    subst (AreOffers c.args.join.now c.args.tree.now d key c.args.node _ (key c.args.known) (option_map key c.args.last.now))
+    (sym is)
+    (subst (λ rows. AreOffers c.args.join.now c.args.tree.now d key c.args.node rows (key c.args.known)
+    (option_map key c.args.last.now) new.items) c.group.ensures c.in_ok-lists.ensures)
