@@ -1,0 +1,10 @@
+pub mod Chosen
+pub mod Given
+pub mod Groups
+pub mod Listing
+pub mod NodeBounds
+pub mod BestSums
+pub mod WideSums
+pub mod PlanProblem
+pub mod Writes
+pub mod PlanText
