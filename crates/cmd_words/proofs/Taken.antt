@@ -5,9 +5,9 @@ use Rattle.clap.specs.Faults.{fault_of, is_simple_and_free}
 use Rattle.clap.specs.Kinds.{Kinds}
 use Rattle.clap.specs.Simple.{App, is_simple, matches_of}
 use Rattle.clap.specs.Walk.{Row}
-use Rattle.cmd_words.specs.Arguments.{run_app, session_app, plan_app, load_app}
-use Rattle.cmd_words.specs.Commands.{if_no, if_taken, run_of, session_of, plan_of, load_of}
-use Rattle.cmd_words.specs.Said.{Texts, texts_of, run_texts, plan_texts, said_by, session_by, load_by, load_by_texts}
+use Rattle.cmd_words.specs.Arguments.{run_app, session_app, plan_app, prove_app, verify_app, load_app}
+use Rattle.cmd_words.specs.Commands.{if_no, if_taken, run_of, session_of, plan_of, prove_of, verify_of, load_of}
+use Rattle.cmd_words.specs.Said.{Texts, texts_of, run_texts, session_texts, plan_texts, prove_texts, verify_texts, said_by, session_by, verify_by, load_by, load_by_texts}
 
 -- each command is one of those whose matches and faults `clap` states
 pub run_simple : is_simple run_app ≡ true
@@ -33,6 +33,22 @@ plan_simple = refl
 pub plan_free : is_simple_and_free plan_app ≡ true
 unfolding plan_app
 plan_free = refl
+
+pub prove_simple : is_simple prove_app ≡ true
+unfolding prove_app
+prove_simple = refl
+
+pub prove_free : is_simple_and_free prove_app ≡ true
+unfolding prove_app
+prove_free = refl
+
+pub verify_simple : is_simple verify_app ≡ true
+unfolding verify_app
+verify_simple = refl
+
+pub verify_free : is_simple_and_free verify_app ≡ true
+unfolding verify_app
+verify_free = refl
 
 pub load_simple : is_simple load_app ≡ true
 unfolding load_app
@@ -66,11 +82,19 @@ module _ (app : App) (words : List (List ℕ)) where
 
   pub session_refused : app ≡ session_app → (fault_of app words ≡ [] → ⊥) → session_of words ≡ None
   unfolding session_of
-  session_refused same fails = not_taken session_app app words (λ rows. session_by (texts_of rows)) same fails
+  session_refused same fails = not_taken session_app app words (λ rows. session_by (session_texts (texts_of rows))) same fails
 
   pub plan_refused : app ≡ plan_app → (fault_of app words ≡ [] → ⊥) → plan_of words ≡ None
   unfolding plan_of
   plan_refused same fails = not_taken plan_app app words (λ rows. said_by (plan_texts (texts_of rows))) same fails
+
+  pub prove_refused : app ≡ prove_app → (fault_of app words ≡ [] → ⊥) → prove_of words ≡ None
+  unfolding prove_of
+  prove_refused same fails = not_taken prove_app app words (λ rows. said_by (prove_texts (texts_of rows))) same fails
+
+  pub verify_refused : app ≡ verify_app → (fault_of app words ≡ [] → ⊥) → verify_of words ≡ None
+  unfolding verify_of
+  verify_refused same fails = not_taken verify_app app words (λ rows. verify_by (verify_texts (texts_of rows))) same fails
 
   pub load_refused : app ≡ load_app → (fault_of app words ≡ [] → ⊥) → load_of words ≡ None
   unfolding load_of
@@ -81,27 +105,36 @@ module _ (app : App) (words : List (List ℕ)) where
     unfolding run_of
     run_taken t texts same = taken run_app app words (λ rows. said_by (run_texts (texts_of rows))) rows same e found ∙ ap (λ (x : Texts). said_by (run_texts x)) (sym texts)
 
-    pub session_taken : (t : Texts) → t ≡ texts_of rows → app ≡ session_app → session_of words ≡ session_by t
+    pub session_taken : (t : Texts) → t ≡ texts_of rows → app ≡ session_app → session_of words ≡ session_by (session_texts t)
     unfolding session_of
-    session_taken t texts same = taken session_app app words (λ rows. session_by (texts_of rows)) rows same e found ∙ ap session_by (sym texts)
+    session_taken t texts same = taken session_app app words (λ rows. session_by (session_texts (texts_of rows))) rows same e found ∙ ap (λ (x : Texts). session_by (session_texts x)) (sym texts)
 
     pub plan_taken : (t : Texts) → t ≡ texts_of rows → app ≡ plan_app → plan_of words ≡ said_by (plan_texts t)
     unfolding plan_of
     plan_taken t texts same = taken plan_app app words (λ rows. said_by (plan_texts (texts_of rows))) rows same e found ∙ ap (λ (x : Texts). said_by (plan_texts x)) (sym texts)
 
+    pub prove_taken : (t : Texts) → t ≡ texts_of rows → app ≡ prove_app → prove_of words ≡ said_by (prove_texts t)
+    unfolding prove_of
+    prove_taken t texts same = taken prove_app app words (λ rows. said_by (prove_texts (texts_of rows))) rows same e found ∙ ap (λ (x : Texts). said_by (prove_texts x)) (sym texts)
+
+    pub verify_taken : (t : Texts) → t ≡ texts_of rows → app ≡ verify_app → verify_of words ≡ verify_by (verify_texts t)
+    unfolding verify_of
+    verify_taken t texts same = taken verify_app app words (λ rows. verify_by (verify_texts (texts_of rows))) rows same e found ∙ ap (λ (x : Texts). verify_by (verify_texts x)) (sym texts)
+
     pub load_taken : app ≡ load_app → load_of words ≡ load_by rows
     unfolding load_of
     load_taken same = taken load_app app words load_by rows same e found
 
-abbrev pub made : Option (List ℕ) → Option (List ℕ) → Option (List ℕ) → Option (List ℕ) → Option (List ℕ) → Option (List ℕ) → Option (List (List ℕ)) → Texts
-made a b c d e f g = record { engine = a; ranks = b; rows = c; script = d; best_of = e; query = f; tables = g }
+abbrev pub made : Option (List ℕ) → Option (List ℕ) → Option (List ℕ) → Option (List ℕ) → Option (List ℕ) → Option (List ℕ) → Option (List ℕ) → Option (List (List ℕ)) → Texts
+made a b c d e f g h = record { engine = a; ranks = b; rows = c; script = d; proof = e; best_of = f; query = g; tables = h }
 
-pub same_texts : (a a' b b' c c' d d' e e' f f' : Option (List ℕ)) (g g' : Option (List (List ℕ)))
-    → a ≡ a' → b ≡ b' → c ≡ c' → d ≡ d' → e ≡ e' → f ≡ f' → g ≡ g' → made a b c d e f g ≡ made a' b' c' d' e' f' g'
-same_texts a a' b b' c c' d d' e e' f f' g g' p q r s t u v =
-    ap (λ (o : Option (List ℕ)). made o b c d e f g) p ∙ ap (λ (o : Option (List ℕ)). made a' o c d e f g) q ∙ ap (λ (o : Option (List ℕ)). made a' b' o d e f g) r
-    ∙ ap (λ (o : Option (List ℕ)). made a' b' c' o e f g) s ∙ ap (λ (o : Option (List ℕ)). made a' b' c' d' o f g) t
-    ∙ ap (λ (o : Option (List ℕ)). made a' b' c' d' e' o g) u ∙ ap (λ (o : Option (List (List ℕ))). made a' b' c' d' e' f' o) v
+pub same_texts : (a a' b b' c c' d d' e e' f f' g g' : Option (List ℕ)) (h h' : Option (List (List ℕ)))
+    → a ≡ a' → b ≡ b' → c ≡ c' → d ≡ d' → e ≡ e' → f ≡ f' → g ≡ g' → h ≡ h' → made a b c d e f g h ≡ made a' b' c' d' e' f' g' h'
+same_texts a a' b b' c c' d d' e e' f f' g g' h h' p q r s t u v w =
+    ap (λ (o : Option (List ℕ)). made o b c d e f g h) p ∙ ap (λ (o : Option (List ℕ)). made a' o c d e f g h) q
+    ∙ ap (λ (o : Option (List ℕ)). made a' b' o d e f g h) r ∙ ap (λ (o : Option (List ℕ)). made a' b' c' o e f g h) s
+    ∙ ap (λ (o : Option (List ℕ)). made a' b' c' d' o f g h) t ∙ ap (λ (o : Option (List ℕ)). made a' b' c' d' e' o g h) u
+    ∙ ap (λ (o : Option (List ℕ)). made a' b' c' d' e' f' o h) v ∙ ap (λ (o : Option (List (List ℕ))). made a' b' c' d' e' f' g' o) w
 
 pub same_options : (a b c x y z : Option (List ℕ)) → a ≡ x → b ≡ y → c ≡ z → load_by_texts x y z ≡ load_by_texts a b c
 same_options a b c x y z p q r =

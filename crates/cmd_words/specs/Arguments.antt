@@ -32,10 +32,13 @@ tables_rule = record (new_rule (codes "tables")) { action = Some Append; require
 abbrev pub with_files : App → App
 with_files app = with_rule (with_rule app query_rule) tables_rule
 
+-- a command with the flags that say what is printed of an answer
+abbrev pub with_style : App → App
+with_style app = with_rule (with_rule app (flag_rule (codes "ranks"))) (flag_rule (codes "rows"))
+
 -- a command with the options that say which answers are printed, and how
 abbrev pub with_answers : App → App
-with_answers app =
-    with_rule (with_rule (with_rule (with_rule app engine_rule) (flag_rule (codes "ranks"))) (flag_rule (codes "rows"))) (option_rule (codes "best-of"))
+with_answers app = with_rule (with_style (with_rule app engine_rule)) (option_rule (codes "best-of"))
 
 unfoldable pub run_app : App
 run_app = with_files (with_answers (new_app (codes "run")))
@@ -45,6 +48,12 @@ session_app = with_files (with_rule (with_answers (new_app (codes "session"))) (
 
 unfoldable pub plan_app : App
 plan_app = with_files (new_app (codes "plan"))
+
+unfoldable pub prove_app : App
+prove_app = with_files (with_rule (new_app (codes "prove")) engine_rule)
+
+unfoldable pub verify_app : App
+verify_app = with_files (with_rule (with_style (new_app (codes "verify"))) (required_rule (codes "proof")))
 
 unfoldable pub load_app : App
 load_app = with_rule (with_rule (with_rule (new_app (codes "load")) engine_rule) (required_rule (codes "number"))) (required_rule (codes "rows"))

@@ -11,13 +11,14 @@ use Rattle.cmd_words.specs.declared.command.Engine.{Engine}
 use Rattle.cmd_words.specs.declared.command.Engine.TheVariants.{Part, Rec}
 use Rattle.cmd_words.specs.declared.command.Words.{Words}
 
--- what the arguments of `run`, `session` or `plan` say; only `session` has a script, and `plan` has
--- no item of which each row's best answer is asked for
+-- what the arguments of a command over files say; only `session` has a script, only `verify` a certificate, and only
+-- `run` and `session` may name an item of which each row's best answer is asked for
 pub record WordsSaid : Type 0 where
   pub engine : Engine
   pub ranks : Bool
   pub rows : Bool
   pub script : Option (List ℕ)
+  pub proof : Option (List ℕ)
   pub best_of : Option (List ℕ)
   pub query : List ℕ
   pub tables : List (List ℕ × List ℕ)
@@ -28,6 +29,7 @@ pub record Texts : Type 0 where
   pub ranks : Option (List ℕ)
   pub rows : Option (List ℕ)
   pub script : Option (List ℕ)
+  pub proof : Option (List ℕ)
   pub best_of : Option (List ℕ)
   pub query : Option (List ℕ)
   pub tables : Option (List (List ℕ))
@@ -38,18 +40,36 @@ texts_of rows = record {
   ranks = first_of (codes "ranks") rows;
   rows = first_of (codes "rows") rows;
   script = first_of (codes "script") rows;
+  proof = first_of (codes "proof") rows;
   best_of = first_of (codes "best-of") rows;
   query = first_of (codes "query") rows;
   tables = all_of (codes "tables") rows;
 }
 
--- `run` has no script
+-- `run` has no script and no certificate
 abbrev pub run_texts : Texts → Texts
-run_texts texts = record texts { script = None }
+run_texts texts = record texts { script = None; proof = None }
 
--- `plan` has no options: the engine is `part`, and the flags are not set
+-- `session` has no certificate
+abbrev pub session_texts : Texts → Texts
+session_texts texts = record texts { proof = None }
+
+-- a command without options: the engine is `part`, and the flags are not set
+abbrev pub no_options : Texts → Texts
+no_options texts =
+    record texts { engine = Some (codes "part"); ranks = None; rows = None; script = None; proof = None; best_of = None }
+
+-- `plan` has no options
 abbrev pub plan_texts : Texts → Texts
-plan_texts texts = record texts { engine = Some (codes "part"); ranks = None; rows = None; script = None; best_of = None }
+plan_texts texts = no_options texts
+
+-- `prove` has the engine alone
+abbrev pub prove_texts : Texts → Texts
+prove_texts texts = record (no_options texts) { engine = texts.engine }
+
+-- `verify` has the flags and a certificate
+abbrev pub verify_texts : Texts → Texts
+verify_texts texts = record (no_options texts) { ranks = texts.ranks; rows = texts.rows; proof = texts.proof }
 
 abbrev pub engine_of : Option (List ℕ) → Option Engine
 engine_of None = None
@@ -65,20 +85,26 @@ abbrev pub tables_of : Option (List (List ℕ)) → Option (List (List ℕ × Li
 tables_of None = None
 tables_of (Some words) = if are_pairs words && are_distinct (pairs_of words) then Some (pairs_of words) else None
 
-abbrev pub said : Bool → Bool → Option (List ℕ) → Option (List ℕ) → Option Engine → Option (List ℕ) → Option (List (List ℕ × List ℕ)) → Option WordsSaid
-said ranks rows script best_of (Some engine) (Some query) (Some tables) =
-    Some (record { engine = engine; ranks = ranks; rows = rows; script = script; best_of = best_of; query = query; tables = tables })
-said ranks rows script best_of (Some engine) (Some query) None = None
-said ranks rows script best_of (Some engine) None tables = None
-said ranks rows script best_of None query tables = None
+abbrev pub said : Bool → Bool → Option (List ℕ) → Option (List ℕ) → Option (List ℕ) → Option Engine → Option (List ℕ) → Option (List (List ℕ × List ℕ)) → Option WordsSaid
+said ranks rows script proof best_of (Some engine) (Some query) (Some tables) =
+    Some (record { engine = engine; ranks = ranks; rows = rows; script = script; proof = proof; best_of = best_of; query = query; tables = tables })
+said ranks rows script proof best_of (Some engine) (Some query) None = None
+said ranks rows script proof best_of (Some engine) None tables = None
+said ranks rows script proof best_of None query tables = None
 
 -- what the texts say, and none if they say nothing
 abbrev pub said_by : Texts → Option WordsSaid
-said_by texts = said (is_set texts.ranks) (is_set texts.rows) texts.script texts.best_of (engine_of texts.engine) texts.query (tables_of texts.tables)
+said_by texts =
+    said (is_set texts.ranks) (is_set texts.rows) texts.script texts.proof texts.best_of (engine_of texts.engine) texts.query
+    (tables_of texts.tables)
 
 -- `session` has a script
 abbrev pub session_by : Texts → Option WordsSaid
 session_by texts = if is_some texts.script then said_by texts else None
+
+-- `verify` has a certificate
+abbrev pub verify_by : Texts → Option WordsSaid
+verify_by texts = if is_some texts.proof then said_by texts else None
 
 -- what `load` says: the engine, the number and the rows
 abbrev pub load_said : Option Engine → Option ℕ → Option ℕ → Option (Engine × ℕ × ℕ)
@@ -100,6 +126,7 @@ seen_texts texts = record {
   ranks = option_map (λ s. s.now) texts.ranks;
   rows = option_map (λ s. s.now) texts.rows;
   script = option_map (λ s. s.now) texts.script;
+  proof = option_map (λ s. s.now) texts.proof;
   best_of = option_map (λ s. s.now) texts.best_of;
   query = option_map (λ s. s.now) texts.query;
   tables = option_map (λ s. map (λ v. v.now) s.now) texts.tables;
@@ -111,6 +138,7 @@ seen_words words = record {
   ranks = words.ranks;
   rows = words.rows;
   script = option_map string_bytes words.script;
+  proof = option_map string_bytes words.proof;
   best_of = option_map string_bytes words.best_of;
   query = string_bytes words.query;
   tables = map named_pair words.tables.items;

@@ -3,7 +3,7 @@
 ghost use Rattle.std.specs.Prelude.{◌≡◌, false, IfOk};
 ghost use Rattle.clap.specs.Simple.{app_of, with_rule};
 ghost use Rattle.clap.specs.Walk.{rule_of};
-ghost use Rattle.cmd_words.specs.Arguments.{engine_rule, flag_rule, option_rule, required_rule, query_rule, tables_rule, with_files, with_answers, run_app, session_app, plan_app, load_app};
+ghost use Rattle.cmd_words.specs.Arguments.{engine_rule, flag_rule, option_rule, required_rule, query_rule, tables_rule, with_files, with_style, with_answers, run_app, session_app, plan_app, prove_app, verify_app, load_app};
 
 use clap::{Arg, ArgAction, Command as Parser};
 use std::alloc::{AllocError, Global};
@@ -70,15 +70,19 @@ fn with_files<'a>(alloc: Global, command: Parser<'a>) -> Result<Parser<'a>, Allo
     command.arg(query(alloc))?.arg(tables(alloc))
 }
 
+// The command with the flags that say what is printed of an answer.
+fn with_style<'a>(alloc: Global, command: Parser<'a>) -> Result<Parser<'a>, AllocError>
+    ensures { IfOk result (λ whole. app_of whole ≡ with_style (app_of command.entry)) }
+{
+    command.arg(flag(alloc, "ranks"))?.arg(flag(alloc, "rows"))
+}
+
 // The command with the options that say which answers are printed, and how.
 fn with_answers<'a>(alloc: Global, command: Parser<'a>) -> Result<Parser<'a>, AllocError>
     ensures { IfOk result (λ whole. app_of whole ≡ with_answers (app_of command.entry)) }
 {
-    command
-        .arg(engine(alloc))?
-        .arg(flag(alloc, "ranks"))?
-        .arg(flag(alloc, "rows"))?
-        .arg(option(alloc, "best-of"))
+    let style = with_style(alloc, command.arg(engine(alloc))?)?;
+    style.arg(option(alloc, "best-of"))
 }
 
 /// What `run` takes. `AllocError` if memory is refused.
@@ -102,6 +106,22 @@ pub fn plan_command<'a>(alloc: Global) -> Result<Parser<'a>, AllocError>
     ensures { IfOk result (λ command. app_of command ≡ plan_app) }
 {
     with_files(alloc, Parser::new(alloc, "plan"))
+}
+
+/// What `prove` takes. `AllocError` if memory is refused.
+pub fn prove_command<'a>(alloc: Global) -> Result<Parser<'a>, AllocError>
+    ensures { IfOk result (λ command. app_of command ≡ prove_app) }
+{
+    let engine = Parser::new(alloc, "prove").arg(engine(alloc))?;
+    with_files(alloc, engine)
+}
+
+/// What `verify` takes. `AllocError` if memory is refused.
+pub fn verify_command<'a>(alloc: Global) -> Result<Parser<'a>, AllocError>
+    ensures { IfOk result (λ command. app_of command ≡ verify_app) }
+{
+    let style = with_style(alloc, Parser::new(alloc, "verify"))?;
+    with_files(alloc, style.arg(required(alloc, "proof"))?)
 }
 
 /// What `load` takes. `AllocError` if memory is refused.

@@ -11,7 +11,7 @@ pub enum Engine {
     Rec,
 }
 
-/// What the arguments of `run`, `session` or `plan` say. An option that a command does not have keeps its default.
+/// What the arguments of a command over files say. An option that a command does not have keeps its default.
 #[derive(Drop)]
 pub struct Words {
     /// `--engine`, or `part` if it is not given.
@@ -22,6 +22,8 @@ pub struct Words {
     pub rows: bool,
     /// `--script`, which only `session` has.
     pub script: Option<String>,
+    /// `--proof`, which only `verify` has.
+    pub proof: Option<String>,
     /// The alias of `--best-of`, which only `run` and `session` have.
     pub best_of: Option<String>,
     /// The file of the query.
@@ -42,4 +44,8 @@ pub enum Command {
     /// Runs a query over generated tables: the engine, the generator's number from 0 to 2,147,483,647, and the rows of
     /// each table, from 1 to 100,000.
     Load(Engine, u32, u32),
+    /// Writes a certificate of the answers of a query.
+    Prove(Words),
+    /// Writes the answers of a query if a certificate shows that they are.
+    Verify(Words),
 }

@@ -2,21 +2,25 @@
 
 ghost use Rattle.std.specs.Prelude.{◌≡◌, Some, None, map, IfOk, IsErrOf};
 ghost use Rattle.std.specs.String.{string_bytes};
-ghost use Rattle.cmd_words.specs.Commands.{run_of, session_of, plan_of, load_of, said_of, said_to, seen_command, KeepsRange};
+ghost use Rattle.cmd_words.specs.Commands.{run_of, session_of, plan_of, prove_of, verify_of, load_of, said_of, said_to, seen_command, KeepsRange};
 ghost use Rattle.cmd_words.specs.Numbers.{IsInRange};
 ghost use Rattle.cmd_words.specs.Said.{seen_words};
 
 use crate::WordsFault;
-use crate::arguments::{load_command, plan_command, run_command, session_command};
+use crate::arguments::{
+    load_command, plan_command, prove_command, run_command, session_command, verify_command,
+};
 use crate::command::{Command, Engine, Words};
 use crate::parse::parsed;
-use crate::texts::{Texts, read_load_texts, read_session_texts, read_texts, texts_of};
+use crate::texts::{
+    Texts, read_load_texts, read_session_texts, read_texts, read_verify_texts, texts_of,
+};
 use std::alloc::Global;
 
 /// The command that the arguments after the program's name give. `Usage` exactly if they give none: if the first is
-/// none of `run`, `session`, `plan` and `load`, if `clap` rejects the others (a request for help is also rejected), if
-/// a TABLE=FILE argument has nothing before or after its first `=`, or if two of them name the same table. `NoMemory`
-/// if memory is refused.
+/// none of `run`, `session`, `plan`, `load`, `prove` and `verify`, if `clap` rejects the others (a request for help is
+/// also rejected), if a TABLE=FILE argument has nothing before or after its first `=`, or if two of them name the same
+/// table. `NoMemory` if memory is refused.
 pub fn read_words(alloc: Global, words: &[String]) -> Result<Command, WordsFault>
     ensures words { IfOk result (λ command. said_of (map string_bytes words.now) ≡ Some (seen_command command)) }
     ensures usage { IsErrOf result WordsFault.Usage → said_of (map string_bytes words.now) ≡ None }
@@ -38,6 +42,8 @@ fn read_command(alloc: Global, name: &str, words: &[String]) -> Result<Command, 
         "run" => Ok(Command::Run(read_run(alloc, words)?)),
         "session" => Ok(Command::Session(read_session(alloc, words)?)),
         "plan" => Ok(Command::Plan(read_plan(alloc, words)?)),
+        "prove" => Ok(Command::Prove(read_prove(alloc, words)?)),
+        "verify" => Ok(Command::Verify(read_verify(alloc, words)?)),
         "load" => {
             let (engine, number, rows) = read_load(alloc, words)?;
             Ok(Command::Load(engine, number, rows))
@@ -53,6 +59,7 @@ fn read_run(alloc: Global, words: &[String]) -> Result<Words, WordsFault>
     let matches = parsed(run_command(alloc)?, words)?;
     let mut texts = texts_of(&matches);
     texts.script = None;
+    texts.proof = None;
     read_texts(alloc, texts)
 }
 
@@ -61,7 +68,9 @@ fn read_session(alloc: Global, words: &[String]) -> Result<Words, WordsFault>
     ensures usage { IsErrOf result WordsFault.Usage → session_of (map string_bytes words.now) ≡ None }
 {
     let matches = parsed(session_command(alloc)?, words)?;
-    read_session_texts(alloc, texts_of(&matches))
+    let mut texts = texts_of(&matches);
+    texts.proof = None;
+    read_session_texts(alloc, texts)
 }
 
 fn read_plan(alloc: Global, words: &[String]) -> Result<Words, WordsFault>
@@ -77,6 +86,49 @@ fn read_plan(alloc: Global, words: &[String]) -> Result<Words, WordsFault>
             ranks: None,
             rows: None,
             script: None,
+            proof: None,
+            best_of: None,
+            query: texts.query,
+            tables: texts.tables,
+        },
+    )
+}
+
+fn read_prove(alloc: Global, words: &[String]) -> Result<Words, WordsFault>
+    ensures words { IfOk result (λ said. prove_of (map string_bytes words.now) ≡ Some (seen_words said)) }
+    ensures usage { IsErrOf result WordsFault.Usage → prove_of (map string_bytes words.now) ≡ None }
+{
+    let matches = parsed(prove_command(alloc)?, words)?;
+    let texts = texts_of(&matches);
+    read_texts(
+        alloc,
+        Texts {
+            engine: texts.engine,
+            ranks: None,
+            rows: None,
+            script: None,
+            proof: None,
+            best_of: None,
+            query: texts.query,
+            tables: texts.tables,
+        },
+    )
+}
+
+fn read_verify(alloc: Global, words: &[String]) -> Result<Words, WordsFault>
+    ensures words { IfOk result (λ said. verify_of (map string_bytes words.now) ≡ Some (seen_words said)) }
+    ensures usage { IsErrOf result WordsFault.Usage → verify_of (map string_bytes words.now) ≡ None }
+{
+    let matches = parsed(verify_command(alloc)?, words)?;
+    let texts = texts_of(&matches);
+    read_verify_texts(
+        alloc,
+        Texts {
+            engine: Some("part"),
+            ranks: texts.ranks,
+            rows: texts.rows,
+            script: None,
+            proof: texts.proof,
             best_of: None,
             query: texts.query,
             tables: texts.tables,

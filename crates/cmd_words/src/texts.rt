@@ -6,7 +6,7 @@ ghost use Rattle.clap.specs.Matches.{found_of};
 ghost use Rattle.clap.specs.Walk.{rows_of};
 ghost use Rattle.cmd_words.specs.NamedPairs.{named_pair};
 ghost use Rattle.cmd_words.specs.Numbers.{IsInRange, begins_plainly, number_in};
-ghost use Rattle.cmd_words.specs.Said.{engine_of, is_set, load_by, load_by_texts, said_by, session_by, seen_texts, seen_words, tables_of, texts_of};
+ghost use Rattle.cmd_words.specs.Said.{engine_of, is_set, load_by, load_by_texts, said_by, session_by, seen_texts, seen_words, tables_of, texts_of, verify_by};
 
 use crate::WordsFault;
 use crate::command::{Engine, Words};
@@ -14,13 +14,14 @@ use crate::pairs::{Named, name_distinct_tables, read_pairs};
 use clap::ArgMatches;
 use std::alloc::{AllocError, Global};
 
-/// The values of the options and arguments of `run`, `session` and `plan`, as text.
+/// The values of the options and arguments of a command over files, as text.
 #[derive(Clone, Copy, Drop)]
 pub struct Texts<'m, 'a> {
     pub engine: Option<&'a str>,
     pub ranks: Option<&'a str>,
     pub rows: Option<&'a str>,
     pub script: Option<&'a str>,
+    pub proof: Option<&'a str>,
     pub best_of: Option<&'a str>,
     pub query: Option<&'a str>,
     pub tables: Option<&'m [&'a str]>,
@@ -35,6 +36,7 @@ pub fn texts_of<'m, 'a>(matches: &'m ArgMatches<'a>) -> Texts<'m, 'a>
         ranks: matches.get_str("ranks"),
         rows: matches.get_str("rows"),
         script: matches.get_str("script"),
+        proof: matches.get_str("proof"),
         best_of: matches.get_str("best-of"),
         query: matches.get_str("query"),
         tables: matches.get_strs("tables"),
@@ -58,6 +60,7 @@ pub fn read_texts(alloc: Global, texts: Texts<'_, '_>) -> Result<Words, WordsFau
         ranks: is_set(texts.ranks),
         rows: is_set(texts.rows),
         script: owned(alloc, texts.script)?,
+        proof: owned(alloc, texts.proof)?,
         best_of: owned(alloc, texts.best_of)?,
         query: String::from_str(alloc, query)?,
         tables,
@@ -71,6 +74,18 @@ pub fn read_session_texts(alloc: Global, texts: Texts<'_, '_>) -> Result<Words, 
     ensures usage { IsErrOf result WordsFault.Usage → session_by (seen_texts texts.entry) ≡ None }
 {
     match texts.script {
+        Some(_) => read_texts(alloc, texts),
+        None => Err(WordsFault::Usage),
+    }
+}
+
+/// What the values of `verify` say, which has a certificate. `Usage` if they say nothing, and `NoMemory` if memory is
+/// refused.
+pub fn read_verify_texts(alloc: Global, texts: Texts<'_, '_>) -> Result<Words, WordsFault>
+    ensures words { IfOk result (λ said. verify_by (seen_texts texts.entry) ≡ Some (seen_words said)) }
+    ensures usage { IsErrOf result WordsFault.Usage → verify_by (seen_texts texts.entry) ≡ None }
+{
+    match texts.proof {
         Some(_) => read_texts(alloc, texts),
         None => Err(WordsFault::Usage),
     }

@@ -1,5 +1,5 @@
 -- Texts that are printed one after another.
-use Rattle.std.proofs.Common.{◌≤◌, ℕ, List, [], ◌++◌, Option, Some, None, Result, Ok, Err, OnOk, IfErr, refl, sym, ap, ◌∙◌, append_assoc, append-nil, take, drop, take-append-drop, arith}
+use Rattle.std.proofs.Common.{◌≤◌, ℕ, List, [], ◌++◌, Option, Some, None, Result, Ok, Err, OnOk, IfErr, inl, inr, refl, sym, ap, ◌∙◌, append_assoc, append-nil, take, drop, take-append-drop, arith}
 use Rattle.std.specs.Io.KnownBytes.{Appends}
 use Rattle.std.proofs.KnownBytes.{Appends-trans}
 use Rattle.outer_io.specs.Counts.{Rose}
@@ -9,7 +9,7 @@ use Rattle.refusal_lines.specs.declared.refusal.Refusal.TheVariants as refusal
 use Rattle.refusal_lines.specs.Reason as reason
 use Rattle.refusal_lines.specs.Reason.{Reason}
 use Rattle.refusal_lines.specs.Refused.{reason_of}
-use Rattle.refusal_lines.specs.Printed.{IsPrintCause, Printed}
+use Rattle.refusal_lines.specs.Printed.{GotBeginning, IsBroken, IsPrintCause, Printed, PrintedSome}
 use Rattle.refusal_lines.specs.SinkState.{SinkState}
 
 pub appends-nothing : (x : Option (List ℕ)) → Appends x x []
@@ -66,3 +66,26 @@ printed-stopped a b xs ys e first = record {
   cause = first.cause;
   later = first.later;
 }
+
+-- ---- a text that is known by what is said of it
+
+module _ (IsText : List ℕ → Type 0) where
+  broken : (old new : SinkState) (e : Reason) → GotBeginning IsText old new → IsBroken IsText old new e
+  broken old new reason.NoMemory got = inr got
+  broken old new e got = got
+
+  -- a text that is such a text was printed
+  pub printed-some : (old new : SinkState) (text : List ℕ) (r : Result (Unit {0}) Refusal) → IsText text → Printed old new text r
+      → PrintedSome IsText old new r
+  printed-some old new text (Ok done) is printed =
+      record { whole = (text, is, printed.whole); part = tt; cause = tt; later = printed.later }
+  printed-some old new text (Err e) is printed = record {
+    whole = tt;
+    part = broken old new (reason_of e) (text, is, printed.prefix);
+    cause = printed.cause;
+    later = printed.later;
+  }
+
+  -- memory ran out before anything was printed
+  pub none-printed : (s : SinkState) → PrintedSome IsText s s (Err refusal.NoMemory)
+  none-printed s = record { whole = tt; part = inl (appends-nothing s.written); cause = tt; later = omega arith }

@@ -2,7 +2,7 @@
 use Rattle.std.proofs.Common.{◌≡◌, ◌∷◌, [], None, Some, codes, refl}
 use Rattle.std.specs.Fmt.{digits}
 use Rattle.hyper_graph.specs.Items.{items_below, items_of}
-use Rattle.refusal_lines.specs.Reason.{BadWeight, BranchShape, Cyclic, DuplicateName, LimitRange, line_of}
+use Rattle.refusal_lines.specs.Reason.{BadBound, BadWeight, BranchShape, Cyclic, DuplicateName, LimitRange, WeakBound, line_of}
 
 triangle : items_of 7 ≡ 1 ∷ 2 ∷ 3 ∷ []
 unfolding items_below
@@ -35,3 +35,11 @@ name_line = refl
 limit_line : line_of (LimitRange 24) ≡ codes "anyk: limit at byte 24 out of range\n"
 unfolding digits
 limit_line = refl
+
+bound_line : line_of (BadBound 3) ≡ codes "anyk: proof line 3: no solution\n"
+unfolding digits
+bound_line = refl
+
+node_line : line_of (WeakBound 2) ≡ codes "anyk: proof node 2: bound missing or too high\n"
+unfolding digits
+node_line = refl

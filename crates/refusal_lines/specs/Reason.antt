@@ -36,6 +36,15 @@ pub data Reason : Type 0 where
   ReadFault : (file : List ℕ) → Reason
   WriteFault : Reason
   NoMemory : Reason
+  BadProofHeader : Reason
+  BadProofLine : (line : ℕ) → Reason
+  BadBound : (line : ℕ) → Reason
+  BoundTwice : (line : ℕ) → Reason
+  WeakBound : (node : ℕ) → Reason
+  BadAnswer : (line : ℕ) → Reason
+  AnswerOrder : (line : ℕ) → Reason
+  AnswerCount : Reason
+  MissedAnswer : Reason
   BranchShape : (branch : ℕ) → Reason
   UnionBest : Reason
 
@@ -72,6 +81,15 @@ status_of (NoFile file) = 9
 status_of (ReadFault file) = 10
 status_of WriteFault = 11
 status_of NoMemory = 12
+status_of BadProofHeader = 14
+status_of (BadProofLine line) = 14
+status_of (BadBound line) = 14
+status_of (BoundTwice line) = 14
+status_of (WeakBound node) = 14
+status_of (BadAnswer line) = 14
+status_of (AnswerOrder line) = 14
+status_of AnswerCount = 14
+status_of MissedAnswer = 14
 status_of (BranchShape branch) = 15
 status_of UnionBest = 15
 
@@ -90,6 +108,9 @@ on_byte at what = codes "byte " ++ (decimal at ++ (codes ": " ++ what))
 
 abbrev pub on_line : ℕ → List ℕ → List ℕ
 on_line line what = codes "script line " ++ (decimal line ++ (codes ": " ++ what))
+
+abbrev pub on_proof_line : ℕ → List ℕ → List ℕ
+on_proof_line line what = codes "proof line " ++ (decimal line ++ (codes ": " ++ what))
 
 -- the branch that the line names, if it names one
 abbrev pub branch_of : Reason → Option ℕ
@@ -139,6 +160,15 @@ text_of (NoFile file) = on_file file (codes ": not found")
 text_of (ReadFault file) = on_file file (codes ": read failed")
 text_of WriteFault = codes "write failed"
 text_of NoMemory = codes "out of memory"
+text_of BadProofHeader = codes "proof: bad header"
+text_of (BadProofLine line) = on_proof_line line (codes "bad line")
+text_of (BadBound line) = on_proof_line line (codes "no solution")
+text_of (BoundTwice line) = on_proof_line line (codes "bound twice")
+text_of (WeakBound node) = codes "proof node " ++ (decimal node ++ codes ": bound missing or too high")
+text_of (BadAnswer line) = on_proof_line line (codes "no answer")
+text_of (AnswerOrder line) = on_proof_line line (codes "not in order")
+text_of AnswerCount = codes "proof: wrong number of answers"
+text_of MissedAnswer = codes "proof: unlisted answer"
 text_of (BranchShape branch) = codes "shape differs"
 text_of UnionBest = codes "several branches with --best-of"
 

@@ -1,7 +1,7 @@
 -- The reasons of the program's refusals.
 use Rattle.refusal_lines.specs.declared.refusal.Refusal.{Refusal}
 use Rattle.refusal_lines.specs.declared.refusal.Refusal.TheVariants as refusal
-use Rattle.refusal_lines.specs.Reason.{Reason, Usage, Syntax, BadLine, UnknownCursor, CursorExists, UnknownTable, DuplicateAlias, UnknownAlias, UnknownColumn, Ambiguous, UnknownBest, NoHeader, DuplicateName, Ragged, BadWeight, Cyclic, RankRange, TooLong, TooManyBranches, TooManyItems, TooManyKeys, LimitRange, TooLarge, TooManyColumns, TooManyTableRows, TooManyNodeRows, TooManyLines, TooManyOpen, NoFile, ReadFault, WriteFault, NoMemory, BranchShape, UnionBest}
+use Rattle.refusal_lines.specs.Reason.{Reason, Usage, Syntax, BadLine, UnknownCursor, CursorExists, UnknownTable, DuplicateAlias, UnknownAlias, UnknownColumn, Ambiguous, UnknownBest, NoHeader, DuplicateName, Ragged, BadWeight, Cyclic, RankRange, TooLong, TooManyBranches, TooManyItems, TooManyKeys, LimitRange, TooLarge, TooManyColumns, TooManyTableRows, TooManyNodeRows, TooManyLines, TooManyOpen, NoFile, ReadFault, WriteFault, NoMemory, BadProofHeader, BadProofLine, BadBound, BoundTwice, WeakBound, BadAnswer, AnswerOrder, AnswerCount, MissedAnswer, BranchShape, UnionBest}
 use Rattle.hyper_graph.specs.Items.{items_of}
 
 -- the reason of a refusal
@@ -38,5 +38,14 @@ reason_of (refusal.NoFile file) = NoFile file.now
 reason_of (refusal.ReadFault file) = ReadFault file.now
 reason_of refusal.WriteFault = WriteFault
 reason_of refusal.NoMemory = NoMemory
+reason_of refusal.BadProofHeader = BadProofHeader
+reason_of (refusal.BadProofLine line) = BadProofLine line
+reason_of (refusal.BadBound line) = BadBound line
+reason_of (refusal.BoundTwice line) = BoundTwice line
+reason_of (refusal.WeakBound node) = WeakBound node
+reason_of (refusal.BadAnswer line) = BadAnswer line
+reason_of (refusal.AnswerOrder line) = AnswerOrder line
+reason_of refusal.AnswerCount = AnswerCount
+reason_of refusal.MissedAnswer = MissedAnswer
 reason_of (refusal.BranchShape branch) = BranchShape branch
 reason_of refusal.UnionBest = UnionBest

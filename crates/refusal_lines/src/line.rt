@@ -1,6 +1,6 @@
 //! The line that says why a run ended.
 ghost use Rattle.std.specs.Prelude.{◌≡◌, ◌<◌, ◌+◌, ◌++◌, None, codes, decimal};
-ghost use Rattle.refusal_lines.specs.Reason.{BadWeight, branch_text, DuplicateName, RankRange, Ragged, line_of, on_byte, on_file, on_line, on_table, spaced, text_of};
+ghost use Rattle.refusal_lines.specs.Reason.{BadWeight, branch_text, DuplicateName, RankRange, Ragged, line_of, on_byte, on_file, on_line, on_proof_line, on_table, spaced, text_of};
 ghost use Rattle.hyper_graph.specs.Graph.{is_in};
 ghost use Rattle.hyper_graph.specs.Items.{items_of};
 ghost use Rattle.refusal_lines.specs.Core.{item_text};
@@ -80,6 +80,20 @@ fn write_reason<E: Sink>(err: &mut E, refusal: Refusal<'_>) -> Result<(), Unwrit
         Refusal::ReadFault(file) => write_on_file(err, file, b": read failed"),
         Refusal::WriteFault => write_text(err, b"write failed"),
         Refusal::NoMemory => write_text(err, b"out of memory"),
+        Refusal::BadProofHeader => write_text(err, b"proof: bad header"),
+        Refusal::BadProofLine(line) => write_on_proof_line(err, line, b"bad line"),
+        Refusal::BadBound(line) => write_on_proof_line(err, line, b"no solution"),
+        Refusal::BoundTwice(line) => write_on_proof_line(err, line, b"bound twice"),
+        Refusal::WeakBound(node) => write_numbered(
+            err,
+            b"proof node ",
+            node,
+            b": bound missing or too high",
+        ),
+        Refusal::BadAnswer(line) => write_on_proof_line(err, line, b"no answer"),
+        Refusal::AnswerOrder(line) => write_on_proof_line(err, line, b"not in order"),
+        Refusal::AnswerCount => write_text(err, b"proof: wrong number of answers"),
+        Refusal::MissedAnswer => write_text(err, b"proof: unlisted answer"),
         Refusal::BranchShape(_) => write_text(err, b"shape differs"),
         Refusal::UnionBest => write_text(err, b"several branches with --best-of"),
     }
@@ -121,6 +135,19 @@ fn write_on_line<'a, E: Sink>(err: &mut E, line: u32, what: &'a [u8]) -> Result<
 {
     let pieces = [
         Piece::Text(b"script line "),
+        Piece::Number(line),
+        Piece::Text(b": "),
+        Piece::Text(what),
+    ];
+    write_pieces(err, &pieces)
+}
+
+/// Writes a reason at a line of the certificate.
+fn write_on_proof_line<'a, E: Sink>(err: &mut E, line: u32, what: &'a [u8]) -> Result<(), Unwritten>
+    ensures { Sent (state_of E.Sink err.old) (state_of E.Sink err.new) (on_proof_line line what.now) result }
+{
+    let pieces = [
+        Piece::Text(b"proof line "),
         Piece::Number(line),
         Piece::Text(b": "),
         Piece::Text(what),

@@ -3,9 +3,10 @@ ghost use Rattle.std.specs.Prelude.{◌≡◌};
 ghost use Rattle.refusal_lines.specs.Reason.{branch_of, status_of};
 ghost use Rattle.refusal_lines.specs.Refused.{reason_of};
 
-/// Why a run ended before its output was complete. Branches, items, keys, columns, rows and script
-/// lines count from 1. The branch is given only if the query has several. An offset is that of a byte of the query, from 0. Tables and files have the names
-/// that the command line gives them.
+/// Why a run ended before its output was complete. Branches, items, keys, columns, rows, the nodes of
+/// the join tree, and the lines of a script and of a certificate count from 1. The branch is given only
+/// if the query has several. An offset is that of a byte of the query, from 0. Tables and files have
+/// the names that the command line gives them.
 #[derive(Clone, Copy, Drop)]
 pub enum Refusal<'a> {
     /// The arguments are not a command.
@@ -92,6 +93,24 @@ pub enum Refusal<'a> {
     WriteFault,
     /// Memory was refused.
     NoMemory,
+    /// The first line of the certificate is missing, or another one than that of certificates.
+    BadProofHeader,
+    /// This line of the certificate has no form, or stands at a place where it cannot.
+    BadProofLine(u32),
+    /// The bound on this line of the certificate is no subtree solution of its node.
+    BadBound(u32),
+    /// An earlier line of the certificate has a bound for the group of the bound on this line.
+    BoundTwice(u32),
+    /// A row of this node of the join tree asks for a bound that the certificate does not have.
+    WeakBound(u32),
+    /// The answer on this line of the certificate is no answer of the query.
+    BadAnswer(u32),
+    /// The answer on this line of the certificate is not after the one before it.
+    AnswerOrder(u32),
+    /// The certificate has not as many answers as its last line says.
+    AnswerCount,
+    /// The certificate does not show that no other answer comes as early as its last one.
+    MissedAnswer,
     /// The branch differs from the first one in its number of selected columns, in its number of
     /// order keys, or in the direction of a key.
     BranchShape(u32),
@@ -137,6 +156,15 @@ impl<'a> Refusal<'a> {
             Refusal::ReadFault(_) => 10,
             Refusal::WriteFault => 11,
             Refusal::NoMemory => 12,
+            Refusal::BadProofHeader
+            | Refusal::BadProofLine(_)
+            | Refusal::BadBound(_)
+            | Refusal::BoundTwice(_)
+            | Refusal::WeakBound(_)
+            | Refusal::BadAnswer(_)
+            | Refusal::AnswerOrder(_)
+            | Refusal::AnswerCount
+            | Refusal::MissedAnswer => 14,
             Refusal::BranchShape(_) | Refusal::UnionBest => 15,
         }
     }

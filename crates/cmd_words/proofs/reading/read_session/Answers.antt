@@ -24,8 +24,8 @@ returns-in_err-matches-clause-usage c =
 
 pub returns-clause-words : goal.returns-clause-words
 returns-clause-words c = IfOk-weaker c.read_session_texts.result _ _ (λ said h. session_taken (app_of c.in_ok-session_command.field-0) (map string_bytes c.args.words.now) (rows_of (found_of c.in_ok-matches.matches)) c.in_ok-matches.ensures.taken c.in_ok-matches.ensures.matches
-    (seen_texts c.texts_of.result) c.texts_of.ensures c.in_ok-session_command.ensures ∙ h) c.read_session_texts.ensures.words
+    (seen_texts c.texts_of-texts.result) c.texts_of-texts.ensures c.in_ok-session_command.ensures ∙ h) c.read_session_texts.ensures.words
 
 pub returns-clause-usage : goal.returns-clause-usage
 returns-clause-usage c = λ h. session_taken (app_of c.in_ok-session_command.field-0) (map string_bytes c.args.words.now) (rows_of (found_of c.in_ok-matches.matches)) c.in_ok-matches.ensures.taken c.in_ok-matches.ensures.matches
-    (seen_texts c.texts_of.result) c.texts_of.ensures c.in_ok-session_command.ensures ∙ c.read_session_texts.ensures.usage h
+    (seen_texts c.texts_of-texts.result) c.texts_of-texts.ensures c.in_ok-session_command.ensures ∙ c.read_session_texts.ensures.usage h

@@ -39,3 +39,9 @@ returns-in-TooManyNodeRows g c = rw c.in-TooManyNodeRows.is c.write_text-in-TooM
 
 pub returns-in-NoFile : goal.returns-in-NoFile
 returns-in-NoFile g c = rw c.in-NoFile.is c.write_on_file-in-NoFile.ensures
+
+pub returns-in-AnswerCount : goal.returns-in-AnswerCount
+returns-in-AnswerCount g c = rw c.in-AnswerCount.is c.write_text-in-AnswerCount.ensures
+
+pub returns-in-MissedAnswer : goal.returns-in-MissedAnswer
+returns-in-MissedAnswer g c = rw c.in-MissedAnswer.is c.write_text-in-MissedAnswer.ensures
