@@ -6,8 +6,7 @@ use Rattle.anyk_model.specs.Query.{Item, Query}
 use Rattle.anyk_model.specs.Table.{Table}
 use Rattle.query_bind.specs.Weighed.{BoundQuery}
 use Rattle.refusal_lines.specs.Reason.{BranchShape, Reason, UnionBest, UnknownBest}
-use Rattle.session_script.specs.declared.step.Step.{Step}
-use Rattle.verdict.specs.Loading.{Loaded, best_in, known_item, loaded_in, odd_branch}
+use Rattle.verdict.specs.Loading.{Beside, Loaded, best_in, known_item, loaded_in, odd_branch}
 use Rattle.verdict.specs.Staged.{Pure}
 use Rattle.verdict.specs.Stages.{Is, then_by, unless}
 use Rattle.input_load.specs.Input.{queries_in}
@@ -38,18 +37,18 @@ one-within (first ∷ other ∷ queries) query item some one is inside = absurd 
 
 -- ---- what was loaded
 
-module _ (queries : List Query) (tables : List Table) (steps : List Step) where
+module _ (queries : List Query) (tables : List Table) (beside : Beside) where
   abbrev loaded_with : Option ℕ → Result Loaded Reason
-  loaded_with best = Ok (record { queries = queries; tables = tables; best = best; steps = steps })
+  loaded_with best = Ok (record { queries = queries; tables = tables; best = best; steps = beside.steps; proof = beside.proof })
 
   abbrev loaded_after : Option (List ℕ) → List Query → Result Loaded Reason
-  loaded_after alias qs = then_by (best_in alias qs) (λ best. Ok (record { queries = qs; tables = tables; best = best; steps = steps }))
+  loaded_after alias qs = then_by (best_in alias qs) (λ best. Ok (record { queries = qs; tables = tables; best = best; steps = beside.steps; proof = beside.proof }))
 
   shape-same : (n : ℕ) (e x : Reason) → e ≡ BranchShape n → x ≡ BranchShape n → Pure (Is {A = Loaded} (Err x)) (Err e)
   shape-same n e x told same = rw (told, same) refl
 
   -- a branch is not of the first one's shape
-  pub shape-refused : (alias : Option (List ℕ)) (e : Reason) → Checked (Err e) queries → Pure (Is (loaded_in alias queries tables steps)) (Err e)
+  pub shape-refused : (alias : Option (List ℕ)) (e : Reason) → Checked (Err e) queries → Pure (Is (loaded_in alias queries tables beside)) (Err e)
   shape-refused alias e h = by (odd_branch queries) refl h
     where
       by : (o : Option Reason) → odd_branch queries ≡ o → ◌≡◌ {A = Result (Unit {0}) Reason} (Err e) (unless o tt)
@@ -60,7 +59,7 @@ module _ (queries : List Query) (tables : List Table) (steps : List Step) where
           let same : e ≡ x = cc in
           shape-same told.0 e x (same ∙ told.1) told.1
 
-  shaped : (alias : Option (List ℕ)) → Checked (Ok tt) queries → loaded_in alias queries tables steps ≡ then_by (best_in alias queries) loaded_with
+  shaped : (alias : Option (List ℕ)) → Checked (Ok tt) queries → loaded_in alias queries tables beside ≡ then_by (best_in alias queries) loaded_with
   shaped alias h = ap (λ (o : Option Reason). then_by (unless o queries) (loaded_after alias)) (odd-none queries h)
 
   best-refused : (alias : Option (List ℕ)) (qs : List Query) (e : Reason) → Err e ≡ best_in alias qs → Pure (Is (then_by (best_in alias qs) loaded_with)) (Err e)
@@ -75,13 +74,13 @@ module _ (queries : List Query) (tables : List Table) (steps : List Step) where
 
   -- no item has the alias, or there are several branches
   pub item-refused : (alias : Option (List ℕ)) (e : Reason) → Checked (Ok tt) queries → Err e ≡ best_in alias queries
-      → Pure (Is (loaded_in alias queries tables steps)) (Err e)
+      → Pure (Is (loaded_in alias queries tables beside)) (Err e)
   item-refused alias e one h =
       let P : Result Loaded Reason → Type 0 = λ r. Pure (Is r) (Err e) in
       subst P (sym (shaped alias one)) (best-refused alias queries e h)
 
   -- an item has it, or no alias is named
   pub item-found : (alias : Option (List ℕ)) (best : Option ℕ) → Checked (Ok tt) queries → Ok best ≡ best_in alias queries
-      → Is (loaded_in alias queries tables steps) (loaded_with best)
+      → Is (loaded_in alias queries tables beside) (loaded_with best)
   item-found alias best one h =
       ap (λ (r : Result (Option ℕ) Reason). then_by r loaded_with) h ∙ sym (shaped alias one)

@@ -16,9 +16,13 @@ use Rattle.anyk_model.specs.Table.{Flaw, Table, no_header, too_many_columns, dup
 use Rattle.session_script.specs.declared.fault.ScriptFault.{ScriptFault}
 use Rattle.session_script.specs.declared.fault.ScriptFault.TheVariants as script
 use Rattle.session_script.specs.declared.step.Step.{Step}
+use Rattle.proof_text.specs.declared.fault.ProofFault.{ProofFault}
+use Rattle.proof_text.specs.declared.fault.ProofFault.TheVariants as proof
+use Rattle.proof_text.specs.Certificate.{Certificate}
+use Rattle.proof_text.specs.Reading.{Fails as FailsToRead, proof_of}
 use Rattle.session_script.specs.Script.{Fails, steps_of}
-use Rattle.verdict.specs.Faults.{of_bind, of_flaw, of_parse, of_script}
-use Rattle.verdict.specs.Loading.{IsParse, IsParseAll, IsReading, all_items, branches_of, steps_said, told_steps}
+use Rattle.verdict.specs.Faults.{of_bind, of_flaw, of_parse, of_proof, of_script}
+use Rattle.verdict.specs.Loading.{IsParse, IsParseAll, IsReading, all_items, branches_of, proof_said, steps_said, told_proof, told_steps}
 use Rattle.verdict.specs.Stages.{Is, followed, unless}
 use Rattle.verdict.proofs.Staging.{pure_refused}
 use Rattle.verdict.specs.Staged.{Pure}
@@ -93,6 +97,24 @@ script_refused bytes (script.BadLine line) (inr e) = sym (ap told_steps e)
 script_refused bytes (script.UnknownCursor line) (inr e) = sym (ap told_steps e)
 script_refused bytes (script.CursorExists line) (inr e) = sym (ap told_steps e)
 script_refused bytes (script.TooManyOpen line) (inr e) = sym (ap told_steps e)
+
+-- the first fault of the form of a certificate
+pub proof_told : (bytes : List ℕ) (read : Certificate) → proof_of bytes ≡ Ok read → Pure (Is (proof_said bytes)) (Ok read)
+proof_told bytes read h = sym (ap told_proof h)
+
+pub proof_refused : (bytes : List ℕ) (fault : ProofFault) → FailsToRead (proof_of bytes) fault → Pure (Is (proof_said bytes)) (Err (of_proof fault))
+proof_refused bytes fault (inl e) = rw e tt
+proof_refused bytes proof.NoMemory (inr e) = tt
+proof_refused bytes proof.BadHeader (inr e) = sym (ap told_proof e)
+proof_refused bytes (proof.BadLine line) (inr e) = sym (ap told_proof e)
+proof_refused bytes (proof.TooManyRows most) (inr e) = sym (ap told_proof e)
+proof_refused bytes (proof.BadBound line) (inr e) = sym (ap told_proof e)
+proof_refused bytes (proof.BoundTwice line) (inr e) = sym (ap told_proof e)
+proof_refused bytes (proof.Weak node) (inr e) = sym (ap told_proof e)
+proof_refused bytes (proof.BadAnswer line) (inr e) = sym (ap told_proof e)
+proof_refused bytes (proof.Order line) (inr e) = sym (ap told_proof e)
+proof_refused bytes proof.Count (inr e) = sym (ap told_proof e)
+proof_refused bytes proof.Missed (inr e) = sym (ap told_proof e)
 
 -- the first flaw of a table
 flaw_refused : (name : List ℕ) (old : List Table) (t : Table) (flaw : Flaw)

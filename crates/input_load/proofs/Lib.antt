@@ -1,4 +1,5 @@
 pub mod AllItems
+pub mod Asides
 pub mod Best
 pub mod BoundQueries
 pub mod Faults
@@ -7,5 +8,4 @@ pub mod FirstUses
 pub mod MadeShelf
 pub mod NoneRefused
 pub mod Reading
-pub mod Scripts
 pub mod Shapes

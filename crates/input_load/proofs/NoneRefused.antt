@@ -17,14 +17,13 @@ use Rattle.query_select.specs.declared.select.ItemRef.{ItemRef}
 use Rattle.query_select.specs.declared.select.Select.{Select}
 use Rattle.refusal_lines.specs.Reason as reason
 use Rattle.refusal_lines.specs.Reason.{Reason}
-use Rattle.session_script.specs.declared.step.Step.{Step}
 use Rattle.verdict.specs.Faults.{of_bind, of_flaw, of_parse}
-use Rattle.verdict.specs.Loading.{IsParse, IsReading, Loaded, all_items, are_several, bound_as, bound_from, bound_in, file_in, file_with, first_uses, first_uses_after, known_file, loaded_in, most_bytes, odd_branch, sound_table, steps_in, table_in, table_names, table_numbers, tables_in, told_branch, unknown_table, unknown_with}
+use Rattle.verdict.specs.Loading.{Beside, IsParse, IsReading, Loaded, all_items, are_several, bound_as, bound_from, bound_in, file_in, file_with, first_uses, first_uses_after, known_file, loaded_in, most_bytes, odd_branch, sound_table, beside_in, with_steps, table_in, table_names, table_numbers, tables_in, told_branch, unknown_table, unknown_with}
 use Rattle.verdict.specs.Made.{made_files}
 use Rattle.verdict.specs.Staged.{Causes, Fits, Pure, Shelved}
 use Rattle.verdict.specs.Stages.{Is, Then, followed, refused, then_by, unless}
-use Rattle.verdict.specs.Verdict.{IsBound, IsLoadedOn, IsRead, IsScripted, IsSelected, IsTabled}
-use Rattle.verdict.specs.Words.{Named, Sought, load, sought_by}
+use Rattle.verdict.specs.Verdict.{IsAccompanied, IsBound, IsLoadedOn, IsRead, IsSelected, IsTabled}
+use Rattle.verdict.specs.Words.{Named, Sought, load, nothing, sought_by}
 use Rattle.make_input.proofs.Short.{files_short}
 use Rattle.input_load.proofs.Files.{short_bytes}
 use Rattle.input_load.proofs.Shapes.{odd-told}
@@ -181,44 +180,45 @@ known-is (Some e) selects known is = cc
 -- a query file with one query and tables' files, without a script and without an item
 module _ (query : List ℕ) (named : Named) (files : Files) (held : AllByRecursion (IsHeld files) named) where
   abbrev asked : Sought
-  asked = record { query = query; several = false; script = None; named = named; best_of = None }
+  asked = record { query = query; several = false; aside = nothing; named = named; best_of = None }
 
-  loaded-in-none : (queries : List Query) (tables : List Table) (steps : List Step) → NoneRefused (loaded_in None queries tables steps)
-  loaded-in-none queries tables steps =
-      then_by-none (unless (odd_branch queries) queries) (λ queries. Ok (record { queries = queries; tables = tables; best = None; steps = steps }))
+  loaded-in-none : (queries : List Query) (tables : List Table) (beside : Beside) → NoneRefused (loaded_in None queries tables beside)
+  loaded-in-none queries tables beside =
+      then_by-none (unless (odd_branch queries) queries) (λ queries. Ok (record { queries = queries; tables = tables; best = None; steps = beside.steps; proof = beside.proof }))
       (shapes-none queries) (λ queries. tt)
 
-  bound-none : (selects : List Select) (tables : List Table) (steps : List Step) (r : Result Loaded Reason) → IsBound asked selects tables steps r → NoneRefused r
-  bound-none selects tables steps r =
-      then-none (Is (bound_in selects tables)) (λ bound. Is (loaded_in None bound tables steps)) r
+  bound-none : (selects : List Select) (tables : List Table) (beside : Beside) (r : Result Loaded Reason) → IsBound asked selects tables beside r → NoneRefused r
+  bound-none selects tables beside r =
+      then-none (Is (bound_in selects tables)) (λ bound. Is (loaded_in None bound tables beside)) r
       (λ x is. is-none (bound_in selects tables) x (queries-none (first_uses (all_items selects)) tables (are_several selects) 1 selects) is)
-      (λ bound given y h. is-none (loaded_in None bound tables steps) y (loaded-in-none bound tables steps) h)
+      (λ bound given y h. is-none (loaded_in None bound tables beside) y (loaded-in-none bound tables beside) h)
 
-  tabled-none : (selects : List Select) (steps : List Step) → unknown_table named (all_items selects) ≡ None → (r : Result Loaded Reason) → IsTabled asked files selects steps r → NoneRefused r
-  tabled-none selects steps known r =
+  tabled-none : (selects : List Select) (beside : Beside) → unknown_table named (all_items selects) ≡ None → (r : Result Loaded Reason) → IsTabled asked files selects beside r → NoneRefused r
+  tabled-none selects beside known r =
       let all = uses-all (IsNamed named) [] (table_names (all_items selects)) (named-all named (all_items selects) known) in
-      then-none (Is (tables_in files named (first_uses (all_items selects)))) (λ tables. IsBound asked selects tables steps) r
+      then-none (Is (tables_in files named (first_uses (all_items selects)))) (λ tables. IsBound asked selects tables beside) r
       (λ x is. is-none (tables_in files named (first_uses (all_items selects))) x (tables-none files named (first_uses (all_items selects)) held all) is)
-      (λ tables given y h. bound-none selects tables steps y h)
+      (λ tables given y h. bound-none selects tables beside y h)
 
-  selected-none : (selects : List Select) (steps : List Step) (r : Result Loaded Reason) → IsSelected asked files selects steps r → NoneRefused r
-  selected-none selects steps r =
-      then-none (Is (unless (unknown_table named (all_items selects)) selects)) (λ known. IsTabled asked files known steps) r
+  selected-none : (selects : List Select) (beside : Beside) (r : Result Loaded Reason) → IsSelected asked files selects beside r → NoneRefused r
+  selected-none selects beside r =
+      then-none (Is (unless (unknown_table named (all_items selects)) selects)) (λ known. IsTabled asked files known beside) r
       (λ x is. is-none (unless (unknown_table named (all_items selects)) selects) x (unknown-none named (all_items selects) selects) is)
       (λ known given y h.
       let is = known-is (unknown_table named (all_items selects)) selects known given in
-      tabled-none known steps (subst (λ (s : List Select). unknown_table named (all_items s) ≡ None) (sym is.1) is.0) y h)
+      tabled-none known beside (subst (λ (s : List Select). unknown_table named (all_items s) ≡ None) (sym is.1) is.0) y h)
 
-  scripted-none : (selects : List Select) (r : Result Loaded Reason) → IsScripted asked files selects r → NoneRefused r
-  scripted-none selects r =
-      then-none (Is (steps_in files None)) (IsSelected asked files selects) r (λ x is. is-none (Ok []) x tt is) (λ steps given y h. selected-none selects steps y h)
+  accompanied-none : (selects : List Select) (r : Result Loaded Reason) → IsAccompanied asked files selects r → NoneRefused r
+  accompanied-none selects r =
+      then-none (Is (beside_in files nothing)) (IsSelected asked files selects) r (λ x is. is-none (Ok (with_steps [])) x tt is)
+      (λ beside given y h. selected-none selects beside y h)
 
   reading-none : (bytes : List ℕ) (r : Result (List Select) Reason) → IsReading false bytes r → NoneRefused r
   reading-none bytes r =
       then-none (IsParse bytes) (λ select. Is (Ok (select ∷ []))) r (parse-none bytes) (λ select given y h. is-none (Ok (select ∷ [])) y tt h)
 
   read-none : (bytes : List ℕ) (r : Result Loaded Reason) → IsRead asked files bytes r → NoneRefused r
-  read-none bytes r = then-none (IsReading false bytes) (IsScripted asked files) r (reading-none bytes) (λ selects given y h. scripted-none selects y h)
+  read-none bytes r = then-none (IsReading false bytes) (IsAccompanied asked files) r (reading-none bytes) (λ selects given y h. accompanied-none selects y h)
 
   pub loaded-none : IsShort (bytes_of files query) → (r : Result Loaded Reason) → IsLoadedOn asked files r → NoneRefused r
   loaded-none is_held r =

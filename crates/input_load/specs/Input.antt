@@ -4,6 +4,7 @@ use Rattle.std.specs.List.{All, AllByRecursion}
 use Rattle.anyk_model.specs.Table.{Table}
 use Rattle.anyk_model.specs.Query.{Query}
 use Rattle.query_bind.specs.Weighed.{BoundQuery, Fits}
+use Rattle.proof_text.specs.Certificate.{Certificate}
 use Rattle.session_script.specs.declared.step.Step.{Step}
 use Rattle.session_script.specs.Script.{KeepsRules}
 use Rattle.union_list.specs.Tagged.{HaveKeys}
@@ -17,6 +18,8 @@ pub record InputData : Type 0 where
   pub best : Option ℕ
   -- the steps of the script, and none if there is no script
   pub steps : List Step
+  -- the certificate, and the empty one if there is none
+  pub proof : Certificate
 
 abbrev pub queries_in : List BoundQuery → List Query
 queries_in queries = map (λ (q : BoundQuery). q.query) queries
@@ -33,4 +36,10 @@ pub record IsSound (input : InputData) : Type 0 where
 
 -- what is known of the input
 abbrev pub loaded_of : InputData → Loaded
-loaded_of input = record { queries = queries_in input.queries; tables = input.tables; best = input.best; steps = input.steps }
+loaded_of input = record {
+  queries = queries_in input.queries;
+  tables = input.tables;
+  best = input.best;
+  steps = input.steps;
+  proof = input.proof;
+}

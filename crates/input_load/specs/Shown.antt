@@ -7,6 +7,9 @@ use Rattle.outer_io.specs.declared.reading.FileFault.{FileFault}
 use Rattle.outer_io.specs.declared.reading.FileFault.TheVariants as file
 use Rattle.anyk_model.specs.Table.{Table}
 use Rattle.anyk_model.specs.Query.{Query}
+use Rattle.proof_text.specs.declared.proof.Proof.{Proof}
+use Rattle.proof_text.specs.Certificate.{Certificate}
+use Rattle.proof_text.specs.Seen.{seen_proof}
 use Rattle.query_bind.specs.Weighed.{BoundQuery}
 use Rattle.query_select.specs.declared.select.Select.{Select}
 use Rattle.refusal_lines.specs.declared.refusal.Refusal.{Refusal}
@@ -14,7 +17,8 @@ use Rattle.refusal_lines.specs.Reason as reason
 use Rattle.refusal_lines.specs.Reason.{Reason}
 use Rattle.refusal_lines.specs.Refused.{reason_of}
 use Rattle.session_script.specs.declared.step.Step.{Step}
-use Rattle.verdict.specs.Loading.{Loaded}
+use Rattle.verdict.specs.Loading.{Beside, Loaded}
+use Rattle.input_load.specs.declared.aside.Beside.{Beside as BesideRead}
 use Rattle.input_load.specs.Input.{InputData, loaded_of, queries_in}
 
 abbrev pub shown_tables : Result (List Table) Refusal → Result (List Table) Reason
@@ -47,6 +51,18 @@ shown_bytes (Err refusal) = Err (reason_of refusal)
 abbrev pub shown_steps : Result (Vec Step Global) Refusal → Result (List Step) Reason
 shown_steps (Ok steps) = Ok steps.items
 shown_steps (Err refusal) = Err (reason_of refusal)
+
+abbrev pub shown_proof : Result Proof Refusal → Result Certificate Reason
+shown_proof (Ok proof) = Ok (seen_proof proof)
+shown_proof (Err refusal) = Err (reason_of refusal)
+
+-- what was read beside the query and the tables
+abbrev pub seen_beside : BesideRead → Beside
+seen_beside beside = record { steps = beside.script.items; proof = seen_proof beside.proof }
+
+abbrev pub shown_beside : Result BesideRead Refusal → Result Beside Reason
+shown_beside (Ok beside) = Ok (seen_beside beside)
+shown_beside (Err refusal) = Err (reason_of refusal)
 
 abbrev pub shown_query : Result BoundQuery Refusal → Result Query Reason
 shown_query (Ok bound) = Ok bound.query

@@ -1,15 +1,23 @@
 -- What a command reads, as the definitions of its input see it.
 use Rattle.std.specs.Prelude.{map, option_map}
 use Rattle.cmd_words.specs.NamedPairs.{named_pair}
+use Rattle.input_load.specs.declared.sought.Aside.{Aside as AsideText}
+use Rattle.input_load.specs.declared.sought.Aside.TheVariants.{Nothing, Script, Certificate}
 use Rattle.input_load.specs.declared.sought.Sought.{Sought as SoughtText}
-use Rattle.verdict.specs.Words.{Sought}
+use Rattle.verdict.specs.Words.{Aside, Sought, nothing, script, certificate}
+
+-- the file of the script or of the certificate, by the bytes of its name
+abbrev pub aside_shown : AsideText → Aside
+aside_shown Nothing = nothing
+aside_shown (Script name) = script name.now
+aside_shown (Certificate name) = certificate name.now
 
 -- the names of files, tables and items by their bytes
 abbrev pub sought_shown : SoughtText → Sought
 sought_shown sought = record {
   query = sought.query.now;
   several = sought.several;
-  script = option_map (λ name. name.now) sought.script;
+  aside = aside_shown sought.aside;
   named = map named_pair sought.named.now;
   best_of = option_map (λ alias. alias.now) sought.best_of;
 }

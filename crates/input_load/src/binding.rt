@@ -1,5 +1,5 @@
 //! An input, and the binding of its queries to its tables.
-ghost use Rattle.std.specs.Prelude.{◌≡◌, ◌<◌, ◌≤◌, ◌+◌, [], IfOk, IfSome, length, option_map, position};
+ghost use Rattle.std.specs.Prelude.{◌≡◌, ◌<◌, ◌≤◌, ◌+◌, [], None, IfOk, IfSome, length, option_map, position};
 ghost use Rattle.std.specs.List.{All, AllByRecursion};
 ghost use Rattle.std.specs.Str.{bytes_eq};
 ghost use Rattle.anyk_model.specs.Query.{Item};
@@ -16,11 +16,13 @@ ghost use Rattle.verdict.specs.Staged.{Pure};
 ghost use Rattle.verdict.specs.Verdict.{IsBound};
 ghost use Rattle.input_load.specs.Limits.{AreWithinLimits, IsWithinLimits};
 ghost use Rattle.input_load.specs.Input.{queries_in};
-ghost use Rattle.input_load.specs.Shown.{shown_check, shown_input, shown_item, shown_queries, shown_query};
+ghost use Rattle.input_load.specs.Shown.{seen_beside, shown_check, shown_input, shown_item, shown_queries, shown_query};
 ghost use Rattle.input_load.specs.Sought.{sought_shown};
 
+use crate::aside::Beside;
 use crate::sought::Sought;
 use csv_tables::Tables;
+use proof_text::Proof;
 use query_bind::{BindFault, Query, bind};
 use query_select::select::Select;
 use refusal_lines::Refusal;
@@ -40,18 +42,33 @@ pub struct Input {
     pub best: Option<u32>,
     /// The steps of the script; none if there is no script.
     pub script: Vec<Step>,
+    /// The certificate; the empty one if there is none.
+    pub proof: Proof,
 }
 
 impl Model for Input {
     ghost use Rattle.input_load.specs.Input.{InputData, IsSound};
+    ghost use Rattle.proof_text.specs.Seen.{seen_proof};
 
     ghost Value = { InputData };
 
     ghost view = { λ a.
-        record { queries = a.queries.items; tables = a.tables; best = a.best; steps = a.script.items } };
+        record {
+          queries = a.queries.items;
+          tables = a.tables;
+          best = a.best;
+          steps = a.script.items;
+          proof = seen_proof a.proof;
+        } };
 
     ghost invariant = { λ a. IsSound
-        (record { queries = a.queries.items; tables = a.tables; best = a.best; steps = a.script.items }) };
+        (record {
+          queries = a.queries.items;
+          tables = a.tables;
+          best = a.best;
+          steps = a.script.items;
+          proof = seen_proof a.proof;
+        }) };
 }
 
 /// The input of these selects over the tables. `which` has the number of the table of each item of
@@ -64,16 +81,17 @@ pub(crate) fn bound_input<'a>(
     selects: &[Select],
     tables: Tables,
     which: &[u32],
-    script: Vec<Step>,
+    beside: Beside,
 ) -> Result<Input, Refusal<'a>>
     requires limits { AreWithinLimits selects.now }
     requires numbers { let items = all_items selects.now in
         which.now ≡ table_numbers (first_uses items) items }
     requires known { AllByRecursion (λ t. t < length tables) which.now }
-    requires rules { KeepsRules [] script.items }
+    requires rules { KeepsRules [] beside.script.items }
     ensures bound { let asked = sought_shown sought.now in
-        Pure (IsBound asked selects.now tables script.items) (shown_input result) }
+        Pure (IsBound asked selects.now tables (seen_beside beside)) (shown_input result) }
     ensures branches { IfOk result (λ input. length input.queries ≡ length selects.now) }
+    ensures unnamed { sought.now.best_of ≡ None → IfOk result (λ input. input.best ≡ None) }
 {
     let queries = bind_queries(alloc, selects, &tables, which)?;
     check_shapes(&queries)?;
@@ -82,7 +100,8 @@ pub(crate) fn bound_input<'a>(
         queries,
         tables,
         best,
-        script,
+        script: beside.script,
+        proof: beside.proof,
     })
 }
 
@@ -194,6 +213,7 @@ fn list_item<'a>(queries: &[Query], best_of: Option<&str>) -> Result<Option<u32>
         shown_item result ≡ best_in alias (queries_in queries.now) }
     ensures item { IfOk result (λ best. IfSome best
         (λ item. AllByRecursion (λ q. item < length q.query.items) queries.now)) }
+    ensures unnamed { best_of.entry ≡ None → IfOk result (λ best. best ≡ None) }
 {
     let Some(alias) = best_of else {
         return Ok(None);

@@ -10,7 +10,7 @@ ghost use Rattle.input_load.specs.Shown.{shown_input};
 use crate::binding::Input;
 use crate::generated::MadeTables;
 use crate::input::load_input;
-use crate::sought::Sought;
+use crate::sought::{Aside, Sought};
 use hash_keys::Keys;
 use make_input::{query_of, tables_of};
 use outer_io::{MemFile, PureShelf};
@@ -29,7 +29,7 @@ pub fn load_made<'a>(alloc: Global, made: &'a MadeTables) -> Result<Input, Refus
     let sought = Sought {
         query: "load.sql",
         several: false,
-        script: None,
+        aside: Aside::Nothing,
         named: made.named.as_slice(),
         best_of: None,
     };

@@ -13,7 +13,8 @@ use Rattle.refusal_lines.specs.Reason as reason
 use Rattle.refusal_lines.specs.Reason.{Reason, status_of}
 use Rattle.verdict.specs.Faults.{of_bind, of_flaw}
 use Rattle.verdict.specs.Found.{Found, found_of}
-use Rattle.verdict.specs.Loading.{Loaded, bound_in, first_uses, most_bytes, short_enough, sound_table, tables_in}
+use Rattle.verdict.specs.Loading.{Loaded, bound_in, first_uses, most_bytes, no_certificate, short_enough, sound_table}
+use Rattle.verdict.specs.Loading.{tables_in, with_steps}
 use Rattle.verdict.specs.Made.{made_files}
 use Rattle.verdict.specs.Outcome.{IsReason}
 use Rattle.verdict.specs.Stages.{followed, then_by, unless}
@@ -105,12 +106,13 @@ module _ (number rows : ℕ) (few : rows ≤ 100000) where
   -- ---- the stages
 
   abbrev load_found : Loaded
-  load_found = record { queries = load_bound ∷ []; tables = load_tables; best = None; steps = [] }
+  load_found = record { queries = load_bound ∷ []; tables = load_tables; best = None; steps = []; proof = no_certificate }
 
   loaded : (given : Files) → IsLoaded (built (load number rows)) given (Ok load_found)
   loaded given =
-      followed {a = load_query} refl (followed {a = load_select ∷ []} (followed {a = load_select} load_parsed refl) (followed {a = []} refl
-      (followed {a = load_select ∷ []} refl (followed {a = load_tables} (sym tables_found) (followed {a = load_bound ∷ []} (sym query_found) refl)))))
+      followed {a = load_query} refl (followed {a = load_select ∷ []} (followed {a = load_select} load_parsed refl)
+      (followed {a = with_steps []} refl (followed {a = load_select ∷ []} refl
+      (followed {a = load_tables} (sym tables_found) (followed {a = load_bound ∷ []} (sym query_found) refl)))))
 
   pub is_accepted : (given : Files) → IsVerdict (built (load number rows)) given (Ok (found_of load_found (load_shape rows ∷ [])))
   is_accepted given =

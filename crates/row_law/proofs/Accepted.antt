@@ -7,7 +7,7 @@ use Rattle.step_bounds.specs.Steps.{calls_for, cost}
 use Rattle.step_bounds.proofs.Rising.{calls_few, cost_rises}
 use Rattle.verdict.specs.Bound.{IsBounded}
 use Rattle.verdict.specs.Found.{Found, found_of}
-use Rattle.verdict.specs.Loading.{Loaded}
+use Rattle.verdict.specs.Loading.{Loaded, no_certificate, with_steps}
 use Rattle.verdict.specs.Output.{asked_list}
 use Rattle.verdict.specs.Stages.{followed}
 use Rattle.verdict.specs.Verdict.{IsLoaded, IsVerdict}
@@ -16,7 +16,7 @@ use Rattle.row_law.proofs.Loaded.{row_bound, row_parsed, row_query, row_select, 
 use Rattle.row_law.proofs.Shaped.{row_shape, row_shaped}
 
 abbrev pub row_loaded : Loaded
-row_loaded = record { queries = row_query ∷ []; tables = row_tables; best = None; steps = [] }
+row_loaded = record { queries = row_query ∷ []; tables = row_tables; best = None; steps = []; proof = no_certificate }
 
 abbrev pub row_found : Found
 row_found = found_of row_loaded (row_shape ∷ [])
@@ -24,7 +24,7 @@ row_found = found_of row_loaded (row_shape ∷ [])
 row_is_loaded : IsLoaded row_asked row_files (Ok row_loaded)
 row_is_loaded =
     followed {a = query_text} refl (followed {a = row_select ∷ []} (followed {a = as_one_branch row_select} (one_branch query_text row_select row_parsed) refl)
-    (followed {a = []} refl (followed {a = row_select ∷ []} refl
+    (followed {a = with_steps []} refl (followed {a = row_select ∷ []} refl
     (followed {a = row_tables} (sym row_tabled) (followed {a = row_query ∷ []} (sym row_bound) refl)))))
 
 pub row_verdict : IsVerdict row_asked row_files (Ok row_found)

@@ -1,14 +1,14 @@
 -- The shape of a query over one item without conditions: a join tree of one atom, and all rows pass.
-use Rattle.std.proofs.Common.{◌≡◌, ◌↔◌, ◌<◌, ◌≤◌, ◌-◌, ◌^◌, ℕ, zero, suc, List, [], ◌∷◌, Option, length, slice_index, Ok, refl, sym, ap, subst, inl, inr, arith}
+use Rattle.std.proofs.Common.{◌≡◌, ◌<◌, ◌≤◌, ◌^◌, ℕ, zero, suc, List, [], ◌∷◌, Option, length, slice_index, Ok, refl, sym, ap, subst, inl, inr, arith}
 use Rattle.std.proofs.lemmas.List.Elements.{All-nil}
 use Rattle.rankings.specs.Order.{IsMember}
 use Rattle.anyk_model.specs.Query.{Column, OrderKey, Query, item_table}
 use Rattle.anyk_model.specs.Table.{Table}
-use Rattle.hyper_graph.specs.Graph.{Hypergraph, HasVar, IsGraph}
+use Rattle.hyper_graph.specs.Graph.{Hypergraph, IsGraph}
 use Rattle.hyper_graph.proofs.Bits.{in_all_below}
-use Rattle.join_tree.specs.Removal.{HasOne, IsLive, IsRun, IsTreeOf}
+use Rattle.join_tree.specs.Removal.{HasOne, IsRun, IsTreeOf}
 use Rattle.join_tree.proofs.FromRemoval.{removal_done, tree_from_removal}
-use Rattle.query_bind.specs.Classes.{AreVariables, HasVariable, IsFixedTo, IsLeast, IsShared, Linked, Passes, back, forth, row_field, same}
+use Rattle.query_bind.specs.Classes.{AreVariables, IsFixedTo, IsShared, Linked, Passes, back, forth, row_field, same}
 use Rattle.query_bind.specs.Graph.{IsGraphOf}
 use Rattle.query_shape.specs.Shape.{HasNodeRows, HasTree, IsShape, Shape}
 

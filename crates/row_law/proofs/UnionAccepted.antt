@@ -8,7 +8,7 @@ use Rattle.union_list.specs.Tagged.{Tagged}
 use Rattle.union_list.specs.Union.{members_in}
 use Rattle.verdict.specs.Bound.{IsBounded}
 use Rattle.verdict.specs.Found.{Found, found_of}
-use Rattle.verdict.specs.Loading.{Loaded}
+use Rattle.verdict.specs.Loading.{Loaded, no_certificate, with_steps}
 use Rattle.verdict.specs.Output.{tagged_of}
 use Rattle.verdict.specs.Stages.{followed}
 use Rattle.verdict.specs.Verdict.{IsLoaded, IsVerdict}
@@ -19,7 +19,7 @@ use Rattle.row_law.proofs.Single.{single_shape, single_shaped}
 use Rattle.row_law.proofs.UnionLoaded.{by_weight, union_bound, union_parsed, union_queries, union_select, union_selects, union_tabled}
 
 abbrev union_loaded : Loaded
-union_loaded = record { queries = union_queries; tables = row_tables; best = None; steps = [] }
+union_loaded = record { queries = union_queries; tables = row_tables; best = None; steps = []; proof = no_certificate }
 
 abbrev pub union_found : Found
 union_found = found_of union_loaded (single_shape ∷ single_shape ∷ [])
@@ -27,7 +27,7 @@ union_found = found_of union_loaded (single_shape ∷ single_shape ∷ [])
 union_is_loaded : IsLoaded row_asked union_files (Ok union_loaded)
 union_is_loaded =
     followed {a = union_text} refl (followed {a = union_selects} (followed {a = union_select} union_parsed refl)
-    (followed {a = []} refl (followed {a = union_selects} refl
+    (followed {a = with_steps []} refl (followed {a = union_selects} refl
     (followed {a = row_tables} (sym union_tabled) (followed {a = union_queries} (sym union_bound) refl)))))
 
 pub union_verdict : IsVerdict row_asked union_files (Ok union_found)

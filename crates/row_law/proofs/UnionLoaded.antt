@@ -1,5 +1,5 @@
 -- The two queries of the second row, and their tables, by computation.
-use Rattle.std.proofs.Common.{◌≡◌, ℕ, List, [], ◌∷◌, None, Some, Option, Ok, false, refl}
+use Rattle.std.proofs.Common.{ℕ, List, [], ◌∷◌, None, Some, Option, Ok, false, refl}
 use Rattle.std.specs.Prelude.{codes}
 use Rattle.csv.proofs.OnLiterals.{csv_on_literals}
 use Rattle.anyk_model.specs.Query.{OrderKey, Query}

@@ -21,7 +21,7 @@ pub complete_only : (asked : Asked) (told : Option Files) (old new : Outside)
     → IsComplete asked told old new → IsRefusedWhereRefused asked told old new 0
 complete_only asked None old new h = tt
 complete_only no_command (Some files) old new h = absurd h
-complete_only (built command) (Some files) old new (found, accepted, written) =
+complete_only (built command) (Some files) old new (found, accepted, text, is_output, written) =
     λ refusal is_refused no_fault. no_both (one_verdict (built command) files _ _ accepted is_refused)
 
 -- the refusal of a call that ended with it is the verdict's
@@ -60,7 +60,7 @@ refused_only asked (Some files) old new a h = refused_by asked files old new a h
 accepted_alone : {A : Type 0} (asked : Asked) (files : Files) (old new : Outside) → GotAccepted asked (Some files) old new
     → (refusal : Reason) → IsVerdict asked files (Err refusal) → A
 accepted_alone no_command files old new h refusal is_refused = absurd h
-accepted_alone (built command) files old new (found, accepted, got) refusal is_refused =
+accepted_alone (built command) files old new (found, accepted, text, is_output, got) refusal is_refused =
     no_both (one_verdict (built command) files _ _ accepted is_refused)
 
 -- a complete output is written only if the verdict is not a refusal
@@ -68,7 +68,7 @@ pub complete_unrefused : (asked : Asked) (told : Option Files) (old new : Outsid
     → IsComplete asked told old new → IsUnwrittenWhereRefused asked told old new
 complete_unrefused asked None old new h = tt
 complete_unrefused no_command (Some files) old new h = absurd h
-complete_unrefused (built command) (Some files) old new (found, accepted, written) =
+complete_unrefused (built command) (Some files) old new (found, accepted, text, is_output, written) =
     λ refusal is_refused. no_both (one_verdict (built command) files _ _ accepted is_refused)
 
 unwritten_by : (asked : Asked) (files : Files) (old new : Outside) (a : Reason) → IsCut asked (Some files) old new a

@@ -1,5 +1,5 @@
 -- An input is loaded in at most one way, and has at most one verdict.
-use Rattle.std.proofs.Common.{◌≡◌, ◌≢◌, ◌+◌, ℕ, Bool, true, false, List, [], ◌∷◌, Option, Result, Ok, Err, inl, inr, ap, subst, sym, ◌∙◌}
+use Rattle.std.proofs.Common.{◌≡◌, ◌≢◌, ◌+◌, ℕ, Bool, true, false, List, [], ◌∷◌, Option, Result, Ok, Err, inl, inr, refl, ap, subst, sym, ◌∙◌}
 use Rattle.outer_io.specs.Files.{Files}
 use Rattle.query_grammar.specs.declared.fault.ParseFault.{ParseFault}
 use Rattle.query_grammar.specs.declared.fault.ParseFault.TheVariants.{NoMemory as out_of_memory}
@@ -12,14 +12,19 @@ use Rattle.anyk_model.specs.Query.{Query}
 use Rattle.anyk_model.specs.Table.{Table}
 use Rattle.refusal_lines.specs.Reason.{Reason, Usage}
 use Rattle.verdict.specs.Made.{files_of}
-use Rattle.verdict.specs.Words.{Asked, Command, Sought, no_command, built, sought_by}
-use Rattle.verdict.specs.Faults.{of_parse, of_shape}
-use Rattle.session_script.specs.declared.step.Step.{Step}
+use Rattle.proof_text.specs.Certificate.{Certificate}
+use Rattle.proof_model.specs.QueryProblem.{problem_of}
+use Rattle.proof_model.specs.Faults.{fault_of}
+use Rattle.proof_model.specs.Valid.{Flaw as ProofFlaw}
+use Rattle.proof_model.proofs.OneFlaw.{one-flaw}
+use Rattle.proof_model.proofs.QueryLaws.{no-flaw}
+use Rattle.verdict.specs.Words.{Asked, Command, Sought, no_command, built, run, plan, session, load, prove, verify, sought_by}
+use Rattle.verdict.specs.Faults.{of_parse, of_proof, of_shape}
 use Rattle.verdict.specs.Laws.{OneLoading, OneVerdict}
-use Rattle.verdict.specs.Loading.{IsParse, IsParseAll, IsReading, Loaded, are_several, branches_of, loaded_in, told_branch}
-use Rattle.verdict.specs.Found.{Found, found_of}
+use Rattle.verdict.specs.Loading.{Beside, IsParse, IsParseAll, IsReading, Loaded, are_several, branches_of, loaded_in, told_branch}
+use Rattle.verdict.specs.Found.{Found, found_of, query_of, structure_of}
 use Rattle.verdict.specs.Stages.{Then, Is, refused, followed, AtMostOne}
-use Rattle.verdict.specs.Verdict.{AreStructures, IsBound, IsRead, IsScripted, IsSelected, IsShaped, IsStructure, IsTabled, IsVerdict}
+use Rattle.verdict.specs.Verdict.{AreStructures, IsAccompanied, IsBound, IsRead, IsSelected, IsShaped, IsStructure, IsStructured, IsTabled, IsVerdict, IsCertified, IsVerified}
 
 -- a stage that computes
 pub one_computed : {A : Type 0} (r : Result A Reason) → AtMostOne (Is r)
@@ -133,28 +138,54 @@ one_shaped loaded =
     one_then _ _ (one_structures (are_several loaded.queries) 1 loaded.tables loaded.queries) (λ shapes. one_computed (Ok (found_of loaded shapes)))
 
 -- the stages of loading
-one_bound : (sought : Sought) (selects : List Select) (tables : List Table) (steps : List Step) → AtMostOne (IsBound sought selects tables steps)
-one_bound sought selects tables steps = one_then _ _ (one_computed _) (λ queries. one_computed (loaded_in sought.best_of queries tables steps))
+one_bound : (sought : Sought) (selects : List Select) (tables : List Table) (beside : Beside) → AtMostOne (IsBound sought selects tables beside)
+one_bound sought selects tables beside = one_then _ _ (one_computed _) (λ queries. one_computed (loaded_in sought.best_of queries tables beside))
 
-one_tabled : (sought : Sought) (files : Files) (selects : List Select) (steps : List Step) → AtMostOne (IsTabled sought files selects steps)
-one_tabled sought files selects steps = one_then _ _ (one_computed _) (λ tables. one_bound sought selects tables steps)
+one_tabled : (sought : Sought) (files : Files) (selects : List Select) (beside : Beside) → AtMostOne (IsTabled sought files selects beside)
+one_tabled sought files selects beside = one_then _ _ (one_computed _) (λ tables. one_bound sought selects tables beside)
 
-one_selected : (sought : Sought) (files : Files) (selects : List Select) (steps : List Step) → AtMostOne (IsSelected sought files selects steps)
-one_selected sought files selects steps = one_then _ _ (one_computed _) (λ known. one_tabled sought files known steps)
+one_selected : (sought : Sought) (files : Files) (selects : List Select) (beside : Beside) → AtMostOne (IsSelected sought files selects beside)
+one_selected sought files selects beside = one_then _ _ (one_computed _) (λ known. one_tabled sought files known beside)
 
-one_scripted : (sought : Sought) (files : Files) (selects : List Select) → AtMostOne (IsScripted sought files selects)
-one_scripted sought files selects = one_then _ _ (one_computed _) (one_selected sought files selects)
+one_accompanied : (sought : Sought) (files : Files) (selects : List Select) → AtMostOne (IsAccompanied sought files selects)
+one_accompanied sought files selects = one_then _ _ (one_computed _) (one_selected sought files selects)
 
 one_read : (sought : Sought) (files : Files) (bytes : List ℕ) → AtMostOne (IsRead sought files bytes)
-one_read sought files bytes = one_then _ _ (one_reading sought.several bytes) (one_scripted sought files)
+one_read sought files bytes = one_then _ _ (one_reading sought.several bytes) (one_accompanied sought files)
 
 pub one_loading : OneLoading
 one_loading no_command files = one_computed (Err Usage)
 one_loading (built command) files = one_then _ _ (one_computed _) (one_read (sought_by command) (files_of command files))
 
+-- the certificate
+one_certified : (query : Query) (tables : List Table) (shape : Shape) (proof : Certificate)
+    → AtMostOne (IsCertified query tables shape proof)
+one_certified query tables shape proof (Ok a) (Ok b) h k = refl
+one_certified query tables shape proof (Ok a) (Err b) h k =
+    absurd (no-flaw (problem_of query tables shape.atoms shape.parents) proof query.limit h k.0 k.2.holds)
+one_certified query tables shape proof (Err a) (Ok b) h k =
+    absurd (no-flaw (problem_of query tables shape.atoms shape.parents) proof query.limit k h.0 h.2.holds)
+one_certified query tables shape proof (Err a) (Err b) h k =
+    let same = one-flaw (problem_of query tables shape.atoms shape.parents) proof query.limit h.0 k.0 h.2 k.2 in
+    ap Err (h.1 ∙ ap (λ (flaw : ProofFlaw). of_proof (fault_of (problem_of query tables shape.atoms shape.parents) proof flaw)) same
+    ∙ sym k.1)
+
+one_verified : (found : Found) → AtMostOne (IsVerified found)
+one_verified found =
+    one_then _ _ (one_certified (query_of found) found.tables (structure_of found) found.proof) (λ done. one_computed (Ok found))
+
 -- all together
+one_structured : (asked : Asked) (files : Files) → AtMostOne (IsStructured asked files)
+one_structured asked files = one_then _ _ (one_loading asked files) one_shaped
+
 pub one_verdict : OneVerdict
-one_verdict asked files = one_then _ _ (one_loading asked files) one_shaped
+one_verdict (built (verify proof words)) files = one_then _ _ (one_structured (built (verify proof words)) files) one_verified
+one_verdict no_command files = one_structured no_command files
+one_verdict (built (run words)) files = one_structured (built (run words)) files
+one_verdict (built (plan words)) files = one_structured (built (plan words)) files
+one_verdict (built (session script words)) files = one_structured (built (session script words)) files
+one_verdict (built (load number rows)) files = one_structured (built (load number rows)) files
+one_verdict (built (prove words)) files = one_structured (built (prove words)) files
 
 -- the verdict on arguments that are not a command
 abbrev Same : Asked → Asked → Type 0

@@ -1,5 +1,5 @@
 -- The structure of what was loaded, as a stage that reads no file.
-use Rattle.std.proofs.Common.{◌≡◌, ◌+◌, ℕ, suc, zero, Bool, true, false, List, [], ◌∷◌, ◌++◌, length, None, Option, Result, Ok, Err, refl, ap, sym, subst, arith}
+use Rattle.std.proofs.Common.{◌≡◌, ◌+◌, ℕ, Bool, List, [], ◌∷◌, ◌++◌, length, Option, Result, Ok, Err, refl, sym, subst, arith}
 use Rattle.anyk_model.specs.Query.{Query}
 use Rattle.anyk_model.specs.Table.{Table}
 use Rattle.query_shape.specs.Shape.{Flaw, IsShape, Shape, cyclic, too_many_rows}
@@ -8,9 +8,9 @@ use Rattle.verdict.specs.Faults.{of_shape}
 use Rattle.verdict.specs.Found.{found_of}
 use Rattle.verdict.specs.Loading.{Loaded, are_several, told_branch}
 use Rattle.verdict.specs.Staged.{Pure}
-use Rattle.verdict.specs.Stages.{Is, Then, followed, refused}
+use Rattle.verdict.specs.Stages.{followed, refused}
 use Rattle.verdict.specs.UnionBound.{HaveShapes}
-use Rattle.verdict.specs.Verdict.{AreStructures, IsFlawed, IsShaped, IsStructure}
+use Rattle.verdict.specs.Verdict.{AreStructures, IsFlawed, IsShaped}
 
 -- a fault of the structure is not one of the outside
 pub pure_flaw : {A : Type 0} (Gives : Result A Reason → Type 0) (branch : Option ℕ) (flaw : Flaw) → Gives (Err (of_shape branch flaw)) → Pure Gives (Err (of_shape branch flaw))

@@ -1,5 +1,5 @@
 -- The bound on the counted steps of an accepted input.
-use Rattle.std.specs.Prelude.{◌≡◌, ◌+◌, ◌*◌, ◌++◌, ◌≤◌, ℕ, if◌then◌else◌, List, Option, Some, IfSome, Ok, take}
+use Rattle.std.specs.Prelude.{◌≡◌, ◌+◌, ◌*◌, ◌++◌, ◌≤◌, ℕ, if◌then◌else◌, List, Option, Some, None, IfSome, Ok, take}
 use Rattle.outer_io.specs.Files.{Files}
 use Rattle.step_bounds.specs.Bounded.{cost_over, records_in}
 use Rattle.step_bounds.specs.Steps.{calls_for}
@@ -8,7 +8,7 @@ use Rattle.verdict.specs.Output.{asked_list, style_of, tagged_of}
 use Rattle.verdict.specs.UnionBound.{union_cost, union_records}
 use Rattle.verdict.specs.SessionCalls.{session_calls, session_reach}
 use Rattle.verdict.specs.Verdict.{IsVerdict}
-use Rattle.verdict.specs.Words.{Asked, Command, Words, built, load, plan, run, session}
+use Rattle.verdict.specs.Words.{Asked, Command, Words, built, load, plan, prove, run, session, verify}
 
 -- the bound for this many calls for answers of the first query
 abbrev pub cost_of : Found → ℕ → ℕ
@@ -16,20 +16,23 @@ cost_of found calls = cost_over (query_of found) found.tables (structure_of foun
 
 -- The greatest number of steps. For `run` and `load` the bound counts the calls that give the members,
 -- over several branches those of each branch, and for `plan` no call. For `session` it counts as many
--- calls as its steps reach far, and 4 more steps for each call that they make.
-abbrev pub most_steps : Command → Found → ℕ
+-- calls as its steps reach far, and 4 more steps for each call that they make. There is no bound for
+-- `prove` and `verify`.
+abbrev pub most_steps : Command → Found → Option ℕ
 most_steps (run words) found =
-    if is_union found then union_cost found.tables (tagged_of found) 0 found.queries found.shapes
-    else cost_of found (calls_for (query_of found).limit (asked_list found))
-most_steps (plan words) found = cost_of found 0
+    Some (if is_union found then union_cost found.tables (tagged_of found) 0 found.queries found.shapes
+    else cost_of found (calls_for (query_of found).limit (asked_list found)))
+most_steps (plan words) found = Some (cost_of found 0)
 most_steps (session script words) found =
-    cost_of found (session_reach (query_of found).limit (asked_list found) found.steps)
-    + 4 * session_calls (query_of found).limit (asked_list found) found.steps
-most_steps (load number rows) found = cost_of found (calls_for (query_of found).limit (asked_list found))
+    Some (cost_of found (session_reach (query_of found).limit (asked_list found) found.steps)
+    + 4 * session_calls (query_of found).limit (asked_list found) found.steps)
+most_steps (load number rows) found = Some (cost_of found (calls_for (query_of found).limit (asked_list found)))
+most_steps (prove words) found = None
+most_steps (verify proof words) found = None
 
--- the steps are within the bound
+-- the steps are within the bound, if there is one
 abbrev pub IsWithin : Command → Found → ℕ → ℕ → Type 0
-IsWithin command found before now = now ≤ before + most_steps command found
+IsWithin command found before now = IfSome (most_steps command found) (λ most. now ≤ before + most)
 
 -- if the files are known and the input is accepted, the steps are within the bound, even if the
 -- call ended early
@@ -52,6 +55,8 @@ IsPaced (run words) found old new before now = (start part : List ℕ) → old �
 IsPaced (plan words) found old new before now = Unit {0}
 IsPaced (session script words) found old new before now = Unit {0}
 IsPaced (load number rows) found old new before now = Unit {0}
+IsPaced (prove words) found old new before now = Unit {0}
+IsPaced (verify proof words) found old new before now = Unit {0}
 
 -- the same, if the files are known and the input is accepted
 abbrev pub IsPrompt : Asked → Option Files → Option (List ℕ) → Option (List ℕ) → ℕ → ℕ → Type 0

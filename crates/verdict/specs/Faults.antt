@@ -4,6 +4,8 @@ use Rattle.query_grammar.specs.declared.fault.ParseFault.{ParseFault}
 use Rattle.query_grammar.specs.declared.fault.ParseFault.TheVariants as parse
 use Rattle.session_script.specs.declared.fault.ScriptFault.{ScriptFault}
 use Rattle.session_script.specs.declared.fault.ScriptFault.TheVariants as script
+use Rattle.proof_text.specs.declared.fault.ProofFault.{ProofFault}
+use Rattle.proof_text.specs.declared.fault.ProofFault.TheVariants as proof
 use Rattle.query_bind.specs.declared.fault.BindFault.{BindFault}
 use Rattle.query_bind.specs.declared.fault.BindFault.TheVariants as bind
 use Rattle.anyk_model.specs.Table.{Flaw, no_header, too_many_columns, duplicate_name, too_many_rows, ragged}
@@ -27,6 +29,19 @@ of_script (script.UnknownCursor line) = reason.UnknownCursor line
 of_script (script.CursorExists line) = reason.CursorExists line
 of_script (script.TooManyOpen line) = reason.TooManyOpen line
 of_script script.NoMemory = reason.NoMemory
+
+abbrev pub of_proof : ProofFault → Reason
+of_proof proof.BadHeader = reason.BadProofHeader
+of_proof (proof.BadLine line) = reason.BadProofLine line
+of_proof (proof.TooManyRows most) = reason.TooManyNodeRows
+of_proof (proof.BadBound line) = reason.BadBound line
+of_proof (proof.BoundTwice line) = reason.BoundTwice line
+of_proof (proof.Weak node) = reason.WeakBound node
+of_proof (proof.BadAnswer line) = reason.BadAnswer line
+of_proof (proof.Order line) = reason.AnswerOrder line
+of_proof proof.Count = reason.AnswerCount
+of_proof proof.Missed = reason.MissedAnswer
+of_proof proof.NoMemory = reason.NoMemory
 
 -- the branch is told if there are several
 abbrev pub of_bind : Option ℕ → BindFault → Reason

@@ -4,6 +4,7 @@ use Rattle.anyk_model.specs.Table.{Table}
 use Rattle.anyk_model.specs.Query.{Query}
 use Rattle.query_shape.specs.Shape.{Shape}
 use Rattle.session_script.specs.declared.step.Step.{Step}
+use Rattle.proof_text.specs.Certificate.{Certificate}
 use Rattle.union_list.specs.Tagged.{branch_at}
 use Rattle.verdict.specs.Loading.{Loaded}
 
@@ -17,11 +18,19 @@ pub record Found : Type 0 where
   pub best : Option ℕ
   -- the steps of the script, and none if there is no script
   pub steps : List Step
+  -- the certificate, and the empty one if there is none
+  pub proof : Certificate
 
 -- what was loaded, with its structure
 abbrev pub found_of : Loaded → List Shape → Found
-found_of loaded shapes =
-    record { queries = loaded.queries; tables = loaded.tables; shapes = shapes; best = loaded.best; steps = loaded.steps }
+found_of loaded shapes = record {
+  queries = loaded.queries;
+  tables = loaded.tables;
+  shapes = shapes;
+  best = loaded.best;
+  steps = loaded.steps;
+  proof = loaded.proof;
+}
 
 -- it has several branches
 abbrev pub is_union : Found → Bool

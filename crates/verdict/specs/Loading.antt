@@ -1,5 +1,5 @@
--- The stages of loading an input: its query, or the branches of it, its script, its tables, and the queries bound to
--- them.
+-- The stages of loading an input: its query, or the branches of it, its script or its certificate, its tables, and the
+-- queries bound to them.
 use Rattle.std.specs.Prelude.{◌≡◌, ◌≢◌, ◌+◌, ◌&&◌, ℕ, nat_eq, nat_lt, Bool, true, false, if◌then◌else◌, List, [], ◌∷◌, ◌++◌, map, length, Option, None, Some, option_map, position, unwrap_or, Result, Ok, Err}
 use Rattle.std.specs.List.{list_any, position_or_len}
 use Rattle.std.specs.Str.{bytes_eq}
@@ -19,8 +19,12 @@ use Rattle.refusal_lines.specs.Reason.{Reason, BranchShape, NoFile, TooLarge, Un
 use Rattle.session_script.specs.declared.fault.ScriptFault.{ScriptFault}
 use Rattle.session_script.specs.declared.step.Step.{Step}
 use Rattle.session_script.specs.Script.{steps_of}
-use Rattle.verdict.specs.Faults.{of_parse, of_script, of_bind, of_flaw}
+use Rattle.proof_text.specs.declared.fault.ProofFault.{ProofFault}
+use Rattle.proof_text.specs.Certificate.{Certificate}
+use Rattle.proof_text.specs.Reading.{proof_of}
+use Rattle.verdict.specs.Faults.{of_parse, of_script, of_proof, of_bind, of_flaw}
 use Rattle.verdict.specs.Stages.{Then, Is, then_by, unless}
+use Rattle.verdict.specs.Words.{Aside, nothing, script, certificate}
 
 -- ---- one file
 
@@ -66,7 +70,23 @@ all_items [] = []
 all_items (select ∷ []) = select.items
 all_items (select ∷ other ∷ selects) = select.items ++ all_items (other ∷ selects)
 
--- ---- the script
+-- ---- the script or the certificate
+
+-- what is read beside the query and the tables
+pub record Beside : Type 0 where
+  -- the steps of the script, and none if there is no script
+  pub steps : List Step
+  -- the certificate, and the empty one if there is none
+  pub proof : Certificate
+
+abbrev pub no_certificate : Certificate
+no_certificate = record { bounds = []; answers = []; ended = false }
+
+abbrev pub with_steps : List Step → Beside
+with_steps steps = record { steps = steps; proof = no_certificate }
+
+abbrev pub with_proof : Certificate → Beside
+with_proof proof = record { steps = []; proof = proof }
 
 abbrev pub told_steps : Result (List Step) ScriptFault → Result (List Step) Reason
 told_steps (Ok steps) = Ok steps
@@ -76,10 +96,19 @@ told_steps (Err fault) = Err (of_script fault)
 abbrev pub steps_said : List ℕ → Result (List Step) Reason
 steps_said bytes = told_steps (steps_of bytes)
 
--- the steps of the script in a file, if there is one
-abbrev pub steps_in : Files → Option (List ℕ) → Result (List Step) Reason
-steps_in files None = Ok []
-steps_in files (Some name) = then_by (file_in files name) steps_said
+abbrev pub told_proof : Result Certificate ProofFault → Result Certificate Reason
+told_proof (Ok proof) = Ok proof
+told_proof (Err fault) = Err (of_proof fault)
+
+-- the certificate that bytes are
+abbrev pub proof_said : List ℕ → Result Certificate Reason
+proof_said bytes = told_proof (proof_of bytes)
+
+-- what the file beside the query and the tables has, if there is one
+abbrev pub beside_in : Files → Aside → Result Beside Reason
+beside_in files nothing = Ok (with_steps [])
+beside_in files (script name) = then_by (then_by (file_in files name) steps_said) (λ steps. Ok (with_steps steps))
+beside_in files (certificate name) = then_by (then_by (file_in files name) proof_said) (λ proof. Ok (with_proof proof))
 
 -- ---- the tables
 
@@ -212,9 +241,12 @@ pub record Loaded : Type 0 where
   pub best : Option ℕ
   -- the steps of the script, and none if there is no script
   pub steps : List Step
+  -- the certificate, and the empty one if there is none
+  pub proof : Certificate
 
--- the queries of one shape, the tables and the script, with the item that is named
-abbrev pub loaded_in : Option (List ℕ) → List Query → List Table → List Step → Result Loaded Reason
-loaded_in alias queries tables steps =
+-- the queries of one shape, the tables, and the script or the certificate, with the item that is named
+abbrev pub loaded_in : Option (List ℕ) → List Query → List Table → Beside → Result Loaded Reason
+loaded_in alias queries tables beside =
     then_by (unless (odd_branch queries) queries)
-    (λ queries. then_by (best_in alias queries) (λ best. Ok (record { queries = queries; tables = tables; best = best; steps = steps })))
+    (λ queries. then_by (best_in alias queries)
+    (λ best. Ok (record { queries = queries; tables = tables; best = best; steps = beside.steps; proof = beside.proof })))

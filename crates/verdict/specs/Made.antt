@@ -3,7 +3,7 @@ use Rattle.std.specs.Prelude.{ℕ, List, [], ◌∷◌, map, Option, Some}
 use Rattle.std.specs.List.{zip}
 use Rattle.make_input.specs.Input.{files, load_query, query_file, table_files}
 use Rattle.outer_io.specs.Files.{Files}
-use Rattle.verdict.specs.Words.{Asked, Command, no_command, built, run, plan, session, load}
+use Rattle.verdict.specs.Words.{Asked, Command, no_command, built, run, plan, session, load, prove, verify}
 
 -- the query over the four tables, and the tables that are made from the number
 abbrev pub made_files : ℕ → ℕ → Files
@@ -14,6 +14,8 @@ abbrev pub files_of : Command → Files → Files
 files_of (run words) given = given
 files_of (plan words) given = given
 files_of (session script words) given = given
+files_of (prove words) given = given
+files_of (verify proof words) given = given
 files_of (load number rows) given = made_files number rows
 
 -- the files that are known to a call: `load` needs to know none, since it makes those that it reads
@@ -22,4 +24,6 @@ known_to no_command told = told
 known_to (built (run words)) told = told
 known_to (built (plan words)) told = told
 known_to (built (session script words)) told = told
+known_to (built (prove words)) told = told
+known_to (built (verify proof words)) told = told
 known_to (built (load number rows)) told = Some []

@@ -6,14 +6,13 @@ use Rattle.std.specs.Io.KnownBytes.{Appends}
 use Rattle.outer_io.specs.Counts.{Rose, RoseAbove}
 use Rattle.outer_io.specs.Files.{Files}
 use Rattle.query_select.specs.declared.select.Select.{Select}
-use Rattle.session_script.specs.declared.step.Step.{Step}
 use Rattle.rankings.specs.Order.{IsMember}
 use Rattle.refusal_lines.specs.Reason as reason
 use Rattle.refusal_lines.specs.Reason.{Reason, status_of, line_of}
-use Rattle.verdict.specs.Words.{Command, Asked, Sought, no_command, built, run, plan, session, load, sought_by}
+use Rattle.verdict.specs.Words.{Command, Asked, Sought, no_command, built, run, plan, session, load, prove, verify, aside_name, sought_by}
 use Rattle.verdict.specs.Found.{Found}
-use Rattle.verdict.specs.Loading.{IsReading, all_items, most_bytes, file_in, steps_in, unknown_table, first_uses, files_read}
-use Rattle.verdict.specs.Output.{output}
+use Rattle.verdict.specs.Loading.{Beside, IsReading, all_items, most_bytes, beside_in, file_in, unknown_table, first_uses, files_read}
+use Rattle.verdict.specs.Output.{HasOutput}
 use Rattle.refusal_lines.specs.Sent.{GotPrefix}
 use Rattle.verdict.specs.Verdict.{IsVerdict}
 
@@ -38,13 +37,15 @@ pub record HasLine (old new : Outside) (line : List ℕ) : Type 0 where
 -- if the files are known: the input is accepted, and its complete output was written
 abbrev pub IsComplete : Asked → Option Files → Outside → Outside → Type 0
 IsComplete (built command) told old new =
-    IfSome told (λ files. (found : Found) × IsVerdict (built command) files (Ok found) × Appends old.output new.output (output command found))
+    IfSome told (λ files. (found : Found) × IsVerdict (built command) files (Ok found)
+    × (text : List ℕ) × HasOutput command found text × Appends old.output new.output text)
 IsComplete asked told old new = ⊥
 
 -- if the files are known: the input is accepted, and the output got a prefix of its complete output
 abbrev pub GotAccepted : Asked → Option Files → Outside → Outside → Type 0
 GotAccepted (built command) told old new =
-    IfSome told (λ files. (found : Found) × IsVerdict (built command) files (Ok found) × GotPrefix old.output new.output (output command found))
+    IfSome told (λ files. (found : Found) × IsVerdict (built command) files (Ok found)
+    × (text : List ℕ) × HasOutput command found text × GotPrefix old.output new.output text)
 GotAccepted asked told old new = ⊥
 
 abbrev pub GotNothing : Outside → Outside → Type 0
@@ -52,14 +53,14 @@ GotNothing old new = Appends old.output new.output []
 
 -- ---- the reasons
 
--- The file is read for this input. It is the file of the query; or of the script, once the query is
--- parsed; or of one of the tables up to the first refusal, once the script is read.
+-- The file is read for this input. It is the file of the query; or of the script or the certificate,
+-- once the query is parsed; or of one of the tables up to the first refusal, once these are read.
 pub data IsTurnOf (sought : Sought) (files : Files) (name : List ℕ) : Type 0 where
   query_turn : name ≡ sought.query → IsTurnOf sought files name
-  script_turn : {bytes : List ℕ} (selects : List Select) → file_in files sought.query ≡ Ok bytes → IsReading sought.several bytes (Ok selects)
-      → sought.script ≡ Some name → IsTurnOf sought files name
-  table_turn : {bytes : List ℕ} (selects : List Select) {steps : List Step} → file_in files sought.query ≡ Ok bytes → IsReading sought.several bytes (Ok selects)
-      → steps_in files sought.script ≡ Ok steps → unknown_table sought.named (all_items selects) ≡ None
+  aside_turn : {bytes : List ℕ} (selects : List Select) → file_in files sought.query ≡ Ok bytes → IsReading sought.several bytes (Ok selects)
+      → aside_name sought.aside ≡ Some name → IsTurnOf sought files name
+  table_turn : {bytes : List ℕ} (selects : List Select) {beside : Beside} → file_in files sought.query ≡ Ok bytes → IsReading sought.several bytes (Ok selects)
+      → beside_in files sought.aside ≡ Ok beside → unknown_table sought.named (all_items selects) ≡ None
       → IsMember name (files_read files sought.named (first_uses (all_items selects))) → IsTurnOf sought files name
 
 -- if the files are known, it is a file that the command reads; `load` reads none
@@ -67,6 +68,8 @@ abbrev pub IsCommandTurn : Command → Option Files → List ℕ → Type 0
 IsCommandTurn (run words) told name = IfSome told (λ files. IsTurnOf (sought_by (run words)) files name)
 IsCommandTurn (plan words) told name = IfSome told (λ files. IsTurnOf (sought_by (plan words)) files name)
 IsCommandTurn (session script words) told name = IfSome told (λ files. IsTurnOf (sought_by (session script words)) files name)
+IsCommandTurn (prove words) told name = IfSome told (λ files. IsTurnOf (sought_by (prove words)) files name)
+IsCommandTurn (verify proof words) told name = IfSome told (λ files. IsTurnOf (sought_by (verify proof words)) files name)
 IsCommandTurn (load number rows) told name = ⊥
 
 abbrev pub IsTurn : Asked → Option Files → List ℕ → Type 0
@@ -124,7 +127,7 @@ IsUnwrittenWhereRefused asked told old new =
 -- ---- all together
 
 abbrev pub statuses : List ℕ
-statuses = 0 ∷ 2 ∷ 3 ∷ 4 ∷ 5 ∷ 6 ∷ 7 ∷ 8 ∷ 9 ∷ 10 ∷ 11 ∷ 12 ∷ 15 ∷ []
+statuses = 0 ∷ 2 ∷ 3 ∷ 4 ∷ 5 ∷ 6 ∷ 7 ∷ 8 ∷ 9 ∷ 10 ∷ 11 ∷ 12 ∷ 14 ∷ 15 ∷ []
 
 -- all that is stated about one call of the program
 pub record Outcome (asked : Asked) (told : Option Files) (old new : Outside) (status : ℕ) : Type 0 where

@@ -1,9 +1,10 @@
 -- The complete output of an accepted input.
-use Rattle.std.specs.Prelude.{ℕ, List, None, if◌then◌else◌}
+use Rattle.std.specs.Prelude.{◌≡◌, ℕ, List, None, if◌then◌else◌}
 use Rattle.anyk_model.specs.Output.{Style, output_of, cut}
 use Rattle.best_list.specs.BestList.{list_of}
 use Rattle.query_shape.specs.Report.{report_of}
-use Rattle.verdict.specs.Words.{Words, Command, run, plan, session, load}
+use Rattle.proof_model.specs.ProofTexts.{IsProofText}
+use Rattle.verdict.specs.Words.{Words, Command, run, plan, session, load, prove, verify}
 use Rattle.union_list.specs.Tagged.{Tagged}
 use Rattle.union_list.specs.Union.{union_of}
 use Rattle.union_list.specs.UnionOutput.{union_output_of}
@@ -26,14 +27,21 @@ members_of found = cut (query_of found).limit (asked_list found)
 abbrev pub tagged_of : Found → List Tagged
 tagged_of found = cut (query_of found).limit (union_of found.queries found.tables)
 
--- The output of `run` is the header, and then a record for each of these members: those of the list, or
--- those of all branches if there are several. The output of `plan` is the report of the join tree. That
--- of `session` is what the steps of its script print of the members of the list, and that of `load` is
--- their summary.
-abbrev pub output : Command → Found → List ℕ
-output (run words) found =
+-- the header, and then a record for each of these members: those of the list, or those of all branches if there are
+-- several
+abbrev pub answers_text : Words → Found → List ℕ
+answers_text words found =
     if is_union found then union_output_of found.queries found.tables (style_of words) (tagged_of found)
     else output_of (query_of found) found.tables (style_of words) (members_of found)
-output (plan words) found = report_of (query_of found) found.tables (structure_of found)
-output (session script words) found = session_text (query_of found) found.tables (style_of words) (members_of found) found.steps
-output (load number rows) found = summary_text (query_of found) found.tables (members_of found)
+
+-- The output of `run` is the answers, and so is that of `verify`. That of `plan` is the report of the join tree, that
+-- of `session` is what the steps of its script print of the members of the list, that of `load` is their summary, and
+-- that of `prove` is the text of a certificate.
+abbrev pub HasOutput : Command → Found → List ℕ → Type 0
+HasOutput (run words) found text = text ≡ answers_text words found
+HasOutput (plan words) found text = text ≡ report_of (query_of found) found.tables (structure_of found)
+HasOutput (session script words) found text =
+    text ≡ session_text (query_of found) found.tables (style_of words) (members_of found) found.steps
+HasOutput (load number rows) found text = text ≡ summary_text (query_of found) found.tables (members_of found)
+HasOutput (prove words) found text = IsProofText (query_of found) found.tables text
+HasOutput (verify proof words) found text = text ≡ answers_text words found

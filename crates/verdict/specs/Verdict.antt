@@ -6,39 +6,43 @@ use Rattle.query_select.specs.declared.select.Select.{Select}
 use Rattle.anyk_model.specs.Query.{Query}
 use Rattle.anyk_model.specs.Table.{Table}
 use Rattle.refusal_lines.specs.Reason.{Reason, Usage}
-use Rattle.session_script.specs.declared.step.Step.{Step}
 use Rattle.query_shape.specs.Shape.{Flaw, IsShape, Shape}
-use Rattle.verdict.specs.Faults.{of_shape}
+use Rattle.proof_text.specs.Certificate.{Certificate}
+use Rattle.proof_model.specs.QueryProblem.{problem_of}
+use Rattle.proof_model.specs.Faults.{fault_of}
+use Rattle.proof_model.specs.Valid.{Flaw as ProofFlaw, IsFirst, IsValid}
+use Rattle.verdict.specs.Faults.{of_proof, of_shape}
 use Rattle.verdict.specs.Made.{files_of}
-use Rattle.verdict.specs.Words.{Asked, Sought, no_command, built, sought_by}
-use Rattle.verdict.specs.Loading.{Loaded, IsReading, all_items, are_several, file_in, steps_in, told_branch, unknown_table, tables_in, first_uses, bound_in, loaded_in}
-use Rattle.verdict.specs.Found.{Found, found_of}
+use Rattle.verdict.specs.Words.{Asked, Sought, no_command, built, verify, sought_by}
+use Rattle.verdict.specs.Loading.{Beside, Loaded, IsReading, all_items, are_several, beside_in, file_in, told_branch}
+use Rattle.verdict.specs.Loading.{unknown_table, tables_in, first_uses, bound_in, loaded_in}
+use Rattle.verdict.specs.Found.{Found, found_of, query_of, structure_of}
 use Rattle.verdict.specs.Stages.{Then, Is, unless}
 
 -- ---- loading
 
 -- the names, the weights and the ranges of each branch, then the branches' shape, and then the item of
 -- which each row's best answer is asked for
-abbrev pub IsBound : Sought → List Select → List Table → List Step → Result Loaded Reason → Type 0
-IsBound sought selects tables steps = Then (Is (bound_in selects tables)) (λ queries. Is (loaded_in sought.best_of queries tables steps))
+abbrev pub IsBound : Sought → List Select → List Table → Beside → Result Loaded Reason → Type 0
+IsBound sought selects tables beside = Then (Is (bound_in selects tables)) (λ queries. Is (loaded_in sought.best_of queries tables beside))
 
 -- each table in the order of first use
-abbrev pub IsTabled : Sought → Files → List Select → List Step → Result Loaded Reason → Type 0
-IsTabled sought files selects steps =
-    Then (Is (tables_in files sought.named (first_uses (all_items selects)))) (λ tables. IsBound sought selects tables steps)
+abbrev pub IsTabled : Sought → Files → List Select → Beside → Result Loaded Reason → Type 0
+IsTabled sought files selects beside =
+    Then (Is (tables_in files sought.named (first_uses (all_items selects)))) (λ tables. IsBound sought selects tables beside)
 
 -- a table that the command line does not name
-abbrev pub IsSelected : Sought → Files → List Select → List Step → Result Loaded Reason → Type 0
-IsSelected sought files selects steps =
-    Then (Is (unless (unknown_table sought.named (all_items selects)) selects)) (λ known. IsTabled sought files known steps)
+abbrev pub IsSelected : Sought → Files → List Select → Beside → Result Loaded Reason → Type 0
+IsSelected sought files selects beside =
+    Then (Is (unless (unknown_table sought.named (all_items selects)) selects)) (λ known. IsTabled sought files known beside)
 
--- the script, if there is one
-abbrev pub IsScripted : Sought → Files → List Select → Result Loaded Reason → Type 0
-IsScripted sought files selects = Then (Is (steps_in files sought.script)) (λ steps. IsSelected sought files selects steps)
+-- the script or the certificate, if there is one
+abbrev pub IsAccompanied : Sought → Files → List Select → Result Loaded Reason → Type 0
+IsAccompanied sought files selects = Then (Is (beside_in files sought.aside)) (λ beside. IsSelected sought files selects beside)
 
 -- what the bytes of the query file write
 abbrev pub IsRead : Sought → Files → List ℕ → Result Loaded Reason → Type 0
-IsRead sought files bytes = Then (IsReading sought.several bytes) (IsScripted sought files)
+IsRead sought files bytes = Then (IsReading sought.several bytes) (IsAccompanied sought files)
 
 -- the query file
 abbrev pub IsLoadedOn : Sought → Files → Result Loaded Reason → Type 0
@@ -74,8 +78,26 @@ abbrev pub IsShaped : Loaded → Result Found Reason → Type 0
 IsShaped loaded =
     Then (AreStructures (are_several loaded.queries) 1 loaded.tables loaded.queries) (λ shapes. Is (Ok (found_of loaded shapes)))
 
+-- ---- the certificate
+
+-- the certificate is valid for the query with this structure, or the reason tells its first flaw
+abbrev pub IsCertified : Query → List Table → Shape → Certificate → Result (Unit {0}) Reason → Type 0
+IsCertified query tables shape proof (Ok done) = IsValid (problem_of query tables shape.atoms shape.parents) proof query.limit
+IsCertified query tables shape proof (Err reason) =
+    (flaw : ProofFlaw) × (reason ≡ of_proof (fault_of (problem_of query tables shape.atoms shape.parents) proof flaw))
+    × IsFirst (problem_of query tables shape.atoms shape.parents) proof query.limit flaw
+
+-- the certificate that was read is checked for the first query, which is the only one
+abbrev pub IsVerified : Found → Result Found Reason → Type 0
+IsVerified found = Then (IsCertified (query_of found) found.tables (structure_of found) found.proof) (λ done. Is (Ok found))
+
 -- ---- all together
 
 -- an input is loaded, and then structured
+abbrev pub IsStructured : Asked → Files → Result Found Reason → Type 0
+IsStructured asked files = Then (IsLoaded asked files) IsShaped
+
+-- and then, if the command is `verify`, its certificate is checked
 abbrev pub IsVerdict : Asked → Files → Result Found Reason → Type 0
-IsVerdict asked files = Then (IsLoaded asked files) IsShaped
+IsVerdict (built (verify proof words)) files = Then (IsStructured (built (verify proof words)) files) IsVerified
+IsVerdict asked files = IsStructured asked files

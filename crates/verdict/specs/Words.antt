@@ -20,10 +20,25 @@ pub data Command : Type 0 where
   session : List ℕ → Words → Command
   -- a run over tables that are made from the number, with `rows` rows each
   load : (number rows : ℕ) → Command
+  prove : Words → Command
+  -- with the file of its certificate
+  verify : List ℕ → Words → Command
 
 -- the files that the command line names for tables
 abbrev pub Named : Type 0
 Named = List (List ℕ × List ℕ)
+
+-- the file that a command reads beside its query and its tables: none, that of a script, or that of a certificate
+pub data Aside : Type 0 where
+  nothing : Aside
+  script : List ℕ → Aside
+  certificate : List ℕ → Aside
+
+-- its name, if there is one
+abbrev pub aside_name : Aside → Option (List ℕ)
+aside_name nothing = None
+aside_name (script name) = Some name
+aside_name (certificate name) = Some name
 
 -- what a command reads
 pub record Sought : Type 0 where
@@ -31,19 +46,23 @@ pub record Sought : Type 0 where
   pub query : List ℕ
   -- whether the query may have several branches
   pub several : Bool
-  -- the file of its script, if it has one
-  pub script : Option (List ℕ)
+  -- the file of its script or of its certificate, if it has one
+  pub aside : Aside
   -- the files of the tables
   pub named : Named
   -- the alias of the item of which each row's best answer is asked for, if there is one
   pub best_of : Option (List ℕ)
 
--- only `run` may have several branches, `plan` has no item, and `load` reads the files that it makes
+-- Only `run` may have several branches, and only `run` and `session` an item. `load` reads the files that it makes.
 abbrev pub sought_by : Command → Sought
-sought_by (run words) = record { query = words.query; several = true; script = None; named = words.tables; best_of = words.best_of }
-sought_by (plan words) = record { query = words.query; several = false; script = None; named = words.tables; best_of = None }
-sought_by (session script words) = record { query = words.query; several = false; script = Some script; named = words.tables; best_of = words.best_of }
-sought_by (load number rows) = record { query = query_file; several = false; script = None; named = table_files; best_of = None }
+sought_by (run words) = record { query = words.query; several = true; aside = nothing; named = words.tables; best_of = words.best_of }
+sought_by (plan words) = record { query = words.query; several = false; aside = nothing; named = words.tables; best_of = None }
+sought_by (session name words) =
+    record { query = words.query; several = false; aside = script name; named = words.tables; best_of = words.best_of }
+sought_by (load number rows) = record { query = query_file; several = false; aside = nothing; named = table_files; best_of = None }
+sought_by (prove words) = record { query = words.query; several = false; aside = nothing; named = words.tables; best_of = None }
+sought_by (verify name words) =
+    record { query = words.query; several = false; aside = certificate name; named = words.tables; best_of = None }
 
 pub data Asked : Type 0 where
   -- the arguments are not a command

@@ -4,6 +4,7 @@ use Rattle.verdict.specs.Loading.{bound_in, loaded_in}
 use Rattle.verdict.specs.Stages.{Is, followed}
 use Rattle.verdict.proofs.Staging.{pure_found, pure_refused}
 use Rattle.input_load.specs.Input.{queries_in}
+use Rattle.input_load.specs.Shown.{seen_beside}
 use Rattle.input_load.specs.Sought.{sought_shown}
 use Rattle.input_load.proofs.Best.{item-found, item-refused, shape-refused}
 use Rattle.input_load.proofs.Shapes.{keys-none-odd, odd-none}
@@ -13,31 +14,31 @@ pub returns-in_err-queries-clause-bound : goal.returns-in_err-queries-clause-bou
 returns-in_err-queries-clause-bound c =
     let sought = sought_shown c.args.sought.now in
     let tables = c.args.tables in
-    let steps = c.args.script.items in
+    let beside = seen_beside c.args.beside in
     let e : c.from_residual.result ≡ Err c.in_err-queries.field-0.0 = search rules in
-    rw e (pure_refused (Is (bound_in c.args.selects.now tables)) (λ queries. Is (loaded_in sought.best_of queries tables steps)) _ c.in_err-queries.ensures.bound)
+    rw e (pure_refused (Is (bound_in c.args.selects.now tables)) (λ queries. Is (loaded_in sought.best_of queries tables beside)) _ c.in_err-queries.ensures.bound)
 
 pub returns-in_err-check_shapes-clause-bound : goal.returns-in_err-check_shapes-clause-bound
 returns-in_err-check_shapes-clause-bound c =
     let sought = sought_shown c.args.sought.now in
     let tables = c.args.tables in
-    let steps = c.args.script.items in
+    let beside = seen_beside c.args.beside in
     let queries = queries_in c.in_ok-queries.queries.items in
     let reason = reason_of c.in_err-check_shapes.field-0.0 in
     let e : c.from_residual-in_err-check_shapes.result ≡ Err c.in_err-check_shapes.field-0.0 = search rules in
-    rw e (pure_found (Is (bound_in c.args.selects.now tables)) (λ queries. Is (loaded_in sought.best_of queries tables steps)) queries (Err reason) c.in_ok-queries.ensures.bound
-    (shape-refused queries tables steps sought.best_of reason (rw c.deref.ensures.value at c.in_err-check_shapes.ensures)))
+    rw e (pure_found (Is (bound_in c.args.selects.now tables)) (λ queries. Is (loaded_in sought.best_of queries tables beside)) queries (Err reason) c.in_ok-queries.ensures.bound
+    (shape-refused queries tables beside sought.best_of reason (rw c.deref.ensures.value at c.in_err-check_shapes.ensures)))
 
 pub returns-in_err-best-clause-bound : goal.returns-in_err-best-clause-bound
 returns-in_err-best-clause-bound c =
     let sought = sought_shown c.args.sought.now in
     let tables = c.args.tables in
-    let steps = c.args.script.items in
+    let beside = seen_beside c.args.beside in
     let queries = queries_in c.in_ok-queries.queries.items in
     let reason = reason_of c.in_err-best.field-0.0 in
     let e : c.from_residual-in_err-best.result ≡ Err c.in_err-best.field-0.0 = search rules in
-    rw e (pure_found (Is (bound_in c.args.selects.now tables)) (λ queries. Is (loaded_in sought.best_of queries tables steps)) queries (Err reason) c.in_ok-queries.ensures.bound
-    (item-refused queries tables steps sought.best_of reason (rw c.deref.ensures.value at c.in_ok-check_shapes.ensures) (rw c.deref-2.ensures.value at c.in_err-best.ensures.best)))
+    rw e (pure_found (Is (bound_in c.args.selects.now tables)) (λ queries. Is (loaded_in sought.best_of queries tables beside)) queries (Err reason) c.in_ok-queries.ensures.bound
+    (item-refused queries tables beside sought.best_of reason (rw c.deref.ensures.value at c.in_ok-check_shapes.ensures) (rw c.deref-2.ensures.value at c.in_err-best.ensures.best)))
 
 pub invariant_of-result : goal.invariant_of-result
 invariant_of-result c =
@@ -59,4 +60,4 @@ returns-clause-bound c =
     let sought = sought_shown c.args.sought.now in
     let queries = queries_in c.in_ok-queries.queries.items in
     followed {a = queries} c.in_ok-queries.ensures.bound
-    (item-found queries c.args.tables c.args.script.items sought.best_of c.in_ok-best.best (rw c.deref.ensures.value at c.in_ok-check_shapes.ensures) (rw c.deref-2.ensures.value at c.in_ok-best.ensures.best))
+    (item-found queries c.args.tables (seen_beside c.args.beside) sought.best_of c.in_ok-best.best (rw c.deref.ensures.value at c.in_ok-check_shapes.ensures) (rw c.deref-2.ensures.value at c.in_ok-best.ensures.best))

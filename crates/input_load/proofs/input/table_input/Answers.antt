@@ -11,6 +11,7 @@ use Rattle.verdict.proofs.Staging.{found_then, pure_staged, refusal_then}
 use Rattle.verdict.specs.Verdict.{IsBound}
 use Rattle.input_load.specs.Entries.{tables_of}
 use Rattle.input_load.proofs.FirstUses.{numbers-within}
+use Rattle.input_load.specs.Shown.{seen_beside}
 use Rattle.input_load.specs.Sought.{sought_shown}
 use Rattle.input_load.proofs.input.table_input.Goals as goal
 
@@ -18,13 +19,13 @@ pub returns-in_err-tables-clause-staged : goal.returns-in_err-tables-clause-stag
 returns-in_err-tables-clause-staged g c =
     let sought = sought_shown c.args.sought.now in
     let selects = c.args.selects.now in
-    let steps = c.args.script.items in
+    let beside = seen_beside c.args.beside in
     let firsts : tables_of (map (λ e. named_pair e.now) c.in_ok-firsts.firsts.items) ≡ first_uses (all_items selects) =
     c.in_ok-firsts.ensures.tables ∙ ap (first_uses_after []) c.requires.tables in
     let read = c.in_err-tables.ensures.staged sought.named (rw c.deref-2.ensures.value (c.in_ok-firsts.ensures.entries sought.named c.requires.entries)) in
     let e : c.from_residual-in_err-tables.result ≡ Err c.in_err-tables.field-0.0 = search rules in
     rw e (refusal_then (λ files. Is (tables_in files sought.named (first_uses (all_items selects)))) (λ files file. IsMember file (files_read files sought.named (first_uses (all_items selects))))
-    (λ tables files. IsBound sought selects tables steps) (λ tables. NoTurn) _ _ _ (rw (c.deref-2.ensures.value, firsts) at read))
+    (λ tables files. IsBound sought selects tables beside) (λ tables. NoTurn) _ _ _ (rw (c.deref-2.ensures.value, firsts) at read))
 
 pub bound_input-requires-clause-known : goal.bound_input-requires-clause-known
 bound_input-requires-clause-known g c =
@@ -45,11 +46,11 @@ pub returns-clause-staged : goal.returns-clause-staged
 returns-clause-staged g c =
     let sought = sought_shown c.args.sought.now in
     let selects = c.args.selects.now in
-    let steps = c.args.script.items in
+    let beside = seen_beside c.args.beside in
     let tables = c.in_ok-tables.tables in
     let firsts : tables_of (map (λ e. named_pair e.now) c.in_ok-firsts.firsts.items) ≡ first_uses (all_items selects) =
     c.in_ok-firsts.ensures.tables ∙ ap (first_uses_after []) c.requires.tables in
     let read = c.in_ok-tables.ensures.staged sought.named (rw c.deref-2.ensures.value (c.in_ok-firsts.ensures.entries sought.named c.requires.entries)) in
     found_then (λ files. Is (tables_in files sought.named (first_uses (all_items selects)))) (λ files file. IsMember file (files_read files sought.named (first_uses (all_items selects))))
-    (λ tables files. IsBound sought selects tables steps) (λ tables. NoTurn) _ _ _ tables _ (rw (c.deref-2.ensures.value, firsts) at read)
-    (pure_staged (IsBound sought selects tables steps) _ _ c.bound_input.ensures.bound)
+    (λ tables files. IsBound sought selects tables beside) (λ tables. NoTurn) _ _ _ tables _ (rw (c.deref-2.ensures.value, firsts) at read)
+    (pure_staged (IsBound sought selects tables beside) _ _ c.bound_input.ensures.bound)

@@ -6,7 +6,7 @@ use Rattle.outer_io.specs.Holding.{Holding}
 use Rattle.verdict.specs.Made.{made_files}
 use Rattle.verdict.specs.Staged.{Fits, Shelved}
 use Rattle.verdict.specs.Verdict.{IsLoadedOn}
-use Rattle.verdict.specs.Words.{Named, Sought, load, sought_by}
+use Rattle.verdict.specs.Words.{Named, Sought, load, nothing, sought_by}
 use Rattle.input_load.specs.Turns.{IsTurn}
 use Rattle.input_load.specs.Shown.{shown_input}
 use Rattle.input_load.proofs.MadeShelf.{distinct-files}
@@ -23,7 +23,7 @@ returns-clause-made c =
     let asked : Sought = sought_by (load number rows) in
     let names : map named_pair c.as_slice.result.now ≡ table_files = ap (map named_pair) c.as_slice.ensures.value ∙ c.args.made.now.names in
     let held : c.new-shelf.result.files ≡ made_files number rows = ap (λ (s : Holding). s.files) c.new-shelf.ensures ∙ c.in_ok-made_shelf.ensures in
-    let of : Named → Sought = λ named. record { query = query_file; several = false; script = None; named = named; best_of = None } in
+    let of : Named → Sought = λ named. record { query = query_file; several = false; aside = nothing; named = named; best_of = None } in
     let P : Named → Type 0 = λ named. Fits (IsLoadedOn (of named)) (IsTurn (of named)) (Some c.new-shelf.result.files) (shown_input c.load_input.result) in
     let Q : Files → Type 0 = λ files. Fits (IsLoadedOn asked) (IsTurn asked) (Some files) (shown_input c.load_input.result) in
     let old : Shelved = record { files = Some c.new-shelf.result.files; misses = c.new-shelf.result.misses; faults = 0; taken = c.new-shelf.result.taken } in

@@ -1,5 +1,5 @@
 use Rattle.input_load.proofs.Faults.{script_refused, script_told}
-use Rattle.input_load.proofs.script.script_steps.Goals as goal
+use Rattle.input_load.proofs.aside.script_steps.Goals as goal
 
 pub returns-in-Ok-clause-said : goal.returns-in-Ok-clause-said
 returns-in-Ok-clause-said c = script_told c.args.bytes.now c.in-Ok.steps.items c.in-Ok.ensures.value

@@ -1,0 +1,153 @@
+//! The script or the certificate, if there is one.
+ghost use Rattle.std.specs.Prelude.{◌≡◌, [], IfOk, Some};
+ghost use Rattle.refusal_lines.specs.Refused.{reason_of};
+ghost use Rattle.proof_text.specs.Seen.{seen_proof};
+ghost use Rattle.session_script.specs.Script.{KeepsRules};
+ghost use Rattle.verdict.specs.Faults.{of_proof, of_script};
+ghost use Rattle.verdict.specs.Loading.{beside_in, no_certificate, proof_said, steps_said};
+ghost use Rattle.verdict.specs.Stages.{Is};
+ghost use Rattle.verdict.specs.Staged.{Pure, Staged, shelved};
+ghost use Rattle.verdict.specs.Words.{aside_name, certificate, script};
+ghost use Rattle.input_load.specs.Shown.{shown_beside, shown_proof, shown_steps};
+ghost use Rattle.input_load.specs.Sought.{aside_shown};
+
+use crate::file::load;
+use crate::sought::Aside;
+use outer_io::Shelf;
+use proof_text::{Proof, ProofFault, read_proof};
+use refusal_lines::Refusal;
+use session_script::{ScriptFault, Step, read_script};
+use std::alloc::Global;
+
+/// What is read beside the query and the tables.
+#[derive(Drop)]
+pub(crate) struct Beside {
+    /// The steps of the script; none if there is no script.
+    pub(crate) script: Vec<Step>,
+    /// The certificate; the empty one if there is none.
+    pub(crate) proof: Proof,
+}
+
+/// The script or the certificate in this file. The error is a refusal of the file, of the script or
+/// of the certificate, or `NoMemory`.
+pub(crate) fn load_beside<'a, F: Shelf>(
+    alloc: Global,
+    aside: Aside<'a>,
+    shelf: &mut F,
+) -> Result<Beside, Refusal<'a>>
+    ensures staged { let asked = aside_shown aside.entry in
+        Staged (λ files. Is (beside_in files asked)) (λ files file. aside_name asked ≡ Some file)
+        (shelved F.Shelf shelf.old) (shelved F.Shelf shelf.new) (shown_beside result) }
+    ensures rules { IfOk result (λ beside. KeepsRules [] beside.script.items) }
+{
+    match aside {
+        Aside::Nothing => Ok(Beside {
+            script: Vec::new(alloc),
+            proof: no_proof(alloc),
+        }),
+        Aside::Script(name) => load_script(alloc, name, shelf),
+        Aside::Certificate(name) => load_proof(alloc, name, shelf),
+    }
+}
+
+// The script in the file of this name.
+fn load_script<'a, F: Shelf>(
+    alloc: Global,
+    name: &'a str,
+    shelf: &mut F,
+) -> Result<Beside, Refusal<'a>>
+    ensures staged { let asked = script name.now in
+        Staged (λ files. Is (beside_in files asked)) (λ files file. aside_name asked ≡ Some file)
+        (shelved F.Shelf shelf.old) (shelved F.Shelf shelf.new) (shown_beside result) }
+    ensures rules { IfOk result (λ beside. KeepsRules [] beside.script.items) }
+{
+    let bytes = load(alloc, shelf, name)?;
+    let script = script_steps(alloc, &bytes)?;
+    Ok(Beside {
+        script,
+        proof: no_proof(alloc),
+    })
+}
+
+// The certificate in the file of this name.
+fn load_proof<'a, F: Shelf>(
+    alloc: Global,
+    name: &'a str,
+    shelf: &mut F,
+) -> Result<Beside, Refusal<'a>>
+    ensures staged { let asked = certificate name.now in
+        Staged (λ files. Is (beside_in files asked)) (λ files file. aside_name asked ≡ Some file)
+        (shelved F.Shelf shelf.old) (shelved F.Shelf shelf.new) (shown_beside result) }
+    ensures rules { IfOk result (λ beside. KeepsRules [] beside.script.items) }
+{
+    let bytes = load(alloc, shelf, name)?;
+    let proof = proof_of(alloc, &bytes)?;
+    Ok(Beside {
+        script: Vec::new(alloc),
+        proof,
+    })
+}
+
+// The empty certificate.
+fn no_proof(alloc: Global) -> Proof
+    ensures { seen_proof result ≡ no_certificate }
+{
+    Proof {
+        bounds: Vec::new(alloc),
+        answers: Vec::new(alloc),
+        ended: false,
+    }
+}
+
+// The steps that these bytes write, or the refusal for the script's fault.
+fn script_steps<'a>(alloc: Global, bytes: &[u8]) -> Result<Vec<Step>, Refusal<'a>>
+    ensures said { Pure (Is (steps_said bytes.now)) (shown_steps result) }
+    ensures rules { IfOk result (λ steps. KeepsRules [] steps.items) }
+{
+    match read_script(alloc, bytes) {
+        Ok(steps) => Ok(steps),
+        Err(fault) => Err(script_refusal(fault)),
+    }
+}
+
+fn script_refusal<'a>(fault: ScriptFault) -> Refusal<'a>
+    ensures { reason_of result ≡ of_script fault }
+{
+    match fault {
+        ScriptFault::TooManyLines => Refusal::TooManyLines,
+        ScriptFault::BadLine(line) => Refusal::BadLine(line),
+        ScriptFault::UnknownCursor(line) => Refusal::UnknownCursor(line),
+        ScriptFault::CursorExists(line) => Refusal::CursorExists(line),
+        ScriptFault::TooManyOpen(line) => Refusal::TooManyOpen(line),
+        ScriptFault::NoMemory => Refusal::NoMemory,
+    }
+}
+
+// The certificate that these bytes are, or the refusal for the first line that is not of its form.
+fn proof_of<'a>(alloc: Global, bytes: &[u8]) -> Result<Proof, Refusal<'a>>
+    ensures { Pure (Is (proof_said bytes.now)) (shown_proof result) }
+{
+    match read_proof(alloc, bytes) {
+        Ok(proof) => Ok(proof),
+        Err(fault) => Err(proof_refusal(fault)),
+    }
+}
+
+/// The refusal for a fault of a certificate.
+pub fn proof_refusal<'a>(fault: ProofFault) -> Refusal<'a>
+    ensures { reason_of result ≡ of_proof fault }
+{
+    match fault {
+        ProofFault::BadHeader => Refusal::BadProofHeader,
+        ProofFault::BadLine(line) => Refusal::BadProofLine(line),
+        ProofFault::TooManyRows(_most) => Refusal::TooManyNodeRows,
+        ProofFault::BadBound(line) => Refusal::BadBound(line),
+        ProofFault::BoundTwice(line) => Refusal::BoundTwice(line),
+        ProofFault::Weak(node) => Refusal::WeakBound(node),
+        ProofFault::BadAnswer(line) => Refusal::BadAnswer(line),
+        ProofFault::Order(line) => Refusal::AnswerOrder(line),
+        ProofFault::Count => Refusal::AnswerCount,
+        ProofFault::Missed => Refusal::MissedAnswer,
+        ProofFault::NoMemory => Refusal::NoMemory,
+    }
+}
