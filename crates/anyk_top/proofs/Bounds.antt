@@ -24,15 +24,16 @@ use Rattle.input_load.specs.Input.{InputData, loaded_of, queries_in}
 use Rattle.verdict.specs.Bound.{IsBounded, IsPaced, IsPrompt, IsWithin, cost_of}
 use Rattle.verdict.specs.Found.{Found, found_of, is_union, query_of, structure_of}
 use Rattle.verdict.specs.Loading.{are_several}
-use Rattle.verdict.specs.Output.{asked_list, output, style_of, tagged_of}
+use Rattle.verdict.specs.Output.{answers_text, asked_list, style_of, tagged_of}
 use Rattle.verdict.specs.Stages.{followed}
 use Rattle.verdict.specs.UnionBound.{HaveShapes, union_cost, union_records}
-use Rattle.verdict.specs.Verdict.{IsVerdict}
-use Rattle.verdict.specs.Words.{Asked, Command, Words, no_command, built, run, plan, session, load}
+use Rattle.verdict.specs.Verdict.{IsStructured, IsVerdict}
+use Rattle.verdict.specs.Words.{Asked, Command, Words, no_command, built, run, plan, session, load, prove, verify}
 use Rattle.verdict.proofs.One.{one_verdict}
 use Rattle.verdict.proofs.Structure.{shapes_had}
 use Rattle.anyk_top.specs.Planned.{ArePrepared, IsEarlyFor, IsEarlyWithin, preparation_of}
 use Rattle.anyk_top.proofs.Ends.{Accepts}
+use Rattle.anyk_top.proofs.Judging.{verdict-structured}
 
 -- known files have one verdict
 found-is : (command : Command) (files : Files) (found other : Found) → Accepts command (Some files) found
@@ -46,6 +47,8 @@ within-still (run words) found n = omega arith
 within-still (plan words) found n = omega arith
 within-still (session script words) found n = omega arith
 within-still (load number rows) found n = omega arith
+within-still (prove words) found n = tt
+within-still (verify proof words) found n = tt
 
 pub bounded-still : (asked : Asked) (told : Option Files) (n : ℕ) → IsBounded asked told n n
 bounded-still no_command told n = tt
@@ -58,6 +61,8 @@ paced-still (run words) found old new n = λ start part is_old is_new. omega ari
 paced-still (plan words) found old new n = tt
 paced-still (session script words) found old new n = tt
 paced-still (load number rows) found old new n = tt
+paced-still (prove words) found old new n = tt
+paced-still (verify proof words) found old new n = tt
 
 pub prompt-still : (asked : Asked) (told : Option Files) (old new : Option (List ℕ)) (n : ℕ)
     → IsPrompt asked told old new n n
@@ -144,6 +149,8 @@ within-prepared (session script words) found before now have h =
     omega (arith, least)
 within-prepared (load number rows) found before now have h =
     prepared-over (query_of found) found.tables (structure_of found) before now _ h
+within-prepared (prove words) found before now have h = tt
+within-prepared (verify proof words) found before now have h = tt
 
 paced-prepared : (command : Command) (found : Found) (old new : Option (List ℕ)) (before now : ℕ)
     → HaveShapes found.tables found.queries found.shapes
@@ -153,12 +160,14 @@ paced-prepared (run words) found old new before now have h =
 paced-prepared (plan words) found old new before now have h = tt
 paced-prepared (session script words) found old new before now have h = tt
 paced-prepared (load number rows) found old new before now have h = tt
+paced-prepared (prove words) found old new before now have h = tt
+paced-prepared (verify proof words) found old new before now have h = tt
 
 same-found : {a b : Found} → ◌≡◌ {A = Result Found Reason} (Ok a) (Ok b) → a ≡ b
 same-found e = cc
 
 -- what is accepted has a structure for each query
-found-shaped : (asked : Asked) (files : Files) (found : Found) → IsVerdict asked files (Ok found)
+found-shaped : (asked : Asked) (files : Files) (found : Found) → IsStructured asked files (Ok found)
     → HaveShapes found.tables found.queries found.shapes
 found-shaped asked files found (followed {a = loaded} loads (followed {a = shapes} are same)) =
     subst (λ (f : Found). HaveShapes f.tables f.queries f.shapes) (sym (same-found same))
@@ -168,14 +177,14 @@ pub bounded-early : (command : Command) (told : Option Files) (before now : ℕ)
     → IsBounded (built command) told before now
 bounded-early command None before now h = tt
 bounded-early command (Some files) before now h = λ found verdict.
-    within-prepared command found before now (found-shaped (built command) files found verdict) (h found verdict)
+    within-prepared command found before now (found-shaped (built command) files found (verdict-structured command files found verdict)) (h found verdict)
 
 pub prompt-early : (command : Command) (told : Option Files) (old new : Option (List ℕ)) (before now : ℕ)
     → IsEarlyWithin command told before now
     → IsPrompt (built command) told old new before now
 prompt-early command None old new before now h = tt
 prompt-early command (Some files) old new before now h = λ found verdict.
-    paced-prepared command found old new before now (found-shaped (built command) files found verdict) (h found verdict)
+    paced-prepared command found old new before now (found-shaped (built command) files found (verdict-structured command files found verdict)) (h found verdict)
 
 -- # Several queries
 
@@ -190,7 +199,7 @@ are-union input shapes more =
     lt-ltb 1 (length (queries_in input.queries)) (omega (arith, count, more))
 
 pub several-output : (words : Words) (input : InputData) (shapes : List Shape) → 1 < length input.queries
-    → output (run words) (found_of (loaded_of input) shapes)
+    → answers_text words (found_of (loaded_of input) shapes)
     ≡ union_output_of (queries_in input.queries) input.tables (style_of words)
     (cut (branch_at (queries_in input.queries) 0).limit (union_of (queries_in input.queries) input.tables))
 several-output words input shapes more =

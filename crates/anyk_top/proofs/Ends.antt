@@ -9,23 +9,23 @@ use Rattle.refusal_lines.specs.declared.refusal.Refusal.{Refusal}
 use Rattle.refusal_lines.specs.Reason as reason
 use Rattle.refusal_lines.specs.Reason.{Reason, line_of, status_of}
 use Rattle.refusal_lines.specs.Refused.{reason_of}
-use Rattle.refusal_lines.specs.Sent.{GotPrefix, Sent}
+use Rattle.refusal_lines.specs.Sent.{Sent}
 use Rattle.refusal_lines.specs.SinkState.{SinkState}
 use Rattle.input_load.specs.Turns.{IsTurn as IsLoadTurn}
 use Rattle.verdict.specs.Found.{Found}
 use Rattle.verdict.specs.Loading.{all_items, files_read, first_uses, unknown_table}
-use Rattle.verdict.specs.Outcome.{GotAccepted, GotNothing, HasLine, IsReason, IsCaused, IsComplete, IsCut, IsTurn, IsTurnOf, Outcome, Outside, query_turn, script_turn, table_turn}
+use Rattle.verdict.specs.Outcome.{GotAccepted, GotNothing, HasLine, IsReason, IsCaused, IsComplete, IsCut, IsTurn, IsTurnOf, Outcome, Outside, query_turn, aside_turn, table_turn}
 use Rattle.verdict.specs.Made.{known_to}
-use Rattle.verdict.specs.Output.{output}
+use Rattle.verdict.specs.Output.{HasOutput}
 use Rattle.verdict.specs.Staged.{Fits, Pure, Shelved, Staged, first_turn, second_turn}
 use Rattle.verdict.specs.Stages.{unless}
 use Rattle.verdict.specs.Verdict.{IsVerdict}
-use Rattle.verdict.specs.Words.{Asked, Command, Sought, no_command, built, run, plan, session, load, sought_by}
+use Rattle.verdict.specs.Words.{Asked, Command, Sought, no_command, built, run, plan, session, load, prove, verify, sought_by}
 use Rattle.verdict.proofs.Whole.{done_outcome, ended_outcome}
 use Rattle.anyk_top.specs.Asked.{IsEarly}
 use Rattle.anyk_top.specs.Finished.{Finished, HasSent}
 use Rattle.anyk_top.specs.Judged.{IsJudged}
-use Rattle.refusal_lines.specs.Printed.{IsPrintCause}
+use Rattle.refusal_lines.specs.Printed.{GotBeginning, IsBroken, IsPrintCause}
 
 -- ---- the line of a refusal
 
@@ -111,7 +111,7 @@ unless-ok (Some reason) a k e = cc
 turn-of : (sought : Sought) (files : Files) (name : List ℕ) → IsLoadTurn sought files name → IsTurnOf sought files name
 turn-of sought files name (first_turn is) = query_turn is
 turn-of sought files name (second_turn read (first_turn no_turn)) = absurd no_turn
-turn-of sought files name (second_turn read (second_turn {a = selects} parsed (first_turn is))) = script_turn selects (sym read) parsed is
+turn-of sought files name (second_turn read (second_turn {a = selects} parsed (first_turn is))) = aside_turn selects (sym read) parsed is
 turn-of sought files name (second_turn read (second_turn parsed (second_turn said (first_turn no_turn)))) = absurd no_turn
 turn-of sought files name (second_turn read (second_turn {a = selects} parsed (second_turn said (second_turn {a = known} all_known (first_turn member))))) =
     let h = unless-ok (unknown_table sought.named (all_items selects)) selects known all_known in
@@ -135,6 +135,8 @@ pub judged-accepts : (command : Command) (old new : Shelved) (found : Found) →
 judged-accepts (run words) old new found h = h.fits
 judged-accepts (plan words) old new found h = h.fits
 judged-accepts (session script words) old new found h = h.fits
+judged-accepts (prove words) old new found h = h.fits
+judged-accepts (verify proof words) old new found h = h.fits
 judged-accepts (load number rows) old new found h = h.0
 
 -- a refusal that does not speak of the outside is the verdict
@@ -169,6 +171,8 @@ pub judged-reason : (command : Command) (old new : Shelved) (a : Reason) → IsJ
 judged-reason (run words) old new a h = staged-reason (run words) old.files a (λ name turn. turn) h.fits
 judged-reason (plan words) old new a h = staged-reason (plan words) old.files a (λ name turn. turn) h.fits
 judged-reason (session script words) old new a h = staged-reason (session script words) old.files a (λ name turn. turn) h.fits
+judged-reason (prove words) old new a h = staged-reason (prove words) old.files a (λ name turn. turn) h.fits
+judged-reason (verify proof words) old new a h = staged-reason (verify proof words) old.files a (λ name turn. turn) h.fits
 judged-reason (load number rows) old new a h =
     pure-reason (built (load number rows)) (IsVerdict (built (load number rows)) []) (Some []) a (λ g. g) h.0
 
@@ -199,6 +203,10 @@ judged-caused (plan words) old new files files' a h =
     staged-caused (IsVerdict (built (plan words))) (IsLoadTurn (sought_by (plan words))) old new files files' a h
 judged-caused (session script words) old new files files' a h =
     staged-caused (IsVerdict (built (session script words))) (IsLoadTurn (sought_by (session script words))) old new files files' a h
+judged-caused (prove words) old new files files' a h =
+    staged-caused (IsVerdict (built (prove words))) (IsLoadTurn (sought_by (prove words))) old new files files' a h
+judged-caused (verify proof words) old new files files' a h =
+    staged-caused (IsVerdict (built (verify proof words))) (IsLoadTurn (sought_by (verify proof words))) old new files files' a h
 judged-caused (load number rows) old new files files' a h =
     pure-caused (IsVerdict (built (load number rows)) []) old new a h.0
 
@@ -222,6 +230,10 @@ judged-cut (plan words) s t old new a h =
     fits-cut (built (plan words)) (IsVerdict (built (plan words))) (IsLoadTurn (sought_by (plan words))) s.files old new a h.fits
 judged-cut (session script words) s t old new a h =
     fits-cut (built (session script words)) (IsVerdict (built (session script words))) (IsLoadTurn (sought_by (session script words))) s.files old new a h.fits
+judged-cut (prove words) s t old new a h =
+    fits-cut (built (prove words)) (IsVerdict (built (prove words))) (IsLoadTurn (sought_by (prove words))) s.files old new a h.fits
+judged-cut (verify proof words) s t old new a h =
+    fits-cut (built (verify proof words)) (IsVerdict (built (verify proof words))) (IsLoadTurn (sought_by (verify proof words))) s.files old new a h.fits
 judged-cut (load number rows) s t old new a h =
     pure-cut (built (load number rows)) (IsVerdict (built (load number rows)) []) (Some []) old new a h.0
 
@@ -229,9 +241,9 @@ judged-cut (load number rows) s t old new a h =
 
 -- the whole output was printed
 pub printed-complete : (command : Command) (told : Option Files) (old new : Outside) (found : Found) (r : Result (Unit {0}) Refusal) → Accepts command told found
-    → OnOk r (Appends old.output new.output (output command found)) → OnOk r (IsComplete (built command) told old new)
+    → OnOk r ((text : List ℕ) × HasOutput command found text × Appends old.output new.output text) → OnOk r (IsComplete (built command) told old new)
 printed-complete command None old new found (Ok done) accepts whole = tt
-printed-complete command (Some files) old new found (Ok done) accepts whole = (found, accepts, whole)
+printed-complete command (Some files) old new found (Ok done) accepts (text, is_output, whole) = (found, accepts, text, is_output, whole)
 printed-complete command told old new found (Err e) accepts whole = tt
 
 reason-fits : (command : Command) (told : Option Files) (before now : ℕ) (found : Found) (a : Reason) → Accepts command told found → IsPrintCause before now a
@@ -246,16 +258,22 @@ reason-caused old new reason.WriteFault cause = cause
 reason-caused old new reason.NoMemory cause = tt
 reason-caused old new a cause = absurd cause
 
+-- the sink for the output
+abbrev output_of : Outside → SinkState
+output_of outside = record { written = outside.output; faults = outside.write_faults }
+
 got-accepted : (command : Command) (told : Option Files) (old new : Outside) (found : Found) → Accepts command told found
-    → GotPrefix old.output new.output (output command found) → GotAccepted (built command) told old new
-got-accepted command None old new found accepts prefix = tt
-got-accepted command (Some files) old new found accepts prefix = (found, accepts, prefix)
+    → GotBeginning (HasOutput command found) (output_of old) (output_of new) → GotAccepted (built command) told old new
+got-accepted command None old new found accepts got = tt
+got-accepted command (Some files) old new found accepts (text, is_output, prefix) = (found, accepts, text, is_output, prefix)
 
 reason-cut : (command : Command) (told : Option Files) (old new : Outside) (found : Found) (a : Reason) → Accepts command told found
-    → IsPrintCause old.write_faults new.write_faults a → GotPrefix old.output new.output (output command found) → IsCut (built command) told old new a
-reason-cut command told old new found reason.WriteFault accepts cause prefix = got-accepted command told old new found accepts prefix
-reason-cut command told old new found reason.NoMemory accepts cause prefix = inr (got-accepted command told old new found accepts prefix)
-reason-cut command told old new found a accepts cause prefix = absurd cause
+    → IsPrintCause old.write_faults new.write_faults a → IsBroken (HasOutput command found) (output_of old) (output_of new) a
+    → IsCut (built command) told old new a
+reason-cut command told old new found reason.WriteFault accepts cause got = got-accepted command told old new found accepts got
+reason-cut command told old new found reason.NoMemory accepts cause (inl nothing) = inl nothing
+reason-cut command told old new found reason.NoMemory accepts cause (inr got) = inr (got-accepted command told old new found accepts got)
+reason-cut command told old new found a accepts cause got = absurd cause
 
 module _ (command : Command) (told : Option Files) (old new : Outside) (found : Found) (accepts : Accepts command told found) where
   pub printed-fits : (r : Result (Unit {0}) Refusal) → IfErr r (λ refusal. IsPrintCause old.write_faults new.write_faults (reason_of refusal))
@@ -269,6 +287,7 @@ module _ (command : Command) (told : Option Files) (old new : Outside) (found : 
   printed-caused (Err e) cause = reason-caused old new (reason_of e) cause
 
   pub printed-cut : (r : Result (Unit {0}) Refusal) → IfErr r (λ refusal. IsPrintCause old.write_faults new.write_faults (reason_of refusal))
-      → GotPrefix old.output new.output (output command found) → IfErr r (λ refusal. IsCut (built command) told old new (reason_of refusal))
-  printed-cut (Ok done) cause prefix = tt
-  printed-cut (Err e) cause prefix = reason-cut command told old new found (reason_of e) accepts cause prefix
+      → IfErr r (λ refusal. IsBroken (HasOutput command found) (output_of old) (output_of new) (reason_of refusal))
+      → IfErr r (λ refusal. IsCut (built command) told old new (reason_of refusal))
+  printed-cut (Ok done) cause part = tt
+  printed-cut (Err e) cause part = reason-cut command told old new found (reason_of e) accepts cause part

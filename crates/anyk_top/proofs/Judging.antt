@@ -18,11 +18,14 @@ use Rattle.verdict.specs.Loading.{Loaded}
 use Rattle.verdict.specs.Made.{known_to, made_files}
 use Rattle.verdict.specs.Staged.{NoTurn, Pure, Shelved}
 use Rattle.verdict.specs.Stages.{refused, followed}
-use Rattle.verdict.specs.Verdict.{IsLoaded, IsLoadedOn, IsShaped, IsVerdict}
-use Rattle.verdict.specs.Words.{Command, built, run, plan, session, load, sought_by}
+use Rattle.verdict.specs.Verdict.{IsLoaded, IsLoadedOn, IsShaped, IsStructured, IsVerdict}
+use Rattle.verdict.specs.Words.{Command, built, run, plan, session, load, prove, verify, sought_by}
 use Rattle.verdict.proofs.One.{one_loading}
 use Rattle.verdict.proofs.Staging.{found_within, pure_found, pure_refused, pure_staged, refusal_within}
-use Rattle.anyk_top.specs.Judged.{HasOne, IsJudged, IsJudgedOn, IsLooked, IsLookedUp}
+use Rattle.anyk_top.specs.Requests.{command_of}
+use Rattle.anyk_top.specs.declared.request.Task.{Task}
+use Rattle.anyk_top.specs.declared.request.Task.TheVariants as task
+use Rattle.anyk_top.specs.Judged.{HasOne, IsJudged, IsJudgedOn, IsLooked, IsLookedUp, IsUnnamed}
 use Rattle.anyk_top.specs.Planned.{ArePrepared, IsEarlyFor, IsEarlyWithin, preparation_of}
 
 -- a refusal while the input is read is that of the verdict
@@ -39,6 +42,8 @@ pub looked-refused : (command : Command) (old new : Shelved) (a : Reason) → Is
 looked-refused (run words) old new a h = up-refused (run words) old new a (λ files g. refused g) h
 looked-refused (plan words) old new a h = up-refused (plan words) old new a (λ files g. refused g) h
 looked-refused (session script words) old new a h = up-refused (session script words) old new a (λ files g. refused g) h
+looked-refused (prove words) old new a h = up-refused (prove words) old new a (λ files g. refused g) h
+looked-refused (verify proof words) old new a h = up-refused (verify proof words) old new a (λ files g. refused (refused g)) h
 looked-refused (load number rows) old new a h =
     (pure_refused (IsLoadedOn (sought_by (load number rows)) (made_files number rows)) IsShaped a h.0, h.1)
 
@@ -52,16 +57,18 @@ up-then command old new loaded r gives h shaped =
     (IsVerdict (built command)) (IsTurn (sought_by command)) old new new loaded r
     gives (λ files name g no_turn. absurd no_turn) h (pure_staged (IsShaped loaded) new r shaped)
 
-pub looked-then : (command : Command) (old new : Shelved) (loaded : Loaded) (r : Result Found Reason)
-    → IsLooked command old new (Ok loaded) → Pure (IsShaped loaded) r → IsJudged command old new r
-looked-then (run words) old new loaded r h shaped =
-    up-then (run words) old new loaded r (λ files g s. followed g s) h shaped
-looked-then (plan words) old new loaded r h shaped =
-    up-then (plan words) old new loaded r (λ files g s. followed g s) h shaped
-looked-then (session script words) old new loaded r h shaped =
-    up-then (session script words) old new loaded r (λ files g s. followed g s) h shaped
-looked-then (load number rows) old new loaded r h shaped =
-    (pure_found (IsLoadedOn (sought_by (load number rows)) (made_files number rows)) IsShaped loaded r h.0 shaped, h.1)
+pub looked-then : (made : Task) (old new : Shelved) (loaded : Loaded) (r : Result Found Reason)
+    → IsLooked (command_of made) old new (Ok loaded) → Pure (IsShaped loaded) r → IsJudged (command_of made) old new r
+looked-then (task.Run words) old new loaded r h shaped =
+    up-then (command_of (task.Run words)) old new loaded r (λ files g s. followed g s) h shaped
+looked-then (task.Plan words) old new loaded r h shaped =
+    up-then (command_of (task.Plan words)) old new loaded r (λ files g s. followed g s) h shaped
+looked-then (task.Session script words) old new loaded r h shaped =
+    up-then (command_of (task.Session script words)) old new loaded r (λ files g s. followed g s) h shaped
+looked-then (task.Load engine made) old new loaded r h shaped =
+    (pure_found (IsLoadedOn (sought_by (load made.number made.rows)) (made_files made.number made.rows)) IsShaped loaded r h.0 shaped, h.1)
+looked-then (task.Prove words) old new loaded r h shaped =
+    up-then (command_of (task.Prove words)) old new loaded r (λ files g s. followed g s) h shaped
 
 -- ---- the steps for an input that was read
 
@@ -70,6 +77,8 @@ looked-loads : (command : Command) (old new : Shelved) (loaded : Loaded) → IsL
 looked-loads (run words) old new loaded h = h.fits
 looked-loads (plan words) old new loaded h = h.fits
 looked-loads (session script words) old new loaded h = h.fits
+looked-loads (prove words) old new loaded h = h.fits
+looked-loads (verify proof words) old new loaded h = h.fits
 looked-loads (load number rows) old new loaded h = h.0
 
 pub early-still : (command : Command) (told : Option Files) (n : ℕ) → IsEarlyWithin command told n n
@@ -81,6 +90,8 @@ early-still command (Some files) n = λ found verdict. still command found
     still (plan words) found = omega arith
     still (session script words) found = omega arith
     still (load number rows) found = omega arith
+    still (prove words) found = tt
+    still (verify proof words) found = tt
 
 -- the preparation of the only query
 one-prepared : (queries : List Query) (tables : List Table) (before now : ℕ) → length queries ≡ 1
@@ -102,6 +113,8 @@ input-prepared (plan words) input shapes before now one h =
     one-prepared (queries_in input.queries) input.tables before now (count-queries input one) h
 input-prepared (session script words) input shapes before now one h =
     one-prepared (queries_in input.queries) input.tables before now (count-queries input one) h
+input-prepared (prove words) input shapes before now one h = tt
+input-prepared (verify proof words) input shapes before now one h = tt
 input-prepared (load number rows) input shapes before now one h =
     one-prepared (queries_in input.queries) input.tables before now (count-queries input one) h
 
@@ -111,10 +124,21 @@ same-loaded e = cc
 same-found : {a b : Found} → ◌≡◌ {A = Result Found Reason} (Ok a) (Ok b) → a ≡ b
 same-found e = cc
 
+-- what is accepted was structured
+pub verdict-structured : (command : Command) (files : Files) (found : Found) → IsVerdict (built command) files (Ok found)
+    → IsStructured (built command) files (Ok found)
+verdict-structured (run words) files found h = h
+verdict-structured (plan words) files found h = h
+verdict-structured (session script words) files found h = h
+verdict-structured (load number rows) files found h = h
+verdict-structured (prove words) files found h = h
+verdict-structured (verify proof words) files found (followed {a = other} h (followed valid same)) =
+    subst (λ (f : Found). IsStructured (built (verify proof words)) files (Ok f)) (sym (same-found same)) h
+
 accepted-prepared : (command : Command) (files : Files) (input : InputData) (before now : ℕ)
     → IsLoaded (built command) files (Ok (loaded_of input))
     → HasOne command input → ArePrepared (queries_in input.queries) input.tables before now
-    → (found : Found) → IsVerdict (built command) files (Ok found) → IsEarlyFor command found before now
+    → (found : Found) → IsStructured (built command) files (Ok found) → IsEarlyFor command found before now
 accepted-prepared command files input before now h one prepared found
     (followed {a = loaded} loads (followed {a = shapes} are same)) =
     let is_input = same-loaded (one_loading (built command) files (Ok (loaded_of input)) (Ok loaded) h loads) in
@@ -133,4 +157,14 @@ early-prepared command old new input before now h one prepared =
     by : (told : Option Files) → IfSome told (λ files. IsLoaded (built command) files (Ok (loaded_of input)))
         → IsEarlyWithin command told before now
     by None loads = tt
-    by (Some files) loads = accepted-prepared command files input before now loads one prepared
+    by (Some files) loads = λ found verdict.
+        accepted-prepared command files input before now loads one prepared found (verdict-structured command files found verdict)
+
+-- what is known of the item whose rows are asked for
+pub unnamed-of : (command : Command) (input : InputData) → HasOne command input → IsUnnamed command input.best
+unnamed-of (run words) input one = tt
+unnamed-of (plan words) input one = tt
+unnamed-of (session script words) input one = tt
+unnamed-of (load number rows) input one = tt
+unnamed-of (prove words) input one = one.1
+unnamed-of (verify proof words) input one = one.1

@@ -5,3 +5,4 @@ pub mod Judging
 pub mod Bounds
 pub mod PlanList
 pub mod UnionRun
+pub mod Verifying

@@ -256,7 +256,7 @@ keys-within keys most (query ∷ queries) first have at some few =
 -- what is found of the one query
 pub one-printed : (input : InputData) (query : BoundQuery) (script : List Step) (shape : Shape)
     → input.queries ≡ query ∷ [] → input.steps ≡ script
-    → found_of (loaded_of input) (shape ∷ []) ≡ found_by query input.tables input.best script shape
+    → found_of (loaded_of input) (shape ∷ []) ≡ found_by query input.tables input.best script input.proof shape
 one-printed input query script shape only steps =
     (λ i. record {
       queries = queries_in (only i);
@@ -264,6 +264,7 @@ one-printed input query script shape only steps =
       shapes = shape ∷ [];
       best = input.best;
       steps = steps i;
+      proof = input.proof;
     })
 
 pub one-cost : (input : InputData) (query : BoundQuery) → input.queries ≡ query ∷ [] → (before now : ℕ)

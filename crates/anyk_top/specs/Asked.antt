@@ -2,9 +2,9 @@
 use Rattle.std.specs.Prelude.{◌≡◌, ℕ, List, Option, Some, None}
 use Rattle.refusal_lines.specs.Reason as reason
 use Rattle.refusal_lines.specs.Reason.{Reason}
-use Rattle.cmd_words.specs.Commands.{CommandSaid, run_said, session_said, plan_said, load_said}
+use Rattle.cmd_words.specs.Commands.{CommandSaid, run_said, session_said, plan_said, prove_said, verify_said, load_said}
 use Rattle.cmd_words.specs.Said.{WordsSaid}
-use Rattle.verdict.specs.Words.{Words, Asked, no_command, built, run, plan, session, load}
+use Rattle.verdict.specs.Words.{Words, Asked, no_command, built, run, plan, session, load, prove, verify}
 
 -- all but the engine, which does not change the output
 abbrev pub words_of : WordsSaid → Words
@@ -15,11 +15,18 @@ abbrev pub asked_session : Option (List ℕ) → Words → Asked
 asked_session None words = no_command
 asked_session (Some script) words = built (session script words)
 
+-- and those of `verify` only if a certificate is among them
+abbrev pub asked_verify : Option (List ℕ) → Words → Asked
+asked_verify None words = no_command
+asked_verify (Some proof) words = built (verify proof words)
+
 abbrev pub asked_of : Option CommandSaid → Asked
 asked_of None = no_command
 asked_of (Some (run_said said)) = built (run (words_of said))
 asked_of (Some (session_said said)) = asked_session said.script (words_of said)
 asked_of (Some (plan_said said)) = built (plan (words_of said))
+asked_of (Some (prove_said said)) = built (prove (words_of said))
+asked_of (Some (verify_said said)) = asked_verify said.proof (words_of said)
 asked_of (Some (load_said engine number rows)) = built (load number rows)
 
 -- the arguments are not a command, or memory ran out

@@ -5,3 +5,4 @@ pub mod Sides
 pub mod Judged
 pub mod Planned
 pub mod Begun
+pub mod Checked

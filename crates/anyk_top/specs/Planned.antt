@@ -16,6 +16,7 @@ use Rattle.plan_build.specs.declared.ranked_plan.RankedPlan.TheVariants.{Sum, Le
 use Rattle.query_bind.specs.Parts.{sum_of_all}
 use Rattle.query_bind.specs.Weighed.{BoundQuery}
 use Rattle.query_shape.specs.Shape.{Shape}
+use Rattle.proof_text.specs.Certificate.{Certificate}
 use Rattle.session_script.specs.declared.step.Step.{Step}
 use Rattle.tdp_model.specs.KeyTuple.{KeyOf}
 use Rattle.refusal_lines.specs.declared.refusal.Refusal.{Refusal}
@@ -27,7 +28,7 @@ use Rattle.input_load.specs.Input.{InputData, loaded_of}
 use Rattle.verdict.specs.Found.{Found, found_of, query_of}
 use Rattle.verdict.specs.Loading.{Loaded}
 use Rattle.verdict.specs.Verdict.{IsVerdict}
-use Rattle.verdict.specs.Words.{Command, built, run, plan, session, load}
+use Rattle.verdict.specs.Words.{Command, built, run, plan, session, load, prove, verify}
 use Rattle.anyk_top.specs.declared.planning.Planned.{Planned}
 use Rattle.anyk_top.specs.declared.planning.Plans.{Plans}
 use Rattle.anyk_top.specs.declared.planning.Plans.TheVariants.{One, Sums, Lexes}
@@ -60,11 +61,17 @@ abbrev pub shown_plans : Loaded → Result Plans Refusal → Result Found Reason
 shown_plans loaded (Ok plans) = Ok (found_of loaded (shapes_in plans))
 shown_plans loaded (Err refusal) = Err (reason_of refusal)
 
--- what is known of a query, its tables, the item whose rows are asked for and a script, with the
--- structure of the query
-abbrev pub found_by : BoundQuery → List Table → Option ℕ → List Step → Shape → Found
-found_by query tables best steps shape =
-    record { queries = query.query ∷ []; tables = tables; shapes = shape ∷ []; best = best; steps = steps }
+-- what is known of a query, its tables, the item whose rows are asked for, a script and a certificate,
+-- with the structure of the query
+abbrev pub found_by : BoundQuery → List Table → Option ℕ → List Step → Certificate → Shape → Found
+found_by query tables best steps proof shape = record {
+  queries = query.query ∷ [];
+  tables = tables;
+  shapes = shape ∷ [];
+  best = best;
+  steps = steps;
+  proof = proof;
+}
 
 abbrev pub found_in : Planned → Found
 found_in planned = found_of (loaded_of planned.input) (shapes_in planned.plans)
@@ -114,11 +121,14 @@ preparation_of tables query =
 abbrev pub ArePrepared : List Query → List Table → ℕ → ℕ → Type 0
 ArePrepared queries tables before now = now ≤ before + sum_by (preparation_of tables) queries
 
--- the same of what is found: `run` may have several queries, and each other command has one
+-- the same of what is found: `run` may have several queries, and each other command has one. Nothing is said
+-- of the steps of `prove` and `verify`.
 abbrev pub IsEarlyFor : Command → Found → ℕ → ℕ → Type 0
 IsEarlyFor (run words) found before now = ArePrepared found.queries found.tables before now
 IsEarlyFor (plan words) found before now = IsPrepared (query_of found) found.tables before now
 IsEarlyFor (session script words) found before now = IsPrepared (query_of found) found.tables before now
+IsEarlyFor (prove words) found before now = Unit {0}
+IsEarlyFor (verify proof words) found before now = Unit {0}
 IsEarlyFor (load number rows) found before now = IsPrepared (query_of found) found.tables before now
 
 -- if the files are known and the input is accepted, preparation took no more steps than it may take

@@ -2,8 +2,9 @@
 ghost use Rattle.std.specs.Prelude.{◌<◌, ◌≤◌, [], ◌∷◌, IfErr, None, OnOk, length, ℕ};
 ghost use Rattle.input_load.specs.Input.{loaded_of, queries_in};
 ghost use Rattle.plan_build.specs.Plan.{IsPlanOf, shape_of};
+ghost use Rattle.proof_text.specs.Certificate.{Certificate};
 ghost use Rattle.query_bind.specs.Weighed.{Fits};
-ghost use Rattle.refusal_lines.specs.Printed.{Printed};
+ghost use Rattle.refusal_lines.specs.Printed.{PrintedSome};
 ghost use Rattle.refusal_lines.specs.Refused.{reason_of};
 ghost use Rattle.refusal_lines.specs.SinkState.{state_of};
 ghost use Rattle.session_script.specs.Script.{KeepsRules};
@@ -12,21 +13,23 @@ ghost use Rattle.verdict.specs.Bound.{IsBounded, IsPaced, IsPrompt, IsWithin};
 ghost use Rattle.verdict.specs.Found.{found_of};
 ghost use Rattle.verdict.specs.Made.{known_to};
 ghost use Rattle.verdict.specs.Outcome.{IsReason, IsCaused, IsComplete, IsCut};
-ghost use Rattle.verdict.specs.Output.{output};
+ghost use Rattle.verdict.specs.Output.{HasOutput};
 ghost use Rattle.verdict.specs.Words.{built};
-ghost use Rattle.anyk_top.specs.Judged.{HasOne};
+ghost use Rattle.anyk_top.specs.Judged.{HasOne, IsUnnamed};
 ghost use Rattle.anyk_top.specs.Planned.{ArePlans, ArePrepared, HavePlans, IsOnePlan, found_by};
 ghost use Rattle.anyk_top.specs.Planned.{found_in, shape_in, shapes_of};
-ghost use Rattle.anyk_top.specs.Requests.{command_of};
+ghost use Rattle.anyk_top.specs.Requests.{asked_by, command_of};
 ghost use Rattle.anyk_top.specs.Sides.{seen_by};
 
 use crate::load::print_load;
 use crate::plan::print_report;
-use crate::planning::{Planned, Plans, plan_request};
-use crate::request::Request;
+use crate::planning::{Planned, Plans, plan_task};
+use crate::prove::print_certificate;
+use crate::request::{Request, Task};
 use crate::run::print_run;
 use crate::session::print_script;
 use crate::union::print_union_run;
+use crate::verify::answer_verified;
 use csv_tables::Tables;
 use hash_keys::Keys;
 use input_load::Input;
@@ -40,9 +43,9 @@ use std::alloc::Global;
 use std::sync::ledger::Ledger;
 use step_counter::Steps;
 
-/// Reads or makes the input of the command, plans its query, and prints the command's output. The
-/// result is an error if the input is refused, if a read or a write failed, or if memory is
-/// refused.
+/// Reads or makes the input of the command, plans its query or checks its certificate, and prints the
+/// command's output. The result is an error if the input is refused, if a read or a write failed, or
+/// if memory is refused.
 pub(crate) fn answer<'a, F: Shelf, S: Sink, L: Ledger>(
     alloc: Global,
     request: &'a Request,
@@ -51,76 +54,108 @@ pub(crate) fn answer<'a, F: Shelf, S: Sink, L: Ledger>(
     keys: Keys,
     steps: &mut Steps<L>,
 ) -> Result<(), Refusal<'a>>
-    ensures done { OnOk result (IsComplete (built (command_of request.now))
-        (known_to (built (command_of request.now)) (F.files shelf.old))
+    ensures done { OnOk result (IsComplete (built (asked_by request.now))
+        (known_to (built (asked_by request.now)) (F.files shelf.old))
         (seen_by F.Shelf S.Sink shelf.old out.old)
         (seen_by F.Shelf S.Sink shelf.new out.new)) }
-    ensures fits { IfErr result (λ refusal. IsReason (built (command_of request.now))
-        (known_to (built (command_of request.now)) (F.files shelf.old)) (reason_of refusal)) }
+    ensures fits { IfErr result (λ refusal. IsReason (built (asked_by request.now))
+        (known_to (built (asked_by request.now)) (F.files shelf.old)) (reason_of refusal)) }
     ensures caused { IfErr result (λ refusal. IsCaused
         (seen_by F.Shelf S.Sink shelf.old out.old)
         (seen_by F.Shelf S.Sink shelf.new out.new) (reason_of refusal)) }
-    ensures cut { IfErr result (λ refusal. IsCut (built (command_of request.now))
-        (known_to (built (command_of request.now)) (F.files shelf.old))
+    ensures cut { IfErr result (λ refusal. IsCut (built (asked_by request.now))
+        (known_to (built (asked_by request.now)) (F.files shelf.old))
         (seen_by F.Shelf S.Sink shelf.old out.old)
         (seen_by F.Shelf S.Sink shelf.new out.new) (reason_of refusal)) }
-    ensures bounded { IsBounded (built (command_of request.now))
-        (known_to (built (command_of request.now)) (F.files shelf.old)) steps.old steps.new }
-    ensures prompt { IsPrompt (built (command_of request.now))
-        (known_to (built (command_of request.now)) (F.files shelf.old)) (S.written out.old) (S.written out.new) steps.old steps.new }
+    ensures bounded { IsBounded (built (asked_by request.now))
+        (known_to (built (asked_by request.now)) (F.files shelf.old)) steps.old steps.new }
+    ensures prompt { IsPrompt (built (asked_by request.now))
+        (known_to (built (asked_by request.now)) (F.files shelf.old)) (S.written out.old) (S.written out.new) steps.old steps.new }
 {
-    let planned = plan_request(alloc, request, shelf, keys, steps)?;
-    print_planned(alloc, request, &planned, out, steps)
+    match request {
+        Request::Planned(task) => answer_planned(alloc, task, shelf, out, keys, steps),
+        Request::Verify(proof, words) => {
+            answer_verified(alloc, proof.as_str(), words, shelf, out, keys, steps)
+        }
+    }
+}
+
+// Reads or makes the input of the command, plans its query, and prints the command's output.
+fn answer_planned<'a, F: Shelf, S: Sink, L: Ledger>(
+    alloc: Global,
+    task: &'a Task,
+    shelf: &mut F,
+    out: &mut S,
+    keys: Keys,
+    steps: &mut Steps<L>,
+) -> Result<(), Refusal<'a>>
+    ensures done { OnOk result (IsComplete (built (command_of task.now))
+        (known_to (built (command_of task.now)) (F.files shelf.old))
+        (seen_by F.Shelf S.Sink shelf.old out.old)
+        (seen_by F.Shelf S.Sink shelf.new out.new)) }
+    ensures fits { IfErr result (λ refusal. IsReason (built (command_of task.now))
+        (known_to (built (command_of task.now)) (F.files shelf.old)) (reason_of refusal)) }
+    ensures caused { IfErr result (λ refusal. IsCaused
+        (seen_by F.Shelf S.Sink shelf.old out.old)
+        (seen_by F.Shelf S.Sink shelf.new out.new) (reason_of refusal)) }
+    ensures cut { IfErr result (λ refusal. IsCut (built (command_of task.now))
+        (known_to (built (command_of task.now)) (F.files shelf.old))
+        (seen_by F.Shelf S.Sink shelf.old out.old)
+        (seen_by F.Shelf S.Sink shelf.new out.new) (reason_of refusal)) }
+    ensures bounded { IsBounded (built (command_of task.now))
+        (known_to (built (command_of task.now)) (F.files shelf.old)) steps.old steps.new }
+    ensures prompt { IsPrompt (built (command_of task.now))
+        (known_to (built (command_of task.now)) (F.files shelf.old)) (S.written out.old) (S.written out.new) steps.old steps.new }
+{
+    let planned = plan_task(alloc, task, shelf, keys, steps)?;
+    print_planned(alloc, task, &planned, out, steps)
 }
 
 // Prints the output, with the rank type of the plans.
 fn print_planned<'a, S: Sink, L: Ledger>(
     alloc: Global,
-    request: &Request,
+    task: &Task,
     planned: &Planned,
     out: &mut S,
     steps: &mut Steps<L>,
 ) -> Result<(), Refusal<'a>>
     requires plans { ArePlans planned.now.input planned.now.plans }
-    requires alone { HasOne (command_of request.now) planned.now.input }
-    ensures printed { Printed (state_of S.Sink out.old) (state_of S.Sink out.new)
-        (output (command_of request.now) (found_in planned.now)) result }
+    requires alone { HasOne (command_of task.now) planned.now.input }
+    ensures printed { PrintedSome (HasOutput (command_of task.now) (found_in planned.now))
+        (state_of S.Sink out.old) (state_of S.Sink out.new) result }
     ensures bounded { (before : ℕ)
         → ArePrepared (queries_in planned.now.input.queries) planned.now.input.tables before steps.old
-        → IsWithin (command_of request.now) (found_in planned.now) before steps.new }
+        → IsWithin (command_of task.now) (found_in planned.now) before steps.new }
     ensures paced { (before : ℕ)
         → ArePrepared (queries_in planned.now.input.queries) planned.now.input.tables before steps.old
-        → IsPaced (command_of request.now) (found_in planned.now)
+        → IsPaced (command_of task.now) (found_in planned.now)
         (S.written out.old) (S.written out.new) before steps.new }
 {
     let Planned { input, plans } = planned;
     match plans {
-        Plans::One(plan) => print_one(alloc, request, plan, input, out, steps),
-        Plans::Sums(plans) => {
-            print_branches(alloc, request, plans.as_slice(), input, out, steps)
-        }
-        Plans::Lexes(plans) => {
-            print_branches(alloc, request, plans.as_slice(), input, out, steps)
-        }
+        Plans::One(plan) => print_one(alloc, task, plan, input, out, steps),
+        Plans::Sums(plans) => { print_branches(alloc, task, plans.as_slice(), input, out, steps) }
+        Plans::Lexes(plans) => { print_branches(alloc, task, plans.as_slice(), input, out, steps) }
     }
 }
 
 // Prints the output over one query, with the rank type of its plan.
 fn print_one<'a, S: Sink, L: Ledger>(
     alloc: Global,
-    request: &Request,
+    task: &Task,
     plan: &RankedPlan,
     input: &Input,
     out: &mut S,
     steps: &mut Steps<L>,
 ) -> Result<(), Refusal<'a>>
     requires plan { IsOnePlan input.now.queries input.now.tables input.now.best plan.now }
-    ensures printed { Printed (state_of S.Sink out.old) (state_of S.Sink out.new)
-        (output (command_of request.now) (found_of (loaded_of input.now) (shape_in plan.now ∷ []))) result }
+    requires alone { HasOne (command_of task.now) input.now }
+    ensures printed { PrintedSome (HasOutput (command_of task.now) (found_of (loaded_of input.now) (shape_in plan.now ∷ [])))
+        (state_of S.Sink out.old) (state_of S.Sink out.new) result }
     ensures bounded { (before : ℕ) → ArePrepared (queries_in input.now.queries) input.now.tables before steps.old
-        → IsWithin (command_of request.now) (found_of (loaded_of input.now) (shape_in plan.now ∷ [])) before steps.new }
+        → IsWithin (command_of task.now) (found_of (loaded_of input.now) (shape_in plan.now ∷ [])) before steps.new }
     ensures paced { (before : ℕ) → ArePrepared (queries_in input.now.queries) input.now.tables before steps.old
-        → IsPaced (command_of request.now) (found_of (loaded_of input.now) (shape_in plan.now ∷ []))
+        → IsPaced (command_of task.now) (found_of (loaded_of input.now) (shape_in plan.now ∷ []))
         (S.written out.old) (S.written out.new) before steps.new }
 {
     let query = &input.queries[0];
@@ -128,10 +163,10 @@ fn print_one<'a, S: Sink, L: Ledger>(
     let script = input.script.as_slice();
     match plan {
         RankedPlan::Sum(plan) => print_output(
-            alloc, request, plan, query, tables, input.best, script, out, steps,
+            alloc, task, plan, query, tables, input.best, script, out, steps,
         ),
         RankedPlan::Lex(plan) => print_output(
-            alloc, request, plan, query, tables, input.best, script, out, steps,
+            alloc, task, plan, query, tables, input.best, script, out, steps,
         ),
     }
 }
@@ -139,25 +174,25 @@ fn print_one<'a, S: Sink, L: Ledger>(
 // Prints the output over several queries, which only `run` may have.
 fn print_branches<'a, R: Rank, S: Sink, L: Ledger>(
     alloc: Global,
-    request: &Request,
+    task: &Task,
     plans: &[Plan<R>],
     input: &Input,
     out: &mut S,
     steps: &mut Steps<L>,
 ) -> Result<(), Refusal<'a>>
     requires several { 1 < length input.now.queries }
-    requires alone { HasOne (command_of request.now) input.now }
+    requires alone { HasOne (command_of task.now) input.now }
     requires plans { HavePlans R.KEYS R.key input.now.tables input.now.queries plans.now }
-    ensures printed { Printed (state_of S.Sink out.old) (state_of S.Sink out.new)
-        (output (command_of request.now) (found_of (loaded_of input.now) (shapes_of plans.now))) result }
+    ensures printed { PrintedSome (HasOutput (command_of task.now) (found_of (loaded_of input.now) (shapes_of plans.now)))
+        (state_of S.Sink out.old) (state_of S.Sink out.new) result }
     ensures bounded { (before : ℕ) → ArePrepared (queries_in input.now.queries) input.now.tables before steps.old
-        → IsWithin (command_of request.now) (found_of (loaded_of input.now) (shapes_of plans.now)) before steps.new }
+        → IsWithin (command_of task.now) (found_of (loaded_of input.now) (shapes_of plans.now)) before steps.new }
     ensures paced { (before : ℕ) → ArePrepared (queries_in input.now.queries) input.now.tables before steps.old
-        → IsPaced (command_of request.now) (found_of (loaded_of input.now) (shapes_of plans.now))
+        → IsPaced (command_of task.now) (found_of (loaded_of input.now) (shapes_of plans.now))
         (S.written out.old) (S.written out.new) before steps.new }
 {
-    match request {
-        Request::Run(words) => {
+    match task {
+        Task::Run(words) => {
             let queries = input.queries.as_slice();
             print_union_run(alloc, words, plans, queries, &input.tables, out, steps)
         }
@@ -168,7 +203,7 @@ fn print_branches<'a, R: Rank, S: Sink, L: Ledger>(
 // Prints the output of the command for one rank type.
 fn print_output<'a, R: Rank, S: Sink, L: Ledger>(
     alloc: Global,
-    request: &Request,
+    task: &Task,
     plan: &Plan<R>,
     query: &Query,
     tables: &Tables,
@@ -180,22 +215,25 @@ fn print_output<'a, R: Rank, S: Sink, L: Ledger>(
     requires fits { Fits query.now tables.now }
     requires rules { KeepsRules [] script.now }
     requires plan { IsPlanOf R.KEYS R.key query.now tables.now best plan.now }
-    ensures printed { Printed (state_of S.Sink out.old) (state_of S.Sink out.new)
-        (output (command_of request.now) (found_by query.now tables.now best script.now (shape_of plan.now))) result }
-    ensures bounded { (before : ℕ) → IsPrepared query.now.query tables.now before steps.old
-        → IsWithin (command_of request.now) (found_by query.now tables.now best script.now (shape_of plan.now)) before steps.new }
-    ensures paced { (before : ℕ) → IsPrepared query.now.query tables.now before steps.old
-        → IsPaced (command_of request.now) (found_by query.now tables.now best script.now (shape_of plan.now))
+    requires unnamed { IsUnnamed (command_of task.now) best }
+    ensures printed { (proof : Certificate)
+        → PrintedSome (HasOutput (command_of task.now) (found_by query.now tables.now best script.now proof (shape_of plan.now)))
+        (state_of S.Sink out.old) (state_of S.Sink out.new) result }
+    ensures bounded { (proof : Certificate) (before : ℕ) → IsPrepared query.now.query tables.now before steps.old
+        → IsWithin (command_of task.now) (found_by query.now tables.now best script.now proof (shape_of plan.now)) before steps.new }
+    ensures paced { (proof : Certificate) (before : ℕ) → IsPrepared query.now.query tables.now before steps.old
+        → IsPaced (command_of task.now) (found_by query.now tables.now best script.now proof (shape_of plan.now))
         (S.written out.old) (S.written out.new) before steps.new }
 {
-    match request {
-        Request::Run(words) => print_run(alloc, words, plan, query, tables, best, out, steps),
-        Request::Plan(_) => print_report(alloc, plan, query, tables, out),
-        Request::Session(_, words) => {
+    match task {
+        Task::Run(words) => print_run(alloc, words, plan, query, tables, best, out, steps),
+        Task::Plan(_) => print_report(alloc, plan, query, tables, out),
+        Task::Session(_, words) => {
             print_script(alloc, words, plan, query, tables, best, script, out, steps)
         }
-        Request::Load(engine, _) => {
+        Task::Load(engine, _) => {
             print_load(alloc, *engine, plan, query, tables, best, out, steps)
         }
+        Task::Prove(words) => print_certificate(alloc, words.engine, plan, query, out, steps),
     }
 }

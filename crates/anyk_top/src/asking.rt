@@ -7,9 +7,9 @@ ghost use Rattle.cmd_words.specs.Said.{seen_words};
 ghost use Rattle.refusal_lines.specs.Refused.{reason_of};
 ghost use Rattle.verdict.specs.Words.{built};
 ghost use Rattle.anyk_top.specs.Asked.{IsEarly, asked_of, words_of};
-ghost use Rattle.anyk_top.specs.Requests.{command_of};
+ghost use Rattle.anyk_top.specs.Requests.{asked_by};
 
-use crate::request::Request;
+use crate::request::{Request, Task};
 use cmd_words::{Command, Words, WordsFault, read_words};
 use input_load::MadeTables;
 use refusal_lines::Refusal;
@@ -18,7 +18,7 @@ use std::alloc::Global;
 /// The command that the arguments ask for. `Usage` if they are not a command, and `NoMemory` if
 /// memory is refused.
 pub(crate) fn read_request<'a>(alloc: Global, words: &[String]) -> Result<Request, Refusal<'a>>
-    ensures built { IfOk result (λ request. asked_of (said_of (map string_bytes words.now)) ≡ built (command_of request)) }
+    ensures built { IfOk result (λ request. asked_of (said_of (map string_bytes words.now)) ≡ built (asked_by request)) }
     ensures early { IfErr result (λ refusal. IsEarly (asked_of (said_of (map string_bytes words.now))) (reason_of refusal)) }
 {
     match read_words(alloc, words) {
@@ -30,22 +30,25 @@ pub(crate) fn read_request<'a>(alloc: Global, words: &[String]) -> Result<Reques
 
 fn request_of<'a>(alloc: Global, command: Command) -> Result<Request, Refusal<'a>>
     requires { KeepsRange command }
-    ensures built { IfOk result (λ request. asked_of (Some (seen_command command)) ≡ built (command_of request)) }
+    ensures built { IfOk result (λ request. asked_of (Some (seen_command command)) ≡ built (asked_by request)) }
     ensures early { IfErr result (λ refusal. IsEarly (asked_of (Some (seen_command command))) (reason_of refusal)) }
 {
     match command {
-        Command::Run(words) => Ok(Request::Run(words)),
-        Command::Plan(words) => Ok(Request::Plan(words)),
+        Command::Run(words) => Ok(Request::Planned(Task::Run(words))),
+        Command::Plan(words) => Ok(Request::Planned(Task::Plan(words))),
         Command::Session(words) => session_of(words),
         Command::Load(engine, number, rows) => {
-            Ok(Request::Load(engine, MadeTables::new(alloc, number, rows)?))
+            let made = MadeTables::new(alloc, number, rows)?;
+            Ok(Request::Planned(Task::Load(engine, made)))
         }
+        Command::Prove(words) => Ok(Request::Planned(Task::Prove(words))),
+        Command::Verify(words) => verify_of(words),
     }
 }
 
 // The session that these words ask for. `Usage` if they name no script.
 fn session_of<'a>(words: Words) -> Result<Request, Refusal<'a>>
-    ensures built { IfOk result (λ request. asked_of (Some (seen_command (Command.Session words))) ≡ built (command_of request)) }
+    ensures built { IfOk result (λ request. asked_of (Some (seen_command (Command.Session words))) ≡ built (asked_by request)) }
     ensures early { IfErr result (λ refusal. IsEarly (asked_of (Some (seen_command (Command.Session words)))) (reason_of refusal)) }
 {
     let Words {
@@ -53,6 +56,7 @@ fn session_of<'a>(words: Words) -> Result<Request, Refusal<'a>>
         ranks,
         rows,
         script,
+        proof,
         best_of,
         query,
         tables,
@@ -65,9 +69,41 @@ fn session_of<'a>(words: Words) -> Result<Request, Refusal<'a>>
         ranks,
         rows,
         script: None,
+        proof,
         best_of,
         query,
         tables,
     };
-    Ok(Request::Session(script, others))
+    Ok(Request::Planned(Task::Session(script, others)))
+}
+
+// The check that these words ask for. `Usage` if they name no certificate.
+fn verify_of<'a>(words: Words) -> Result<Request, Refusal<'a>>
+    ensures built { IfOk result (λ request. asked_of (Some (seen_command (Command.Verify words))) ≡ built (asked_by request)) }
+    ensures early { IfErr result (λ refusal. IsEarly (asked_of (Some (seen_command (Command.Verify words)))) (reason_of refusal)) }
+{
+    let Words {
+        engine,
+        ranks,
+        rows,
+        script,
+        proof,
+        best_of,
+        query,
+        tables,
+    } = words;
+    let Some(proof) = proof else {
+        return Err(Refusal::Usage);
+    };
+    let others = Words {
+        engine,
+        ranks,
+        rows,
+        script,
+        proof: None,
+        best_of,
+        query,
+        tables,
+    };
+    Ok(Request::Verify(proof, others))
 }

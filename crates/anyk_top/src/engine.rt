@@ -1,10 +1,13 @@
 //! The engine over a plan.
-ghost use Rattle.std.specs.Prelude.{◌≡◌, ◌+◌, ◌*◌, ◌≤◌, IfOk, List, length};
+ghost use Rattle.std.specs.Prelude.{◌≡◌, ◌+◌, ◌*◌, ◌≤◌, IfOk, List, None, length};
 ghost use Rattle.anyk_model.specs.Table.{Table};
 ghost use Rattle.engine_choice.specs.Chosen.{calls_of, rest_of, tree_of};
 ghost use Rattle.plan_build.specs.Plan.{IsPlanOf};
 ghost use Rattle.query_bind.specs.Weighed.{BoundQuery};
+ghost use Rattle.tdp_core.specs.Seen.{answers_of};
+ghost use Rattle.tdp_core.specs.Solutions.{IsTreeRanking};
 ghost use Rattle.tdp_core.specs.TreeData.{row_count};
+ghost use Rattle.tdp_model.specs.KeyTuple.{KeyOf};
 ghost use Rattle.tdp_core.specs.WellFormed.{IsTieFreeTree};
 ghost use Rattle.anyk_top.specs.Begun.{IsAskedList};
 
@@ -34,6 +37,9 @@ pub(crate) fn engine_over<'t, R: Rank, L: Ledger>(
     ensures asked { (bound : BoundQuery) (tables : List Table)
         → IsPlanOf R.KEYS R.key bound tables best plan.now
         → IfOk result (λ e. IsAskedList bound.query tables best (rest_of R.KEYS R.key e)) }
+    // If no item is named, the ranking of the tree is left.
+    ensures ranking { best ≡ None → IfOk result (λ e. (ks : List (KeyOf R.KEYS 16))
+        × IsTreeRanking plan.now.tree R.KEYS R.key ks × (rest_of R.KEYS R.key e ≡ answers_of R.KEYS ks)) }
     ensures cost { steps.new ≤ steps.old
         + 16 * (length plan.now.tree * (1 + row_count plan.now.tree)) }
 {

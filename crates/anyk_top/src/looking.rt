@@ -1,56 +1,58 @@
-//! The input of a request.
-ghost use Rattle.std.specs.Prelude.{◌≡◌, false, IfOk, Option, length, option_map};
+//! The input of a command.
+ghost use Rattle.std.specs.Prelude.{◌≡◌, None, false, IfOk, Option, length, option_map};
 ghost use Rattle.std.specs.String.{string_bytes};
 ghost use Rattle.cmd_words.specs.Said.{seen_words};
 ghost use Rattle.input_load.specs.Shown.{shown_input};
+ghost use Rattle.input_load.specs.Sought.{aside_shown};
 ghost use Rattle.verdict.specs.Staged.{shelved};
 ghost use Rattle.anyk_top.specs.Asked.{words_of};
 ghost use Rattle.anyk_top.specs.Judged.{HasOne, IsLooked, IsLookedUp, sought_in};
 ghost use Rattle.anyk_top.specs.Requests.{command_of};
 
-use crate::request::Request;
+use crate::request::Task;
 use cmd_words::Words;
 use hash_keys::Keys;
-use input_load::{Input, Sought, load_input, load_made};
+use input_load::{Aside, Input, Sought, load_input, load_made};
 use outer_io::Shelf;
 use refusal_lines::Refusal;
 use std::alloc::Global;
 
-/// The input of the request, or its first refusal. It is read from the files of the shelf that the
+/// The input of the command, or its first refusal. It is read from the files of the shelf that the
 /// words name, or it is the tables that are made. Only `run` may have several queries.
 pub(crate) fn look_at<'a, F: Shelf>(
     alloc: Global,
-    request: &'a Request,
+    task: &'a Task,
     shelf: &mut F,
     keys: Keys,
 ) -> Result<Input, Refusal<'a>>
-    ensures looked { IsLooked (command_of request.now)
+    ensures looked { IsLooked (command_of task.now)
         (shelved F.Shelf shelf.old) (shelved F.Shelf shelf.new) (shown_input result) }
-    ensures alone { IfOk result (HasOne (command_of request.now)) }
+    ensures alone { IfOk result (HasOne (command_of task.now)) }
 {
-    match request {
-        Request::Run(words) => {
+    match task {
+        Task::Run(words) => {
             look_up(
                 alloc,
                 words,
                 true,
-                None,
+                Aside::Nothing,
                 text_of(&words.best_of),
                 shelf,
                 keys,
             )
         }
-        Request::Plan(words) => look_up(alloc, words, false, None, None, shelf, keys),
-        Request::Session(script, words) => look_up(
+        Task::Plan(words) => { look_up(alloc, words, false, Aside::Nothing, None, shelf, keys) }
+        Task::Session(script, words) => look_up(
             alloc,
             words,
             false,
-            Some(script.as_str()),
+            Aside::Script(script.as_str()),
             text_of(&words.best_of),
             shelf,
             keys,
         ),
-        Request::Load(_, made) => load_made(alloc, made),
+        Task::Load(_, made) => load_made(alloc, made),
+        Task::Prove(words) => look_up(alloc, words, false, Aside::Nothing, None, shelf, keys),
     }
 }
 
@@ -64,25 +66,27 @@ fn text_of(text: &Option<String>) -> Option<&str>
     }
 }
 
-// The input that is in the files of the shelf. It has one query if several are not allowed.
-fn look_up<'a, F: Shelf>(
+/// The input that is in the files of the shelf. It has one query if several are not allowed, and no
+/// item whose rows are asked for if none is named.
+pub(crate) fn look_up<'a, F: Shelf>(
     alloc: Global,
     words: &'a Words,
     several: bool,
-    script: Option<&'a str>,
+    aside: Aside<'a>,
     best_of: Option<&'a str>,
     shelf: &mut F,
     keys: Keys,
 ) -> Result<Input, Refusal<'a>>
     ensures looked { IsLookedUp (sought_in (words_of (seen_words words.now)) several
-        (option_map (λ t. t.now) script.entry) (option_map (λ t. t.now) best_of.entry))
+        (aside_shown aside.entry) (option_map (λ t. t.now) best_of.entry))
         (shelved F.Shelf shelf.old) (shelved F.Shelf shelf.new) (shown_input result) }
     ensures alone { several ≡ false → IfOk result (λ input. length input.queries ≡ 1) }
+    ensures unnamed { best_of.entry ≡ None → IfOk result (λ input. input.best ≡ None) }
 {
     let sought = Sought {
         query: words.query.as_str(),
         several,
-        script,
+        aside,
         named: words.tables.as_slice(),
         best_of,
     };

@@ -16,7 +16,7 @@ ghost use Rattle.anyk_top.specs.Planned.{shown_plans, shown_planned, shown_shape
 ghost use Rattle.anyk_top.specs.Requests.{command_of};
 
 use crate::looking::look_at;
-use crate::request::Request;
+use crate::request::Task;
 use csv_tables::Tables;
 use hash_keys::Keys;
 use input_load::Input;
@@ -47,27 +47,27 @@ pub(crate) enum Plans {
     Lexes(Vec<Plan<LexRank>>),
 }
 
-/// The input of the request with the plans of its queries, or the first refusal. `Cyclic` if a
+/// The input of the command with the plans of its queries, or the first refusal. `Cyclic` if a
 /// query has no join tree, and `TooManyNodeRows` if more of its rows pass than the limit, in all
 /// nodes together.
-pub(crate) fn plan_request<'a, F: Shelf, L: Ledger>(
+pub(crate) fn plan_task<'a, F: Shelf, L: Ledger>(
     alloc: Global,
-    request: &'a Request,
+    task: &'a Task,
     shelf: &mut F,
     keys: Keys,
     steps: &mut Steps<L>,
 ) -> Result<Planned, Refusal<'a>>
-    ensures judged { IsJudged (command_of request.now)
+    ensures judged { IsJudged (command_of task.now)
         (shelved F.Shelf shelf.old) (shelved F.Shelf shelf.new)
         (shown_planned result) }
     ensures plans { IfOk result (λ p. ArePlans p.input p.plans) }
-    ensures alone { IfOk result (λ p. HasOne (command_of request.now) p.input) }
+    ensures alone { IfOk result (λ p. HasOne (command_of task.now) p.input) }
     ensures cost { IfOk result (λ p.
         ArePrepared (queries_in p.input.queries) p.input.tables steps.old steps.new) }
-    ensures early { IfErr result (λ refusal. IsEarlyWithin (command_of request.now)
-        (known_to (built (command_of request.now)) (F.files shelf.old)) steps.old steps.new) }
+    ensures early { IfErr result (λ refusal. IsEarlyWithin (command_of task.now)
+        (known_to (built (command_of task.now)) (F.files shelf.old)) steps.old steps.new) }
 {
-    let input = look_at(alloc, request, shelf, keys)?;
+    let input = look_at(alloc, task, shelf, keys)?;
     let plans = plans_of(alloc, &input, steps)?;
     Ok(Planned { input, plans })
 }

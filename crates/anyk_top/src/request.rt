@@ -5,6 +5,15 @@ use input_load::MadeTables;
 /// A command with its arguments.
 #[derive(Drop)]
 pub(crate) enum Request {
+    /// A command that plans its queries.
+    Planned(Task),
+    /// Prints the answers that the certificate in the file of this name lists, if it is valid.
+    Verify(String, Words),
+}
+
+/// A command that plans its queries.
+#[derive(Drop)]
+pub(crate) enum Task {
     /// Prints the answers of a query.
     Run(Words),
     /// Prints the join tree of a query.
@@ -14,4 +23,6 @@ pub(crate) enum Request {
     Session(String, Words),
     /// Prints a summary of the answers of a query over tables that are made from a number.
     Load(Engine, MadeTables),
+    /// Prints a certificate of the answers of a query.
+    Prove(Words),
 }

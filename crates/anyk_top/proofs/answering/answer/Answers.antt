@@ -1,107 +1,41 @@
-use Rattle.std.proofs.Common.{◌≡◌, Err, rules}
-use Rattle.refusal_lines.specs.Reason.{Reason}
-use Rattle.refusal_lines.specs.Refused.{reason_of}
-use Rattle.verdict.specs.Found.{Found}
-use Rattle.verdict.specs.Made.{known_to}
-use Rattle.verdict.specs.Outcome.{Outside}
-use Rattle.verdict.specs.Words.{built}
-use Rattle.verdict.specs.Staged.{Shelved, shelved}
-use Rattle.refusal_lines.proofs.Prints.{appends-nothing}
-use Rattle.anyk_top.specs.Planned.{found_in}
-use Rattle.anyk_top.specs.Requests.{command_of}
-use Rattle.anyk_top.specs.Sides.{seen_by}
-use Rattle.anyk_top.proofs.Bounds.{bounded-early, bounded-found, prompt-early, prompt-found}
-use Rattle.anyk_top.proofs.Ends.{judged-accepts, judged-reason, judged-caused, judged-cut, printed-caused, printed-complete, printed-cut, printed-fits}
+use Rattle.std.specs.String.{string_bytes}
+use Rattle.cmd_words.specs.Said.{seen_words}
+use Rattle.anyk_top.specs.Asked.{words_of}
+use Rattle.anyk_top.proofs.Verifying.{verify-bounded, verify-prompt}
 use Rattle.anyk_top.proofs.answering.answer.Goals as goal
 
-pub returns-in_err-planned-clause-fits : goal.returns-in_err-planned-clause-fits
-returns-in_err-planned-clause-fits g c =
-    let before : Shelved = shelved g.F.Shelf c.args.shelf.now in
-    let after : Shelved = shelved g.F.Shelf c.plan_request.new.shelf in
-    let a : Reason = reason_of c.in_err-planned.field-0.0 in
-    let e : c.from_residual.result ≡ Err c.in_err-planned.field-0.0 = search rules in
-    rw e (judged-reason (command_of c.args.request.now) before after a c.in_err-planned.ensures.judged)
+pub returns-in-Planned-clause-done : goal.returns-in-Planned-clause-done
+returns-in-Planned-clause-done g c = rw c.in-Planned.is c.answer_planned.ensures.done
 
-pub returns-in_err-planned-clause-caused : goal.returns-in_err-planned-clause-caused
-returns-in_err-planned-clause-caused g c =
-    let old : Outside = seen_by g.F.Shelf g.S.Sink c.args.shelf.now c.args.out.now in
-    let new : Outside = seen_by g.F.Shelf g.S.Sink c.plan_request.new.shelf c.args.out.now in
-    let a : Reason = reason_of c.in_err-planned.field-0.0 in
-    let e : c.from_residual.result ≡ Err c.in_err-planned.field-0.0 = search rules in
-    rw e (judged-caused (command_of c.args.request.now) old new (g.F.Shelf.files c.args.shelf.now) (g.F.Shelf.files c.plan_request.new.shelf) a c.in_err-planned.ensures.judged)
+pub returns-in-Planned-clause-fits : goal.returns-in-Planned-clause-fits
+returns-in-Planned-clause-fits g c = rw c.in-Planned.is c.answer_planned.ensures.fits
 
-pub returns-in_err-planned-clause-cut : goal.returns-in_err-planned-clause-cut
-returns-in_err-planned-clause-cut g c =
-    let old : Outside = seen_by g.F.Shelf g.S.Sink c.args.shelf.now c.args.out.now in
-    let new : Outside = seen_by g.F.Shelf g.S.Sink c.plan_request.new.shelf c.args.out.now in
-    let before : Shelved = shelved g.F.Shelf c.args.shelf.now in
-    let after : Shelved = shelved g.F.Shelf c.plan_request.new.shelf in
-    let a : Reason = reason_of c.in_err-planned.field-0.0 in
-    let e : c.from_residual.result ≡ Err c.in_err-planned.field-0.0 = search rules in
-    rw e (judged-cut (command_of c.args.request.now) before after old new a c.in_err-planned.ensures.judged (appends-nothing (g.S.Sink.written c.args.out.now)))
+pub returns-in-Planned-clause-cut : goal.returns-in-Planned-clause-cut
+returns-in-Planned-clause-cut g c = rw c.in-Planned.is c.answer_planned.ensures.cut
 
-pub returns-in_err-planned-clause-bounded : goal.returns-in_err-planned-clause-bounded
-returns-in_err-planned-clause-bounded g c =
-    bounded-early (command_of c.args.request.now) (known_to (built (command_of c.args.request.now)) (g.F.Shelf.files c.args.shelf.now)) c.args.steps.now c.plan_request.new.steps c.in_err-planned.ensures.early
+pub returns-in-Planned-clause-bounded : goal.returns-in-Planned-clause-bounded
+returns-in-Planned-clause-bounded g c = rw c.in-Planned.is c.answer_planned.ensures.bounded
 
-pub returns-in_err-planned-clause-prompt : goal.returns-in_err-planned-clause-prompt
-returns-in_err-planned-clause-prompt g c =
-    prompt-early (command_of c.args.request.now) (known_to (built (command_of c.args.request.now)) (g.F.Shelf.files c.args.shelf.now)) (g.S.Sink.written c.args.out.now) (g.S.Sink.written c.args.out.now)
-    c.args.steps.now c.plan_request.new.steps c.in_err-planned.ensures.early
+pub returns-in-Planned-clause-prompt : goal.returns-in-Planned-clause-prompt
+returns-in-Planned-clause-prompt g c = rw c.in-Planned.is c.answer_planned.ensures.prompt
 
-pub returns-clause-done : goal.returns-clause-done
-returns-clause-done g c =
-    let old : Outside = seen_by g.F.Shelf g.S.Sink c.args.shelf.now c.args.out.now in
-    let new : Outside = seen_by g.F.Shelf g.S.Sink c.plan_request.new.shelf c.print_planned.new.out in
-    let before : Shelved = shelved g.F.Shelf c.args.shelf.now in
-    let after : Shelved = shelved g.F.Shelf c.plan_request.new.shelf in
-    let found : Found = found_in c.in_ok-planned.planned in
-    let accepts = judged-accepts (command_of c.args.request.now) before after found c.in_ok-planned.ensures.judged in
-    printed-complete (command_of c.args.request.now) (known_to (built (command_of c.args.request.now)) (g.F.Shelf.files c.args.shelf.now)) old new found c.print_planned.result accepts c.print_planned.ensures.printed.whole
+pub returns-in-Verify-clause-done : goal.returns-in-Verify-clause-done
+returns-in-Verify-clause-done g c = rw c.in-Verify.is (rw c.as_str.ensures.value at c.answer_verified.ensures.done)
 
-pub returns-clause-fits : goal.returns-clause-fits
-returns-clause-fits g c =
-    let old : Outside = seen_by g.F.Shelf g.S.Sink c.args.shelf.now c.args.out.now in
-    let new : Outside = seen_by g.F.Shelf g.S.Sink c.plan_request.new.shelf c.print_planned.new.out in
-    let before : Shelved = shelved g.F.Shelf c.args.shelf.now in
-    let after : Shelved = shelved g.F.Shelf c.plan_request.new.shelf in
-    let found : Found = found_in c.in_ok-planned.planned in
-    let accepts = judged-accepts (command_of c.args.request.now) before after found c.in_ok-planned.ensures.judged in
-    printed-fits (command_of c.args.request.now) (known_to (built (command_of c.args.request.now)) (g.F.Shelf.files c.args.shelf.now)) old new found accepts c.print_planned.result c.print_planned.ensures.printed.cause
+pub returns-in-Verify-clause-fits : goal.returns-in-Verify-clause-fits
+returns-in-Verify-clause-fits g c = rw c.in-Verify.is (rw c.as_str.ensures.value at c.answer_verified.ensures.fits)
 
-pub returns-clause-caused : goal.returns-clause-caused
-returns-clause-caused g c =
-    let old : Outside = seen_by g.F.Shelf g.S.Sink c.args.shelf.now c.args.out.now in
-    let new : Outside = seen_by g.F.Shelf g.S.Sink c.plan_request.new.shelf c.print_planned.new.out in
-    let before : Shelved = shelved g.F.Shelf c.args.shelf.now in
-    let after : Shelved = shelved g.F.Shelf c.plan_request.new.shelf in
-    let found : Found = found_in c.in_ok-planned.planned in
-    let accepts = judged-accepts (command_of c.args.request.now) before after found c.in_ok-planned.ensures.judged in
-    printed-caused (command_of c.args.request.now) (known_to (built (command_of c.args.request.now)) (g.F.Shelf.files c.args.shelf.now)) old new found accepts c.print_planned.result c.print_planned.ensures.printed.cause
+pub returns-in-Verify-clause-cut : goal.returns-in-Verify-clause-cut
+returns-in-Verify-clause-cut g c = rw c.in-Verify.is (rw c.as_str.ensures.value at c.answer_verified.ensures.cut)
 
-pub returns-clause-cut : goal.returns-clause-cut
-returns-clause-cut g c =
-    let old : Outside = seen_by g.F.Shelf g.S.Sink c.args.shelf.now c.args.out.now in
-    let new : Outside = seen_by g.F.Shelf g.S.Sink c.plan_request.new.shelf c.print_planned.new.out in
-    let before : Shelved = shelved g.F.Shelf c.args.shelf.now in
-    let after : Shelved = shelved g.F.Shelf c.plan_request.new.shelf in
-    let found : Found = found_in c.in_ok-planned.planned in
-    let accepts = judged-accepts (command_of c.args.request.now) before after found c.in_ok-planned.ensures.judged in
-    printed-cut (command_of c.args.request.now) (known_to (built (command_of c.args.request.now)) (g.F.Shelf.files c.args.shelf.now)) old new found accepts c.print_planned.result c.print_planned.ensures.printed.cause c.print_planned.ensures.printed.prefix
+pub returns-in-Verify-clause-bounded : goal.returns-in-Verify-clause-bounded
+returns-in-Verify-clause-bounded g c =
+    rw c.in-Verify.is
+    (verify-bounded (string_bytes c.in-Verify.proof) (words_of (seen_words c.in-Verify.words)) (g.F.Shelf.files c.args.shelf.now)
+    c.args.steps.now c.answer_verified.new.steps)
 
-pub returns-clause-bounded : goal.returns-clause-bounded
-returns-clause-bounded g c =
-    let before : Shelved = shelved g.F.Shelf c.args.shelf.now in
-    let after : Shelved = shelved g.F.Shelf c.plan_request.new.shelf in
-    let found : Found = found_in c.in_ok-planned.planned in
-    let accepts = judged-accepts (command_of c.args.request.now) before after found c.in_ok-planned.ensures.judged in
-    bounded-found (command_of c.args.request.now) (known_to (built (command_of c.args.request.now)) (g.F.Shelf.files c.args.shelf.now)) found c.args.steps.now c.print_planned.new.steps accepts (c.print_planned.ensures.bounded c.args.steps.now c.in_ok-planned.ensures.cost)
-
-pub returns-clause-prompt : goal.returns-clause-prompt
-returns-clause-prompt g c =
-    let before : Shelved = shelved g.F.Shelf c.args.shelf.now in
-    let after : Shelved = shelved g.F.Shelf c.plan_request.new.shelf in
-    let found : Found = found_in c.in_ok-planned.planned in
-    let accepts = judged-accepts (command_of c.args.request.now) before after found c.in_ok-planned.ensures.judged in
-    prompt-found (command_of c.args.request.now) (known_to (built (command_of c.args.request.now)) (g.F.Shelf.files c.args.shelf.now)) found (g.S.Sink.written c.args.out.now) (g.S.Sink.written c.print_planned.new.out)
-    c.args.steps.now c.print_planned.new.steps accepts (c.print_planned.ensures.paced c.args.steps.now c.in_ok-planned.ensures.cost)
+pub returns-in-Verify-clause-prompt : goal.returns-in-Verify-clause-prompt
+returns-in-Verify-clause-prompt g c =
+    rw c.in-Verify.is
+    (verify-prompt (string_bytes c.in-Verify.proof) (words_of (seen_words c.in-Verify.words)) (g.F.Shelf.files c.args.shelf.now)
+    (g.S.Sink.written c.args.out.now) (g.S.Sink.written c.answer_verified.new.out) c.args.steps.now c.answer_verified.new.steps)

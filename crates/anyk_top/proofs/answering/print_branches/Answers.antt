@@ -1,11 +1,13 @@
-use Rattle.std.proofs.Common.{◌<◌, ℕ, List, length, sym, subst}
+use Rattle.std.proofs.Common.{◌<◌, ℕ, length, sym, subst}
 use Rattle.cmd_words.specs.Said.{seen_words}
-use Rattle.refusal_lines.specs.Printed.{Printed}
+use Rattle.refusal_lines.specs.Printed.{PrintedSome}
+use Rattle.refusal_lines.proofs.Prints.{printed-some}
 use Rattle.refusal_lines.specs.SinkState.{state_of}
+use Rattle.proof_text.specs.Seen.{seen_proof}
 use Rattle.input_load.specs.Input.{InputData, loaded_of, queries_in}
 use Rattle.verdict.specs.Bound.{IsPaced, IsWithin}
 use Rattle.verdict.specs.Found.{found_of}
-use Rattle.verdict.specs.Output.{output}
+use Rattle.verdict.specs.Output.{HasOutput}
 use Rattle.verdict.specs.Words.{run}
 use Rattle.anyk_top.specs.Asked.{words_of}
 use Rattle.anyk_top.specs.Planned.{ArePrepared, HavePlans, shapes_of}
@@ -21,18 +23,17 @@ returns-in-Run-clause-printed g c =
       tables = c.input.inside.tables;
       best = c.input.inside.best;
       steps = c.input.inside.script.items;
+      proof = seen_proof c.input.inside.proof;
     } in
     let words = words_of (seen_words c.in-Run.words) in
     let shapes = shapes_of c.args.plans.now in
     let more : 1 < length input.queries =
     subst (λ (i : InputData). 1 < length i.queries) (sym c.input.view_is) c.requires.several in
-    let P = λ (text : List ℕ). Printed (state_of g.S.Sink c.args.out.now)
-    (state_of g.S.Sink c.print_union_run.new.out) text c.print_union_run.result in
-    let own : P (output (run words) (found_of (loaded_of input) shapes)) =
-    subst P (sym (several-output words input shapes more))
-    (rw c.as_slice-queries.ensures.value at c.print_union_run.ensures.printed) in
-    rw c.in-Run.is (subst (λ (i : InputData). P (output (run words) (found_of (loaded_of i) shapes))) c.input.view_is
-    own)
+    let P = λ (i : InputData). PrintedSome (HasOutput (run words) (found_of (loaded_of i) shapes))
+    (state_of g.S.Sink c.args.out.now) (state_of g.S.Sink c.print_union_run.new.out) c.print_union_run.result in
+    let own : P input = printed-some (HasOutput (run words) (found_of (loaded_of input) shapes)) _ _ _ _
+    (sym (several-output words input shapes more)) (rw c.as_slice-queries.ensures.value at c.print_union_run.ensures.printed) in
+    rw c.in-Run.is (subst P c.input.view_is own)
 
 pub returns-in-Run-clause-bounded : goal.returns-in-Run-clause-bounded
 returns-in-Run-clause-bounded g c =
@@ -42,6 +43,7 @@ returns-in-Run-clause-bounded g c =
       tables = c.input.inside.tables;
       best = c.input.inside.best;
       steps = c.input.inside.script.items;
+      proof = seen_proof c.input.inside.proof;
     } in
     let words = words_of (seen_words c.in-Run.words) in
     let shapes = shapes_of c.args.plans.now in
@@ -65,6 +67,7 @@ returns-in-Run-clause-paced g c =
       tables = c.input.inside.tables;
       best = c.input.inside.best;
       steps = c.input.inside.script.items;
+      proof = seen_proof c.input.inside.proof;
     } in
     let words = words_of (seen_words c.in-Run.words) in
     let shapes = shapes_of c.args.plans.now in

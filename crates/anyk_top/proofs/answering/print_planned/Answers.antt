@@ -9,3 +9,10 @@ returns-in-Sums-clause-bounded g c = rw c.in-Sums.is (rw c.as_slice.ensures.valu
 pub returns-in-Lexes-clause-bounded : goal.returns-in-Lexes-clause-bounded
 returns-in-Lexes-clause-bounded g c =
     rw c.in-Lexes.is (rw c.as_slice-in-Lexes.ensures.value at c.print_branches-in-Lexes.ensures.bounded)
+
+pub returns-in-Sums-clause-paced : goal.returns-in-Sums-clause-paced
+returns-in-Sums-clause-paced g c = rw c.in-Sums.is (rw c.as_slice.ensures.value at c.print_branches.ensures.paced)
+
+pub returns-in-Lexes-clause-paced : goal.returns-in-Lexes-clause-paced
+returns-in-Lexes-clause-paced g c =
+    rw c.in-Lexes.is (rw c.as_slice-in-Lexes.ensures.value at c.print_branches-in-Lexes.ensures.paced)

@@ -1,4 +1,4 @@
-use Rattle.std.proofs.Common.{List, Option, ℕ, subst}
+use Rattle.std.proofs.Common.{◌≡◌, ◌∙◌, List, Option, Some, None, ℕ, subst, sym}
 use Rattle.std.proofs.lemmas.Result.{IfOk-weaker}
 use Rattle.engine_choice.specs.Chosen.{rest_of}
 use Rattle.plan_build.specs.Plan.{IsPlanOf}
@@ -38,3 +38,19 @@ returns-in-Some-clause-asked g c bound tables is =
     let of_plan = subst (λ (t : List (NodeData g.row.R.Denot)). IsBestRanking t d key best.0) c.tree-tree.ensures best.1 in
     best-left d key bound tables item plan at formed (rest_of d key e) best.0 of_plan best.2)
     c.best_engine.ensures.best)
+
+pub returns-in-None-clause-ranking : goal.returns-in-None-clause-ranking
+returns-in-None-clause-ranking g c = λ none.
+    IfOk-weaker c.choose_engine.result _ _
+    (λ e ranking. (
+      ranking.0,
+      subst (λ (t : List (NodeData g.row.R.Denot)). IsTreeRanking t g.R.Rank.KEYS g.R.Rank.key ranking.0) c.tree-tree.ensures ranking.1,
+      ranking.2,
+    ))
+    c.choose_engine.ensures.ranking
+
+some-none : {A : Type 0} {item : ℕ} → ◌≡◌ {A = Option ℕ} (Some item) None → A
+some-none e = cc
+
+pub returns-in-Some-clause-ranking : goal.returns-in-Some-clause-ranking
+returns-in-Some-clause-ranking g c = λ none. some-none (sym c.in-Some.is ∙ none)

@@ -1,4 +1,4 @@
-use Rattle.std.proofs.Common.{Result, Ok, Err, IfOk, refl}
+use Rattle.std.proofs.Common.{◌≡◌, None, Result, Ok, Err, IfOk, length, refl}
 use Rattle.input_load.specs.Input.{InputData}
 use Rattle.refusal_lines.specs.declared.refusal.Refusal.{Refusal}
 use Rattle.anyk_top.proofs.looking.look_at.Goals as goal
@@ -31,3 +31,15 @@ returns-in-Load-clause-looked g c = rw c.in-Load.is (c.load_made.ensures.made, r
 
 pub returns-in-Load-clause-alone : goal.returns-in-Load-clause-alone
 returns-in-Load-clause-alone g c = rw c.in-Load.is c.load_made.ensures.alone
+
+pub returns-in-Prove-clause-looked : goal.returns-in-Prove-clause-looked
+returns-in-Prove-clause-looked g c = rw c.in-Prove.is c.look_up-in-Prove.ensures.looked
+
+both : (r : Result InputData Refusal) → IfOk r (λ input. length input.queries ≡ 1) → IfOk r (λ input. input.best ≡ None)
+    → IfOk r (λ input. (length input.queries ≡ 1) × (input.best ≡ None))
+both (Ok input) one none = (one, none)
+both (Err refusal) one none = tt
+
+pub returns-in-Prove-clause-alone : goal.returns-in-Prove-clause-alone
+returns-in-Prove-clause-alone g c =
+    rw c.in-Prove.is (both c.look_up-in-Prove.result (c.look_up-in-Prove.ensures.alone refl) (c.look_up-in-Prove.ensures.unnamed refl))

@@ -1,6 +1,7 @@
 use Rattle.std.proofs.Common.{◌≡◌, ◌<◌, ◌∷◌, [], ◌∙◌, Err, Ok, length, sym, subst, ap, rules, arith}
 use Rattle.plan_build.specs.RankedPlan.{fixed_key}
 use Rattle.query_bind.specs.Weighed.{BoundQuery}
+use Rattle.proof_text.specs.Seen.{seen_proof}
 use Rattle.refusal_lines.specs.Refused.{reason_of}
 use Rattle.input_load.specs.Input.{InputData, loaded_of}
 use Rattle.verdict.specs.Found.{found_of}
@@ -19,6 +20,7 @@ returns-in_err-plan-clause-shaped g c =
       tables = c.input.inside.tables;
       best = c.input.inside.best;
       steps = c.input.inside.script.items;
+      proof = seen_proof c.input.inside.proof;
     } in
     let query = c.index-queries-0.result in
     let only = sym c.as_slice-queries.ensures.value ∙ only-one c.as_slice-queries.result.now query
@@ -35,6 +37,7 @@ returns-then-queries-eq1-clause-shaped g c =
       tables = c.input.inside.tables;
       best = c.input.inside.best;
       steps = c.input.inside.script.items;
+      proof = seen_proof c.input.inside.proof;
     } in
     let query = c.index-queries-0.result in
     let only = sym c.as_slice-queries.ensures.value ∙ only-one c.as_slice-queries.result.now query
@@ -63,6 +66,7 @@ returns-in_err-plans-clause-shaped g c =
       tables = c.input.inside.tables;
       best = c.input.inside.best;
       steps = c.input.inside.script.items;
+      proof = seen_proof c.input.inside.proof;
     } in
     let refusal = reason_of c.in_err-plans.field-0.0 in
     let some = c.input.invariant.some in
@@ -91,6 +95,7 @@ returns-in_err-plans-2-clause-shaped g c =
       tables = c.input.inside.tables;
       best = c.input.inside.best;
       steps = c.input.inside.script.items;
+      proof = seen_proof c.input.inside.proof;
     } in
     let refusal = reason_of c.in_err-plans-2.field-0.0 in
     let some = c.input.invariant.some in
@@ -107,6 +112,7 @@ returns-in_ok-plans-clause-shaped g c =
       tables = c.input.inside.tables;
       best = c.input.inside.best;
       steps = c.input.inside.script.items;
+      proof = seen_proof c.input.inside.proof;
     } in
     let plans = c.in_ok-plans.plans.items in
     let have : HavePlans 1 (fixed_key 1) input.tables input.queries plans =
@@ -122,6 +128,7 @@ returns-in_ok-plans-clause-plans g c =
       tables = c.input.inside.tables;
       best = c.input.inside.best;
       steps = c.input.inside.script.items;
+      proof = seen_proof c.input.inside.proof;
     } in
     let plans = c.in_ok-plans.plans.items in
     let have : HavePlans 1 (fixed_key 1) input.tables input.queries plans =
@@ -140,6 +147,7 @@ returns-in_ok-plans-2-clause-shaped g c =
       tables = c.input.inside.tables;
       best = c.input.inside.best;
       steps = c.input.inside.script.items;
+      proof = seen_proof c.input.inside.proof;
     } in
     let plans = c.in_ok-plans-2.plans.items in
     let have : HavePlans 8 (fixed_key 8) input.tables input.queries plans =
@@ -155,6 +163,7 @@ returns-in_ok-plans-2-clause-plans g c =
       tables = c.input.inside.tables;
       best = c.input.inside.best;
       steps = c.input.inside.script.items;
+      proof = seen_proof c.input.inside.proof;
     } in
     let plans = c.in_ok-plans-2.plans.items in
     let have : HavePlans 8 (fixed_key 8) input.tables input.queries plans =

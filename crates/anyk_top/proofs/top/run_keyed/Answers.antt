@@ -6,7 +6,7 @@ use Rattle.anyk_top.proofs.Bounds.{bounded-still, prompt-still}
 use Rattle.verdict.specs.Made.{known_to}
 use Rattle.verdict.specs.Outcome.{Outside}
 use Rattle.verdict.specs.Words.{built}
-use Rattle.anyk_top.specs.Requests.{command_of}
+use Rattle.anyk_top.specs.Requests.{asked_by}
 use Rattle.anyk_top.specs.Sides.{seen_by}
 use Rattle.anyk_top.proofs.Ends.{early-outcome, built-outcome}
 use Rattle.refusal_lines.specs.SinkState.{state_of}
@@ -18,7 +18,7 @@ returns-in-Ok-clause-outcome g c =
     let old : Outside = seen_by g.F.Shelf g.S.Sink c.args.shelf.now c.args.out.now in
     let new : Outside = seen_by g.F.Shelf g.S.Sink c.answer.new.shelf c.answer.new.out in
     rw c.in-Ok.ensures.built
-    (built-outcome (command_of c.in-Ok.request) (known_to (built (command_of c.in-Ok.request)) (g.F.Shelf.files c.args.shelf.now)) old new
+    (built-outcome (asked_by c.in-Ok.request) (known_to (built (asked_by c.in-Ok.request)) (g.F.Shelf.files c.args.shelf.now)) old new
     (state_of g.E.Sink c.args.err.now) (state_of g.E.Sink c.finish.new.err)
     c.answer.result c.finish.result c.answer.ensures.done c.answer.ensures.fits c.answer.ensures.caused c.answer.ensures.cut c.finish.ensures)
 

@@ -1,0 +1,58 @@
+//! Printing the header and the answers of a list, each by one write.
+ghost use Rattle.std.specs.Prelude.{length, map, take};
+ghost use Rattle.std.specs.List.{AllByRecursion, flat_map};
+ghost use Rattle.anyk_model.specs.Output.{line_text, output_of};
+ghost use Rattle.anyk_model.specs.Query.{IsCombination, row_counts};
+ghost use Rattle.answer_print.specs.Shown.{style_shown};
+ghost use Rattle.query_bind.specs.Weighed.{Fits};
+ghost use Rattle.refusal_lines.specs.Printed.{Printed};
+ghost use Rattle.refusal_lines.specs.SinkState.{state_of};
+
+use answer_print::{Style, print_answer, print_header};
+use csv_tables::{RecordWriter, Tables};
+use outer_io::Sink;
+use query_bind::Query;
+use refusal_lines::Refusal;
+use std::alloc::Global;
+
+/// Prints the header, and then the record of each answer. An answer is a row for each item, from 1.
+/// `NoMemory` if memory is refused, and `WriteFault` if a write failed.
+pub fn print_listed<'a, S: Sink>(
+    alloc: Global,
+    query: &Query,
+    tables: &Tables,
+    style: &Style<'_>,
+    answers: &[[u32; 16]],
+    out: &mut S,
+) -> Result<(), Refusal<'a>>
+    requires fits { Fits query.now tables.now }
+    requires rows { AllByRecursion (λ rows. IsCombination (row_counts query.now.query.items tables.now)
+        (take (length query.now.query.items) rows)) answers.now }
+    ensures { Printed (state_of S.Sink out.old) (state_of S.Sink out.new)
+        (output_of query.now.query tables.now (style_shown style.now) (map (take (length query.now.query.items)) answers.now)) result }
+{
+    print_header(alloc, query, tables, style, out)?;
+    print_records(alloc, query, tables, style, answers, out)
+}
+
+// Prints the record of each answer.
+fn print_records<'a, S: Sink>(
+    alloc: Global,
+    query: &Query,
+    tables: &Tables,
+    style: &Style<'_>,
+    answers: &[[u32; 16]],
+    out: &mut S,
+) -> Result<(), Refusal<'a>>
+    requires fits { Fits query.now tables.now }
+    requires rows { AllByRecursion (λ rows. IsCombination (row_counts query.now.query.items tables.now)
+        (take (length query.now.query.items) rows)) answers.now }
+    ensures { Printed (state_of S.Sink out.old) (state_of S.Sink out.new)
+        (flat_map (line_text query.now.query tables.now (style_shown style.now)) (map (take (length query.now.query.items)) answers.now)) result }
+{
+    let mut records = RecordWriter::new(alloc);
+    for answer in answers {
+        print_answer(alloc, &mut records, query, tables, style, answer, out)?;
+    }
+    Ok(())
+}
