@@ -22,6 +22,7 @@ row_said = record {
   ranks = false;
   rows = false;
   script = None;
+  proof = None;
   best_of = None;
   query = codes "q.sql";
   tables = (codes "R", codes "R.csv") ∷ (codes "S", codes "S.csv") ∷ [];

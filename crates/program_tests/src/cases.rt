@@ -213,7 +213,7 @@ fn holds_by_recursion(alloc: Global, case: &Case<'_>) -> Result<bool, AllocError
 
 // Whether the command has engines to choose from, and the words name none.
 fn leaves_engine_open(words: &str) -> bool {
-    !words.starts_with("plan ") && !words.contains("--engine")
+    !words.starts_with("plan ") && !words.starts_with("verify ") && !words.contains("--engine")
 }
 
 /// Whether the case does what it says, with each engine.

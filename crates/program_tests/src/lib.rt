@@ -20,6 +20,8 @@ mod loads;
 #[cfg(test)]
 mod plans;
 #[cfg(test)]
+mod proofs;
+#[cfg(test)]
 mod refusals;
 #[cfg(test)]
 mod sessions;

@@ -156,6 +156,47 @@ const ON_A_BRANCH: &[Row] = &[
     ),
 ];
 
+const ON_A_CERTIFICATE: &[Row] = &[
+    (Refusal::BadProofHeader, 14, "anyk: proof: bad header\n"),
+    (
+        Refusal::BadProofLine(2),
+        14,
+        "anyk: proof line 2: bad line\n",
+    ),
+    (
+        Refusal::BadBound(3),
+        14,
+        "anyk: proof line 3: no solution\n",
+    ),
+    (
+        Refusal::BoundTwice(4),
+        14,
+        "anyk: proof line 4: bound twice\n",
+    ),
+    (
+        Refusal::WeakBound(16),
+        14,
+        "anyk: proof node 16: bound missing or too high\n",
+    ),
+    (Refusal::BadAnswer(5), 14, "anyk: proof line 5: no answer\n"),
+    (
+        Refusal::AnswerOrder(67108864),
+        14,
+        "anyk: proof line 67108864: not in order\n",
+    ),
+    (
+        Refusal::AnswerCount,
+        14,
+        "anyk: proof: wrong number of answers\n",
+    ),
+    (Refusal::MissedAnswer, 14, "anyk: proof: unlisted answer\n"),
+];
+
+#[test]
+fn writes_lines_on_a_certificate(rt: HostRuntime) {
+    assert_eq!(rt; first_failing(rt.alloc(), ON_A_CERTIFICATE), None);
+}
+
 #[test]
 fn writes_lines_on_a_branch(rt: HostRuntime) {
     assert_eq!(rt; first_failing(rt.alloc(), ON_A_BRANCH), None);

@@ -17,6 +17,7 @@ struct Said {
     ranks: bool,
     rows: bool,
     script: Option<&'static str>,
+    proof: Option<&'static str>,
     best_of: Option<&'static str>,
     query: &'static str,
     tables: &'static [(&'static str, &'static str)],
@@ -29,6 +30,8 @@ enum Read {
     Session(Said),
     Plan(Said),
     Load(Engine, u32, u32),
+    Prove(Said),
+    Verify(Said),
 }
 
 fn is_text(text: &Option<String>, wanted: Option<&str>) -> bool {
@@ -60,6 +63,7 @@ fn say(words: &Words, said: &Said) -> bool {
         && words.rows == said.rows
         && words.query.as_str() == said.query
         && is_text(&words.script, said.script)
+        && is_text(&words.proof, said.proof)
         && is_text(&words.best_of, said.best_of)
         && are_tables(words, said.tables)
 }
@@ -69,6 +73,8 @@ fn is_command(command: &Command, read: &Read) -> bool {
         (Command::Run(words), Read::Run(said)) => say(words, said),
         (Command::Session(words), Read::Session(said)) => say(words, said),
         (Command::Plan(words), Read::Plan(said)) => say(words, said),
+        (Command::Prove(words), Read::Prove(said)) => say(words, said),
+        (Command::Verify(words), Read::Verify(said)) => say(words, said),
         (Command::Load(engine, number, rows), Read::Load(wanted, first, count)) => {
             engine == wanted && number == first && rows == count
         }
@@ -84,6 +90,7 @@ const PLAIN: Said = Said {
     ranks: false,
     rows: false,
     script: None,
+    proof: None,
     best_of: None,
     query: "q.sql",
     tables: &[("R", "a")],
@@ -160,6 +167,29 @@ const COMMANDS: &[Line] = &[
             "rec",
         ],
         Read::Load(Engine::Rec, 2147483647, 100000),
+    ),
+    (
+        &["prove", "q.sql", "--engine", "rec", "R=a"],
+        Read::Prove(Said {
+            engine: Engine::Rec,
+            ..PLAIN
+        }),
+    ),
+    (
+        &[
+            "verify",
+            "--rows",
+            "q.sql",
+            "R=a",
+            "--proof=p.txt",
+            "--ranks",
+        ],
+        Read::Verify(Said {
+            ranks: true,
+            rows: true,
+            proof: Some("p.txt"),
+            ..PLAIN
+        }),
     ),
 ];
 
@@ -239,6 +269,26 @@ const REFUSED: &[&[&str]] = &[
     &["plan", "--ranks", "q.sql", "R=a"],
     &["plan", "--engine", "rec", "q.sql", "R=a"],
     &["plan", "--best-of", "R", "q.sql", "R=a"],
+    &["run", "--proof", "p.txt", "q.sql", "R=a"],
+    &[
+        "session", "--script", "s.txt", "--proof", "p.txt", "q.sql", "R=a",
+    ],
+    &["prove", "--ranks", "q.sql", "R=a"],
+    &["prove", "--best-of", "R", "q.sql", "R=a"],
+    &["prove", "--proof", "p.txt", "q.sql", "R=a"],
+    &["verify", "q.sql", "R=a"],
+    &[
+        "verify", "--proof", "p.txt", "--engine", "rec", "q.sql", "R=a",
+    ],
+    &[
+        "verify",
+        "--proof",
+        "p.txt",
+        "--best-of",
+        "R",
+        "q.sql",
+        "R=a",
+    ],
     &["load", "--number", "5"],
     &["load", "--number", "5", "--rows", "5", "--best-of", "R"],
     &["load", "--number", "2147483648", "--rows", "5"],
