@@ -18,7 +18,7 @@ from preloaded import Failing, Skipped, first_inputs, in_turn, other_inputs
 
 MOST = 100000
 # The statuses of an input that is cut off.
-OF_CUT = (0, 2, 3, 4, 5, 6, 7, 8)
+OF_CUT = (0, 2, 3, 4, 5, 6, 7, 8, 14)
 
 
 def is_whole(one, output, status, error):

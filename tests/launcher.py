@@ -678,7 +678,7 @@ def test_estimate(house):
 
 
 def test_help(house):
-    for words in (["help"], ["--help"], ["-h"], ["help", "run"], ["help", "plan"], ["help", "picture"], ["help", "session"], ["help", "load"], ["help", "install"]):
+    for words in (["help"], ["--help"], ["-h"], ["help", "run"], ["help", "plan"], ["help", "picture"], ["help", "session"], ["help", "prove"], ["help", "verify"], ["help", "load"], ["help", "install"]):
         status, output, error = house.call(*words)
         same((words, status, error), (words, 0, ""))
         page = words[1] if len(words) > 1 else "anyk"
@@ -699,6 +699,8 @@ def test_help(house):
 
 TRAINS = read(f"{TOP}/docs/using/trains.csv")
 HOTELS = read(f"{TOP}/docs/using/hotels.csv")
+# The bounds of a certificate for stay.sql.
+BOUNDS = "anyk-proof 1\nbound 1 6 1\nbound 2 1\nbound 2 3\nbound 2 4\nbound 2 5\n"
 FILES = {
     "t.csv": TRAINS, "h.csv": HOTELS, "none.csv": "", "blank.csv": "\n\n", "twice.csv": "a,b,a\n1,2,3\n", "cut.csv": "a,b\n1,2\n\n1\n",
     "bad.csv": 'city,"a\nb",n\nx,y,1\n"x\nx",y,2\nx,\x1b[31my,12.5\n', "semi.csv": "city;price\nOslo;3\n", "big.csv": f"n\n{2**127 - 1}\n",
@@ -716,6 +718,9 @@ FILES = {
     "long.sql": "select " + "a" * 300 + ", ? from trains", "union.sql": "select n from bad order by n union all select n from bad",
     "uneven.sql": "select train from trains union all select city, hotel from hotels", "even.sql": "select train from trains union all select hotel from hotels",
     "second.sql": "select train from trains order by price union all select n from bad order by n",
+    "p0.txt": "", "p1.txt": "anyk-proof 1\nbound 1 6 1\nbound  2 1\nend\n", "p2.txt": "anyk-proof 1\nbound 3 1\nend\n", "p3.txt": "anyk-proof 1\nend\n",
+    "p4.txt": "anyk-proof 1\nbound 2 1\nbound 2 2\nend\n", "p5.txt": f"{BOUNDS}answer 6 3\nend\n", "p6.txt": f"{BOUNDS}answer 1 1\nanswer 6 1\nend\n",
+    "p7.txt": f"{BOUNDS}answer 6 1\nmore\n", "p8.txt": f"{BOUNDS}answer 6 1\nend\n",
     "s0.txt": "open a\n", "s1.txt": "open a\nnext a 1\nnext  a 1\n", "s2.txt": "open first\nopen second\nclose second\nnext frist 1\n", "s3.txt": "# one\nopen a\nopen a\n",
 }
 WORDS = ["stay.sql", "trains=t.csv", "hotels=h.csv"]
@@ -740,6 +745,17 @@ REFUSALS = [
     (["plan", "--best-of", "t", *WORDS], 2, "usage", ["--best-of is not an option of plan"]),
     (["run", *WORDS, "trains=h.csv", "x"], 2, "usage", ["the table trains is given twice", "x is not of the form TABLE=FILE"]),
     (["session", *WORDS], 2, "usage", ["--script is missing", "usage: anyk session"]),
+    (["verify", *WORDS], 2, "usage", ["--proof is missing", "usage: anyk verify"]),
+    (["prove", "--rank", *WORDS], 2, "usage", ["--rank is not an option of prove", "usage: anyk prove"]),
+    (["verify", "--proof", "p1.txt", *WORDS], 14, "proof line 3: bad line", ["line 3 of p1.txt:\n", "    bound  2 1\n"]),
+    (["verify", "--proof=p2.txt", *WORDS], 14, "proof line 2: no solution", ["line 2 of p2.txt:\n", "    bound 3 1\n"]),
+    (["verify", *WORDS, "--proof", "p0.txt"], 14, "proof: bad header", []),
+    (["verify", *WORDS, "--proof", "p3.txt"], 14, "proof node 2: bound missing or too high", []),
+    (["verify", *WORDS, "--proof", "p4.txt"], 14, "proof line 3: bound twice", ["line 3 of p4.txt:\n", "    bound 2 2\n"]),
+    (["verify", *WORDS, "--proof", "p5.txt"], 14, "proof line 7: no answer", ["line 7 of p5.txt:\n", "    answer 6 3\n"]),
+    (["verify", *WORDS, "--proof", "p6.txt"], 14, "proof line 8: not in order", ["line 8 of p6.txt:\n", "    answer 6 1\n"]),
+    (["verify", *WORDS, "--proof", "p7.txt"], 14, "proof: wrong number of answers", []),
+    (["verify", *WORDS, "--proof", "p8.txt"], 14, "proof: unlisted answer", []),
     (["load", "--rows", "3"], 2, "usage", ["--number is missing", "usage: anyk load"]),
     (["plan", "--rows", *WORDS], 2, "usage", ["--rows is not an option of plan"]),
     (["picture", "--dots", *WORDS], 2, "usage", ["--dots is not an option of picture; perhaps --dot is meant", "usage: anyk picture"]),
@@ -1068,14 +1084,16 @@ def test_completion(house):
         complete_at anyk picture stay
         complete_at anyk picture stay.sql trains = tra
         complete_at anyk pic
+        complete_at anyk verify --p
+        complete_at anyk verify --proof first
     """
     ran_by = subprocess.run(["bash", "-c", script], capture_output=True, text=True)
     lines = ran_by.stdout.splitlines()
     same((ran_by.returncode, ran_by.stderr), (0, ""))
     check("stay.sql" in lines[7] and "trains.csv" in lines[7], lines[7])
     same(lines[:7] + lines[8:], ["run", "--engine --ranks --rows --best-of", "--script", "part rec", "rec", "stay.sql", "trains.csv",
-                                 "--engine --number --rows", "plan picture", "", "--dot", "stay.sql", "trains.csv",
-                                 "picture"])
+                                 "--engine --number --rows", "plan picture prove", "", "--dot", "stay.sql", "trains.csv",
+                                 "picture", "--proof", "first_two.sql"])
     for shell, file in (("zsh", "_anyk"), ("fish", "anyk.fish"), ("bash", "anyk.bash")):
         if shutil.which(shell):
             tried_by = subprocess.run([shell, "-n", f"{TOP}/tools/completions/{file}"], **house.how(capture_output=True))

@@ -22,6 +22,7 @@ STARRED = {"q.sql": STAR + "\n", "C.csv": "k\nz\n", "L1.csv": "k,v,w\nz,1,0\nz,2
 OVER_TWO = ["q.sql", "R=R.csv", "S=S.csv"]
 OVER_STAR = ["q.sql", "C=C.csv", "L1=L1.csv", "L2=L2.csv", "L3=L3.csv"]
 JOINED = "a,c\n2,q\n3,q\n3,p\n1,q\n1,p\n"
+PROVED = "anyk-proof 1\nbound 1 2 2\nbound 2 2\nbound 2 3\nanswer 2 2\nanswer 3 3\nanswer 3 1\nanswer 1 3\nanswer 1 1\nend\n"
 TOLD = "cursor,a,c\na,2,q\na,3,q\nb,3,p\na,3,p\na,1,q\nb,2,q\nb,3,q\nb,3,p\na,1,p\na\n"
 
 
@@ -48,7 +49,7 @@ def first_inputs():
 
 
 def other_inputs():
-    """Each other command and option, two queries in one ranking, keys of both directions, constants, quotes, and refusals."""
+    """Each other command and option, two queries in one ranking, certificates, keys of both directions, constants, quotes, and refusals."""
     two_keys = {**TWO, "q.sql": "select * from R join S on R.b = S.b where S.c = 'q' order by R.w desc, S.w limit 2;\n"}
     quoted = {"q.sql": 'SELECT a."to", b."to" FROM f a JOIN f b ON a."to" = b.src WHERE a.src = \'Oslo\' ORDER BY a.p + b.p LIMIT 2;',
               "f.csv": 'src,to,p\r\nOslo,Paris,120\r\nParis,Lima,700\r\nParis,"New York, ""NY""",350\r\n'}
@@ -64,6 +65,8 @@ def other_inputs():
         *both("session with ranks", {**TWO, "s.txt": "open a\nnext a 1\nclose a\n"}, ["session", "--ranks", "--rows", "--script=s.txt"],
               OVER_TWO, "cursor,a,c,rank1,row1,row2\na,2,q,3,2,2\n"),
         *both("load", {}, ["load", "--number", "1", "--rows", "2"], [], "rows 8\nanswers 16\nfirst 1080\nlast 2695\n"),
+        *both("prove", TWO, ["prove"], OVER_TWO, PROVED),
+        Input("verify", {**TWO, "p.txt": PROVED}, ["verify", "--proof", "p.txt", "--ranks", "--rows", *OVER_TWO], shown),
         Input("plan", TWO, ["plan", *OVER_TWO], "node 1 parent 0 rows 3 item R\nnode 2 parent 1 rows 3 item S\ntotal 12\n"),
     ]
     triangle = {"q.sql": "select x.a from R x, R y, R z where x.a = y.b and y.a = z.b and z.a = x.b", "R.csv": R}
@@ -75,6 +78,10 @@ def other_inputs():
         Input("cyclic", triangle, ["run", "q.sql", "R=R.csv"], "", 6, "anyk: cyclic query: items 1 2 3\n"),
         Input("another shape", {**TWO, "q.sql": JOIN + " union all select R.a from R order by R.w"}, ["run", *OVER_TWO], "", 15,
               "anyk: branch 2: shape differs\n"),
+        Input("no certificate", {**TWO, "p.txt": "anyk-proof 1\nends\n"}, ["verify", "--proof", "p.txt", *OVER_TWO], "", 14,
+              "anyk: proof line 2: bad line\n"),
+        Input("unlisted answer", {**TWO, "p.txt": PROVED.replace("answer 3 3\n", "")}, ["verify", "--proof", "p.txt", *OVER_TWO], "", 14,
+              "anyk: proof: unlisted answer\n"),
         Input("no file", TWO, ["run", "q.sql", "R=R.csv", "S=none.csv"], "", 9, "anyk: file none.csv: not found\n"),
     ]
     return inputs

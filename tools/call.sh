@@ -11,7 +11,7 @@ answer_help() {
         1:help | 1:--help | 1:-h) page=anyk ;;
         2:help)
             case $2 in
-                run | plan | picture | session | load | install) page=$2 ;;
+                run | plan | picture | session | prove | verify | load | install) page=$2 ;;
             esac
             ;;
     esac
@@ -71,7 +71,7 @@ run_program() {
     status=$?
     exec {output}>&-
     [ -z "$line" ] || printf '%s\n' "$line" >&2
-    if [ "$status" -ge 2 ] && [ "$status" -le 12 ] || [ "$status" -eq 15 ]; then
+    if [ "$status" -ge 2 ] && [ "$status" -le 12 ] || [ "$status" -eq 14 ] || [ "$status" -eq 15 ]; then
         python3 -ISB "$tools/hints.py" "$status" "$line" "$@" >&2 2> /dev/null
     fi
     exit "$status"

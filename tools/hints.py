@@ -17,9 +17,10 @@ import sys
 HERE = os.path.dirname(os.path.realpath(__file__))
 # Beside the sources, and where the program is installed.
 PAGES = (f"{HERE}/../docs/USING.md", f"{HERE}/../doc/anyk/USING.md")
-COMMANDS = ("run", "session", "plan", "picture", "load")
+COMMANDS = ("run", "session", "plan", "picture", "prove", "verify", "load")
 OPTIONS = {"run": ("--engine", "--ranks", "--rows", "--best-of"), "session": ("--engine", "--ranks", "--rows", "--best-of", "--script"),
-           "plan": (), "picture": ("--dot",), "load": ("--engine", "--number", "--rows")}
+           "plan": (), "picture": ("--dot",), "prove": ("--engine",), "verify": ("--ranks", "--rows", "--proof"),
+           "load": ("--engine", "--number", "--rows")}
 KEYWORDS = {b"select", b"from", b"where", b"and", b"order", b"by", b"limit", b"asc", b"desc", b"as", b"join", b"inner", b"on",
             b"union", b"all"}
 # What other dialects have and this one has not, by the token where it shows.
@@ -131,13 +132,14 @@ class Call:
                 self.plain.append(word)
             elif equals:
                 self.options.append((name, value))
-            elif name in ("--engine", "--script", "--best-of", "--number") or (name == "--rows" and self.command == "load"):
+            elif name in ("--engine", "--script", "--proof", "--best-of", "--number") or (name == "--rows" and self.command == "load"):
                 self.options.append((name, rest.pop(0) if rest else None))
             else:
                 self.options.append((name, None))
         self.query = self.plain[0] if self.plain else None
         self.tables = [tuple(it.partition("=")[::2]) for it in self.plain[1:] if "=" in it]
         self.script = dict(self.options).get("--script")
+        self.proof = dict(self.options).get("--proof")
 
     def file_of(self, table):
         return next((file for name, file in self.tables if name == table), None)
@@ -408,11 +410,19 @@ def on_many_columns(call, query, name):
     return [f"the header of {shown(call.file_of(name))} has {len(header_of(call.file_of(name)))}"]
 
 
-def script_line(call, number):
-    """The lines of the script up to the number, and what shows the last of them."""
-    rows = (bytes_of(call.script) or b"").decode(errors="surrogateescape").split("\n")
+def line_of(file, number):
+    """The lines of the script or of the certificate up to the number, and what shows the last of them."""
+    rows = (bytes_of(file) or b"").decode(errors="surrogateescape").split("\n")
     rows = [it.removesuffix("\r") for it in rows[:number]]
-    return rows, [f"line {number} of {shown(call.script)}:", f"    {shown(rows[number - 1])}"]
+    return rows, [f"line {number} of {shown(file)}:", f"    {shown(rows[number - 1])}"]
+
+
+def script_line(call, number):
+    return line_of(call.script, number)
+
+
+def on_proof_line(call, query, number):
+    return line_of(call.proof, number)[1] if call.proof else []
 
 
 def cursors_before(rows):
@@ -499,7 +509,7 @@ def wrong_words(call):
         elif name == "--best-of" and value is None:
             lines.append("--best-of takes the alias of an item")
         seen.add(name)
-    wanted = {"session": ("--script",), "load": ("--number", "--rows")}.get(call.command, ())
+    wanted = {"session": ("--script",), "verify": ("--proof",), "load": ("--number", "--rows")}.get(call.command, ())
     lines += [f"{it} is missing" for it in wanted if it not in seen]
     lines += [f"{shown(it)} is not an option" for it in call.plain if it.startswith("-") and len(it) > 1]
     if call.command == "load":
@@ -525,6 +535,7 @@ TELLERS = {
     "script line {n}: unknown cursor": on_unknown_cursor,
     "script line {n}: cursor exists": on_cursor_exists,
     "script line {n}: more than 64 cursors": on_many_cursors,
+    **{f"proof line {{n}}: {it}": on_proof_line for it in ("bad line", "no solution", "bound twice", "no answer", "not in order")},
     "byte {at}: unknown table": on_unknown_table,
     "item {i}: alias used twice": on_alias_twice,
     "byte {at}: unknown alias": on_unknown_alias,

@@ -5,7 +5,7 @@ _anyk() {
     COMPREPLY=()
     compopt -o filenames 2> /dev/null
     if [ "$COMP_CWORD" -eq 1 ]; then
-        mapfile -t COMPREPLY < <(compgen -W 'run session plan picture load help install' -- "$word")
+        mapfile -t COMPREPLY < <(compgen -W 'run session plan picture prove verify load help install' -- "$word")
         return
     fi
     # A word with = in it comes in up to three parts.
@@ -17,7 +17,7 @@ _anyk() {
             mapfile -t COMPREPLY < <(compgen -W 'part rec' -- "$word")
             return
             ;;
-        --script | '=')
+        --script | --proof | '=')
             case ${COMP_WORDS[COMP_CWORD - 2]-} in
                 --engine) mapfile -t COMPREPLY < <(compgen -W 'part rec' -- "$word") ;;
                 --best-of) ;;
@@ -31,9 +31,11 @@ _anyk() {
         run) options='--engine --ranks --rows --best-of' ;;
         session) options='--engine --ranks --rows --best-of --script' ;;
         picture) options='--dot' ;;
+        prove) options='--engine' ;;
+        verify) options='--ranks --rows --proof' ;;
         load) options='--engine --number --rows' ;;
         help)
-            mapfile -t COMPREPLY < <(compgen -W 'run session plan picture load install' -- "$word")
+            mapfile -t COMPREPLY < <(compgen -W 'run session plan picture prove verify load install' -- "$word")
             return
             ;;
         install)
@@ -43,7 +45,7 @@ _anyk() {
     esac
     case $command:$word in
         *:-*) mapfile -t COMPREPLY < <(compgen -W "$options" -- "$word") ;;
-        run:* | session:* | plan:* | picture:*) mapfile -t COMPREPLY < <(compgen -f -- "$word") ;;
+        run:* | session:* | plan:* | picture:* | prove:* | verify:*) mapfile -t COMPREPLY < <(compgen -f -- "$word") ;;
         load:*) mapfile -t COMPREPLY < <(compgen -W "$options" -- "$word") ;;
     esac
 }
