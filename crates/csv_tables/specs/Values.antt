@@ -44,7 +44,8 @@ with_tables texts (table ∷ tables) = with_tables (with_rows texts table.rows) 
 
 -- the number of a field: its own, or else the one of its place among the texts
 abbrev pub number_in : List (List ℕ) → List ℕ → ℕ
-number_in texts field = unwrap_or (own_number field) (first_text + position_or_len (bytes_eq field) texts)
+number_in texts field = unwrap_or (own_number field)
+    (first_text + position_or_len (bytes_eq field) texts)
 
 -- the number of a field among those of tables, whose texts are in the order in which they first occur
 abbrev pub number_of : List Table → List ℕ → ℕ

@@ -29,7 +29,8 @@ pub(crate) fn own_number(field: &[u8]) -> Option<u32>
 /// The number that a few digits write, if all of these bytes are digits.
 fn digits_value(bytes: &[u8]) -> Option<u64>
     requires { length bytes.now ≤ 10 }
-    ensures { MatchOption result (AllDigits 10 bytes.now → ⊥) (λ n. AllDigits 10 bytes.now × (n ≡ digits_value 10 bytes.now)) }
+    ensures { MatchOption result (AllDigits 10 bytes.now → ⊥)
+        (λ n. AllDigits 10 bytes.now × (n ≡ digits_value 10 bytes.now)) }
 {
     let mut number: u64 = 0;
     for byte in bytes {

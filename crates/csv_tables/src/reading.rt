@@ -90,7 +90,8 @@ fn read_rows(
     ensures sound { OnOk result (rows_flaw width 1 records.old ≡ None) }
     ensures count { IfOk result (λ rows. rows.count ≡ length records.old) }
     ensures fields { IfOk result (λ rows. rows.fields ≡ fields_in records.old) }
-    ensures cells { IfOk result (λ rows. StandsFor texts.new rows.cells.items (fields_in records.old)) }
+    ensures cells { IfOk result
+        (λ rows. StandsFor texts.new rows.cells.items (fields_in records.old)) }
     ensures texts { OnOk result (texts.new ≡ with_rows texts.old records.old) }
     ensures fault { IfErr result (Tells (rows_flaw width 1 records.old)) }
     ensures err { OnErr result (Extends texts.old texts.new) }
@@ -121,7 +122,8 @@ pub(crate) fn read_table(
     ensures sound { OnOk result (flaw_of (records_of bytes.now) ≡ None) }
     ensures shown { IfOk result (λ t. shown t ≡ table_of (records_of bytes.now)) }
     ensures stored { IfOk result (IsStored texts.new) }
-    ensures texts { OnOk result (texts.new ≡ with_rows texts.old (table_of (records_of bytes.now)).rows) }
+    ensures texts { OnOk result
+        (texts.new ≡ with_rows texts.old (table_of (records_of bytes.now)).rows) }
     ensures fault { IfErr result (Tells (flaw_of (records_of bytes.now))) }
     ensures err { OnErr result (Extends texts.old texts.new) }
 {

@@ -41,7 +41,8 @@ impl<'a> Records<'a> {
 
     /// Reads the next record into `row`, and returns whether there was one. `NoMemory` if memory is refused.
     pub(crate) fn next(&mut self, row: &mut ByteRecord) -> Result<bool, NoMemory>
-        ensures { IfOk result (λ found. MatchBool found (self.old ≡ fields_of row.new ∷ self.new) (self.old ≡ [])) }
+        ensures { IfOk result
+            (λ found. MatchBool found (self.old ≡ fields_of row.new ∷ self.new) (self.old ≡ [])) }
     {
         let Ok(found) = self.reader.read_byte_record(row) else {
             return Err(NoMemory);

@@ -137,7 +137,8 @@ impl Tables {
         requires first { 1 ≤ row }
         requires row { row ≤ length (table_at self.now table).rows }
         requires column { column < length (table_at self.now table).names }
-        ensures { result ≡ number_of self.now (field_at (table_at self.now table) (row - 1) column) }
+        ensures { result ≡ number_of self.now
+            (field_at (table_at self.now table) (row - 1) column) }
     {
         let stored = &self.tables[table as usize];
         stored.rows.cells[(row as usize - 1) * stored.names.len() + column as usize]
@@ -179,7 +180,9 @@ impl Tables {
 /// The numbers that `Tables::value` returns tell fields apart: two fields with the same number have the same bytes.
 /// Rows count from 0 here.
 pub fn numbers_tell()
-    ensures { (tables : List Table) (t row column : ℕ) (text : List ℕ) → t < length tables → row < length (table_at tables t).rows
+    ensures { (tables : List Table) (t row column : ℕ) (text : List ℕ) → t < length tables
+        → row < length (table_at tables t).rows
         → column < length (get_or (table_at tables t).rows row [])
-        → number_of tables (field_at (table_at tables t) row column) ≡ number_of tables text → field_at (table_at tables t) row column ≡ text }
+        → number_of tables (field_at (table_at tables t) row column) ≡ number_of tables text
+        → field_at (table_at tables t) row column ≡ text }
 {}

@@ -83,7 +83,8 @@ impl Texts {
         fields: &mut FieldList,
     ) -> Result<(), NoMemory>
         ensures texts { OnOk result (self.new ≡ with_fields self.old (fields_of row.now)) }
-        ensures cells { OnOk result (Adds self.new cells.old.items cells.new.items (fields_of row.now)) }
+        ensures cells { OnOk result
+            (Adds self.new cells.old.items cells.new.items (fields_of row.now)) }
         ensures fields { OnOk result (fields.new ≡ fields.old ++ fields_of row.now) }
         ensures err { OnErr result (Extends self.old self.new) }
     {

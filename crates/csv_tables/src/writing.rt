@@ -50,12 +50,12 @@ impl RecordWriter {
         ensures { OnOk result (self.new ≡ record_text (map (λ f. f.now) fields.now)) }
     {
         if self.writer.get_ref().len() > MAX_KEPT {
-            self.writer = new_writer(self.alloc);
+            renew(&mut self.writer, self.alloc);
         }
         self.start = self.writer.get_ref().len();
         let written = append_record(&mut self.writer, fields);
         if written.is_err() {
-            self.writer = new_writer(self.alloc);
+            renew(&mut self.writer, self.alloc);
             self.start = 0;
         }
         written
@@ -79,11 +79,23 @@ fn new_writer(alloc: Global) -> Writer<Vec<u8>>
         .from_writer(Vec::new(alloc))
 }
 
+// Puts a fresh writer in place of this one. It is a function of its own, since a writer holds a buffer of 8 KiB, which is set to
+// zero at the entry of the function that makes one.
+#[inline(never)]
+fn renew(writer: &mut Writer<Vec<u8>>, alloc: Global)
+    ensures between { IsBetween writer.new }
+    ensures empty { bytes_under writer.new ≡ [] }
+{
+    *writer = new_writer(alloc);
+}
+
 // Writes a record of these fields after the earlier ones. Nothing is known of the writer if memory is refused.
 fn append_record(writer: &mut Writer<Vec<u8>>, fields: &[&[u8]]) -> Result<(), NoMemory>
     requires { IsBetween writer.old }
     ensures between { OnOk result (IsBetween writer.new) }
-    ensures bytes { OnOk result (bytes_under writer.new ≡ bytes_under writer.old ++ record_text (map (λ f. f.now) fields.now)) }
+    ensures bytes { OnOk result
+        (bytes_under writer.new
+        ≡ bytes_under writer.old ++ record_text (map (λ f. f.now) fields.now)) }
 {
     let Ok(()) = writer.write_fields(fields) else {
         return Err(NoMemory);
