@@ -1,67 +1,21 @@
--- The least keys of the rows' subtree solutions obey the rule of dynamic programming, and the rule gives the least keys.
-use Rattle.std.proofs.Common.{◌≡◌, ℕ, zero, suc, ◌+◌, ◌-◌, ◌<◌, ◌≤◌, Bool, true, false, cond, nat_eq, List, length, get_or, refl, sym, subst, inr, arith}
-use Rattle.std.proofs.lemmas.Bool.Decides.{nat_tests}
+-- The best of each row of a tree is the least key of the row's subtree solutions.
+use Rattle.std.proofs.Common.{ℕ, ◌+◌, ◌<◌, ◌≤◌, List, inr}
 use Rattle.tdp_model.specs.KeyLaws.{IsKeys}
 use Rattle.tdp_model.specs.Remains.{AtMost}
-use Rattle.tdp_model.specs.TreeProblem.{sum_from, least_of, kid_part, kid_key, best_by_kids, RowHas, GroupHas, IsAbove, IsTree}
-use Rattle.tdp_model.proofs.Subtrees.{climbs_ordered, climbs_all}
-use Rattle.tdp_model.proofs.Keys.{at_most_trans, add_at_most}
+use Rattle.tdp_model.specs.TreeProblem.{RowHas, IsTree}
+use Rattle.tdp_model.proofs.LeastKeys.{least_at_most, least_had}
 
-module _ {K : Type 0} (Below : K → K → Type 0) (add : K → K → K) (none : K) (keys : IsKeys K Below add none) where
-  pub sum_at_most : (f g : ℕ → K) (n q : ℕ) → ((i : ℕ) → q ≤ i → i < q + n → AtMost Below (f i) (g i)) → AtMost Below (sum_from add none f n q) (sum_from add none g n q)
-  unfolding sum_from
-  sum_at_most f g zero q e = inr refl
-  sum_at_most f g (suc n) q e =
-      add_at_most Below add none keys (f q) (g q) _ _ (e q (omega arith) (omega arith)) (sum_at_most f g n (suc q) (λ i l h. e i (omega arith) (omega arith)))
+module _ {K : Type 0} (Below : K → K → Type 0) (add : K → K → K) (none : K) (keys : IsKeys K Below add none)
+    (m : ℕ) (parent : ℕ → ℕ) (rank : ℕ → ℕ → K) (group : ℕ → ℕ → List ℕ) (best : ℕ → ℕ → K) (IsRow : ℕ → ℕ → Type 0)
+    (tree : IsTree K Below add none m parent rank group best IsRow) where
+  -- no subtree solution of a row has a key below the row's best
+  pub best_at_most : (d v r : ℕ) (k : K) → v < m → IsRow v r → RowHas add none m parent rank group d v r k → AtMost Below (best v r) k
+  best_at_most = least_at_most Below add none keys m parent rank group best IsRow
+      (λ q r i some l up h. tree.rows q r i l (inr up) h) (λ q r some l up. tree.inhabited q r l (inr up))
+      (λ q r i some l up p h. tree.heap q r i l (inr up) p h) tree.bests
 
-  module _ (m : ℕ) (parent : ℕ → ℕ) (rank : ℕ → ℕ → K) (group : ℕ → ℕ → List ℕ) (best : ℕ → ℕ → K) (IsRow : ℕ → ℕ → Type 0)
-      (tree : IsTree K Below add none m parent rank group best IsRow) where
-    -- a group's first member has the least best
-    first_least : (q r i : ℕ) → q < m → IsAbove parent IsRow q r → i < length (group q r) → AtMost Below (best q (get_or (group q r) 0 0)) (best q (get_or (group q r) i 0))
-    first_least q r i l a h =
-        climbs_ordered (λ x y. AtMost Below (best q (get_or (group q r) x 0)) (best q (get_or (group q r) y 0))) (length (group q r))
-        (λ x. inr refl) (λ x y z p s. at_most_trans Below keys.order _ _ _ p s) (λ x p s. tree.heap q r x l a p s) i i 0 h (omega (arith, climbs_all i i (omega arith)))
-
-    part_at_most : (v r q : ℕ) (f : ℕ → K) → (parent q ≡ v → AtMost Below (least_of add none m parent rank group best q r) (f q))
-        → AtMost Below (kid_part add none m parent rank group best v r q) (kid_key none parent v f q)
-    unfolding kid_part kid_key
-    part_at_most v r q f h = cases (nat_eq (parent q) v) (λ e. h (test_eq (parent q) v e))
-      where
-        test_eq : (x y : ℕ) → nat_eq x y ≡ true → x ≡ y
-        test_eq x y e = grind (arith, nat_tests)
-
-        cases : (b : Bool) → (b ≡ true → AtMost Below (least_of add none m parent rank group best q r) (f q))
-            → AtMost Below (cond b (least_of add none m parent rank group best q r) none) (cond b (f q) none)
-        cases true h = h refl
-        cases false h = inr refl
-
-    kid_at_most : (v r q i : ℕ) (k : K) → IsRow v r → v < q → q < m → parent q ≡ v → i < length (group q r) → AtMost Below (best q (get_or (group q r) i 0)) k
-        → AtMost Below (least_of add none m parent rank group best q r) k
-    kid_at_most v r q i k row a b e l h =
-        at_most_trans Below keys.order _ _ _ (first_least q r i b (inr (subst (λ z. IsRow z r) (sym e) row)) l) h
-
-    -- no subtree solution of a row has a key below the row's best
-    pub best_at_most : (d v r : ℕ) (k : K) → v < m → IsRow v r → RowHas add none m parent rank group d v r k → AtMost Below (best v r) k
-    best_at_most zero v r k l row h = absurd h
-    best_at_most (suc d) v r k l row h =
-        subst (λ z. AtMost Below z k) (sym (tree.bests v r l row))
-        (subst (λ z. AtMost Below (best_by_kids add none m parent rank group best v r) z) (sym h.2)
-        (add_at_most Below add none keys _ _ _ _ (inr refl)
-        (sum_at_most (kid_part add none m parent rank group best v r) (kid_key none parent v h.0) (m - suc v) (suc v)
-        (λ q a b. part_at_most v r q h.0 (λ e.
-        let g : GroupHas add none m parent rank group d q r (h.0 q) = h.1 q (omega arith) (omega arith) e in
-        let up : IsAbove parent IsRow q r = inr (subst (λ z. IsRow z r) (sym e) row) in
-        kid_at_most v r q g.0 (h.0 q) row (omega arith) (omega arith) e g.1
-        (best_at_most d q (get_or (group q r) g.0 0) (h.0 q) (omega arith) (tree.rows q r g.0 (omega arith) up g.1) g.2))))))
-
-    -- the row's best is the key of a subtree solution
-    pub best_had : (d v r : ℕ) → m ≤ d + v → v < m → IsRow v r → RowHas add none m parent rank group d v r (best v r)
-    unfolding kid_part kid_key
-    best_had zero v r e l row = absurd (omega arith)
-    best_had (suc d) v r e l row = (
-      (λ q. least_of add none m parent rank group best q r),
-      (λ q a b s.
-          let up : IsAbove parent IsRow q r = inr (subst (λ z. IsRow z r) (sym s) row) in
-          (0, tree.inhabited q r b up, best_had d q (get_or (group q r) 0 0) (omega arith) b (tree.rows q r 0 b up (tree.inhabited q r b up)))),
-      tree.bests v r l row,
-    )
+  -- the row's best is the key of a subtree solution
+  pub best_had : (d v r : ℕ) → m ≤ d + v → v < m → IsRow v r → RowHas add none m parent rank group d v r (best v r)
+  best_had = least_had Below add none keys m parent rank group best IsRow
+      (λ q r i some l up h. tree.rows q r i l (inr up) h) (λ q r some l up. tree.inhabited q r l (inr up))
+      (λ q r i some l up p h. tree.heap q r i l (inr up) p h) tree.bests

@@ -1,5 +1,5 @@
 -- The subtree solutions of a group are finitely many, so that their ranking exists.
-use Rattle.std.proofs.Common.{◌≡◌, ℕ, zero, suc, ◌+◌, ◌-◌, ◌<◌, ◌⊎◌, List, [], ◌∷◌, ◌++◌, map, length, get_or, refl, sym, ap, subst, inl, inr, arith}
+use Rattle.std.proofs.Common.{◌≡◌, ℕ, zero, suc, ◌+◌, ◌-◌, ◌<◌, List, [], ◌∷◌, map, length, get_or, refl, sym, subst, inl, inr, arith}
 use Rattle.rankings.specs.Order.{IsMember, IsRanking, ranked}
 use Rattle.rankings.proofs.Members.{member-left, member-right, member-either, member-map, member-unmap}
 use Rattle.tdp_model.specs.KeyLaws.{IsKeys}

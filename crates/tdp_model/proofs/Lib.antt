@@ -14,6 +14,7 @@ pub mod Bridge
 pub mod Ties
 pub mod Descent
 pub mod SubtreeTies
+pub mod LeastKeys
 pub mod Bests
 pub mod Parts
 pub mod Streams
@@ -27,7 +28,6 @@ pub mod Reordered
 pub mod Example
 pub mod Ranges
 pub mod OpenRanges
-pub mod BestRule
 pub mod StreamSteps
 pub mod KeyViews
 pub mod KeyNumbers
