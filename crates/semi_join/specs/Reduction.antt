@@ -22,32 +22,39 @@ AreFew = All (λ links. length links ≤ 4194304)
 -- and `links` that of each group.
 pub record IsGrouping (owns links : List ℕ) (groups : List (List ℕ)) : Type 0 where
   pub size : length groups ≡ length links
-  pub distinct : (i j : ℕ) → i < length links → j < length links → slice_index links i ≡ slice_index links j → i ≡ j
+  pub distinct : (i j : ℕ) → i < length links → j < length links
+      → slice_index links i ≡ slice_index links j → i ≡ j
   pub spread : IsPermutation (range_with_len 0 (length owns)) (concat groups)
   pub inhabited : (g : ℕ) → g < length groups → 0 < length (slice_index_or groups g [])
-  pub members : (g j : ℕ) → g < length groups → j < length (slice_index_or groups g []) → slice_index (slice_index_or groups g []) j < length owns
-  pub same : (g j : ℕ) → g < length groups → j < length (slice_index_or groups g []) → slice_index owns (slice_index (slice_index_or groups g []) j) ≡ slice_index links g
+  pub members : (g j : ℕ) → g < length groups → j < length (slice_index_or groups g [])
+      → slice_index (slice_index_or groups g []) j < length owns
+  pub same : (g j : ℕ) → g < length groups → j < length (slice_index_or groups g [])
+      → slice_index owns (slice_index (slice_index_or groups g []) j) ≡ slice_index links g
   pub few : length links ≤ length owns
 
 -- Each row has the place of its own link among the links, and each link is that of a row. `owns` has the own link of each row.
 pub record IsNumbering (owns links numbers : List ℕ) : Type 0 where
   pub size : length numbers ≡ length owns
-  pub distinct : (i j : ℕ) → i < length links → j < length links → slice_index links i ≡ slice_index links j → i ≡ j
+  pub distinct : (i j : ℕ) → i < length links → j < length links
+      → slice_index links i ≡ slice_index links j → i ≡ j
   pub below : All (λ n. n < length links) numbers
-  pub named : (i : ℕ) → i < length numbers → slice_index links (slice_index numbers i) ≡ slice_index owns i
+  pub named : (i : ℕ) → i < length numbers
+      → slice_index links (slice_index numbers i) ≡ slice_index owns i
   pub used : (n : ℕ) → n < length links → Contains numbers n
   pub few : length links ≤ length owns
 
 -- the numbers of some rows, and after them the place of this link among the links
 abbrev pub EndsInPlaceOf : ℕ → List ℕ → List ℕ → List ℕ → Type 0
-EndsInPlaceOf own links numbers more = (n : ℕ) × (n < length links) × (slice_index links n ≡ own) × (more ≡ numbers ++ n ∷ [])
+EndsInPlaceOf own links numbers more = (n : ℕ) × (n < length links) × (slice_index links n ≡ own)
+    × (more ≡ numbers ++ n ∷ [])
 
 -- # The rows of one node
 
 module _ {R : Type 0} (raw : RawData R) (v : ℕ) where
   -- the children of v
   abbrev pub child_nodes : List ℕ
-  child_nodes = filter (λ u. nat_eq (shape_parent raw.shapes u) v) (range_with_len (suc v) (length raw.shapes - suc v))
+  child_nodes = filter (λ u. nat_eq (shape_parent raw.shapes u) v)
+      (range_with_len (suc v) (length raw.shapes - suc v))
 
   -- the link by which a row is put into its group: its own link, and at the root 0
   abbrev pub group_link : ℕ → ℕ
@@ -61,11 +68,13 @@ module _ {R : Type 0} (raw : RawData R) (v : ℕ) (later : List (List ℕ)) wher
 
   -- for each child there is a group that row i names
   abbrev pub has_partners : ℕ → Bool
-  has_partners i = list_all (λ c. list_any (nat_eq (child_link raw v i c)) (child_links c)) (range_with_len 0 (length (child_nodes raw v)))
+  has_partners i = list_all (λ c. list_any (nat_eq (child_link raw v i c)) (child_links c))
+      (range_with_len 0 (length (child_nodes raw v)))
 
   -- the numbers of these groups
   abbrev pub groups_named : ℕ → List ℕ
-  groups_named i = map (λ c. position_or_len (nat_eq (child_link raw v i c)) (child_links c)) (range_with_len 0 (length (child_nodes raw v)))
+  groups_named i = map (λ c. position_or_len (nat_eq (child_link raw v i c)) (child_links c))
+      (range_with_len 0 (length (child_nodes raw v)))
 
   -- the rows that are kept
   abbrev pub kept_rows : List ℕ

@@ -65,7 +65,8 @@ impl GroupLinks {
         steps: &mut Steps<L>,
     ) -> Result<u32, NoMemory>
         requires { length (links_of self.old) ≤ 4194304 }
-        ensures links { OnOk result (links_of self.new ≡ insert_key nat_eq (links_of self.old) link) }
+        ensures links { OnOk result
+            (links_of self.new ≡ insert_key nat_eq (links_of self.old) link) }
         ensures within { IfOk result (λ n. n < length (links_of self.new)) }
         ensures stands { IfOk result (λ n. slice_index (links_of self.new) n ≡ link) }
         ensures cost { steps.new ≡ steps.old + 1 }

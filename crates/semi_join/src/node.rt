@@ -11,7 +11,7 @@ use smallvec::SmallVec;
 use std::alloc::{AllocError, Global};
 use std::sync::ledger::Ledger;
 use step_counter::{NoMemory, Steps};
-use tdp_core::{Groups, NodeParts, NodeRow, RawTree};
+use tdp_core::{Groups, NamedGroups, NodeParts, NodeRow, RawTree};
 
 /// A node with its rows in groups.
 #[derive(Drop)]
@@ -26,7 +26,7 @@ pub(crate) struct GroupedNode<R> {
 struct KeptRows<R> {
     rows: Vec<NodeRow<R>>,
     /// For each row the group of each child of the node.
-    to_child: Vec<SmallVec<u32, 4>>,
+    to_child: NamedGroups,
     /// For each row the number of its own group.
     numbers: Vec<u32>,
     /// The link of each group.
@@ -47,8 +47,10 @@ pub(crate) fn reduce_node<R: Rank, L: Ledger>(
     requires few_rows { row_total raw.now ≤ 4194304 }
     requires later { node + 1 + length later.now ≡ length raw.now.shapes }
     requires few { AreFew (map links_of later.now) }
-    ensures reduced { IfOk result (λ r. IsReducedNode raw.now node (map links_of later.now) (node_data r.parts)) }
-    ensures links { IfOk result (λ r. links_of r.links ≡ group_links raw.now node (map links_of later.now)) }
+    ensures reduced { IfOk result
+        (λ r. IsReducedNode raw.now node (map links_of later.now) (node_data r.parts)) }
+    ensures links { IfOk result
+        (λ r. links_of r.links ≡ group_links raw.now node (map links_of later.now)) }
     ensures few { IfOk result (λ r. length (links_of r.links) ≤ 4194304) }
     ensures cost { steps.new ≤ steps.old + raw_len raw.now node * length raw.now.shapes }
 {
@@ -80,15 +82,24 @@ fn keep_rows<R: Rank, L: Ledger>(
     requires few_rows { row_total raw.now ≤ 4194304 }
     requires later { node + 1 + length later.now ≡ length raw.now.shapes }
     requires few { AreFew (map links_of later.now) }
-    ensures rows { IfOk result (λ kept. map Some kept.rows.items ≡ map (raw_row_at raw.now node) (kept_rows raw.now node (map links_of later.now))) }
-    ensures to_child { IfOk result (λ kept. map (λ c. c.items) kept.to_child.items ≡ map (groups_named raw.now node (map links_of later.now)) (kept_rows raw.now node (map links_of later.now))) }
-    ensures links { IfOk result (λ kept. links_of kept.links ≡ group_links raw.now node (map links_of later.now)) }
-    ensures numbers { IfOk result (λ kept. IsNumbering (map (group_link raw.now node) (kept_rows raw.now node (map links_of later.now))) (links_of kept.links) kept.numbers.items) }
+    ensures rows { IfOk result
+        (λ kept. map Some kept.rows.items
+        ≡ map (raw_row_at raw.now node) (kept_rows raw.now node (map links_of later.now))) }
+    ensures to_child { IfOk result
+        (λ kept. kept.to_child.rows
+        ≡ map (groups_named raw.now node (map links_of later.now))
+        (kept_rows raw.now node (map links_of later.now))) }
+    ensures links { IfOk result
+        (λ kept. links_of kept.links ≡ group_links raw.now node (map links_of later.now)) }
+    ensures numbers { IfOk result
+        (λ kept. IsNumbering
+        (map (group_link raw.now node) (kept_rows raw.now node (map links_of later.now)))
+        (links_of kept.links) kept.numbers.items) }
     ensures few { IfOk result (λ kept. length kept.numbers.items ≤ 4194304) }
     ensures cost { steps.new ≤ steps.old + raw_len raw.now node * length raw.now.shapes }
 {
     let children = children_of(alloc, raw, node)?;
-    let mut kept = no_rows(alloc, raw, node)?;
+    let mut kept = no_rows(alloc, raw, node, children.len())?;
     for i in 0..raw.len(node) {
         if let Some(named) = child_groups(alloc, raw, node, i, &children, later, steps)? {
             let own = group_link_of(raw, node, i);
@@ -98,18 +109,24 @@ fn keep_rows<R: Rank, L: Ledger>(
     Ok(kept)
 }
 
-/// No rows, with room for all rows of a node.
-fn no_rows<R: Rank>(alloc: Global, raw: &RawTree<R>, node: u32) -> Result<KeptRows<R>, NoMemory>
+/// No rows, with room for all rows of a node that has so many children.
+fn no_rows<R: Rank>(
+    alloc: Global,
+    raw: &RawTree<R>,
+    node: u32,
+    children: usize,
+) -> Result<KeptRows<R>, NoMemory>
     requires { node < length raw.now.shapes }
     ensures rows { IfOk result (λ kept. kept.rows.items ≡ []) }
-    ensures to_child { IfOk result (λ kept. kept.to_child.items ≡ []) }
+    ensures to_child { IfOk result
+        (λ kept. kept.to_child ≡ record { width = children; rows = [] }) }
     ensures numbers { IfOk result (λ kept. kept.numbers.items ≡ []) }
     ensures links { IfOk result (λ kept. links_of kept.links ≡ []) }
 {
     let count = raw.len(node);
     Ok(KeptRows {
         rows: Vec::with_capacity(alloc, count as usize)?,
-        to_child: Vec::with_capacity(alloc, count as usize)?,
+        to_child: NamedGroups::new(alloc, children, count as usize)?,
         numbers: Vec::with_capacity(alloc, count as usize)?,
         links: GroupLinks::new(alloc, raw.keys(), count, greatest_link(raw, node))?,
     })
@@ -135,16 +152,25 @@ fn keep_row<R: Rank, L: Ledger>(
     steps: &mut Steps<L>,
 ) -> Result<(), NoMemory>
     requires few { length (links_of kept.old.links) ≤ 4194304 }
+    requires width { length named.items ≡ kept.old.to_child.width }
+    requires few_rows { length kept.old.to_child.rows ≤ 4194304 }
     ensures rows { OnOk result (kept.new.rows.items ≡ kept.old.rows.items ++ row ∷ []) }
-    ensures to_child { OnOk result (map (λ c. c.items) kept.new.to_child.items ≡ map (λ c. c.items) kept.old.to_child.items ++ named.items ∷ []) }
-    ensures links { OnOk result (links_of kept.new.links ≡ insert_key nat_eq (links_of kept.old.links) own) }
-    ensures number { OnOk result (EndsInPlaceOf own (links_of kept.new.links) kept.old.numbers.items kept.new.numbers.items) }
+    ensures to_child { OnOk result
+        (kept.new.to_child ≡ record {
+          width = kept.old.to_child.width;
+          rows = kept.old.to_child.rows ++ named.items ∷ [];
+        }) }
+    ensures links { OnOk result
+        (links_of kept.new.links ≡ insert_key nat_eq (links_of kept.old.links) own) }
+    ensures number { OnOk result
+        (EndsInPlaceOf own (links_of kept.new.links) kept.old.numbers.items
+        kept.new.numbers.items) }
     ensures cost { steps.new ≤ steps.old + 1 }
 {
     let number = kept.links.insert(own, steps)?;
     kept.numbers.push(number)?;
     kept.rows.push(row)?;
-    kept.to_child.push(named)?;
+    kept.to_child.push(named.as_slice())?;
     Ok(())
 }
 
@@ -188,9 +214,13 @@ fn child_groups<R: Rank, L: Ledger>(
     requires children { children.now ≡ child_nodes raw.now node }
     requires later { node + 1 + length later.now ≡ length raw.now.shapes }
     requires few { AreFew (map links_of later.now) }
-    ensures found { IfOk result (λ o. IfSome o (λ _. has_partners raw.now node (map links_of later.now) i ≡ true)) }
-    ensures named { IfOk result (λ o. IfSome o (λ numbers. numbers.items ≡ groups_named raw.now node (map links_of later.now) i)) }
-    ensures missing { IfOk result (λ o. IfNone o (has_partners raw.now node (map links_of later.now) i ≡ false)) }
+    ensures found { IfOk result
+        (λ o. IfSome o (λ _. has_partners raw.now node (map links_of later.now) i ≡ true)) }
+    ensures named { IfOk result
+        (λ o. IfSome o (λ numbers. numbers.items
+        ≡ groups_named raw.now node (map links_of later.now) i)) }
+    ensures missing { IfOk result
+        (λ o. IfNone o (has_partners raw.now node (map links_of later.now) i ≡ false)) }
     ensures cost { steps.new ≤ steps.old + length children.now }
 {
     let mut numbers = SmallVec::new(alloc);

@@ -28,7 +28,8 @@ pub fn reduce<R: Rank, L: Ledger>(
     raw: RawTree<R>,
     steps: &mut Steps<L>,
 ) -> Result<Reduced<R>, NoMemory>
-    ensures reduced { IfOk result (λ reduced. IsReduced R.KEYS R.key raw (tree_data reduced.nodes.items)) }
+    ensures reduced { IfOk result
+        (λ reduced. IsReduced R.KEYS R.key raw (tree_data reduced.nodes.items)) }
     ensures cost { steps.new ≤ steps.old + 2 * length raw.shapes * (1 + row_total raw) }
 {
     let mut tree = raw;

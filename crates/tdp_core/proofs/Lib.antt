@@ -2,7 +2,7 @@ pub mod Children
 pub mod GroupMembers
 pub mod GroupsInOne
 pub mod KeyRanges
-pub mod LeastKeys
+pub mod NamedPieces
 pub mod NodeViews
 pub mod PlacesPut
 pub mod RawFacts

@@ -10,7 +10,7 @@ use Rattle.tdp_model.proofs.KeyTuples.{slot_of_add, slot_of_none, tuple_keys}
 use Rattle.tdp_model.proofs.KeyNumbers.{sum_of_none}
 use Rattle.rank_key.specs.Keys.{KeyFits, CanSwap}
 use Rattle.tdp_model.specs.Remains.{AtMost}
-use Rattle.tdp_core.proofs.LeastKeys.{least_had, least_at_most}
+use Rattle.tdp_model.proofs.LeastKeys.{least_had, least_at_most}
 use Rattle.tdp_core.proofs.KeyRanges.{subtree_fits, part_fits, swap_fits}
 use Rattle.tdp_core.specs.TreeData.{NodeData, node_at, parent, item, cap, rows, number, child_place, group_count, members, group_named, group_number, group, rank, best}
 use Rattle.tdp_core.specs.Solutions.{IsLeastKey}

@@ -1,3 +1,4 @@
+pub mod NamedRows
 pub mod RawData
 pub mod RawRows
 pub mod RisingShares

@@ -28,7 +28,8 @@ abbrev pub shape_cap : List NodeShape → ℕ → ℕ → ℕ
 shape_cap shapes v i = cap_of (shape_at shapes v) i
 
 abbrev pub AreShapes : List NodeShape → Type 0
-AreShapes shapes = IsShaped (length shapes) (shape_parent shapes) (shape_item shapes) (shape_cap shapes)
+AreShapes shapes = IsShaped (length shapes) (shape_parent shapes) (shape_item shapes)
+    (shape_cap shapes)
 
 -- how many children node v has
 abbrev pub shape_children : List NodeShape → ℕ → ℕ
@@ -83,9 +84,11 @@ module _ {R : Type 0} (t : RawData R) where
     raw_rank v r = slice_index_or (map (λ x. key x.row.rank) (rows_at t v)) r (key_none d 16)
 
 -- a row that node v can have
-abbrev pub RawRowFits : {R : Type 0} (d : ℕ) (key : R → KeyOf d 16) → List NodeShape → ℕ → RawRowData R → Type 0
+abbrev pub RawRowFits : {R : Type 0} (d : ℕ) (key : R → KeyOf d 16) → List NodeShape → ℕ
+    → RawRowData R → Type 0
 RawRowFits d key shapes v x =
-    RowFits d (shape_item shapes v) (shape_cap shapes v) x.row.row (key x.row.rank) × (length x.children ≡ shape_children shapes v)
+    RowFits d (shape_item shapes v) (shape_cap shapes v) x.row.row (key x.row.rank)
+    × (length x.children ≡ shape_children shapes v)
 
 pub record IsRawFormed {R : Type 0} (d : ℕ) (key : R → KeyOf d 16) (t : RawData R) : Type 0 where
   pub shaped : AreShapes t.shapes

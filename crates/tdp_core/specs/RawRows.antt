@@ -12,9 +12,12 @@ pub record RawRowData (R : Type 0) : Type 0 where
 abbrev pub raw_rows : {R : Type 0} → ℕ → List (NodeRow R) → List ℕ → List ℕ → List (RawRowData R)
 raw_rows width [] owns named = []
 raw_rows width (row ∷ rows) [] named = []
-raw_rows width (row ∷ rows) (own ∷ owns) named = record { row = row; own = own; children = take width named } ∷ raw_rows width rows owns (drop width named)
+raw_rows width (row ∷ rows)
+    (own ∷ owns) named = record { row = row; own = own; children = take width named }
+    ∷ raw_rows width rows owns (drop width named)
 
 -- the lists are as long as the rows need
-pub record AreRawRows {R : Type 0} (width : ℕ) (rows : List (NodeRow R)) (owns named : List ℕ) : Type 0 where
+pub record AreRawRows {R : Type 0} (width : ℕ) (rows : List (NodeRow R))
+    (owns named : List ℕ) : Type 0 where
   pub all_own : length owns ≡ length rows
   pub all_named : length named ≡ length rows * width

@@ -19,6 +19,8 @@ shares_rise s c d h =
     let m : ℕ = get_or s 0 0 in
     let n : ℕ = get_or s 1 0 in
     let more : (c + 1) * m ≤ (d + 1) * m = grind arith in
-    let digits : bit_length (n + (c + 1) * m) ≤ bit_length (n + (d + 1) * m) = bit_length-rises _ _ (omega arith) in
+    let digits : bit_length (n + (c + 1) * m)
+    ≤ bit_length (n + (d + 1) * m) = bit_length-rises _ _ (omega arith) in
     cond_more (nat_lt 0 (get_or s 2 0)) _ _
-    (let p : m * (1 + bit_length (n + (c + 1) * m)) ≤ m * (1 + bit_length (n + (d + 1) * m)) = times_more m _ _ (omega arith) in omega arith)
+    (let p : m * (1 + bit_length (n + (c + 1) * m))
+    ≤ m * (1 + bit_length (n + (d + 1) * m)) = times_more m _ _ (omega arith) in omega arith)

@@ -17,7 +17,8 @@ module _ (m : ℕ) (parent : ℕ → ℕ) (Linked : ℕ → ℕ → ℕ → Type
 
   -- one row for node v and for each node below it
   abbrev pub IsSubtreeSolution : ℕ → (ℕ → ℕ) → Type 0
-  IsSubtreeSolution v rows = (q : ℕ) → v < q → q < m → 0 < is_below parent v q → Linked q (rows (parent q)) (rows q)
+  IsSubtreeSolution v rows = (q : ℕ) → v < q → q < m → 0 < is_below parent v q
+      → Linked q (rows (parent q)) (rows q)
 
   -- row r of node v is in a solution of its subtree
   abbrev pub Extends : ℕ → ℕ → Type 0
@@ -29,7 +30,9 @@ module _ {R : Type 0} (t : RawData R) where
   -- the row's own link is the one that the parent's row names
   abbrev pub RawLinked : ℕ → ℕ → ℕ → Type 0
   RawLinked q r i =
-      (i < raw_len t q) × ((q ≡ 0) ⊎ (own_link t q i ≡ child_link t (shape_parent t.shapes q) r (shape_child_place t.shapes q)))
+      (i < raw_len t q) ×
+      ((q ≡ 0) ⊎ (own_link t q i
+      ≡ child_link t (shape_parent t.shapes q) r (shape_child_place t.shapes q)))
 
   abbrev pub IsRawSolution : (ℕ → ℕ) → Type 0
   IsRawSolution = IsSolution (length t.shapes) (shape_parent t.shapes) RawLinked
@@ -39,12 +42,14 @@ module _ {R : Type 0} (t : RawData R) where
 
   -- any two rows of the root have different numbers, and so have any two rows of another node with the same own link
   abbrev pub IsTieFreeRaw : Type 0
-  IsTieFreeRaw = (v i j : ℕ) → v < length t.shapes → i < raw_len t v → j < raw_len t v → (v ≡ 0) ⊎ (own_link t v i ≡ own_link t v j)
+  IsTieFreeRaw = (v i j : ℕ) → v < length t.shapes → i < raw_len t v → j < raw_len t v
+      → (v ≡ 0) ⊎ (own_link t v i ≡ own_link t v j)
       → raw_number t v i ≡ raw_number t v j → i ≡ j
 
   -- the sum of the rows' keys
   abbrev pub raw_solution_key : (d : ℕ) (key : R → KeyOf d 16) → (ℕ → ℕ) → KeyOf d 16
-  raw_solution_key d key rows = sum_from (key_add d 16) (key_none d 16) (λ q. raw_rank t d key q (rows q)) (length t.shapes) 0
+  raw_solution_key d key rows = sum_from (key_add d 16) (key_none d 16)
+      (λ q. raw_rank t d key q (rows q)) (length t.shapes) 0
 
 -- # Trees
 
@@ -58,18 +63,25 @@ module _ {R : Type 0} (t : List (NodeData R)) where
 
   -- the sum of the rows' keys
   abbrev pub solution_key : (d : ℕ) (key : R → KeyOf d 16) → (ℕ → ℕ) → KeyOf d 16
-  solution_key d key rows = sum_from (key_add d 16) (key_none d 16) (λ q. rank t d key q (rows q)) (length t) 0
+  solution_key d key rows = sum_from (key_add d 16) (key_none d 16) (λ q. rank t d key q (rows q))
+      (length t) 0
 
 -- k is the key of a subtree solution of row r of node v
-abbrev pub SubtreeHas : {R : Type 0} → List (NodeData R) → (d : ℕ) (key : R → KeyOf d 16) → ℕ → ℕ → KeyOf d 16 → Type 0
-SubtreeHas t d key v r k = RowHas (key_add d 16) (key_none d 16) (length t) (parent t) (rank t d key) (group t) (length t) v r k
+abbrev pub SubtreeHas : {R : Type 0} → List (NodeData R) → (d : ℕ) (key : R → KeyOf d 16) → ℕ → ℕ
+    → KeyOf d 16 → Type 0
+SubtreeHas t d key v r k = RowHas (key_add d 16) (key_none d 16) (length t) (parent t)
+    (rank t d key) (group t) (length t) v r k
 
 -- k is the least of these keys
-pub record IsLeastKey {R : Type 0} (t : List (NodeData R)) (d : ℕ) (key : R → KeyOf d 16) (v r : ℕ) (k : KeyOf d 16) : Type 0 where
+pub record IsLeastKey {R : Type 0} (t : List (NodeData R)) (d : ℕ) (key : R → KeyOf d 16) (v r : ℕ)
+    (k : KeyOf d 16) : Type 0 where
   pub had : SubtreeHas t d key v r k
   pub least : (other : KeyOf d 16) → SubtreeHas t d key v r other → AtMost (key_below d 16) k other
 
 -- these are the keys of the tree's solutions, in ascending order
-abbrev pub IsTreeRanking : {R : Type 0} → List (NodeData R) → (d : ℕ) (key : R → KeyOf d 16) → List (KeyOf d 16) → Type 0
+abbrev pub IsTreeRanking : {R : Type 0} → List (NodeData R) → (d : ℕ) (key : R → KeyOf d 16)
+    → List (KeyOf d 16) → Type 0
 IsTreeRanking t d key ks =
-    IsRanking (KeyOf d 16) (key_below d 16) (SolutionHas (key_add d 16) (key_none d 16) (length t) (parent t) (rank t d key) (group t)) ks
+    IsRanking (KeyOf d 16) (key_below d 16)
+    (SolutionHas (key_add d 16) (key_none d 16) (length t) (parent t) (rank t d key)
+    (group t)) ks

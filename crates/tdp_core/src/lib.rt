@@ -6,6 +6,7 @@
 #![tactic(auto)]
 
 mod groups;
+mod named_groups;
 mod parts;
 mod ranked;
 mod raw_rows;
@@ -13,6 +14,7 @@ mod raw_tree;
 mod tree;
 
 pub use groups::Groups;
+pub use named_groups::NamedGroups;
 pub use parts::{NodeParts, NodeRow, NodeShape};
 pub use ranked::{Answer, Ranked};
 pub use raw_tree::RawTree;

@@ -36,7 +36,10 @@ pub trait Ranked {
         &mut self,
         steps: &mut Steps<L>,
     ) -> Result<Option<Answer<Self::Key>>, NoMemory>
-        ensures found { IfOk result (λ o. IfSome o (λ a. rest self.old ≡ record { rows = a.rows; key = numbers Self.Key.KEYS 16 (Self.Key.key a.rank) } ∷ rest self.new)) }
+        ensures found { IfOk result
+            (λ o. IfSome o (λ a. rest self.old
+            ≡ record { rows = a.rows; key = numbers Self.Key.KEYS 16 (Self.Key.key a.rank) }
+            ∷ rest self.new)) }
         ensures end { IfOk result (λ o. IfNone o ((rest self.old ≡ []) × (rest self.new ≡ []))) }
         ensures refused { OnErr result (rest self.new ≡ rest self.old) }
         ensures counted { calls self.new ≡ counted (calls self.old) }

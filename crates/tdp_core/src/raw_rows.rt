@@ -63,7 +63,8 @@ impl<R: Rank> RawRows<R> {
         children: &[u32],
     ) -> Result<(), NoMemory>
         requires { All (λ r. length r.children ≡ length children.now) self.old }
-        ensures ok { OnOk result (self.new ≡ self.old ++ record { row = row; own = own; children = children.now } ∷ []) }
+        ensures ok { OnOk result
+            (self.new ≡ self.old ++ record { row = row; own = own; children = children.now } ∷ []) }
         ensures err { OnErr result (self.new ≡ self.old) }
     {
         self.rows.reserve(1)?;
@@ -103,7 +104,8 @@ impl<R: Rank> RawRows<R> {
     pub(crate) fn link(&self, i: usize, child: usize) -> u32
         requires row { i < length self.now }
         requires child { child < length (slice_index_or (map (λ r. r.children) self.now) i []) }
-        ensures { result ≡ slice_index (slice_index_or (map (λ r. r.children) self.now) i []) child }
+        ensures { result ≡ slice_index
+            (slice_index_or (map (λ r. r.children) self.now) i []) child }
     {
         self.named[i * self.width + child]
     }
@@ -111,7 +113,7 @@ impl<R: Rank> RawRows<R> {
 
 /// Appends numbers to a list that has room for them, one by one: for the few links of a row a call that copies memory
 /// takes longer.
-fn push_each(list: &mut Vec<u32>, numbers: &[u32])
+pub(crate) fn push_each(list: &mut Vec<u32>, numbers: &[u32])
     requires { vec_len list.old + length numbers.now ≤ vec_capacity list.old }
     ensures { list.new.items ≡ list.old.items ++ numbers.now }
 {

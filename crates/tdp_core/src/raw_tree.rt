@@ -26,7 +26,8 @@ impl<R: Rank> Model for RawTree<R> {
 
     ghost view = { λ t. record { shapes = t.shapes.items; rows = t.rows.items } };
 
-    ghost invariant = { λ t. IsRawFormed R.KEYS R.key (record { shapes = t.shapes.items; rows = t.rows.items }) };
+    ghost invariant = { λ t. IsRawFormed R.KEYS R.key
+        (record { shapes = t.shapes.items; rows = t.rows.items }) };
 }
 
 impl<R: Rank> RawTree<R> {
@@ -34,7 +35,8 @@ impl<R: Rank> RawTree<R> {
     /// `NoMemory` if memory is refused.
     pub fn new(alloc: Global, shapes: &[NodeShape]) -> Result<RawTree<R>, NoMemory>
         requires { AreShapes shapes.now }
-        ensures { IfOk result (λ t. t ≡ record { shapes = shapes.now; rows = replicate (length shapes.now) [] }) }
+        ensures { IfOk result
+            (λ t. t ≡ record { shapes = shapes.now; rows = replicate (length shapes.now) [] }) }
     {
         RawTree::with_keys(alloc, shapes, Keys::Known)
     }
@@ -47,7 +49,8 @@ impl<R: Rank> RawTree<R> {
         keys: Keys,
     ) -> Result<RawTree<R>, NoMemory>
         requires { AreShapes shapes.now }
-        ensures { IfOk result (λ t. t ≡ record { shapes = shapes.now; rows = replicate (length shapes.now) [] }) }
+        ensures { IfOk result
+            (λ t. t ≡ record { shapes = shapes.now; rows = replicate (length shapes.now) [] }) }
     {
         let rows = empty_rows(alloc, shapes.len())?;
         let shapes = Vec::from_slice(alloc, shapes)?;
@@ -86,9 +89,12 @@ impl<R: Rank> RawTree<R> {
         children: &[u32],
     ) -> Result<(), NoMemory>
         requires node { node < length self.old.shapes }
-        requires fits { RawRowFits R.KEYS R.key self.old.shapes node (record { row = row; own = own; children = children.now }) }
+        requires fits { RawRowFits R.KEYS R.key self.old.shapes node
+            (record { row = row; own = own; children = children.now }) }
         requires room { row_total self.old < 4194304 }
-        ensures ok { OnOk result (self.new ≡ with_row self.old node (record { row = row; own = own; children = children.now })) }
+        ensures ok { OnOk result
+            (self.new ≡ with_row self.old node
+            (record { row = row; own = own; children = children.now })) }
         ensures err { OnErr result (self.new ≡ self.old) }
     {
         self.rows[node as usize].push(row, own, children)?;

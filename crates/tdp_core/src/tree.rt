@@ -126,7 +126,9 @@ impl<R: Rank> Tree<R> {
         ensures counted { steps.new ≡ steps.old + 1 }
     {
         steps.tick();
-        self.nodes[node as usize].to_child[row as usize][child as usize]
+        self.nodes[node as usize]
+            .to_child
+            .get(row as usize, child as usize)
     }
 
     /// The row at a place of a group. It takes one step.

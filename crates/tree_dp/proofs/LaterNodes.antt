@@ -16,7 +16,7 @@ use Rattle.tdp_core.specs.WellFormed.{RowFits}
 use Rattle.tdp_core.proofs.Children.{kids_below-first, kids_below-other, child_place_within}
 use Rattle.tdp_core.proofs.GroupMembers.{member_below}
 use Rattle.tdp_core.proofs.KeyRanges.{part_fits}
-use Rattle.tdp_core.proofs.LeastKeys.{least_had}
+use Rattle.tdp_model.proofs.LeastKeys.{least_had}
 use Rattle.tdp_core.specs.WellFormed.{IsLaidOut}
 use Rattle.tree_dp.specs.Progress.{IsSolvedFrom}
 use Rattle.tree_dp.proofs.FirstParts.{first_part}

@@ -12,4 +12,5 @@ module _ {R : Type 0} (d : ℕ) (key : R → KeyOf d 16) where
   abbrev pub IsHeapOver : List R → List ℕ → Type 0
   IsHeapOver best group =
       (i : ℕ) → 0 < i → i < length group
-      → AtMost (key_below d 16) (key_at best (slice_index group ((i - 1) / 2))) (key_at best (slice_index group i))
+      → AtMost (key_below d 16) (key_at best (slice_index group ((i - 1) / 2)))
+      (key_at best (slice_index group i))

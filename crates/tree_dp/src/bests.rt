@@ -23,9 +23,13 @@ pub(crate) fn bests_of<R: Rank, L: Ledger>(
     requires node { node < length nodes.now }
     requires laid_out { IsLaidOut R.KEYS R.key (tree_data nodes.now) }
     requires solved { IsSolvedFrom R.KEYS R.key (tree_data nodes.now) (node + 1) }
-    requires leasts { AreLeastsFrom R.KEYS R.key (tree_data nodes.now) (node + 1) (map (λ ls. ls.items) leasts.now) }
+    requires leasts { AreLeastsFrom R.KEYS R.key (tree_data nodes.now) (node + 1)
+        (map (λ ls. ls.items) leasts.now) }
     ensures count { IfOk result (λ bests. length bests.items ≡ rows (tree_data nodes.now) node) }
-    ensures bests { IfOk result (λ bests. (r : ℕ) → r < rows (tree_data nodes.now) node → key_at R.KEYS R.key bests.items r ≡ by_children R.KEYS R.key (tree_data nodes.now) node r) }
+    ensures bests { IfOk result
+        (λ bests. (r : ℕ) → r < rows (tree_data nodes.now) node
+        → key_at R.KEYS R.key bests.items r
+        ≡ by_children R.KEYS R.key (tree_data nodes.now) node r) }
     ensures cost { steps.new ≤ steps.old + rows (tree_data nodes.now) node * length nodes.now }
 {
     let mut bests = Vec::with_capacity(alloc, nodes[node].rows.len())?;
@@ -49,7 +53,8 @@ fn row_best<R: Rank, L: Ledger>(
     requires row { row < rows (tree_data nodes.now) node }
     requires laid_out { IsLaidOut R.KEYS R.key (tree_data nodes.now) }
     requires solved { IsSolvedFrom R.KEYS R.key (tree_data nodes.now) (node + 1) }
-    requires leasts { AreLeastsFrom R.KEYS R.key (tree_data nodes.now) (node + 1) (map (λ ls. ls.items) leasts.now) }
+    requires leasts { AreLeastsFrom R.KEYS R.key (tree_data nodes.now) (node + 1)
+        (map (λ ls. ls.items) leasts.now) }
     ensures best { R.key result ≡ by_children R.KEYS R.key (tree_data nodes.now) node row }
     ensures cost { steps.new ≤ steps.old + length nodes.now }
 {
@@ -69,9 +74,10 @@ fn row_best<R: Rank, L: Ledger>(
 fn named_group<R: Rank>(nodes: &[NodeParts<R>], node: usize, row: usize, child: usize) -> usize
     requires node { node < length nodes.now }
     requires row { row < length (node_at (tree_data nodes.now) node).to_child }
-    requires child { child < length (slice_index_or (node_at (tree_data nodes.now) node).to_child row []) }
+    requires child { child
+        < length (slice_index_or (node_at (tree_data nodes.now) node).to_child row []) }
     requires few { child < 16 }
     ensures { result ≡ group_named (tree_data nodes.now) node row child }
 {
-    nodes[node].to_child[row][child] as usize
+    nodes[node].to_child.get(row, child) as usize
 }

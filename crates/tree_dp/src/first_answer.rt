@@ -16,8 +16,11 @@ use tdp_core::{Answer, Tree};
 /// nodes it takes at most 4 * m steps, and no memory.
 pub fn first<R: Rank, L: Ledger>(tree: &Tree<R>, steps: &mut Steps<L>) -> Option<Answer<R>>
     requires { IsTieFreeTree tree.now }
-    ensures none { (ks : List (KeyOf R.KEYS 16)) → IsTreeRanking tree.now R.KEYS R.key ks → IfNone result (ks ≡ []) }
-    ensures head { (ks : List (KeyOf R.KEYS 16)) → IsTreeRanking tree.now R.KEYS R.key ks → IfSome result (λ a. slice_get (answers_of R.KEYS ks) 0 ≡ Some (record { rows = a.rows; key = numbers R.KEYS 16 (R.key a.rank) })) }
+    ensures none { (ks : List (KeyOf R.KEYS 16)) → IsTreeRanking tree.now R.KEYS R.key ks
+        → IfNone result (ks ≡ []) }
+    ensures head { (ks : List (KeyOf R.KEYS 16)) → IsTreeRanking tree.now R.KEYS R.key ks
+        → IfSome result (λ a. slice_get (answers_of R.KEYS ks) 0
+        ≡ Some (record { rows = a.rows; key = numbers R.KEYS 16 (R.key a.rank) })) }
     ensures cost { steps.new ≤ steps.old + 4 * length tree.now }
 {
     if !tree.live() {
@@ -62,7 +65,8 @@ fn first_row<R: Rank, L: Ledger>(
     requires node { node < length tree.now }
     requires above { (q : ℕ) → q < node → slice_index chosen.now q < rows tree.now q }
     requires long { node ≤ length chosen.now }
-    ensures first { result ≡ slice_index (group tree.now node (slice_index chosen.now (parent tree.now node))) 0 }
+    ensures first { result
+        ≡ slice_index (group tree.now node (slice_index chosen.now (parent tree.now node))) 0 }
     ensures row { result < rows tree.now node }
     ensures cost { steps.new ≤ steps.old + 2 }
 {
@@ -82,7 +86,8 @@ fn named_group<R: Rank, L: Ledger>(
     requires node { node < length tree.now }
     requires above { (q : ℕ) → q < node → slice_index chosen.now q < rows tree.now q }
     requires long { node ≤ length chosen.now }
-    ensures group { result ≡ group_number tree.now node (slice_index chosen.now (parent tree.now node)) }
+    ensures group { result
+        ≡ group_number tree.now node (slice_index chosen.now (parent tree.now node)) }
     ensures cost { steps.new ≤ steps.old + 1 }
 {
     let above = tree.shape(node).parent;

@@ -22,12 +22,19 @@ pub(crate) fn order_groups<R: Rank, L: Ledger>(
     steps: &mut Steps<L>,
 ) -> Result<Vec<R>, NoMemory>
     requires rows { (g : ℕ) → All (λ r. r < length best.now) (slice_index_or groups.old g []) }
-    requires inhabited { (g : ℕ) → g < length groups.old → 0 < length (slice_index_or groups.old g []) }
+    requires inhabited { (g : ℕ) → g < length groups.old
+        → 0 < length (slice_index_or groups.old g []) }
     ensures group_count { OnOk result (length groups.new ≡ length groups.old) }
-    ensures same_rows { OnOk result ((g : ℕ) → IsPermutation (slice_index_or groups.old g []) (slice_index_or groups.new g [])) }
-    ensures heaps { OnOk result ((g : ℕ) → IsHeapOver R.KEYS R.key best.now (slice_index_or groups.new g [])) }
+    ensures same_rows { OnOk result
+        ((g : ℕ) → IsPermutation (slice_index_or groups.old g [])
+        (slice_index_or groups.new g [])) }
+    ensures heaps { OnOk result
+        ((g : ℕ) → IsHeapOver R.KEYS R.key best.now (slice_index_or groups.new g [])) }
     ensures least_count { IfOk result (λ leasts. length leasts.items ≡ length groups.old) }
-    ensures leasts { IfOk result (λ leasts. (g : ℕ) → g < length groups.old → key_at R.KEYS R.key leasts.items g ≡ key_at R.KEYS R.key best.now (slice_index (slice_index_or groups.new g []) 0)) }
+    ensures leasts { IfOk result
+        (λ leasts. (g : ℕ) → g < length groups.old
+        → key_at R.KEYS R.key leasts.items g
+        ≡ key_at R.KEYS R.key best.now (slice_index (slice_index_or groups.new g []) 0)) }
     ensures cost { steps.new ≤ steps.old + 2 * length (concat groups.old) }
 {
     let mut leasts = Vec::with_capacity(alloc, groups.len())?;
@@ -52,7 +59,8 @@ fn order_group<R: Rank, L: Ledger>(
     requires inhabited { 0 < length group.now }
     ensures same_rows { OnOk result (IsPermutation group.now rows.new.items) }
     ensures heap { OnOk result (IsHeapOver R.KEYS R.key best.now rows.new.items) }
-    ensures least { IfOk result (λ least. R.key least ≡ key_at R.KEYS R.key best.now (slice_index rows.new.items 0)) }
+    ensures least { IfOk result
+        (λ least. R.key least ≡ key_at R.KEYS R.key best.now (slice_index rows.new.items 0)) }
     ensures cost { steps.new ≤ steps.old + 2 * length group.now }
 {
     rows.clear();

@@ -25,7 +25,9 @@ pub fn solve<R: Rank, L: Ledger>(
 ) -> Result<Tree<R>, NoMemory>
     requires { IsGrouped R.KEYS R.key (tree_data reduced.nodes.items) }
     ensures solved { IfOk result (λ tree. IsSolved (tree_data reduced.nodes.items) tree) }
-    ensures cost { steps.new ≤ steps.old + 4 * length reduced.nodes.items * (1 + row_count (tree_data reduced.nodes.items)) }
+    ensures cost { steps.new
+        ≤ steps.old + 4 * length reduced.nodes.items
+        * (1 + row_count (tree_data reduced.nodes.items)) }
 {
     let mut nodes = reduced.nodes;
     solve_nodes(alloc, nodes.as_mut_slice(), steps)?;
@@ -39,9 +41,12 @@ fn solve_nodes<R: Rank, L: Ledger>(
     steps: &mut Steps<L>,
 ) -> Result<(), NoMemory>
     requires { IsLaidOut R.KEYS R.key (tree_data nodes.old) }
-    ensures reordered { OnOk result ((v : ℕ) → IsReordered (node_at (tree_data nodes.old) v) (node_at (tree_data nodes.new) v)) }
+    ensures reordered { OnOk result
+        ((v : ℕ) → IsReordered (node_at (tree_data nodes.old) v)
+        (node_at (tree_data nodes.new) v)) }
     ensures solved { OnOk result (IsSolvedFrom R.KEYS R.key (tree_data nodes.new) 0) }
-    ensures cost { steps.new ≤ steps.old + row_count (tree_data nodes.old) * (length nodes.old + 2) }
+    ensures cost { steps.new
+        ≤ steps.old + row_count (tree_data nodes.old) * (length nodes.old + 2) }
 {
     let mut leasts: Vec<Vec<R>> = Vec::new(alloc);
     for node in (0..nodes.len()).rev() {
@@ -63,11 +68,17 @@ fn solve_node<R: Rank, L: Ledger>(
     requires node { node < length nodes.old }
     requires laid_out { IsLaidOut R.KEYS R.key (tree_data nodes.old) }
     requires solved { IsSolvedFrom R.KEYS R.key (tree_data nodes.old) (node + 1) }
-    requires leasts { AreLeastsFrom R.KEYS R.key (tree_data nodes.old) (node + 1) (map (λ ls. ls.items) leasts.now) }
-    ensures reordered { OnOk result ((v : ℕ) → IsReordered (node_at (tree_data nodes.old) v) (node_at (tree_data nodes.new) v)) }
+    requires leasts { AreLeastsFrom R.KEYS R.key (tree_data nodes.old) (node + 1)
+        (map (λ ls. ls.items) leasts.now) }
+    ensures reordered { OnOk result
+        ((v : ℕ) → IsReordered (node_at (tree_data nodes.old) v)
+        (node_at (tree_data nodes.new) v)) }
     ensures solved { OnOk result (IsSolvedFrom R.KEYS R.key (tree_data nodes.new) node) }
-    ensures leasts { IfOk result (λ own. AreLeastsFrom R.KEYS R.key (tree_data nodes.new) node (own.items ∷ map (λ ls. ls.items) leasts.now)) }
-    ensures cost { steps.new ≤ steps.old + rows (tree_data nodes.old) node * (length nodes.old + 2) }
+    ensures leasts { IfOk result
+        (λ own. AreLeastsFrom R.KEYS R.key (tree_data nodes.new) node
+        (own.items ∷ map (λ ls. ls.items) leasts.now)) }
+    ensures cost { steps.new
+        ≤ steps.old + rows (tree_data nodes.old) node * (length nodes.old + 2) }
 {
     let best = bests_of(alloc, nodes, node, leasts, steps)?;
     let parts = &mut nodes[node];
