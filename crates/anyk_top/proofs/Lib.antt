@@ -3,6 +3,7 @@ pub mod Left
 pub mod Ends
 pub mod Judging
 pub mod Bounds
+pub mod Inputs
 pub mod PlanList
 pub mod UnionRun
 pub mod Verifying

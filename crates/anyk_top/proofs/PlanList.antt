@@ -15,7 +15,7 @@ use Rattle.plan_build.specs.RankedPlan.{IsRankedPlan, fixed_key}
 use Rattle.plan_build.specs.declared.fault.PlanFault.{PlanFault}
 use Rattle.plan_build.specs.declared.fault.PlanFault.TheVariants as fault
 use Rattle.plan_build.specs.declared.ranked_plan.RankedPlan.{RankedPlan}
-use Rattle.plan_build.specs.declared.ranked_plan.RankedPlan.TheVariants.{Lex, Sum}
+use Rattle.plan_build.specs.declared.ranked_plan.RankedPlan.TheVariants.{Lex, MiddleSum, SmallLex, SmallSum, Sum}
 use Rattle.plan_build.proofs.Rooted.{whole-of}
 use Rattle.plan_build.proofs.ShapeIs.{plan-shape}
 use Rattle.query_bind.specs.Weighed.{BoundQuery}
@@ -34,7 +34,7 @@ use Rattle.verdict.specs.UnionBound.{HaveShapes}
 use Rattle.verdict.specs.Verdict.{AreStructures, IsFlawed, IsShaped, IsStructure}
 use Rattle.verdict.proofs.Staging.{pure_refused}
 use Rattle.verdict.proofs.Structure.{shapes_found, structures_refused}
-use Rattle.anyk_top.specs.Planned.{ArePrepared, HavePlans, found_by, plan_reason, preparation_of, shapes_of}
+use Rattle.anyk_top.specs.Planned.{ArePrepared, HavePlans, IsOnePlanOf, found_by, plan_reason, preparation_of, shapes_of}
 use Rattle.anyk_top.specs.Planned.{shown_shape}
 
 -- # One query
@@ -48,8 +48,11 @@ plan-structured d key query tables best made is =
 pub planned-shown : (query : BoundQuery) (tables : List Table) (best : Option ℕ) (made : RankedPlan)
     → IsRankedPlan query tables best made
     → Pure (IsStructure None tables query.query) (shown_shape (Ok made))
-planned-shown query tables best (Sum made) is = plan-structured 1 (fixed_key 1) query tables best made is
-planned-shown query tables best (Lex made) is = plan-structured 8 (fixed_key 8) query tables best made is
+planned-shown query tables best (SmallSum made) is = plan-structured 1 (fixed_key 1 4) query tables best made is
+planned-shown query tables best (MiddleSum made) is = plan-structured 1 (fixed_key 1 8) query tables best made is
+planned-shown query tables best (Sum made) is = plan-structured 1 (fixed_key 1 16) query tables best made is
+planned-shown query tables best (SmallLex made) is = plan-structured 2 (fixed_key 2 4) query tables best made is
+planned-shown query tables best (Lex made) is = plan-structured 8 (fixed_key 8 16) query tables best made is
 
 pub flawed-shown : (query : Query) (tables : List Table) (fault : PlanFault) → TellsFlaw query tables fault
     → Pure (IsStructure None tables query) (Err (plan_reason None fault))
@@ -274,3 +277,17 @@ one-cost input query only before now h =
     subst (λ (qs : List BoundQuery). ArePrepared (queries_in qs) input.tables before now) only h in
     let sum = sum_by-cons (preparation_of input.tables) query.query [] in
     omega (arith, own, sum)
+
+-- the first query of an input that has one plan
+module _ {R : Type 0} (d : ℕ) (key : R → KeyOf d 16) (input : InputData) (made : PlanData R) (query : BoundQuery)
+    (is : IsOnePlanOf d key input.queries input.tables input.best made) (first : query ≡ get_or input.queries 0 query)
+  where
+    first-same : query ≡ is.query
+    first-same = first ∙ ap (λ (l : List BoundQuery). get_or l 0 query) is.only
+
+    pub first-planned : IsPlanOf d key query input.tables input.best made
+    first-planned =
+        subst (λ (q : BoundQuery). IsPlanOf d key q input.tables input.best made) (sym first-same) is.is_plan
+
+    pub first-only : input.queries ≡ query ∷ []
+    first-only = is.only ∙ ap (λ (q : BoundQuery). q ∷ []) (sym first-same)

@@ -8,7 +8,13 @@ use Rattle.verdict.specs.Words.{Words, Asked, no_command, built, run, plan, sess
 
 -- all but the engine, which does not change the output
 abbrev pub words_of : WordsSaid → Words
-words_of said = record { ranks = said.ranks; rows = said.rows; best_of = said.best_of; query = said.query; tables = said.tables }
+words_of said = record {
+  ranks = said.ranks;
+  rows = said.rows;
+  best_of = said.best_of;
+  query = said.query;
+  tables = said.tables;
+}
 
 -- `clap` accepts the arguments of a session only if a script is among them
 abbrev pub asked_session : Option (List ℕ) → Words → Asked

@@ -15,12 +15,14 @@ use Rattle.witness_key.specs.WitnessKey.{AreCombinations, combinations_in}
 
 -- the list that is asked for of the query: its ranking, or the best answer of each row of the item
 -- that is named
-pub record IsAskedList (query : Query) (tables : List Table) (best : Option ℕ) (rest : List Seen) : Type 0 where
+pub record IsAskedList (query : Query) (tables : List Table) (best : Option ℕ)
+    (rest : List Seen) : Type 0 where
   pub list : combinations_in query rest ≡ list_of query tables best
   pub rows : AreCombinations query tables rest
 
 -- an engine over the plan that was not called yet, and has all answers of its query left
-pub record IsStarted {R : Type 0} (d : ℕ) (key : R → KeyOf d 16) (plan : PlanData R) (engine : ChosenEngine R)
+pub record IsStarted {R : Type 0} (d : ℕ) (key : R → KeyOf d 16) (plan : PlanData R)
+    (engine : ChosenEngine R)
     : Type 0 where
   pub tree : tree_of engine ≡ plan.tree
   pub calls : calls_of engine ≡ 0
@@ -28,7 +30,8 @@ pub record IsStarted {R : Type 0} (d : ℕ) (key : R → KeyOf d 16) (plan : Pla
       → IsAskedList bound.query tables None (rest_of d key engine)
 
 -- an engine for each plan, in order
-abbrev pub AreStarted : {R : Type 0} (d : ℕ) → (R → KeyOf d 16) → List (PlanData R) → List (ChosenEngine R) → Type 0
+abbrev pub AreStarted : {R : Type 0} (d : ℕ) → (R → KeyOf d 16) → List (PlanData R)
+    → List (ChosenEngine R) → Type 0
 AreStarted d key plans engines = AllZip (IsStarted d key) plans engines
 
 -- the most steps that making the engine of a plan may take

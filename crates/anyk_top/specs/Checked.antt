@@ -37,17 +37,21 @@ shape_reason shape_fault.NoMemory = reason.NoMemory
 
 -- the structure of one query, and then the certificate
 abbrev pub IsCheckedFor : Query → List Table → Certificate → Result (Unit {0}) Reason → Type 0
-IsCheckedFor query tables proof = Then (IsStructure None tables query) (λ shape. IsCertified query tables shape proof)
+IsCheckedFor query tables proof = Then (IsStructure None tables query)
+    (λ shape. IsCertified query tables shape proof)
 
 -- the structure of what was loaded, and then the certificate: what is found has a structure, which is not kept
 abbrev pub IsVerifiedIn : {A : Type 0} → Loaded → Result A Refusal → Type 0
-IsVerifiedIn loaded (Ok answers) = (shape : Shape) × Then (IsShaped loaded) IsVerified (Ok (found_of loaded (shape ∷ [])))
-IsVerifiedIn loaded (Err refusal) = Pure (Then (IsShaped loaded) IsVerified) (Err (reason_of refusal))
+IsVerifiedIn loaded (Ok answers) = (shape : Shape)
+    × Then (IsShaped loaded) IsVerified (Ok (found_of loaded (shape ∷ [])))
+IsVerifiedIn loaded (Err refusal) = Pure (Then (IsShaped loaded) IsVerified)
+    (Err (reason_of refusal))
 
 -- the verdict on the files of the shelf: what is found has a structure, which is not kept
 abbrev pub IsChecked : Command → Shelved → Shelved → Result Checked Refusal → Type 0
 IsChecked command old new (Ok checked) =
-    (shape : Shape) × IsJudgedOn command old new (Ok (found_of (loaded_of checked.input) (shape ∷ [])))
+    (shape : Shape) × IsJudgedOn command old new
+    (Ok (found_of (loaded_of checked.input) (shape ∷ [])))
 IsChecked command old new (Err refusal) = IsJudgedOn command old new (Err (reason_of refusal))
 
 -- the input has one query and no item whose rows are asked for, and these are its first answers
@@ -55,4 +59,5 @@ pub record HasAnswers (input : InputData) (answers : List (List ℕ)) : Type 0 w
   pub query : BoundQuery
   pub only : input.queries ≡ query ∷ []
   pub unnamed : input.best ≡ None
-  pub listed : item_rows query.query answers ≡ cut query.query.limit (ranking_of query.query input.tables)
+  pub listed : item_rows query.query answers
+      ≡ cut query.query.limit (ranking_of query.query input.tables)

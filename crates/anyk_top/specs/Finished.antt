@@ -15,4 +15,5 @@ pub record HasSent (old new : SinkState) (line : List ℕ) : Type 0 where
 
 abbrev pub Finished : SinkState → SinkState → Result (Unit {0}) Refusal → ℕ → Type 0
 Finished old new (Ok done) status = (status ≡ 0) × Appends old.written new.written []
-Finished old new (Err refusal) status = (status ≡ status_of (reason_of refusal)) × HasSent old new (line_of (reason_of refusal))
+Finished old new (Err refusal) status = (status ≡ status_of (reason_of refusal))
+    × HasSent old new (line_of (reason_of refusal))

@@ -13,7 +13,13 @@ use Rattle.verdict.specs.Words.{Aside, Command, Sought, Words, built, run, plan,
 -- what words name, with several branches if they are allowed, and with this script or certificate and this alias
 abbrev pub sought_in : Words → Bool → Aside → Option (List ℕ) → Sought
 sought_in words several aside best_of =
-    record { query = words.query; several = several; aside = aside; named = words.tables; best_of = best_of }
+    record {
+      query = words.query;
+      several = several;
+      aside = aside;
+      named = words.tables;
+      best_of = best_of;
+    }
 
 -- the input that the files of the shelf have, or a cause on the way
 abbrev pub IsLookedUp : Sought → Shelved → Shelved → Result Loaded Reason → Type 0
@@ -23,9 +29,11 @@ IsLookedUp sought old new result = Staged (IsLoadedOn sought) (IsTurn sought) ol
 abbrev pub IsLooked : Command → Shelved → Shelved → Result Loaded Reason → Type 0
 IsLooked (run words) old new result = IsLookedUp (sought_by (run words)) old new result
 IsLooked (plan words) old new result = IsLookedUp (sought_by (plan words)) old new result
-IsLooked (session script words) old new result = IsLookedUp (sought_by (session script words)) old new result
+IsLooked (session script words) old new result = IsLookedUp
+    (sought_by (session script words)) old new result
 IsLooked (prove words) old new result = IsLookedUp (sought_by (prove words)) old new result
-IsLooked (verify proof words) old new result = IsLookedUp (sought_by (verify proof words)) old new result
+IsLooked (verify proof words) old new result = IsLookedUp
+    (sought_by (verify proof words)) old new result
 IsLooked (load number rows) old new result =
     Pure (IsLoadedOn (sought_by (load number rows)) (made_files number rows)) result × (new ≡ old)
 
@@ -40,7 +48,8 @@ HasOne (verify proof words) input = (length input.queries ≡ 1) × (input.best 
 
 -- the verdict on the files of the shelf, or a cause on the way
 abbrev pub IsJudgedOn : Command → Shelved → Shelved → Result Found Reason → Type 0
-IsJudgedOn command old new result = Staged (IsVerdict (built command)) (IsTurn (sought_by command)) old new result
+IsJudgedOn command old new result = Staged (IsVerdict (built command))
+    (IsTurn (sought_by command)) old new result
 
 abbrev pub IsJudged : Command → Shelved → Shelved → Result Found Reason → Type 0
 IsJudged (run words) old new result = IsJudgedOn (run words) old new result
@@ -48,7 +57,8 @@ IsJudged (plan words) old new result = IsJudgedOn (plan words) old new result
 IsJudged (session script words) old new result = IsJudgedOn (session script words) old new result
 IsJudged (prove words) old new result = IsJudgedOn (prove words) old new result
 IsJudged (verify proof words) old new result = IsJudgedOn (verify proof words) old new result
-IsJudged (load number rows) old new result = Pure (IsVerdict (built (load number rows)) []) result × (new ≡ old)
+IsJudged (load number rows) old new result = Pure (IsVerdict (built (load number rows)) []) result
+    × (new ≡ old)
 
 -- no item is named, unless the command may name one
 abbrev pub IsUnnamed : Command → Option ℕ → Type 0

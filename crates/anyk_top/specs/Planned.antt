@@ -12,7 +12,7 @@ use Rattle.plan_build.specs.RankedPlan.{IsRankedPlan, fixed_key}
 use Rattle.plan_build.specs.declared.fault.PlanFault.{PlanFault}
 use Rattle.plan_build.specs.declared.fault.PlanFault.TheVariants as fault
 use Rattle.plan_build.specs.declared.ranked_plan.RankedPlan.{RankedPlan}
-use Rattle.plan_build.specs.declared.ranked_plan.RankedPlan.TheVariants.{Sum, Lex}
+use Rattle.plan_build.specs.declared.ranked_plan.RankedPlan.TheVariants.{Lex, MiddleSum, SmallLex, SmallSum, Sum}
 use Rattle.query_bind.specs.Parts.{sum_of_all}
 use Rattle.query_bind.specs.Weighed.{BoundQuery}
 use Rattle.query_shape.specs.Shape.{Shape}
@@ -37,7 +37,10 @@ use Rattle.anyk_top.specs.declared.planning.Plans.TheVariants.{One, Sums, Lexes}
 
 -- the join tree of a plan, with the numbers of its node rows
 abbrev pub shape_in : RankedPlan → Shape
+shape_in (SmallSum made) = shape_of made
+shape_in (MiddleSum made) = shape_of made
 shape_in (Sum made) = shape_of made
+shape_in (SmallLex made) = shape_of made
 shape_in (Lex made) = shape_of made
 
 -- that of each plan
@@ -53,7 +56,8 @@ abbrev pub shown_shape : Result RankedPlan Refusal → Result Shape Reason
 shown_shape (Ok made) = Ok (shape_in made)
 shown_shape (Err refusal) = Err (reason_of refusal)
 
-abbrev pub shown_shapes : {R : Type 0} → Result (Vec (PlanData R) Global) Refusal → Result (List Shape) Reason
+abbrev pub shown_shapes : {R : Type 0} → Result (Vec (PlanData R) Global) Refusal
+    → Result (List Shape) Reason
 shown_shapes (Ok plans) = Ok (shapes_of plans.items)
 shown_shapes (Err refusal) = Err (reason_of refusal)
 
@@ -89,33 +93,44 @@ plan_reason branch fault.NoMemory = reason.NoMemory
 -- ---- the plans of the queries
 
 -- the plan of each query in order
-abbrev pub HavePlans : {R : Type 0} (d : ℕ) → (R → KeyOf d 16) → List Table → List BoundQuery → List (PlanData R)
+abbrev pub HavePlans : {R : Type 0} (d : ℕ) → (R → KeyOf d 16) → List Table → List BoundQuery
+    → List (PlanData R)
     → Type 0
 HavePlans d key tables queries plans =
     AllZip (λ query made. IsPlanOf d key query tables None made) queries plans
 
 -- the plan of the one query
-pub record IsOnePlan (queries : List BoundQuery) (tables : List Table) (best : Option ℕ) (made : RankedPlan)
+pub record IsOnePlanOf {R : Type 0} (d : ℕ) (key : R → KeyOf d 16) (queries : List BoundQuery)
+    (tables : List Table) (best : Option ℕ) (made : PlanData R)
     : Type 0 where
   pub query : BoundQuery
   pub only : queries ≡ query ∷ []
-  pub is_plan : IsRankedPlan query tables best made
+  pub is_plan : IsPlanOf d key query tables best made
+
+-- the same with the ranks that its order needs
+abbrev pub IsOnePlan : List BoundQuery → List Table → Option ℕ → RankedPlan → Type 0
+IsOnePlan queries tables best (SmallSum made) = IsOnePlanOf 1 (fixed_key 1 4) queries tables best made
+IsOnePlan queries tables best (MiddleSum made) = IsOnePlanOf 1 (fixed_key 1 8) queries tables best made
+IsOnePlan queries tables best (Sum made) = IsOnePlanOf 1 (fixed_key 1 16) queries tables best made
+IsOnePlan queries tables best (SmallLex made) = IsOnePlanOf 2 (fixed_key 2 4) queries tables best made
+IsOnePlan queries tables best (Lex made) = IsOnePlanOf 8 (fixed_key 8 16) queries tables best made
 
 -- the plans of the queries of an input: of one query with the item that is named, and of several by
 -- one rank type
 abbrev pub ArePlans : InputData → Plans → Type 0
 ArePlans input (One made) = IsOnePlan input.queries input.tables input.best made
 ArePlans input (Sums plans) =
-    (1 < length input.queries) × HavePlans 1 (fixed_key 1) input.tables input.queries plans.items
+    (1 < length input.queries) × HavePlans 1 (fixed_key 1 16) input.tables input.queries plans.items
 ArePlans input (Lexes plans) =
-    (1 < length input.queries) × HavePlans 8 (fixed_key 8) input.tables input.queries plans.items
+    (1 < length input.queries) × HavePlans 8 (fixed_key 8 16) input.tables input.queries plans.items
 
 -- ---- the steps of the preparation
 
 -- the most steps that the preparation of a query's plan may take
 abbrev pub preparation_of : List Table → Query → ℕ
 preparation_of tables query =
-    16 * (length query.items * length query.items * (1 + sum_of_all (row_counts query.items tables)))
+    16 * (length query.items * length query.items
+    * (1 + sum_of_all (row_counts query.items tables)))
 
 -- no more steps than the preparation of the plans of all queries may take
 abbrev pub ArePrepared : List Query → List Table → ℕ → ℕ → Type 0
@@ -126,7 +141,8 @@ ArePrepared queries tables before now = now ≤ before + sum_by (preparation_of 
 abbrev pub IsEarlyFor : Command → Found → ℕ → ℕ → Type 0
 IsEarlyFor (run words) found before now = ArePrepared found.queries found.tables before now
 IsEarlyFor (plan words) found before now = IsPrepared (query_of found) found.tables before now
-IsEarlyFor (session script words) found before now = IsPrepared (query_of found) found.tables before now
+IsEarlyFor (session script words) found before now = IsPrepared
+    (query_of found) found.tables before now
 IsEarlyFor (prove words) found before now = Unit {0}
 IsEarlyFor (verify proof words) found before now = Unit {0}
 IsEarlyFor (load number rows) found before now = IsPrepared (query_of found) found.tables before now

@@ -5,7 +5,8 @@ use Rattle.outer_io.specs.declared.sink.Sink.{Ghosts as SinkGhosts}
 use Rattle.verdict.specs.Outcome.{Outside}
 
 -- the files, the output and the errors
-abbrev pub outside : {F S E : Type 0} → ShelfGhosts F → SinkGhosts S → SinkGhosts E → F → S → E → Outside
+abbrev pub outside : {F S E : Type 0} → ShelfGhosts F → SinkGhosts S → SinkGhosts E → F → S → E
+    → Outside
 outside files output errors shelf out err = record {
   misses = files.misses shelf;
   read_faults = files.faults shelf;

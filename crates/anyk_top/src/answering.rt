@@ -16,7 +16,7 @@ ghost use Rattle.verdict.specs.Outcome.{IsReason, IsCaused, IsComplete, IsCut};
 ghost use Rattle.verdict.specs.Output.{HasOutput};
 ghost use Rattle.verdict.specs.Words.{built};
 ghost use Rattle.anyk_top.specs.Judged.{HasOne, IsUnnamed};
-ghost use Rattle.anyk_top.specs.Planned.{ArePlans, ArePrepared, HavePlans, IsOnePlan, found_by};
+ghost use Rattle.anyk_top.specs.Planned.{ArePlans, ArePrepared, HavePlans, IsOnePlan, IsOnePlanOf, found_by};
 ghost use Rattle.anyk_top.specs.Planned.{found_in, shape_in, shapes_of};
 ghost use Rattle.anyk_top.specs.Requests.{asked_by, command_of};
 ghost use Rattle.anyk_top.specs.Sides.{seen_by};
@@ -70,7 +70,8 @@ pub(crate) fn answer<'a, F: Shelf, S: Sink, L: Ledger>(
     ensures bounded { IsBounded (built (asked_by request.now))
         (known_to (built (asked_by request.now)) (F.files shelf.old)) steps.old steps.new }
     ensures prompt { IsPrompt (built (asked_by request.now))
-        (known_to (built (asked_by request.now)) (F.files shelf.old)) (S.written out.old) (S.written out.new) steps.old steps.new }
+        (known_to (built (asked_by request.now)) (F.files shelf.old)) (S.written out.old)
+        (S.written out.new) steps.old steps.new }
 {
     match request {
         Request::Planned(task) => answer_planned(alloc, task, shelf, out, keys, steps),
@@ -105,7 +106,8 @@ fn answer_planned<'a, F: Shelf, S: Sink, L: Ledger>(
     ensures bounded { IsBounded (built (command_of task.now))
         (known_to (built (command_of task.now)) (F.files shelf.old)) steps.old steps.new }
     ensures prompt { IsPrompt (built (command_of task.now))
-        (known_to (built (command_of task.now)) (F.files shelf.old)) (S.written out.old) (S.written out.new) steps.old steps.new }
+        (known_to (built (command_of task.now)) (F.files shelf.old)) (S.written out.old)
+        (S.written out.new) steps.old steps.new }
 {
     let planned = plan_task(alloc, task, shelf, keys, steps)?;
     print_planned(alloc, task, &planned, out, steps)
@@ -124,10 +126,12 @@ fn print_planned<'a, S: Sink, L: Ledger>(
     ensures printed { PrintedSome (HasOutput (command_of task.now) (found_in planned.now))
         (state_of S.Sink out.old) (state_of S.Sink out.new) result }
     ensures bounded { (before : ℕ)
-        → ArePrepared (queries_in planned.now.input.queries) planned.now.input.tables before steps.old
+        → ArePrepared (queries_in planned.now.input.queries) planned.now.input.tables before
+        steps.old
         → IsWithin (command_of task.now) (found_in planned.now) before steps.new }
     ensures paced { (before : ℕ)
-        → ArePrepared (queries_in planned.now.input.queries) planned.now.input.tables before steps.old
+        → ArePrepared (queries_in planned.now.input.queries) planned.now.input.tables before
+        steps.old
         → IsPaced (command_of task.now) (found_in planned.now)
         (S.written out.old) (S.written out.new) before steps.new }
 {
@@ -150,25 +154,57 @@ fn print_one<'a, S: Sink, L: Ledger>(
 ) -> Result<(), Refusal<'a>>
     requires plan { IsOnePlan input.now.queries input.now.tables input.now.best plan.now }
     requires alone { HasOne (command_of task.now) input.now }
-    ensures printed { PrintedSome (HasOutput (command_of task.now) (found_of (loaded_of input.now) (shape_in plan.now ∷ [])))
+    ensures printed { PrintedSome
+        (HasOutput (command_of task.now) (found_of (loaded_of input.now) (shape_in plan.now ∷ [])))
         (state_of S.Sink out.old) (state_of S.Sink out.new) result }
-    ensures bounded { (before : ℕ) → ArePrepared (queries_in input.now.queries) input.now.tables before steps.old
-        → IsWithin (command_of task.now) (found_of (loaded_of input.now) (shape_in plan.now ∷ [])) before steps.new }
-    ensures paced { (before : ℕ) → ArePrepared (queries_in input.now.queries) input.now.tables before steps.old
+    ensures bounded { (before : ℕ)
+        → ArePrepared (queries_in input.now.queries) input.now.tables before steps.old
+        → IsWithin (command_of task.now)
+        (found_of (loaded_of input.now) (shape_in plan.now ∷ [])) before steps.new }
+    ensures paced { (before : ℕ)
+        → ArePrepared (queries_in input.now.queries) input.now.tables before steps.old
         → IsPaced (command_of task.now) (found_of (loaded_of input.now) (shape_in plan.now ∷ []))
+        (S.written out.old) (S.written out.new) before steps.new }
+{
+    match plan {
+        RankedPlan::SmallSum(plan) => print_plan(alloc, task, plan, input, out, steps),
+        RankedPlan::MiddleSum(plan) => print_plan(alloc, task, plan, input, out, steps),
+        RankedPlan::Sum(plan) => print_plan(alloc, task, plan, input, out, steps),
+        RankedPlan::SmallLex(plan) => print_plan(alloc, task, plan, input, out, steps),
+        RankedPlan::Lex(plan) => print_plan(alloc, task, plan, input, out, steps),
+    }
+}
+
+// Prints the output over one query for one rank type.
+fn print_plan<'a, R: Rank, S: Sink, L: Ledger>(
+    alloc: Global,
+    task: &Task,
+    plan: &Plan<R>,
+    input: &Input,
+    out: &mut S,
+    steps: &mut Steps<L>,
+) -> Result<(), Refusal<'a>>
+    requires plan { IsOnePlanOf R.KEYS R.key input.now.queries input.now.tables input.now.best
+        plan.now }
+    requires alone { HasOne (command_of task.now) input.now }
+    ensures printed { PrintedSome
+        (HasOutput (command_of task.now) (found_of (loaded_of input.now) (shape_of plan.now ∷ [])))
+        (state_of S.Sink out.old) (state_of S.Sink out.new) result }
+    ensures bounded { (before : ℕ)
+        → ArePrepared (queries_in input.now.queries) input.now.tables before steps.old
+        → IsWithin (command_of task.now)
+        (found_of (loaded_of input.now) (shape_of plan.now ∷ [])) before steps.new }
+    ensures paced { (before : ℕ)
+        → ArePrepared (queries_in input.now.queries) input.now.tables before steps.old
+        → IsPaced (command_of task.now) (found_of (loaded_of input.now) (shape_of plan.now ∷ []))
         (S.written out.old) (S.written out.new) before steps.new }
 {
     let query = &input.queries[0];
     let tables = &input.tables;
     let script = input.script.as_slice();
-    match plan {
-        RankedPlan::Sum(plan) => print_output(
-            alloc, task, plan, query, tables, input.best, script, out, steps,
-        ),
-        RankedPlan::Lex(plan) => print_output(
-            alloc, task, plan, query, tables, input.best, script, out, steps,
-        ),
-    }
+    print_output(
+        alloc, task, plan, query, tables, input.best, script, out, steps,
+    )
 }
 
 // Prints the output over several queries, which only `run` may have.
@@ -183,11 +219,15 @@ fn print_branches<'a, R: Rank, S: Sink, L: Ledger>(
     requires several { 1 < length input.now.queries }
     requires alone { HasOne (command_of task.now) input.now }
     requires plans { HavePlans R.KEYS R.key input.now.tables input.now.queries plans.now }
-    ensures printed { PrintedSome (HasOutput (command_of task.now) (found_of (loaded_of input.now) (shapes_of plans.now)))
+    ensures printed { PrintedSome
+        (HasOutput (command_of task.now) (found_of (loaded_of input.now) (shapes_of plans.now)))
         (state_of S.Sink out.old) (state_of S.Sink out.new) result }
-    ensures bounded { (before : ℕ) → ArePrepared (queries_in input.now.queries) input.now.tables before steps.old
-        → IsWithin (command_of task.now) (found_of (loaded_of input.now) (shapes_of plans.now)) before steps.new }
-    ensures paced { (before : ℕ) → ArePrepared (queries_in input.now.queries) input.now.tables before steps.old
+    ensures bounded { (before : ℕ)
+        → ArePrepared (queries_in input.now.queries) input.now.tables before steps.old
+        → IsWithin (command_of task.now)
+        (found_of (loaded_of input.now) (shapes_of plans.now)) before steps.new }
+    ensures paced { (before : ℕ)
+        → ArePrepared (queries_in input.now.queries) input.now.tables before steps.old
         → IsPaced (command_of task.now) (found_of (loaded_of input.now) (shapes_of plans.now))
         (S.written out.old) (S.written out.new) before steps.new }
 {
@@ -217,12 +257,17 @@ fn print_output<'a, R: Rank, S: Sink, L: Ledger>(
     requires plan { IsPlanOf R.KEYS R.key query.now tables.now best plan.now }
     requires unnamed { IsUnnamed (command_of task.now) best }
     ensures printed { (proof : Certificate)
-        → PrintedSome (HasOutput (command_of task.now) (found_by query.now tables.now best script.now proof (shape_of plan.now)))
+        → PrintedSome (HasOutput (command_of task.now)
+        (found_by query.now tables.now best script.now proof (shape_of plan.now)))
         (state_of S.Sink out.old) (state_of S.Sink out.new) result }
-    ensures bounded { (proof : Certificate) (before : ℕ) → IsPrepared query.now.query tables.now before steps.old
-        → IsWithin (command_of task.now) (found_by query.now tables.now best script.now proof (shape_of plan.now)) before steps.new }
-    ensures paced { (proof : Certificate) (before : ℕ) → IsPrepared query.now.query tables.now before steps.old
-        → IsPaced (command_of task.now) (found_by query.now tables.now best script.now proof (shape_of plan.now))
+    ensures bounded { (proof : Certificate) (before : ℕ)
+        → IsPrepared query.now.query tables.now before steps.old
+        → IsWithin (command_of task.now)
+        (found_by query.now tables.now best script.now proof (shape_of plan.now)) before steps.new }
+    ensures paced { (proof : Certificate) (before : ℕ)
+        → IsPrepared query.now.query tables.now before steps.old
+        → IsPaced (command_of task.now)
+        (found_by query.now tables.now best script.now proof (shape_of plan.now))
         (S.written out.old) (S.written out.new) before steps.new }
 {
     match task {

@@ -18,8 +18,10 @@ use std::alloc::Global;
 /// The command that the arguments ask for. `Usage` if they are not a command, and `NoMemory` if
 /// memory is refused.
 pub(crate) fn read_request<'a>(alloc: Global, words: &[String]) -> Result<Request, Refusal<'a>>
-    ensures built { IfOk result (λ request. asked_of (said_of (map string_bytes words.now)) ≡ built (asked_by request)) }
-    ensures early { IfErr result (λ refusal. IsEarly (asked_of (said_of (map string_bytes words.now))) (reason_of refusal)) }
+    ensures built { IfOk result
+        (λ request. asked_of (said_of (map string_bytes words.now)) ≡ built (asked_by request)) }
+    ensures early { IfErr result
+        (λ refusal. IsEarly (asked_of (said_of (map string_bytes words.now))) (reason_of refusal)) }
 {
     match read_words(alloc, words) {
         Ok(command) => request_of(alloc, command),
@@ -30,8 +32,10 @@ pub(crate) fn read_request<'a>(alloc: Global, words: &[String]) -> Result<Reques
 
 fn request_of<'a>(alloc: Global, command: Command) -> Result<Request, Refusal<'a>>
     requires { KeepsRange command }
-    ensures built { IfOk result (λ request. asked_of (Some (seen_command command)) ≡ built (asked_by request)) }
-    ensures early { IfErr result (λ refusal. IsEarly (asked_of (Some (seen_command command))) (reason_of refusal)) }
+    ensures built { IfOk result
+        (λ request. asked_of (Some (seen_command command)) ≡ built (asked_by request)) }
+    ensures early { IfErr result
+        (λ refusal. IsEarly (asked_of (Some (seen_command command))) (reason_of refusal)) }
 {
     match command {
         Command::Run(words) => Ok(Request::Planned(Task::Run(words))),
@@ -48,8 +52,12 @@ fn request_of<'a>(alloc: Global, command: Command) -> Result<Request, Refusal<'a
 
 // The session that these words ask for. `Usage` if they name no script.
 fn session_of<'a>(words: Words) -> Result<Request, Refusal<'a>>
-    ensures built { IfOk result (λ request. asked_of (Some (seen_command (Command.Session words))) ≡ built (asked_by request)) }
-    ensures early { IfErr result (λ refusal. IsEarly (asked_of (Some (seen_command (Command.Session words)))) (reason_of refusal)) }
+    ensures built { IfOk result
+        (λ request. asked_of (Some (seen_command (Command.Session words)))
+        ≡ built (asked_by request)) }
+    ensures early { IfErr result
+        (λ refusal. IsEarly (asked_of (Some (seen_command (Command.Session words))))
+        (reason_of refusal)) }
 {
     let Words {
         engine,
@@ -79,8 +87,12 @@ fn session_of<'a>(words: Words) -> Result<Request, Refusal<'a>>
 
 // The check that these words ask for. `Usage` if they name no certificate.
 fn verify_of<'a>(words: Words) -> Result<Request, Refusal<'a>>
-    ensures built { IfOk result (λ request. asked_of (Some (seen_command (Command.Verify words))) ≡ built (asked_by request)) }
-    ensures early { IfErr result (λ refusal. IsEarly (asked_of (Some (seen_command (Command.Verify words)))) (reason_of refusal)) }
+    ensures built { IfOk result
+        (λ request. asked_of (Some (seen_command (Command.Verify words)))
+        ≡ built (asked_by request)) }
+    ensures early { IfErr result
+        (λ refusal. IsEarly (asked_of (Some (seen_command (Command.Verify words))))
+        (reason_of refusal)) }
 {
     let Words {
         engine,

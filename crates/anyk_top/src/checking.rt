@@ -38,11 +38,14 @@ pub(crate) fn check_proof<'a, L: Ledger>(
     steps: &mut Steps<L>,
 ) -> Result<Vec<[u32; 16]>, Refusal<'a>>
     requires fits { Fits query.now tables.now }
-    ensures checked { Pure (IsCheckedFor query.now.query tables.now (seen_proof proof.now)) (shown_done result) }
+    ensures checked { Pure (IsCheckedFor query.now.query tables.now (seen_proof proof.now))
+        (shown_done result) }
     ensures answers { IfOk result (λ found. item_rows query.now.query found.items
         ≡ cut query.now.query.limit (ranking_of query.now.query tables.now)) }
 {
     let join = join_of(query)?;
+    // there are at most 16 items
+    let _items = query.items();
     if query.keys() <= 1 {
         listed_answers::<SumRank, L>(alloc, query, tables, &join, proof, steps)
     } else {
@@ -56,9 +59,11 @@ fn join_of<'a>(query: &Query) -> Result<JoinTree, Refusal<'a>>
     ensures tree { IfOk result (λ join. HasStoredTree query.now.query join) }
     ensures ordered { IfOk result (λ join. IsTree join.count join.atom join.parent) }
     ensures count { IfOk result (λ join. join.count ≡ length query.now.query.items) }
-    ensures items { IfOk result (λ join. HasItems join.count join.atom (length query.now.query.items)) }
+    ensures items { IfOk result
+        (λ join. HasItems join.count join.atom (length query.now.query.items)) }
     ensures refusal { (tables : List Table)
-        → IfErr result (λ refusal. Pure (IsStructure None tables query.now.query) (Err (reason_of refusal))) }
+        → IfErr result (λ refusal. Pure (IsStructure None tables query.now.query)
+        (Err (reason_of refusal))) }
 {
     match tree_shape(query) {
         Ok(join) => Ok(join),
@@ -86,11 +91,13 @@ fn listed_answers<'a, R: Rank, L: Ledger>(
 ) -> Result<Vec<[u32; 16]>, Refusal<'a>>
     requires fits { Fits query.now tables.now }
     requires keys { length query.now.query.order ≤ R.KEYS }
+    requires slots { length query.now.query.items ≤ R.ITEMS }
     requires tree { HasStoredTree query.now.query join.now }
     requires ordered { IsTree join.now.count join.now.atom join.now.parent }
     requires items { HasItems join.now.count join.now.atom (length query.now.query.items) }
     requires count { join.now.count ≡ length query.now.query.items }
-    ensures checked { Pure (IsCheckedFor query.now.query tables.now (seen_proof proof.now)) (shown_done result) }
+    ensures checked { Pure (IsCheckedFor query.now.query tables.now (seen_proof proof.now))
+        (shown_done result) }
     ensures answers { IfOk result (λ found. item_rows query.now.query found.items
         ≡ cut query.now.query.limit (ranking_of query.now.query tables.now)) }
 {

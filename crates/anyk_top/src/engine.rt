@@ -39,7 +39,8 @@ pub(crate) fn engine_over<'t, R: Rank, L: Ledger>(
         → IfOk result (λ e. IsAskedList bound.query tables best (rest_of R.KEYS R.key e)) }
     // If no item is named, the ranking of the tree is left.
     ensures ranking { best ≡ None → IfOk result (λ e. (ks : List (KeyOf R.KEYS 16))
-        × IsTreeRanking plan.now.tree R.KEYS R.key ks × (rest_of R.KEYS R.key e ≡ answers_of R.KEYS ks)) }
+        × IsTreeRanking plan.now.tree R.KEYS R.key ks
+        × (rest_of R.KEYS R.key e ≡ answers_of R.KEYS ks)) }
     ensures cost { steps.new ≤ steps.old
         + 16 * (length plan.now.tree * (1 + row_count plan.now.tree)) }
 {

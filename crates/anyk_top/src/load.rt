@@ -41,7 +41,8 @@ pub(crate) fn print_load<'a, R: Rank, S: Sink, L: Ledger>(
         (summary_text query.now.query tables.now
         (cut query.now.query.limit (list_of query.now.query tables.now best))) result }
     ensures bounded { (before : ℕ) → IsPrepared query.now.query tables.now before steps.old
-        → KeepsBound query.now.query tables.now (list_of query.now.query tables.now best) before steps.new }
+        → KeepsBound query.now.query tables.now
+        (list_of query.now.query tables.now best) before steps.new }
 {
     let arena = Bump::new(alloc);
     let mut chosen = engine_over(alloc, engine, plan, best, &arena, steps)?;

@@ -78,7 +78,8 @@ fn plans_of<'a, L: Ledger>(
     input: &Input,
     steps: &mut Steps<L>,
 ) -> Result<Plans, Refusal<'a>>
-    ensures shaped { Pure (IsShaped (loaded_of input.now)) (shown_plans (loaded_of input.now) result) }
+    ensures shaped { Pure (IsShaped (loaded_of input.now))
+        (shown_plans (loaded_of input.now) result) }
     ensures plans { IfOk result (ArePlans input.now) }
     ensures cost { ArePrepared (queries_in input.now.queries) input.now.tables steps.old steps.new }
 {
@@ -131,6 +132,7 @@ fn plans_for<'a, R: Rank, L: Ledger>(
     requires few { length queries.now ≤ 8 }
     requires fits { All (λ q. Fits q tables.now) queries.now }
     requires keys { All (λ q. length q.query.order ≤ R.KEYS) queries.now }
+    requires slots { 16 ≤ R.ITEMS }
     ensures shaped { let all = queries_in queries.now in
         Pure (AreStructures true 1 tables.now all) (shown_shapes result) }
     ensures plans { IfOk result (λ v. HavePlans R.KEYS R.key tables.now queries.now v.items) }
@@ -138,6 +140,8 @@ fn plans_for<'a, R: Rank, L: Ledger>(
 {
     let mut plans = Vec::with_capacity(alloc, queries.len())?;
     for query in queries {
+        // there are at most 16 items
+        let _items = query.items();
         match prepare(alloc, query, tables, steps) {
             Ok(plan) => plans.push(plan)?,
             Err(fault) => {

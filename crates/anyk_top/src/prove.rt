@@ -30,9 +30,12 @@ pub(crate) fn print_certificate<'a, R: Rank, S: Sink, L: Ledger>(
     out: &mut S,
     steps: &mut Steps<L>,
 ) -> Result<(), Refusal<'a>>
-    requires plan { (tables : List Table) × Fits query.now tables × IsPlan R.KEYS R.key query.now tables plan.now }
-    ensures printed { (tables : List Table) → Fits query.now tables → IsPlan R.KEYS R.key query.now tables plan.now
-        → PrintedSome (IsProofText query.now.query tables) (state_of S.Sink out.old) (state_of S.Sink out.new) result }
+    requires plan { (tables : List Table) × Fits query.now tables
+        × IsPlan R.KEYS R.key query.now tables plan.now }
+    ensures printed { (tables : List Table) → Fits query.now tables
+        → IsPlan R.KEYS R.key query.now tables plan.now
+        → PrintedSome (IsProofText query.now.query tables) (state_of S.Sink out.old)
+        (state_of S.Sink out.new) result }
 {
     let arena = Bump::new(alloc);
     let mut chosen = engine_over(alloc, engine, plan, None, &arena, steps)?;

@@ -45,9 +45,11 @@ pub(crate) fn print_run<'a, R: Rank, S: Sink, L: Ledger>(
         (output_of query.now.query tables.now (style_of (words_of (seen_words words.now)))
         (cut query.now.query.limit (list_of query.now.query tables.now best))) result }
     ensures bounded { (before : ℕ) → IsPrepared query.now.query tables.now before steps.old
-        → KeepsBound query.now.query tables.now (list_of query.now.query tables.now best) before steps.new }
+        → KeepsBound query.now.query tables.now
+        (list_of query.now.query tables.now best) before steps.new }
     ensures paced { (before : ℕ) → IsPrepared query.now.query tables.now before steps.old
-        → KeepsPace query.now.query tables.now (list_of query.now.query tables.now best) (style_of (words_of (seen_words words.now)))
+        → KeepsPace query.now.query tables.now (list_of query.now.query tables.now best)
+        (style_of (words_of (seen_words words.now)))
         (S.written out.old) (S.written out.new) before steps.new }
 {
     let style = Style {

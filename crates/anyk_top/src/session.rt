@@ -52,7 +52,8 @@ pub(crate) fn print_script<'a, R: Rank, S: Sink, L: Ledger>(
         (session_text query.now.query tables.now (style_of (words_of (seen_words words.now)))
         (cut query.now.query.limit (list_of query.now.query tables.now best)) script.now) result }
     ensures bounded { (before : ℕ) → IsPrepared query.now.query tables.now before steps.old
-        → KeepsSessionBound query.now.query tables.now (list_of query.now.query tables.now best) script.now before steps.new }
+        → KeepsSessionBound query.now.query tables.now
+        (list_of query.now.query tables.now best) script.now before steps.new }
 {
     let style = Style {
         ranks: words.ranks,

@@ -33,9 +33,11 @@ pub fn run_words<F: Shelf, S: Sink, E: Sink, L: Ledger>(
         (outside F.Shelf S.Sink E.Sink shelf.old out.old err.old)
         (outside F.Shelf S.Sink E.Sink shelf.new out.new err.new) result }
     ensures bounded { IsBounded (asked_of (said_of (map string_bytes words.now)))
-        (known_to (asked_of (said_of (map string_bytes words.now))) (F.files shelf.old)) steps.old steps.new }
+        (known_to (asked_of (said_of (map string_bytes words.now)))
+        (F.files shelf.old)) steps.old steps.new }
     ensures prompt { IsPrompt (asked_of (said_of (map string_bytes words.now)))
-        (known_to (asked_of (said_of (map string_bytes words.now))) (F.files shelf.old)) (S.written out.old) (S.written out.new) steps.old steps.new }
+        (known_to (asked_of (said_of (map string_bytes words.now))) (F.files shelf.old))
+        (S.written out.old) (S.written out.new) steps.old steps.new }
 {
     run_keyed(alloc, words, shelf, out, err, Keys::Known, steps)
 }
@@ -57,9 +59,11 @@ pub fn run_keyed<F: Shelf, S: Sink, E: Sink, L: Ledger>(
         (outside F.Shelf S.Sink E.Sink shelf.old out.old err.old)
         (outside F.Shelf S.Sink E.Sink shelf.new out.new err.new) result }
     ensures bounded { IsBounded (asked_of (said_of (map string_bytes words.now)))
-        (known_to (asked_of (said_of (map string_bytes words.now))) (F.files shelf.old)) steps.old steps.new }
+        (known_to (asked_of (said_of (map string_bytes words.now)))
+        (F.files shelf.old)) steps.old steps.new }
     ensures prompt { IsPrompt (asked_of (said_of (map string_bytes words.now)))
-        (known_to (asked_of (said_of (map string_bytes words.now))) (F.files shelf.old)) (S.written out.old) (S.written out.new) steps.old steps.new }
+        (known_to (asked_of (said_of (map string_bytes words.now))) (F.files shelf.old))
+        (S.written out.old) (S.written out.new) steps.old steps.new }
 {
     match read_request(alloc, words) {
         Ok(request) => finish(err, answer(alloc, &request, shelf, out, keys, steps)),

@@ -75,7 +75,8 @@ fn print_checked<'a, S: Sink>(
 ) -> Result<(), Refusal<'a>>
     requires { HasAnswers input.now answers.now }
     ensures { (shape : Shape) → Printed (state_of S.Sink out.old) (state_of S.Sink out.new)
-        (answers_text (words_of (seen_words words.now)) (found_of (loaded_of input.now) (shape ∷ []))) result }
+        (answers_text (words_of (seen_words words.now))
+        (found_of (loaded_of input.now) (shape ∷ []))) result }
 {
     let style = Style {
         ranks: words.ranks,

@@ -18,15 +18,19 @@ pub record HasOnlyMore {R : Type 0} (v n : ℕ) (old new : RawData R) : Type 0 w
   pub total : row_total new ≡ row_total old + n
 
 -- the first n nodes have their rows, and the others have none
-pub record AreFilled {R : Type 0} (bound : BoundQuery) (tables : List Table) (join : JoinTree) (own above : List (List ℕ)) (d : ℕ) (key : R → KeyOf d 16)
+pub record AreFilled {R : Type 0} (bound : BoundQuery) (tables : List Table) (join : JoinTree)
+    (own above : List (List ℕ)) (d : ℕ) (key : R → KeyOf d 16)
     (names : List (List (ℕ × ℕ))) (n : ℕ) (rows : List (List ℕ)) (tree : RawData R) : Type 0 where
   pub each_node : length tree.rows ≡ join.count
-  pub filled : (v : ℕ) → v < n → HasRowsOf bound tables join own above d key names v (length (slice_index_or rows v [])) (slice_index_or rows v []) (rows_at tree v)
+  pub filled : (v : ℕ) → v < n
+      → HasRowsOf bound tables join own above d key names v (length (slice_index_or rows v []))
+      (slice_index_or rows v []) (rows_at tree v)
   pub empty : (v : ℕ) → n ≤ v → rows_at tree v ≡ []
   pub total : row_total tree ≡ sum_by length (take n rows)
 
 -- the nodes have their rows, with links by the columns of shared variables
-pub record IsFilledTree {R : Type 0} (bound : BoundQuery) (tables : List Table) (join : JoinTree) (d : ℕ) (key : R → KeyOf d 16)
+pub record IsFilledTree {R : Type 0} (bound : BoundQuery) (tables : List Table) (join : JoinTree)
+    (d : ℕ) (key : R → KeyOf d 16)
     (rows : List (List ℕ)) (tree : RawData R) : Type 0 where
   pub own : List (List ℕ)
   pub above : List (List ℕ)

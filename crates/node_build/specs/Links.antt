@@ -14,38 +14,47 @@ use Rattle.node_build.specs.Nodes.{item_of, parent_of, row_parts}
 
 -- the numbers of the fields that a row has in some columns
 abbrev pub values_in : List Table → Table → ℕ → List ℕ → List ℕ
-values_in tables table row columns = map (λ (c : ℕ). number_of tables (field_at table (row - 1) c)) columns
+values_in tables table row columns = map
+    (λ (c : ℕ). number_of tables (field_at table (row - 1) c)) columns
 
 -- n is the number at node q of a list of values that begins with `first`. One value is its own number. The number of more is that
 -- of a pair: the number of all but the last, and the last.
 abbrev pub IsListNumber : List (List (ℕ × ℕ)) → ℕ → ℕ → ℕ → List ℕ → Type 0
 IsListNumber names q first n [] = n ≡ first
-IsListNumber names q first n (value ∷ rest) = (m : ℕ) × IsNumbered names q m (first, value) × IsListNumber names q m n rest
+IsListNumber names q first n (value ∷ rest) = (m : ℕ) × IsNumbered names q m (first, value)
+    × IsListNumber names q m n rest
 
 -- the link of a list of values at node q: 0 if there is none, and else the number of the list
 abbrev pub IsLink : List (List (ℕ × ℕ)) → ℕ → ℕ → List ℕ → Type 0
 IsLink names q n [] = n ≡ 0
 IsLink names q n (value ∷ rest) = IsListNumber names q value n rest
 
-module _ (bound : BoundQuery) (tables : List Table) (join : JoinTree) (own above : List (List ℕ)) where
+module _ (bound : BoundQuery) (tables : List Table) (join : JoinTree)
+    (own above : List (List ℕ)) where
   -- the values that a row of node v has in some columns
   abbrev pub values_at : ℕ → ℕ → List ℕ → List ℕ
-  values_at v row columns = values_in tables (table_in tables bound.query.items (item_of join v)) row columns
+  values_at v row columns = values_in tables
+      (table_in tables bound.query.items (item_of join v)) row columns
 
   -- the links that a row of node v names for the first n nodes
   abbrev pub NamesLinks : List (List (ℕ × ℕ)) → ℕ → ℕ → ℕ → List ℕ → Type 0
   NamesLinks names v row n children =
       (q : ℕ) → 0 < q → q < n → parent_of join q ≡ v
-      → IsLink names q (slice_index children (kids_below (parent_of join) v q)) (values_at v row (slice_index_or above q []))
+      → IsLink names q (slice_index children (kids_below (parent_of join) v q))
+      (values_at v row (slice_index_or above q []))
 
   -- the raw tree's row for a row of node v
-  pub record IsRowOf {R : Type 0} (d : ℕ) (key : R → KeyOf d 16) (names : List (List (ℕ × ℕ))) (v row : ℕ) (x : RawRowData R) : Type 0 where
+  pub record IsRowOf {R : Type 0} (d : ℕ) (key : R → KeyOf d 16) (names : List (List (ℕ × ℕ)))
+      (v row : ℕ) (x : RawRowData R) : Type 0 where
     pub number : x.row.row ≡ row
-    pub rank : key x.row.rank ≡ row_key d (row_parts bound tables (item_of join v) row) (item_of join v) row
+    pub rank : key x.row.rank
+        ≡ row_key d (row_parts bound tables (item_of join v) row) (item_of join v) row
     pub link : IsLink names v x.own (values_at v row (slice_index_or own v []))
     pub children : NamesLinks names v row join.count x.children
 
   -- the rows of node v are the first n of a list
-  pub record HasRowsOf {R : Type 0} (d : ℕ) (key : R → KeyOf d 16) (names : List (List (ℕ × ℕ))) (v n : ℕ) (rows : List ℕ) (xs : List (RawRowData R)) : Type 0 where
+  pub record HasRowsOf {R : Type 0} (d : ℕ) (key : R → KeyOf d 16) (names : List (List (ℕ × ℕ)))
+      (v n : ℕ) (rows : List ℕ) (xs : List (RawRowData R)) : Type 0 where
     pub count : length xs ≡ n
-    pub each : (r : ℕ) (x : RawRowData R) → slice_get xs r ≡ Some x → IsRowOf d key names v (slice_index rows r) x
+    pub each : (r : ℕ) (x : RawRowData R) → slice_get xs r ≡ Some x
+        → IsRowOf d key names v (slice_index rows r) x

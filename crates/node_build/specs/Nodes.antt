@@ -33,53 +33,69 @@ abbrev pub parent_of : JoinTree → ℕ → ℕ
 parent_of join v = slice_index join.parent v
 
 -- exactly the rows of an item that pass, in ascending order
-pub record AreNodeRows (query : Query) (tables : List Table) (item : ℕ) (rows : List ℕ) : Type 0 where
+pub record AreNodeRows (query : Query) (tables : List Table) (item : ℕ)
+    (rows : List ℕ) : Type 0 where
   pub ascending : IsAscending (λ a b. a < b) rows
-  pub members : (row : ℕ) → IsMember row rows ↔ ((1 ≤ row) × (row ≤ length (item_table query tables item).rows) × Passes query tables item row)
+  pub members : (row : ℕ)
+      → IsMember row rows
+      ↔ ((1 ≤ row) × (row ≤ length (item_table query tables item).rows)
+      × Passes query tables item row)
 
 module _ (bound : BoundQuery) (tables : List Table) where
   -- the rows of each node of a join tree are given
   pub record AreRowsOfNodes (join : JoinTree) (rows : List (List ℕ)) : Type 0 where
     pub count : length rows ≡ join.count
-    pub each : (v : ℕ) → v < join.count → AreNodeRows bound.query tables (item_of join v) (slice_index_or rows v [])
+    pub each : (v : ℕ) → v < join.count
+        → AreNodeRows bound.query tables (item_of join v) (slice_index_or rows v [])
 
   -- a row of item i and a row of item j have the same bytes in each variable that both items have
   abbrev pub RowsAgree : ℕ → ℕ → ℕ → ℕ → Type 0
   RowsAgree i j row other =
-      (number p q : ℕ) → HasVariable bound.query.equalities bound.variables i number p → HasVariable bound.query.equalities bound.variables j number q
+      (number p q : ℕ) → HasVariable bound.query.equalities bound.variables i number p
+      → HasVariable bound.query.equalities bound.variables j number q
       → row_field bound.query tables i row p ≡ row_field bound.query tables j other q
 
   -- two rows of item i have the same bytes in each variable that items i and j have
   abbrev pub RowsAlike : ℕ → ℕ → ℕ → ℕ → Type 0
   RowsAlike i j row other =
-      (number p q : ℕ) → HasVariable bound.query.equalities bound.variables i number p → HasVariable bound.query.equalities bound.variables j number q
+      (number p q : ℕ) → HasVariable bound.query.equalities bound.variables i number p
+      → HasVariable bound.query.equalities bound.variables j number q
       → row_field bound.query tables i row p ≡ row_field bound.query tables i other p
 
   -- the greatest absolute part that a row of an item may have of a key, and 0 past the last key
   abbrev pub cap_at : ℕ → ℕ → ℕ
-  cap_at item key = cond (nat_lt key (length bound.query.order)) (cap_of tables bound.query.items item (key_at bound.query.order key)) 0
+  cap_at item key = cond (nat_lt key (length bound.query.order))
+      (cap_of tables bound.query.items item (key_at bound.query.order key)) 0
 
   -- the parts of a row, key by key
   abbrev pub row_parts : ℕ → ℕ → List ℤ
   row_parts item row = map (part_of tables bound.query.items item row) bound.query.order
 
   -- the raw tree of a join tree
-  pub record IsBuilt {R : Type 0} (d : ℕ) (key : R → KeyOf d 16) (join : JoinTree) (tree : RawData R) : Type 0 where
+  pub record IsBuilt {R : Type 0} (d : ℕ) (key : R → KeyOf d 16) (join : JoinTree)
+      (tree : RawData R) : Type 0 where
     pub nodes : length tree.shapes ≡ join.count
     pub parents : (v : ℕ) → v < join.count → shape_parent tree.shapes v ≡ parent_of join v
     pub items : (v : ℕ) → v < join.count → shape_item tree.shapes v ≡ item_of join v
     pub caps : (v i : ℕ) → v < join.count → shape_cap tree.shapes v i ≡ cap_at (item_of join v) i
-    pub rows : (v : ℕ) → v < join.count → AreNodeRows bound.query tables (item_of join v) (map (λ x. x.row.row) (rows_at tree v))
+    pub rows : (v : ℕ) → v < join.count
+        → AreNodeRows bound.query tables (item_of join v) (map (λ x. x.row.row) (rows_at tree v))
     pub ranks : (v r : ℕ) → v < join.count → r < raw_len tree v
-        → raw_rank tree d key v r ≡ row_key d (row_parts (item_of join v) (raw_number tree v r)) (item_of join v) (raw_number tree v r)
+        → raw_rank tree d key v r
+        ≡ row_key d (row_parts (item_of join v) (raw_number tree v r)) (item_of join v)
+        (raw_number tree v r)
     -- a row of a node and a row of its parent have one link exactly if they agree on the variables that both items have
-    pub links : (q i r : ℕ) → 0 < q → q < join.count → i < raw_len tree q → r < raw_len tree (parent_of join q)
-        → (own_link tree q i ≡ child_link tree (parent_of join q) r (shape_child_place tree.shapes q))
-        ↔ RowsAgree (item_of join q) (item_of join (parent_of join q)) (raw_number tree q i) (raw_number tree (parent_of join q) r)
+    pub links : (q i r : ℕ) → 0 < q → q < join.count → i < raw_len tree q
+        → r < raw_len tree (parent_of join q)
+        → (own_link tree q i
+        ≡ child_link tree (parent_of join q) r (shape_child_place tree.shapes q))
+        ↔ RowsAgree (item_of join q) (item_of join (parent_of join q)) (raw_number tree q i)
+        (raw_number tree (parent_of join q) r)
     -- and two rows of the node exactly if they agree on them
     pub own_links : (q i j : ℕ) → 0 < q → q < join.count → i < raw_len tree q → j < raw_len tree q
         → (own_link tree q i ≡ own_link tree q j)
-        ↔ RowsAlike (item_of join q) (item_of join (parent_of join q)) (raw_number tree q i) (raw_number tree q j)
+        ↔ RowsAlike (item_of join q) (item_of join (parent_of join q)) (raw_number tree q i)
+        (raw_number tree q j)
 
   -- the nodes have more rows, all together, than the budget
   pub record PassesBudget (join : JoinTree) (budget : ℕ) : Type 0 where
@@ -89,4 +105,5 @@ module _ (bound : BoundQuery) (tables : List Table) where
 
   -- a fault that may be returned
   abbrev pub TellsFault : JoinTree → ℕ → BuildFault → Type 0
-  TellsFault join budget answer = (answer ≡ fault.NoMemory) ⊎ ((answer ≡ fault.TooManyRows budget) × PassesBudget join budget)
+  TellsFault join budget answer = (answer ≡ fault.NoMemory)
+      ⊎ ((answer ≡ fault.TooManyRows budget) × PassesBudget join budget)

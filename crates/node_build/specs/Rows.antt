@@ -15,7 +15,8 @@ abbrev pub table_rows : Query → List Table → JoinTree → ℕ → ℕ
 table_rows query tables join v = length (item_table query tables (item_of join v)).rows
 
 -- the rows of the first n nodes
-pub record HaveRows (query : Query) (tables : List Table) (join : JoinTree) (n : ℕ) (rows : List (List ℕ)) : Type 0 where
+pub record HaveRows (query : Query) (tables : List Table) (join : JoinTree) (n : ℕ)
+    (rows : List (List ℕ)) : Type 0 where
   pub count : length rows ≡ n
   pub each : (v : ℕ) → v < n → AreNodeRows query tables (item_of join v) (slice_index_or rows v [])
   pub fewer : (v : ℕ) → v < n → length (slice_index_or rows v []) ≤ table_rows query tables join v

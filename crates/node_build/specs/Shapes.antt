@@ -8,7 +8,8 @@ use Rattle.query_bind.specs.Weighed.{BoundQuery}
 use Rattle.node_build.specs.Nodes.{cap_at, item_of, parent_of}
 
 -- the shapes of the first n nodes
-pub record AreShapesOf (bound : BoundQuery) (tables : List Table) (join : JoinTree) (n : ℕ) (shapes : List NodeShape) : Type 0 where
+pub record AreShapesOf (bound : BoundQuery) (tables : List Table) (join : JoinTree) (n : ℕ)
+    (shapes : List NodeShape) : Type 0 where
   pub count : length shapes ≡ n
   pub parents : (v : ℕ) → v < n → shape_parent shapes v ≡ parent_of join v
   pub items : (v : ℕ) → v < n → shape_item shapes v ≡ item_of join v

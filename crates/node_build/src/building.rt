@@ -39,16 +39,21 @@ pub fn build<R: Rank, L: Ledger>(
 ) -> Result<Built<R>, BuildFault>
     requires fits { Fits query.now tables.now }
     requires keys { length query.now.query.order ≤ R.KEYS }
+    requires slots { length query.now.query.items ≤ R.ITEMS }
     requires tree { IsJoinTreeOf query.now.query join.now }
     requires budget { budget ≤ 4194304 }
-    ensures built { IfOk result (λ built. IsBuilt query.now tables.now R.KEYS R.key join.now built.tree) }
+    ensures built { IfOk result
+        (λ built. IsBuilt query.now tables.now R.KEYS R.key join.now built.tree) }
     ensures tie_free { IfOk result (λ built. IsTieFreeRaw built.tree) }
     ensures rows_of { IfOk result (λ built. built.rows_of.items ≡ map length built.tree.rows) }
     ensures used { IfOk result (λ built. built.used ≡ row_total built.tree) }
     ensures within { IfOk result (λ built. built.used ≤ budget) }
-    ensures fewer { IfOk result (λ built. built.used ≤ sum_of_all (row_counts query.now.query.items tables.now)) }
+    ensures fewer { IfOk result
+        (λ built. built.used ≤ sum_of_all (row_counts query.now.query.items tables.now)) }
     ensures refusal { IfErr result (TellsFault query.now tables.now join.now budget) }
-    ensures cost { steps.new ≤ steps.old + length query.now.query.items * sum_of_all (row_counts query.now.query.items tables.now) }
+    ensures cost { steps.new
+        ≤ steps.old + length query.now.query.items
+        * sum_of_all (row_counts query.now.query.items tables.now) }
 {
     let _count = tables.count();
     let rows = rows_of_nodes(alloc, query, tables, join)?;

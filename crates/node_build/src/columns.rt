@@ -45,7 +45,8 @@ fn shared_columns(
     requires item { item < length query.now.query.items }
     requires other { other < length query.now.query.items }
     ensures { IfOk result (λ columns. AreShared query.now item other
-        (λ v. HasVariable query.now.query.equalities query.now.variables item v.0 v.1) columns.0.items columns.1.items) }
+        (λ v. HasVariable query.now.query.equalities query.now.variables item v.0 v.1)
+        columns.0.items columns.1.items) }
 {
     let others = query.variables_of(other);
     let mut columns = Vec::new(alloc);
@@ -64,7 +65,9 @@ fn shared_columns(
 pub(crate) fn columns_of(alloc: Global, query: &Query, join: &JoinTree) -> Result<Columns, NoMemory>
     requires fits { (tables : List Table) × Fits query.now tables }
     requires tree { IsJoinTreeOf query.now.query join.now }
-    ensures { IfOk result (λ columns. HaveColumns query.now join.now join.now.count (lists_of columns.own.items) (lists_of columns.above.items)) }
+    ensures { IfOk result
+        (λ columns. HaveColumns query.now join.now join.now.count (lists_of columns.own.items)
+        (lists_of columns.above.items)) }
 {
     let mut own = Vec::new(alloc);
     let mut above = Vec::new(alloc);

@@ -31,11 +31,15 @@ pub(crate) fn filled_tree<R: Rank, L: Ledger>(
 ) -> Result<RawTree<R>, NoMemory>
     requires fits { Fits query.now tables.now }
     requires keys { length query.now.query.order ≤ R.KEYS }
+    requires slots { length query.now.query.items ≤ R.ITEMS }
     requires tree { IsJoinTreeOf query.now.query join.now }
-    requires rows { HaveRows query.now.query tables.now join.now join.now.count (lists_of rows.now) }
+    requires rows { HaveRows query.now.query tables.now join.now join.now.count
+        (lists_of rows.now) }
     requires room { sum_by length (lists_of rows.now) ≤ 4194304 }
-    ensures shapes { IfOk result (λ tree. AreShapesOf query.now tables.now join.now join.now.count tree.shapes) }
-    ensures filled { IfOk result (λ tree. IsFilledTree query.now tables.now join.now R.KEYS R.key (lists_of rows.now) tree) }
+    ensures shapes { IfOk result
+        (λ tree. AreShapesOf query.now tables.now join.now join.now.count tree.shapes) }
+    ensures filled { IfOk result
+        (λ tree. IsFilledTree query.now tables.now join.now R.KEYS R.key (lists_of rows.now) tree) }
     ensures cost { steps.new ≤ steps.old + sum_by length (lists_of rows.now) * join.now.count }
 {
     let shapes = shapes_of(alloc, query, join)?;

@@ -22,7 +22,8 @@ fn list_number(
     requires table { table < length tables.now }
     requires first { 1 ≤ row }
     requires row { row ≤ length (table_at tables.now table).rows }
-    requires columns { (k : ℕ) → k < length columns.now → slice_index columns.now k < length (table_at tables.now table).names }
+    requires columns { (k : ℕ) → k < length columns.now
+        → slice_index columns.now k < length (table_at tables.now table).names }
     requires node { node < length links.old }
     ensures more { OnOk result (AreMore links.old links.new) }
     ensures number { IfOk result (λ n. IsListNumber links.new node first n
@@ -50,10 +51,13 @@ pub(crate) fn link<L: Ledger>(
     requires table { table < length tables.now }
     requires first { 1 ≤ row }
     requires row { row ≤ length (table_at tables.now table).rows }
-    requires columns { (k : ℕ) → k < length columns.now → slice_index columns.now k < length (table_at tables.now table).names }
+    requires columns { (k : ℕ) → k < length columns.now
+        → slice_index columns.now k < length (table_at tables.now table).names }
     requires node { node < length links.old }
     ensures more { OnOk result (AreMore links.old links.new) }
-    ensures link { IfOk result (λ n. IsLink links.new node n (values_in tables.now (table_at tables.now table) row columns.now)) }
+    ensures link { IfOk result
+        (λ n. IsLink links.new node n
+        (values_in tables.now (table_at tables.now table) row columns.now)) }
     ensures cost { steps.new ≡ steps.old + 1 }
 {
     let Some((first, rest)) = columns.split_first() else {

@@ -40,14 +40,19 @@ fn child_links<L: Ledger>(
 ) -> Result<(), NoMemory>
     requires fits { Fits query.now tables.now }
     requires tree { IsJoinTreeOf query.now.query join.now }
-    requires columns { HaveColumns query.now join.now join.now.count (lists_of columns.now.own.items) (lists_of columns.now.above.items) }
+    requires columns { HaveColumns query.now join.now join.now.count
+        (lists_of columns.now.own.items) (lists_of columns.now.above.items) }
     requires node { node < join.now.count }
     requires first { 1 ≤ row }
-    requires row { row ≤ length (table_in tables.now query.now.query.items (item_of join.now node)).rows }
+    requires row { row ≤ length
+        (table_in tables.now query.now.query.items (item_of join.now node)).rows }
     requires links { length links.old ≡ join.now.count }
     ensures more { OnOk result (AreMore links.old links.new) }
-    ensures count { OnOk result (length named.new.items ≡ kids_below (parent_of join.now) node join.now.count) }
-    ensures names { OnOk result (NamesLinks query.now tables.now join.now (lists_of columns.now.own.items) (lists_of columns.now.above.items)
+    ensures count { OnOk result
+        (length named.new.items ≡ kids_below (parent_of join.now) node join.now.count) }
+    ensures names { OnOk result
+        (NamesLinks query.now tables.now join.now (lists_of columns.now.own.items)
+        (lists_of columns.now.above.items)
         links.new node row join.now.count named.new.items) }
     ensures cost { steps.new ≤ steps.old + kids_below (parent_of join.now) node join.now.count }
 {
@@ -79,17 +84,21 @@ fn add_row<R: Rank, L: Ledger>(
 ) -> Result<(), NoMemory>
     requires fits { Fits query.now tables.now }
     requires keys { length query.now.query.order ≤ R.KEYS }
+    requires slots { length query.now.query.items ≤ R.ITEMS }
     requires tree { IsJoinTreeOf query.now.query join.now }
-    requires columns { HaveColumns query.now join.now join.now.count (lists_of columns.now.own.items) (lists_of columns.now.above.items) }
+    requires columns { HaveColumns query.now join.now join.now.count
+        (lists_of columns.now.own.items) (lists_of columns.now.above.items) }
     requires node { node < join.now.count }
     requires first { 1 ≤ row }
-    requires row { row ≤ length (table_in tables.now query.now.query.items (item_of join.now node)).rows }
+    requires row { row ≤ length
+        (table_in tables.now query.now.query.items (item_of join.now node)).rows }
     requires links { length links.old ≡ join.now.count }
     requires shapes { AreShapesOf query.now tables.now join.now join.now.count tree.old.shapes }
     requires room { row_total tree.old < 4194304 }
     ensures more { OnOk result (AreMore links.old links.new) }
     ensures added { OnOk result ((x : RawRowData R) × (tree.new ≡ with_row tree.old node x)
-        × IsRowOf query.now tables.now join.now (lists_of columns.now.own.items) (lists_of columns.now.above.items) R.KEYS R.key links.new node row x) }
+        × IsRowOf query.now tables.now join.now (lists_of columns.now.own.items)
+        (lists_of columns.now.above.items) R.KEYS R.key links.new node row x) }
     ensures cost { steps.new ≤ steps.old + join.now.count }
 {
     let item = join.atom[node as usize];
@@ -116,10 +125,14 @@ pub(crate) fn add_rows<R: Rank, L: Ledger>(
 ) -> Result<(), NoMemory>
     requires fits { Fits query.now tables.now }
     requires keys { length query.now.query.order ≤ R.KEYS }
+    requires slots { length query.now.query.items ≤ R.ITEMS }
     requires tree { IsJoinTreeOf query.now.query join.now }
-    requires columns { HaveColumns query.now join.now join.now.count (lists_of columns.now.own.items) (lists_of columns.now.above.items) }
+    requires columns { HaveColumns query.now join.now join.now.count
+        (lists_of columns.now.own.items) (lists_of columns.now.above.items) }
     requires node { node < join.now.count }
-    requires rows { (row : ℕ) → IsMember row rows.now → (1 ≤ row) × (row ≤ length (table_in tables.now query.now.query.items (item_of join.now node)).rows) }
+    requires rows { (row : ℕ) → IsMember row rows.now
+        → (1 ≤ row) × (row ≤ length
+        (table_in tables.now query.now.query.items (item_of join.now node)).rows) }
     requires links { length links.old ≡ join.now.count }
     requires shapes { AreShapesOf query.now tables.now join.now join.now.count tree.old.shapes }
     requires each_node { length tree.old.rows ≡ join.now.count }
@@ -127,7 +140,9 @@ pub(crate) fn add_rows<R: Rank, L: Ledger>(
     requires room { row_total tree.old + length rows.now ≤ 4194304 }
     ensures more { OnOk result (AreMore links.old links.new) }
     ensures others { OnOk result (HasOnlyMore node (length rows.now) tree.old tree.new) }
-    ensures rows { OnOk result (HasRowsOf query.now tables.now join.now (lists_of columns.now.own.items) (lists_of columns.now.above.items)
+    ensures rows { OnOk result
+        (HasRowsOf query.now tables.now join.now (lists_of columns.now.own.items)
+        (lists_of columns.now.above.items)
         R.KEYS R.key links.new node (length rows.now) rows.now (rows_at tree.new node)) }
     ensures cost { steps.new ≤ steps.old + length rows.now * join.now.count }
 {

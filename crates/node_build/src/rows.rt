@@ -21,7 +21,8 @@ fn passing_rows(
     requires fits { Fits query.now tables.now }
     requires item { item < length query.now.query.items }
     ensures rows { IfOk result (λ rows. AreNodeRows query.now.query tables.now item rows.items) }
-    ensures few { IfOk result (λ rows. length rows.items ≤ length (table_in tables.now query.now.query.items item).rows) }
+    ensures few { IfOk result
+        (λ rows. length rows.items ≤ length (table_in tables.now query.now.query.items item).rows) }
     ensures limit { IfOk result (λ rows. length rows.items ≤ 1048576) }
 {
     let count = tables.len(query.table_of(item));
@@ -44,7 +45,9 @@ pub(crate) fn rows_of_nodes(
 ) -> Result<Vec<Vec<u32>>, NoMemory>
     requires fits { Fits query.now tables.now }
     requires tree { IsJoinTreeOf query.now.query join.now }
-    ensures rows { IfOk result (λ rows. HaveRows query.now.query tables.now join.now join.now.count (lists_of rows.items)) }
+    ensures rows { IfOk result
+        (λ rows. HaveRows query.now.query tables.now join.now join.now.count
+        (lists_of rows.items)) }
 {
     let mut rows = Vec::new(alloc);
     for node in 0..join.count {

@@ -22,7 +22,8 @@ const MAX_KEYS: usize = 8;
 fn caps_of(query: &Query, item: u32) -> [u128; MAX_KEYS]
     requires fits { (tables : List Table) × Fits query.now tables }
     requires item { item < length query.now.query.items }
-    ensures { (tables : List Table) → Fits query.now tables → (i : ℕ) → slice_index result i ≡ cap_at query.now tables item i }
+    ensures { (tables : List Table) → Fits query.now tables → (i : ℕ)
+        → slice_index result i ≡ cap_at query.now tables item i }
 {
     let mut caps = [0; MAX_KEYS];
     for key in 0..query.keys() {
@@ -39,7 +40,9 @@ pub(crate) fn shapes_of(
 ) -> Result<Vec<NodeShape>, NoMemory>
     requires fits { (tables : List Table) × Fits query.now tables }
     requires tree { IsJoinTreeOf query.now.query join.now }
-    ensures { IfOk result (λ shapes. (tables : List Table) → Fits query.now tables → AreShapesOf query.now tables join.now join.now.count shapes.items) }
+    ensures { IfOk result
+        (λ shapes. (tables : List Table) → Fits query.now tables
+        → AreShapesOf query.now tables join.now join.now.count shapes.items) }
 {
     let mut shapes = Vec::new(alloc);
     for node in 0..join.count as usize {
@@ -78,11 +81,15 @@ pub(crate) fn rank_of<R: Rank>(
 ) -> R
     requires fits { Fits query.now tables.now }
     requires keys { length query.now.query.order ≤ R.KEYS }
+    requires slots { length query.now.query.items ≤ R.ITEMS }
     requires tree { IsJoinTreeOf query.now.query join.now }
     requires node { node < join.now.count }
     requires first { 1 ≤ row }
-    requires row { row ≤ length (table_in tables.now query.now.query.items (item_of join.now node)).rows }
-    ensures { R.key result ≡ row_key R.KEYS (row_parts query.now tables.now (item_of join.now node) row) (item_of join.now node) row }
+    requires row { row ≤ length
+        (table_in tables.now query.now.query.items (item_of join.now node)).rows }
+    ensures { R.key result
+        ≡ row_key R.KEYS (row_parts query.now tables.now (item_of join.now node) row)
+        (item_of join.now node) row }
 {
     // there are at most 16 items
     let _items = query.items();

@@ -10,7 +10,8 @@ fn rows_of_atoms(tree: &JoinTree, node_rows: &[u64]) -> [u64; 16]
     requires tree { IsTree tree.now.count tree.now.atom tree.now.parent }
     requires atoms { HasItems tree.now.count tree.now.atom 16 }
     requires counted { length node_rows.now ≡ tree.now.count }
-    ensures { (v : ℕ) → v < tree.now.count → slice_index result (slice_index tree.now.atom v) ≡ slice_index node_rows.now v }
+    ensures { (v : ℕ) → v < tree.now.count
+        → slice_index result (slice_index tree.now.atom v) ≡ slice_index node_rows.now v }
 {
     let mut rows_of = [0; 16];
     for node in 0..tree.count as usize {
@@ -28,7 +29,8 @@ pub(crate) fn in_order(node_rows: Vec<u64>, from: &JoinTree, to: &JoinTree) -> V
     requires count { to.now.count ≡ from.now.count }
     requires counted { length node_rows.items ≡ from.now.count }
     ensures counted { length result.items ≡ length node_rows.items }
-    ensures moved { (u v : ℕ) → u < to.now.count → v < from.now.count → slice_index from.now.atom v ≡ slice_index to.now.atom u
+    ensures moved { (u v : ℕ) → u < to.now.count → v < from.now.count
+        → slice_index from.now.atom v ≡ slice_index to.now.atom u
         → slice_index result.items u ≡ slice_index node_rows.items v }
 {
     let rows_of = rows_of_atoms(from, node_rows.as_slice());

@@ -48,7 +48,8 @@ impl<R: Rank> Model for Plan<R> {
 
     ghost Value = { PlanData R };
 
-    ghost view = { λ p. record { tree = p.tree; join = p.join; node_rows = p.node_rows.items; total = p.total } };
+    ghost view = { λ p. record
+        { tree = p.tree; join = p.join; node_rows = p.node_rows.items; total = p.total } };
 }
 
 impl<R: Rank> Plan<R> {
@@ -79,6 +80,7 @@ pub fn prepare<R: Rank, L: Ledger>(
 ) -> Result<Plan<R>, PlanFault>
     requires fits { Fits query.now tables.now }
     requires keys { length query.now.query.order ≤ R.KEYS }
+    requires slots { length query.now.query.items ≤ R.ITEMS }
     ensures plan { IfOk result (IsPlan R.KEYS R.key query.now tables.now) }
     ensures refusal { IfErr result (TellsFlaw query.now.query tables.now) }
     ensures cost { IsPrepared query.now.query tables.now steps.old steps.new }
@@ -98,6 +100,7 @@ pub fn prepare_at<R: Rank, L: Ledger>(
 ) -> Result<Plan<R>, PlanFault>
     requires fits { Fits query.now tables.now }
     requires keys { length query.now.query.order ≤ R.KEYS }
+    requires slots { length query.now.query.items ≤ R.ITEMS }
     requires item { item < length query.now.query.items }
     ensures plan { IfOk result (IsPlanAt R.KEYS R.key query.now tables.now item) }
     ensures refusal { IfErr result (TellsFlaw query.now.query tables.now) }
@@ -120,6 +123,7 @@ fn plan_over<R: Rank, L: Ledger>(
 ) -> Result<Plan<R>, PlanFault>
     requires fits { Fits query.now tables.now }
     requires keys { length query.now.query.order ≤ R.KEYS }
+    requires slots { length query.now.query.items ≤ R.ITEMS }
     requires stored { HasStoredTree query.now.query join.now }
     requires count { join.now.count ≡ length query.now.query.items }
     requires ordered { IsTree join.now.count join.now.atom join.now.parent }
@@ -128,8 +132,10 @@ fn plan_over<R: Rank, L: Ledger>(
     requires over_ordered { IsTree over.now.count over.now.atom over.now.parent }
     ensures plan { IfOk result (IsPlanFor R.KEYS R.key query.now tables.now) }
     ensures join { IfOk result (λ plan. plan.join ≡ join.now) }
-    ensures items { IfOk result (λ plan. (v : ℕ) → v < length plan.tree → item plan.tree v ≡ item_of over.now v) }
-    ensures parents { IfOk result (λ plan. (v : ℕ) → v < length plan.tree → parent plan.tree v ≡ parent_of over.now v) }
+    ensures items { IfOk result
+        (λ plan. (v : ℕ) → v < length plan.tree → item plan.tree v ≡ item_of over.now v) }
+    ensures parents { IfOk result
+        (λ plan. (v : ℕ) → v < length plan.tree → parent plan.tree v ≡ parent_of over.now v) }
     ensures refusal { IfErr result (TellsFlaw query.now.query tables.now) }
     ensures cost { IsPrepared query.now.query tables.now steps.old steps.new }
 {
@@ -152,10 +158,12 @@ fn join_tree_of(query: &Query) -> Result<JoinTree, PlanFault>
     requires fits { (tables : List Table) × Fits query.now tables }
     ensures tree { IfOk result (HasStoredTree query.now.query) }
     ensures ordered { IfOk result (λ tree. IsTree tree.count tree.atom tree.parent) }
-    ensures items { IfOk result (λ tree. HasItems tree.count tree.atom (length query.now.query.items)) }
+    ensures items { IfOk result
+        (λ tree. HasItems tree.count tree.atom (length query.now.query.items)) }
     ensures count { IfOk result (λ tree. tree.count ≡ length query.now.query.items) }
     ensures joined { IfOk result (IsJoinTreeOf query.now.query) }
-    ensures refusal { IfErr result (λ fault. (tables : List Table) → TellsFlaw query.now.query tables fault) }
+    ensures refusal { IfErr result
+        (λ fault. (tables : List Table) → TellsFlaw query.now.query tables fault) }
 {
     match tree_shape(query) {
         Ok(tree) => Ok(tree),
@@ -175,17 +183,23 @@ fn nodes_of<R: Rank, L: Ledger>(
 ) -> Result<Built<R>, PlanFault>
     requires fits { Fits query.now tables.now }
     requires keys { length query.now.query.order ≤ R.KEYS }
+    requires slots { length query.now.query.items ≤ R.ITEMS }
     requires tree { IsJoinTreeOf query.now.query join.now }
-    requires acyclic { (other : JoinTree) × HasStoredTree query.now.query other × (other.count ≡ length query.now.query.items) }
-    ensures built { IfOk result (λ built. IsBuilt query.now tables.now R.KEYS R.key join.now built.tree) }
+    requires acyclic { (other : JoinTree) × HasStoredTree query.now.query other
+        × (other.count ≡ length query.now.query.items) }
+    ensures built { IfOk result
+        (λ built. IsBuilt query.now tables.now R.KEYS R.key join.now built.tree) }
     ensures formed { IfOk result (λ built. IsRawFormed R.KEYS R.key built.tree) }
     ensures tie_free { IfOk result (λ built. IsTieFreeRaw built.tree) }
     ensures rows_of { IfOk result (λ built. built.rows_of.items ≡ map length built.tree.rows) }
     ensures used { IfOk result (λ built. built.used ≡ row_total built.tree) }
     ensures within { IfOk result (λ built. built.used ≤ 4194304) }
-    ensures fewer { IfOk result (λ built. built.used ≤ sum_of_all (row_counts query.now.query.items tables.now)) }
+    ensures fewer { IfOk result
+        (λ built. built.used ≤ sum_of_all (row_counts query.now.query.items tables.now)) }
     ensures refusal { IfErr result (TellsFlaw query.now.query tables.now) }
-    ensures cost { steps.new ≤ steps.old + length query.now.query.items * sum_of_all (row_counts query.now.query.items tables.now) }
+    ensures cost { steps.new
+        ≤ steps.old + length query.now.query.items
+        * sum_of_all (row_counts query.now.query.items tables.now) }
 {
     match build(alloc, query, tables, join, MAX_NODE_ROWS, steps) {
         Ok(built) => {

@@ -25,7 +25,8 @@ pub fn report<R: Rank>(
     tables: &Tables,
 ) -> Result<Vec<u8>, NoMemory>
     requires plan { IsPlanFor R.KEYS R.key query.now tables.now plan.now }
-    ensures { IfOk result (λ text. text.items ≡ report_of query.now.query tables.now (shape_of plan.now)) }
+    ensures { IfOk result
+        (λ text. text.items ≡ report_of query.now.query tables.now (shape_of plan.now)) }
 {
     let mut text = Vec::new(alloc);
     for node in 0..plan.join.count as usize {
@@ -48,7 +49,9 @@ fn push_node(
     requires items { HasItems join.now.count join.now.atom (length query.now.query.items) }
     requires counted { length node_rows.now ≡ join.now.count }
     requires node { node < join.now.count }
-    ensures { OnOk result (text.new.items ≡ text.old.items ++ node_line query.now.query (tree_shown join.now node_rows.now) node) }
+    ensures { OnOk result
+        (text.new.items ≡ text.old.items
+        ++ node_line query.now.query (tree_shown join.now node_rows.now) node) }
 {
     let number = node as u32 + 1;
     let parent = parent_number(join, node);
@@ -75,7 +78,8 @@ fn push_line(
     rows: u64,
     name: &[u8],
 ) -> Result<(), NoMemory>
-    ensures { OnOk result (text.new.items ≡ text.old.items ++ node_text number parent rows name.now) }
+    ensures { OnOk result
+        (text.new.items ≡ text.old.items ++ node_text number parent rows name.now) }
 {
     let numbers = format!(in alloc; "node {number} parent {parent} rows {rows} item ")?;
     text.extend_from_slice(numbers.as_bytes())?;
@@ -86,7 +90,8 @@ fn push_line(
 
 // Appends the last line.
 fn push_total(alloc: Global, text: &mut Vec<u8>, total: u64) -> Result<(), NoMemory>
-    ensures { OnOk result (text.new.items ≡ text.old.items ++ (codes "total " ++ (decimal total ++ codes "\n"))) }
+    ensures { OnOk result
+        (text.new.items ≡ text.old.items ++ (codes "total " ++ (decimal total ++ codes "\n"))) }
 {
     let line = format!(in alloc; "total {total}\n")?;
     text.extend_from_slice(line.as_bytes())?;

@@ -9,7 +9,9 @@ hundreds = 100 ∷ 100 ∷ 100 ∷ 100 ∷ 100 ∷ 100 ∷ 100 ∷ 100 ∷ []
 
 -- the root, whose item is 0, and its children, whose items are 1 and 2
 abbrev pub sample_shapes : List NodeShape
-sample_shapes = record { parent = 0; item = 0; caps = hundreds } ∷ record { parent = 0; item = 1; caps = hundreds } ∷ record { parent = 0; item = 2; caps = hundreds } ∷ []
+sample_shapes = record { parent = 0; item = 0; caps = hundreds }
+    ∷ record { parent = 0; item = 1; caps = hundreds }
+    ∷ record { parent = 0; item = 2; caps = hundreds } ∷ []
 
 -- how many children node v has
 abbrev pub sample_children : ℕ → ℕ

@@ -91,6 +91,7 @@ fn plan_over<R: Rank, L: Ledger>(
     which: &[u32],
     steps: &mut Steps<L>,
 ) -> Option<Plan<R>>
+    requires slots { 16 ≤ R.ITEMS }
     requires few { length which.now ≤ 16 }
     requires known { AllByRecursion (λ t. t < length tables.now) which.now }
     ensures tie_free { IfSome result (λ plan. IsTieFreeTree plan.tree) }
@@ -107,6 +108,7 @@ pub(crate) fn plan_of<R: Rank, L: Ledger>(
     which: &[u32],
     steps: &mut Steps<L>,
 ) -> Option<Plan<R>>
+    requires slots { 16 ≤ R.ITEMS }
     requires few { length which.now ≤ 16 }
     requires known { AllByRecursion (λ t. t < 2) which.now }
     ensures tie_free { IfSome result (λ plan. IsTieFreeTree plan.tree) }
@@ -125,6 +127,7 @@ fn plan_over_at<R: Rank, L: Ledger>(
     item: u32,
     steps: &mut Steps<L>,
 ) -> Option<Plan<R>>
+    requires slots { 16 ≤ R.ITEMS }
     requires few { length which.now ≤ 16 }
     requires known { AllByRecursion (λ t. t < length tables.now) which.now }
     ensures tie_free { IfSome result (λ plan. IsTieFreeTree plan.tree) }
@@ -148,6 +151,7 @@ pub(crate) fn plan_at<R: Rank, L: Ledger>(
     item: u32,
     steps: &mut Steps<L>,
 ) -> Option<Plan<R>>
+    requires slots { 16 ≤ R.ITEMS }
     requires few { length which.now ≤ 16 }
     requires known { AllByRecursion (λ t. t < 2) which.now }
     ensures tie_free { IfSome result (λ plan. IsTieFreeTree plan.tree) }

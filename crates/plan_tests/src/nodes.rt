@@ -52,6 +52,7 @@ fn counts_of<R: Rank, L: Ledger>(
     budget: u64,
     steps: &mut Steps<L>,
 ) -> Result<Option<Counts>, BuildFault>
+    requires slots { 16 ≤ R.ITEMS }
     requires fits { Fits query.now tables.now }
     requires keys { length query.now.query.order ≤ R.KEYS }
     requires budget { budget < 100 }
@@ -71,6 +72,7 @@ fn counts_of_text<R: Rank, L: Ledger>(
     budget: u64,
     steps: &mut Steps<L>,
 ) -> Result<Option<Counts>, BuildFault>
+    requires slots { 16 ≤ R.ITEMS }
     requires two { length tables.now ≡ 2 }
     requires budget { budget < 100 }
 {
@@ -86,6 +88,7 @@ fn built<R: Rank, L: Ledger>(
     budget: u64,
     blank: Blank,
 ) -> Result<Option<Counts>, BuildFault>
+    requires slots { 16 ≤ R.ITEMS }
     requires budget { budget < 100 }
     requires name { blank.name ≡ L.name }
     requires parts { blank.parts ≡ L.parts }

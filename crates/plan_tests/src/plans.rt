@@ -18,6 +18,7 @@ use tree_dp::first;
 // Whether a rank has the sum 3: a key with the sum 3 and without rows is less than it, and a key with the sum 4 is
 // greater.
 fn is_three<R: Rank, L: Ledger>(rank: &R, steps: &mut Steps<L>) -> bool
+    requires slots { 16 ≤ R.ITEMS }
     requires keys { 1 ≤ R.KEYS }
 {
     let least = R::of_row(&[3], 0, 0);
@@ -27,6 +28,7 @@ fn is_three<R: Rank, L: Ledger>(rank: &R, steps: &mut Steps<L>) -> bool
 
 // Whether the first two items have these rows in the first answer, and its sum is 3.
 fn has_first<R: Rank, L: Ledger>(tree: &Tree<R>, rows: [u32; 2], steps: &mut Steps<L>) -> bool
+    requires slots { 16 ≤ R.ITEMS }
     requires keys { 1 ≤ R.KEYS }
     requires tree { IsTieFreeTree tree.now }
 {
@@ -38,6 +40,7 @@ fn has_first<R: Rank, L: Ledger>(tree: &Tree<R>, rows: [u32; 2], steps: &mut Ste
 
 // Whether the plan of R and S has 12 rows and this first answer.
 fn is_planned<R: Rank, L: Ledger>(alloc: Global, blank: Blank) -> bool
+    requires slots { 16 ≤ R.ITEMS }
     requires keys { 1 ≤ R.KEYS }
     requires name { blank.name ≡ L.name }
     requires parts { blank.parts ≡ L.parts }
@@ -72,6 +75,7 @@ fn is_cyclic<R: Rank, L: Ledger>(
     tables: &Tables,
     steps: &mut Steps<L>,
 ) -> bool
+    requires slots { 16 ≤ R.ITEMS }
     requires fits { Fits query.now tables.now }
     requires order { length query.now.query.order ≤ R.KEYS }
 {
@@ -89,6 +93,7 @@ fn is_triangle_cyclic<R: Rank, L: Ledger>(
     tables: &Tables,
     steps: &mut Steps<L>,
 ) -> bool
+    requires slots { 16 ≤ R.ITEMS }
     requires two { length tables.now ≡ 2 }
 {
     let text = b"select A.a from R A, R B, R C where A.a = B.b and B.a = C.b and C.a = A.b";
@@ -99,6 +104,7 @@ fn is_triangle_cyclic<R: Rank, L: Ledger>(
 }
 
 fn triangle_is_told<R: Rank, L: Ledger>(alloc: Global, blank: Blank) -> bool
+    requires slots { 16 ≤ R.ITEMS }
     requires name { blank.name ≡ L.name }
     requires parts { blank.parts ≡ L.parts }
     requires some_part { 0 < blank.parts }

@@ -44,6 +44,7 @@ fn add<R: Rank>(
     own: u32,
     children: &[u32],
 ) -> Result<(), NoMemory>
+    requires slots { 16 ≤ R.ITEMS }
     requires chain { IsChain tree.old.shapes }
     requires node { node < 3 }
     requires children { length children.now ≡ chain_children node }
@@ -104,7 +105,7 @@ fn has_named<R: Rank>(parts: &NodeParts<R>, named: &[u32]) -> bool {
         return false;
     }
     for row in 0..named.len() {
-        if parts.to_child[row].as_slice() != [named[row]].as_slice() {
+        if parts.to_child.width() != 1 || parts.to_child.get(row, 0) != named[row] {
             return false;
         }
     }
@@ -113,6 +114,7 @@ fn has_named<R: Rank>(parts: &NodeParts<R>, named: &[u32]) -> bool {
 
 // Row 2 of the second node has no partner, and so row 6 of the root has none either.
 fn link_partly<R: Rank>(tree: &mut RawTree<R>) -> Result<(), NoMemory>
+    requires slots { 16 ≤ R.ITEMS }
     requires chain { IsChain tree.old.shapes }
     requires empty { row_total tree.old ≡ 0 }
 {
@@ -144,6 +146,7 @@ fn partly_linked_is_reduced<R: Rank, L: Ledger>(
     alloc: Global,
     blank: Blank,
 ) -> Result<bool, NoMemory>
+    requires slots { 16 ≤ R.ITEMS }
     requires name { blank.name ≡ L.name }
     requires parts { blank.parts ≡ L.parts }
     requires share { 0 < L.parts }
@@ -162,6 +165,7 @@ fn rows_without_partner_go(rt: HostRuntime) {
 
 // No row of the second node has a partner.
 fn link_none<R: Rank>(tree: &mut RawTree<R>) -> Result<(), NoMemory>
+    requires slots { 16 ≤ R.ITEMS }
     requires chain { IsChain tree.old.shapes }
     requires empty { row_total tree.old ≡ 0 }
 {
@@ -179,6 +183,7 @@ fn is_emptied<R: Rank>(nodes: &[NodeParts<R>]) -> bool {
 }
 
 fn unlinked_is_reduced<R: Rank, L: Ledger>(alloc: Global, blank: Blank) -> Result<bool, NoMemory>
+    requires slots { 16 ≤ R.ITEMS }
     requires name { blank.name ≡ L.name }
     requires parts { blank.parts ≡ L.parts }
     requires share { 0 < L.parts }

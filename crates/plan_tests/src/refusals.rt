@@ -139,6 +139,7 @@ fn comes_back<R: Rank, L: Ledger>(
     wanted: &[[u32; 4]],
     blank: Blank,
 ) -> bool
+    requires slots { 16 ≤ R.ITEMS }
     requires few { length which.now ≤ 16 }
     requires known { AllByRecursion (λ t. t < 2) which.now }
     requires name { blank.name ≡ L.name }

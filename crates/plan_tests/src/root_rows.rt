@@ -32,6 +32,7 @@ fn gives<R: Rank, L: Ledger>(
 
 // The rows of the root, of which the last names a group that the first child has not.
 fn add_root_rows<R: Rank>(tree: &mut RawTree<R>) -> Result<(), NoMemory>
+    requires slots { 16 ≤ R.ITEMS }
     requires keys { 1 ≤ R.KEYS }
     requires sample { IsSample tree.old }
     requires room { row_total tree.old ≡ 0 }
@@ -49,6 +50,7 @@ fn add_root_rows<R: Rank>(tree: &mut RawTree<R>) -> Result<(), NoMemory>
 
 // The rows of both children.
 fn add_leaf_rows<R: Rank>(tree: &mut RawTree<R>) -> Result<(), NoMemory>
+    requires slots { 16 ≤ R.ITEMS }
     requires keys { 1 ≤ R.KEYS }
     requires sample { IsSample tree.old }
     requires room { row_total tree.old ≤ 7 }
@@ -62,7 +64,8 @@ fn add_leaf_rows<R: Rank>(tree: &mut RawTree<R>) -> Result<(), NoMemory>
 }
 
 fn six_rows<R: Rank>(alloc: Global) -> Result<RawTree<R>, NoMemory>
-    requires { 1 ≤ R.KEYS }
+    requires slots { 16 ≤ R.ITEMS }
+    requires keys { 1 ≤ R.KEYS }
     ensures { IfOk result IsSample }
 {
     let mut tree = branching(alloc)?;
@@ -72,6 +75,7 @@ fn six_rows<R: Rank>(alloc: Global) -> Result<RawTree<R>, NoMemory>
 }
 
 fn six_are_given<R: Rank, L: Ledger>(alloc: Global, blank: Blank) -> Result<bool, NoMemory>
+    requires slots { 16 ≤ R.ITEMS }
     requires keys { 1 ≤ R.KEYS }
     requires name { blank.name ≡ L.name }
     requires parts { blank.parts ≡ L.parts }
@@ -112,6 +116,7 @@ fn gives_at<R: Rank, L: Ledger>(
     expected: &[[u32; 4]],
     blank: Blank,
 ) -> bool
+    requires slots { 16 ≤ R.ITEMS }
     requires few { length which.now ≤ 16 }
     requires known { AllByRecursion (λ t. t < 2) which.now }
     requires name { blank.name ≡ L.name }
@@ -177,6 +182,7 @@ fn each_item_of_four_can_be_the_root(rt: HostRuntime) {
 
 // Whether the plan of a query without answers gives none.
 fn none_are_planned<R: Rank, L: Ledger>(alloc: Global, blank: Blank) -> bool
+    requires slots { 16 ≤ R.ITEMS }
     requires name { blank.name ≡ L.name }
     requires parts { blank.parts ≡ L.parts }
     requires share { 0 < L.parts }

@@ -45,6 +45,7 @@ pub(crate) fn add<R: Rank>(
     own: u32,
     children: &[u32],
 ) -> Result<(), NoMemory>
+    requires slots { 16 ≤ R.ITEMS }
     requires keys { 1 ≤ R.KEYS }
     requires sample { IsSample tree.old }
     requires node { node < 3 }
@@ -61,6 +62,7 @@ pub(crate) fn add<R: Rank>(
 
 // The solutions have the sums 5 + 4 + 3, 5 + 2 + 3 and 1 + 9 + 3, each twice.
 fn add_six_solutions<R: Rank>(tree: &mut RawTree<R>) -> Result<(), NoMemory>
+    requires slots { 16 ≤ R.ITEMS }
     requires keys { 1 ≤ R.KEYS }
     requires sample { IsSample tree.old }
     requires empty { row_total tree.old ≡ 0 }
@@ -76,7 +78,8 @@ fn add_six_solutions<R: Rank>(tree: &mut RawTree<R>) -> Result<(), NoMemory>
 }
 
 fn six_solutions<R: Rank>(alloc: Global) -> Result<RawTree<R>, NoMemory>
-    requires { 1 ≤ R.KEYS }
+    requires slots { 16 ≤ R.ITEMS }
+    requires keys { 1 ≤ R.KEYS }
     ensures { IfOk result IsSample }
 {
     let mut tree = branching(alloc)?;
@@ -86,6 +89,7 @@ fn six_solutions<R: Rank>(alloc: Global) -> Result<RawTree<R>, NoMemory>
 
 // The root's row names a link that no row of the right child has.
 fn add_no_solution<R: Rank>(tree: &mut RawTree<R>) -> Result<(), NoMemory>
+    requires slots { 16 ≤ R.ITEMS }
     requires keys { 1 ≤ R.KEYS }
     requires sample { IsSample tree.old }
     requires empty { row_total tree.old ≡ 0 }
@@ -97,7 +101,8 @@ fn add_no_solution<R: Rank>(tree: &mut RawTree<R>) -> Result<(), NoMemory>
 }
 
 fn no_solution<R: Rank>(alloc: Global) -> Result<RawTree<R>, NoMemory>
-    requires { 1 ≤ R.KEYS }
+    requires slots { 16 ≤ R.ITEMS }
+    requires keys { 1 ≤ R.KEYS }
     ensures { IfOk result IsSample }
 {
     let mut tree = branching(alloc)?;
@@ -126,6 +131,7 @@ fn same<R: Rank, L: Ledger>(a: &R, b: &R, steps: &mut Steps<L>) -> bool {
 
 /// Whether the least solutions of the root's two rows have the sums 10 and 13.
 fn has_bests<R: Rank, L: Ledger>(tree: &Tree<R>, steps: &mut Steps<L>) -> bool
+    requires slots { 16 ≤ R.ITEMS }
     requires keys { 1 ≤ R.KEYS }
     requires nodes { length tree.now ≡ 3 }
 {
@@ -141,6 +147,7 @@ fn has_bests<R: Rank, L: Ledger>(tree: &Tree<R>, steps: &mut Steps<L>) -> bool
 
 /// Whether the first answer has the sum 10, with row 2 of item 1.
 fn has_first<R: Rank, L: Ledger>(tree: &Tree<R>, steps: &mut Steps<L>) -> bool
+    requires slots { 16 ≤ R.ITEMS }
     requires keys { 1 ≤ R.KEYS }
     requires tree { IsTieFreeTree tree.now }
 {
@@ -153,6 +160,7 @@ fn has_first<R: Rank, L: Ledger>(tree: &Tree<R>, steps: &mut Steps<L>) -> bool
 }
 
 fn six_are_solved<R: Rank, L: Ledger>(alloc: Global, blank: Blank) -> Result<(bool, bool), NoMemory>
+    requires slots { 16 ≤ R.ITEMS }
     requires keys { 1 ≤ R.KEYS }
     requires name { blank.name ≡ L.name }
     requires parts { blank.parts ≡ L.parts }
@@ -178,6 +186,7 @@ fn has_none<R: Rank, L: Ledger>(tree: &Tree<R>, steps: &mut Steps<L>) -> bool
 }
 
 fn none_is_solved<R: Rank, L: Ledger>(alloc: Global, blank: Blank) -> Result<bool, NoMemory>
+    requires slots { 16 ≤ R.ITEMS }
     requires keys { 1 ≤ R.KEYS }
     requires name { blank.name ≡ L.name }
     requires parts { blank.parts ≡ L.parts }

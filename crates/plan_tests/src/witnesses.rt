@@ -93,6 +93,7 @@ fn gives<R: Rank, L: Ledger>(
     expected: &[[u32; 4]],
     blank: Blank,
 ) -> bool
+    requires slots { 16 ≤ R.ITEMS }
     requires few { length which.now ≤ 16 }
     requires known { AllByRecursion (λ t. t < 2) which.now }
     requires name { blank.name ≡ L.name }

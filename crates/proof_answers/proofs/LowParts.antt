@@ -1,5 +1,5 @@
 -- A row's rank with the ranks of the bounds that it names at its first children.
-use Rattle.std.proofs.Common.{◌≡◌, ◌≢◌, ◌⊎◌, ℕ, zero, suc, ◌+◌, ◌<◌, ◌≤◌, cond, nat_eq, Bool, true, false}
+use Rattle.std.proofs.Common.{◌≡◌, ◌≢◌, ◌⊎◌, ℕ, suc, ◌+◌, ◌<◌, ◌≤◌, cond, nat_eq}
 use Rattle.std.proofs.Common.{Some, option_map, unwrap_or, List, length, refl, sym, ap, subst, ◌∙◌, inl, inr, arith}
 use Rattle.std.proofs.lemmas.Bool.{cases_eq, cases_lt}
 use Rattle.anyk_model.specs.Table.{Table}
@@ -18,27 +18,10 @@ use Rattle.proof_text.specs.Certificate.{Certificate}
 use Rattle.proof_model.specs.Problem.{Problem, IsSolutionAt, row_in}
 use Rattle.proof_model.specs.QueryProblem.{problem_in}
 use Rattle.proof_model.specs.Valid.{bound_at, bound_key}
-use Rattle.proof_model.specs.Wide.{wide}
 use Rattle.proof_model.proofs.Sums.{pick_eq, pick_ne, sum_none, sum_one}
-use Rattle.proof_model.proofs.Wider.{wide-add, wide-none}
 use Rattle.proof_bounds.specs.Bounded.{BoundedData, IsBounded, bound_ranks, named_bound, query_key, rank_of_bound}
-use Rattle.proof_answers.proofs.RawSums.{IsRawPart, double_sums_fit}
-
--- # Wide sums
-
-pub wide-cond : (few more : ℕ) → few ≤ more → (b : Bool) (k : KeyOf few 16)
-    → wide few more 16 (cond b k (key_none few 16)) ≡ cond b (wide few more 16 k) (key_none more 16)
-wide-cond few more h true k = refl
-wide-cond few more h false k = wide-none few more 16 h
-
-pub wide-sum : (few more : ℕ) → few ≤ more → (f : ℕ → KeyOf few 16) (n q : ℕ)
-    → wide few more 16 (sum_from (key_add few 16) (key_none few 16) f n q)
-    ≡ sum_from (key_add more 16) (key_none more 16) (λ i. wide few more 16 (f i)) n q
-unfolding sum_from
-wide-sum few more h f zero q = wide-none few more 16 h
-wide-sum few more h f (suc n) q =
-    wide-add few more 16 h (f q) (sum_from (key_add few 16) (key_none few 16) f n (suc q))
-    ∙ ap (λ z. key_add more 16 (wide few more 16 (f q)) z) (wide-sum few more h f n (suc q))
+use Rattle.proof_bounds.proofs.RankSums.{IsRawPart, wide-cond, wide-sum}
+use Rattle.proof_answers.proofs.RawSums.{double_sums_fit}
 
 -- # Parts
 

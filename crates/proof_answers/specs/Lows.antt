@@ -20,9 +20,11 @@ module _ {K : Type 0} (t : Problem K) (c : Certificate) (v row : ℕ) where
   abbrev pub low_key : (ℕ → ℕ) → K
   low_key below =
       t.add (t.key v row)
-      (sum_from t.add t.none (kid_key t.none t.parent v (λ q. bound_key t c q (below q))) (t.nodes - suc v) (suc v))
+      (sum_from t.add t.none (kid_key t.none t.parent v (λ q. bound_key t c q (below q)))
+      (t.nodes - suc v) (suc v))
 
-module _ (query : Query) (tables : List Table) (join : JoinTree) (d : ℕ) (c : Certificate) (v row : ℕ) where
+module _ (query : Query) (tables : List Table) (join : JoinTree) (d : ℕ) (c : Certificate)
+    (v row : ℕ) where
   -- Without a key, some group that the row names has no bound; else each has one, and whichever these are, the key is
   -- the sum of the row's key and theirs.
   abbrev pub IsLow : Option (KeyOf d 16) → Type 0
@@ -42,7 +44,8 @@ pub record IsBoundedTree (join : JoinTree) (d : ℕ) {R : Type 0} (key : R → K
   pub bounded : IsBounded query tables join d key c tree
 
 -- this holds of whichever query and certificate the tree is of
-abbrev pub OfEach : (join : JoinTree) (d : ℕ) {R : Type 0} (key : R → KeyOf d 16) (tree : BoundedData R)
+abbrev pub OfEach : (join : JoinTree) (d : ℕ) {R : Type 0} (key : R → KeyOf d 16)
+    (tree : BoundedData R)
     → (Query → List Table → Certificate → Type 0) → Type 0
 OfEach join d key tree P =
     (query : Query) (tables : List Table) (c : Certificate) → length query.order ≤ d

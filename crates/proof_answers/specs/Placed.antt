@@ -16,7 +16,8 @@ abbrev pub place_at : List (List ℕ) → ℕ → ℕ → ℕ
 place_at places i q = slice_index (slice_index_or places i []) q
 
 -- the rank of the last answer
-abbrev pub IsLastKey : (query : Query) (tables : List Table) (join : JoinTree) (d : ℕ) → Certificate → Option (KeyOf d 16) → Type 0
+abbrev pub IsLastKey : (query : Query) (tables : List Table) (join : JoinTree) (d : ℕ) → Certificate
+    → Option (KeyOf d 16) → Type 0
 IsLastKey query tables join d c None = length c.answers ≡ 0
 IsLastKey query tables join d c (Some k) =
     (0 < length c.answers)
@@ -32,10 +33,12 @@ module _ (query : Query) (tables : List Table) (join : JoinTree) (c : Certificat
     pub rows : (i q : ℕ) → i < length c.answers → q < (problem_in query tables join).nodes
         → raw_number raw q (place_at places i q) ≡ answer_row (problem_in query tables join) c i q
     -- as in a valid certificate
-    pub covered : (v row : ℕ) → v < (problem_in query tables join).nodes → (problem_in query tables join).IsRow v row
+    pub covered : (v row : ℕ) → v < (problem_in query tables join).nodes
+        → (problem_in query tables join).IsRow v row
         → IsCovered (problem_in query tables join) c v row
     pub answers : (i : ℕ) → i < length c.answers
-        → IsSolutionAt (problem_in query tables join) 0 (answer_at (problem_in query tables join) c i).rows
+        → IsSolutionAt (problem_in query tables join) 0
+        (answer_at (problem_in query tables join) c i).rows
     pub ascending : (i : ℕ) → i + 1 < length c.answers
         → (problem_in query tables join).Below (answer_key (problem_in query tables join) c i)
         (answer_key (problem_in query tables join) c (i + 1))

@@ -28,19 +28,22 @@ module _ {K : Type 0} (t : Problem K) (c : Certificate) where
   -- answer i is the first one that is not after the one before it
   abbrev pub IsFirstBehind : ℕ → Type 0
   IsFirstBehind i =
-      (0 < i) × (i < length c.answers) × (t.Below (answer_key t c (i - 1)) (answer_key t c i) → ⊥) × AreOrdered i
+      (0 < i) × (i < length c.answers) × (t.Below (answer_key t c (i - 1)) (answer_key t c i) → ⊥)
+      × AreOrdered i
 
   -- memory ran out, or this answer is the first bad one
   abbrev pub TellsBad : ProofFault → Type 0
   TellsBad told =
-      (told ≡ fault.NoMemory) ⊎ ((i : ℕ) × (told ≡ fault.BadAnswer (answer_at t c i).line) × IsFirstBad i)
+      (told ≡ fault.NoMemory)
+      ⊎ ((i : ℕ) × (told ≡ fault.BadAnswer (answer_at t c i).line) × IsFirstBad i)
 
   -- this answer is the first one that is not in order
   abbrev pub TellsBehind : ProofFault → Type 0
   TellsBehind told = (i : ℕ) × (told ≡ fault.Order (answer_at t c i).line) × IsFirstBehind i
 
 -- the places of the rows of each answer
-pub record AreAnswers {R : Type 0} (query : Query) (tables : List Table) (join : JoinTree) (raw : RawData R)
+pub record AreAnswers {R : Type 0} (query : Query) (tables : List Table) (join : JoinTree)
+    (raw : RawData R)
     (c : Certificate)
     (places : List (List ℕ)) : Type 0 where
   pub count : length places ≡ length c.answers
@@ -49,7 +52,8 @@ pub record AreAnswers {R : Type 0} (query : Query) (tables : List Table) (join :
       (slice_index_or places i [])
 
 -- the raw tree has the rows of some query, ranks have room for its order keys, and the places are those of the answers
-pub record HasAnswers {R : Type 0} (d : ℕ) (key : R → KeyOf d 16) (raw : RawData R) (c : Certificate)
+pub record HasAnswers {R : Type 0} (d : ℕ) (key : R → KeyOf d 16) (raw : RawData R)
+    (c : Certificate)
     (places : List (List ℕ)) : Type 0 where
   pub query : Query
   pub tables : List Table

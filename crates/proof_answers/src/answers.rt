@@ -44,16 +44,21 @@ pub fn placed_answers<R: Rank, L: Ledger>(
 ) -> Result<PlacedAnswers<R>, ProofFault>
     requires fits { Fits query.now tables.now }
     requires keys { length query.now.query.order ≤ R.KEYS }
+    requires slots { length query.now.query.items ≤ R.ITEMS }
     requires tree { HasStoredTree query.now.query join.now }
     requires ordered { IsTree join.now.count join.now.atom join.now.parent }
     requires items { HasItems join.now.count join.now.atom (length query.now.query.items) }
     requires count { join.now.count ≡ length query.now.query.items }
-    requires bounded { IsBounded query.now.query tables.now join.now R.KEYS R.key (seen_proof proof.now) tree.now }
+    requires bounded { IsBounded query.now.query tables.now join.now R.KEYS R.key
+        (seen_proof proof.now) tree.now }
     ensures placed { IfOk result (λ answers.
-        ArePlaced query.now.query tables.now join.now (seen_proof proof.now) tree.now.raw answers.places.items) }
+        ArePlaced query.now.query tables.now join.now
+        (seen_proof proof.now) tree.now.raw answers.places.items) }
     ensures last { IfOk result (λ answers.
-        IsLastKey query.now.query tables.now join.now R.KEYS (seen_proof proof.now) (option_map R.key answers.last)) }
-    ensures fault { IfErr result (TellsFlaw query.now.query tables.now join.now (seen_proof proof.now)) }
+        IsLastKey query.now.query tables.now join.now R.KEYS (seen_proof proof.now)
+        (option_map R.key answers.last)) }
+    ensures fault { IfErr result
+        (TellsFlaw query.now.query tables.now join.now (seen_proof proof.now)) }
 {
     if let Some(node) = first_weak(join, tree, steps) {
         return Err(ProofFault::Weak(node + 1));

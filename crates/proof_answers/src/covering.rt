@@ -29,7 +29,8 @@ pub(crate) fn first_weak<R: Rank, L: Ledger>(
     requires bounded { IsBoundedTree join.now R.KEYS R.key tree.now }
     ensures { OfEach join.now R.KEYS R.key tree.now (λ query tables c.
         MatchOption result
-        ((v : ℕ) → v < (problem_in query tables join.now).nodes → AllCovered (problem_in query tables join.now) c v)
+        ((v : ℕ) → v < (problem_in query tables join.now).nodes
+        → AllCovered (problem_in query tables join.now) c v)
         (IsFirstWeak (problem_in query tables join.now) c)) }
 {
     for node in 0..tree.raw.nodes() {
@@ -77,7 +78,8 @@ fn is_covered<R: Rank, L: Ledger>(
     requires node { node < length tree.now.raw.shapes }
     requires row { row < raw_len tree.now.raw node }
     ensures { OfEach join.now R.KEYS R.key tree.now (λ query tables c.
-        IsTrue result ↔ IsCovered (problem_in query tables join.now) c node (raw_number tree.now.raw node row)) }
+        IsTrue result ↔ IsCovered (problem_in query tables join.now) c node
+        (raw_number tree.now.raw node row)) }
 {
     match low_bound(join, tree, node, row, steps) {
         None => true,
@@ -101,9 +103,11 @@ pub fn low_bound<R: Rank, L: Ledger>(
     requires bounded { IsBoundedTree join.now R.KEYS R.key tree.now }
     requires node { node < join.now.count }
     requires row { row < raw_len tree.now.raw node }
-    ensures { (query : SelectQuery) (tables : List Table) (c : Certificate) → length query.order ≤ R.KEYS
+    ensures { (query : SelectQuery) (tables : List Table) (c : Certificate)
+        → length query.order ≤ R.KEYS
         → IsBounded query tables join.now R.KEYS R.key c tree.now
-        → IsLow query tables join.now R.KEYS c node (raw_number tree.now.raw node row) (option_map R.key result) }
+        → IsLow query tables join.now R.KEYS c node (raw_number tree.now.raw node row)
+        (option_map R.key result) }
 {
     let mut low = tree.raw.row(node, row).rank;
     let nodes = tree.raw.nodes();
@@ -120,7 +124,8 @@ pub fn low_bound<R: Rank, L: Ledger>(
 fn own_rank<R: Rank>(tree: &BoundedTree<R>, node: u32, row: u32) -> Option<R>
     requires node { node < length tree.now.bounds }
     requires row { row < length (slice_index_or (map (λ b. b.own.items) tree.now.bounds) node []) }
-    requires each { (b : ℕ) → own_bound tree.now node row ≡ Some b → b < length (bound_ranks tree.now node) }
+    requires each { (b : ℕ) → own_bound tree.now node row ≡ Some b
+        → b < length (bound_ranks tree.now node) }
     ensures { option_map R.key result
         ≡ option_map (rank_of_bound tree.now R.KEYS R.key node) (own_bound tree.now node row) }
 {
@@ -133,8 +138,10 @@ fn own_rank<R: Rank>(tree: &BoundedTree<R>, node: u32, row: u32) -> Option<R>
 /// count from 0.
 pub fn named_rank<R: Rank>(tree: &BoundedTree<R>, node: u32, above: u32) -> Option<R>
     requires node { node < length tree.now.bounds }
-    requires above { above < length (slice_index_or (map (λ b. b.named.items) tree.now.bounds) node []) }
-    requires each { (b : ℕ) → named_bound tree.now node above ≡ Some b → b < length (bound_ranks tree.now node) }
+    requires above { above
+        < length (slice_index_or (map (λ b. b.named.items) tree.now.bounds) node []) }
+    requires each { (b : ℕ) → named_bound tree.now node above ≡ Some b
+        → b < length (bound_ranks tree.now node) }
     ensures { option_map R.key result
         ≡ option_map (rank_of_bound tree.now R.KEYS R.key node) (named_bound tree.now node above) }
 {

@@ -27,15 +27,20 @@ pub(crate) fn last_rank<R: Rank, L: Ledger>(
 ) -> Result<Option<R>, ProofFault>
     requires some { 0 < length raw.now.shapes }
     requires answers { HasAnswers R.KEYS R.key raw.now (seen_proof proof.now) places.now }
-    ensures last { (query : SelectQuery) (tables : List Table) (join : JoinTree) → length query.order ≤ R.KEYS
+    ensures last { (query : SelectQuery) (tables : List Table) (join : JoinTree)
+        → length query.order ≤ R.KEYS
         → HasProblemRows query tables join R.KEYS R.key raw.now
         → AreAnswers query tables join raw.now (seen_proof proof.now) places.now
-        → IfOk result (λ last. IsLastKey query tables join R.KEYS (seen_proof proof.now) (option_map R.key last)) }
-    ensures ordered { (query : SelectQuery) (tables : List Table) (join : JoinTree) → length query.order ≤ R.KEYS
+        → IfOk result (λ last. IsLastKey query tables join R.KEYS (seen_proof proof.now)
+        (option_map R.key last)) }
+    ensures ordered { (query : SelectQuery) (tables : List Table) (join : JoinTree)
+        → length query.order ≤ R.KEYS
         → HasProblemRows query tables join R.KEYS R.key raw.now
         → AreAnswers query tables join raw.now (seen_proof proof.now) places.now
-        → IfOk result (λ last. AreOrdered (problem_in query tables join) (seen_proof proof.now) (length places.now)) }
-    ensures fault { (query : SelectQuery) (tables : List Table) (join : JoinTree) → length query.order ≤ R.KEYS
+        → IfOk result (λ last. AreOrdered (problem_in query tables join) (seen_proof proof.now)
+        (length places.now)) }
+    ensures fault { (query : SelectQuery) (tables : List Table) (join : JoinTree)
+        → length query.order ≤ R.KEYS
         → HasProblemRows query tables join R.KEYS R.key raw.now
         → AreAnswers query tables join raw.now (seen_proof proof.now) places.now
         → IfErr result (TellsBehind (problem_in query tables join) (seen_proof proof.now)) }
@@ -54,7 +59,8 @@ pub(crate) fn last_rank<R: Rank, L: Ledger>(
 /// Whether a rank is after the one before it. It is if there is none.
 fn is_after<R: Rank, L: Ledger>(before: Option<R>, rank: R, steps: &mut Steps<L>) -> bool
     ensures first { before ≡ None → result ≡ true }
-    ensures next { (old : R) → before ≡ Some old → result ≡ key_less R.KEYS 16 (R.key old) (R.key rank) }
+    ensures next { (old : R) → before ≡ Some old
+        → result ≡ key_less R.KEYS 16 (R.key old) (R.key rank) }
 {
     match before {
         Some(old) => R::less(&old, &rank, steps),

@@ -24,7 +24,8 @@ pub(crate) fn answer_places<R: Rank>(
     requires { 0 < length raw.now.shapes }
     ensures places { (query : SelectQuery) (tables : List Table) (join : JoinTree)
         → HasProblemRows query tables join R.KEYS R.key raw.now
-        → IfOk result (λ places. AreAnswers query tables join raw.now (seen_proof proof.now) places.items) }
+        → IfOk result (λ places. AreAnswers query tables join raw.now
+        (seen_proof proof.now) places.items) }
     ensures fault { (query : SelectQuery) (tables : List Table) (join : JoinTree)
         → HasProblemRows query tables join R.KEYS R.key raw.now
         → IfErr result (TellsBad (problem_in query tables join) (seen_proof proof.now)) }

@@ -80,12 +80,12 @@ module _ {R : Type 0} (d : ℕ) (key : R → KeyOf d 16) where
   row-slot shapes v s (x ∷ xs) (suc i) l h all =
       row-slot shapes v s xs i (omega (arith, l)) h (All-tail (RawRowFits d key shapes v) x xs all)
 
-  module _ (raw : RawData R) (formed : IsRawFormed d key raw) where
-    -- what node q gives: nothing, or the rank of a row
-    abbrev pub IsRawPart : ℕ → KeyOf d 16 → Type 0
-    IsRawPart q k = (k ≡ key_none d 16) ⊎ ((i : ℕ) × (i < raw_len raw q) × (k ≡ raw_rank raw d key q i))
+  -- what node q gives: nothing, or the rank of a row
+  abbrev pub IsRawPart : RawData R → ℕ → KeyOf d 16 → Type 0
+  IsRawPart raw q k = (k ≡ key_none d 16) ⊎ ((i : ℕ) × (i < raw_len raw q) × (k ≡ raw_rank raw d key q i))
 
-    module _ (part : ℕ → KeyOf d 16) (parts : (q : ℕ) → q < length raw.shapes → IsRawPart q (part q)) where
+  module _ (raw : RawData R) (formed : IsRawFormed d key raw) where
+    module _ (part : ℕ → KeyOf d 16) (parts : (q : ℕ) → q < length raw.shapes → IsRawPart raw q (part q)) where
       part-weight : (s q : ℕ) → s < d → q < length raw.shapes → weight s (part q) ≤ shape_cap raw.shapes q s
       part-weight s q h l = elim (parts q l) [
         | inl e ↦ omega (arith, ap (weight s) e, weight-none s)
@@ -168,7 +168,7 @@ module _ {R : Type 0} (d : ℕ) (key : R → KeyOf d 16) where
 
     placed-part : (q : ℕ) (b : Bool) → nat_eq (raw_below raw v q) 1 ≡ b
         → (b ≡ true → get_or places q 0 < raw_len raw q)
-        → (placed_rank q ≡ key_none d 16) ⊎ ((i : ℕ) × (i < raw_len raw q) × (placed_rank q ≡ raw_rank raw d key q i))
+        → IsRawPart raw q (placed_rank q)
     placed-part q true e h = inr (get_or places q 0, h refl, at-true (nat_eq (raw_below raw v q) 1) _ _ e)
     placed-part q false e h = inl (at-false (nat_eq (raw_below raw v q) 1) _ _ e)
 
@@ -180,7 +180,7 @@ module _ {R : Type 0} (d : ℕ) (key : R → KeyOf d 16) where
 
 -- ---- wide sums
 
-wide-sum : (few more : ℕ) → few ≤ more → (f : ℕ → KeyOf few 16) (n q : ℕ)
+pub wide-sum : (few more : ℕ) → few ≤ more → (f : ℕ → KeyOf few 16) (n q : ℕ)
     → wide few more 16 (sum_from (key_add few 16) (key_none few 16) f n q)
     ≡ sum_from (key_add more 16) (key_none more 16) (λ i. wide few more 16 (f i)) n q
 unfolding sum_from
@@ -189,7 +189,7 @@ wide-sum few more h f (suc n) q =
     wide-add few more 16 h (f q) (sum_from (key_add few 16) (key_none few 16) f n (suc q))
     ∙ ap (key_add more 16 (wide few more 16 (f q))) (wide-sum few more h f n (suc q))
 
-wide-cond : (few more : ℕ) → few ≤ more → (b : Bool) (x : KeyOf few 16)
+pub wide-cond : (few more : ℕ) → few ≤ more → (b : Bool) (x : KeyOf few 16)
     → wide few more 16 (cond b x (key_none few 16)) ≡ cond b (wide few more 16 x) (key_none more 16)
 wide-cond few more h true x = refl
 wide-cond few more h false x = wide-none few more 16 h

@@ -14,11 +14,13 @@ module _ (query : Query) (tables : List Table) (join : JoinTree) (c : Certificat
   -- memory ran out, or this is the first line that is no solution
   abbrev pub TellsBadBound : ProofFault → Type 0
   TellsBadBound told =
-      (told ≡ fault.NoMemory) ⊎ ((i : ℕ) × (told ≡ fault_of (problem_in query tables join) c (no_solution i))
+      (told ≡ fault.NoMemory)
+      ⊎ ((i : ℕ) × (told ≡ fault_of (problem_in query tables join) c (no_solution i))
       × IsFirst (problem_in query tables join) c query.limit (no_solution i))
 
   -- memory ran out, or this is the first line whose group has a line before it
   abbrev pub TellsBoundTwice : ProofFault → Type 0
   TellsBoundTwice told =
-      (told ≡ fault.NoMemory) ⊎ ((i : ℕ) × (told ≡ fault_of (problem_in query tables join) c (bound_twice i))
+      (told ≡ fault.NoMemory)
+      ⊎ ((i : ℕ) × (told ≡ fault_of (problem_in query tables join) c (bound_twice i))
       × IsFirst (problem_in query tables join) c query.limit (bound_twice i))

@@ -30,18 +30,22 @@ pub record HasProblem {R : Type 0} (d : ℕ) (key : R → KeyOf d 16) (raw : Raw
 
 -- The first n lines are subtree solutions. The row of each at its node has this place, and the ranks of a node's lines
 -- are these, in the order of the lines.
-pub record ArePlacedLines {R : Type 0} (query : Query) (tables : List Table) (join : JoinTree) (d : ℕ)
-    (key : R → KeyOf d 16) (raw : RawData R) (c : Certificate) (n : ℕ) (tops : List ℕ) (ranks : List (List R)) : Type 0 where
+pub record ArePlacedLines {R : Type 0} (query : Query) (tables : List Table) (join : JoinTree)
+    (d : ℕ)
+    (key : R → KeyOf d 16) (raw : RawData R) (c : Certificate) (n : ℕ) (tops : List ℕ)
+    (ranks : List (List R)) : Type 0 where
   pub count : length tops ≡ n
   pub each_node : length ranks ≡ length raw.shapes
   pub solutions : (i : ℕ) → i < n → (v : ℕ) × (line_node c i ≡ suc v)
-      × IsSolutionAt (problem_in query tables join) v (bound_at (problem_in query tables join) c i).rows
+      × IsSolutionAt (problem_in query tables join) v
+      (bound_at (problem_in query tables join) c i).rows
   pub within : (v i : ℕ) → i < n → line_node c i ≡ suc v → slice_index tops i < raw_len raw v
   pub numbers : (v i : ℕ) → i < n → line_node c i ≡ suc v
       → raw_number raw v (slice_index tops i) ≡ bound_row (problem_in query tables join) c v i
   pub keys : (v : ℕ) → v < length raw.shapes
       → map key (slice_index_or ranks v [])
-      ≡ map (λ i. query_key query d (bound_key (problem_in query tables join) c v i)) (lines_of c v n)
+      ≡ map (λ i. query_key query d (bound_key (problem_in query tables join) c v i))
+      (lines_of c v n)
 
 module _ {R : Type 0} (raw : RawData R) where
   -- the link by which the group of row i of node v is found; all rows of the root are in one group
@@ -53,7 +57,8 @@ module _ {R : Type 0} (raw : RawData R) where
   named_link q r = child_link raw (shape_parent raw.shapes q) r (shape_child_place raw.shapes q)
 
   -- the links of the groups of a node's lines, in the order of the lines; no two lines have one group
-  pub record AreLineGroups (c : Certificate) (tops : List ℕ) (n : ℕ) (groups : List (List ℕ)) : Type 0 where
+  pub record AreLineGroups (c : Certificate) (tops : List ℕ) (n : ℕ)
+      (groups : List (List ℕ)) : Type 0 where
     pub each_node : length groups ≡ length raw.shapes
     pub links : (v : ℕ) → v < length raw.shapes
         → slice_index_or groups v [] ≡ map (λ i. group_link v (slice_index tops i)) (lines_of c v n)
@@ -70,7 +75,8 @@ module _ {R : Type 0} (raw : RawData R) where
         → slice_index_or named r None ≡ position (nat_eq (named_link v r)) groups
 
 -- the tree has the rows of a query, and the lines are placed
-pub record HasPlacedLines {R : Type 0} (d : ℕ) (key : R → KeyOf d 16) (raw : RawData R) (c : Certificate) (n : ℕ)
+pub record HasPlacedLines {R : Type 0} (d : ℕ) (key : R → KeyOf d 16) (raw : RawData R)
+    (c : Certificate) (n : ℕ)
     (tops : List ℕ) : Type 0 where
   pub query : Query
   pub tables : List Table

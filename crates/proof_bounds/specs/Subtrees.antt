@@ -22,7 +22,8 @@ module _ {R : Type 0} (raw : RawData R) where
   -- the place of node q's item among the items of that subtree, in the order of the items
   abbrev pub raw_place : ℕ → ℕ → ℕ
   raw_place v q =
-      sum_from ◌+◌ 0 (λ u. raw_below v u * cond (nat_lt (shape_item raw.shapes u) (shape_item raw.shapes q)) 1 0)
+      sum_from ◌+◌ 0 (λ u. raw_below v u
+      * cond (nat_lt (shape_item raw.shapes u) (shape_item raw.shapes q)) 1 0)
       (length raw.shapes) 0
 
   -- for each node whether it is in the subtree of node v
@@ -32,7 +33,8 @@ module _ {R : Type 0} (raw : RawData R) where
   -- the row at place i of node q has the link that the row at place r of q's parent names
   abbrev pub HasLinkOf : ℕ → ℕ → ℕ → Type 0
   HasLinkOf q r i =
-      own_link raw q i ≡ child_link raw (shape_parent raw.shapes q) r (shape_child_place raw.shapes q)
+      own_link raw q i ≡ child_link raw (shape_parent raw.shapes q) r
+      (shape_child_place raw.shapes q)
 
   -- the rows of the first n nodes, as far as these are in the subtree of node v, have these places
   pub record ArePlacedBefore (v : ℕ) (rows places : List ℕ) (n : ℕ) : Type 0 where

@@ -34,12 +34,15 @@ pub fn bounded_tree<R: Rank, L: Ledger>(
 ) -> Result<BoundedTree<R>, ProofFault>
     requires fits { Fits query.now tables.now }
     requires keys { length query.now.query.order ≤ R.KEYS }
+    requires slots { length query.now.query.items ≤ R.ITEMS }
     requires tree { HasStoredTree query.now.query join.now }
     requires ordered { IsTree join.now.count join.now.atom join.now.parent }
     requires items { HasItems join.now.count join.now.atom (length query.now.query.items) }
     requires count { join.now.count ≡ length query.now.query.items }
-    ensures bounded { IfOk result (IsBounded query.now.query tables.now join.now R.KEYS R.key (seen_proof proof.now)) }
-    ensures fault { IfErr result (TellsFlaw query.now.query tables.now join.now (seen_proof proof.now)) }
+    ensures bounded { IfOk result
+        (IsBounded query.now.query tables.now join.now R.KEYS R.key (seen_proof proof.now)) }
+    ensures fault { IfErr result
+        (TellsFlaw query.now.query tables.now join.now (seen_proof proof.now)) }
 {
     let raw = query_rows(alloc, query, tables, join, steps)?;
     let _nodes = raw.nodes();

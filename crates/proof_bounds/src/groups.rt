@@ -71,10 +71,13 @@ pub(crate) fn line_groups<R: Rank, L: Ledger>(
     tops: &[u32],
     steps: &mut Steps<L>,
 ) -> Result<Vec<HashedIndex>, ProofFault>
-    requires { HasPlacedLines R.KEYS R.key raw.now (seen_proof proof.now) (length proof.now.bounds.items) tops.now }
+    requires { HasPlacedLines R.KEYS R.key raw.now (seen_proof proof.now)
+        (length proof.now.bounds.items) tops.now }
     ensures groups { IfOk result (λ groups.
-        AreLineGroups raw.now (seen_proof proof.now) tops.now (length proof.now.bounds.items) groups.items) }
-    ensures fault { IfErr result (λ told. (query : SelectQuery) (tables : List Table) (join : JoinTree)
+        AreLineGroups raw.now (seen_proof proof.now) tops.now
+        (length proof.now.bounds.items) groups.items) }
+    ensures fault { IfErr result
+        (λ told. (query : SelectQuery) (tables : List Table) (join : JoinTree)
         (ranks : List (List R)) → HasProblemRows query tables join R.KEYS R.key raw.now
         → ArePlacedLines query tables join R.KEYS R.key raw.now (seen_proof proof.now)
         (length proof.now.bounds.items) tops.now ranks

@@ -35,7 +35,8 @@ fn line_places<R: Rank>(raw: &RawTree<R>, bound: &Bound) -> Option<[u32; 16]>
     ensures { (query : SelectQuery) (tables : List Table) (join : JoinTree)
         → HasProblemRows query tables join R.KEYS R.key raw.now
         → MatchOption result
-        ((v : ℕ) → bound.now.node ≡ suc v → IsSolutionAt (problem_in query tables join) v bound.now.rows.items → ⊥)
+        ((v : ℕ) → bound.now.node ≡ suc v
+        → IsSolutionAt (problem_in query tables join) v bound.now.rows.items → ⊥)
         (λ places. (v : ℕ) × (v < length raw.now.shapes) × (bound.now.node ≡ suc v)
         × ArePlacesOf query tables join raw.now v bound.now.rows.items places) }
 {
@@ -71,12 +72,15 @@ pub(crate) fn placed_lines<R: Rank, L: Ledger>(
     steps: &mut Steps<L>,
 ) -> Result<PlacedLines<R>, ProofFault>
     requires { HasProblem R.KEYS R.key raw.now }
-    ensures placed { IfOk result (λ lines. (query : SelectQuery) (tables : List Table) (join : JoinTree)
+    ensures placed { IfOk result
+        (λ lines. (query : SelectQuery) (tables : List Table) (join : JoinTree)
         → length query.order ≤ R.KEYS → HasProblemRows query tables join R.KEYS R.key raw.now
-        → ArePlacedLines query tables join R.KEYS R.key raw.now (seen_proof proof.now) (length proof.now.bounds.items)
+        → ArePlacedLines query tables join R.KEYS R.key raw.now (seen_proof proof.now)
+        (length proof.now.bounds.items)
         lines.tops.items (map (λ b. b.ranks.items) lines.bounds.items)) }
     ensures each_node { IfOk result (λ lines. length lines.bounds.items ≡ length raw.now.shapes) }
-    ensures fault { IfErr result (λ told. (query : SelectQuery) (tables : List Table) (join : JoinTree)
+    ensures fault { IfErr result
+        (λ told. (query : SelectQuery) (tables : List Table) (join : JoinTree)
         → length query.order ≤ R.KEYS → HasProblemRows query tables join R.KEYS R.key raw.now
         → TellsBadBound query tables join (seen_proof proof.now) told) }
 {

@@ -36,7 +36,8 @@ fn own_numbers<R: Rank, L: Ledger>(
     requires groups { length groups.now ≤ 4194304 }
     ensures count { IfOk result (λ own. length own.items ≡ raw_len raw.now node) }
     ensures numbers { IfOk result (λ own. (i : ℕ) → i < raw_len raw.now node
-        → slice_index_or own.items i None ≡ position (nat_eq (group_link raw.now node i)) groups.now) }
+        → slice_index_or own.items i None
+        ≡ position (nat_eq (group_link raw.now node i)) groups.now) }
 {
     let count = raw.len(node);
     let mut own = Vec::with_capacity(alloc, count as usize)?;
@@ -57,9 +58,12 @@ fn named_numbers<R: Rank, L: Ledger>(
     requires below_root { 0 < node }
     requires node { node < length raw.now.shapes }
     requires groups { length groups.now ≤ 4194304 }
-    ensures count { IfOk result (λ named. length named.items ≡ raw_len raw.now (shape_parent raw.now.shapes node)) }
-    ensures numbers { IfOk result (λ named. (r : ℕ) → r < raw_len raw.now (shape_parent raw.now.shapes node)
-        → slice_index_or named.items r None ≡ position (nat_eq (named_link raw.now node r)) groups.now) }
+    ensures count { IfOk result
+        (λ named. length named.items ≡ raw_len raw.now (shape_parent raw.now.shapes node)) }
+    ensures numbers { IfOk result
+        (λ named. (r : ℕ) → r < raw_len raw.now (shape_parent raw.now.shapes node)
+        → slice_index_or named.items r None
+        ≡ position (nat_eq (named_link raw.now node r)) groups.now) }
 {
     let _nodes = raw.nodes();
     let parent = raw.shape(node).parent;
@@ -83,7 +87,8 @@ pub(crate) fn name_groups<R: Rank, L: Ledger>(
 ) -> Result<(), AllocError>
     requires node { node < length raw.now.shapes }
     requires groups { length groups.now ≤ 4194304 }
-    ensures named { OnOk result (AreNamed raw.now groups.now node bounds.new.own.items bounds.new.named.items) }
+    ensures named { OnOk result
+        (AreNamed raw.now groups.now node bounds.new.own.items bounds.new.named.items) }
     ensures ranks { bounds.new.ranks ≡ bounds.old.ranks }
 {
     bounds.own = own_numbers(alloc, raw, node, groups, steps)?;
@@ -103,7 +108,8 @@ pub(crate) fn name_all<R: Rank, L: Ledger>(
 ) -> Result<(), AllocError>
     requires each_group { length groups.now ≡ length raw.now.shapes }
     requires each_node { length bounds.old ≡ length raw.now.shapes }
-    requires few { (v : ℕ) → v < length raw.now.shapes → length (slice_index_or groups.now v []) ≤ 4194304 }
+    requires few { (v : ℕ) → v < length raw.now.shapes
+        → length (slice_index_or groups.now v []) ≤ 4194304 }
     ensures named { OnOk result ((v : ℕ) → v < length raw.now.shapes
         → AreNamed raw.now (slice_index_or groups.now v []) v
         (slice_index_or (map (λ b. b.own.items) bounds.new) v [])

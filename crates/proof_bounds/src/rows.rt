@@ -32,11 +32,13 @@ pub(crate) fn query_rows<R: Rank, L: Ledger>(
 ) -> Result<RawTree<R>, ProofFault>
     requires fits { Fits query.now tables.now }
     requires keys { length query.now.query.order ≤ R.KEYS }
+    requires slots { length query.now.query.items ≤ R.ITEMS }
     requires tree { HasStoredTree query.now.query join.now }
     requires count { join.now.count ≡ length query.now.query.items }
     ensures rows { IfOk result (HasProblemRows query.now.query tables.now join.now R.KEYS R.key) }
     ensures shape { OnOk result ((shape : Shape) × IsShape query.now.query tables.now (Ok shape)) }
-    ensures fault { IfErr result (λ told. (c : Certificate) → TellsFlaw query.now.query tables.now join.now c told) }
+    ensures fault { IfErr result
+        (λ told. (c : Certificate) → TellsFlaw query.now.query tables.now join.now c told) }
 {
     match build(alloc, query, tables, join, MOST_NODE_ROWS as u64, steps) {
         Ok(built) => {

@@ -36,16 +36,19 @@ pub fn verify<R: Rank, L: Ledger>(
 ) -> Result<Vec<[u32; 16]>, ProofFault>
     requires fits { Fits query.now tables.now }
     requires keys { length query.now.query.order ≤ R.KEYS }
+    requires slots { length query.now.query.items ≤ R.ITEMS }
     requires tree { HasStoredTree query.now.query join.now }
     requires ordered { IsTree join.now.count join.now.atom join.now.parent }
     requires items { HasItems join.now.count join.now.atom (length query.now.query.items) }
     requires count { join.now.count ≡ length query.now.query.items }
-    ensures valid { OnOk result (IsValid (problem_in query.now.query tables.now join.now) (seen_proof proof.now)
+    ensures valid { OnOk result
+        (IsValid (problem_in query.now.query tables.now join.now) (seen_proof proof.now)
         query.now.query.limit) }
     ensures few { OnOk result ((shape : Shape) × IsShape query.now.query tables.now (Ok shape)) }
     ensures rows { IfOk result (λ found. item_rows query.now.query found.items ≡ map
         (λ a. a.rows) (seen_proof proof.now).answers) }
-    ensures fault { IfErr result (TellsFlaw query.now.query tables.now join.now (seen_proof proof.now)) }
+    ensures fault { IfErr result
+        (TellsFlaw query.now.query tables.now join.now (seen_proof proof.now)) }
 {
     let tree: BoundedTree<R> = bounded_tree(alloc, query, tables, join, proof, steps)?;
     let answers = placed_answers(alloc, query, tables, join, &tree, proof, steps)?;
@@ -58,9 +61,11 @@ pub fn verify<R: Rank, L: Ledger>(
 /// The rows of each answer, one for each of so many items.
 fn rows_of(alloc: Global, answers: &[Listed], items: usize) -> Result<Vec<[u32; 16]>, ProofFault>
     requires few { items ≤ 16 }
-    requires each { (i : ℕ) → i < length answers.now → length (list_at (map (λ a. a.rows.items) answers.now) i)
+    requires each { (i : ℕ) → i < length answers.now
+        → length (list_at (map (λ a. a.rows.items) answers.now) i)
         ≡ items }
-    ensures rows { IfOk result (λ found. map (take items) found.items ≡ map (λ a. a.rows.items) answers.now) }
+    ensures rows { IfOk result
+        (λ found. map (take items) found.items ≡ map (λ a. a.rows.items) answers.now) }
     ensures fault { IfErr result (λ fault. fault ≡ NoMemory) }
 {
     let mut found = Vec::new(alloc);

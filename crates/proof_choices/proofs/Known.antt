@@ -22,10 +22,9 @@ use Rattle.proof_model.proofs.QueryLaws.{query-problem}
 use Rattle.proof_model.proofs.Sums.{pick_eq, pick_ne}
 use Rattle.proof_model.proofs.Wider.{wide-add, wide-none}
 use Rattle.proof_bounds.specs.Bounded.{BoundedData, IsBounded, named_bound, query_key, rank_of_bound}
+use Rattle.proof_bounds.proofs.RankSums.{parts-fit, wide-sum}
 use Rattle.proof_answers.specs.Lows.{AreServed, low_key}
-use Rattle.proof_answers.proofs.LowParts.{wide-sum}
 use Rattle.proof_answers.proofs.Nodes.{parent-at, parents-first, option-some}
-use Rattle.proof_answers.proofs.RawSums.{raw_sums_fit}
 use Rattle.proof_choices.proofs.Keys.{base_key, base_term, choice_term}
 use Rattle.proof_choices.specs.Levels.{base_part}
 use Rattle.proof_choices.proofs.Supported.{IsSumOver}
@@ -66,14 +65,14 @@ module _ {R : Type 0} (query : Query) (tables : List Table) (join : JoinTree) (d
   over-fits some Has k formed s =
       subst (KeyFits d) (sym (wide-sum (length query.order) d few s.part t.nodes 0) ∙ ap W s.whole)
       (subst (λ n. KeyFits d (sum_from (key_add d 16) (key_none d 16) (λ q. W (s.part q)) n 0)) bounded.rows.nodes
-      (raw_sums_fit d key tree.raw formed (λ q. W (s.part q)) (λ q h.
+      (parts-fit d key tree.raw formed (λ q. W (s.part q)) (λ q h.
       let l : q < t.nodes = let e = bounded.rows.nodes in omega (arith, e, h) in
       elim (s.each q l) [
         | inl e ↦ inl (ap W e ∙ wide-none (length query.order) d 16 few)
         | inr p ↦
             let at = bounded.rows.every_row q p.1.0 l p.1.1 in
             inr (at.0, at.1, ap W p.1.2 ∙ ap (λ r. W (t.key q r)) (sym at.2) ∙ sym (bounded.rows.keys q at.0 l at.1))
-      ])))
+      ]) (length tree.raw.shapes) (omega arith)))
 
   module _ (p : ℕ) (node : p < t.nodes) (start : List ℕ)
       (within : (q : ℕ) → q < p → slice_index start q < raw_len tree.raw q) where

@@ -12,7 +12,8 @@ use Rattle.proof_model.specs.Valid.{Holds, IsPassed, OpenChoice, missed}
 -- each way to leave the answers comes after the last one, and there is none if the certificate says `end`
 abbrev pub ArePassed : Query → List Table → JoinTree → Certificate → Type 0
 ArePassed query tables join c =
-    (o : OpenChoice (problem_in query tables join) c) → IsPassed (problem_in query tables join) c c.ended o
+    (o : OpenChoice (problem_in query tables join) c)
+    → IsPassed (problem_in query tables join) c c.ended o
 
 -- an unlisted answer may come before the last one
 abbrev pub IsMissed : Query → List Table → JoinTree → Certificate → Type 0
@@ -20,4 +21,5 @@ IsMissed query tables join c = Holds (problem_in query tables join) c query.limi
 
 -- the fault that may be returned: memory ran out, or an answer is missed
 abbrev pub TellsMissed : Query → List Table → JoinTree → Certificate → ProofFault → Type 0
-TellsMissed query tables join c told = (told ≡ fault.NoMemory) ⊎ ((told ≡ fault.Missed) × IsMissed query tables join c)
+TellsMissed query tables join c told = (told ≡ fault.NoMemory)
+    ⊎ ((told ≡ fault.Missed) × IsMissed query tables join c)

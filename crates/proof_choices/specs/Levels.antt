@@ -30,7 +30,8 @@ abbrev pub list_at : List (List ℕ) → ℕ → List ℕ
 list_at lists i = slice_index_or lists i []
 
 -- Answers that begin alike have one number, and each number has places that begin so.
-pub record ArePrefixes (p : ℕ) (places : List (List ℕ)) (numbers : List ℕ) (starts : List (List ℕ)) : Type 0 where
+pub record ArePrefixes (p : ℕ) (places : List (List ℕ)) (numbers : List ℕ)
+    (starts : List (List ℕ)) : Type 0 where
   pub count : length numbers ≡ length places
   pub within : (i : ℕ) → i < length places → slice_index numbers i < length starts
   pub begins : (i : ℕ) → i < length places
@@ -38,7 +39,8 @@ pub record ArePrefixes (p : ℕ) (places : List (List ℕ)) (numbers : List ℕ)
   pub apart : (m n : ℕ) → m < length starts → n < length starts
       → BeginAlike p (list_at starts m) (list_at starts n) → m ≡ n
   pub begun : (n : ℕ) → n < length starts
-      → (p ≡ 0) ⊎ ((i : ℕ) × (i < length places) × BeginAlike p (list_at starts n) (list_at places i))
+      → (p ≡ 0) ⊎ ((i : ℕ) × (i < length places)
+      × BeginAlike p (list_at starts n) (list_at places i))
   pub first : p ≡ 0 → 0 < length starts
 
 -- an answer that begins with number n has row r at node p
@@ -47,7 +49,8 @@ IsTaken p places numbers n r =
     (i : ℕ) × (i < length places) × (slice_index numbers i ≡ n) × (place_at places i p ≡ r)
 
 -- The beginnings before node p, and the pairs of a beginning and its next row in an answer.
-pub record AreBeginnings (p : ℕ) (places : List (List ℕ)) (numbers : List ℕ) (starts : List (List ℕ))
+pub record AreBeginnings (p : ℕ) (places : List (List ℕ)) (numbers : List ℕ)
+    (starts : List (List ℕ))
     (pairs : List (ℕ × ℕ)) : Type 0 where
   pub prefixes : ArePrefixes p places numbers starts
   pub taken : (n r : ℕ) → ((k : ℕ) × IsPairAt pairs k (n, r)) ↔ IsTaken p places numbers n r
@@ -102,13 +105,15 @@ module _ {R : Type 0} (join : JoinTree) (tree : BoundedData R) (d : ℕ) (key : 
 
   -- it may not be left: the group has no bound, or one of those that are known to be open has none
   abbrev pub IsNoBranch : ℕ → List ℕ → Type 0
-  IsNoBranch p start = ((g : ℕ) → g < length (bound_ranks tree p) → IsGroupOf p start g → ⊥) ⊎ IsBase p start None
+  IsNoBranch p start = ((g : ℕ) → g < length (bound_ranks tree p) → IsGroupOf p start g → ⊥)
+      ⊎ IsBase p start None
 
   -- # The rows that may follow
 
   -- the rank of row i of node p with the bounds of the groups that it names, if each has one
   abbrev pub HasLow : ℕ → ℕ → Option (KeyOf d 16) → Type 0
-  HasLow p i low = OfEach join d key tree (λ query tables c. IsLow query tables join d c p (raw_number tree.raw p i) low)
+  HasLow p i low = OfEach join d key tree
+      (λ query tables c. IsLow query tables join d c p (raw_number tree.raw p i) low)
 
   -- row i of node p is in the group of bound g
   abbrev pub IsInGroup : ℕ → ℕ → ℕ → Type 0
@@ -116,7 +121,8 @@ module _ {R : Type 0} (join : JoinTree) (tree : BoundedData R) (d : ℕ) (key : 
 
   -- Row i leaves beginning n at node p, and no answer has it there: the pairs of a beginning and its next row in an
   -- answer lack it. The key is the least that may follow.
-  pub record IsWay (p : ℕ) (starts : List (List ℕ)) (pairs : List (ℕ × ℕ)) (n i : ℕ) (k : KeyOf d 16) : Type 0 where
+  pub record IsWay (p : ℕ) (starts : List (List ℕ)) (pairs : List (ℕ × ℕ)) (n i : ℕ)
+      (k : KeyOf d 16) : Type 0 where
     pub number : n < length starts
     pub group : ℕ
     pub within : group < length (bound_ranks tree p)
@@ -132,7 +138,8 @@ module _ {R : Type 0} (join : JoinTree) (tree : BoundedData R) (d : ℕ) (key : 
   -- with this key the rank of each row of the group fits
   abbrev pub FitsGroup : ℕ → ℕ → KeyOf d 16 → Type 0
   FitsGroup p g k =
-      (i : ℕ) (low : KeyOf d 16) → IsInGroup p g i → HasLow p i (Some low) → KeyFits d (key_add d 16 k low)
+      (i : ℕ) (low : KeyOf d 16) → IsInGroup p g i → HasLow p i (Some low)
+      → KeyFits d (key_add d 16 k low)
 
   -- each row of the branch's group that no answer has after the beginning comes after the last answer
   abbrev pub IsLeftAfter : ℕ → List (ℕ × ℕ) → ℕ → Option (KeyOf d 16) → Branch R → Type 0
@@ -141,7 +148,8 @@ module _ {R : Type 0} (join : JoinTree) (tree : BoundedData R) (d : ℕ) (key : 
       → HasLow p i (Some low) → IsPast d last (key_add d 16 (key b.base) low)
 
   -- some such row does not
-  pub record IsLeftBefore (p : ℕ) (pairs : List (ℕ × ℕ)) (n : ℕ) (last : Option (KeyOf d 16)) (b : Branch R)
+  pub record IsLeftBefore (p : ℕ) (pairs : List (ℕ × ℕ)) (n : ℕ) (last : Option (KeyOf d 16))
+      (b : Branch R)
       : Type 0 where
     pub row : ℕ
     pub low : KeyOf d 16
@@ -165,7 +173,8 @@ module _ {R : Type 0} (join : JoinTree) (tree : BoundedData R) (d : ℕ) (key : 
   -- Row i of node p has no such rank, or with `least` it comes after the last answer.
   abbrev pub IsNoOffer : ℕ → KeyOf d 16 → Option (KeyOf d 16) → ℕ → Type 0
   IsNoOffer p least last i =
-      HasLow p i None ⊎ ((low : KeyOf d 16) × HasLow p i (Some low) × IsPast d last (key_add d 16 least low))
+      HasLow p i None ⊎ ((low : KeyOf d 16) × HasLow p i (Some low)
+      × IsPast d last (key_add d 16 least low))
 
   -- Row i of node p has no such rank, or it is offered, or what is known for each beginning of its group, at least
   -- `least`, makes it come after the last answer.
@@ -178,7 +187,8 @@ module _ {R : Type 0} (join : JoinTree) (tree : BoundedData R) (d : ℕ) (key : 
   -- an offer is one of these rows, with its rank and the bounds of the groups that it names
   abbrev pub IsOfferOf : ℕ → List ℕ → Offer R → Type 0
   IsOfferOf p rows o =
-      ((m : ℕ) × (m < length rows) × (slice_index rows m ≡ o.row)) × HasLow p o.row (Some (key o.low))
+      ((m : ℕ) × (m < length rows) × (slice_index rows m ≡ o.row))
+      × HasLow p o.row (Some (key o.low))
 
   -- The offers of these rows of node p. They are in order if there is a last answer that they are compared with.
   pub record AreOffers (p : ℕ) (rows : List ℕ) (least : KeyOf d 16) (last : Option (KeyOf d 16))
@@ -188,7 +198,8 @@ module _ {R : Type 0} (join : JoinTree) (tree : BoundedData R) (d : ℕ) (key : 
     pub ordered : (last ≡ None) ⊎ AreAscending d key offers
 
   -- For some groups the offers that the least of what is known for its beginnings asks for, and none for the others yet.
-  pub record AreLists (p : ℕ) (last : Option (KeyOf d 16)) (groups : List (List ℕ)) (least : List (Option R))
+  pub record AreLists (p : ℕ) (last : Option (KeyOf d 16)) (groups : List (List ℕ))
+      (least : List (Option R))
       (lists : List (List (Offer R))) : Type 0 where
     pub count : length lists ≡ length least
     pub each : (g : ℕ) → g < length least
@@ -200,7 +211,8 @@ module _ {R : Type 0} (join : JoinTree) (tree : BoundedData R) (d : ℕ) (key : 
   abbrev pub AreBranches : ℕ → List (List ℕ) → List (Option (Branch R)) → Type 0
   AreBranches p starts branches =
       (n : ℕ) → n < length branches
-      → MatchOption (slice_index_or branches n None) (IsNoBranch p (list_at starts n)) (IsBranch p (list_at starts n))
+      → MatchOption (slice_index_or branches n None) (IsNoBranch p (list_at starts n))
+      (IsBranch p (list_at starts n))
 
   -- # All nodes
 
@@ -230,11 +242,14 @@ module _ {R : Type 0} (join : JoinTree) (tree : BoundedData R) (d : ℕ) (key : 
 
 module _ {R : Type 0} (d : ℕ) (key : R → KeyOf d 16) where
   -- for each group the least that is known for one of the first m beginnings
-  pub record AreLeast (m : ℕ) (branches : List (Option (Branch R))) (least : List (Option R)) : Type 0 where
+  pub record AreLeast (m : ℕ) (branches : List (Option (Branch R)))
+      (least : List (Option R)) : Type 0 where
     pub below : (n : ℕ) (b : Branch R) → n < m → slice_index_or branches n None ≡ Some b
-        → (k : R) × (slice_index_or least b.group None ≡ Some k) × AtMost (key_below d 16) (key k) (key b.base)
+        → (k : R) × (slice_index_or least b.group None ≡ Some k)
+        × AtMost (key_below d 16) (key k) (key b.base)
     pub one : (g : ℕ) (k : R) → slice_index_or least g None ≡ Some k
-        → (n : ℕ) × ((b : Branch R) × (n < m) × (slice_index_or branches n None ≡ Some b) × (b.group ≡ g) × (b.base ≡ k))
+        → (n : ℕ) × ((b : Branch R) × (n < m) × (slice_index_or branches n None ≡ Some b)
+        × (b.group ≡ g) × (b.base ≡ k))
 
   -- the lesser of what was known, if anything was, and of something else
   pub record IsLesser (known : Option R) (base now : R) : Type 0 where

@@ -57,7 +57,8 @@ fn group_of<R: Rank>(
     requires rows { (q : ℕ) → q < node → slice_index start.now q < raw_len tree.now.raw q }
     ensures { MatchOption result ((g : ℕ) → g < length (bound_ranks tree.now node)
         → IsGroupOf join.now tree.now R.KEYS R.key node start.now g → ⊥)
-        (λ g. (g < length (bound_ranks tree.now node)) × IsGroupOf join.now tree.now R.KEYS R.key node start.now g) }
+        (λ g. (g < length (bound_ranks tree.now node))
+        × IsGroupOf join.now tree.now R.KEYS R.key node start.now g) }
 {
     if node == 0 {
         return if bound_count(tree, node) == 0 {
@@ -81,7 +82,8 @@ pub(crate) fn bound_count<R: Rank>(tree: &BoundedTree<R>, node: u32) -> usize
 /// The number of the bound of the group of a node that a row of its parent names, if it has one.
 fn named_number<R: Rank>(tree: &BoundedTree<R>, node: u32, above: u32) -> Option<u32>
     requires node { node < length tree.now.bounds }
-    requires above { above < length (slice_index_or (map (λ b. b.named.items) tree.now.bounds) node []) }
+    requires above { above
+        < length (slice_index_or (map (λ b. b.named.items) tree.now.bounds) node []) }
     ensures { result ≡ named_bound tree.now node above }
 {
     tree.bounds[node as usize].named[above as usize]

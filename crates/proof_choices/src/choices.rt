@@ -39,17 +39,23 @@ pub fn check_choices<R: Rank, L: Ledger>(
 ) -> Result<(), ProofFault>
     requires fits { Fits query.now tables.now }
     requires keys { length query.now.query.order ≤ R.KEYS }
+    requires slots { length query.now.query.items ≤ R.ITEMS }
     requires tree { HasStoredTree query.now.query join.now }
     requires ordered { IsTree join.now.count join.now.atom join.now.parent }
     requires items { HasItems join.now.count join.now.atom (length query.now.query.items) }
     requires count { join.now.count ≡ length query.now.query.items }
-    requires bounded { IsBounded query.now.query tables.now join.now R.KEYS R.key (seen_proof proof.now) tree.now }
-    requires placed { ArePlaced query.now.query tables.now join.now (seen_proof proof.now) tree.now.raw
+    requires bounded { IsBounded query.now.query tables.now join.now R.KEYS R.key
+        (seen_proof proof.now) tree.now }
+    requires placed { ArePlaced query.now.query tables.now join.now
+        (seen_proof proof.now) tree.now.raw
         answers.now.places.items }
-    requires last { IsLastKey query.now.query tables.now join.now R.KEYS (seen_proof proof.now) (option_map R.key
+    requires last { IsLastKey query.now.query tables.now join.now R.KEYS (seen_proof proof.now)
+        (option_map R.key
         answers.now.last) }
-    ensures passed { OnOk result (ArePassed query.now.query tables.now join.now (seen_proof proof.now)) }
-    ensures fault { IfErr result (TellsMissed query.now.query tables.now join.now (seen_proof proof.now)) }
+    ensures passed { OnOk result
+        (ArePassed query.now.query tables.now join.now (seen_proof proof.now)) }
+    ensures fault { IfErr result
+        (TellsMissed query.now.query tables.now join.now (seen_proof proof.now)) }
 {
     if !proof.ended && answers.last.is_none() {
         return Ok(());

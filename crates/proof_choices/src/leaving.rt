@@ -77,14 +77,19 @@ fn numbers_leave_after<R: Rank, L: Ledger>(
     requires node { node < join.now.count }
     requires long { length join.now.atom ≡ 16 }
     requires groups { AreGroups (own_bounds tree.now node) (length least.now) groups.now }
-    requires branches { (n : ℕ) (b : Branch R) → n < length branches.now → slice_index_or branches.now n None ≡ Some b
-        → IsTestable join.now tree.now R.KEYS R.key node least.now b }
-    ensures passed { IfOk result (λ good. good ≡ true → (n : ℕ) (b : Branch R) → n < length branches.now
+    requires branches { (n : ℕ) (b : Branch R) → n < length branches.now
         → slice_index_or branches.now n None ≡ Some b
-        → IsLeftAfter join.now tree.now R.KEYS R.key node taken.now n (option_map R.key last.now) b) }
-    ensures missed { IfOk result (λ good. good ≡ false → (n : ℕ) × ((b : Branch R) × (n < length branches.now)
+        → IsTestable join.now tree.now R.KEYS R.key node least.now b }
+    ensures passed { IfOk result
+        (λ good. good ≡ true → (n : ℕ) (b : Branch R) → n < length branches.now
+        → slice_index_or branches.now n None ≡ Some b
+        → IsLeftAfter join.now tree.now R.KEYS R.key node taken.now n
+        (option_map R.key last.now) b) }
+    ensures missed { IfOk result
+        (λ good. good ≡ false → (n : ℕ) × ((b : Branch R) × (n < length branches.now)
         × (slice_index_or branches.now n None ≡ Some b)
-        × IsLeftBefore join.now tree.now R.KEYS R.key node taken.now n (option_map R.key last.now) b)) }
+        × IsLeftBefore join.now tree.now R.KEYS R.key node taken.now n
+        (option_map R.key last.now) b)) }
 {
     let mut lists = no_lists(alloc, least.len())?;
     for number in 0..branches.len() {
@@ -119,15 +124,20 @@ fn number_leaves_after<R: Rank, L: Ledger>(
     requires node { node < join.now.count }
     requires long { length join.now.atom ≡ 16 }
     requires groups { AreGroups (own_bounds tree.now node) (length least.now) groups.now }
-    requires branch { (b : Branch R) → branch ≡ Some b → IsTestable join.now tree.now R.KEYS R.key node least.now b }
-    requires lists { AreLists join.now tree.now R.KEYS R.key node (option_map R.key last.now) groups.now least.now
+    requires branch { (b : Branch R) → branch ≡ Some b
+        → IsTestable join.now tree.now R.KEYS R.key node least.now b }
+    requires lists { AreLists join.now tree.now R.KEYS R.key node
+        (option_map R.key last.now) groups.now least.now
         (map (λ l. l.items) lists.old.items) }
-    ensures lists { OnOk result (AreLists join.now tree.now R.KEYS R.key node (option_map R.key last.now)
+    ensures lists { OnOk result
+        (AreLists join.now tree.now R.KEYS R.key node (option_map R.key last.now)
         groups.now least.now (map (λ l. l.items) lists.new.items)) }
     ensures passed { IfOk result (λ good. good ≡ true → (b : Branch R) → branch ≡ Some b
-        → IsLeftAfter join.now tree.now R.KEYS R.key node taken.now number (option_map R.key last.now) b) }
+        → IsLeftAfter join.now tree.now R.KEYS R.key node taken.now number
+        (option_map R.key last.now) b) }
     ensures missed { IfOk result (λ good. good ≡ false → (b : Branch R) × (branch ≡ Some b)
-        × IsLeftBefore join.now tree.now R.KEYS R.key node taken.now number (option_map R.key last.now) b) }
+        × IsLeftBefore join.now tree.now R.KEYS R.key node taken.now number
+        (option_map R.key last.now) b) }
 {
     match branch {
         None => Ok(true),
@@ -161,14 +171,18 @@ fn branch_leaves_after<R: Rank, L: Ledger>(
     requires long { length join.now.atom ≡ 16 }
     requires groups { AreGroups (own_bounds tree.now node) (length least.now) groups.now }
     requires branch { IsTestable join.now tree.now R.KEYS R.key node least.now branch }
-    requires lists { AreLists join.now tree.now R.KEYS R.key node (option_map R.key last.now) groups.now least.now
+    requires lists { AreLists join.now tree.now R.KEYS R.key node
+        (option_map R.key last.now) groups.now least.now
         (map (λ l. l.items) lists.old.items) }
-    ensures lists { OnOk result (AreLists join.now tree.now R.KEYS R.key node (option_map R.key last.now)
+    ensures lists { OnOk result
+        (AreLists join.now tree.now R.KEYS R.key node (option_map R.key last.now)
         groups.now least.now (map (λ l. l.items) lists.new.items)) }
     ensures passed { IfOk result (λ good. good ≡ true
-        → IsLeftAfter join.now tree.now R.KEYS R.key node taken.now number (option_map R.key last.now) branch) }
+        → IsLeftAfter join.now tree.now R.KEYS R.key node taken.now number
+        (option_map R.key last.now) branch) }
     ensures missed { IfOk result (λ good. good ≡ false
-        → IsLeftBefore join.now tree.now R.KEYS R.key node taken.now number (option_map R.key last.now) branch) }
+        → IsLeftBefore join.now tree.now R.KEYS R.key node taken.now number
+        (option_map R.key last.now) branch) }
 {
     let group = branch.group as usize;
     let Some(known) = least[group] else {
@@ -208,15 +222,19 @@ fn fill<R: Rank, L: Ledger>(
     requires rows { (m : ℕ) → m < length (list_at groups.now group)
         → slice_index (list_at groups.now group) m < raw_len tree.now.raw node }
     requires fits { (m : ℕ) (low : KeyOf R.KEYS 16) → m < length (list_at groups.now group)
-        → HasLow join.now tree.now R.KEYS R.key node (slice_index (list_at groups.now group) m) (Some low)
+        → HasLow join.now tree.now R.KEYS R.key node (slice_index (list_at groups.now group) m)
+        (Some low)
         → KeyFits R.KEYS (key_add R.KEYS 16 (R.key known) low) }
     requires list { (slice_index_or (map (λ l. l.items) lists.old.items) group [] ≡ [])
-        ⊎ AreOffers join.now tree.now R.KEYS R.key node (list_at groups.now group) (R.key known) (option_map R.key last.now)
+        ⊎ AreOffers join.now tree.now R.KEYS R.key node (list_at groups.now group) (R.key known)
+        (option_map R.key last.now)
         (slice_index_or (map (λ l. l.items) lists.old.items) group []) }
     ensures count { OnOk result (vec_len lists.new ≡ vec_len lists.old) }
-    ensures others { OnOk result ((g : ℕ) → g ≢ group → slice_index_or (map (λ l. l.items) lists.new.items) g []
+    ensures others { OnOk result
+        ((g : ℕ) → g ≢ group → slice_index_or (map (λ l. l.items) lists.new.items) g []
         ≡ slice_index_or (map (λ l. l.items) lists.old.items) g []) }
-    ensures list { OnOk result (AreOffers join.now tree.now R.KEYS R.key node (list_at groups.now group) (R.key
+    ensures list { OnOk result
+        (AreOffers join.now tree.now R.KEYS R.key node (list_at groups.now group) (R.key
         known) (option_map R.key last.now)
         (slice_index_or (map (λ l. l.items) lists.new.items) group [])) }
 {
@@ -246,7 +264,8 @@ fn own_numbers<'a, R: Rank>(tree: &'a BoundedTree<R>, node: u32) -> &'a [Option<
 /// The rows by the bounds of their groups.
 fn rows_by_bound(alloc: Global, own: &[Option<u32>], count: usize) -> Result<Groups, NoMemory>
     requires few { length own.now ≤ 4194304 }
-    requires within { (i b : ℕ) → i < length own.now → slice_index_or own.now i None ≡ Some b → b < count }
+    requires within { (i b : ℕ) → i < length own.now → slice_index_or own.now i None ≡ Some b
+        → b < count }
     ensures { IfOk result (AreGroups own.now count) }
 {
     let Ok(none) = u32::try_from(count) else {
@@ -275,7 +294,8 @@ fn branches_of<R: Rank, L: Ledger>(
     requires rows { (n q : ℕ) → n < length starts.now → q < node
         → slice_index (list_at starts.now n) q < raw_len tree.now.raw q }
     ensures count { IfOk result (λ branches. vec_len branches ≡ length starts.now) }
-    ensures each { IfOk result (λ branches. AreBranches join.now tree.now R.KEYS R.key node starts.now branches.items) }
+    ensures each { IfOk result
+        (λ branches. AreBranches join.now tree.now R.KEYS R.key node starts.now branches.items) }
 {
     let mut branches = Vec::new(alloc);
     for n in 0..starts.len() {
@@ -291,10 +311,12 @@ fn least_of<R: Rank, L: Ledger>(
     count: usize,
     steps: &mut Steps<L>,
 ) -> Result<Vec<Option<R>>, NoMemory>
-    requires within { (n : ℕ) (b : Branch R) → n < length branches.now → slice_index_or branches.now n None
+    requires within { (n : ℕ) (b : Branch R) → n < length branches.now
+        → slice_index_or branches.now n None
         ≡ Some b → b.group < count }
     ensures count { IfOk result (λ least. vec_len least ≡ count) }
-    ensures least { IfOk result (λ least. AreLeast R.KEYS R.key (length branches.now) branches.now least.items) }
+    ensures least { IfOk result
+        (λ least. AreLeast R.KEYS R.key (length branches.now) branches.now least.items) }
 {
     let mut least = nothing_known(alloc, count)?;
     for n in 0..branches.len() {
@@ -348,7 +370,8 @@ fn lesser<R: Rank, L: Ledger>(known: Option<R>, base: R, steps: &mut Steps<L>) -
 /// No offers for this many groups.
 fn no_lists<R: Rank>(alloc: Global, count: usize) -> Result<Vec<Vec<Offer<R>>>, NoMemory>
     ensures count { IfOk result (λ lists. length lists.items ≡ count) }
-    ensures empty { IfOk result (λ lists. (g : ℕ) → slice_index_or (map (λ l. l.items) lists.items) g [] ≡ []) }
+    ensures empty { IfOk result
+        (λ lists. (g : ℕ) → slice_index_or (map (λ l. l.items) lists.items) g [] ≡ []) }
 {
     let mut lists = Vec::new(alloc);
     for _group in 0..count {

@@ -38,8 +38,10 @@ impl Prefixes {
     ) -> Result<Prefixes, NoMemory>
         requires node { node < 16 }
         requires empty { taken.old ≡ [] }
-        requires prefixes { ArePrefixes node places.now self.now.numbers.items self.now.starts.items }
-        ensures next { IfOk result (λ p. ArePrefixes (node + 1) places.now p.numbers.items p.starts.items) }
+        requires prefixes { ArePrefixes node places.now self.now.numbers.items
+            self.now.starts.items }
+        ensures next { IfOk result
+            (λ p. ArePrefixes (node + 1) places.now p.numbers.items p.starts.items) }
         ensures taken { OnOk result ((n r : ℕ) → ((k : ℕ)
             × IsPairAt taken.new k (n, r)) ↔ IsTaken node places.now self.now.numbers.items n r) }
     {
@@ -63,7 +65,8 @@ impl Prefixes {
     ) -> Result<(), NoMemory>
         requires node { node < 16 }
         ensures added { OnOk result (IsAdding node places.now before taken.old taken.new
-            self.old.numbers.items self.new.numbers.items self.old.starts.items self.new.starts.items) }
+            self.old.numbers.items self.new.numbers.items self.old.starts.items
+            self.new.starts.items) }
     {
         let (number, is_new) = taken.insert(before, places[node])?;
         if is_new {

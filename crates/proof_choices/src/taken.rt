@@ -41,9 +41,11 @@ impl TakenRows {
 
     /// The number of a pair, from 0, and whether it is new. A new pair is added after the others.
     pub(crate) fn insert(&mut self, number: usize, row: u32) -> Result<(usize, bool), NoMemory>
-        ensures added { IfOk result (λ r. self.new ≡ (if r.1 then self.old ++ (number, row) ∷ [] else self.old)) }
+        ensures added { IfOk result
+            (λ r. self.new ≡ (if r.1 then self.old ++ (number, row) ∷ [] else self.old)) }
         ensures stands { IfOk result (λ r. IsPairAt self.new r.0 (number, row)) }
-        ensures new { IfOk result (λ r. IsTrue r.1 → (k : ℕ) → IsPairAt self.old k (number, row) → ⊥) }
+        ensures new { IfOk result
+            (λ r. IsTrue r.1 → (k : ℕ) → IsPairAt self.old k (number, row) → ⊥) }
     {
         Ok(self.pairs.insert_full((number, row))?)
     }

@@ -1,28 +1,39 @@
-//! Ranks as arrays of a fixed number of sums and 16 slots.
+//! Ranks as arrays of a fixed number of sums and of slots.
 ghost use Rattle.std.specs.Prelude.{◌≡◌, ℕ, ◌+◌, ◌-◌, ◌^◌, ◌<◌, ◌≤◌, ℤ, pos, length, drop, ◌++◌, map, All, FitsSigned};
 ghost use Rattle.std.specs.Int.{FitsUnsigned, w32, w128};
 ghost use Rattle.tdp_model.specs.KeyNumbers.{plus, key_of_lists};
-ghost use Rattle.rank_key.specs.Keys.{NumbersFit, flat, minus};
+ghost use Rattle.rank_key.specs.Keys.{NoneAfter, minus};
 
-use crate::rank::{Rank, SLOTS};
+use crate::rank::Rank;
 use std::cmp::Ordering;
 use std::sync::ledger::Ledger;
 use step_counter::Steps;
 
-/// A rank with `N` sums, which are before the slots and are compared first.
+/// A rank with `N` sums, which are before the slots and are compared first, and with the first `M` slots. The fewer of
+/// both, the less memory it takes.
 #[derive(Clone, Copy)]
-pub struct FixedRank<const N: usize> {
+pub struct FixedRank<const N: usize, const M: usize> {
     sums: [i128; N],
-    slots: [u32; SLOTS],
+    slots: [u32; M],
     ghost sums_len: { length sums ≡ N },
-    ghost slots_len: { length slots ≡ 16 },
+    ghost slots_len: { length slots ≡ M },
+    ghost none_after: { NoneAfter 16 slots },
 }
 
 /// A rank with one sum, for an order by one key or by none.
-pub type SumRank = FixedRank<1>;
+pub type SumRank = FixedRank<1, 16>;
+
+/// A rank with one sum and four slots, for a query of at most four items.
+pub type SmallSumRank = FixedRank<1, 4>;
+
+/// A rank with one sum and eight slots, for a query of at most eight items.
+pub type MiddleSumRank = FixedRank<1, 8>;
 
 /// A rank with eight sums, for an order by two to eight keys. Earlier keys are compared first.
-pub type LexRank = FixedRank<8>;
+pub type LexRank = FixedRank<8, 16>;
+
+/// A rank with two sums and four slots, for a query of at most four items and an order by at most two keys.
+pub type SmallLexRank = FixedRank<2, 4>;
 
 fn add_sums(to: &mut [i128], from: &[i128])
     requires len { length to.old ≡ length from.now }
@@ -74,10 +85,13 @@ fn add_slots(to: &mut [u32], from: &[u32])
     }
 }
 
-impl<const N: usize> FixedRank<N> {
+impl<const N: usize, const M: usize> FixedRank<N, M> {
     fn plus(self, other: Self) -> Self
-        requires { NumbersFit N (plus (flat self.sums self.slots) (flat other.sums other.slots)) }
-        ensures { flat result.sums result.slots ≡ plus (flat self.entry.sums self.entry.slots) (flat other.entry.sums other.entry.slots) }
+        requires sums { All (FitsSigned w128) (plus self.sums other.sums) }
+        requires slots { All (FitsUnsigned w32) (plus (map pos self.slots) (map pos other.slots)) }
+        ensures sums { result.sums ≡ plus self.entry.sums other.entry.sums }
+        ensures slots { map pos result.slots
+            ≡ plus (map pos self.entry.slots) (map pos other.entry.slots) }
     {
         let mut sums = self.sums;
         let mut slots = self.slots;
@@ -87,8 +101,11 @@ impl<const N: usize> FixedRank<N> {
     }
 
     fn minus(self, other: Self) -> Self
-        requires { NumbersFit N (minus (flat self.sums self.slots) (flat other.sums other.slots)) }
-        ensures { flat result.sums result.slots ≡ minus (flat self.entry.sums self.entry.slots) (flat other.entry.sums other.entry.slots) }
+        requires sums { All (FitsSigned w128) (minus self.sums other.sums) }
+        requires slots { All (FitsUnsigned w32) (minus (map pos self.slots) (map pos other.slots)) }
+        ensures sums { result.sums ≡ minus self.entry.sums other.entry.sums }
+        ensures slots { map pos result.slots
+            ≡ minus (map pos self.entry.slots) (map pos other.entry.slots) }
     {
         let mut sums = self.sums;
         let mut slots = self.slots;
@@ -98,8 +115,10 @@ impl<const N: usize> FixedRank<N> {
     }
 }
 
-impl<const N: usize> Rank for FixedRank<N> {
+impl<const N: usize, const M: usize> Rank for FixedRank<N, M> {
     ghost KEYS = { N };
+
+    ghost ITEMS = { M };
 
     ghost key = { λ r. key_of_lists N 16 r.sums r.slots };
 
@@ -108,14 +127,14 @@ impl<const N: usize> Rank for FixedRank<N> {
     fn zero() -> Self {
         FixedRank {
             sums: [0; N],
-            slots: [0; SLOTS],
+            slots: [0; M],
         }
     }
 
     fn of_row(sums: &[i128], slot: u32, row: u32) -> Self {
         let mut rank = FixedRank {
             sums: [0; N],
-            slots: [0; SLOTS],
+            slots: [0; M],
         };
         copy_sums(&mut rank.sums, sums);
         rank.slots[slot as usize] = row;

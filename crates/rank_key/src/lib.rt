@@ -1,6 +1,7 @@
 //! Ranks: the keys by which answers are ordered, as values that are only added, exchanged and compared, in counted steps.
 //!
-//! A rank has one sum for each order key and then 16 row slots, one for each item of a query. Ranks are compared
+//! A key has one sum for each order key and then 16 row slots, one for each item of a query. A rank holds a key of
+//! which no slot after its last one is in use, so the ranks of a query of few items are small. Ranks are compared
 //! lexicographically, so that two answers with equal sums are ordered by their row numbers. An order by sums is fit for
 //! ranked enumeration because it is total and adding keeps it (Tziavelis et al., "Optimal Algorithms for Ranked
 //! Enumeration of Answers to Full Conjunctive Queries", PVLDB 2020): `rank_laws` states these laws for generic callers.
@@ -12,5 +13,5 @@ mod fixed_rank;
 mod rank;
 
 pub use binary_digits::bits;
-pub use fixed_rank::{FixedRank, LexRank, SumRank};
+pub use fixed_rank::{FixedRank, LexRank, MiddleSumRank, SmallLexRank, SmallSumRank, SumRank};
 pub use rank::{Rank, SLOTS};

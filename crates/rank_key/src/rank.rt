@@ -7,13 +7,15 @@ ghost use Rattle.rank_key.specs.Keys.{KeyFits, CanSwap, row_key};
 use std::sync::ledger::Ledger;
 use step_counter::Steps;
 
-/// The number of row slots of a rank.
+/// The number of row slots of a key.
 pub const SLOTS: usize = 16;
 
-/// A rank. Contracts see its key: `KEYS` sums and then 16 row slots. Ranks are used through the calls of this trait
-/// alone, and none of them takes memory.
+/// A rank. Contracts see its key: `KEYS` sums and then 16 row slots, of which the rank holds the first `ITEMS`: the
+/// others are 0. Ranks are used through the calls of this trait alone, and none of them takes memory.
 pub trait Rank: Copy {
     ghost KEYS: { ℕ };
+
+    ghost ITEMS: { ℕ };
 
     ghost key: { Self → KeyOf KEYS 16 };
 
@@ -29,6 +31,7 @@ pub trait Rank: Copy {
     fn of_row(sums: &[i128], slot: u32, row: u32) -> Self
         requires sums { length sums.now ≤ KEYS }
         requires slot { slot < 16 }
+        requires item { slot < ITEMS }
         ensures { key result ≡ row_key KEYS sums.now slot row };
 
     /// The sum of two ranks, number by number. It takes one step. The result must fit.
@@ -41,7 +44,8 @@ pub trait Rank: Copy {
     /// without `old` and the result must fit.
     fn swap<L: Ledger>(total: Self, old: Self, new: Self, steps: &mut Steps<L>) -> Self
         requires { CanSwap KEYS (key total) (key old) (key new) }
-        ensures swapped { (rest : KeyOf KEYS 16) → key total ≡ key_add KEYS 16 rest (key old) → key result ≡ key_add KEYS 16 rest (key new) }
+        ensures swapped { (rest : KeyOf KEYS 16) → key total ≡ key_add KEYS 16 rest (key old)
+            → key result ≡ key_add KEYS 16 rest (key new) }
         ensures counted { steps.new ≡ steps.old + 1 };
 
     /// Whether `a` is before `b` in lexicographic order, the sums first. It takes one step.

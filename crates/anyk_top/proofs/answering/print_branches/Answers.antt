@@ -3,7 +3,6 @@ use Rattle.cmd_words.specs.Said.{seen_words}
 use Rattle.refusal_lines.specs.Printed.{PrintedSome}
 use Rattle.refusal_lines.proofs.Prints.{printed-some}
 use Rattle.refusal_lines.specs.SinkState.{state_of}
-use Rattle.proof_text.specs.Seen.{seen_proof}
 use Rattle.input_load.specs.Input.{InputData, loaded_of, queries_in}
 use Rattle.verdict.specs.Bound.{IsPaced, IsWithin}
 use Rattle.verdict.specs.Found.{found_of}
@@ -11,20 +10,14 @@ use Rattle.verdict.specs.Output.{HasOutput}
 use Rattle.verdict.specs.Words.{run}
 use Rattle.anyk_top.specs.Asked.{words_of}
 use Rattle.anyk_top.specs.Planned.{ArePrepared, HavePlans, shapes_of}
+use Rattle.anyk_top.proofs.Inputs.{input_shown}
 use Rattle.anyk_top.proofs.Bounds.{several-output, several-paced, several-within}
 use Rattle.anyk_top.proofs.PlanList.{plans-shaped}
 use Rattle.anyk_top.proofs.answering.print_branches.Goals as goal
 
 pub returns-in-Run-clause-printed : goal.returns-in-Run-clause-printed
 returns-in-Run-clause-printed g c =
-    let input : InputData =
-    record {
-      queries = c.input.inside.queries.items;
-      tables = c.input.inside.tables;
-      best = c.input.inside.best;
-      steps = c.input.inside.script.items;
-      proof = seen_proof c.input.inside.proof;
-    } in
+    let input = input_shown c.input.inside in
     let words = words_of (seen_words c.in-Run.words) in
     let shapes = shapes_of c.args.plans.now in
     let more : 1 < length input.queries =
@@ -37,14 +30,7 @@ returns-in-Run-clause-printed g c =
 
 pub returns-in-Run-clause-bounded : goal.returns-in-Run-clause-bounded
 returns-in-Run-clause-bounded g c =
-    let input : InputData =
-    record {
-      queries = c.input.inside.queries.items;
-      tables = c.input.inside.tables;
-      best = c.input.inside.best;
-      steps = c.input.inside.script.items;
-      proof = seen_proof c.input.inside.proof;
-    } in
+    let input = input_shown c.input.inside in
     let words = words_of (seen_words c.in-Run.words) in
     let shapes = shapes_of c.args.plans.now in
     let more : 1 < length input.queries =
@@ -61,14 +47,7 @@ returns-in-Run-clause-bounded g c =
 
 pub returns-in-Run-clause-paced : goal.returns-in-Run-clause-paced
 returns-in-Run-clause-paced g c =
-    let input : InputData =
-    record {
-      queries = c.input.inside.queries.items;
-      tables = c.input.inside.tables;
-      best = c.input.inside.best;
-      steps = c.input.inside.script.items;
-      proof = seen_proof c.input.inside.proof;
-    } in
+    let input = input_shown c.input.inside in
     let words = words_of (seen_words c.in-Run.words) in
     let shapes = shapes_of c.args.plans.now in
     let more : 1 < length input.queries =

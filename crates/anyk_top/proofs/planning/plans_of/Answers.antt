@@ -1,27 +1,20 @@
 use Rattle.std.proofs.Common.{◌≡◌, ◌<◌, ◌∷◌, [], ◌∙◌, Err, Ok, length, sym, subst, ap, rules, arith}
 use Rattle.plan_build.specs.RankedPlan.{fixed_key}
 use Rattle.query_bind.specs.Weighed.{BoundQuery}
-use Rattle.proof_text.specs.Seen.{seen_proof}
 use Rattle.refusal_lines.specs.Refused.{reason_of}
 use Rattle.input_load.specs.Input.{InputData, loaded_of}
 use Rattle.verdict.specs.Found.{found_of}
 use Rattle.verdict.specs.Staged.{Pure}
 use Rattle.verdict.specs.Verdict.{IsShaped}
 use Rattle.anyk_top.specs.Planned.{HavePlans, shape_in, shapes_of}
+use Rattle.anyk_top.proofs.Inputs.{input_shown}
 use Rattle.anyk_top.proofs.PlanList.{keys-within, one-found, one-refused, only-one, several-found, several-refused}
 use Rattle.anyk_top.proofs.planning.plans_of.Goals as goal
 
 pub returns-in_err-plan-clause-shaped : goal.returns-in_err-plan-clause-shaped
 returns-in_err-plan-clause-shaped g c =
     let e : c.from_residual.result ≡ Err c.in_err-plan.field-0.0 = search rules in
-    let input : InputData =
-    record {
-      queries = c.input.inside.queries.items;
-      tables = c.input.inside.tables;
-      best = c.input.inside.best;
-      steps = c.input.inside.script.items;
-      proof = seen_proof c.input.inside.proof;
-    } in
+    let input = input_shown c.input.inside in
     let query = c.index-queries-0.result in
     let only = sym c.as_slice-queries.ensures.value ∙ only-one c.as_slice-queries.result.now query
     c.if-queries-eq1.true c.index-queries-0.is in
@@ -31,14 +24,7 @@ returns-in_err-plan-clause-shaped g c =
 
 pub returns-then-queries-eq1-clause-shaped : goal.returns-then-queries-eq1-clause-shaped
 returns-then-queries-eq1-clause-shaped g c =
-    let input : InputData =
-    record {
-      queries = c.input.inside.queries.items;
-      tables = c.input.inside.tables;
-      best = c.input.inside.best;
-      steps = c.input.inside.script.items;
-      proof = seen_proof c.input.inside.proof;
-    } in
+    let input = input_shown c.input.inside in
     let query = c.index-queries-0.result in
     let only = sym c.as_slice-queries.ensures.value ∙ only-one c.as_slice-queries.result.now query
     c.if-queries-eq1.true c.index-queries-0.is in
@@ -60,14 +46,7 @@ plans_for-requires-clause-keys g c =
 pub returns-in_err-plans-clause-shaped : goal.returns-in_err-plans-clause-shaped
 returns-in_err-plans-clause-shaped g c =
     let e : c.from_residual-in_err-plans.result ≡ Err c.in_err-plans.field-0.0 = search rules in
-    let input : InputData =
-    record {
-      queries = c.input.inside.queries.items;
-      tables = c.input.inside.tables;
-      best = c.input.inside.best;
-      steps = c.input.inside.script.items;
-      proof = seen_proof c.input.inside.proof;
-    } in
+    let input = input_shown c.input.inside in
     let refusal = reason_of c.in_err-plans.field-0.0 in
     let some = c.input.invariant.some in
     let value = ap (length {A = BoundQuery}) c.as_slice-queries.ensures.value in
@@ -89,14 +68,7 @@ plans_for-requires-else-keys-le1-clause-keys g c =
 pub returns-in_err-plans-2-clause-shaped : goal.returns-in_err-plans-2-clause-shaped
 returns-in_err-plans-2-clause-shaped g c =
     let e : c.from_residual-in_err-plans-2.result ≡ Err c.in_err-plans-2.field-0.0 = search rules in
-    let input : InputData =
-    record {
-      queries = c.input.inside.queries.items;
-      tables = c.input.inside.tables;
-      best = c.input.inside.best;
-      steps = c.input.inside.script.items;
-      proof = seen_proof c.input.inside.proof;
-    } in
+    let input = input_shown c.input.inside in
     let refusal = reason_of c.in_err-plans-2.field-0.0 in
     let some = c.input.invariant.some in
     let value = ap (length {A = BoundQuery}) c.as_slice-queries.ensures.value in
@@ -106,70 +78,42 @@ returns-in_err-plans-2-clause-shaped g c =
 
 pub returns-in_ok-plans-clause-shaped : goal.returns-in_ok-plans-clause-shaped
 returns-in_ok-plans-clause-shaped g c =
-    let input : InputData =
-    record {
-      queries = c.input.inside.queries.items;
-      tables = c.input.inside.tables;
-      best = c.input.inside.best;
-      steps = c.input.inside.script.items;
-      proof = seen_proof c.input.inside.proof;
-    } in
+    let input = input_shown c.input.inside in
     let plans = c.in_ok-plans.plans.items in
-    let have : HavePlans 1 (fixed_key 1) input.tables input.queries plans =
+    let have : HavePlans 1 (fixed_key 1 16) input.tables input.queries plans =
     rw c.as_slice-queries.ensures.value at c.in_ok-plans.ensures.plans in
     subst (λ (i : InputData). IsShaped (loaded_of i) (Ok (found_of (loaded_of i) (shapes_of plans)))) c.input.view_is
-    (several-found 1 (fixed_key 1) input plans have)
+    (several-found 1 (fixed_key 1 16) input plans have)
 
 pub returns-in_ok-plans-clause-plans : goal.returns-in_ok-plans-clause-plans
 returns-in_ok-plans-clause-plans g c =
-    let input : InputData =
-    record {
-      queries = c.input.inside.queries.items;
-      tables = c.input.inside.tables;
-      best = c.input.inside.best;
-      steps = c.input.inside.script.items;
-      proof = seen_proof c.input.inside.proof;
-    } in
+    let input = input_shown c.input.inside in
     let plans = c.in_ok-plans.plans.items in
-    let have : HavePlans 1 (fixed_key 1) input.tables input.queries plans =
+    let have : HavePlans 1 (fixed_key 1 16) input.tables input.queries plans =
     rw c.as_slice-queries.ensures.value at c.in_ok-plans.ensures.plans in
     let some = c.input.invariant.some in
     let value = ap (length {A = BoundQuery}) c.as_slice-queries.ensures.value in
     let more : 1 < length input.queries = omega (arith, some, value, c.if-queries-eq1.false) in
-    subst (λ (i : InputData). (1 < length i.queries) × HavePlans 1 (fixed_key 1) i.tables i.queries plans)
+    subst (λ (i : InputData). (1 < length i.queries) × HavePlans 1 (fixed_key 1 16) i.tables i.queries plans)
     c.input.view_is (more, have)
 
 pub returns-in_ok-plans-2-clause-shaped : goal.returns-in_ok-plans-2-clause-shaped
 returns-in_ok-plans-2-clause-shaped g c =
-    let input : InputData =
-    record {
-      queries = c.input.inside.queries.items;
-      tables = c.input.inside.tables;
-      best = c.input.inside.best;
-      steps = c.input.inside.script.items;
-      proof = seen_proof c.input.inside.proof;
-    } in
+    let input = input_shown c.input.inside in
     let plans = c.in_ok-plans-2.plans.items in
-    let have : HavePlans 8 (fixed_key 8) input.tables input.queries plans =
+    let have : HavePlans 8 (fixed_key 8 16) input.tables input.queries plans =
     rw c.as_slice-queries.ensures.value at c.in_ok-plans-2.ensures.plans in
     subst (λ (i : InputData). IsShaped (loaded_of i) (Ok (found_of (loaded_of i) (shapes_of plans)))) c.input.view_is
-    (several-found 8 (fixed_key 8) input plans have)
+    (several-found 8 (fixed_key 8 16) input plans have)
 
 pub returns-in_ok-plans-2-clause-plans : goal.returns-in_ok-plans-2-clause-plans
 returns-in_ok-plans-2-clause-plans g c =
-    let input : InputData =
-    record {
-      queries = c.input.inside.queries.items;
-      tables = c.input.inside.tables;
-      best = c.input.inside.best;
-      steps = c.input.inside.script.items;
-      proof = seen_proof c.input.inside.proof;
-    } in
+    let input = input_shown c.input.inside in
     let plans = c.in_ok-plans-2.plans.items in
-    let have : HavePlans 8 (fixed_key 8) input.tables input.queries plans =
+    let have : HavePlans 8 (fixed_key 8 16) input.tables input.queries plans =
     rw c.as_slice-queries.ensures.value at c.in_ok-plans-2.ensures.plans in
     let some = c.input.invariant.some in
     let value = ap (length {A = BoundQuery}) c.as_slice-queries.ensures.value in
     let more : 1 < length input.queries = omega (arith, some, value, c.if-queries-eq1.false) in
-    subst (λ (i : InputData). (1 < length i.queries) × HavePlans 8 (fixed_key 8) i.tables i.queries plans)
+    subst (λ (i : InputData). (1 < length i.queries) × HavePlans 8 (fixed_key 8 16) i.tables i.queries plans)
     c.input.view_is (more, have)

@@ -1,21 +1,14 @@
 use Rattle.std.proofs.Common.{◌≡◌, ◌∙◌, ap, length, subst}
-use Rattle.proof_text.specs.Seen.{seen_proof}
 use Rattle.input_load.specs.Input.{InputData, loaded_of}
 use Rattle.anyk_top.specs.Checked.{IsVerifiedIn}
+use Rattle.anyk_top.proofs.Inputs.{input_shown}
 use Rattle.anyk_top.proofs.PlanList.{only-one}
 use Rattle.anyk_top.proofs.Verifying.{verified-in}
 use Rattle.anyk_top.proofs.verify.answers_in.Goals as goal
 
 pub returns-clause-verified : goal.returns-clause-verified
 returns-clause-verified g c =
-    let input : InputData =
-    record {
-      queries = c.input.inside.queries.items;
-      tables = c.input.inside.tables;
-      best = c.input.inside.best;
-      steps = c.input.inside.script.items;
-      proof = seen_proof c.input.inside.proof;
-    } in
+    let input = input_shown c.input.inside in
     let query = c.index-query.result.now in
     let one : length input.queries ≡ 1 = ap (λ (i : InputData). length i.queries) c.input.view_is ∙ c.requires.one in
     let only = only-one input.queries query one c.index-query.ensures in

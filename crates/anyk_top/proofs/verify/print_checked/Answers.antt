@@ -4,7 +4,6 @@ use Rattle.anyk_model.specs.Output.{output_of}
 use Rattle.anyk_model.specs.Query.{IsCombination, row_counts}
 use Rattle.cmd_words.specs.Said.{seen_words}
 use Rattle.proof_check.specs.Checked.{item_rows}
-use Rattle.proof_text.specs.Seen.{seen_proof}
 use Rattle.query_bind.specs.Weighed.{BoundQuery}
 use Rattle.input_load.specs.Input.{InputData, loaded_of}
 use Rattle.refusal_lines.specs.Printed.{Printed}
@@ -13,19 +12,13 @@ use Rattle.verdict.specs.Found.{found_of}
 use Rattle.verdict.specs.Output.{answers_text, style_of}
 use Rattle.anyk_top.specs.Asked.{words_of}
 use Rattle.anyk_top.specs.Checked.{HasAnswers}
+use Rattle.anyk_top.proofs.Inputs.{input_shown}
 use Rattle.anyk_top.proofs.Verifying.{answers-combine, answers-shown}
 use Rattle.anyk_top.proofs.verify.print_checked.Goals as goal
 
 pub print_listed-requires-clause-rows : goal.print_listed-requires-clause-rows
 print_listed-requires-clause-rows g c =
-    let input : InputData =
-    record {
-      queries = c.input.inside.queries.items;
-      tables = c.input.inside.tables;
-      best = c.input.inside.best;
-      steps = c.input.inside.script.items;
-      proof = seen_proof c.input.inside.proof;
-    } in
+    let input = input_shown c.input.inside in
     let answers : List (List ℕ) = c.args.answers.now in
     let h = subst (λ (i : InputData). HasAnswers i answers) (sym c.input.view_is) c.requires in
     let query = c.index-query.result.now in
@@ -35,14 +28,7 @@ print_listed-requires-clause-rows g c =
 
 pub returns : goal.returns
 returns g c shape =
-    let input : InputData =
-    record {
-      queries = c.input.inside.queries.items;
-      tables = c.input.inside.tables;
-      best = c.input.inside.best;
-      steps = c.input.inside.script.items;
-      proof = seen_proof c.input.inside.proof;
-    } in
+    let input = input_shown c.input.inside in
     let answers : List (List ℕ) = c.args.answers.now in
     let words = words_of (seen_words c.args.words.now) in
     let h = subst (λ (i : InputData). HasAnswers i answers) (sym c.input.view_is) c.requires in
