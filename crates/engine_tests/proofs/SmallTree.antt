@@ -15,6 +15,7 @@ use Rattle.std.specs.Prelude.{FitsSigned, replicate}
 use Rattle.std.proofs.Math.ListN.{set}
 use Rattle.tdp_model.specs.KeyNumbers.{sum_of}
 use Rattle.tdp_model.proofs.KeyNumbers.{sum_of_add, sum_of_lists}
+use Rattle.engine_tests.specs.SmallNodes.{small_caps, small_shape, root_node, leaf_node}
 use Rattle.tdp_core.specs.declared.parts.NodeShape.{NodeShape}
 use Rattle.tdp_core.specs.declared.parts.NodeParts.{NodeParts}
 use Rattle.tdp_core.specs.RawData.{AreShapes, shape_children}
@@ -22,11 +23,8 @@ use Rattle.tdp_core.specs.TreeData.{NodeData, node_data, tree_data, kids_below, 
 use Rattle.tdp_core.specs.WellFormed.{IsShaped, IsFormed, RowFits}
 use Rattle.tdp_core.proofs.RowKeys.{row_key-fits, row_key-slot}
 
-abbrev pub small_caps : List ℕ
-small_caps = 10 ∷ 10 ∷ 10 ∷ 10 ∷ 10 ∷ 10 ∷ 10 ∷ 10 ∷ []
-
 abbrev pub small_shapes : List NodeShape
-small_shapes = record { parent = 0; item = 1; caps = small_caps } ∷ record { parent = 0; item = 0; caps = small_caps } ∷ []
+small_shapes = small_shape 1 ∷ small_shape 0 ∷ []
 
 ten : (i : ℕ) → get_or small_caps i 0 ≤ 10
 ten zero = omega arith
@@ -81,29 +79,8 @@ unfolding kids_below
 leaf_children = refl
 
 module _ {R : Type 0} (top later sooner whole : R) where
-  abbrev pub root_node : NodeData R
-  root_node = record {
-    shape = record { parent = 0; item = 1; caps = small_caps };
-    rows = record { rank = top; row = 4 } ∷ [];
-    to_child = (0 ∷ []) ∷ [];
-    groups = (0 ∷ []) ∷ [];
-    best = whole ∷ [];
-  }
-
-  abbrev pub leaf_node : NodeData R
-  leaf_node = record {
-    shape = record { parent = 0; item = 0; caps = small_caps };
-    rows = record { rank = later; row = 3 } ∷ record { rank = sooner; row = 1 } ∷ [];
-    to_child = [] ∷ [] ∷ [];
-    groups = (1 ∷ 0 ∷ []) ∷ [];
-    best = later ∷ sooner ∷ [];
-  }
-
   abbrev pub small_nodes : List (NodeData R)
-  small_nodes = root_node ∷ leaf_node ∷ []
-
-  pub small_data : (root leaf : NodeParts R) (parts : List (NodeParts R)) → parts ≡ root ∷ leaf ∷ [] → node_data root ≡ root_node → node_data leaf ≡ leaf_node → tree_data parts ≡ small_nodes
-  small_data root leaf parts e r l = ap tree_data e ∙ ap (λ n. n ∷ node_data leaf ∷ []) r ∙ ap (λ n. root_node ∷ n ∷ []) l
+  small_nodes = root_node top whole ∷ leaf_node later sooner ∷ []
 
   pub one_child : child_count small_nodes 0 ≡ 1
   unfolding kids_below
@@ -213,6 +190,11 @@ module _ {R : Type 0} (top later sooner whole : R) where
       bests = bests;
       heaps = heaps;
     }
+
+-- the parts that a function makes are these nodes
+pub small_data : {R : Type 0} {top later sooner whole : R} {root leaf : NodeParts R} {parts : List (NodeParts R)} → parts ≡ root ∷ leaf ∷ [] → node_data root ≡ root_node top whole
+    → node_data leaf ≡ leaf_node later sooner → tree_data parts ≡ small_nodes top later sooner whole
+small_data {top = top} {whole = whole} {leaf = leaf} e r l = ap tree_data e ∙ ap (λ n. n ∷ node_data leaf ∷ []) r ∙ ap (λ n. root_node top whole ∷ n ∷ []) l
 
 -- what the join of the root's row and the lesser row below it asks
 pub small_fits : (d : ℕ) (a b : KeyOf d 16) → a ≡ row_key d [] 1 4 → b ≡ row_key d [] 0 1 → KeyFits d (key_add d 16 a b)

@@ -1,5 +1,5 @@
 //! Cursors over answers in memory.
-ghost use Rattle.std.specs.Prelude.{◌≡◌, ℕ, ◌<◌, [], map, drop};
+ghost use Rattle.std.specs.Prelude.{◌≡◌, ◌≤◌, ℕ, ◌<◌, [], map, drop};
 ghost use Rattle.std.proofs.Common.{rules};
 ghost use Rattle.tdp_model.specs.KeyNumbers.{numbers};
 
@@ -24,7 +24,8 @@ struct Listed<R: Rank> {
 impl<R: Rank> Ranked for Listed<R> {
     type Key = R;
 
-    ghost rest = { λ s. map (λ a. record { rows = a.rows; key = numbers R.KEYS 16 (R.key a.rank) }) (drop s.place s.answers.items) };
+    ghost rest = { λ s. map (λ a. record { rows = a.rows; key = numbers R.KEYS 16 (R.key a.rank) })
+        (drop s.place s.answers.items) };
 
     ghost calls = { λ s. s.calls };
 
@@ -54,7 +55,9 @@ impl<R: Rank> Ranked for Listed<R> {
 }
 
 // The answers with the row numbers below `count`.
-fn answers_of<R: Rank>(alloc: Global, count: u32) -> Result<Vec<Answer<R>>, NoMemory> {
+fn answers_of<R: Rank>(alloc: Global, count: u32) -> Result<Vec<Answer<R>>, NoMemory>
+    requires slots { 16 ≤ R.ITEMS }
+{
     let mut answers = Vec::new(alloc);
     for number in 0..count {
         let rank = R::of_row(&[], 0, number);
@@ -71,7 +74,9 @@ fn cursors_over<R: Rank>(
     alloc: Global,
     count: u32,
     refusals: u64,
-) -> Result<Cursors<Listed<R>>, NoMemory> {
+) -> Result<Cursors<Listed<R>>, NoMemory>
+    requires slots { 16 ≤ R.ITEMS }
+{
     let engine = Listed {
         answers: answers_of(alloc, count)?,
         place: 0,
@@ -165,6 +170,7 @@ fn cursors_move<R: Rank, L: Ledger>(
     alloc: Global,
     blank: Blank,
 ) -> Result<Result<bool, CursorFault>, NoMemory>
+    requires slots { 16 ≤ R.ITEMS }
     requires name { blank.name ≡ L.name }
     requires parts { blank.parts ≡ L.parts }
     requires share { 0 < L.parts }
@@ -202,7 +208,9 @@ fn open_as_many_as_can_be<E: Ranked>(cursors: &mut Cursors<E>) -> Result<bool, C
     )
 }
 
-fn cursors_open<R: Rank>(alloc: Global) -> Result<Result<bool, CursorFault>, NoMemory> {
+fn cursors_open<R: Rank>(alloc: Global) -> Result<Result<bool, CursorFault>, NoMemory>
+    requires slots { 16 ≤ R.ITEMS }
+{
     let mut cursors = cursors_over::<R>(alloc, 1, 0)?;
     Ok(open_as_many_as_can_be(&mut cursors))
 }
@@ -244,6 +252,7 @@ fn are_driven<E: Ranked, L: Ledger>(cursors: &mut Cursors<E>, steps: &mut Steps<
 }
 
 fn cursors_are_driven<R: Rank, L: Ledger>(alloc: Global, blank: Blank) -> Result<bool, NoMemory>
+    requires slots { 16 ≤ R.ITEMS }
     requires name { blank.name ≡ L.name }
     requires parts { blank.parts ≡ L.parts }
     requires share { 0 < L.parts }

@@ -1,5 +1,5 @@
 //! Entries leave heaps in order of rank.
-ghost use Rattle.std.specs.Prelude.{◌≡◌, ◌<◌};
+ghost use Rattle.std.specs.Prelude.{◌≡◌, ◌≤◌, ◌<◌};
 
 use rank_key::{LexRank, Rank, SumRank};
 use std::alloc::Global;
@@ -19,7 +19,8 @@ fn scrambled(number: u32) -> u32 {
 }
 
 fn entry<R: Rank>(made: Made) -> Entry<R, Made>
-    requires { 0 < R.KEYS }
+    requires slots { 16 ≤ R.ITEMS }
+    requires keys { 0 < R.KEYS }
 {
     let (sum, row) = made;
     Entry {
@@ -30,7 +31,8 @@ fn entry<R: Rank>(made: Made) -> Entry<R, Made>
 
 // This many entries, in no order.
 fn entries_of<R: Rank>(alloc: Global, count: u32) -> Result<Vec<Entry<R, Made>>, NoMemory>
-    requires { 0 < R.KEYS }
+    requires slots { 16 ≤ R.ITEMS }
+    requires keys { 0 < R.KEYS }
 {
     let mut entries = Vec::new(alloc);
     let mut number = 1;
@@ -77,6 +79,7 @@ fn heapified<R: Rank, L: Ledger>(
     count: u32,
     steps: &mut Steps<L>,
 ) -> Result<bool, NoMemory>
+    requires slots { 16 ≤ R.ITEMS }
     requires keys { 0 < R.KEYS }
 {
     let mut entries = entries_of::<R>(alloc, count)?;
@@ -104,6 +107,7 @@ fn pushed<R: Rank, L: Ledger>(
     count: u32,
     steps: &mut Steps<L>,
 ) -> Result<bool, NoMemory>
+    requires slots { 16 ≤ R.ITEMS }
     requires keys { 0 < R.KEYS }
 {
     let entries = entries_of::<R>(alloc, count)?;
@@ -113,6 +117,7 @@ fn pushed<R: Rank, L: Ledger>(
 
 // Whether entries of each size leave in order of rank, both if made into a heap at once and if pushed one by one.
 fn all_drain<R: Rank, L: Ledger>(alloc: Global, steps: &mut Steps<L>) -> Result<bool, NoMemory>
+    requires slots { 16 ≤ R.ITEMS }
     requires keys { 0 < R.KEYS }
 {
     for count in SIZES {
@@ -124,6 +129,7 @@ fn all_drain<R: Rank, L: Ledger>(alloc: Global, steps: &mut Steps<L>) -> Result<
 }
 
 fn leave_in_order<R: Rank, L: Ledger>(alloc: Global, blank: Blank) -> Result<bool, NoMemory>
+    requires slots { 16 ≤ R.ITEMS }
     requires name { blank.name ≡ L.name }
     requires parts { blank.parts ≡ L.parts }
     requires share { 0 < L.parts }

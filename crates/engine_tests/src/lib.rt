@@ -22,6 +22,4 @@ mod small_tree;
 #[cfg(test)]
 mod stores;
 #[cfg(test)]
-mod streams;
-#[cfg(test)]
 mod trees;

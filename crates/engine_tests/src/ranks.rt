@@ -1,5 +1,5 @@
 //! Ranks with one sum and with eight.
-ghost use Rattle.std.specs.Prelude.{◌≡◌, ◌<◌};
+ghost use Rattle.std.specs.Prelude.{◌≡◌, ◌≤◌, ◌<◌};
 
 use rank_key::{LexRank, Rank, SumRank, bits};
 use std::marker::Brand;
@@ -16,6 +16,7 @@ fn expect_before<R: Rank, L: Ledger>(rt: &impl Abort, a: R, b: R, steps: &mut St
 }
 
 fn adds_and_exchanges<R: Rank, L: Ledger>(rt: &impl Abort, blank: Blank)
+    requires slots { 16 ≤ R.ITEMS }
     requires name { blank.name ≡ L.name }
     requires parts { blank.parts ≡ L.parts }
     requires some_part { 0 < blank.parts }

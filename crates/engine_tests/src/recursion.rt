@@ -1,58 +1,82 @@
-//! The answers of a small tree from its streams, over two allocators.
-ghost use Rattle.std.specs.Prelude.{◌≡◌, ◌<◌};
+//! The answers of a small tree from the engine by recursion, and from the streams below it, over two
+//! allocators.
+ghost use Rattle.std.specs.Prelude.{◌≡◌, ◌<◌, length};
+ghost use Rattle.tdp_core.specs.TreeData.{group_count};
 ghost use Rattle.tdp_core.specs.WellFormed.{IsTieFreeTree};
 
-use crate::answers::gives_all;
-use crate::small_tree::small_tree;
+use crate::answers::{gives_all, links_two};
+use crate::small_tree::{ANSWERS, small_tree};
 use anyk_rec::Rec;
 use bumpalo::Bump;
 use rank_key::SumRank;
 use std::alloc::{Allocator, Global};
 use std::marker::Brand;
 use std::sync::ledger::{Blank, Ledger};
-use std::test::Fail;
 use step_counter::{NoMemory, Steps};
+use suffix_streams::Streams;
 use tdp_core::Tree;
 
-// Whether its two answers come, and then the end.
-fn gives_two<A: Allocator + Clone, L: Ledger>(
+/// What finds the answers.
+#[derive(Clone, Copy)]
+enum Finder {
+    Engine,
+    // Its answers are the solutions of the root.
+    Streams,
+}
+
+// Whether it finds the answers of the small tree, and no others.
+fn finds_all<A: Allocator + Clone, L: Ledger>(
+    finder: Finder,
     alloc: A,
     tree: &Tree<SumRank>,
     steps: &mut Steps<L>,
 ) -> Result<bool, NoMemory>
-    requires { IsTieFreeTree tree.now }
+    requires tie_free { IsTieFreeTree tree.now }
+    requires root { 0 < length tree.now }
+    requires group { 0 < group_count tree.now 0 }
 {
-    let mut engine = Rec::new(alloc, tree, steps)?;
-    gives_all(&mut engine, &[[1, 4, 0, 0], [3, 4, 0, 0]], steps)
+    match finder {
+        Finder::Engine => gives_all(&mut Rec::new(alloc, tree, steps)?, ANSWERS, steps),
+        Finder::Streams => links_two(&mut Streams::new(alloc, tree, steps)?, ANSWERS, steps),
+    }
 }
 
-fn gives_two_in_arena<L: Ledger>(
-    alloc: Global,
-    tree: &Tree<SumRank>,
+// The same, over this allocator, in a tree that is made for it.
+fn finds_over<A: Allocator + Clone, L: Ledger>(
+    finder: Finder,
+    alloc: A,
+    global: Global,
     steps: &mut Steps<L>,
-) -> Result<bool, NoMemory>
-    requires { IsTieFreeTree tree.now }
-{
-    let arena = Bump::new(alloc);
-    gives_two(&arena, tree, steps)
+) -> Result<bool, NoMemory> {
+    let tree = small_tree(global, steps)?;
+    finds_all(finder, alloc, &tree, steps)
 }
 
-// The same over the global allocator and over an arena.
-fn gives_two_twice<L: Ledger>(alloc: Global, blank: Blank) -> Result<(bool, bool), NoMemory>
+fn finds_in_arena<L: Ledger>(
+    finder: Finder,
+    global: Global,
+    steps: &mut Steps<L>,
+) -> Result<bool, NoMemory> {
+    let arena = Bump::new(global);
+    finds_over(finder, &arena, global, steps)
+}
+
+// The same, over the global allocator and over an arena.
+fn finds_twice<L: Ledger>(finder: Finder, alloc: Global, blank: Blank) -> Result<bool, NoMemory>
     requires name { blank.name ≡ L.name }
     requires parts { blank.parts ≡ L.parts }
-    requires some_part { 0 < blank.parts }
+    requires share { 0 < L.parts }
 {
     let mut steps: Steps<L> = Steps::new(blank);
-    let tree = small_tree::<SumRank, L>(alloc, &mut steps)?;
-    let global = gives_two(alloc, &tree, &mut steps)?;
-    Ok((global, gives_two_in_arena(alloc, &tree, &mut steps)?))
+    Ok(finds_over(finder, alloc, alloc, &mut steps)? && finds_in_arena(finder, alloc, &mut steps)?)
 }
 
 #[test]
-fn a_small_tree_gives_its_answers(rt: HostRuntime) -> Result<(), Fail> {
-    let (global, arena) = gives_two_twice::<Brand>(rt.alloc(), Blank::new(1))?;
-    assert!(rt; global);
-    assert!(rt; arena);
-    Ok(())
+fn a_small_tree_gives_its_answers(rt: HostRuntime) {
+    assert!(rt; finds_twice::<Brand>(Finder::Engine, rt.alloc(), Blank::new(1)) == Ok(true));
+}
+
+#[test]
+fn a_small_tree_gives_its_solutions(rt: HostRuntime) {
+    assert!(rt; finds_twice::<Brand>(Finder::Streams, rt.alloc(), Blank::new(1)) == Ok(true));
 }

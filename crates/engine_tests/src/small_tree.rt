@@ -1,14 +1,17 @@
 //! A small tree for the tests of both engines.
-ghost use Rattle.std.specs.Prelude.{◌≡◌, ◌<◌, [], ◌∷◌, length, IfOk};
+ghost use Rattle.std.specs.Prelude.{◌≡◌, ◌≤◌, ◌<◌, [], ◌∷◌, length, IfOk};
+ghost use Rattle.engine_tests.specs.SmallNodes.{small_shape, root_node, leaf_node};
 ghost use Rattle.tdp_core.specs.TreeData.{node_data, child_count, group_count};
 ghost use Rattle.tdp_core.specs.WellFormed.{IsTieFreeTree};
 
 use rank_key::Rank;
-use smallvec::SmallVec;
 use std::alloc::Global;
 use std::sync::ledger::Ledger;
 use step_counter::{NoMemory, Steps};
-use tdp_core::{Groups, NodeParts, NodeRow, NodeShape, Tree};
+use tdp_core::{Groups, NamedGroups, NodeParts, NodeRow, NodeShape, Tree};
+
+/// The rows of the small tree's answers, in their order.
+pub(crate) const ANSWERS: &[[u32; 4]; 2] = &[[1, 4, 0, 0], [3, 4, 0, 0]];
 
 fn one<T: Drop>(alloc: Global, first: T) -> Result<Vec<T>, NoMemory>
     ensures { IfOk result (λ v. v.items ≡ first ∷ []) }
@@ -34,31 +37,53 @@ fn one_group(alloc: Global, members: &[u32]) -> Result<Groups, NoMemory>
     Ok(groups)
 }
 
+/// One row, which names group 0 of the only child.
+fn first_group_named(alloc: Global) -> Result<NamedGroups, NoMemory>
+    ensures { IfOk result (λ named. named.rows ≡ (0 ∷ []) ∷ []) }
+{
+    let mut named = NamedGroups::new(alloc, 1, 1)?;
+    named.push(&[0])?;
+    Ok(named)
+}
+
+/// Two rows of a node without children.
+fn none_named(alloc: Global) -> Result<NamedGroups, NoMemory>
+    ensures { IfOk result (λ named. named.rows ≡ [] ∷ [] ∷ []) }
+{
+    let mut named = NamedGroups::new(alloc, 0, 2)?;
+    named.push(&[])?;
+    named.push(&[])?;
+    Ok(named)
+}
+
+/// The shape of a node of this item, the root or a child of it.
+fn shape_of(item: u32) -> NodeShape
+    ensures { result ≡ small_shape item }
+{
+    NodeShape {
+        parent: 0,
+        item,
+        caps: [10; 8],
+    }
+}
+
 fn root_parts<R: Rank>(alloc: Global, top: R, whole: R) -> Result<NodeParts<R>, NoMemory>
-    ensures { IfOk result (λ p. node_data p ≡ record { shape = record { parent = 0; item = 1; caps = (10 ∷ 10 ∷ 10 ∷ 10 ∷ 10 ∷ 10 ∷ 10 ∷ 10 ∷ []) }; rows = record { rank = top; row = 4 } ∷ []; to_child = (0 ∷ []) ∷ []; groups = (0 ∷ []) ∷ []; best = whole ∷ [] }) }
+    ensures { IfOk result (λ p. node_data p ≡ root_node top whole) }
 {
     Ok(NodeParts {
-        shape: NodeShape {
-            parent: 0,
-            item: 1,
-            caps: [10; 8],
-        },
+        shape: shape_of(1),
         rows: one(alloc, NodeRow { rank: top, row: 4 })?,
-        to_child: one(alloc, SmallVec::from_slice(alloc, &[0])?)?,
+        to_child: first_group_named(alloc)?,
         groups: one_group(alloc, &[0])?,
         best: one(alloc, whole)?,
     })
 }
 
 fn leaf_parts<R: Rank>(alloc: Global, later: R, sooner: R) -> Result<NodeParts<R>, NoMemory>
-    ensures { IfOk result (λ p. node_data p ≡ record { shape = record { parent = 0; item = 0; caps = (10 ∷ 10 ∷ 10 ∷ 10 ∷ 10 ∷ 10 ∷ 10 ∷ 10 ∷ []) }; rows = record { rank = later; row = 3 } ∷ record { rank = sooner; row = 1 } ∷ []; to_child = [] ∷ [] ∷ []; groups = (1 ∷ 0 ∷ []) ∷ []; best = later ∷ sooner ∷ [] }) }
+    ensures { IfOk result (λ p. node_data p ≡ leaf_node later sooner) }
 {
     Ok(NodeParts {
-        shape: NodeShape {
-            parent: 0,
-            item: 0,
-            caps: [10; 8],
-        },
+        shape: shape_of(0),
         rows: two(
             alloc,
             NodeRow {
@@ -70,7 +95,7 @@ fn leaf_parts<R: Rank>(alloc: Global, later: R, sooner: R) -> Result<NodeParts<R
                 row: 1,
             },
         )?,
-        to_child: two(alloc, SmallVec::new(alloc), SmallVec::new(alloc))?,
+        to_child: none_named(alloc)?,
         groups: one_group(alloc, &[1, 0])?,
         best: two(alloc, later, sooner)?,
     })
@@ -81,6 +106,7 @@ pub(crate) fn small_tree<R: Rank, L: Ledger>(
     alloc: Global,
     steps: &mut Steps<L>,
 ) -> Result<Tree<R>, NoMemory>
+    requires slots { 16 ≤ R.ITEMS }
     ensures tie_free { IfOk result IsTieFreeTree }
     ensures nodes { IfOk result (λ t. length t ≡ 2) }
     ensures child { IfOk result (λ t. child_count t 0 ≡ 1) }

@@ -15,8 +15,10 @@ fn fill<A: Allocator + Clone, L: Ledger>(
     count: u64,
     steps: &mut Steps<L>,
 ) -> Result<(), NoMemory>
-    requires { EachIndex ids.old.items (λ k. slice_index ids.old.items k < length store.old.entries) }
-    ensures { OnOk result (EachIndex ids.new.items (λ k. slice_index ids.new.items k < length store.new.entries)) }
+    requires { EachIndex ids.old.items
+        (λ k. slice_index ids.old.items k < length store.old.entries) }
+    ensures { OnOk result
+        (EachIndex ids.new.items (λ k. slice_index ids.new.items k < length store.new.entries)) }
 {
     for value in 0..count {
         let id = match store.push(value, steps) {
@@ -81,8 +83,10 @@ fn grow<A: Allocator + Clone, L: Ledger>(
     steps: &mut Steps<L>,
 ) -> Result<(), NoMemory>
     requires few { round < 1000 }
-    requires known { EachIndex ids.old.items (λ k. slice_index ids.old.items k < length store.old.entries) }
-    ensures { OnOk result (EachIndex ids.new.items (λ k. slice_index ids.new.items k < length store.new.entries)) }
+    requires known { EachIndex ids.old.items
+        (λ k. slice_index ids.old.items k < length store.old.entries) }
+    ensures { OnOk result
+        (EachIndex ids.new.items (λ k. slice_index ids.new.items k < length store.new.entries)) }
 {
     store.reserve(round)?;
     fill(store, ids, 3, steps)?;

@@ -19,6 +19,7 @@ fn add<R: Rank>(
     own: u32,
     children: &[u32],
 ) -> Result<(), NoMemory>
+    requires slots { 16 ≤ R.ITEMS }
     requires node { node < length tree.old.shapes }
     requires children { length children.now ≡ shape_children tree.old.shapes node }
     requires room { row_total tree.old < 100 }
@@ -219,6 +220,7 @@ fn is_small<R: Rank, L: Ledger>(tree: &Tree<R>, steps: &mut Steps<L>) -> bool
 }
 
 fn small_is_read<R: Rank, L: Ledger>(alloc: Global, blank: Blank) -> Result<bool, NoMemory>
+    requires slots { 16 ≤ R.ITEMS }
     requires name { blank.name ≡ L.name }
     requires parts { blank.parts ≡ L.parts }
     requires share { 0 < L.parts }

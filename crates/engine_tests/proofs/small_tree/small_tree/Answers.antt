@@ -1,7 +1,7 @@
-use Rattle.std.proofs.Common.{◌≡◌, sym, ap, subst, ◌∙◌}
-use Rattle.tdp_core.specs.TreeData.{tree_data, child_count}
+use Rattle.std.proofs.Common.{sym, ap, subst, ◌∙◌}
+use Rattle.tdp_core.specs.TreeData.{child_count}
 use Rattle.tdp_core.specs.WellFormed.{IsFormed, IsTieFreeTree}
-use Rattle.engine_tests.proofs.SmallTree.{small_nodes, small_data, small_formed, small_fits, one_child}
+use Rattle.engine_tests.proofs.SmallTree.{small_data, small_formed, small_fits, one_child}
 use Rattle.engine_tests.proofs.SmallTies.{small_tie_free}
 use Rattle.engine_tests.proofs.small_tree.small_tree.Goals as goal
 
@@ -10,37 +10,12 @@ join-whole-requires g c = small_fits g.R.Rank.KEYS (g.R.Rank.key c.of_row-top.re
 
 pub from_parts-requires : goal.from_parts-requires
 from_parts-requires g c =
-    let top = c.of_row-top.result in
-    let later = c.of_row-later.result in
-    let sooner = c.of_row-sooner.result in
-    let whole = c.join-whole.result in
-    let parts = c.in_ok-two.field-0.items in
-    let is : tree_data parts ≡ small_nodes top later sooner whole =
-    small_data top later sooner whole c.in_ok-root.root c.in_ok-leaf.leaf parts c.in_ok-two.ensures c.in_ok-root.ensures c.in_ok-leaf.ensures
-    in
-    subst (IsFormed g.R.Rank.KEYS g.R.Rank.key) (sym is)
-    (small_formed top later sooner whole g.R.Rank.KEYS g.R.Rank.key c.of_row-top.ensures c.of_row-later.ensures c.of_row-sooner.ensures c.join-whole.ensures.sum)
+    subst (IsFormed g.R.Rank.KEYS g.R.Rank.key) (sym (small_data c.in_ok-two.ensures c.in_ok-root.ensures c.in_ok-leaf.ensures))
+    (small_formed _ _ _ _ g.R.Rank.KEYS g.R.Rank.key c.of_row-top.ensures c.of_row-later.ensures c.of_row-sooner.ensures c.join-whole.ensures.sum)
 
 pub returns-clause-tie_free : goal.returns-clause-tie_free
 returns-clause-tie_free g c =
-    let top = c.of_row-top.result in
-    let later = c.of_row-later.result in
-    let sooner = c.of_row-sooner.result in
-    let whole = c.join-whole.result in
-    let parts = c.in_ok-two.field-0.items in
-    let is : tree_data parts ≡ small_nodes top later sooner whole =
-    small_data top later sooner whole c.in_ok-root.root c.in_ok-leaf.leaf parts c.in_ok-two.ensures c.in_ok-root.ensures c.in_ok-leaf.ensures
-    in
-    subst IsTieFreeTree (sym (c.from_parts.ensures ∙ is)) (small_tie_free top later sooner whole)
+    subst IsTieFreeTree (sym (c.from_parts.ensures ∙ small_data c.in_ok-two.ensures c.in_ok-root.ensures c.in_ok-leaf.ensures)) (small_tie_free _ _ _ _)
 
 pub returns-clause-child : goal.returns-clause-child
-returns-clause-child g c =
-    let top = c.of_row-top.result in
-    let later = c.of_row-later.result in
-    let sooner = c.of_row-sooner.result in
-    let whole = c.join-whole.result in
-    let parts = c.in_ok-two.field-0.items in
-    let is : tree_data parts ≡ small_nodes top later sooner whole =
-    small_data top later sooner whole c.in_ok-root.root c.in_ok-leaf.leaf parts c.in_ok-two.ensures c.in_ok-root.ensures c.in_ok-leaf.ensures
-    in
-    ap (λ t. child_count t 0) (c.from_parts.ensures ∙ is) ∙ one_child top later sooner whole
+returns-clause-child g c = ap (λ t. child_count t 0) (c.from_parts.ensures ∙ small_data c.in_ok-two.ensures c.in_ok-root.ensures c.in_ok-leaf.ensures) ∙ one_child _ _ _ _
