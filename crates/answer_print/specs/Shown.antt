@@ -5,4 +5,5 @@ use Rattle.answer_print.specs.declared.style.Style.{Style}
 
 -- the style, with the cursor's name as its bytes
 abbrev pub style_shown : Style → output.Style
-style_shown s = record { ranks = s.ranks; rows = s.rows; cursor = option_map (λ name. name.now) s.cursor }
+style_shown s = record
+    { ranks = s.ranks; rows = s.rows; cursor = option_map (λ name. name.now) s.cursor }

@@ -26,8 +26,12 @@ pub fn line(
     style: &Style<'_>,
 ) -> Result<Vec<u8>, NoMemory>
     requires fits { Fits query.now tables.now }
-    requires rows { IsCombination (row_counts query.now.query.items tables.now) (take (length query.now.query.items) rows.now) }
-    ensures { IfOk result (λ text. text.items ≡ line_text query.now.query tables.now (style_shown style.now) (take (length query.now.query.items) rows.now)) }
+    requires rows { IsCombination (row_counts query.now.query.items tables.now)
+        (take (length query.now.query.items) rows.now) }
+    ensures { IfOk result
+        (λ text. text.items
+        ≡ line_text query.now.query tables.now (style_shown style.now)
+        (take (length query.now.query.items) rows.now)) }
 {
     let numbers = numbers(alloc, query, tables, rows, style)?;
     let fields = collect_fields(alloc, query, tables, rows, style.cursor, numbers.as_slice())?;
@@ -45,8 +49,11 @@ pub fn write_line(
     style: &Style<'_>,
 ) -> Result<(), NoMemory>
     requires fits { Fits query.now tables.now }
-    requires rows { IsCombination (row_counts query.now.query.items tables.now) (take (length query.now.query.items) rows.now) }
-    ensures { OnOk result (records.new ≡ line_text query.now.query tables.now (style_shown style.now) (take (length query.now.query.items) rows.now)) }
+    requires rows { IsCombination (row_counts query.now.query.items tables.now)
+        (take (length query.now.query.items) rows.now) }
+    ensures { OnOk result
+        (records.new ≡ line_text query.now.query tables.now (style_shown style.now)
+        (take (length query.now.query.items) rows.now)) }
 {
     let numbers = numbers(alloc, query, tables, rows, style)?;
     let fields = collect_fields(alloc, query, tables, rows, style.cursor, numbers.as_slice())?;
@@ -64,9 +71,13 @@ fn collect_fields<'a>(
     numbers: &'a [NumberText],
 ) -> Result<Vec<&'a [u8]>, NoMemory>
     requires fits { Fits query.now tables.now }
-    requires rows { IsCombination (row_counts query.now.query.items tables.now) (take (length query.now.query.items) rows.now) }
-    ensures { IfOk result (λ fields. map (λ f. f.now) fields.items ≡ optional_field (option_map (λ name. name.now) cursor.entry)
-        ++ (map (value_of query.now.query tables.now (take (length query.now.query.items) rows.now)) query.now.query.list ++ numbers.now)) }
+    requires rows { IsCombination (row_counts query.now.query.items tables.now)
+        (take (length query.now.query.items) rows.now) }
+    ensures { IfOk result
+        (λ fields. map (λ f. f.now) fields.items
+        ≡ optional_field (option_map (λ name. name.now) cursor.entry)
+        ++ (map (value_of query.now.query tables.now
+        (take (length query.now.query.items) rows.now)) query.now.query.list ++ numbers.now)) }
 {
     let mut fields = Vec::with_capacity(alloc, 1 + query.columns().len() + numbers.len())?;
     push_optional(&mut fields, cursor)?;
@@ -84,9 +95,11 @@ pub fn push_values<'a>(
     rows: &[u32; 16],
 ) -> Result<(), NoMemory>
     requires fits { Fits query.now tables.now }
-    requires rows { IsCombination (row_counts query.now.query.items tables.now) (take (length query.now.query.items) rows.now) }
+    requires rows { IsCombination (row_counts query.now.query.items tables.now)
+        (take (length query.now.query.items) rows.now) }
     ensures { OnOk result (map (λ f. f.now) fields.new.items ≡ map (λ f. f.now) fields.old.items
-        ++ map (value_of query.now.query tables.now (take (length query.now.query.items) rows.now)) query.now.query.list) }
+        ++ map (value_of query.now.query tables.now
+        (take (length query.now.query.items) rows.now)) query.now.query.list) }
 {
     for (item, place) in query.columns() {
         let table = query.table_of(*item);
@@ -105,9 +118,13 @@ fn numbers(
     style: &Style<'_>,
 ) -> Result<Vec<NumberText>, NoMemory>
     requires fits { Fits query.now tables.now }
-    requires rows { IsCombination (row_counts query.now.query.items tables.now) (take (length query.now.query.items) rows.now) }
-    ensures { let chosen = take (length query.now.query.items) rows.now in IfOk result (λ numbers. numbers.items
-        ≡ (if style.now.ranks then map (λ k. signed_decimal (sum_of query.now.query tables.now chosen k)) query.now.query.order else [])
+    requires rows { IsCombination (row_counts query.now.query.items tables.now)
+        (take (length query.now.query.items) rows.now) }
+    ensures { let chosen = take (length query.now.query.items) rows.now in
+        IfOk result (λ numbers. numbers.items
+        ≡ (if style.now.ranks then map
+        (λ k. signed_decimal
+        (sum_of query.now.query tables.now chosen k)) query.now.query.order else [])
         ++ (if style.now.rows then map decimal chosen else [])) }
 {
     let mut numbers = Vec::new(alloc);
@@ -129,9 +146,12 @@ pub fn push_sums(
     rows: &[u32; 16],
 ) -> Result<(), NoMemory>
     requires fits { Fits query.now tables.now }
-    requires rows { IsCombination (row_counts query.now.query.items tables.now) (take (length query.now.query.items) rows.now) }
-    ensures { let chosen = take (length query.now.query.items) rows.now in OnOk result (numbers.new.items ≡ numbers.old.items
-        ++ map (λ k. signed_decimal (sum_of query.now.query tables.now chosen k)) query.now.query.order) }
+    requires rows { IsCombination (row_counts query.now.query.items tables.now)
+        (take (length query.now.query.items) rows.now) }
+    ensures { let chosen = take (length query.now.query.items) rows.now in
+        OnOk result (numbers.new.items ≡ numbers.old.items
+        ++ map (λ k. signed_decimal
+        (sum_of query.now.query tables.now chosen k)) query.now.query.order) }
 {
     numbers.reserve(query.keys() as usize)?;
     for key in 0..query.keys() {
@@ -147,7 +167,9 @@ pub fn push_rows(
     query: &Query,
     rows: &[u32; 16],
 ) -> Result<(), NoMemory>
-    ensures { OnOk result (numbers.new.items ≡ numbers.old.items ++ map decimal (take (length query.now.query.items) rows.now)) }
+    ensures { OnOk result
+        (numbers.new.items ≡ numbers.old.items
+        ++ map decimal (take (length query.now.query.items) rows.now)) }
 {
     let items = query.items() as usize;
     numbers.reserve(items)?;
@@ -161,9 +183,11 @@ pub fn push_rows(
 /// whether the key ascends or descends. Rows count from 1, and keys from 0.
 pub fn key_sum(query: &Query, tables: &Tables, rows: &[u32; 16], key: u32) -> i128
     requires fits { Fits query.now tables.now }
-    requires rows { IsCombination (row_counts query.now.query.items tables.now) (take (length query.now.query.items) rows.now) }
+    requires rows { IsCombination (row_counts query.now.query.items tables.now)
+        (take (length query.now.query.items) rows.now) }
     requires key { key < length query.now.query.order }
-    ensures { result ≡ sum_of query.now.query tables.now (take (length query.now.query.items) rows.now) (key_at query.now.query.order key) }
+    ensures { result ≡ sum_of query.now.query tables.now
+        (take (length query.now.query.items) rows.now) (key_at query.now.query.order key) }
 {
     let mut sum: i128 = 0;
     for item in 0..query.items() {

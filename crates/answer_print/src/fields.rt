@@ -10,7 +10,10 @@ pub fn push_optional<'a>(
     fields: &mut Vec<&'a [u8]>,
     field: Option<&'a [u8]>,
 ) -> Result<(), NoMemory>
-    ensures { OnOk result (map (λ f. f.now) fields.new.items ≡ map (λ f. f.now) fields.old.items ++ optional_field (option_map (λ f. f.now) field.entry)) }
+    ensures { OnOk result
+        (map (λ f. f.now) fields.new.items
+        ≡ map (λ f. f.now) fields.old.items
+        ++ optional_field (option_map (λ f. f.now) field.entry)) }
 {
     if let Some(field) = field {
         fields.push(field)?;
@@ -20,7 +23,9 @@ pub fn push_optional<'a>(
 
 /// Appends texts. `NoMemory` if memory is refused.
 pub fn push_texts<'a>(fields: &mut Vec<&'a [u8]>, texts: &'a [String]) -> Result<(), NoMemory>
-    ensures { OnOk result (map (λ f. f.now) fields.new.items ≡ map (λ f. f.now) fields.old.items ++ map string_bytes texts.now) }
+    ensures { OnOk result
+        (map (λ f. f.now) fields.new.items
+        ≡ map (λ f. f.now) fields.old.items ++ map string_bytes texts.now) }
 {
     for text in texts {
         fields.push(text.as_bytes())?;
@@ -33,7 +38,8 @@ pub fn push_numbers<'a>(
     fields: &mut Vec<&'a [u8]>,
     numbers: &'a [NumberText],
 ) -> Result<(), NoMemory>
-    ensures { OnOk result (map (λ f. f.now) fields.new.items ≡ map (λ f. f.now) fields.old.items ++ numbers.now) }
+    ensures { OnOk result
+        (map (λ f. f.now) fields.new.items ≡ map (λ f. f.now) fields.old.items ++ numbers.now) }
 {
     for number in numbers {
         fields.push(number.as_bytes())?;

@@ -44,9 +44,11 @@ pub fn print_answer<'a, S: Sink>(
     out: &mut S,
 ) -> Result<(), Refusal<'a>>
     requires fits { Fits query.now tables.now }
-    requires rows { IsCombination (row_counts query.now.query.items tables.now) (take (length query.now.query.items) rows.now) }
+    requires rows { IsCombination (row_counts query.now.query.items tables.now)
+        (take (length query.now.query.items) rows.now) }
     ensures { Printed (state_of S.Sink out.old) (state_of S.Sink out.new)
-        (line_text query.now.query tables.now (style_shown style.now) (take (length query.now.query.items) rows.now)) result }
+        (line_text query.now.query tables.now (style_shown style.now)
+        (take (length query.now.query.items) rows.now)) result }
 {
     write_line(alloc, records, query, tables, rows, style)?;
     print(out, records.text())

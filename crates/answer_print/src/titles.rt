@@ -21,7 +21,8 @@ pub fn header(
     style: &Style<'_>,
 ) -> Result<Vec<u8>, NoMemory>
     requires { Fits query.now tables.now }
-    ensures { IfOk result (λ text. text.items ≡ header_text query.now.query tables.now (style_shown style.now)) }
+    ensures { IfOk result
+        (λ text. text.items ≡ header_text query.now.query tables.now (style_shown style.now)) }
 {
     let titles = number_titles(alloc, query, style)?;
     let mut fields = Vec::new(alloc);
@@ -33,7 +34,8 @@ pub fn header(
 
 /// The title above the cursors' names, if a cursor is named.
 pub fn title_of_cursor<'a>(style: &Style<'_>) -> Option<&'a [u8]>
-    ensures { optional_field (option_map (λ f. f.now) result) ≡ cursor_title (style_shown style.now) }
+    ensures { optional_field (option_map (λ f. f.now) result)
+        ≡ cursor_title (style_shown style.now) }
 {
     match style.cursor {
         None => None,
@@ -62,7 +64,9 @@ pub fn push_numbered(
     word: &str,
     count: u32,
 ) -> Result<(), NoMemory>
-    ensures { OnOk result (map string_bytes titles.new.items ≡ map string_bytes titles.old.items ++ numbered word.now count) }
+    ensures { OnOk result
+        (map string_bytes titles.new.items
+        ≡ map string_bytes titles.old.items ++ numbered word.now count) }
 {
     for place in 0..count {
         let number = place + 1;
@@ -78,7 +82,10 @@ pub fn push_names<'a>(
     tables: &'a Tables,
 ) -> Result<(), NoMemory>
     requires { Fits query.now tables.now }
-    ensures { OnOk result (map (λ f. f.now) fields.new.items ≡ map (λ f. f.now) fields.old.items ++ map (column_name query.now.query tables.now) query.now.query.list) }
+    ensures { OnOk result
+        (map (λ f. f.now) fields.new.items
+        ≡ map (λ f. f.now) fields.old.items
+        ++ map (column_name query.now.query tables.now) query.now.query.list) }
 {
     for (item, place) in query.columns() {
         fields.push(tables.name(query.table_of(*item), *place))?;

@@ -19,30 +19,35 @@ Precedes query tables a b = IsBefore (key_of query tables a) (key_of query table
 
 -- the strictly ascending list of exactly the witnesses
 abbrev pub IsRanking : Query → List Table → List (List ℕ) → Type 0
-IsRanking query tables list = order.IsRanking (List ℕ) (Precedes query tables) (IsWitness query tables) list
+IsRanking query tables list = order.IsRanking (List ℕ) (Precedes query tables)
+    (IsWitness query tables) list
 
 -- ---- the same as a list that computes
 
 -- all combinations of rows, if the items have this many
 abbrev pub combinations : List ℕ → List (List ℕ)
 combinations [] = [] ∷ []
-combinations (count ∷ counts) = flat_map (λ row. map (λ rows. row ∷ rows) (combinations counts)) (range_with_len 1 count)
+combinations (count ∷ counts) = flat_map (λ row. map (λ rows. row ∷ rows) (combinations counts))
+    (range_with_len 1 count)
 
 -- whether an equality holds
 abbrev pub holds : Query → List Table → List ℕ → Equality → Bool
-holds query tables rows e = bytes_eq (value_of query tables rows e.left) (side_value query tables rows e.right)
+holds query tables rows e = bytes_eq (value_of query tables rows e.left)
+    (side_value query tables rows e.right)
 
 -- the witnesses, in the order of their row numbers
 abbrev pub witnesses : Query → List Table → List (List ℕ)
 witnesses query tables =
-    filter (λ rows. list_all (holds query tables rows) query.equalities) (combinations (row_counts query.items tables))
+    filter (λ rows. list_all (holds query tables rows) query.equalities)
+    (combinations (row_counts query.items tables))
 
 -- whether a list comes before another
 abbrev pub is_before : List ℤ → List ℤ → Bool
 is_before [] [] = false
 is_before [] (y ∷ ys) = true
 is_before (x ∷ xs) [] = false
-is_before (x ∷ xs) (y ∷ ys) = if int_lt x y then true else if int_lt y x then false else is_before xs ys
+is_before (x ∷ xs) (y ∷ ys) = if int_lt x y then true else if int_lt y x then false else is_before
+    xs ys
 
 -- a list with one more combination, at its place; one that is there already is not put in twice
 abbrev pub insert_by : (List ℕ → List ℤ) → List ℕ → List (List ℕ) → List (List ℕ)

@@ -15,9 +15,11 @@ module _ {R : Type 0} (d : ℕ) (key : R → KeyOf d 16) (t : List (NodeData R))
   -- No solution is in two of the regions, no two solutions in them have one key, and `rest_keys` is the ranking of the keys of the
   -- solutions in them.
   abbrev pub HoldTheRest : List (RankedRegion R) → Type 0
-  HoldTheRest cs = Remains (List ℕ) (KeyOf d 16) (key_below d 16) key_of_rows (in_regions (followers t) (regions cs)) (rest_keys d key t (regions cs))
+  HoldTheRest cs = Remains (List ℕ) (KeyOf d 16) (key_below d 16) key_of_rows
+      (in_regions (followers t) (regions cs)) (rest_keys d key t (regions cs))
 
   -- the candidate's rank is the least key of the solutions in its region
   pub record HasLeastRank (c : RankedRegion R) : Type 0 where
     pub had : (s : List ℕ) × (0 < in_region (followers t) c.region s) × (key_of_rows s ≡ key c.rank)
-    pub least : (s : List ℕ) → 0 < in_region (followers t) c.region s → AtMost (key_below d 16) (key c.rank) (key_of_rows s)
+    pub least : (s : List ℕ) → 0 < in_region (followers t) c.region s
+        → AtMost (key_below d 16) (key c.rank) (key_of_rows s)

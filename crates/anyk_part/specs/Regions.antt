@@ -30,7 +30,8 @@ pub record PartState (R : Type 0) : Type 0 where
 
 -- the region of a candidate over m nodes
 abbrev pub region_of : List (Linked Link) → ℕ → Candidate → Region
-region_of links m c = record { chosen = chain links c.position c.before; place = c.place; left = m - suc c.position }
+region_of links m c = record
+    { chosen = chain links c.position c.before; place = c.place; left = m - suc c.position }
 
 module _ {R : Type 0} where
   -- the regions of the queue's entries
@@ -38,8 +39,10 @@ module _ {R : Type 0} where
   regions_of links m es = map (λ e. region_of links m e.tag) es
 
   -- the candidates that the queue's entries are
-  abbrev pub candidates_of : List (Linked Link) → ℕ → List (Entry R Candidate) → List (RankedRegion R)
-  candidates_of links m es = map (λ e. record { region = region_of links m e.tag; rank = e.rank }) es
+  abbrev pub candidates_of : List (Linked Link) → ℕ → List (Entry R Candidate)
+      → List (RankedRegion R)
+  candidates_of links m es = map
+      (λ e. record { region = region_of links m e.tag; rank = e.rank }) es
 
   -- the regions of these candidates
   abbrev pub regions : List (RankedRegion R) → List Region
@@ -58,13 +61,16 @@ module _ {R : Type 0} where
   region_at t pre place = record { chosen = pre; place = place; left = length t - suc (length pre) }
 
   -- how many of the entries hold the solution
-  abbrev pub held_by : List (NodeData R) → List (Linked Link) → List (Entry R Candidate) → List ℕ → ℕ
-  held_by t links es s = sum_by (λ e. in_region (followers t) (region_of links (length t) e.tag) s) es
+  abbrev pub held_by : List (NodeData R) → List (Linked Link) → List (Entry R Candidate) → List ℕ
+      → ℕ
+  held_by t links es s = sum_by
+      (λ e. in_region (followers t) (region_of links (length t) e.tag) s) es
 
   module _ (d : ℕ) (key : R → KeyOf d 16) (t : List (NodeData R)) where
     -- the least key of the solutions that begin with the rows
     abbrev pub least : List ℕ → KeyOf d 16
-    least = bound_of (key_add d 16) (key_none d 16) (length t) (parent t) (rank t d key) (group t) (best t d key)
+    least = bound_of (key_add d 16) (key_none d 16) (length t) (parent t) (rank t d key) (group t)
+        (best t d key)
 
     -- the ranking of what the regions hold
     abbrev pub rest_keys : List Region → List (KeyOf d 16)
@@ -83,10 +89,13 @@ module _ {R : Type 0} where
       pub ranked : key e.rank ≡ rank_of (followers t) least (region_of links (length t) e.tag)
 
     -- The queue's regions are disjoint and hold what is left, and each entry has the least key of its region as rank.
-    pub record IsPart (links : List (Linked Link)) (entries : List (Entry R Candidate)) (calls : ℕ) : Type 0 where
+    pub record IsPart (links : List (Linked Link)) (entries : List (Entry R Candidate))
+        (calls : ℕ) : Type 0 where
       pub formed : IsFormed d key t
       pub tie_free : IsTieFreeTree t
       pub live : 0 < length entries → 0 < group_count t 0
       pub each : All (IsEntry links) entries
-      pub remains : Remains (List ℕ) (KeyOf d 16) (key_below d 16) least (in_regions (followers t) (regions_of links (length t) entries)) (rest_keys (regions_of links (length t) entries))
+      pub remains : Remains (List ℕ) (KeyOf d 16) (key_below d 16) least
+          (in_regions (followers t) (regions_of links (length t) entries))
+          (rest_keys (regions_of links (length t) entries))
       pub few : length entries ≤ 1 + 2 * (length t * calls)

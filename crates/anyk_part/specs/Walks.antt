@@ -18,14 +18,16 @@ use Rattle.anyk_part.specs.Regions.{followers, Reached, least, region_at, held_b
 -- the best solution that begins with `pre` and then the member at a place, with n rows to follow
 unfoldable pub best_from : (List ℕ → List ℕ) → ℕ → List ℕ → ℕ → List ℕ
 best_from members zero pre place = pre
-best_from members (suc n) pre place = completion members n (pre ++ (slice_index (members pre) place ∷ []))
+best_from members (suc n) pre place = completion members n
+    (pre ++ (slice_index (members pre) place ∷ []))
 
 -- the regions that deviate from it
 unfoldable pub divided_from : (List ℕ → List ℕ) → ℕ → List ℕ → ℕ → List Region
 divided_from members zero pre place = []
 divided_from members (suc n) pre place =
     (record { chosen = pre; place = 2 * place + 1; left = n })
-    ∷ ((record { chosen = pre; place = 2 * place + 2; left = n }) ∷ deviations members n (pre ++ (slice_index (members pre) place ∷ [])))
+    ∷ ((record { chosen = pre; place = 2 * place + 2; left = n })
+    ∷ deviations members n (pre ++ (slice_index (members pre) place ∷ [])))
 
 -- n if the queue's top was there before and is no longer there, else 0
 abbrev pub gone : Bool → Bool → ℕ → ℕ
@@ -39,14 +41,16 @@ module _ {R : Type 0} (d : ℕ) (key : R → KeyOf d 16) (t : List (NodeData R))
     pub node : s.node < length t
     pub chained : IsChain links s.node s.before
     pub reached : Reached t (length t - s.node) (chain links s.node s.before)
-    pub group : s.group ≡ group_number t s.node (slice_index (chain links s.node s.before) (parent t s.node))
+    pub group : s.group
+        ≡ group_number t s.node (slice_index (chain links s.node s.before) (parent t s.node))
     pub row : s.row < rows t s.node
     pub best : key s.best ≡ best t d key s.node s.row
     pub total : key s.total ≡ least d key t (chain links s.node s.before ++ (s.row ∷ []))
 
   -- The division of a region has come to the walk's node: `chosen` are the rows before it, and `whole` is the rank of the region's best
   -- solution, which goes on with the member at the walk's place.
-  pub record IsAt (whole : R) (w : Walk) (chosen : List ℕ) (links : List (Linked Link)) : Type 0 where
+  pub record IsAt (whole : R) (w : Walk) (chosen : List ℕ)
+      (links : List (Linked Link)) : Type 0 where
     pub formed : IsFormed d key t
     pub live : 0 < group_count t 0
     pub to : w.node ≤ length t
@@ -55,7 +59,10 @@ module _ {R : Type 0} (d : ℕ) (key : R → KeyOf d 16) (t : List (NodeData R))
     pub rows : take w.node chosen ≡ chain links w.node w.before
     pub reached : Reached t (length t - w.node) (chain links w.node w.before)
     pub place : w.node < length t → w.place < length (followers t (chain links w.node w.before))
-    pub total : w.node < length t → key whole ≡ least d key t (chain links w.node w.before ++ (slice_index (followers t (chain links w.node w.before)) w.place ∷ []))
+    pub total : w.node < length t
+        → key whole ≡ least d key t
+        (chain links w.node w.before
+        ++ (slice_index (followers t (chain links w.node w.before)) w.place ∷ []))
 
   -- the row that the walk chooses
   abbrev pub row_at : Walk → List (Linked Link) → ℕ
@@ -63,30 +70,43 @@ module _ {R : Type 0} (d : ℕ) (key : R → KeyOf d 16) (t : List (NodeData R))
 
   -- The row of the walk's node is chosen, and the candidates that deviate from it are beside the entries that were
   -- there before.
-  pub record IsChoice (w : Walk) (links : List (Linked Link)) (chosen : List ℕ) (before : List (Entry R Candidate)) (c : Choice)
+  pub record IsChoice (w : Walk) (links : List (Linked Link)) (chosen : List ℕ)
+      (before : List (Entry R Candidate)) (c : Choice)
       (rows : List ℕ) (entries : List (Entry R Candidate)) : Type 0 where
     pub row : c.row ≡ row_at w links
     pub put : rows ≡ slice_set chosen w.node c.row
     pub each : All (IsEntry d key t links) entries
-    pub held : (s : List ℕ) → in_region (followers t) (region_at t (chain links w.node w.before) (2 * w.place + 1)) s
-        + (in_region (followers t) (region_at t (chain links w.node w.before) (2 * w.place + 2)) s + held_by t links before s)
-        ≡ gone w.top_stands c.top_stands (held_by t links (take 1 before) s) + held_by t links entries s
+    pub held : (s : List ℕ)
+        → in_region (followers t) (region_at t (chain links w.node w.before) (2 * w.place + 1)) s
+        + (in_region (followers t) (region_at t (chain links w.node w.before) (2 * w.place + 2)) s
+        + held_by t links before s)
+        ≡ gone w.top_stands c.top_stands (held_by t links (take 1 before) s)
+        + held_by t links entries s
     pub stands : c.top_stands ≡ true → (w.top_stands ≡ true) × (entries ≡ before)
     pub few : length entries ≤ length before + 2
 
   -- the region of which the division starts
   abbrev pub start_region : List (Linked Link) → Walk → Region
-  start_region links w = record { chosen = chain links w.node w.before; place = w.place; left = length t - suc w.node }
+  start_region links w = record
+      { chosen = chain links w.node w.before; place = w.place; left = length t - suc w.node }
 
   -- The division of the region `start` at the top of the queue `before`, so far: what the region holds is its best solution, the regions
   -- that are still to be put in, and what the queue now holds beside the others.
-  pub record IsDivision (start : Walk) (old_links : List (Linked Link)) (before : List (Entry R Candidate)) (w : Walk)
+  pub record IsDivision (start : Walk) (old_links : List (Linked Link))
+      (before : List (Entry R Candidate)) (w : Walk)
       (links : List (Linked Link)) (entries : List (Entry R Candidate)) : Type 0 where
     pub from : start.node ≤ w.node
-    pub goal : best_of (followers t) (start_region old_links start) ≡ best_from (followers t) (length t - w.node) (chain links w.node w.before) w.place
-    pub held : (s : List ℕ) → in_regions (followers t) (divided (followers t) (start_region old_links start)) s + held_by t old_links before s
-        ≡ in_regions (followers t) (divided_from (followers t) (length t - w.node) (chain links w.node w.before) w.place) s
+    pub goal : best_of (followers t) (start_region old_links start)
+        ≡ best_from (followers t) (length t - w.node) (chain links w.node w.before) w.place
+    pub held : (s : List ℕ)
+        → in_regions (followers t) (divided (followers t) (start_region old_links start)) s
+        + held_by t old_links before s
+        ≡ in_regions (followers t)
+        (divided_from (followers t) (length t - w.node) (chain links w.node w.before) w.place) s
         + (cond w.top_stands 0 (held_by t old_links (take 1 before) s) + held_by t links entries s)
     pub each : All (IsEntry d key t links) entries
-    pub stands : w.top_stands ≡ true → (entries ≡ before) × ((s : List ℕ) → held_by t links (take 1 entries) s ≡ held_by t old_links (take 1 before) s)
+    pub stands : w.top_stands ≡ true
+        → (entries ≡ before)
+        × ((s : List ℕ) → held_by t links (take 1 entries) s
+        ≡ held_by t old_links (take 1 before) s)
     pub few : length entries ≤ length before + 2 * (w.node - start.node)

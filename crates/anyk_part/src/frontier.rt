@@ -31,12 +31,20 @@ impl<R: Rank, A: Allocator + Clone> Frontier<R, A> {
     /// The rank of the queue's top, and where the division of its region starts.
     pub fn start(&self) -> Option<(R, Walk)>
         ensures variant { IsSome result ↔ (0 < length self.now.queue.entries) }
-        ensures top { IfSome result (λ s. (d : Entry R Candidate) → slice_index_or self.now.queue.entries 0 d
-            ≡ record { rank = s.0; tag = record { position = s.1.node; place = s.1.place; before = s.1.before } }) }
+        ensures top { IfSome result
+            (λ s. (d : Entry R Candidate) → slice_index_or self.now.queue.entries 0 d
+            ≡ record {
+              rank = s.0;
+              tag = record { position = s.1.node; place = s.1.place; before = s.1.before };
+            }) }
         ensures stands { IfSome result (λ s. s.1.top_stands ≡ true) }
         ensures limit { length self.now.queue.entries < 2 ^ 64 }
         ensures least { IfSome result (λ s. IsLeast R.KEYS R.key
-            (record { rank = s.0; tag = record { position = s.1.node; place = s.1.place; before = s.1.before } }) self.now.queue.entries) }
+            (record {
+              rank = s.0;
+              tag = record { position = s.1.node; place = s.1.place; before = s.1.before };
+            })
+            self.now.queue.entries) }
     {
         let entry = self.queue.peek()?;
         let walk = Walk {
@@ -97,9 +105,11 @@ impl<R: Rank, A: Allocator + Clone> Frontier<R, A> {
         requires top { top_stands ≡ true → 0 < length self.old.queue.entries }
         requires room { 0 < self.old.queue.spare }
         ensures replaced { (d : Entry R Candidate) → top_stands ≡ true → IsPermutation
-            (record { rank = rank; tag = candidate } ∷ self.old.queue.entries) (slice_index_or self.old.queue.entries 0 d ∷ self.new.queue.entries) }
+            (record { rank = rank; tag = candidate } ∷ self.old.queue.entries)
+            (slice_index_or self.old.queue.entries 0 d ∷ self.new.queue.entries) }
         ensures pushed { top_stands ≡ false → IsPermutation
-            (record { rank = rank; tag = candidate } ∷ self.old.queue.entries) self.new.queue.entries }
+            (record { rank = rank; tag = candidate }
+            ∷ self.old.queue.entries) self.new.queue.entries }
         ensures links { self.new.links ≡ self.old.links }
         ensures room { self.old.queue.spare ≤ self.new.queue.spare + 1 }
         ensures cost { steps.new ≤ steps.old + 2 * bit_length (length self.old.queue.entries + 1) }
@@ -122,20 +132,27 @@ impl<R: Rank, A: Allocator + Clone> Frontier<R, A> {
         steps: &mut Steps<L>,
     ) -> bool
         requires site { IsSite R.KEYS R.key tree.now self.old.links.entries site.now }
-        requires entries { All (IsEntry R.KEYS R.key tree.now self.old.links.entries) self.old.queue.entries }
+        requires entries { All
+            (IsEntry R.KEYS R.key tree.now self.old.links.entries) self.old.queue.entries }
         requires top { top_stands ≡ true → 0 < length self.old.queue.entries }
         requires room { 0 < self.old.queue.spare }
-        ensures entries { All (IsEntry R.KEYS R.key tree.now self.old.links.entries) self.new.queue.entries }
+        ensures entries { All
+            (IsEntry R.KEYS R.key tree.now self.old.links.entries) self.new.queue.entries }
         ensures held { (s : List ℕ) →
-            in_region (followers tree.now) (region_at tree.now (chain self.old.links.entries site.now.node site.now.before) place) s
+            in_region (followers tree.now)
+            (region_at tree.now
+            (chain self.old.links.entries site.now.node site.now.before) place) s
             + held_by tree.now self.old.links.entries self.old.queue.entries s
-            ≡ gone top_stands result (held_by tree.now self.old.links.entries (take 1 self.old.queue.entries) s)
+            ≡ gone top_stands result
+            (held_by tree.now self.old.links.entries (take 1 self.old.queue.entries) s)
             + held_by tree.now self.old.links.entries self.new.queue.entries s }
-        ensures stands { result ≡ true → (top_stands ≡ true) × (self.new.queue.entries ≡ self.old.queue.entries) }
+        ensures stands { result ≡ true
+            → (top_stands ≡ true) × (self.new.queue.entries ≡ self.old.queue.entries) }
         ensures links { self.new.links ≡ self.old.links }
         ensures room { self.old.queue.spare ≤ self.new.queue.spare + 1 }
         ensures length { length self.new.queue.entries ≤ length self.old.queue.entries + 1 }
-        ensures cost { steps.new ≤ steps.old + 3 + 2 * bit_length (length self.old.queue.entries + 1) }
+        ensures cost { steps.new
+            ≤ steps.old + 3 + 2 * bit_length (length self.old.queue.entries + 1) }
     {
         if place >= tree.group_len(site.node, site.group) {
             return top_stands;
@@ -165,13 +182,16 @@ impl<R: Rank, A: Allocator + Clone> Frontier<R, A> {
         requires places { ArePlaces tree.now places.now }
         requires at { IsAt R.KEYS R.key tree.now total walk.now chosen.old self.old.links.entries }
         requires node { walk.now.node < length tree.now }
-        requires entries { All (IsEntry R.KEYS R.key tree.now self.old.links.entries) self.old.queue.entries }
+        requires entries { All
+            (IsEntry R.KEYS R.key tree.now self.old.links.entries) self.old.queue.entries }
         requires top { walk.now.top_stands ≡ true → 0 < length self.old.queue.entries }
         requires room { 2 ≤ self.old.queue.spare }
-        ensures choice { IsChoice R.KEYS R.key tree.now walk.now self.old.links.entries chosen.old self.old.queue.entries result chosen.new self.new.queue.entries }
+        ensures choice { IsChoice R.KEYS R.key tree.now walk.now self.old.links.entries chosen.old
+            self.old.queue.entries result chosen.new self.new.queue.entries }
         ensures links { self.new.links ≡ self.old.links }
         ensures room { self.old.queue.spare ≤ self.new.queue.spare + 2 }
-        ensures cost { steps.new ≤ steps.old + 9 + 4 * bit_length (length self.old.queue.entries + 2) }
+        ensures cost { steps.new
+            ≤ steps.old + 9 + 4 * bit_length (length self.old.queue.entries + 2) }
     {
         let group = group_at(tree, places, walk.node, chosen, steps);
         let row = tree.member(walk.node, group, walk.place, steps);
@@ -203,7 +223,8 @@ impl<R: Rank, A: Allocator + Clone> Frontier<R, A> {
         requires places { ArePlaces tree.now places.now }
         requires at { IsAt R.KEYS R.key tree.now total walk chosen.old self.old.links.entries }
         requires node { walk.node < length tree.now }
-        requires entries { All (IsEntry R.KEYS R.key tree.now self.old.links.entries) self.old.queue.entries }
+        requires entries { All
+            (IsEntry R.KEYS R.key tree.now self.old.links.entries) self.old.queue.entries }
         requires top { walk.top_stands ≡ true → 0 < length self.old.queue.entries }
         requires room { 2 ≤ self.old.queue.spare }
         requires link_room { 1 ≤ self.old.links.spare }
@@ -211,22 +232,31 @@ impl<R: Rank, A: Allocator + Clone> Frontier<R, A> {
         ensures place { result.place ≡ 0 }
         ensures at { IsAt R.KEYS R.key tree.now total result chosen.new self.new.links.entries }
         ensures chain { chain self.new.links.entries result.node result.before
-            ≡ chain self.old.links.entries walk.node walk.before ++ (row_at R.KEYS R.key tree.now walk self.old.links.entries ∷ []) }
-        ensures entries { All (IsEntry R.KEYS R.key tree.now self.new.links.entries) self.new.queue.entries }
+            ≡ chain self.old.links.entries walk.node walk.before
+            ++ (row_at R.KEYS R.key tree.now walk self.old.links.entries ∷ []) }
+        ensures entries { All
+            (IsEntry R.KEYS R.key tree.now self.new.links.entries) self.new.queue.entries }
         ensures held { (s : List ℕ) →
-            in_region (followers tree.now) (region_at tree.now (chain self.old.links.entries walk.node walk.before) (2 * walk.place + 1)) s
-            + (in_region (followers tree.now) (region_at tree.now (chain self.old.links.entries walk.node walk.before) (2 * walk.place + 2)) s
+            in_region (followers tree.now)
+            (region_at tree.now (chain self.old.links.entries walk.node walk.before)
+            (2 * walk.place + 1)) s
+            + (in_region (followers tree.now)
+            (region_at tree.now (chain self.old.links.entries walk.node walk.before)
+            (2 * walk.place + 2)) s
             + held_by tree.now self.old.links.entries self.old.queue.entries s)
-            ≡ gone walk.top_stands result.top_stands (held_by tree.now self.old.links.entries (take 1 self.old.queue.entries) s)
+            ≡ gone walk.top_stands result.top_stands
+            (held_by tree.now self.old.links.entries (take 1 self.old.queue.entries) s)
             + held_by tree.now self.new.links.entries self.new.queue.entries s }
-        ensures stands { result.top_stands ≡ true → (walk.top_stands ≡ true) × (self.new.queue.entries ≡ self.old.queue.entries) }
+        ensures stands { result.top_stands ≡ true
+            → (walk.top_stands ≡ true) × (self.new.queue.entries ≡ self.old.queue.entries) }
         ensures top { result.top_stands ≡ true → (s : List ℕ) →
             held_by tree.now self.new.links.entries (take 1 self.new.queue.entries) s
             ≡ held_by tree.now self.old.links.entries (take 1 self.old.queue.entries) s }
         ensures room { self.old.queue.spare ≤ self.new.queue.spare + 2 }
         ensures link_room { self.old.links.spare ≤ self.new.links.spare + 1 }
         ensures length { length self.new.queue.entries ≤ length self.old.queue.entries + 2 }
-        ensures cost { steps.new ≤ steps.old + 10 + 4 * bit_length (length self.old.queue.entries + 2) }
+        ensures cost { steps.new
+            ≤ steps.old + 10 + 4 * bit_length (length self.old.queue.entries + 2) }
     {
         let choice = self.choose(tree, places, total, &walk, chosen, steps);
         let link = Link {
@@ -257,22 +287,29 @@ impl<R: Rank, A: Allocator + Clone> Frontier<R, A> {
         requires at { IsAt R.KEYS R.key tree.now total start chosen.old self.old.links.entries }
         requires node { start.node < length tree.now }
         requires stands { start.top_stands ≡ true }
-        requires entries { All (IsEntry R.KEYS R.key tree.now self.old.links.entries) self.old.queue.entries }
+        requires entries { All
+            (IsEntry R.KEYS R.key tree.now self.old.links.entries) self.old.queue.entries }
         requires some { 0 < length self.old.queue.entries }
         requires room { 2 * length tree.now ≤ self.old.queue.spare }
         requires link_room { length tree.now ≤ self.old.links.spare }
         ensures best { take (length tree.now) chosen.new
-            ≡ best_of (followers tree.now) (start_region R.KEYS R.key tree.now self.old.links.entries start) }
+            ≡ best_of (followers tree.now)
+            (start_region R.KEYS R.key tree.now self.old.links.entries start) }
         ensures reached { Reached tree.now 0 (take (length tree.now) chosen.new) }
         ensures held { (s : List ℕ) →
-            in_regions (followers tree.now) (divided (followers tree.now) (start_region R.KEYS R.key tree.now self.old.links.entries start)) s
+            in_regions (followers tree.now)
+            (divided (followers tree.now)
+            (start_region R.KEYS R.key tree.now self.old.links.entries start)) s
             + held_by tree.now self.old.links.entries self.old.queue.entries s
             ≡ held_by tree.now self.old.links.entries (take 1 self.old.queue.entries) s
             + held_by tree.now self.new.links.entries self.new.queue.entries s }
-        ensures entries { All (IsEntry R.KEYS R.key tree.now self.new.links.entries) self.new.queue.entries }
-        ensures length { length self.new.queue.entries ≤ length self.old.queue.entries + 2 * length tree.now }
+        ensures entries { All
+            (IsEntry R.KEYS R.key tree.now self.new.links.entries) self.new.queue.entries }
+        ensures length { length self.new.queue.entries
+            ≤ length self.old.queue.entries + 2 * length tree.now }
         ensures cost { steps.new
-            ≤ steps.old + length tree.now * (10 + 4 * bit_length (length self.old.queue.entries + 2 * length tree.now))
+            ≤ steps.old + length tree.now
+            * (10 + 4 * bit_length (length self.old.queue.entries + 2 * length tree.now))
             + 2 * bit_length (length self.old.queue.entries + 2 * length tree.now) }
     {
         let last = tree.nodes() - 1;

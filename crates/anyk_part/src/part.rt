@@ -47,9 +47,15 @@ impl<'t, R: Rank, A: Allocator + Clone> Model for Part<'t, R, A> {
 
     ghost Value = { PartState R };
 
-    ghost view = { λ s. record { tree = s.tree.now; candidates = candidates_of s.frontier.links.entries (length s.tree.now) s.frontier.queue.entries; calls = s.calls } };
+    ghost view = { λ s. record {
+      tree = s.tree.now;
+      candidates = candidates_of s.frontier.links.entries
+          (length s.tree.now) s.frontier.queue.entries;
+      calls = s.calls;
+    } };
 
-    ghost invariant = { λ s. IsPart R.KEYS R.key s.tree.now s.frontier.links.entries s.frontier.queue.entries s.calls × ArePlaces s.tree.now s.places };
+    ghost invariant = { λ s. IsPart R.KEYS R.key s.tree.now s.frontier.links.entries
+        s.frontier.queue.entries s.calls × ArePlaces s.tree.now s.places };
 }
 
 /// The queue with one candidate that holds every solution; empty if the tree has none.
@@ -59,8 +65,10 @@ fn first_queue<R: Rank, A: Allocator, L: Ledger>(
     steps: &mut Steps<L>,
 ) -> Result<HeapOf<R, Candidate, A>, NoMemory>
     requires tie_free { IsTieFreeTree tree.now }
-    ensures part { IfOk result (λ q. (links : List (Linked Link)) → IsPart R.KEYS R.key tree.now links q.entries 0
-        × IsTreeRanking tree.now R.KEYS R.key (rest_keys R.KEYS R.key tree.now (regions_of links (length tree.now) q.entries))) }
+    ensures part { IfOk result
+        (λ q. (links : List (Linked Link)) → IsPart R.KEYS R.key tree.now links q.entries 0
+        × IsTreeRanking tree.now R.KEYS R.key
+        (rest_keys R.KEYS R.key tree.now (regions_of links (length tree.now) q.entries))) }
     ensures cost { steps.new ≤ steps.old + 3 * length tree.now }
 {
     let mut queue = HeapOf::new(alloc);
@@ -90,7 +98,8 @@ impl<'t, R: Rank, A: Allocator + Clone> Part<'t, R, A> {
         requires tie_free { IsTieFreeTree tree.now }
         ensures tree { IfOk result (λ p. p.tree ≡ tree.now) }
         ensures calls { IfOk result (λ p. p.calls ≡ 0) }
-        ensures ranking { IfOk result (λ p. (ks : List (KeyOf R.KEYS 16)) × IsTreeRanking tree.now R.KEYS R.key ks
+        ensures ranking { IfOk result
+            (λ p. (ks : List (KeyOf R.KEYS 16)) × IsTreeRanking tree.now R.KEYS R.key ks
             × (rest_of R.KEYS R.key p.tree p.candidates ≡ answers_of R.KEYS ks)) }
         ensures cost { steps.new ≤ steps.old + 16 * (length tree.now * (1 + row_count tree.now)) }
     {
@@ -122,7 +131,8 @@ impl<'t, R: Rank, A: Allocator + Clone> Ranked for Part<'t, R, A> {
 
     ghost calls = { λ s. s.calls };
 
-    ghost due = { λ s. most_steps (length s.tree) (row_count s.tree) (group_count s.tree 0) s.calls };
+    ghost due = { λ s. most_steps (length s.tree) (row_count s.tree)
+        (group_count s.tree 0) s.calls };
 
     ghost size = { λ s. size_of s.tree };
 
@@ -130,7 +140,8 @@ impl<'t, R: Rank, A: Allocator + Clone> Ranked for Part<'t, R, A> {
 
     ghost share_rises = { shares_rise };
 
-    ghost due_within = { λ e. at_most_itself (most_steps (length e.tree) (row_count e.tree) (group_count e.tree 0) e.calls) };
+    ghost due_within = { λ e. at_most_itself
+        (most_steps (length e.tree) (row_count e.tree) (group_count e.tree 0) e.calls) };
 
     fn next<L: Ledger>(&mut self, steps: &mut Steps<L>) -> Result<Option<Answer<R>>, NoMemory> {
         self.calls = self.calls.saturating_add(1);

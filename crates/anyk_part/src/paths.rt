@@ -35,7 +35,8 @@ pub(crate) fn group_at<R: Rank, L: Ledger>(
     requires places { ArePlaces tree.now places.now }
     requires node { node < length tree.now }
     requires rows { (q : ℕ) → q < node → slice_index chosen.now q < rows tree.now q }
-    ensures group { result ≡ group_number tree.now node (slice_index chosen.now (parent tree.now node)) }
+    ensures group { result
+        ≡ group_number tree.now node (slice_index chosen.now (parent tree.now node)) }
     ensures cost { steps.new ≤ steps.old + 1 }
 {
     if node == 0 {
@@ -54,7 +55,10 @@ pub(crate) fn row_numbers<R: Rank, L: Ledger>(
 ) -> [u32; 16]
     requires tie_free { IsTieFreeTree tree.now }
     requires rows { (q : ℕ) → q < length tree.now → slice_index chosen.now q < rows tree.now q }
-    ensures numbers { result ≡ rows_of_key R.KEYS 16 (rows_key (key_add R.KEYS 16) (key_none R.KEYS 16) (rank tree.now R.KEYS R.key) (take (length tree.now) chosen.now)) }
+    ensures numbers { result
+        ≡ rows_of_key R.KEYS 16
+        (rows_key (key_add R.KEYS 16) (key_none R.KEYS 16) (rank tree.now R.KEYS R.key)
+        (take (length tree.now) chosen.now)) }
     ensures cost { steps.new ≤ steps.old + length tree.now }
 {
     let mut numbers = [0; 16];

@@ -29,7 +29,8 @@ given_of s None = 0
 given_of s (Some e) = entry_place s e + 1
 
 -- an enumeration of the tree's answers; `live` says whether the tree has a solution
-pub record IsRec {R : Type 0} (d : ℕ) (key : R → KeyOf d 16) (s : StreamsView R) (live : Bool) (last : Option ℕ) (calls : ℕ) : Type 0 where
+pub record IsRec {R : Type 0} (d : ℕ) (key : R → KeyOf d 16) (s : StreamsView R) (live : Bool)
+    (last : Option ℕ) (calls : ℕ) : Type 0 where
   pub formed : IsFormed d key s.tree
   pub live_is : live ≡ nat_lt 0 (group_count s.tree 0)
   pub last_in : IfSome last (IsRootEntry s)

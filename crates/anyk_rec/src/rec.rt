@@ -40,7 +40,8 @@ impl<'t, R: Rank, A: Allocator + Clone> Model for Rec<'t, R, A> {
 
     ghost Value = { RecView R };
 
-    ghost view = { λ r. record { streams = r.streams; given = given_of r.streams r.last; calls = r.calls } };
+    ghost view = { λ r. record
+        { streams = r.streams; given = given_of r.streams r.last; calls = r.calls } };
 
     ghost invariant = { λ r. IsRec R.KEYS R.key r.streams r.live r.last r.calls };
 }
@@ -54,7 +55,9 @@ impl<'t, R: Rank, A: Allocator + Clone> Rec<'t, R, A> {
         steps: &mut Steps<L>,
     ) -> Result<Rec<'t, R, A>, NoMemory>
         requires { IsTieFreeTree tree.now }
-        ensures ranking { IfOk result (λ r. (ks : List (KeyOf R.KEYS 16)) × IsTreeRanking tree.now R.KEYS R.key ks × (rest_of R.KEYS R.key r ≡ answers_of R.KEYS ks)) }
+        ensures ranking { IfOk result
+            (λ r. (ks : List (KeyOf R.KEYS 16)) × IsTreeRanking tree.now R.KEYS R.key ks
+            × (rest_of R.KEYS R.key r ≡ answers_of R.KEYS ks)) }
         ensures tree { IfOk result (λ r. r.streams.tree ≡ tree.now) }
         ensures given { IfOk result (λ r. r.given ≡ 0) }
         ensures calls { IfOk result (λ r. r.calls ≡ 0) }
@@ -83,11 +86,18 @@ fn following<'t, R: Rank, A: Allocator + Clone, L: Ledger>(
     ensures tree { streams.new.tree ≡ streams.old.tree }
     ensures kept { AreKept streams.old streams.new }
     ensures entry { IfOk result (λ o. IfSome o (IsRootEntry streams.new)) }
-    ensures place { IfOk result (λ o. IfSome o (λ e. (entry_place streams.new e ≡ given_of streams.old last) × (entry_place streams.new e < length (group_list R.KEYS R.key streams.old.tree 0 0)))) }
-    ensures end { IfOk result (λ o. IfNone o (length (group_list R.KEYS R.key streams.old.tree 0 0) ≡ given_of streams.old last)) }
+    ensures place { IfOk result
+        (λ o. IfSome o (λ e. (entry_place streams.new e ≡ given_of streams.old last)
+        × (entry_place streams.new e < length (group_list R.KEYS R.key streams.old.tree 0 0)))) }
+    ensures end { IfOk result
+        (λ o. IfNone o (length (group_list R.KEYS R.key streams.old.tree 0 0)
+        ≡ given_of streams.old last)) }
     ensures growth { (q : ℕ) → size_of_node streams.new q ≤ size_of_node streams.old q + 1 }
     ensures calls { (k : ℕ) → streams.old.calls ≤ k → k < 2 ^ 64 → streams.new.calls ≤ counted k }
-    ensures cost { steps.new ≤ steps.old + 20 * length streams.old.tree * (1 + bit_length (row_count streams.old.tree + (streams.old.calls + 1) * length streams.old.tree)) }
+    ensures cost { steps.new
+        ≤ steps.old + 20 * length streams.old.tree
+        * (1 + bit_length (row_count streams.old.tree
+        + (streams.old.calls + 1) * length streams.old.tree)) }
 {
     match last {
         Some(last) => streams.after(last, steps),
@@ -113,15 +123,23 @@ impl<'t, R: Rank, A: Allocator + Clone> Ranked for Rec<'t, R, A> {
     ghost due_within = { λ r. at_most_itself (share_of (size_of r.streams.tree) r.calls) };
 
     fn next<L: Ledger>(&mut self, steps: &mut Steps<L>) -> Result<Option<Answer<R>>, NoMemory>
-        ensures found { IfOk result (λ o. IfSome o (λ a. rest_of R.KEYS R.key self.old ≡ record { rows = a.rows; key = numbers R.KEYS 16 (R.key a.rank) } ∷ rest_of R.KEYS R.key self.new)) }
-        ensures end { IfOk result (λ o. IfNone o ((rest_of R.KEYS R.key self.old ≡ []) × (rest_of R.KEYS R.key self.new ≡ []))) }
-        ensures refused { OnErr result (rest_of R.KEYS R.key self.new ≡ rest_of R.KEYS R.key self.old) }
+        ensures found { IfOk result
+            (λ o. IfSome o (λ a. rest_of R.KEYS R.key self.old
+            ≡ record { rows = a.rows; key = numbers R.KEYS 16 (R.key a.rank) }
+            ∷ rest_of R.KEYS R.key self.new)) }
+        ensures end { IfOk result
+            (λ o. IfNone o ((rest_of R.KEYS R.key self.old ≡ [])
+            × (rest_of R.KEYS R.key self.new ≡ []))) }
+        ensures refused { OnErr result
+            (rest_of R.KEYS R.key self.new ≡ rest_of R.KEYS R.key self.old) }
         ensures counted { self.new.calls ≡ counted self.old.calls }
         ensures size { size_of self.new.streams.tree ≡ size_of self.old.streams.tree }
-        ensures cost { steps.new ≤ steps.old + share_of (size_of self.old.streams.tree) self.old.calls }
+        ensures cost { steps.new
+            ≤ steps.old + share_of (size_of self.old.streams.tree) self.old.calls }
         ensures forward { self.old.given ≤ self.new.given }
         ensures moved { self.new.given ≤ self.old.given + 1 }
-        ensures growth { (q : ℕ) → size_of_node self.new.streams q ≤ size_of_node self.old.streams q + 1 }
+        ensures growth { (q : ℕ)
+            → size_of_node self.new.streams q ≤ size_of_node self.old.streams q + 1 }
     {
         self.calls = self.calls.saturating_add(1);
         if !self.live {

@@ -9,6 +9,8 @@ use Rattle.anyk_model.specs.Ranking.{ranking_of}
 use Rattle.witness_key.specs.WitnessKey.{witness_key}
 
 -- the keys of the tree's solutions are those of the witnesses
-abbrev pub RanksWitnesses : {R : Type 0} (d : ℕ) (key : R → KeyOf d 16) → Query → List Table → List (NodeData R) → Type 0
+abbrev pub RanksWitnesses : {R : Type 0} (d : ℕ) (key : R → KeyOf d 16) → Query → List Table
+    → List (NodeData R) → Type 0
 RanksWitnesses d key query tables tree =
-    (all : List (KeyOf d 16)) → IsTreeRanking tree d key all → all ≡ map (witness_key d query tables) (ranking_of query tables)
+    (all : List (KeyOf d 16)) → IsTreeRanking tree d key all
+    → all ≡ map (witness_key d query tables) (ranking_of query tables)

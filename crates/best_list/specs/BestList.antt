@@ -13,19 +13,23 @@ same_row item a b = slice_index a item == slice_index b item
 -- the first one, and then those of the others that have another row.
 abbrev pub best_list : ℕ → List (List ℕ) → List (List ℕ)
 best_list item [] = []
-best_list item (rows ∷ list) = rows ∷ filter (λ other. not (same_row item rows other)) (best_list item list)
+best_list item (rows ∷ list) = rows
+    ∷ filter (λ other. not (same_row item rows other)) (best_list item list)
 
 -- no member before it has the same row of the item
 pub record IsFirstOfRow (item : ℕ) (rows : List ℕ) (list : List (List ℕ)) : Type 0 where
   pub before : List (List ℕ)
   pub after : List (List ℕ)
   pub parts : list ≡ before ++ rows ∷ after
-  pub others : (other : List ℕ) → IsMember other before → slice_index other item ≢ slice_index rows item
+  pub others : (other : List ℕ) → IsMember other before
+      → slice_index other item ≢ slice_index rows item
 
 -- a witness before which there is no witness with the same row of the item
-pub record IsLeastOfRow (query : Query) (tables : List Table) (item : ℕ) (rows : List ℕ) : Type 0 where
+pub record IsLeastOfRow (query : Query) (tables : List Table) (item : ℕ)
+    (rows : List ℕ) : Type 0 where
   pub witness : IsWitness query tables rows
-  pub least : (other : List ℕ) → IsWitness query tables other → slice_index other item ≡ slice_index rows item → Precedes query tables other rows → ⊥
+  pub least : (other : List ℕ) → IsWitness query tables other
+      → slice_index other item ≡ slice_index rows item → Precedes query tables other rows → ⊥
 
 -- the list that is asked for: the ranking, or its best list if an item is named
 abbrev pub list_of : Query → List Table → Option ℕ → List (List ℕ)

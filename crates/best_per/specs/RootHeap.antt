@@ -42,7 +42,8 @@ module _ {R : Type 0} (d : ℕ) (key : R → KeyOf d 16) (t : List (NodeData R))
 
   -- the best keys of the rows that the entries hold, in ascending order
   abbrev pub rest_keys : List (Entry R ℕ) → List (KeyOf d 16)
-  rest_keys es = ranked (key_below d 16) (tuple_keys d 16).order (map place_key (places_left (root_len t) es))
+  rest_keys es = ranked (key_below d 16) (tuple_keys d 16).order
+      (map place_key (places_left (root_len t) es))
 
   -- an entry of the queue: a place of the heap, with the best key of its row
   pub record IsPlace (e : Entry R ℕ) : Type 0 where
@@ -55,6 +56,7 @@ module _ {R : Type 0} (d : ℕ) (key : R → KeyOf d 16) (t : List (NodeData R))
     pub formed : IsFormed d key t
     pub tie_free : IsTieFreeTree t
     pub each : All IsPlace entries
-    pub remains : Remains ℕ (KeyOf d 16) (key_below d 16) place_key (held_by (root_len t) entries) (rest_keys entries)
+    pub remains : Remains ℕ (KeyOf d 16) (key_below d 16) place_key (held_by (root_len t) entries)
+        (rest_keys entries)
     pub room : length (rest_keys entries) ≤ spare
     pub few : length entries + length (rest_keys entries) ≤ root_len t + 1

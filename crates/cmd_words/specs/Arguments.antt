@@ -6,7 +6,9 @@ use Rattle.clap.specs.declared.builder.action.ArgAction.TheVariants.{Set, Append
 
 -- `--engine E`, which is `part` if it is not given
 abbrev pub engine_rule : Rule
-engine_rule = record (new_rule (codes "engine")) { long = Some (codes "engine"); action = Some Set; defaults = codes "part" ∷ [] }
+engine_rule = record
+    (new_rule (codes "engine"))
+    { long = Some (codes "engine"); action = Some Set; defaults = codes "part" ∷ [] }
 
 -- an option of this name without a value
 abbrev pub flag_rule : List ℕ → Rule
@@ -38,13 +40,15 @@ with_style app = with_rule (with_rule app (flag_rule (codes "ranks"))) (flag_rul
 
 -- a command with the options that say which answers are printed, and how
 abbrev pub with_answers : App → App
-with_answers app = with_rule (with_style (with_rule app engine_rule)) (option_rule (codes "best-of"))
+with_answers app = with_rule (with_style (with_rule app engine_rule))
+    (option_rule (codes "best-of"))
 
 unfoldable pub run_app : App
 run_app = with_files (with_answers (new_app (codes "run")))
 
 unfoldable pub session_app : App
-session_app = with_files (with_rule (with_answers (new_app (codes "session"))) (required_rule (codes "script")))
+session_app = with_files
+    (with_rule (with_answers (new_app (codes "session"))) (required_rule (codes "script")))
 
 unfoldable pub plan_app : App
 plan_app = with_files (new_app (codes "plan"))
@@ -53,7 +57,10 @@ unfoldable pub prove_app : App
 prove_app = with_files (with_rule (new_app (codes "prove")) engine_rule)
 
 unfoldable pub verify_app : App
-verify_app = with_files (with_rule (with_style (new_app (codes "verify"))) (required_rule (codes "proof")))
+verify_app = with_files
+    (with_rule (with_style (new_app (codes "verify"))) (required_rule (codes "proof")))
 
 unfoldable pub load_app : App
-load_app = with_rule (with_rule (with_rule (new_app (codes "load")) engine_rule) (required_rule (codes "number"))) (required_rule (codes "rows"))
+load_app = with_rule
+    (with_rule (with_rule (new_app (codes "load")) engine_rule) (required_rule (codes "number")))
+    (required_rule (codes "rows"))

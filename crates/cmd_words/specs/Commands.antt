@@ -56,7 +56,8 @@ said_to first words =
     else if bytes_eq first (codes "plan") then option_map plan_said (plan_of words)
     else if bytes_eq first (codes "prove") then option_map prove_said (prove_of words)
     else if bytes_eq first (codes "verify") then option_map verify_said (verify_of words)
-    else if bytes_eq first (codes "load") then option_map (λ p. load_said p.0 p.1 p.2) (load_of words)
+    else if bytes_eq first (codes "load") then option_map (λ p. load_said p.0 p.1 p.2)
+    (load_of words)
     else None
 
 -- the command that the arguments give, and none if they give none

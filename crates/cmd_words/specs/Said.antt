@@ -57,7 +57,14 @@ session_texts texts = record texts { proof = None }
 -- a command without options: the engine is `part`, and the flags are not set
 abbrev pub no_options : Texts → Texts
 no_options texts =
-    record texts { engine = Some (codes "part"); ranks = None; rows = None; script = None; proof = None; best_of = None }
+    record texts {
+      engine = Some (codes "part");
+      ranks = None;
+      rows = None;
+      script = None;
+      proof = None;
+      best_of = None;
+    }
 
 -- `plan` has no options
 abbrev pub plan_texts : Texts → Texts
@@ -69,11 +76,13 @@ prove_texts texts = record (no_options texts) { engine = texts.engine }
 
 -- `verify` has the flags and a certificate
 abbrev pub verify_texts : Texts → Texts
-verify_texts texts = record (no_options texts) { ranks = texts.ranks; rows = texts.rows; proof = texts.proof }
+verify_texts texts = record
+    (no_options texts) { ranks = texts.ranks; rows = texts.rows; proof = texts.proof }
 
 abbrev pub engine_of : Option (List ℕ) → Option Engine
 engine_of None = None
-engine_of (Some text) = if bytes_eq text (codes "part") then Some Part else (if bytes_eq text (codes "rec") then Some Rec else None)
+engine_of (Some text) = if bytes_eq text (codes "part") then Some Part else
+    (if bytes_eq text (codes "rec") then Some Rec else None)
 
 -- the flag is set
 abbrev pub is_set : Option (List ℕ) → Bool
@@ -83,11 +92,22 @@ is_set (Some text) = bytes_eq text (codes "true")
 -- the tables and their files, if each argument is TABLE=FILE and no two name the same table
 abbrev pub tables_of : Option (List (List ℕ)) → Option (List (List ℕ × List ℕ))
 tables_of None = None
-tables_of (Some words) = if are_pairs words && are_distinct (pairs_of words) then Some (pairs_of words) else None
+tables_of (Some words) = if are_pairs words && are_distinct (pairs_of words) then Some
+    (pairs_of words) else None
 
-abbrev pub said : Bool → Bool → Option (List ℕ) → Option (List ℕ) → Option (List ℕ) → Option Engine → Option (List ℕ) → Option (List (List ℕ × List ℕ)) → Option WordsSaid
+abbrev pub said : Bool → Bool → Option (List ℕ) → Option (List ℕ) → Option (List ℕ) → Option Engine
+    → Option (List ℕ) → Option (List (List ℕ × List ℕ)) → Option WordsSaid
 said ranks rows script proof best_of (Some engine) (Some query) (Some tables) =
-    Some (record { engine = engine; ranks = ranks; rows = rows; script = script; proof = proof; best_of = best_of; query = query; tables = tables })
+    Some (record {
+      engine = engine;
+      ranks = ranks;
+      rows = rows;
+      script = script;
+      proof = proof;
+      best_of = best_of;
+      query = query;
+      tables = tables;
+    })
 said ranks rows script proof best_of (Some engine) (Some query) None = None
 said ranks rows script proof best_of (Some engine) None tables = None
 said ranks rows script proof best_of None query tables = None
@@ -95,7 +115,8 @@ said ranks rows script proof best_of None query tables = None
 -- what the texts say, and none if they say nothing
 abbrev pub said_by : Texts → Option WordsSaid
 said_by texts =
-    said (is_set texts.ranks) (is_set texts.rows) texts.script texts.proof texts.best_of (engine_of texts.engine) texts.query
+    said (is_set texts.ranks) (is_set texts.rows) texts.script texts.proof texts.best_of
+    (engine_of texts.engine) texts.query
     (tables_of texts.tables)
 
 -- `session` has a script
@@ -114,11 +135,14 @@ load_said (Some engine) None rows = None
 load_said None number rows = None
 
 -- the same from the texts of its options
-abbrev pub load_by_texts : Option (List ℕ) → Option (List ℕ) → Option (List ℕ) → Option (Engine × ℕ × ℕ)
-load_by_texts engine number rows = load_said (engine_of engine) (option_and_then (number_in 0 2147483647) number) (option_and_then (number_in 1 100000) rows)
+abbrev pub load_by_texts : Option (List ℕ) → Option (List ℕ) → Option (List ℕ)
+    → Option (Engine × ℕ × ℕ)
+load_by_texts engine number rows = load_said (engine_of engine)
+    (option_and_then (number_in 0 2147483647) number) (option_and_then (number_in 1 100000) rows)
 
 abbrev pub load_by : List Row → Option (Engine × ℕ × ℕ)
-load_by rows = load_by_texts (first_of (codes "engine") rows) (first_of (codes "number") rows) (first_of (codes "rows") rows)
+load_by rows = load_by_texts (first_of (codes "engine") rows) (first_of (codes "number") rows)
+    (first_of (codes "rows") rows)
 
 abbrev pub seen_texts : TextsRead → Texts
 seen_texts texts = record {

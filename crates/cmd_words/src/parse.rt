@@ -17,9 +17,13 @@ use clap::{ArgMatches, Command as Parser, Error};
 pub fn parsed<'a>(command: Parser<'a>, words: &'a [String]) -> Result<ArgMatches<'a>, WordsFault>
     requires simple { is_simple (app_of command) ≡ true }
     requires free { is_simple_and_free (app_of command) ≡ true }
-    ensures taken { IfOk result (λ _. fault_of (app_of command.entry) (map string_bytes words.now) ≡ []) }
-    ensures matches { IfOk result (λ m. rows_of (found_of m) ≡ matches_of (app_of command.entry) (map string_bytes words.now)) }
-    ensures usage { IsErrOf result WordsFault.Usage → fault_of (app_of command.entry) (map string_bytes words.now) ≡ [] → ⊥ }
+    ensures taken { IfOk result
+        (λ _. fault_of (app_of command.entry) (map string_bytes words.now) ≡ []) }
+    ensures matches { IfOk result
+        (λ m. rows_of (found_of m)
+        ≡ matches_of (app_of command.entry) (map string_bytes words.now)) }
+    ensures usage { IsErrOf result WordsFault.Usage
+        → fault_of (app_of command.entry) (map string_bytes words.now) ≡ [] → ⊥ }
 {
     match command.try_get_matches_from(words) {
         Ok(matches) => Ok(matches),

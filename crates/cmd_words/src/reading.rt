@@ -22,7 +22,8 @@ use std::alloc::Global;
 /// also rejected), if a TABLE=FILE argument has nothing before or after its first `=`, or if two of them name the same
 /// table. `NoMemory` if memory is refused.
 pub fn read_words(alloc: Global, words: &[String]) -> Result<Command, WordsFault>
-    ensures words { IfOk result (λ command. said_of (map string_bytes words.now) ≡ Some (seen_command command)) }
+    ensures words { IfOk result
+        (λ command. said_of (map string_bytes words.now) ≡ Some (seen_command command)) }
     ensures usage { IsErrOf result WordsFault.Usage → said_of (map string_bytes words.now) ≡ None }
     ensures ranges { IfOk result KeepsRange }
 {
@@ -34,8 +35,10 @@ pub fn read_words(alloc: Global, words: &[String]) -> Result<Command, WordsFault
 
 // What the arguments say to the command of this name.
 fn read_command(alloc: Global, name: &str, words: &[String]) -> Result<Command, WordsFault>
-    ensures words { IfOk result (λ command. said_to name.now (map string_bytes words.now) ≡ Some (seen_command command)) }
-    ensures usage { IsErrOf result WordsFault.Usage → said_to name.now (map string_bytes words.now) ≡ None }
+    ensures words { IfOk result
+        (λ command. said_to name.now (map string_bytes words.now) ≡ Some (seen_command command)) }
+    ensures usage { IsErrOf result WordsFault.Usage
+        → said_to name.now (map string_bytes words.now) ≡ None }
     ensures ranges { IfOk result KeepsRange }
 {
     match name {
@@ -53,7 +56,8 @@ fn read_command(alloc: Global, name: &str, words: &[String]) -> Result<Command, 
 }
 
 fn read_run(alloc: Global, words: &[String]) -> Result<Words, WordsFault>
-    ensures words { IfOk result (λ said. run_of (map string_bytes words.now) ≡ Some (seen_words said)) }
+    ensures words { IfOk result
+        (λ said. run_of (map string_bytes words.now) ≡ Some (seen_words said)) }
     ensures usage { IsErrOf result WordsFault.Usage → run_of (map string_bytes words.now) ≡ None }
 {
     let matches = parsed(run_command(alloc)?, words)?;
@@ -64,8 +68,10 @@ fn read_run(alloc: Global, words: &[String]) -> Result<Words, WordsFault>
 }
 
 fn read_session(alloc: Global, words: &[String]) -> Result<Words, WordsFault>
-    ensures words { IfOk result (λ said. session_of (map string_bytes words.now) ≡ Some (seen_words said)) }
-    ensures usage { IsErrOf result WordsFault.Usage → session_of (map string_bytes words.now) ≡ None }
+    ensures words { IfOk result
+        (λ said. session_of (map string_bytes words.now) ≡ Some (seen_words said)) }
+    ensures usage { IsErrOf result WordsFault.Usage
+        → session_of (map string_bytes words.now) ≡ None }
 {
     let matches = parsed(session_command(alloc)?, words)?;
     let mut texts = texts_of(&matches);
@@ -74,7 +80,8 @@ fn read_session(alloc: Global, words: &[String]) -> Result<Words, WordsFault>
 }
 
 fn read_plan(alloc: Global, words: &[String]) -> Result<Words, WordsFault>
-    ensures words { IfOk result (λ said. plan_of (map string_bytes words.now) ≡ Some (seen_words said)) }
+    ensures words { IfOk result
+        (λ said. plan_of (map string_bytes words.now) ≡ Some (seen_words said)) }
     ensures usage { IsErrOf result WordsFault.Usage → plan_of (map string_bytes words.now) ≡ None }
 {
     let matches = parsed(plan_command(alloc)?, words)?;
@@ -95,7 +102,8 @@ fn read_plan(alloc: Global, words: &[String]) -> Result<Words, WordsFault>
 }
 
 fn read_prove(alloc: Global, words: &[String]) -> Result<Words, WordsFault>
-    ensures words { IfOk result (λ said. prove_of (map string_bytes words.now) ≡ Some (seen_words said)) }
+    ensures words { IfOk result
+        (λ said. prove_of (map string_bytes words.now) ≡ Some (seen_words said)) }
     ensures usage { IsErrOf result WordsFault.Usage → prove_of (map string_bytes words.now) ≡ None }
 {
     let matches = parsed(prove_command(alloc)?, words)?;
@@ -116,8 +124,10 @@ fn read_prove(alloc: Global, words: &[String]) -> Result<Words, WordsFault>
 }
 
 fn read_verify(alloc: Global, words: &[String]) -> Result<Words, WordsFault>
-    ensures words { IfOk result (λ said. verify_of (map string_bytes words.now) ≡ Some (seen_words said)) }
-    ensures usage { IsErrOf result WordsFault.Usage → verify_of (map string_bytes words.now) ≡ None }
+    ensures words { IfOk result
+        (λ said. verify_of (map string_bytes words.now) ≡ Some (seen_words said)) }
+    ensures usage { IsErrOf result WordsFault.Usage
+        → verify_of (map string_bytes words.now) ≡ None }
 {
     let matches = parsed(verify_command(alloc)?, words)?;
     let texts = texts_of(&matches);
@@ -137,7 +147,8 @@ fn read_verify(alloc: Global, words: &[String]) -> Result<Words, WordsFault>
 }
 
 fn read_load(alloc: Global, words: &[String]) -> Result<(Engine, u32, u32), WordsFault>
-    ensures words { IfOk result (λ said. load_of (map string_bytes words.now) ≡ Some (said.0, said.1, said.2)) }
+    ensures words { IfOk result
+        (λ said. load_of (map string_bytes words.now) ≡ Some (said.0, said.1, said.2)) }
     ensures usage { IsErrOf result WordsFault.Usage → load_of (map string_bytes words.now) ≡ None }
     ensures ranges { IfOk result (λ said. IsInRange said.1 said.2) }
 {

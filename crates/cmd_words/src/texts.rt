@@ -45,7 +45,8 @@ pub fn texts_of<'m, 'a>(matches: &'m ArgMatches<'a>) -> Texts<'m, 'a>
 
 /// What the values say. `Usage` if they say nothing, and `NoMemory` if memory is refused.
 pub fn read_texts(alloc: Global, texts: Texts<'_, '_>) -> Result<Words, WordsFault>
-    ensures words { IfOk result (λ said. said_by (seen_texts texts.entry) ≡ Some (seen_words said)) }
+    ensures words { IfOk result
+        (λ said. said_by (seen_texts texts.entry) ≡ Some (seen_words said)) }
     ensures usage { IsErrOf result WordsFault.Usage → said_by (seen_texts texts.entry) ≡ None }
 {
     let Some(engine) = read_engine(texts.engine) else {
@@ -70,7 +71,8 @@ pub fn read_texts(alloc: Global, texts: Texts<'_, '_>) -> Result<Words, WordsFau
 /// What the values of `session` say, which has a script. `Usage` if they say nothing, and `NoMemory` if memory is
 /// refused.
 pub fn read_session_texts(alloc: Global, texts: Texts<'_, '_>) -> Result<Words, WordsFault>
-    ensures words { IfOk result (λ said. session_by (seen_texts texts.entry) ≡ Some (seen_words said)) }
+    ensures words { IfOk result
+        (λ said. session_by (seen_texts texts.entry) ≡ Some (seen_words said)) }
     ensures usage { IsErrOf result WordsFault.Usage → session_by (seen_texts texts.entry) ≡ None }
 {
     match texts.script {
@@ -82,7 +84,8 @@ pub fn read_session_texts(alloc: Global, texts: Texts<'_, '_>) -> Result<Words, 
 /// What the values of `verify` say, which has a certificate. `Usage` if they say nothing, and `NoMemory` if memory is
 /// refused.
 pub fn read_verify_texts(alloc: Global, texts: Texts<'_, '_>) -> Result<Words, WordsFault>
-    ensures words { IfOk result (λ said. verify_by (seen_texts texts.entry) ≡ Some (seen_words said)) }
+    ensures words { IfOk result
+        (λ said. verify_by (seen_texts texts.entry) ≡ Some (seen_words said)) }
     ensures usage { IsErrOf result WordsFault.Usage → verify_by (seen_texts texts.entry) ≡ None }
 {
     match texts.proof {
@@ -92,8 +95,11 @@ pub fn read_verify_texts(alloc: Global, texts: Texts<'_, '_>) -> Result<Words, W
 }
 
 fn read_tables(alloc: Global, words: Option<&[&str]>) -> Result<Vec<Named>, WordsFault>
-    ensures tables { IfOk result (λ named. tables_of (option_map (λ s. map (λ v. v.now) s.now) words.entry) ≡ Some (map named_pair named.items)) }
-    ensures usage { IsErrOf result WordsFault.Usage → tables_of (option_map (λ s. map (λ v. v.now) s.now) words.entry) ≡ None }
+    ensures tables { IfOk result
+        (λ named. tables_of (option_map (λ s. map (λ v. v.now) s.now) words.entry)
+        ≡ Some (map named_pair named.items)) }
+    ensures usage { IsErrOf result WordsFault.Usage
+        → tables_of (option_map (λ s. map (λ v. v.now) s.now) words.entry) ≡ None }
 {
     let Some(words) = words else {
         return Err(WordsFault::Usage);
@@ -106,7 +112,8 @@ fn read_tables(alloc: Global, words: Option<&[&str]>) -> Result<Vec<Named>, Word
 }
 
 fn owned(alloc: Global, text: Option<&str>) -> Result<Option<String>, AllocError>
-    ensures { IfOk result (λ copy. option_map string_bytes copy ≡ option_map (λ s. s.now) text.entry) }
+    ensures { IfOk result
+        (λ copy. option_map string_bytes copy ≡ option_map (λ s. s.now) text.entry) }
 {
     match text {
         Some(text) => Ok(Some(String::from_str(alloc, text)?)),
@@ -137,8 +144,10 @@ fn read_engine(text: Option<&str>) -> Option<Engine>
 /// What the matches of `load` say: the engine, the generator's number and the rows of each table. `Usage` if they say
 /// nothing.
 pub fn read_load_texts(matches: &ArgMatches<'_>) -> Result<(Engine, u32, u32), WordsFault>
-    ensures words { IfOk result (λ said. load_by (rows_of (found_of matches.now)) ≡ Some (said.0, said.1, said.2)) }
-    ensures usage { IsErrOf result WordsFault.Usage → load_by (rows_of (found_of matches.now)) ≡ None }
+    ensures words { IfOk result
+        (λ said. load_by (rows_of (found_of matches.now)) ≡ Some (said.0, said.1, said.2)) }
+    ensures usage { IsErrOf result WordsFault.Usage
+        → load_by (rows_of (found_of matches.now)) ≡ None }
     ensures ranges { IfOk result (λ said. IsInRange said.1 said.2) }
 {
     read_load_options(
@@ -153,8 +162,13 @@ fn read_load_options(
     number: Option<&str>,
     rows: Option<&str>,
 ) -> Result<(Engine, u32, u32), WordsFault>
-    ensures words { IfOk result (λ said. load_by_texts (option_map (λ s. s.now) engine.entry) (option_map (λ s. s.now) number.entry) (option_map (λ s. s.now) rows.entry) ≡ Some (said.0, said.1, said.2)) }
-    ensures usage { IsErrOf result WordsFault.Usage → load_by_texts (option_map (λ s. s.now) engine.entry) (option_map (λ s. s.now) number.entry) (option_map (λ s. s.now) rows.entry) ≡ None }
+    ensures words { IfOk result
+        (λ said. load_by_texts (option_map (λ s. s.now) engine.entry)
+        (option_map (λ s. s.now) number.entry) (option_map (λ s. s.now) rows.entry)
+        ≡ Some (said.0, said.1, said.2)) }
+    ensures usage { IsErrOf result WordsFault.Usage
+        → load_by_texts (option_map (λ s. s.now) engine.entry)
+        (option_map (λ s. s.now) number.entry) (option_map (λ s. s.now) rows.entry) ≡ None }
     ensures ranges { IfOk result (λ said. IsInRange said.1 said.2) }
 {
     let Some(engine) = read_engine(engine) else {
@@ -171,7 +185,8 @@ fn read_load_options(
 
 // The whole number that a text is, if it is from `low` to `high`.
 fn read_number(text: Option<&str>, low: u32, high: u32) -> Option<u32>
-    ensures value { result ≡ option_and_then (number_in low high) (option_map (λ s. s.now) text.entry) }
+    ensures value { result
+        ≡ option_and_then (number_in low high) (option_map (λ s. s.now) text.entry) }
     ensures low { IfSome result (λ number. low ≤ number) }
     ensures high { IfSome result (λ number. number ≤ high) }
 {

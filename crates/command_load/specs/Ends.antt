@@ -18,5 +18,7 @@ pub record HasEnds (given : List Seen) (ends : Ends) : Type 0 where
 abbrev pub ends_text : Query → List Table → Ends → List ℕ
 ends_text query tables ends =
     codes "rows " ++ decimal (rows_in_all tables) ++ codes "\nanswers " ++ decimal ends.count
-    ++ codes "\nfirst " ++ member_text query tables (option_map (take (length query.items)) ends.first)
-    ++ codes "\nlast " ++ member_text query tables (option_map (take (length query.items)) ends.last) ++ codes "\n"
+    ++ codes "\nfirst "
+    ++ member_text query tables (option_map (take (length query.items)) ends.first)
+    ++ codes "\nlast " ++ member_text query tables
+    (option_map (take (length query.items)) ends.last) ++ codes "\n"

@@ -31,7 +31,8 @@ impl Ends {
     // Adds one answer after the others.
     fn push(&mut self, rows: [u32; 16])
         requires { self.old.count < 18446744073709551615 }
-        ensures { (given : List Seen) (answer : Seen) → HasEnds given self.old → answer.rows ≡ rows → HasEnds (given ++ answer ∷ []) self.new }
+        ensures { (given : List Seen) (answer : Seen) → HasEnds given self.old → answer.rows ≡ rows
+            → HasEnds (given ++ answer ∷ []) self.new }
     {
         self.count += 1;
         self.first = self.first.or(Some(rows));
@@ -47,7 +48,8 @@ pub(crate) fn take_ends<E: Ranked, L: Ledger>(
 ) -> Result<Ends, NoMemory>
     ensures ends { IfOk result (λ ends. HasEnds (cut limit (E.rest engine.old)) ends) }
     ensures bounded { steps.new ≤ steps.old
-        + steps_for (λ n. E.share (E.size engine.old) (E.calls engine.old + n)) (calls_for limit (E.rest engine.old)) }
+        + steps_for (λ n. E.share (E.size engine.old) (E.calls engine.old + n))
+        (calls_for limit (E.rest engine.old)) }
 {
     let mut ends = Ends::new();
     let most = limit.unwrap_or(u64::MAX);

@@ -32,9 +32,11 @@ pub fn print_summary<'a, E: Ranked, S: Sink, L: Ledger>(
     requires fits { Fits query.now tables.now }
     requires rows { AreCombinations query.now.query tables.now (E.rest engine.old) }
     ensures printed { Printed (state_of S.Sink out.old) (state_of S.Sink out.new)
-        (summary_text query.now.query tables.now (cut query.now.query.limit (combinations_in query.now.query (E.rest engine.old)))) result }
+        (summary_text query.now.query tables.now
+        (cut query.now.query.limit (combinations_in query.now.query (E.rest engine.old)))) result }
     ensures bounded { steps.new ≤ steps.old
-        + steps_for (λ n. E.share (E.size engine.old) (E.calls engine.old + n)) (calls_for query.now.query.limit (combinations_in query.now.query (E.rest engine.old))) }
+        + steps_for (λ n. E.share (E.size engine.old) (E.calls engine.old + n))
+        (calls_for query.now.query.limit (combinations_in query.now.query (E.rest engine.old))) }
 {
     let _items = query.items();
     let ends = take_ends(query.limit(), engine, steps)?;

@@ -20,8 +20,12 @@ pub(crate) fn summary(
     ends: &Ends,
 ) -> Result<Vec<u8>, NoMemory>
     requires fits { Fits query.now tables.now }
-    requires first { IfSome ends.now.first (λ rows. IsCombination (row_counts query.now.query.items tables.now) (take (length query.now.query.items) rows)) }
-    requires last { IfSome ends.now.last (λ rows. IsCombination (row_counts query.now.query.items tables.now) (take (length query.now.query.items) rows)) }
+    requires first { IfSome ends.now.first
+        (λ rows. IsCombination (row_counts query.now.query.items tables.now)
+        (take (length query.now.query.items) rows)) }
+    requires last { IfSome ends.now.last
+        (λ rows. IsCombination (row_counts query.now.query.items tables.now)
+        (take (length query.now.query.items) rows)) }
     ensures { IfOk result (λ text. text.items ≡ ends_text query.now.query tables.now ends.now) }
 {
     let rows = rows_in_all(tables);
@@ -41,8 +45,13 @@ fn sum_text(
     rows: &Option<[u32; 16]>,
 ) -> Result<String, NoMemory>
     requires fits { Fits query.now tables.now }
-    requires rows { IfSome rows.now (λ rows. IsCombination (row_counts query.now.query.items tables.now) (take (length query.now.query.items) rows)) }
-    ensures { IfOk result (λ text. string_bytes text ≡ member_text query.now.query tables.now (option_map (take (length query.now.query.items)) rows.now)) }
+    requires rows { IfSome rows.now
+        (λ rows. IsCombination (row_counts query.now.query.items tables.now)
+        (take (length query.now.query.items) rows)) }
+    ensures { IfOk result
+        (λ text. string_bytes text
+        ≡ member_text query.now.query tables.now
+        (option_map (take (length query.now.query.items)) rows.now)) }
 {
     match rows {
         Some(rows) if query.keys() > 0 => {

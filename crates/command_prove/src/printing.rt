@@ -33,10 +33,12 @@ pub fn print_proof<'a, R: Rank, E: Ranked<Key = R>, S: Sink, L: Ledger>(
 ) -> Result<(), Refusal<'a>>
     requires planned { (tables : List Table) × (plan : PlanData R) × Fits query.now tables
         × IsPlan R.KEYS R.key query.now tables plan × (plan.tree ≡ tree.now) }
-    requires rest { (ks : List (KeyOf R.KEYS 16)) × IsTreeRanking tree.now R.KEYS R.key ks × (E.rest engine.old ≡ answers_of R.KEYS ks) }
+    requires rest { (ks : List (KeyOf R.KEYS 16)) × IsTreeRanking tree.now R.KEYS R.key ks
+        × (E.rest engine.old ≡ answers_of R.KEYS ks) }
     ensures printed { (tables : List Table) (plan : PlanData R) → Fits query.now tables
         → IsPlan R.KEYS R.key query.now tables plan → plan.tree ≡ tree.now
-        → PrintedSome (IsProofText query.now.query tables) (state_of S.Sink out.old) (state_of S.Sink out.new) result }
+        → PrintedSome (IsProofText query.now.query tables) (state_of S.Sink out.old)
+        (state_of S.Sink out.new) result }
 {
     let text = prove(alloc, query, tree, engine, steps)?;
     print(out, &text)

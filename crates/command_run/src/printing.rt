@@ -33,12 +33,16 @@ pub fn print_ranking<'a, E: Ranked, S: Sink, L: Ledger>(
     requires fits { Fits query.now tables.now }
     requires rows { AreCombinations query.now.query tables.now (E.rest engine.old) }
     ensures printed { Printed (state_of S.Sink out.old) (state_of S.Sink out.new)
-        (output_of query.now.query tables.now (style_shown style.now) (cut query.now.query.limit (combinations_in query.now.query (E.rest engine.old)))) result }
+        (output_of query.now.query tables.now (style_shown style.now)
+        (cut query.now.query.limit (combinations_in query.now.query (E.rest engine.old)))) result }
     ensures bounded { steps.new ≤ steps.old
-        + steps_for (λ n. E.share (E.size engine.old) (E.calls engine.old + n)) (calls_for query.now.query.limit (combinations_in query.now.query (E.rest engine.old))) }
-    ensures prompt { (start part : List ℕ) → S.written out.old ≡ Some start → S.written out.new ≡ Some (start ++ part) → steps.new ≤ steps.old
+        + steps_for (λ n. E.share (E.size engine.old) (E.calls engine.old + n))
+        (calls_for query.now.query.limit (combinations_in query.now.query (E.rest engine.old))) }
+    ensures prompt { (start part : List ℕ) → S.written out.old ≡ Some start
+        → S.written out.new ≡ Some (start ++ part) → steps.new ≤ steps.old
         + steps_for (λ n. E.share (E.size engine.old) (E.calls engine.old + n)) (whole_lines
-        (map (line_text query.now.query tables.now (style_shown style.now)) (cut query.now.query.limit (combinations_in query.now.query (E.rest engine.old))))
+        (map (line_text query.now.query tables.now (style_shown style.now))
+        (cut query.now.query.limit (combinations_in query.now.query (E.rest engine.old))))
         (drop (length (header_text query.now.query tables.now (style_shown style.now))) part) + 1) }
 {
     print_header(alloc, query, tables, style, out)?;
@@ -58,10 +62,13 @@ fn print_answers<'a, E: Ranked, S: Sink, L: Ledger>(
     requires fits { Fits query.now tables.now }
     requires rows { AreCombinations query.now.query tables.now (E.rest engine.old) }
     ensures printed { Printed (state_of S.Sink out.old) (state_of S.Sink out.new)
-        (flat_map (line_text query.now.query tables.now (style_shown style.now)) (cut query.now.query.limit (combinations_in query.now.query (E.rest engine.old)))) result }
+        (flat_map (line_text query.now.query tables.now (style_shown style.now))
+        (cut query.now.query.limit (combinations_in query.now.query (E.rest engine.old)))) result }
     ensures paced { Paced (λ n. E.share (E.size engine.old) (E.calls engine.old + n))
-        (map (line_text query.now.query tables.now (style_shown style.now)) (cut query.now.query.limit (combinations_in query.now.query (E.rest engine.old))))
-        (calls_for query.now.query.limit (combinations_in query.now.query (E.rest engine.old))) (S.written out.old) (S.written out.new) steps.old steps.new }
+        (map (line_text query.now.query tables.now (style_shown style.now))
+        (cut query.now.query.limit (combinations_in query.now.query (E.rest engine.old))))
+        (calls_for query.now.query.limit (combinations_in query.now.query (E.rest engine.old)))
+        (S.written out.old) (S.written out.new) steps.old steps.new }
 {
     let most = query.limit().unwrap_or(u64::MAX);
     let mut records = RecordWriter::new(alloc);

@@ -15,8 +15,12 @@ IsAt cursors number cursor = slice_index_or cursors number None ≡ Some cursor
 
 -- The open cursors have these places by name, and the same places in the set. Each has a name of
 -- its own.
-pub record IsHeld (set : CursorSet) (cursors : List (Option OpenCursor)) (places : Places) : Type 0 where
+pub record IsHeld (set : CursorSet) (cursors : List (Option OpenCursor))
+    (places : Places) : Type 0 where
   pub same : set.places ≡ map (option_map (λ (cursor : OpenCursor). cursor.place)) cursors
-  pub placed : (number : ℕ) (cursor : OpenCursor) → IsAt cursors number cursor → places cursor.name.now ≡ Some cursor.place
-  pub known : (name : List ℕ) (place : ℕ) → places name ≡ Some place → (number : ℕ) × (cursor : OpenCursor) × IsAt cursors number cursor × (cursor.name.now ≡ name)
-  pub distinct : (i j : ℕ) (a b : OpenCursor) → IsAt cursors i a → IsAt cursors j b → a.name.now ≡ b.name.now → i ≡ j
+  pub placed : (number : ℕ) (cursor : OpenCursor) → IsAt cursors number cursor
+      → places cursor.name.now ≡ Some cursor.place
+  pub known : (name : List ℕ) (place : ℕ) → places name ≡ Some place
+      → (number : ℕ) × (cursor : OpenCursor) × IsAt cursors number cursor × (cursor.name.now ≡ name)
+  pub distinct : (i j : ℕ) (a b : OpenCursor) → IsAt cursors i a → IsAt cursors j b
+      → a.name.now ≡ b.name.now → i ≡ j

@@ -15,4 +15,5 @@ CanStep places (Close name) = IsSome (places name)
 -- the same holds for each step after it
 abbrev pub CanFollow : List (List ℕ) → Places → List Step → Type 0
 CanFollow members places [] = Unit {0}
-CanFollow members places (step ∷ steps) = CanStep places step × CanFollow members (places_after members places step) steps
+CanFollow members places (step ∷ steps) = CanStep places step
+    × CanFollow members (places_after members places step) steps

@@ -10,11 +10,13 @@ engine_steps share set calls = steps_for (λ n. share set.size (set.calls + n)) 
 -- the steps of calls on the set: the calls of the engine that are needed to see up to `reach`, and
 -- 4 steps for each call of the set
 abbrev pub IsWithin : (List ℕ → ℕ → ℕ) → CursorSet → ℕ → ℕ → ℕ → ℕ → Type 0
-IsWithin share set reach calls before now = now ≤ before + engine_steps share set (reach - seen_of set) + 4 * calls
+IsWithin share set reach calls before now = now
+    ≤ before + engine_steps share set (reach - seen_of set) + 4 * calls
 
 -- Such calls lead from one state of the set to another. The engine was called only for what is
 -- newly seen, and nothing beyond `reach` was newly seen.
-pub record Spent (share : List ℕ → ℕ → ℕ) (old new : CursorSet) (reach calls before now : ℕ) : Type 0 where
+pub record Spent (share : List ℕ → ℕ → ℕ) (old new : CursorSet)
+    (reach calls before now : ℕ) : Type 0 where
   pub size : new.size ≡ old.size
   pub rises : seen_of old ≤ seen_of new
   pub few : new.calls + seen_of old ≤ old.calls + seen_of new
@@ -22,7 +24,8 @@ pub record Spent (share : List ℕ → ℕ → ℕ) (old new : CursorSet) (reach
   pub steps : now ≤ before + engine_steps share old (seen_of new - seen_of old) + 4 * calls
 
 -- the same, and the last call may have been refused memory
-pub record Paid {A E : Type 0} (share : List ℕ → ℕ → ℕ) (old new : CursorSet) (reach calls before now : ℕ) (result : Result A E) : Type 0 where
+pub record Paid {A E : Type 0} (share : List ℕ → ℕ → ℕ) (old new : CursorSet)
+    (reach calls before now : ℕ) (result : Result A E) : Type 0 where
   pub spent : OnOk result (Spent share old new reach calls before now)
   pub within : IsWithin share old reach calls before now
 

@@ -44,15 +44,29 @@ pub(crate) fn print_next<'a, E: Ranked, S: Sink, L: Ledger>(
     requires rows { AreCombinations query.now.query tables.now set.old.answers }
     requires place { place_of set.old id.number ≡ Some cursor.old.place }
     ensures printed { Printed (state_of S.Sink out.old) (state_of S.Sink out.new)
-        (next_text (line_text query.now.query tables.now (with_name (style_shown style.now) cursor.old.name.now)) (cursor.old.name.now ++ codes "\n")
-        (drop cursor.old.place (cut query.now.query.limit (combinations_in query.now.query set.old.answers))) count) result }
+        (next_text (line_text query.now.query tables.now
+        (with_name (style_shown style.now) cursor.old.name.now)) (cursor.old.name.now ++ codes "\n")
+        (drop cursor.old.place
+        (cut query.now.query.limit
+        (combinations_in query.now.query set.old.answers))) count) result }
     ensures name { OnOk result (cursor.new.name.now ≡ cursor.old.name.now) }
-    ensures moved { OnOk result (cursor.new.place ≡ cursor.old.place + length (take count (drop cursor.old.place (cut query.now.query.limit (combinations_in query.now.query set.old.answers))))) }
-    ensures places { OnOk result (set.new.places ≡ (with_place set.old id.number (Some cursor.new.place)).places) }
+    ensures moved { OnOk result
+        (cursor.new.place ≡ cursor.old.place
+        + length (take count
+        (drop cursor.old.place
+        (cut query.now.query.limit (combinations_in query.now.query set.old.answers))))) }
+    ensures places { OnOk result
+        (set.new.places ≡ (with_place set.old id.number (Some cursor.new.place)).places) }
     ensures kept { OnOk result (set.new.answers ≡ set.old.answers) }
     ensures paid { Paid E.share set.old set.new
-        (cursor.old.place + calls_among (ends_by_itself query.now.query.limit (combinations_in query.now.query set.old.answers)) (length (drop cursor.old.place (cut query.now.query.limit (combinations_in query.now.query set.old.answers)))) count)
-        (calls_among (ends_by_itself query.now.query.limit (combinations_in query.now.query set.old.answers)) (length (drop cursor.old.place (cut query.now.query.limit (combinations_in query.now.query set.old.answers)))) count)
+        (cursor.old.place + calls_among
+        (ends_by_itself query.now.query.limit (combinations_in query.now.query set.old.answers))
+        (length (drop cursor.old.place
+        (cut query.now.query.limit (combinations_in query.now.query set.old.answers)))) count)
+        (calls_among (ends_by_itself query.now.query.limit
+        (combinations_in query.now.query set.old.answers))
+        (length (drop cursor.old.place
+        (cut query.now.query.limit (combinations_in query.now.query set.old.answers)))) count)
         steps.old steps.new result }
 {
     let _items = query.items();
@@ -80,13 +94,26 @@ fn next_member<E: Ranked, L: Ledger>(
     steps: &mut Steps<L>,
 ) -> Result<Option<Answer<E::Key>>, NoMemory>
     requires place { place_of set.old id.number ≡ Some cursor.old.place }
-    ensures some { IfOk result (λ found. IfSome found (λ answer. IfSome limit (λ n. cursor.old.place < n) × (cursor.new.place ≡ cursor.old.place + 1)
-        × (slice_get set.old.answers cursor.old.place ≡ Some (record { rows = answer.rows; key = numbers E.Key.KEYS 16 (E.Key.key answer.rank) })))) }
-    ensures end { IfOk result (λ found. IfNone found ((cursor.new.place ≡ cursor.old.place) × (length (cut limit set.old.answers) ≤ cursor.old.place))) }
+    ensures some { IfOk result
+        (λ found. IfSome found
+        (λ answer. IfSome limit (λ n. cursor.old.place < n)
+        × (cursor.new.place ≡ cursor.old.place + 1)
+        × (slice_get set.old.answers cursor.old.place
+        ≡ Some (record {
+          rows = answer.rows;
+          key = numbers E.Key.KEYS 16
+              (E.Key.key answer.rank);
+        })))) }
+    ensures end { IfOk result
+        (λ found. IfNone found
+        ((cursor.new.place ≡ cursor.old.place)
+        × (length (cut limit set.old.answers) ≤ cursor.old.place))) }
     ensures name { cursor.new.name.now ≡ cursor.old.name.now }
-    ensures places { set.new.places ≡ (with_place set.old id.number (Some cursor.new.place)).places }
+    ensures places { set.new.places
+        ≡ (with_place set.old id.number (Some cursor.new.place)).places }
     ensures kept { set.new.answers ≡ set.old.answers }
-    ensures paid { Paid E.share set.old set.new (cursor.old.place + calls_at limit cursor.old.place) (calls_at limit cursor.old.place) steps.old steps.new result }
+    ensures paid { Paid E.share set.old set.new (cursor.old.place + calls_at limit cursor.old.place)
+        (calls_at limit cursor.old.place) steps.old steps.new result }
 {
     if is_reached(limit, cursor.place) {
         return Ok(None);
@@ -116,7 +143,8 @@ fn is_reached(limit: Option<u64>, place: u64) -> bool
 
 // Prints the cursor's name alone.
 fn print_end<'a, S: Sink>(alloc: Global, name: &[u8], out: &mut S) -> Result<(), Refusal<'a>>
-    ensures { Printed (state_of S.Sink out.old) (state_of S.Sink out.new) (name.now ++ codes "\n") result }
+    ensures { Printed (state_of S.Sink out.old) (state_of S.Sink out.new)
+        (name.now ++ codes "\n") result }
 {
     let mut text = Vec::from_slice(alloc, name)?;
     text.push(b'\n')?;

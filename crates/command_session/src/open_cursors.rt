@@ -41,7 +41,8 @@ pub(crate) fn open<'a, 's, E: Ranked>(
     cursors: &mut OpenCursors<'s>,
     name: &'s [u8],
 ) -> Result<(), Refusal<'a>>
-    ensures held { (places : Places) → IsHeld set.old cursors.old places → places name.entry.now ≡ None
+    ensures held { (places : Places) → IsHeld set.old cursors.old places
+        → places name.entry.now ≡ None
         → OnOk result (IsHeld set.new cursors.new (with_cursor places name.entry.now (Some 0))) }
     ensures memory { IfErr result (λ refusal. reason_of refusal ≡ reason.NoMemory) }
     ensures answers { set.new.answers ≡ set.old.answers }
@@ -62,8 +63,10 @@ pub(crate) fn fork<'a, 's, E: Ranked>(
     name: &[u8],
     new: &'s [u8],
 ) -> Result<(), Refusal<'a>>
-    ensures held { (places : Places) → IsHeld set.old cursors.old places → IsSome (places name.now) → places new.entry.now ≡ None
-        → OnOk result (IsHeld set.new cursors.new (with_cursor places new.entry.now (places name.now))) }
+    ensures held { (places : Places) → IsHeld set.old cursors.old places → IsSome (places name.now)
+        → places new.entry.now ≡ None
+        → OnOk result (IsHeld set.new cursors.new
+        (with_cursor places new.entry.now (places name.now))) }
     ensures memory { IfErr result (λ refusal. reason_of refusal ≡ reason.NoMemory) }
     ensures answers { set.new.answers ≡ set.old.answers }
     ensures only { set.new ≡ record set.old { places = set.new.places } }

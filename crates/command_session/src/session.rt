@@ -47,10 +47,19 @@ pub fn print_session<'a, E: Ranked + Drop, S: Sink, L: Ledger>(
     requires rows { AreCombinations query.now.query tables.now (E.rest engine) }
     requires rules { KeepsRules [] script.now }
     ensures printed { Printed (state_of S.Sink out.old) (state_of S.Sink out.new)
-        (session_text query.now.query tables.now (style_shown style.now) (cut query.now.query.limit (combinations_in query.now.query (E.rest engine))) script.now) result }
+        (session_text query.now.query tables.now (style_shown style.now)
+        (cut query.now.query.limit
+        (combinations_in query.now.query (E.rest engine))) script.now) result }
     ensures bounded { steps.new ≤ steps.old
-        + steps_for (λ n. E.share (E.size engine) (E.calls engine + n)) (reach_of_steps (ends_by_itself query.now.query.limit (combinations_in query.now.query (E.rest engine))) (cut query.now.query.limit (combinations_in query.now.query (E.rest engine))) no_cursors script.now)
-        + 4 * calls_of_steps (ends_by_itself query.now.query.limit (combinations_in query.now.query (E.rest engine))) (cut query.now.query.limit (combinations_in query.now.query (E.rest engine))) no_cursors script.now }
+        + steps_for (λ n. E.share (E.size engine) (E.calls engine + n))
+        (reach_of_steps (ends_by_itself query.now.query.limit
+        (combinations_in query.now.query (E.rest engine)))
+        (cut query.now.query.limit (combinations_in query.now.query (E.rest engine))) no_cursors
+        script.now)
+        + 4 * calls_of_steps
+        (ends_by_itself query.now.query.limit (combinations_in query.now.query (E.rest engine)))
+        (cut query.now.query.limit (combinations_in query.now.query (E.rest engine))) no_cursors
+        script.now }
 {
     let titled = Style {
         ranks: style.ranks,
@@ -78,10 +87,20 @@ fn print_steps<'a, E: Ranked, S: Sink, L: Ledger>(
     requires places { set.old.places ≡ replicate 64 None }
     requires rules { KeepsRules [] script.now }
     ensures printed { Printed (state_of S.Sink out.old) (state_of S.Sink out.new)
-        (steps_text (λ name. line_text query.now.query tables.now (with_name (style_shown style.now) name))
-        (cut query.now.query.limit (combinations_in query.now.query set.old.answers)) no_cursors script.now) result }
-    ensures within { IsWithin E.share set.old (reach_of_steps (ends_by_itself query.now.query.limit (combinations_in query.now.query set.old.answers)) (cut query.now.query.limit (combinations_in query.now.query set.old.answers)) no_cursors script.now)
-        (calls_of_steps (ends_by_itself query.now.query.limit (combinations_in query.now.query set.old.answers)) (cut query.now.query.limit (combinations_in query.now.query set.old.answers)) no_cursors script.now) steps.old steps.new }
+        (steps_text (λ name. line_text query.now.query tables.now
+        (with_name (style_shown style.now) name))
+        (cut query.now.query.limit
+        (combinations_in query.now.query set.old.answers)) no_cursors script.now) result }
+    ensures within { IsWithin E.share set.old
+        (reach_of_steps (ends_by_itself query.now.query.limit
+        (combinations_in query.now.query set.old.answers))
+        (cut query.now.query.limit
+        (combinations_in query.now.query set.old.answers)) no_cursors script.now)
+        (calls_of_steps (ends_by_itself query.now.query.limit
+        (combinations_in query.now.query set.old.answers))
+        (cut query.now.query.limit
+        (combinations_in query.now.query set.old.answers)) no_cursors script.now) steps.old
+        steps.new }
 {
     let mut cursors = [None; MAX_OPEN];
     let mut records = RecordWriter::new(alloc);
@@ -117,16 +136,29 @@ fn take_step<'a, 's, E: Ranked, S: Sink, L: Ledger>(
     requires fits { Fits query.now tables.now }
     requires rows { AreCombinations query.now.query tables.now set.old.answers }
     requires same { set.old.places ≡ map (option_map (λ cursor. cursor.place)) cursors.old }
-    ensures printed { (places : Places) → IsHeld set.old cursors.old places → CanStep places step.now
+    ensures printed { (places : Places) → IsHeld set.old cursors.old places
+        → CanStep places step.now
         → Printed (state_of S.Sink out.old) (state_of S.Sink out.new)
-        (step_text (λ name. line_text query.now.query tables.now (with_name (style_shown style.now) name))
-        (cut query.now.query.limit (combinations_in query.now.query set.old.answers)) places step.now) result }
+        (step_text (λ name. line_text query.now.query tables.now
+        (with_name (style_shown style.now) name))
+        (cut query.now.query.limit
+        (combinations_in query.now.query set.old.answers)) places step.now) result }
     ensures held { (places : Places) → IsHeld set.old cursors.old places → CanStep places step.now
-        → OnOk result (IsHeld set.new cursors.new (places_after (cut query.now.query.limit (combinations_in query.now.query set.old.answers)) places step.now)) }
+        → OnOk result (IsHeld set.new cursors.new
+        (places_after (cut query.now.query.limit
+        (combinations_in query.now.query set.old.answers)) places step.now)) }
     ensures kept { OnOk result (set.new.answers ≡ set.old.answers) }
     ensures paid { (places : Places) → IsHeld set.old cursors.old places → CanStep places step.now
-        → Paid E.share set.old set.new (reach_of_step (ends_by_itself query.now.query.limit (combinations_in query.now.query set.old.answers)) (cut query.now.query.limit (combinations_in query.now.query set.old.answers)) places step.now)
-        (calls_of_step (ends_by_itself query.now.query.limit (combinations_in query.now.query set.old.answers)) (cut query.now.query.limit (combinations_in query.now.query set.old.answers)) places step.now) steps.old steps.new result }
+        → Paid E.share set.old set.new
+        (reach_of_step (ends_by_itself query.now.query.limit
+        (combinations_in query.now.query set.old.answers))
+        (cut query.now.query.limit
+        (combinations_in query.now.query set.old.answers)) places step.now)
+        (calls_of_step (ends_by_itself query.now.query.limit
+        (combinations_in query.now.query set.old.answers))
+        (cut query.now.query.limit
+        (combinations_in query.now.query set.old.answers)) places step.now) steps.old steps.new
+        result }
 {
     match step {
         Step::Open(name) => open(set, cursors, name.bytes()),
@@ -166,16 +198,28 @@ fn take_next<'a, E: Ranked, S: Sink, L: Ledger>(
     requires fits { Fits query.now tables.now }
     requires rows { AreCombinations query.now.query tables.now set.old.answers }
     requires same { set.old.places ≡ map (option_map (λ cursor. cursor.place)) cursors.old }
-    ensures printed { (places : Places) → IsHeld set.old cursors.old places → IsSome (places name.now)
+    ensures printed { (places : Places) → IsHeld set.old cursors.old places
+        → IsSome (places name.now)
         → Printed (state_of S.Sink out.old) (state_of S.Sink out.new)
-        (step_text (λ name. line_text query.now.query tables.now (with_name (style_shown style.now) name))
-        (cut query.now.query.limit (combinations_in query.now.query set.old.answers)) places (Next name.now count)) result }
+        (step_text (λ name. line_text query.now.query tables.now
+        (with_name (style_shown style.now) name))
+        (cut query.now.query.limit (combinations_in query.now.query set.old.answers)) places
+        (Next name.now count)) result }
     ensures held { (places : Places) → IsHeld set.old cursors.old places → IsSome (places name.now)
-        → OnOk result (IsHeld set.new cursors.new (places_after (cut query.now.query.limit (combinations_in query.now.query set.old.answers)) places (Next name.now count))) }
+        → OnOk result (IsHeld set.new cursors.new
+        (places_after (cut query.now.query.limit
+        (combinations_in query.now.query set.old.answers)) places (Next name.now count))) }
     ensures kept { OnOk result (set.new.answers ≡ set.old.answers) }
     ensures paid { (places : Places) → IsHeld set.old cursors.old places → IsSome (places name.now)
-        → Paid E.share set.old set.new (reach_of_step (ends_by_itself query.now.query.limit (combinations_in query.now.query set.old.answers)) (cut query.now.query.limit (combinations_in query.now.query set.old.answers)) places (Next name.now count))
-        (calls_of_step (ends_by_itself query.now.query.limit (combinations_in query.now.query set.old.answers)) (cut query.now.query.limit (combinations_in query.now.query set.old.answers)) places (Next name.now count)) steps.old steps.new result }
+        → Paid E.share set.old set.new
+        (reach_of_step (ends_by_itself query.now.query.limit
+        (combinations_in query.now.query set.old.answers))
+        (cut query.now.query.limit (combinations_in query.now.query set.old.answers)) places
+        (Next name.now count))
+        (calls_of_step (ends_by_itself query.now.query.limit
+        (combinations_in query.now.query set.old.answers))
+        (cut query.now.query.limit (combinations_in query.now.query set.old.answers)) places
+        (Next name.now count)) steps.old steps.new result }
 {
     let Some(number) = number_of(cursors, name) else {
         return Ok(());

@@ -13,7 +13,8 @@ use Rattle.union_all.specs.Merged.{EngineSeen}
 abbrev pub steps_from : (List ℕ → ℕ → ℕ) → List Tagged → ℕ → List EngineSeen → ℕ
 steps_from share list b [] = 0
 steps_from share list b (engine ∷ engines) =
-    steps_for (λ n. share engine.size (engine.calls + n)) (members_in b list) + steps_from share list (b + 1) engines
+    steps_for (λ n. share engine.size (engine.calls + n)) (members_in b list)
+    + steps_from share list (b + 1) engines
 
 abbrev pub union_steps : (List ℕ → ℕ → ℕ) → List EngineSeen → List Tagged → ℕ
 union_steps share engines list = steps_from share list 0 engines

@@ -41,13 +41,16 @@ pub fn print_union<'a, 'q, E: Ranked + Drop, S: Sink, L: Ledger>(
     ensures printed { let all = map (λ q. q.query) queries.now in
         Printed (state_of S.Sink out.old) (state_of S.Sink out.new)
         (union_output_of all tables.now (style_shown style.now) (cut limit merge.old.rest)) result }
-    ensures bounded { steps.new ≤ steps.old + union_steps E.share merge.old.engines (cut limit merge.old.rest) }
+    ensures bounded { steps.new
+        ≤ steps.old + union_steps E.share merge.old.engines (cut limit merge.old.rest) }
     ensures prompt { let all = map (λ q. q.query) queries.now in
         let members = cut limit merge.old.rest in
-        (start part : List ℕ) → S.written out.old ≡ Some start → S.written out.new ≡ Some (start ++ part)
+        (start part : List ℕ) → S.written out.old ≡ Some start
+        → S.written out.new ≡ Some (start ++ part)
         → steps.new ≤ steps.old + union_steps E.share merge.old.engines
         (take (whole_lines (map (union_line_text all tables.now (style_shown style.now)) members)
-        (drop (length (union_header_text all tables.now (style_shown style.now))) part) + 1) members) }
+        (drop (length (union_header_text all tables.now (style_shown style.now))) part)
+        + 1) members) }
 {
     print_union_header(alloc, queries, tables, style, out)?;
     print_members(alloc, queries, tables, style, limit, merge, out, steps)
@@ -64,7 +67,8 @@ fn print_union_header<'a, S: Sink>(
     requires some { 1 ≤ length queries.now }
     requires fits { All (λ q. Fits q tables.now) queries.now }
     ensures { Printed (state_of S.Sink out.old) (state_of S.Sink out.new)
-        (union_header_text (map (λ q. q.query) queries.now) tables.now (style_shown style.now)) result }
+        (union_header_text (map (λ q. q.query) queries.now) tables.now
+        (style_shown style.now)) result }
 {
     let text = header_of(alloc, queries, tables, style)?;
     print(out, &text)
@@ -86,7 +90,8 @@ fn print_members<'a, 'q, E: Ranked + Drop, S: Sink, L: Ledger>(
     requires members { AreMembers (map (λ q. q.query) queries.now) tables.now merge.old.rest }
     ensures printed { let all = map (λ q. q.query) queries.now in
         Printed (state_of S.Sink out.old) (state_of S.Sink out.new)
-        (flat_map (union_line_text all tables.now (style_shown style.now)) (cut limit merge.old.rest)) result }
+        (flat_map (union_line_text all tables.now (style_shown style.now))
+        (cut limit merge.old.rest)) result }
     ensures paced { let all = map (λ q. q.query) queries.now in
         UnionPaced (union_steps E.share merge.old.engines)
         (union_line_text all tables.now (style_shown style.now)) (cut limit merge.old.rest)
@@ -122,7 +127,8 @@ fn print_member<'a, S: Sink>(
         IsMember all tables.now (tagged_shown all tagged.now) }
     ensures { let all = map (λ q. q.query) queries.now in
         Printed (state_of S.Sink out.old) (state_of S.Sink out.new)
-        (union_line_text all tables.now (style_shown style.now) (tagged_shown all tagged.now)) result }
+        (union_line_text all tables.now (style_shown style.now)
+        (tagged_shown all tagged.now)) result }
 {
     write_line_of(alloc, records, tagged, queries, tables, style)?;
     print(out, records.text())

@@ -26,10 +26,12 @@ pub fn print_listed<'a, S: Sink>(
     out: &mut S,
 ) -> Result<(), Refusal<'a>>
     requires fits { Fits query.now tables.now }
-    requires rows { AllByRecursion (λ rows. IsCombination (row_counts query.now.query.items tables.now)
+    requires rows { AllByRecursion
+        (λ rows. IsCombination (row_counts query.now.query.items tables.now)
         (take (length query.now.query.items) rows)) answers.now }
     ensures { Printed (state_of S.Sink out.old) (state_of S.Sink out.new)
-        (output_of query.now.query tables.now (style_shown style.now) (map (take (length query.now.query.items)) answers.now)) result }
+        (output_of query.now.query tables.now (style_shown style.now)
+        (map (take (length query.now.query.items)) answers.now)) result }
 {
     print_header(alloc, query, tables, style, out)?;
     print_records(alloc, query, tables, style, answers, out)
@@ -45,10 +47,12 @@ fn print_records<'a, S: Sink>(
     out: &mut S,
 ) -> Result<(), Refusal<'a>>
     requires fits { Fits query.now tables.now }
-    requires rows { AllByRecursion (λ rows. IsCombination (row_counts query.now.query.items tables.now)
+    requires rows { AllByRecursion
+        (λ rows. IsCombination (row_counts query.now.query.items tables.now)
         (take (length query.now.query.items) rows)) answers.now }
     ensures { Printed (state_of S.Sink out.old) (state_of S.Sink out.new)
-        (flat_map (line_text query.now.query tables.now (style_shown style.now)) (map (take (length query.now.query.items)) answers.now)) result }
+        (flat_map (line_text query.now.query tables.now (style_shown style.now))
+        (map (take (length query.now.query.items)) answers.now)) result }
 {
     let mut records = RecordWriter::new(alloc);
     for answer in answers {

@@ -3,5 +3,6 @@ use Rattle.std.specs.Prelude.{◌≡◌, ℕ, ◌+◌, ◌<◌, List, length, sl
 
 -- the table has for each link its number plus 1, and 0 for a link that is not there
 pub record IsTableOf (table links : List ℕ) : Type 0 where
-  pub numbered : (link n : ℕ) → slice_index table link ≡ n + 1 → (n < length links) × (slice_index links n ≡ link)
+  pub numbered : (link n : ℕ) → slice_index table link ≡ n + 1
+      → (n < length links) × (slice_index links n ≡ link)
   pub whole : (n : ℕ) → n < length links → slice_index table (slice_index links n) ≡ n + 1

@@ -13,7 +13,8 @@ pub record IsNumbered (names : List (List (ℕ × ℕ))) (q n : ℕ) (pair : ℕ
 
 -- no pair has two numbers
 abbrev pub AreNumbers : List (List (ℕ × ℕ)) → Type 0
-AreNumbers names = (q m n : ℕ) (pair : ℕ × ℕ) → IsNumbered names q m pair → IsNumbered names q n pair → m ≡ n
+AreNumbers names = (q m n : ℕ) (pair : ℕ × ℕ) → IsNumbered names q m pair
+    → IsNumbered names q n pair → m ≡ n
 
 -- pairs keep their numbers when others are added
 pub record AreMore (old new : List (List (ℕ × ℕ))) : Type 0 where

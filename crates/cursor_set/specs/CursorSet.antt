@@ -37,7 +37,8 @@ with_place s number place = record s { places = slice_set s.places number place 
 
 -- the answer at this place was found already, or the end was seen there
 abbrev pub IsKnownAt : CursorSet → ℕ → Type 0
-IsKnownAt s number = (place : ℕ) × (place_of s number ≡ Some place) × ((place + 1 ≤ s.known) ⊎ (s.ended ≡ true))
+IsKnownAt s number = (place : ℕ) × (place_of s number ≡ Some place)
+    × ((place + 1 ≤ s.known) ⊎ (s.ended ≡ true))
 
 -- no cursor's place passes the answers that were found
 abbrev pub ArePlacesKnown : CursorSet → Type 0

@@ -10,7 +10,8 @@ use Rattle.cursor_set.specs.CursorSet.{CursorSet, place_of, first_free}
 abbrev pub RefusesNext : CursorSet → ℕ → CursorFault → Type 0
 RefusesNext s number (Unknown id) = (id.number ≡ number) × (place_of s number ≡ None)
 RefusesNext s number TooMany = ⊥
-RefusesNext s number NoMemory = IsSomeAnd (place_of s number) (λ place. (s.known ≤ place) × (s.ended ≡ false))
+RefusesNext s number NoMemory = IsSomeAnd (place_of s number)
+    (λ place. (s.known ≤ place) × (s.ended ≡ false))
 
 -- when a fork of a cursor is refused: the cursor is unknown, or no number is free
 abbrev pub RefusesFork : CursorSet → ℕ → CursorFault → Type 0

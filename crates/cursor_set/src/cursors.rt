@@ -34,15 +34,41 @@ impl<E: Ranked> Model for Cursors<E> {
 
     ghost Value = { CursorSet };
 
-    ghost view = { λ s. record { answers = map (λ a. record { rows = a.rows; key = numbers E.Key.KEYS 16 (E.Key.key a.rank) }) s.found.items ++ E.rest s.engine; known = vec_len s.found; ended = s.ended; places = s.places; refused = s.refused; calls = E.calls s.engine; due = E.due s.engine; size = E.size s.engine } };
+    ghost view = { λ s. record {
+      answers = map
+          (λ a. record {
+            rows = a.rows;
+            key = numbers E.Key.KEYS 16
+                (E.Key.key a.rank);
+          }) s.found.items
+          ++ E.rest s.engine;
+      known = vec_len s.found;
+      ended = s.ended;
+      places = s.places;
+      refused = s.refused;
+      calls = E.calls s.engine;
+      due = E.due s.engine;
+      size = E.size s.engine;
+    } };
 
-    ghost invariant = { λ s. (s.ended ≡ true → E.rest s.engine ≡ []) × All (λ p. IfSome p (λ n. n ≤ vec_len s.found)) s.places };
+    ghost invariant = { λ s. (s.ended ≡ true → E.rest s.engine ≡ [])
+        × All (λ p. IfSome p (λ n. n ≤ vec_len s.found)) s.places };
 }
 
 impl<E: Ranked> Cursors<E> {
     /// A set over the answers that `engine` has left, with no open cursor. Takes no memory.
     pub fn new(alloc: Global, engine: E) -> Cursors<E>
-        ensures set { result ≡ record { answers = E.rest engine; known = 0; ended = false; places = replicate 64 None; refused = 0; calls = E.calls engine; due = E.due engine; size = E.size engine } }
+        ensures set { result
+            ≡ record {
+              answers = E.rest engine;
+              known = 0;
+              ended = false;
+              places = replicate 64 None;
+              refused = 0;
+              calls = E.calls engine;
+              due = E.due engine;
+              size = E.size engine;
+            } }
     {
         Cursors {
             engine,
@@ -63,9 +89,13 @@ impl<E: Ranked> Cursors<E> {
     /// Opens the cursor with the least number that is not open, at place 0. The one error is `TooMany`, if all are
     /// open.
     pub fn open(&mut self) -> Result<CursorId, CursorFault>
-        ensures opened { IfOk result (λ id. (first_free self.old ≡ Some id.number) × (self.new ≡ with_place self.old id.number (Some 0))) }
+        ensures opened { IfOk result
+            (λ id. (first_free self.old ≡ Some id.number)
+            × (self.new ≡ with_place self.old id.number (Some 0))) }
         ensures place { IfOk result (λ id. place_of self.new id.number ≡ Some 0) }
-        ensures refused { IfErr result (λ e. (e ≡ CursorFault.TooMany) × (first_free self.old ≡ None) × (self.new ≡ self.old)) }
+        ensures refused { IfErr result
+            (λ e. (e ≡ CursorFault.TooMany) × (first_free self.old ≡ None)
+            × (self.new ≡ self.old)) }
     {
         let number = free_number(&self.places).ok_or(CursorFault::TooMany)?;
         self.places[number] = Some(0);
@@ -80,15 +110,23 @@ impl<E: Ranked> Cursors<E> {
         id: CursorId,
         steps: &mut Steps<L>,
     ) -> Result<Option<Answer<E::Key>>, CursorFault>
-        ensures some { IfOk result (λ o. IfSome o (λ a. IsSomeAnd (place_of self.old id.number) (λ place.
-            (slice_get self.old.answers place ≡ Some (record { rows = a.rows; key = numbers E.Key.KEYS 16 (E.Key.key a.rank) }))
-            × (self.new.places ≡ (with_place self.old id.number (Some (place + 1))).places) × (place + 1 ≤ self.new.known)))) }
-        ensures end { IfOk result (λ o. IfNone o ((place_of self.old id.number ≡ Some (length self.old.answers)) × (self.new.places ≡ self.old.places) × (self.new.ended ≡ true))) }
-        ensures refused { IfErr result (λ e. RefusesNext self.old id.number e × (self.new.places ≡ self.old.places)) }
+        ensures some { IfOk result
+            (λ o. IfSome o (λ a. IsSomeAnd (place_of self.old id.number) (λ place.
+            (slice_get self.old.answers place
+            ≡ Some (record { rows = a.rows; key = numbers E.Key.KEYS 16 (E.Key.key a.rank) }))
+            × (self.new.places ≡ (with_place self.old id.number (Some (place + 1))).places)
+            × (place + 1 ≤ self.new.known)))) }
+        ensures end { IfOk result
+            (λ o. IfNone o ((place_of self.old id.number ≡ Some (length self.old.answers))
+            × (self.new.places ≡ self.old.places) × (self.new.ended ≡ true))) }
+        ensures refused { IfErr result
+            (λ e. RefusesNext self.old id.number e × (self.new.places ≡ self.old.places)) }
         ensures counted { self.new.refused ≡ refused_after result self.old.refused }
         ensures kept { Keeps self.old self.new }
         ensures within { ArePlacesKnown self.new }
-        ensures known { IsKnownAt self.old id.number → (self.new ≡ record self.old { places = self.new.places }) × (steps.new ≤ steps.old + 4) }
+        ensures known { IsKnownAt self.old id.number
+            → (self.new ≡ record self.old { places = self.new.places })
+            × (steps.new ≤ steps.old + 4) }
         ensures grown { seen_of self.new ≤ seen_of self.old + 1 }
         ensures calls { self.new.calls ≤ self.old.calls + 1 }
         ensures cost { steps.new ≤ steps.old + self.old.due + 4 }
@@ -121,9 +159,13 @@ impl<E: Ranked> Cursors<E> {
     /// Opens the cursor with the least number that is not open, at the place of another cursor. `Unknown` if that
     /// cursor is not open, else `TooMany` if all are open.
     pub fn fork(&mut self, id: CursorId) -> Result<CursorId, CursorFault>
-        ensures forked { IfOk result (λ copy. IsSome (place_of self.old id.number) × (first_free self.old ≡ Some copy.number) × (self.new ≡ with_place self.old copy.number (place_of self.old id.number))) }
-        ensures place { IfOk result (λ copy. place_of self.new copy.number ≡ place_of self.old id.number) }
-        ensures refused { IfErr result (λ e. RefusesFork self.old id.number e × (self.new ≡ self.old)) }
+        ensures forked { IfOk result
+            (λ copy. IsSome (place_of self.old id.number) × (first_free self.old ≡ Some copy.number)
+            × (self.new ≡ with_place self.old copy.number (place_of self.old id.number))) }
+        ensures place { IfOk result
+            (λ copy. place_of self.new copy.number ≡ place_of self.old id.number) }
+        ensures refused { IfErr result
+            (λ e. RefusesFork self.old id.number e × (self.new ≡ self.old)) }
     {
         let place = self.places[id.number].ok_or(CursorFault::Unknown(id))?;
         let number = free_number(&self.places).ok_or(CursorFault::TooMany)?;
@@ -133,9 +175,13 @@ impl<E: Ranked> Cursors<E> {
 
     /// Moves a cursor to place 0. `Unknown` if it is not open.
     pub fn rewind(&mut self, id: CursorId) -> Result<(), CursorFault>
-        ensures rewound { IfOk result (λ _. IsSome (place_of self.old id.number) × (self.new ≡ with_place self.old id.number (Some 0))) }
+        ensures rewound { IfOk result
+            (λ _. IsSome (place_of self.old id.number)
+            × (self.new ≡ with_place self.old id.number (Some 0))) }
         ensures place { IfOk result (λ _. place_of self.new id.number ≡ Some 0) }
-        ensures refused { IfErr result (λ e. (e ≡ CursorFault.Unknown id) × (place_of self.old id.number ≡ None) × (self.new ≡ self.old)) }
+        ensures refused { IfErr result
+            (λ e. (e ≡ CursorFault.Unknown id) × (place_of self.old id.number ≡ None)
+            × (self.new ≡ self.old)) }
     {
         self.places[id.number].ok_or(CursorFault::Unknown(id))?;
         self.places[id.number] = Some(0);
@@ -144,8 +190,12 @@ impl<E: Ranked> Cursors<E> {
 
     /// Closes a cursor, whose number is then free. `Unknown` if it is not open.
     pub fn close(&mut self, id: CursorId) -> Result<(), CursorFault>
-        ensures closed { IfOk result (λ _. IsSome (place_of self.old id.number) × (self.new ≡ with_place self.old id.number None)) }
-        ensures refused { IfErr result (λ e. (e ≡ CursorFault.Unknown id) × (place_of self.old id.number ≡ None) × (self.new ≡ self.old)) }
+        ensures closed { IfOk result
+            (λ _. IsSome (place_of self.old id.number)
+            × (self.new ≡ with_place self.old id.number None)) }
+        ensures refused { IfErr result
+            (λ e. (e ≡ CursorFault.Unknown id) × (place_of self.old id.number ≡ None)
+            × (self.new ≡ self.old)) }
     {
         self.places[id.number].ok_or(CursorFault::Unknown(id))?;
         self.places[id.number] = None;

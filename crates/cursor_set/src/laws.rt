@@ -30,14 +30,20 @@ pub fn drive<E: Ranked, L: Ledger>(
     steps: &mut Steps<L>,
 ) -> Driven
     requires { IsOpen cursors.old id.number }
-    ensures places { (place : ℕ) → place_of cursors.old id.number ≡ Some place → cursors.new.places ≡ (with_place cursors.old id.number (Some (place + result.given))).places }
+    ensures places { (place : ℕ) → place_of cursors.old id.number ≡ Some place
+        → cursors.new.places
+        ≡ (with_place cursors.old id.number (Some (place + result.given))).places }
     ensures kept { Keeps cursors.old cursors.new }
-    ensures counted { cursors.new.refused ≡ min (cursors.old.refused + result.refused) (2 ^ 64 - 1) }
+    ensures counted { cursors.new.refused
+        ≡ min (cursors.old.refused + result.refused) (2 ^ 64 - 1) }
     ensures outcome { (place : ℕ) → place_of cursors.old id.number ≡ Some place →
         ((result.given ≡ members) × (result.ended ≡ false) × (result.refused ≤ refusals))
-        ⊎ (((result.given < members) × (result.ended ≡ true) × (result.refused ≤ refusals) × (place + result.given ≡ length cursors.old.answers))
-        ⊎ ((result.given < members) × (result.ended ≡ false) × (result.refused ≡ min (refusals + 1) (2 ^ 64 - 1)))) }
-    ensures covered { (place : ℕ) → place_of cursors.old id.number ≡ Some place → place + members ≤ cursors.old.known → result.refused ≡ 0 }
+        ⊎ (((result.given < members) × (result.ended ≡ true) × (result.refused ≤ refusals)
+        × (place + result.given ≡ length cursors.old.answers))
+        ⊎ ((result.given < members) × (result.ended ≡ false)
+        × (result.refused ≡ min (refusals + 1) (2 ^ 64 - 1)))) }
+    ensures covered { (place : ℕ) → place_of cursors.old id.number ≡ Some place
+        → place + members ≤ cursors.old.known → result.refused ≡ 0 }
     ensures after_end { cursors.old.ended ≡ true → result.refused ≡ 0 }
 {
     let _before = cursors.refused();

@@ -44,7 +44,9 @@ pub fn choose_engine<'t, R: Rank, L: Ledger>(
     requires tie_free { IsTieFreeTree tree.now }
     ensures tree { IfOk result (λ e. tree_of e ≡ tree.now) }
     ensures calls { IfOk result (λ e. calls_of e ≡ 0) }
-    ensures ranking { IfOk result (λ e. (ks : List (KeyOf R.KEYS 16)) × IsTreeRanking tree.now R.KEYS R.key ks × (rest_of R.KEYS R.key e ≡ answers_of R.KEYS ks)) }
+    ensures ranking { IfOk result
+        (λ e. (ks : List (KeyOf R.KEYS 16)) × IsTreeRanking tree.now R.KEYS R.key ks
+        × (rest_of R.KEYS R.key e ≡ answers_of R.KEYS ks)) }
     ensures cost { steps.new ≤ steps.old + 16 * (length tree.now * (1 + row_count tree.now)) }
 {
     match kind {
@@ -69,7 +71,9 @@ pub fn best_engine<'t, R: Rank, L: Ledger>(
     requires tie_free { IsTieFreeTree tree.now }
     ensures tree { IfOk result (λ e. tree_of e ≡ tree.now) }
     ensures calls { IfOk result (λ e. calls_of e ≡ 0) }
-    ensures best { IfOk result (λ e. (ks : List (KeyOf R.KEYS 16)) × IsBestRanking tree.now R.KEYS R.key ks × (rest_of R.KEYS R.key e ≡ answers_of R.KEYS ks)) }
+    ensures best { IfOk result
+        (λ e. (ks : List (KeyOf R.KEYS 16)) × IsBestRanking tree.now R.KEYS R.key ks
+        × (rest_of R.KEYS R.key e ≡ answers_of R.KEYS ks)) }
     ensures cost { steps.new ≤ steps.old + 16 * (length tree.now * (1 + row_count tree.now)) }
 {
     let best = BestPer::new(alloc, tree, steps)?;

@@ -23,4 +23,5 @@ pub record IsPath (parents : List ℕ) (node : ℕ → ℕ) (last : ℕ) : Type 
 -- every node on the path between two nodes with P has it too
 abbrev pub IsConnected : List ℕ → (ℕ → Type 0) → Type 0
 IsConnected parents P =
-    (node : ℕ → ℕ) (last : ℕ) → IsPath parents node last → P (node 0) → P (node last) → (k : ℕ) → k ≤ last → P (node k)
+    (node : ℕ → ℕ) (last : ℕ) → IsPath parents node last → P (node 0) → P (node last) → (k : ℕ)
+    → k ≤ last → P (node k)

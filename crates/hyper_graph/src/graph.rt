@@ -103,7 +103,9 @@ impl Graph {
     /// `None` exactly if there is none, that is, if `a` is not an ear. Bits of `live` beyond the atoms are ignored.
     pub fn is_ear(&self, a: u32, live: u16) -> Option<u32>
         requires { IsLiveIn self.now live a }
-        ensures { MatchOption result ((f : ℕ) → Covers (HasVar self.now) (IsLiveIn self.now live) a f → ⊥) (λ f. CoversFirst (HasVar self.now) (IsLiveIn self.now live) a f) }
+        ensures { MatchOption result
+            ((f : ℕ) → Covers (HasVar self.now) (IsLiveIn self.now live) a f → ⊥)
+            (λ f. CoversFirst (HasVar self.now) (IsLiveIn self.now live) a f) }
     {
         for f in 0..self.atom_count {
             if self.covers(live, a, f) {

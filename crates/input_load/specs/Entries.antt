@@ -15,7 +15,8 @@ abbrev pub tables_of : List (List ℕ × List ℕ) → List (List ℕ)
 tables_of entries = map (λ (entry : List ℕ × List ℕ). entry.0) entries
 
 -- entries that name the tables of these items were added to those that were there
-pub record HasAdded (named : List (List ℕ × List ℕ)) (items : List ItemRef) (before : List (List ℕ × List ℕ))
+pub record HasAdded (named : List (List ℕ × List ℕ)) (items : List ItemRef)
+    (before : List (List ℕ × List ℕ))
     (now : List (List ℕ × List ℕ)) : Type 0 where
   pub tables : tables_of now ≡ tables_of before ++ table_names items
   pub entries : AllByRecursion (IsEntryOf named) before → AllByRecursion (IsEntryOf named) now

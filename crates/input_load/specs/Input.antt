@@ -31,7 +31,8 @@ pub record IsSound (input : InputData) : Type 0 where
   pub few : length input.queries ≤ 8
   pub fits : All (λ (q : BoundQuery). Fits q input.tables) input.queries
   pub keys : (keys : ℕ) × HaveKeys keys (queries_in input.queries)
-  pub item : IfSome input.best (λ item. AllByRecursion (λ (q : BoundQuery). item < length q.query.items) input.queries)
+  pub item : IfSome input.best
+      (λ item. AllByRecursion (λ (q : BoundQuery). item < length q.query.items) input.queries)
   pub rules : KeepsRules [] input.steps
 
 -- what is known of the input

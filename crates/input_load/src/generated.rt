@@ -57,7 +57,9 @@ fn push_named(
     table: &str,
     file: &str,
 ) -> Result<(), NoMemory>
-    ensures { OnOk result (map named_pair named.new.items ≡ map named_pair named.old.items ++ (table.now, file.now) ∷ []) }
+    ensures { OnOk result
+        (map named_pair named.new.items
+        ≡ map named_pair named.old.items ++ (table.now, file.now) ∷ []) }
 {
     let table = String::from_str(alloc, table)?;
     let file = String::from_str(alloc, file)?;

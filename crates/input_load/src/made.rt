@@ -38,7 +38,8 @@ pub fn load_made<'a>(alloc: Global, made: &'a MadeTables) -> Result<Input, Refus
 
 // The file of the query and the files of the tables, in memory.
 fn made_shelf(alloc: Global, made: &MadeTables) -> Result<Vec<MemFile>, NoMemory>
-    ensures { IfOk result (λ files. map entry_of files.items ≡ made_files made.now.number made.now.rows) }
+    ensures { IfOk result
+        (λ files. map entry_of files.items ≡ made_files made.now.number made.now.rows) }
 {
     let mut files = Vec::new(alloc);
     let name = String::from_str(alloc, "load.sql")?;

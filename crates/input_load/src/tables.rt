@@ -52,7 +52,8 @@ fn read_table<'a, F: Shelf>(
     requires { length tables.old < 16 }
     ensures longer { OnOk result (length tables.new ≡ length tables.old + 1) }
     ensures staged { (named : List (List ℕ × List ℕ)) → IsEntryOf named (named_pair entry.now)
-        → Staged (λ files. Is (table_after tables.old (table_in files named (string_bytes entry.now.table))))
+        → Staged (λ files. Is
+        (table_after tables.old (table_in files named (string_bytes entry.now.table))))
         (λ files file. file ≡ string_bytes entry.now.file)
         (shelved F.Shelf shelf.old) (shelved F.Shelf shelf.new) (said_as tables.new result) }
 {
@@ -65,7 +66,8 @@ fn add_table<'a>(name: &'a [u8], bytes: &[u8], tables: &mut Tables) -> Result<()
     requires few { length tables.old < 16 }
     requires size { length bytes.now ≤ 67108864 }
     ensures longer { OnOk result (length tables.new ≡ length tables.old + 1) }
-    ensures added { Pure (Is (table_after tables.old (sound_table name.now bytes.now))) (said_as tables.new result) }
+    ensures added { Pure (Is (table_after tables.old (sound_table name.now bytes.now)))
+        (said_as tables.new result) }
 {
     match tables.read(bytes) {
         Ok(_) => Ok(()),

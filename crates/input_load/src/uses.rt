@@ -27,9 +27,11 @@ pub(crate) fn entries_of<'a>(
         Pure (Is (unless (unknown_table words (all_items selects.now)) selects.now))
         (said_as selects.now result) }
     ensures tables { IfOk result (λ entries.
-        tables_of (map (λ e. named_pair e.now) entries.items) ≡ table_names (all_items selects.now)) }
+        tables_of (map (λ e. named_pair e.now) entries.items)
+        ≡ table_names (all_items selects.now)) }
     ensures entries { IfOk result (λ entries.
-        AllByRecursion (IsEntryOf (map named_pair named.now)) (map (λ e. named_pair e.now) entries.items)) }
+        AllByRecursion (IsEntryOf (map named_pair named.now))
+        (map (λ e. named_pair e.now) entries.items)) }
 {
     let mut entries = Vec::new(alloc);
     for select in selects {
@@ -48,7 +50,8 @@ fn add_entries<'a>(
     ensures known { let words = map named_pair named.now in
         Pure (Is (unless (unknown_table words items.now) items.now)) (said_as items.now result) }
     ensures added { OnOk result (HasAdded (map named_pair named.now) items.now
-        (map (λ e. named_pair e.now) entries.old.items) (map (λ e. named_pair e.now) entries.new.items)) }
+        (map (λ e. named_pair e.now) entries.old.items)
+        (map (λ e. named_pair e.now) entries.new.items)) }
 {
     for item in items {
         let Some(entry) = entry_of(named, item.table.bytes()) else {
@@ -63,7 +66,8 @@ fn add_entries<'a>(
 
 // The first entry for this table, if there is one.
 fn entry_of<'a>(named: &'a [Named], table: &[u8]) -> Option<&'a Named>
-    ensures { option_map (λ e. e.now) result ≡ find (λ e. bytes_eq (string_bytes e.table) table.now) named.now }
+    ensures { option_map (λ e. e.now) result
+        ≡ find (λ e. bytes_eq (string_bytes e.table) table.now) named.now }
 {
     named.iter().find(|entry| entry.table.as_bytes() == table)
 }
@@ -75,8 +79,10 @@ pub(crate) fn first_entries<'a>(
 ) -> Result<Vec<&'a Named>, NoMemory>
     ensures tables { IfOk result (λ firsts. tables_of (map (λ e. named_pair e.now) firsts.items)
         ≡ first_uses_after [] (tables_of (map (λ e. named_pair e.now) entries.now))) }
-    ensures entries { (named : List (List ℕ × List ℕ)) → AllByRecursion (IsEntryOf named) (map (λ e. named_pair e.now) entries.now)
-        → IfOk result (λ firsts. AllByRecursion (IsEntryOf named) (map (λ e. named_pair e.now) firsts.items)) }
+    ensures entries { (named : List (List ℕ × List ℕ))
+        → AllByRecursion (IsEntryOf named) (map (λ e. named_pair e.now) entries.now)
+        → IfOk result (λ firsts. AllByRecursion (IsEntryOf named)
+        (map (λ e. named_pair e.now) firsts.items)) }
     ensures few { IfOk result (λ firsts. length firsts.items ≤ length entries.now) }
 {
     let mut firsts = Vec::new(alloc);
@@ -102,7 +108,10 @@ pub(crate) fn table_numbers(
     firsts: &[&Named],
 ) -> Result<Vec<u32>, NoMemory>
     requires { length firsts.now ≤ 16 }
-    ensures { IfOk result (λ numbers. numbers.items ≡ map (λ name. position_or_len (λ other. bytes_eq other name) (tables_of (map (λ e. named_pair e.now) firsts.now)))
+    ensures { IfOk result
+        (λ numbers. numbers.items
+        ≡ map (λ name. position_or_len (λ other. bytes_eq other name)
+        (tables_of (map (λ e. named_pair e.now) firsts.now)))
         (tables_of (map (λ e. named_pair e.now) entries.now))) }
 {
     let mut numbers = Vec::new(alloc);
@@ -115,7 +124,8 @@ pub(crate) fn table_numbers(
 // The place of the table among `firsts`, from 0, or their number if it is not there.
 fn table_number(firsts: &[&Named], table: &str) -> u32
     requires { length firsts.now ≤ 16 }
-    ensures { result ≡ position_or_len (λ e. bytes_eq (string_bytes e.now.table) table.now) firsts.now }
+    ensures { result ≡ position_or_len
+        (λ e. bytes_eq (string_bytes e.now.table) table.now) firsts.now }
 {
     let mut number = 0u32;
     for first in firsts {

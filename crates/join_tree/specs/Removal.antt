@@ -15,7 +15,9 @@ pub record IsStep (Has : ℕ → ℕ → Type 0) (Live : ℕ → Type 0) (e f : 
 
 -- the first `removed` atoms of `order` are removed one after another, each below its parent, and `core` is what is left
 pub record IsRun (graph : Hypergraph) (parent order : List ℕ) (removed core : ℕ) : Type 0 where
-  pub steps : (k : ℕ) → k < removed → IsStep (HasVar graph) (IsLive graph.atoms order k) (slice_index order k) (slice_index parent (slice_index order k))
+  pub steps : (k : ℕ) → k < removed
+      → IsStep (HasVar graph) (IsLive graph.atoms order k) (slice_index order k)
+      (slice_index parent (slice_index order k))
   pub left : (a : ℕ) → IsIn core a ↔ IsLive graph.atoms order removed a
 
 -- the set has one atom
@@ -31,13 +33,17 @@ pub record IsRemoval (graph : Hypergraph) (parent order : List ℕ) (removed cor
 
 -- ears are removed in any order until none is left: each atom of `order` is an ear when its turn comes, and need not be the greatest
 pub record IsAnyRemoval (graph : Hypergraph) (order : List ℕ) (removed : ℕ) : Type 0 where
-  pub ears : (k : ℕ) → k < removed → IsEar (HasVar graph) (IsLive graph.atoms order k) (slice_index order k)
+  pub ears : (k : ℕ) → k < removed
+      → IsEar (HasVar graph) (IsLive graph.atoms order k) (slice_index order k)
   pub stuck : (e : ℕ) → IsEar (HasVar graph) (IsLive graph.atoms order removed) e → ⊥
 
 -- the tree of a removal that leaves one atom: its atoms in the reverse of the order in which they were removed, each below its parent
-pub record IsTreeOf (parent order : List ℕ) (removed core : ℕ) (atoms parents : List ℕ) : Type 0 where
+pub record IsTreeOf (parent order : List ℕ) (removed core : ℕ)
+    (atoms parents : List ℕ) : Type 0 where
   pub root : IsIn core (slice_index atoms 0)
   pub top : slice_index parents 0 ≡ 0
-  pub reversed : (k : ℕ) → 0 < k → k ≤ removed → slice_index atoms k ≡ slice_index order (removed - k)
+  pub reversed : (k : ℕ) → 0 < k → k ≤ removed
+      → slice_index atoms k ≡ slice_index order (removed - k)
   pub earlier : (k : ℕ) → 0 < k → k ≤ removed → slice_index parents k < k
-  pub hung : (k : ℕ) → 0 < k → k ≤ removed → slice_index atoms (slice_index parents k) ≡ slice_index parent (slice_index atoms k)
+  pub hung : (k : ℕ) → 0 < k → k ≤ removed
+      → slice_index atoms (slice_index parents k) ≡ slice_index parent (slice_index atoms k)

@@ -13,7 +13,9 @@ use hyper_graph::{Graph, all_below, contains, without};
 fn parent_of(graph: &Graph, live: u16, ear: u32) -> Option<u32>
     requires within { ear < graph.now.atoms }
     requires few { ear < 16 }
-    ensures { MatchOption result (IsEar (HasVar graph.now) (IsLiveIn graph.now live) ear → ⊥) (λ f. IsLiveIn graph.now live ear × CoversFirst (HasVar graph.now) (IsLiveIn graph.now live) ear f) }
+    ensures { MatchOption result (IsEar (HasVar graph.now) (IsLiveIn graph.now live) ear → ⊥)
+        (λ f. IsLiveIn graph.now live ear
+        × CoversFirst (HasVar graph.now) (IsLiveIn graph.now live) ear f) }
 {
     if contains(live, ear) {
         graph.is_ear(ear, live)
@@ -24,7 +26,9 @@ fn parent_of(graph: &Graph, live: u16, ear: u32) -> Option<u32>
 
 // The greatest ear, and the least atom that covers it.
 fn greatest_ear(graph: &Graph, live: u16) -> Option<(u32, u32)>
-    ensures { MatchOption result ((e : ℕ) → IsEar (HasVar graph.now) (IsLiveIn graph.now live) e → ⊥) (λ found. IsStep (HasVar graph.now) (IsLiveIn graph.now live) found.0 found.1) }
+    ensures { MatchOption result
+        ((e : ℕ) → IsEar (HasVar graph.now) (IsLiveIn graph.now live) e → ⊥)
+        (λ found. IsStep (HasVar graph.now) (IsLiveIn graph.now live) found.0 found.1) }
 {
     for ear in (0..graph.atoms()).rev() {
         if let Some(parent) = parent_of(graph, live, ear) {
@@ -40,7 +44,8 @@ fn greatest_ear(graph: &Graph, live: u16) -> Option<(u32, u32)>
 pub fn ears(graph: &Graph) -> Ears
     ensures removal { IsRemoval graph.now result.parent result.order result.removed result.core }
     ensures one { HasOne result.core ↔ HasJoinTree graph.now }
-    ensures any_order { (order : List ℕ) (removed : ℕ) → IsAnyRemoval graph.now order removed → (removed + 1 ≡ graph.now.atoms) ↔ HasJoinTree graph.now }
+    ensures any_order { (order : List ℕ) (removed : ℕ) → IsAnyRemoval graph.now order removed
+        → (removed + 1 ≡ graph.now.atoms) ↔ HasJoinTree graph.now }
 {
     let mut ears = Ears {
         parent: [0; 16],

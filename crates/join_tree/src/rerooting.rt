@@ -15,8 +15,11 @@ pub fn reroot(tree: &JoinTree, atom: u32) -> JoinTree
     ensures count { result.count ≡ tree.now.count }
     ensures root { slice_index result.atom 0 ≡ atom }
     ensures tree { IsTree result.count result.atom result.parent }
-    ensures same { IsSameTree tree.now.count tree.now.atom tree.now.parent result.atom result.parent }
-    ensures graphs { (graph : Hypergraph) → IsJoinTree graph (take tree.now.count tree.now.atom) (take tree.now.count tree.now.parent) →
+    ensures same { IsSameTree tree.now.count tree.now.atom tree.now.parent result.atom
+        result.parent }
+    ensures graphs { (graph : Hypergraph)
+        → IsJoinTree graph (take tree.now.count tree.now.atom)
+        (take tree.now.count tree.now.parent) →
         IsJoinTree graph (take result.count result.atom) (take result.count result.parent) }
 {
     reroot_at(tree, node_of(tree, atom))
@@ -30,7 +33,8 @@ fn reroot_at(tree: &JoinTree, node: u32) -> JoinTree
     ensures tree { IsTree tree.now.count result.atom result.parent }
     ensures nodes { length result.atom ≡ 16 }
     ensures parents { length result.parent ≡ 16 }
-    ensures renumbered { (r : IsRenumbered tree.now.count tree.now.atom tree.now.parent result.atom result.parent) × (r.old 0 ≡ node) }
+    ensures renumbered { (r : IsRenumbered tree.now.count tree.now.atom tree.now.parent result.atom result.parent)
+        × (r.old 0 ≡ node) }
 {
     if node == 0 {
         return *tree;
@@ -62,7 +66,8 @@ fn raise(tree: &JoinTree, child: u32) -> JoinTree
     ensures count { result.count ≡ tree.now.count }
     ensures nodes { length result.atom ≡ 16 }
     ensures parents { length result.parent ≡ 16 }
-    ensures raised { IsRaised child tree.now.count tree.now.atom tree.now.parent result.atom result.parent }
+    ensures raised { IsRaised child tree.now.count tree.now.atom tree.now.parent result.atom
+        result.parent }
 {
     let mut raised = *tree;
     for k in 0..tree.count {

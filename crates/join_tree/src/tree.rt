@@ -23,12 +23,17 @@ pub struct JoinTree {
 /// The join tree of a graph whose ears were removed. The last atom left is its root, and the others are in the reverse
 /// of the order in which they were removed. `None` exactly if the graph has no join tree.
 pub fn tree_of(ears: &Ears) -> Option<JoinTree>
-    requires { (graph : Hypergraph) × IsRemoval graph ears.now.parent ears.now.order ears.now.removed ears.now.core }
-    ensures tree { (graph : Hypergraph) → IsRemoval graph ears.now.parent ears.now.order ears.now.removed ears.now.core →
-        MatchOption result (HasJoinTree graph → ⊥) (λ tree. IsJoinTree graph (take tree.count tree.atom) (take tree.count tree.parent)) }
+    requires { (graph : Hypergraph)
+        × IsRemoval graph ears.now.parent ears.now.order ears.now.removed ears.now.core }
+    ensures tree { (graph : Hypergraph)
+        → IsRemoval graph ears.now.parent ears.now.order ears.now.removed ears.now.core →
+        MatchOption result (HasJoinTree graph → ⊥)
+        (λ tree. IsJoinTree graph (take tree.count tree.atom) (take tree.count tree.parent)) }
     ensures count { IfSome result (λ tree. tree.count ≡ ears.now.removed + 1) }
     ensures ordered { IfSome result (λ tree. IsTree tree.count tree.atom tree.parent) }
-    ensures nodes { IfSome result (λ tree. IsTreeOf ears.now.parent ears.now.order ears.now.removed ears.now.core (take tree.count tree.atom) (take tree.count tree.parent)) }
+    ensures nodes { IfSome result
+        (λ tree. IsTreeOf ears.now.parent ears.now.order ears.now.removed ears.now.core
+        (take tree.count tree.atom) (take tree.count tree.parent)) }
 {
     let root = only_atom(ears.core)?;
     Some(hang(ears, root))
@@ -36,7 +41,8 @@ pub fn tree_of(ears: &Ears) -> Option<JoinTree>
 
 // The one atom of a set, if it has exactly one.
 fn only_atom(set: u16) -> Option<u32>
-    ensures { MatchOption result (HasOne set → ⊥) (λ a. IsIn set a × ((b : ℕ) → IsIn set b → b ≡ a)) }
+    ensures { MatchOption result (HasOne set → ⊥)
+        (λ a. IsIn set a × ((b : ℕ) → IsIn set b → b ≡ a)) }
 {
     let atom = least(set);
     if atom < 16 && without(set, atom) == 0 {
@@ -48,13 +54,15 @@ fn only_atom(set: u16) -> Option<u32>
 
 // The tree of a removal that leaves only this root.
 fn hang(ears: &Ears, root: u32) -> JoinTree
-    requires removal { (graph : Hypergraph) × IsRemoval graph ears.now.parent ears.now.order ears.now.removed ears.now.core }
+    requires removal { (graph : Hypergraph)
+        × IsRemoval graph ears.now.parent ears.now.order ears.now.removed ears.now.core }
     requires one { HasOne ears.now.core }
     requires root { IsIn ears.now.core root }
     ensures count { result.count ≡ ears.now.removed + 1 }
     ensures nodes { length result.atom ≡ 16 }
     ensures parents { length result.parent ≡ 16 }
-    ensures tree { IsTreeOf ears.now.parent ears.now.order ears.now.removed ears.now.core result.atom result.parent }
+    ensures tree { IsTreeOf ears.now.parent ears.now.order ears.now.removed ears.now.core
+        result.atom result.parent }
 {
     let mut tree = JoinTree {
         count: ears.removed + 1,

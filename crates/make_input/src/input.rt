@@ -42,7 +42,8 @@ impl Draws {
 #[tactic(auto, unfolding(crate::specs::Input::draw, crate::specs::Input::row_text))]
 fn push_row(text: &mut String, modulus: u32, draws: &mut Draws) -> Result<(), AllocError>
     requires { 1 ≤ modulus }
-    ensures text { IfOk result (λ _. string_bytes text.new ≡ string_bytes text.old ++ row_text modulus draws.old.last) }
+    ensures text { IfOk result
+        (λ _. string_bytes text.new ≡ string_bytes text.old ++ row_text modulus draws.old.last) }
     ensures after { draws.new.last ≡ draw draws.old.last 2 }
 {
     let value = draws.next() / 128;

@@ -21,11 +21,17 @@ fails_next s = has_number s.failing (saturating s.calls 1)
 
 -- the shelf after a call that fails, which left it holding this
 abbrev pub failed_with : FailingShelf → Holding → FailingShelf
-failed_with s holding = record { holding = holding; failing = s.failing; calls = saturating s.calls 1; faults = saturating s.faults 1 }
+failed_with s holding = record {
+  holding = holding;
+  failing = s.failing;
+  calls = saturating s.calls 1;
+  faults = saturating s.faults 1;
+}
 
 -- the shelf after a call that does not fail, which left it holding this
 abbrev pub went_with : FailingShelf → Holding → FailingShelf
-went_with s holding = record { holding = holding; failing = s.failing; calls = saturating s.calls 1; faults = s.faults }
+went_with s holding = record
+    { holding = holding; failing = s.failing; calls = saturating s.calls 1; faults = s.faults }
 
 -- with no file open
 abbrev pub closed : Holding → Holding
@@ -42,15 +48,18 @@ opened h name = record {
 
 -- after a read of n bytes
 abbrev pub read_on : Holding → ℕ → Holding
-read_on h n = record { files = h.files; rest = drop n h.rest; misses = h.misses; taken = saturating h.taken n }
+read_on h n = record
+    { files = h.files; rest = drop n h.rest; misses = h.misses; taken = saturating h.taken n }
 
 -- after a call of `open`
 abbrev pub after_open : FailingShelf → List ℕ → FailingShelf
-after_open s name = if fails_next s then failed_with s (closed s.holding) else went_with s (opened s.holding name)
+after_open s name = if fails_next s then failed_with s (closed s.holding) else went_with s
+    (opened s.holding name)
 
 -- after a call of `read` with room for n bytes
 abbrev pub after_read : FailingShelf → ℕ → FailingShelf
-after_read s n = if fails_next s then failed_with s s.holding else went_with s (read_on s.holding (min n (length s.holding.rest)))
+after_read s n = if fails_next s then failed_with s s.holding else went_with s
+    (read_on s.holding (min n (length s.holding.rest)))
 
 pub record FailingSink : Type 0 where
   pub bytes : List ℕ

@@ -24,9 +24,11 @@ LacksFile (Some files) name = bytes_of files name ≡ None
 
 -- the files are known, and the one of this name has more than n bytes
 abbrev pub HasLongFile : ℕ → Option Files → List ℕ → Type 0
-HasLongFile n files name = (all : Files) × (bytes : List ℕ) × (files ≡ Some all) × (bytes_of all name ≡ Some bytes) × (n < length bytes)
+HasLongFile n files name = (all : Files) × (bytes : List ℕ) × (files ≡ Some all)
+    × (bytes_of all name ≡ Some bytes) × (n < length bytes)
 
 -- if the files are known: the one of this name has more than n bytes
 abbrev pub IsNoShortFile : ℕ → Option Files → List ℕ → Type 0
 IsNoShortFile n None name = Unit {0}
-IsNoShortFile n (Some all) name = (bytes : List ℕ) × (bytes_of all name ≡ Some bytes) × (n < length bytes)
+IsNoShortFile n (Some all) name = (bytes : List ℕ) × (bytes_of all name ≡ Some bytes)
+    × (n < length bytes)

@@ -64,7 +64,8 @@ impl Model for Held {
 impl Held {
     /// These files, none open, with both counts at 0.
     pub fn new(files: Vec<MemFile>) -> Held
-        ensures { result ≡ record { files = map entry_of files.items; rest = []; misses = 0; taken = 0 } }
+        ensures { result ≡ record
+            { files = map entry_of files.items; rest = []; misses = 0; taken = 0 } }
     {
         Held {
             files,
@@ -127,7 +128,8 @@ impl Held {
 // The place of the first file of this name, from 0.
 fn place_of(files: &[MemFile], name: &str) -> Option<usize>
     ensures { MatchOption result (bytes_of (map entry_of files.now) name.now ≡ None)
-        (λ place. bytes_of (map entry_of files.now) name.now ≡ Some (rest_at files.now (Some place) 0)) }
+        (λ place. bytes_of (map entry_of files.now) name.now
+        ≡ Some (rest_at files.now (Some place) 0)) }
 {
     first_named(files, name)
 }

@@ -112,7 +112,11 @@ impl MemSink {
     // Takes all of a piece, for which there is room.
     fn take(&mut self, piece: &[u8])
         requires { length piece.now ≤ self.old.room }
-        ensures { self.new ≡ record self.old { bytes = self.old.bytes ++ piece.now; room = self.old.room - length piece.now } }
+        ensures { self.new ≡ record self.old {
+          bytes = self.old.bytes
+              ++ piece.now;
+          room = self.old.room - length piece.now;
+        } }
     {
         let Ok(()) = self.bytes.extend_from_slice(piece) else {
             unreachable!();
@@ -130,9 +134,11 @@ impl Sink for MemSink {
 
     fn write(&mut self, bytes: &[u8]) -> Result<usize, WriteFailed>
         ensures within { IfOk result (λ n. n ≤ length bytes.now) }
-        ensures written { WriteAppends (Some self.old.bytes) (Some self.new.bytes) result bytes.now }
+        ensures written { WriteAppends (Some self.old.bytes)
+            (Some self.new.bytes) result bytes.now }
         ensures failed { OnErr result (Rose self.old.faults self.new.faults) }
-        ensures stuck { IfOk result (λ n. n ≡ 0 → 0 < length bytes.now → Rose self.old.faults self.new.faults) }
+        ensures stuck { IfOk result
+            (λ n. n ≡ 0 → 0 < length bytes.now → Rose self.old.faults self.new.faults) }
         ensures faults { self.old.faults ≤ self.new.faults }
         ensures answer { result_ok result ≡ answer_to self.old (length bytes.now) }
         ensures after { self.new ≡ after_write self.old bytes.now }

@@ -87,10 +87,13 @@ impl Shelf for MemShelf {
 
     fn open(&mut self, name: &str) -> Result<(), ShelfFault>
         ensures files { self.new.holding.files ≡ self.old.holding.files }
-        ensures opened { OnOk result (HasFile (Some self.old.holding.files) name.now (Some self.new.holding.rest)) }
+        ensures opened { OnOk result
+            (HasFile (Some self.old.holding.files) name.now (Some self.new.holding.rest)) }
         ensures closed { OnErr result (self.new.holding.rest ≡ []) }
-        ensures lacks { IsErrOf result ShelfFault.Missing → LacksFile (Some self.old.holding.files) name.now }
-        ensures missing { IsErrOf result ShelfFault.Missing → Rose self.old.holding.misses self.new.holding.misses }
+        ensures lacks { IsErrOf result ShelfFault.Missing
+            → LacksFile (Some self.old.holding.files) name.now }
+        ensures missing { IsErrOf result ShelfFault.Missing
+            → Rose self.old.holding.misses self.new.holding.misses }
         ensures failed { IsErrOf result ShelfFault.Failed → Rose self.old.faults self.new.faults }
         ensures misses { self.old.holding.misses ≤ self.new.holding.misses }
         ensures faults { self.old.faults ≤ self.new.faults }
@@ -112,12 +115,14 @@ impl Shelf for MemShelf {
     fn read(&mut self, buf: &mut [u8]) -> Result<usize, ReadFailed>
         ensures files { self.new.holding.files ≡ self.old.holding.files }
         ensures within { IfOk result (λ n. n ≤ length buf.new) }
-        ensures bytes { ReadConsumes (Some self.old.holding.rest) (Some self.new.holding.rest) result buf.new }
+        ensures bytes { ReadConsumes (Some self.old.holding.rest)
+            (Some self.new.holding.rest) result buf.new }
         ensures failed { OnErr result (Rose self.old.faults self.new.faults) }
         ensures misses { self.old.holding.misses ≤ self.new.holding.misses }
         ensures faults { self.old.faults ≤ self.new.faults }
         ensures taken { self.old.holding.taken ≤ self.new.holding.taken }
-        ensures taken_by { IfOk result (λ n. RoseBy n self.old.holding.taken self.new.holding.taken) }
+        ensures taken_by { IfOk result
+            (λ n. RoseBy n self.old.holding.taken self.new.holding.taken) }
         ensures taken_fits { OnOk result (self.new.holding.taken ≤ last_count) }
         ensures fails { IsErr result ↔ IsTrue (fails_next self.old) }
         ensures count { IfOk result (λ n. n ≡ min (length buf.old) (length self.old.holding.rest)) }
@@ -148,7 +153,8 @@ impl PureShelf {
     /// A shelf of these files, whose names must be distinct. No file is open, and all counts are 0.
     pub fn new(files: Vec<MemFile>) -> PureShelf
         requires { IsTrue (are_distinct files.items) }
-        ensures { result ≡ record { files = map entry_of files.items; rest = []; misses = 0; taken = 0 } }
+        ensures { result ≡ record
+            { files = map entry_of files.items; rest = []; misses = 0; taken = 0 } }
     {
         PureShelf {
             held: Held::new(files),
@@ -173,7 +179,8 @@ impl Shelf for PureShelf {
         ensures files { self.new.files ≡ self.old.files }
         ensures opened { OnOk result (HasFile (Some self.old.files) name.now (Some self.new.rest)) }
         ensures closed { OnErr result (self.new.rest ≡ []) }
-        ensures lacks { IsErrOf result ShelfFault.Missing → LacksFile (Some self.old.files) name.now }
+        ensures lacks { IsErrOf result ShelfFault.Missing
+            → LacksFile (Some self.old.files) name.now }
         ensures missing { IsErrOf result ShelfFault.Missing → Rose self.old.misses self.new.misses }
         ensures failed { IsErrOf result ShelfFault.Failed → ⊥ }
         ensures misses { self.old.misses ≤ self.new.misses }

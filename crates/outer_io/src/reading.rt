@@ -56,11 +56,16 @@ pub fn read_file<F: Shelf>(alloc: Global, shelf: &mut F, name: &str) -> Result<V
     ensures bytes { IfOk result (λ bytes. HasFile (F.files shelf.old) name.now (Some bytes.items)) }
     ensures short { IfOk result (λ bytes. vec_len bytes ≤ MAX_FILE_BYTES) }
     ensures lacks { IsErrOf result FileFault.Missing → LacksFile (F.files shelf.old) name.now }
-    ensures missing { IsErrOf result FileFault.Missing → Rose (F.misses shelf.old) (F.misses shelf.new) }
-    ensures failed { IsErrOf result FileFault.Failed → Rose (F.faults shelf.old) (F.faults shelf.new) }
-    ensures too_large { IsErrOf result FileFault.TooLarge → RoseAbove MAX_FILE_BYTES (F.taken shelf.old) (F.taken shelf.new) }
-    ensures long { IsErrOf result FileFault.TooLarge → IsNoShortFile MAX_FILE_BYTES (F.files shelf.old) name.now }
-    ensures always { HasLongFile MAX_FILE_BYTES (F.files shelf.old) name.now → (Rose (F.faults shelf.old) (F.faults shelf.new) → ⊥)
+    ensures missing { IsErrOf result FileFault.Missing
+        → Rose (F.misses shelf.old) (F.misses shelf.new) }
+    ensures failed { IsErrOf result FileFault.Failed
+        → Rose (F.faults shelf.old) (F.faults shelf.new) }
+    ensures too_large { IsErrOf result FileFault.TooLarge
+        → RoseAbove MAX_FILE_BYTES (F.taken shelf.old) (F.taken shelf.new) }
+    ensures long { IsErrOf result FileFault.TooLarge
+        → IsNoShortFile MAX_FILE_BYTES (F.files shelf.old) name.now }
+    ensures always { HasLongFile MAX_FILE_BYTES (F.files shelf.old) name.now
+        → (Rose (F.faults shelf.old) (F.faults shelf.new) → ⊥)
         → IsErrOf result FileFault.TooLarge ⊎ IsErrOf result FileFault.NoMemory }
     ensures misses { F.misses shelf.old ≤ F.misses shelf.new }
     ensures faults { F.faults shelf.old ≤ F.faults shelf.new }
@@ -79,9 +84,12 @@ fn read_to_end<F: Shelf>(alloc: Global, shelf: &mut F) -> Result<Vec<u8>, FileFa
     ensures bytes { IfOk result (λ bytes. IfSome (F.rest shelf.old) (λ all. bytes.items ≡ all)) }
     ensures short { IfOk result (λ bytes. vec_len bytes ≤ MAX_FILE_BYTES) }
     ensures held { IsErrOf result FileFault.Missing → ⊥ }
-    ensures failed { IsErrOf result FileFault.Failed → Rose (F.faults shelf.old) (F.faults shelf.new) }
-    ensures too_large { IsErrOf result FileFault.TooLarge → RoseAbove MAX_FILE_BYTES (F.taken shelf.old) (F.taken shelf.new) }
-    ensures long { IsErrOf result FileFault.TooLarge → IfSome (F.rest shelf.old) (λ all. MAX_FILE_BYTES < length all) }
+    ensures failed { IsErrOf result FileFault.Failed
+        → Rose (F.faults shelf.old) (F.faults shelf.new) }
+    ensures too_large { IsErrOf result FileFault.TooLarge
+        → RoseAbove MAX_FILE_BYTES (F.taken shelf.old) (F.taken shelf.new) }
+    ensures long { IsErrOf result FileFault.TooLarge
+        → IfSome (F.rest shelf.old) (λ all. MAX_FILE_BYTES < length all) }
     ensures misses { F.misses shelf.old ≤ F.misses shelf.new }
     ensures faults { F.faults shelf.old ≤ F.faults shelf.new }
     ensures taken { F.taken shelf.old ≤ F.taken shelf.new }
@@ -111,11 +119,14 @@ fn read_more<F: Shelf>(
     ensures files { F.files shelf.new ≡ F.files shelf.old }
     ensures front { take filled bytes.new.items ≡ take filled bytes.old.items }
     ensures fits { IfOk result (λ n. filled + n ≤ vec_len bytes.new) }
-    ensures read { IfOk result (λ n. Consumes (F.rest shelf.old) (F.rest shelf.new) (take n (drop filled bytes.new.items))) }
+    ensures read { IfOk result
+        (λ n. Consumes (F.rest shelf.old) (F.rest shelf.new)
+        (take n (drop filled bytes.new.items))) }
     ensures end { IfOk result (λ n. n ≡ 0 → IsAtEnd (F.rest shelf.new)) }
     ensures held { IsErrOf result FileFault.Missing → ⊥ }
     ensures short { IsErrOf result FileFault.TooLarge → ⊥ }
-    ensures failed { IsErrOf result FileFault.Failed → Rose (F.faults shelf.old) (F.faults shelf.new) }
+    ensures failed { IsErrOf result FileFault.Failed
+        → Rose (F.faults shelf.old) (F.faults shelf.new) }
     ensures misses { F.misses shelf.old ≤ F.misses shelf.new }
     ensures faults { F.faults shelf.old ≤ F.faults shelf.new }
     ensures taken { F.taken shelf.old ≤ F.taken shelf.new }
@@ -145,7 +156,8 @@ fn read_at<F: Shelf>(shelf: &mut F, bytes: &mut [u8], at: usize) -> Result<usize
     ensures files { F.files shelf.new ≡ F.files shelf.old }
     ensures front { take at bytes.new ≡ take at bytes.old }
     ensures fits { IfOk result (λ n. at + n ≤ length bytes.new) }
-    ensures read { IfOk result (λ n. Consumes (F.rest shelf.old) (F.rest shelf.new) (take n (drop at bytes.new))) }
+    ensures read { IfOk result
+        (λ n. Consumes (F.rest shelf.old) (F.rest shelf.new) (take n (drop at bytes.new))) }
     ensures end { IfOk result (λ n. n ≡ 0 → IsAtEnd (F.rest shelf.new)) }
     ensures failed { OnErr result (Rose (F.faults shelf.old) (F.faults shelf.new)) }
     ensures misses { F.misses shelf.old ≤ F.misses shelf.new }
@@ -161,7 +173,8 @@ fn read_at<F: Shelf>(shelf: &mut F, bytes: &mut [u8], at: usize) -> Result<usize
 fn read_front<F: Shelf>(shelf: &mut F, bytes: &mut [u8]) -> Result<usize, ReadFailed>
     ensures files { F.files shelf.new ≡ F.files shelf.old }
     ensures bound { ReadsAtMost result bytes.new }
-    ensures read { IfOk result (λ n. Consumes (F.rest shelf.old) (F.rest shelf.new) (take n bytes.new)) }
+    ensures read { IfOk result
+        (λ n. Consumes (F.rest shelf.old) (F.rest shelf.new) (take n bytes.new)) }
     ensures end { IfOk result (λ n. n ≡ 0 → 0 < length bytes.old → IsAtEnd (F.rest shelf.new)) }
     ensures failed { OnErr result (Rose (F.faults shelf.old) (F.faults shelf.new)) }
     ensures misses { F.misses shelf.old ≤ F.misses shelf.new }

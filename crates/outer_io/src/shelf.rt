@@ -41,8 +41,10 @@ pub trait Shelf {
         ensures opened { OnOk result (HasFile (files self.old) name.now (rest self.new)) }
         ensures closed { OnErr result (IfSome (files self.old) (λ _. rest self.new ≡ Some [])) }
         ensures lacks { IsErrOf result ShelfFault.Missing → LacksFile (files self.old) name.now }
-        ensures missing { IsErrOf result ShelfFault.Missing → Rose (misses self.old) (misses self.new) }
-        ensures failed { IsErrOf result ShelfFault.Failed → Rose (faults self.old) (faults self.new) }
+        ensures missing { IsErrOf result ShelfFault.Missing
+            → Rose (misses self.old) (misses self.new) }
+        ensures failed { IsErrOf result ShelfFault.Failed
+            → Rose (faults self.old) (faults self.new) }
         ensures misses { misses self.old ≤ misses self.new }
         ensures faults { faults self.old ≤ faults self.new }
         ensures taken { taken self.new ≡ taken self.old };

@@ -16,7 +16,8 @@ pub struct Unwritten {
 /// none of some bytes; `Unwritten` says how many were taken. It takes no memory.
 pub fn write_all<S: Sink>(sink: &mut S, bytes: &[u8]) -> Result<(), Unwritten>
     ensures all { OnOk result (Appends (S.written sink.old) (S.written sink.new) bytes.now) }
-    ensures part { IfErr result (λ e. Appends (S.written sink.old) (S.written sink.new) (take e.taken bytes.now)) }
+    ensures part { IfErr result
+        (λ e. Appends (S.written sink.old) (S.written sink.new) (take e.taken bytes.now)) }
     ensures within { IfErr result (λ e. e.taken < length bytes.now) }
     ensures cause { OnErr result (Rose (S.faults sink.old) (S.faults sink.new)) }
     ensures faults { S.faults sink.old ≤ S.faults sink.new }

@@ -22,11 +22,13 @@ answer_rows c = map (λ (a : AnswerLine). a.rows) c.answers
 -- a list of rows is a solution of the whole tree exactly if it is a witness, and has then the same key
 abbrev pub SolutionsAreWitnesses : Type 0
 SolutionsAreWitnesses =
-    (query : Query) (tables : List Table) (atoms parents : List ℕ) → IsWithin query tables → HasTree query atoms parents
+    (query : Query) (tables : List Table) (atoms parents : List ℕ) → IsWithin query tables
+    → HasTree query atoms parents
     → (rows : List ℕ)
     → (IsSolutionAt (problem_of query tables atoms parents) 0 rows ↔ IsWitness query tables rows)
     × (IsWitness query tables rows
-    → key_at (problem_of query tables atoms parents) 0 rows ≡ witness_key (length query.order) query tables rows)
+    → key_at (problem_of query tables atoms parents) 0 rows
+    ≡ witness_key (length query.order) query tables rows)
 
 -- the answers of a valid certificate are those that the limit leaves of the ranking, and all of it if it says `end`
 abbrev pub AnswersBeginRanking : Type 0
@@ -41,5 +43,7 @@ AnswersBeginRanking =
 abbrev pub WrittenIsValid : Type 0
 WrittenIsValid =
     (query : Query) (tables : List Table) (atoms parents text : List ℕ)
-    → IsWithin query tables → HaveFewRows tables → HasTree query atoms parents → IsProofText query tables text
-    → (c : Certificate) × (proof_of text ≡ Ok c) × IsValid (problem_of query tables atoms parents) c query.limit
+    → IsWithin query tables → HaveFewRows tables → HasTree query atoms parents
+    → IsProofText query tables text
+    → (c : Certificate) × (proof_of text ≡ Ok c)
+    × IsValid (problem_of query tables atoms parents) c query.limit

@@ -26,7 +26,8 @@ module _ (query : Query) (tables : List Table) (join : JoinTree) (c : Certificat
   -- there are few enough node rows, and the fault tells the first flaw of the certificate
   abbrev pub TellsFirst : ProofFault → Type 0
   TellsFirst told =
-      (shape : Shape) × IsShape query tables (Ok shape) × (f : Flaw) × (told ≡ fault_of (problem_in query tables join) c f)
+      (shape : Shape) × IsShape query tables (Ok shape) × (f : Flaw)
+      × (told ≡ fault_of (problem_in query tables join) c f)
       × IsFirst (problem_in query tables join) c query.limit f
 
   -- the fault that may be returned if a certificate is checked: memory ran out, there are too many node rows, or the

@@ -17,7 +17,8 @@ pub record IsFull {K : Type 0} (t : Problem K) (c : Certificate) (limit : Option
   pub least : (v : ℕ) (s : ℕ → ℕ) → IsSubtree t v s
       → (i : ℕ) × StandsFor t c v (s v) i × AtMost t.Below (bound_key t c v i) (subtree_key t v s)
   pub answers : (i : ℕ) → i < length c.answers → IsSolutionAt t 0 (answer_at t c i).rows
-  pub ascending : (i : ℕ) → i + 1 < length c.answers → t.Below (answer_key t c i) (answer_key t c (i + 1))
+  pub ascending : (i : ℕ) → i + 1 < length c.answers
+      → t.Below (answer_key t c i) (answer_key t c (i + 1))
   pub count : IsCount t c limit c.ended (length c.answers)
   -- a solution that is not listed comes after the last answer, and there is none if the certificate says `end`
   pub others : (s : ℕ → ℕ) → IsSubtree t 0 s → ((i : ℕ) → Begins t c i s t.nodes → ⊥)

@@ -13,7 +13,8 @@ pub record IsProblem {K : Type 0} (t : Problem K) : Type 0 where
   pub fits_row : (q above row : ℕ) → t.Fits q above row → t.IsRow q row
   pub grouped_itself : (q row : ℕ) → t.IsGrouped q row row
   pub grouped_back : (q row other : ℕ) → t.IsGrouped q row other → t.IsGrouped q other row
-  pub fits_grouped : (q above row other : ℕ) → 0 < q → t.Fits q above row → t.IsGrouped q row other → t.IsRow q other
+  pub fits_grouped : (q above row other : ℕ) → 0 < q → t.Fits q above row → t.IsGrouped q row other
+      → t.IsRow q other
       → t.Fits q above other
   pub fits_together : (q above row other : ℕ) → t.Fits q above row → t.Fits q above other
       → t.IsGrouped q row other
@@ -29,4 +30,5 @@ module _ {K : Type 0} (t : Problem K) where
   -- the sum of their keys
   abbrev pub subtree_key : ℕ → (ℕ → ℕ) → K
   subtree_key v rows =
-      sum_from t.add t.none (λ q. cond (nat_eq (is_below t.parent v q) 1) (t.key q (rows q)) t.none) t.nodes 0
+      sum_from t.add t.none
+      (λ q. cond (nat_eq (is_below t.parent v q) 1) (t.key q (rows q)) t.none) t.nodes 0

@@ -27,7 +27,8 @@ module _ {K : Type 0} (t : Problem K) where
 
   -- the place of node q's item among the items of that subtree, in the order of the items
   abbrev pub place_in : ℕ → ℕ → ℕ
-  place_in v q = sum_from ◌+◌ 0 (λ u. is_below t.parent v u * cond (nat_lt (t.item u) (t.item q)) 1 0) t.nodes 0
+  place_in v q = sum_from ◌+◌ 0
+      (λ u. is_below t.parent v u * cond (nat_lt (t.item u) (t.item q)) 1 0) t.nodes 0
 
   -- the row of node q, if a list has a row for each item of the subtree of node v, in the order of the items
   abbrev pub row_in : ℕ → List ℕ → ℕ → ℕ
@@ -44,4 +45,6 @@ module _ {K : Type 0} (t : Problem K) where
   -- the sum of its rows' keys
   abbrev pub key_at : ℕ → List ℕ → K
   key_at v rows =
-      sum_from t.add t.none (λ q. cond (nat_eq (is_below t.parent v q) 1) (t.key q (row_in v rows q)) t.none) t.nodes 0
+      sum_from t.add t.none
+      (λ q. cond (nat_eq (is_below t.parent v q) 1) (t.key q (row_in v rows q)) t.none)
+      t.nodes 0

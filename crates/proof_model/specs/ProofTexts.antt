@@ -15,6 +15,7 @@ use Rattle.proof_model.specs.Written.{IsWritten}
 abbrev pub IsProofText : Query → List Table → List ℕ → Type 0
 IsProofText query tables text =
     (shape : Shape) × IsShape query tables (Ok shape) × (c : Certificate)
-    × IsWritten (problem_of query tables shape.atoms shape.parents) c (cut query.limit (ranking_of query tables))
+    × IsWritten (problem_of query tables shape.atoms shape.parents) c
+    (cut query.limit (ranking_of query tables))
     × (c.ended ≡ not (reaches query.limit (ranking_of query tables)))
     × (text ≡ proof_text c)

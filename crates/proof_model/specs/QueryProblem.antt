@@ -26,11 +26,13 @@ module _ (query : Query) (tables : List Table) where
 
   -- item i has the row, and it passes
   abbrev pub IsPassing : ℕ → ℕ → Type 0
-  IsPassing i row = (1 ≤ row) × (row ≤ length (item_table query tables i).rows) × Passes query tables i row
+  IsPassing i row = (1 ≤ row) × (row ≤ length (item_table query tables i).rows)
+      × Passes query tables i row
 
   -- the key of a row of item i alone
   abbrev pub row_rank : ℕ → ℕ → KeyOf (length query.order) 16
-  row_rank i row = row_key (length query.order) (map (part_of tables query.items i row) query.order) i row
+  row_rank i row = row_key (length query.order)
+      (map (part_of tables query.items i row) query.order) i row
 
   -- The nodes are given by the item and the parent of each. All rows of the root are in one group.
   abbrev pub problem_of : List ℕ → List ℕ → Problem (KeyOf (length query.order) 16)

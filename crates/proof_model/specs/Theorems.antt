@@ -27,7 +27,8 @@ pub record AreNodes (atoms parents : List ℕ) : Type 0 where
 -- each solution is listed, or it comes after the last answer and the certificate says `more`
 abbrev pub UnlistedComeAfter : Type 0
 UnlistedComeAfter =
-    (query : Query) (tables : List Table) (atoms parents : List ℕ) (c : Certificate) → AreNodes atoms parents
+    (query : Query) (tables : List Table) (atoms parents : List ℕ) (c : Certificate)
+    → AreNodes atoms parents
     → IsValid (problem_of query tables atoms parents) c query.limit
     → (rows : ℕ → ℕ) → IsSubtree (problem_of query tables atoms parents) 0 rows
     → ((i : ℕ) × Begins (problem_of query tables atoms parents) c i rows (length atoms))
@@ -39,7 +40,8 @@ UnlistedComeAfter =
 -- the keys of the answers are those that the limit leaves of the ranking of all solutions by their keys
 abbrev pub AnswersAreFirst : Type 0
 AnswersAreFirst =
-    (query : Query) (tables : List Table) (atoms parents : List ℕ) (c : Certificate) → AreNodes atoms parents
+    (query : Query) (tables : List Table) (atoms parents : List ℕ) (c : Certificate)
+    → AreNodes atoms parents
     → IsValid (problem_of query tables atoms parents) c query.limit
     → (keys : List (KeyOf (length query.order) 16))
     → IsRanking (KeyOf (length query.order) 16) (key_below (length query.order) 16)
@@ -63,7 +65,8 @@ OneFirstFlaw =
 -- a certificate that leaves nothing out is valid
 abbrev pub FullIsValid : Type 0
 FullIsValid =
-    (query : Query) (tables : List Table) (atoms parents : List ℕ) (c : Certificate) → AreNodes atoms parents
+    (query : Query) (tables : List Table) (atoms parents : List ℕ) (c : Certificate)
+    → AreNodes atoms parents
     → IsFull (problem_of query tables atoms parents) c query.limit
     → IsValid (problem_of query tables atoms parents) c query.limit
 
@@ -78,14 +81,17 @@ WideKeysAgree =
 abbrev pub SumsFit : Type 0
 SumsFit =
     (bound : BoundQuery) (tables : List Table) (atoms parents : List ℕ) (d : ℕ)
-    → Fits bound tables → HaveFewRows tables → HasTree bound.query atoms parents → length bound.query.order ≤ d
+    → Fits bound tables → HaveFewRows tables → HasTree bound.query atoms parents
+    → length bound.query.order ≤ d
     → (part : ℕ → KeyOf (length bound.query.order) 16)
     → ((q : ℕ) → q < length atoms → IsPart (problem_of bound.query tables atoms parents) q (part q))
     → KeyFits d (wide (length bound.query.order) d 16
-    (sum_from (key_add (length bound.query.order) 16) (key_none (length bound.query.order) 16) part (length atoms) 0))
+    (sum_from (key_add (length bound.query.order) 16) (key_none (length bound.query.order) 16) part
+    (length atoms) 0))
 
 -- the text that is written for a query is one text
 abbrev pub OneText : Type 0
 OneText =
-    (query : Query) (tables : List Table) (a b : List ℕ) → IsProofText query tables a → IsProofText query tables b
+    (query : Query) (tables : List Table) (a b : List ℕ) → IsProofText query tables a
+    → IsProofText query tables b
     → a ≡ b

@@ -73,7 +73,8 @@ module _ {K : Type 0} (t : Problem K) (c : Certificate) where
       (below : ℕ → ℕ) → ((q : ℕ) → v < q → q < t.nodes → t.parent q ≡ v → Serves q row (below q))
       → (i : ℕ) × StandsFor v row i
       × AtMost t.Below (bound_key v i) (t.add (t.key v row)
-      (sum_from t.add t.none (kid_key t.none t.parent v (λ q. bound_key q (below q))) (t.nodes - suc v) (suc v)))
+      (sum_from t.add t.none (kid_key t.none t.parent v (λ q. bound_key q (below q)))
+      (t.nodes - suc v) (suc v)))
 
   -- the row of answer i at node q
   abbrev pub answer_row : ℕ → ℕ → ℕ
@@ -97,7 +98,8 @@ module _ {K : Type 0} (t : Problem K) (c : Certificate) where
     pub row : t.IsRow at (rows at)
     pub fits : (at ≡ 0) ⊎ t.Fits at (rows (t.parent at)) (rows at)
     pub unlisted : (i : ℕ) → Begins i rows at → answer_row i at ≢ rows at
-    pub bound : (q : ℕ) → at < q → q < t.nodes → t.parent q ≤ at → Serves q (rows (t.parent q)) (below q)
+    pub bound : (q : ℕ) → at < q → q < t.nodes → t.parent q ≤ at
+        → Serves q (rows (t.parent q)) (below q)
 
   -- the keys of its rows and of its bounds add up to this
   abbrev pub choice_key : OpenChoice → K
@@ -115,7 +117,8 @@ module _ {K : Type 0} (t : Problem K) (c : Certificate) where
   -- what the choice offers comes after the last answer, and if the certificate says `end` there is no choice
   abbrev pub IsPassed : Bool → OpenChoice → Type 0
   IsPassed true o = ⊥
-  IsPassed false o = 0 < length c.answers → t.Below (answer_key (length c.answers - 1)) (choice_key o)
+  IsPassed false o = 0 < length c.answers
+      → t.Below (answer_key (length c.answers - 1)) (choice_key o)
 
   pub record IsValid (limit : Option ℕ) : Type 0 where
     pub bounds : (i : ℕ) → i < length c.bounds
@@ -131,9 +134,11 @@ module _ {K : Type 0} (t : Problem K) (c : Certificate) where
   -- the certificate has the flaw
   abbrev pub Holds : Option ℕ → Flaw → Type 0
   Holds limit (no_solution i) =
-      (i < length c.bounds) × ((v : ℕ) → (bound_at i).node ≡ suc v → IsSolutionAt t v (bound_at i).rows → ⊥)
+      (i < length c.bounds)
+      × ((v : ℕ) → (bound_at i).node ≡ suc v → IsSolutionAt t v (bound_at i).rows → ⊥)
   Holds limit (bound_twice j) =
-      (v i : ℕ) × (i < j) × IsBoundOf v i × IsBoundOf v j × t.IsGrouped v (bound_row v i) (bound_row v j)
+      (v i : ℕ) × (i < j) × IsBoundOf v i × IsBoundOf v j
+      × t.IsGrouped v (bound_row v i) (bound_row v j)
   Holds limit (weak v) = (row : ℕ) × (v < t.nodes) × t.IsRow v row × (IsCovered v row → ⊥)
   Holds limit (no_answer i) = (i < length c.answers) × (IsSolutionAt t 0 (answer_at i).rows → ⊥)
   Holds limit (not_in_order i) =

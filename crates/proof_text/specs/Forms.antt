@@ -20,7 +20,8 @@ number_of text = if is_number text then Some (digits_value 10 text) else None
 -- the numbers that all parts are
 abbrev pub numbers_of : List (List ℕ) → Option (List ℕ)
 numbers_of [] = Some []
-numbers_of (text ∷ more) = option_and_then (λ n. option_map (λ ns. n ∷ ns) (numbers_of more)) (number_of text)
+numbers_of (text ∷ more) = option_and_then (λ n. option_map (λ ns. n ∷ ns) (numbers_of more))
+    (number_of text)
 
 -- what a line says
 pub data LineForm : Type 0 where

@@ -14,7 +14,8 @@ AreRows rows = (0 < length rows) × AllByRecursion IsShort rows
 -- the bounds are on the lines from number n on
 abbrev pub AreBoundsFrom : ℕ → List BoundLine → Type 0
 AreBoundsFrom n [] = Unit {0}
-AreBoundsFrom n (b ∷ rest) = (b.line ≡ n) × IsShort b.node × AreRows b.rows × AreBoundsFrom (n + 1) rest
+AreBoundsFrom n (b ∷ rest) = (b.line ≡ n) × IsShort b.node × AreRows b.rows
+    × AreBoundsFrom (n + 1) rest
 
 -- the answers are on the lines from number n on
 abbrev pub AreAnswersFrom : ℕ → List AnswerLine → Type 0

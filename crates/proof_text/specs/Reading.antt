@@ -19,7 +19,10 @@ no_lines = record { bounds = []; answers = [] }
 -- with one bound more
 abbrev pub with_bound : ℕ → Lines → ℕ → List ℕ → Lines
 with_bound n read node rows =
-    record { bounds = read.bounds ++ record { line = n; node = node; rows = rows } ∷ []; answers = read.answers }
+    record {
+      bounds = read.bounds ++ record { line = n; node = node; rows = rows } ∷ [];
+      answers = read.answers;
+    }
 
 -- with one answer more
 abbrev pub with_answer : ℕ → Lines → List ℕ → Lines
@@ -37,7 +40,8 @@ at_last n proof (text ∷ more) = Err (BadLine (n + 1))
 
 -- What the line of number n says is put to what was read, and the lines after it are read.
 -- No bound is after an answer.
-abbrev pub by_line : ℕ → Lines → Option LineForm → List (List ℕ) → (Lines → Result Certificate ProofFault)
+abbrev pub by_line : ℕ → Lines → Option LineForm → List (List ℕ)
+    → (Lines → Result Certificate ProofFault)
     → Result Certificate ProofFault
 by_line n read None more later = Err (BadLine n)
 by_line n read (Some (last ended)) more later = at_last n (certificate_of read ended) more
@@ -48,7 +52,8 @@ by_line n read (Some (answer rows)) more later = later (with_answer n read rows)
 -- the certificate of the lines from number n on, after those that were read
 unfoldable pub read_from : ℕ → Lines → List (List ℕ) → Result Certificate ProofFault
 read_from n read [] = Err (BadLine n)
-read_from n read (text ∷ more) = by_line n read (line_of text) more (λ after. read_from (n + 1) after more)
+read_from n read (text ∷ more) = by_line n read (line_of text) more
+    (λ after. read_from (n + 1) after more)
 
 abbrev pub proof_of_lines : List (List ℕ) → Result Certificate ProofFault
 proof_of_lines [] = Err BadHeader

@@ -17,11 +17,16 @@ seen_answer a = record { line = a.line; rows = a.rows.items }
 
 abbrev pub seen_proof : Proof → Certificate
 seen_proof p =
-    record { bounds = map seen_bound p.bounds.items; answers = map seen_answer p.answers.items; ended = p.ended }
+    record {
+      bounds = map seen_bound p.bounds.items;
+      answers = map seen_answer p.answers.items;
+      ended = p.ended;
+    }
 
 -- what was read so far
 abbrev pub lines_of : Proof → Lines
-lines_of p = record { bounds = map seen_bound p.bounds.items; answers = map seen_answer p.answers.items }
+lines_of p = record
+    { bounds = map seen_bound p.bounds.items; answers = map seen_answer p.answers.items }
 
 -- what a line that was read says
 abbrev pub seen_line : Line → LineForm

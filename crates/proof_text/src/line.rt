@@ -59,7 +59,8 @@ fn last(word: &[u8]) -> Option<Line>
 }
 
 fn with_numbers(alloc: Global, word: &[u8], rest: &[u8]) -> Result<Option<Line>, AllocFailed<u32>>
-    ensures { IfOk result (λ found. numbers_line word.now (parts rest.now) ≡ option_map seen_line found) }
+    ensures { IfOk result
+        (λ found. numbers_line word.now (parts rest.now) ≡ option_map seen_line found) }
 {
     let is_bound = is_word(word, b"bound");
     if !is_bound && !is_word(word, b"answer") {

@@ -33,8 +33,10 @@ fn number_after(number: u32) -> Result<u32, ProofFault>
 /// Puts what the line says to what was read, and returns whether it is the last line.
 fn put_line(alloc: Global, read: &mut Proof, number: u32, text: &[u8]) -> Result<bool, ProofFault>
     ensures { (more : List (List ℕ)) (later : Lines → Result Certificate ProofFault)
-        → let all = by_line number (lines_of read.old) (line_of text.now) more later in MatchResult result
-        (λ last. all ≡ (if last then at_last number (seen_proof read.new) more else later (lines_of read.new)))
+        → let all = by_line number (lines_of read.old) (line_of text.now) more later in
+        MatchResult result
+        (λ last. all ≡ (if last then at_last number (seen_proof read.new) more else later
+        (lines_of read.new)))
         (λ e. Fails all e) }
 {
     let Some(line) = read_line(alloc, text)? else {
@@ -114,7 +116,8 @@ pub fn read_proof(alloc: Global, bytes: &[u8]) -> Result<Proof, ProofFault>
     // Its lines are numbered as they stand, each has a row, and its numbers have at most 7 digits.
     ensures numbered { IfOk result (λ proof. IsNumbered (seen_proof proof)) }
     // The lines are those that are written of it: the form, said without the reader.
-    ensures written { IfOk result (λ proof. lines (proof_text (seen_proof proof)) ≡ lines bytes.now) }
+    ensures written { IfOk result
+        (λ proof. lines (proof_text (seen_proof proof)) ≡ lines bytes.now) }
 {
     let Some((first, rest)) = first_line(bytes) else {
         return Err(ProofFault::BadHeader);

@@ -57,7 +57,8 @@ module _ {R : Type 0} (tree : List (NodeData R)) where
 
   -- the bounds of the groups of the first n nodes, in order, on the lines from number 2 on
   pub record AreBounds (n : ℕ) (bounds : List BoundLine) : Type 0 where
-    pub ordered : (i j : ℕ) → i < j → j < length bounds → BoundBefore (bound_at bounds i) (bound_at bounds j)
+    pub ordered : (i j : ℕ) → i < j → j < length bounds
+        → BoundBefore (bound_at bounds i) (bound_at bounds j)
     pub lines : (i : ℕ) → i < length bounds → (bound_at bounds i).line ≡ i + 2
     pub firsts : (i : ℕ) → i < length bounds
         → (v g : ℕ) × (v < n) × (g < group_count tree v) × IsBound v g (bound_at bounds i)

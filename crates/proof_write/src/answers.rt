@@ -23,9 +23,11 @@ pub fn push_answers<E: Ranked, L: Ledger>(
     steps: &mut Steps<L>,
 ) -> Result<bool, NoMemory>
     ensures appended { IfOk result (λ ended. text.new.items ≡ text.old.items
-        ++ flat_map answer_text (cut query.now.query.limit (combinations_in query.now.query (E.rest engine.old)))) }
+        ++ flat_map answer_text
+        (cut query.now.query.limit (combinations_in query.now.query (E.rest engine.old)))) }
     ensures ended { IfOk result (λ ended. ended
-        ≡ not (reaches query.now.query.limit (combinations_in query.now.query (E.rest engine.old)))) }
+        ≡ not (reaches query.now.query.limit
+        (combinations_in query.now.query (E.rest engine.old)))) }
 {
     let items = query.items() as usize;
     let most = query.limit().unwrap_or(u64::MAX);

@@ -14,12 +14,16 @@ abbrev pub filter_shown : Filter → ItemFilter
 filter_shown f = record { pairs = f.pairs.items; constants = map constant_shown f.constants.items }
 
 -- the tests of the first n items
-pub record HaveFilters (label : Column → Column) (es : List Equality) (tables : List Table) (items : List Item) (n : ℕ) (filters : List ItemFilter) : Type 0 where
+pub record HaveFilters (label : Column → Column) (es : List Equality) (tables : List Table)
+    (items : List Item) (n : ℕ) (filters : List ItemFilter) : Type 0 where
   pub count : length filters ≡ n
-  pub pairs : (i : ℕ) → i < n → HavePairs label i (width_in tables items i) (filter_at filters i).pairs
-  pub constants : (i : ℕ) → i < n → HaveConstants label i (width_in tables items i) es (filter_at filters i).constants
+  pub pairs : (i : ℕ) → i < n
+      → HavePairs label i (width_in tables items i) (filter_at filters i).pairs
+  pub constants : (i : ℕ) → i < n
+      → HaveConstants label i (width_in tables items i) es (filter_at filters i).constants
 
 -- the tests of the items of a query
 pub record HasFilters (query : Query) (list : List ItemFilter) : Type 0 where
   pub filtered : length list ≡ length query.items
-  pub filters : (item : ℕ) → item < length query.items → IsFilterOf query.equalities item (filter_at list item)
+  pub filters : (item : ℕ) → item < length query.items
+      → IsFilterOf query.equalities item (filter_at list item)

@@ -13,7 +13,8 @@ pub record IsGraphOf (query : Query) (graph : Hypergraph) : Type 0 where
   pub variables : List Column
   pub are_variables : AreVariables query.equalities variables
   pub numbered : length graph.vars ≡ length variables
-  pub has : (v a : ℕ) → v < length variables → HasVar graph v a ↔ ((place : ℕ) × HasVariable query.equalities variables a v place)
+  pub has : (v a : ℕ) → v < length variables
+      → HasVar graph v a ↔ ((place : ℕ) × HasVariable query.equalities variables a v place)
 
 -- whether a variable is among those of an item
 abbrev pub has_number : List (ℕ × ℕ) → ℕ → Bool

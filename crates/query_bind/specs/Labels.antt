@@ -22,18 +22,22 @@ replaced new old c = if is_same c old then new else c
 -- the label with which a column is listed, or `none` if it is not listed
 abbrev pub listed : List Member → Column → Column → Column
 listed [] c none = none
-listed (m ∷ members) c none = if is_same (column_shown m.column) c then column_shown m.least else listed members c none
+listed (m ∷ members) c none = if is_same
+    (column_shown m.column) c then column_shown m.least else listed members c none
 
 -- a column that is not listed is the least of its class itself
 abbrev pub least_in : List Member → Column → Column
 least_in members c = listed members c c
 
 -- the first place of an item whose column has this label
-pub record IsFirstPlace (label : Column → Column) (item width : ℕ) (least : Column) (place : ℕ) : Type 0 where
+pub record IsFirstPlace (label : Column → Column) (item width : ℕ) (least : Column)
+    (place : ℕ) : Type 0 where
   pub inside : place < width
   pub labelled : label (record { item = item; place = place }) ≡ least
-  pub first : (other : ℕ) → other < place → label (record { item = item; place = other }) ≡ least → ⊥
+  pub first : (other : ℕ) → other < place → label (record { item = item; place = other }) ≡ least
+      → ⊥
 
 -- no place of an item has a column with this label
 abbrev pub HasNoPlace : (Column → Column) → ℕ → ℕ → Column → Type 0
-HasNoPlace label item width least = (place : ℕ) → place < width → label (record { item = item; place = place }) ≡ least → ⊥
+HasNoPlace label item width least = (place : ℕ) → place < width
+    → label (record { item = item; place = place }) ≡ least → ⊥

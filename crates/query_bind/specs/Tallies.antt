@@ -34,11 +34,16 @@ tally_size size y = (y.plus + y.minus) * size (column_shown y.column)
 -- tallies that add the same as some terms, whatever the columns are worth, and that have no other
 -- columns
 pub record AreTallies (terms : List Term) (tallies : List Tally) : Type 0 where
-  pub worth : (worth : Column → ℤ) → total (map (term_worth worth) terms) ≡ total (map (tally_worth worth) tallies)
-  pub size : (size : Column → ℕ) → sum_of_all (map (λ (t : Term). size t.column) terms) ≡ sum_of_all (map (tally_size size) tallies)
+  pub worth : (worth : Column → ℤ)
+      → total (map (term_worth worth) terms) ≡ total (map (tally_worth worth) tallies)
+  pub size : (size : Column → ℕ)
+      → sum_of_all (map (λ (t : Term). size t.column) terms)
+      ≡ sum_of_all (map (tally_size size) tallies)
   pub fault : (fault_at : Column → Option BindFault)
-      → first_of (λ (t : Term). fault_at t.column) terms ≡ first_of (λ (y : Tally). fault_at (column_shown y.column)) tallies
-  pub named : (y : Tally) → IsMember y tallies → (t : Term) × IsMember t terms × (t.column ≡ column_shown y.column)
+      → first_of (λ (t : Term). fault_at t.column) terms
+      ≡ first_of (λ (y : Tally). fault_at (column_shown y.column)) tallies
+  pub named : (y : Tally) → IsMember y tallies
+      → (t : Term) × IsMember t terms × (t.column ≡ column_shown y.column)
 
 -- the columns of tallies
 abbrev pub columns_of : List Tally → List (ℕ × ℕ)

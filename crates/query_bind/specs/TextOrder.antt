@@ -19,8 +19,10 @@ IsReferenceFault (fault.RankRange key) = ⊥
 IsReferenceFault fault.NoMemory = ⊥
 
 -- the fault is that of a reference, and no reference before it in the text has one
-pub record IsFirstFailing (tables : List Table) (items : List Item) (refs : List ColumnRef) (e : BindFault) : Type 0 where
+pub record IsFirstFailing (tables : List Table) (items : List Item) (refs : List ColumnRef)
+    (e : BindFault) : Type 0 where
   pub ref : ColumnRef
   pub member : IsMember ref refs
   pub fails : ref_fault tables items ref ≡ Some e
-  pub earlier : (other : ColumnRef) → IsMember other refs → other.at < ref.at → ref_fault tables items other ≡ None
+  pub earlier : (other : ColumnRef) → IsMember other refs → other.at < ref.at
+      → ref_fault tables items other ≡ None

@@ -35,10 +35,13 @@ kept (x ∷ xs) parts = parts
 -- what the rows of an item add to a key
 abbrev pub row_parts : List Table → List Item → OrderKey → ℕ → List ℤ
 row_parts tables items key item =
-    kept (terms_in item key.terms) (map (λ row. part_of tables items item row key) (range_with_len 1 (length (table_in tables items item).rows)))
+    kept (terms_in item key.terms)
+    (map (λ row. part_of tables items item row key)
+    (range_with_len 1 (length (table_in tables items item).rows)))
 
 abbrev pub item_parts : List Table → List Item → OrderKey → ℕ → ItemParts
-item_parts tables items key item = record { cap = cap_of tables items item key; parts = row_parts tables items key item }
+item_parts tables items key item = record
+    { cap = cap_of tables items item key; parts = row_parts tables items key item }
 
 -- what each item adds to a key
 abbrev pub key_parts : List Table → List Item → OrderKey → List ItemParts
@@ -54,6 +57,8 @@ pub record Fits (bound : BoundQuery) (tables : List Table) : Type 0 where
   pub variables : AreVariables bound.query.equalities bound.variables
   pub few : length bound.variables ≤ 1024
   pub listed : length bound.lists ≡ length bound.query.items
-  pub lists : (item : ℕ) → item < length bound.query.items → AreVariablesOf bound.query.equalities bound.variables item (variables_at bound.lists item)
+  pub lists : (item : ℕ) → item < length bound.query.items
+      → AreVariablesOf bound.query.equalities bound.variables item (variables_at bound.lists item)
   pub filtered : length bound.filters ≡ length bound.query.items
-  pub filters : (item : ℕ) → item < length bound.query.items → IsFilterOf bound.query.equalities item (filter_at bound.filters item)
+  pub filters : (item : ℕ) → item < length bound.query.items
+      → IsFilterOf bound.query.equalities item (filter_at bound.filters item)

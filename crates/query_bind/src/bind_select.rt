@@ -44,8 +44,10 @@ fn bind_names(
     ensures query { IfOk result (λ q. q ≡ bound_query select.now tables.now which.now) }
     ensures some { IfOk result (λ q. 1 ≤ length q.items) }
     ensures within { IfOk result (λ q. IsWithin q tables.now) }
-    ensures sound { OnOk result (names_fault tables.now (items_of select.now.items which.now) select.now ≡ None) }
-    ensures fault { IfErr result (Tells (names_fault tables.now (items_of select.now.items which.now) select.now)) }
+    ensures sound { OnOk result
+        (names_fault tables.now (items_of select.now.items which.now) select.now ≡ None) }
+    ensures fault { IfErr result
+        (Tells (names_fault tables.now (items_of select.now.items which.now) select.now)) }
 {
     let items = bind_items(alloc, select.items.as_slice(), which)?;
     let list = bind_list(alloc, items.as_slice(), tables, &select.list)?;
@@ -74,10 +76,15 @@ fn weigh_selection(
     tables: &Tables,
 ) -> Result<Vec<Vec<ItemWeights>>, BindFault>
     requires { IsWithin selection.now tables.now }
-    ensures weighed { IfOk result (λ v. map weighed_shown v.items ≡ map (key_parts tables.now selection.now.items) selection.now.order) }
-    ensures weights { OnOk result (weights_fault tables.now selection.now.items selection.now.order ≡ None) }
-    ensures range { OnOk result (range_fault tables.now selection.now.items selection.now.order ≡ None) }
-    ensures fault { IfErr result (Tells (or_else (weights_fault tables.now selection.now.items selection.now.order)
+    ensures weighed { IfOk result
+        (λ v. map weighed_shown v.items
+        ≡ map (key_parts tables.now selection.now.items) selection.now.order) }
+    ensures weights { OnOk result
+        (weights_fault tables.now selection.now.items selection.now.order ≡ None) }
+    ensures range { OnOk result
+        (range_fault tables.now selection.now.items selection.now.order ≡ None) }
+    ensures fault { IfErr result
+        (Tells (or_else (weights_fault tables.now selection.now.items selection.now.order)
         (range_fault tables.now selection.now.items selection.now.order))) }
 {
     let _tables = tables.count();
@@ -95,7 +102,9 @@ fn find_structure(
 ) -> Result<Variables, AllocError>
     requires within { IsWithin selection.now tables.now }
     requires known { IsLabelling selection.now.equalities (least_in classes.now) }
-    ensures { IfOk result (λ v. HasVariables selection.now (map column_shown v.least.items) (lists_shown v.of_items.items)) }
+    ensures { IfOk result
+        (λ v. HasVariables selection.now (map column_shown v.least.items)
+        (lists_shown v.of_items.items)) }
 {
     let _tables = tables.count();
     let items = selection.items.as_slice();
@@ -174,8 +183,10 @@ pub fn bind(
     ensures fits { IfOk result (λ q. Fits q tables.now) }
     ensures sound { OnOk result (bind_fault select.now tables.now which.now ≡ None) }
     ensures fault { IfErr result (Tells (bind_fault select.now tables.now which.now)) }
-    ensures earliest { IfErr result (λ fault. IsReferenceFault fault → AreInTextOrder (columns_of select.now)
-        → IsFirstFailing tables.now (items_of select.now.items which.now) (columns_of select.now) fault) }
+    ensures earliest { IfErr result
+        (λ fault. IsReferenceFault fault → AreInTextOrder (columns_of select.now)
+        → IsFirstFailing tables.now (items_of select.now.items which.now)
+        (columns_of select.now) fault) }
 {
     bind_by_parts(alloc, select, tables, which)
 }

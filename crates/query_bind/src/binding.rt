@@ -50,9 +50,13 @@ fn bind_columns(
 ) -> Result<Vec<(u32, u32)>, BindFault>
     requires few { length items.now ≤ 16 }
     requires known { AllByRecursion (λ (i : BoundItem). i.table < length tables.now) items.now }
-    ensures values { IfOk result (λ v. map column_shown v.items ≡ map (bound_column tables.now (items_shown items.now)) refs.now) }
-    ensures sound { OnOk result (first_of (ref_fault tables.now (items_shown items.now)) refs.now ≡ None) }
-    ensures fault { IfErr result (Tells (first_of (ref_fault tables.now (items_shown items.now)) refs.now)) }
+    ensures values { IfOk result
+        (λ v. map column_shown v.items
+        ≡ map (bound_column tables.now (items_shown items.now)) refs.now) }
+    ensures sound { OnOk result
+        (first_of (ref_fault tables.now (items_shown items.now)) refs.now ≡ None) }
+    ensures fault { IfErr result
+        (Tells (first_of (ref_fault tables.now (items_shown items.now)) refs.now)) }
 {
     let mut columns = Vec::new(alloc);
     for reference in refs {
@@ -64,7 +68,9 @@ fn bind_columns(
 
 /// Appends all columns of an item.
 fn push_columns(columns: &mut Vec<(u32, u32)>, item: u32, width: u32) -> Result<(), AllocError>
-    ensures { OnOk result (map column_shown columns.new.items ≡ map column_shown columns.old.items ++ item_columns item width) }
+    ensures { OnOk result
+        (map column_shown columns.new.items
+        ≡ map column_shown columns.old.items ++ item_columns item width) }
 {
     for place in 0..width {
         columns.push((item, place))?;
@@ -80,7 +86,8 @@ pub(crate) fn all_columns(
 ) -> Result<Vec<(u32, u32)>, AllocError>
     requires few { length items.now ≤ 16 }
     requires known { AllByRecursion (λ (i : BoundItem). i.table < length tables.now) items.now }
-    ensures { IfOk result (λ v. map column_shown v.items ≡ columns_from 0 tables.now (items_shown items.now)) }
+    ensures { IfOk result
+        (λ v. map column_shown v.items ≡ columns_from 0 tables.now (items_shown items.now)) }
 {
     let mut columns = Vec::new(alloc);
     for i in 0..items.len() {
@@ -99,9 +106,12 @@ pub(crate) fn bind_list(
 ) -> Result<Vec<(u32, u32)>, BindFault>
     requires few { length items.now ≤ 16 }
     requires known { AllByRecursion (λ (i : BoundItem). i.table < length tables.now) items.now }
-    ensures values { IfOk result (λ v. map column_shown v.items ≡ bound_list tables.now (items_shown items.now) list.now) }
-    ensures sound { OnOk result (first_of (ref_fault tables.now (items_shown items.now)) (list_columns list.now) ≡ None) }
-    ensures fault { IfErr result (Tells (first_of (ref_fault tables.now (items_shown items.now)) (list_columns list.now))) }
+    ensures values { IfOk result
+        (λ v. map column_shown v.items ≡ bound_list tables.now (items_shown items.now) list.now) }
+    ensures sound { OnOk result
+        (first_of (ref_fault tables.now (items_shown items.now)) (list_columns list.now) ≡ None) }
+    ensures fault { IfErr result
+        (Tells (first_of (ref_fault tables.now (items_shown items.now)) (list_columns list.now))) }
 {
     match list {
         SelectList::Star => {
@@ -121,9 +131,12 @@ fn bind_side(
 ) -> Result<BoundSide, BindFault>
     requires few { length items.now ≤ 16 }
     requires known { AllByRecursion (λ (i : BoundItem). i.table < length tables.now) items.now }
-    ensures value { IfOk result (λ s. side_shown s ≡ bound_side tables.now (items_shown items.now) side.now) }
-    ensures sound { OnOk result (first_of (ref_fault tables.now (items_shown items.now)) (side_columns side.now) ≡ None) }
-    ensures fault { IfErr result (Tells (first_of (ref_fault tables.now (items_shown items.now)) (side_columns side.now))) }
+    ensures value { IfOk result
+        (λ s. side_shown s ≡ bound_side tables.now (items_shown items.now) side.now) }
+    ensures sound { OnOk result
+        (first_of (ref_fault tables.now (items_shown items.now)) (side_columns side.now) ≡ None) }
+    ensures fault { IfErr result
+        (Tells (first_of (ref_fault tables.now (items_shown items.now)) (side_columns side.now))) }
 {
     match side {
         Side::Column(reference) => {
@@ -146,9 +159,12 @@ fn bind_equality(
 ) -> Result<BoundEquality, BindFault>
     requires few { length items.now ≤ 16 }
     requires known { AllByRecursion (λ (i : BoundItem). i.table < length tables.now) items.now }
-    ensures value { IfOk result (λ e. equality_shown e ≡ bound_equality tables.now (items_shown items.now) equality.now) }
-    ensures sound { OnOk result (equality_fault tables.now (items_shown items.now) equality.now ≡ None) }
-    ensures fault { IfErr result (Tells (equality_fault tables.now (items_shown items.now) equality.now)) }
+    ensures value { IfOk result
+        (λ e. equality_shown e ≡ bound_equality tables.now (items_shown items.now) equality.now) }
+    ensures sound { OnOk result
+        (equality_fault tables.now (items_shown items.now) equality.now ≡ None) }
+    ensures fault { IfErr result
+        (Tells (equality_fault tables.now (items_shown items.now) equality.now)) }
 {
     let left = look_up(items, tables, &equality.left)?;
     let right = bind_side(alloc, items, tables, &equality.right)?;
@@ -164,9 +180,13 @@ pub(crate) fn bind_equalities(
 ) -> Result<Vec<BoundEquality>, BindFault>
     requires few { length items.now ≤ 16 }
     requires known { AllByRecursion (λ (i : BoundItem). i.table < length tables.now) items.now }
-    ensures values { IfOk result (λ v. map equality_shown v.items ≡ map (bound_equality tables.now (items_shown items.now)) equalities.now) }
-    ensures sound { OnOk result (first_of (equality_fault tables.now (items_shown items.now)) equalities.now ≡ None) }
-    ensures fault { IfErr result (Tells (first_of (equality_fault tables.now (items_shown items.now)) equalities.now)) }
+    ensures values { IfOk result
+        (λ v. map equality_shown v.items
+        ≡ map (bound_equality tables.now (items_shown items.now)) equalities.now) }
+    ensures sound { OnOk result
+        (first_of (equality_fault tables.now (items_shown items.now)) equalities.now ≡ None) }
+    ensures fault { IfErr result
+        (Tells (first_of (equality_fault tables.now (items_shown items.now)) equalities.now)) }
 {
     let mut bound = Vec::new(alloc);
     for equality in equalities {
@@ -185,9 +205,13 @@ fn bind_terms(
 ) -> Result<Vec<BoundTerm>, BindFault>
     requires few { length items.now ≤ 16 }
     requires known { AllByRecursion (λ (i : BoundItem). i.table < length tables.now) items.now }
-    ensures values { IfOk result (λ v. map term_shown v.items ≡ map (bound_term tables.now (items_shown items.now)) terms.now) }
-    ensures sound { OnOk result (first_of (term_fault tables.now (items_shown items.now)) terms.now ≡ None) }
-    ensures fault { IfErr result (Tells (first_of (term_fault tables.now (items_shown items.now)) terms.now)) }
+    ensures values { IfOk result
+        (λ v. map term_shown v.items
+        ≡ map (bound_term tables.now (items_shown items.now)) terms.now) }
+    ensures sound { OnOk result
+        (first_of (term_fault tables.now (items_shown items.now)) terms.now ≡ None) }
+    ensures fault { IfErr result
+        (Tells (first_of (term_fault tables.now (items_shown items.now)) terms.now)) }
 {
     let mut bound = Vec::new(alloc);
     for term in terms {
@@ -207,9 +231,12 @@ pub(crate) fn bind_keys(
 ) -> Result<Vec<BoundKey>, BindFault>
     requires few { length items.now ≤ 16 }
     requires known { AllByRecursion (λ (i : BoundItem). i.table < length tables.now) items.now }
-    ensures values { IfOk result (λ v. map key_shown v.items ≡ map (bound_key tables.now (items_shown items.now)) keys.now) }
-    ensures sound { OnOk result (first_of (key_names_fault tables.now (items_shown items.now)) keys.now ≡ None) }
-    ensures fault { IfErr result (Tells (first_of (key_names_fault tables.now (items_shown items.now)) keys.now)) }
+    ensures values { IfOk result
+        (λ v. map key_shown v.items ≡ map (bound_key tables.now (items_shown items.now)) keys.now) }
+    ensures sound { OnOk result
+        (first_of (key_names_fault tables.now (items_shown items.now)) keys.now ≡ None) }
+    ensures fault { IfErr result
+        (Tells (first_of (key_names_fault tables.now (items_shown items.now)) keys.now)) }
 {
     let mut bound = Vec::new(alloc);
     for key in keys {

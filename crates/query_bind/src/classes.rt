@@ -67,8 +67,11 @@ fn relabel(classes: &mut [Member], new: (u32, u32), old: (u32, u32))
 /// Joins the classes of two columns, unless they are one class already. So there are fewer members
 /// than columns.
 fn join(classes: &mut Vec<Member>, left: (u32, u32), right: (u32, u32)) -> Result<(), AllocError>
-    ensures { OnOk result ((es : List Equality) (e : Equality) → e.left ≡ column_shown left → e.right ≡ of_column (column_shown right)
-        → IsLabelling es (least_in classes.old.items) → IsLabelling (es ++ e ∷ []) (least_in classes.new.items)) }
+    ensures { OnOk result
+        ((es : List Equality) (e : Equality) → e.left ≡ column_shown left
+        → e.right ≡ of_column (column_shown right)
+        → IsLabelling es (least_in classes.old.items)
+        → IsLabelling (es ++ e ∷ []) (least_in classes.new.items)) }
 {
     let a = least_of(classes.as_slice(), left);
     let b = least_of(classes.as_slice(), right);
@@ -100,7 +103,8 @@ pub(crate) fn classes_of(
     alloc: Global,
     equalities: &[BoundEquality],
 ) -> Result<Vec<Member>, AllocError>
-    ensures { IfOk result (λ v. IsLabelling (map equality_shown equalities.now) (least_in v.items)) }
+    ensures { IfOk result
+        (λ v. IsLabelling (map equality_shown equalities.now) (least_in v.items)) }
 {
     let mut classes = Vec::new(alloc);
     for equality in equalities {

@@ -52,7 +52,8 @@ fn pairs_of(
 
 /// Whether a constant is in the list for a place.
 fn is_listed(constants: &[Constant], place: u32, bytes: &[u8]) -> bool
-    ensures { result ≡ list_any (λ (c : Constant). (c.place == place) && bytes_eq c.bytes bytes.now) constants.now }
+    ensures { result ≡ list_any
+        (λ (c : Constant). (c.place == place) && bytes_eq c.bytes bytes.now) constants.now }
 {
     constants
         .iter()
@@ -67,7 +68,9 @@ fn constants_of(
     item: u32,
     width: u32,
 ) -> Result<Vec<Constant>, AllocError>
-    ensures { IfOk result (λ v. HaveConstants (least_in classes.now) item width (map equality_shown equalities.now) (map constant_shown v.items)) }
+    ensures { IfOk result
+        (λ v. HaveConstants (least_in classes.now) item width (map equality_shown equalities.now)
+        (map constant_shown v.items)) }
 {
     let mut constants = Vec::new(alloc);
     for equality in equalities {
@@ -95,8 +98,11 @@ pub(crate) fn filter_of(
     item: u32,
     width: u32,
 ) -> Result<Filter, AllocError>
-    ensures pairs { IfOk result (λ f. HavePairs (least_in classes.now) item width (filter_shown f).pairs) }
-    ensures constants { IfOk result (λ f. HaveConstants (least_in classes.now) item width (map equality_shown equalities.now) (filter_shown f).constants) }
+    ensures pairs { IfOk result
+        (λ f. HavePairs (least_in classes.now) item width (filter_shown f).pairs) }
+    ensures constants { IfOk result
+        (λ f. HaveConstants (least_in classes.now) item width (map equality_shown equalities.now)
+        (filter_shown f).constants) }
 {
     let pairs = pairs_of(alloc, classes, item, width)?;
     let constants = constants_of(alloc, classes, equalities, item, width)?;
@@ -109,7 +115,8 @@ fn has_pairs(pairs: &[(u32, u32)], tables: &Tables, table: u32, row: u32) -> boo
     requires first { 1 ≤ row }
     requires row { row ≤ length (table_at tables.now table).rows }
     requires left { AllByRecursion (λ p. p.0 < length (table_at tables.now table).names) pairs.now }
-    requires right { AllByRecursion (λ p. p.1 < length (table_at tables.now table).names) pairs.now }
+    requires right { AllByRecursion
+        (λ p. p.1 < length (table_at tables.now table).names) pairs.now }
     ensures { IsTrue result ↔ HasEqual (field_at (table_at tables.now table) (row - 1)) pairs.now }
 {
     for &(first, place) in pairs {
@@ -125,8 +132,11 @@ fn has_constants(constants: &[Constant], tables: &Tables, table: u32, row: u32) 
     requires table { table < length tables.now }
     requires first { 1 ≤ row }
     requires row { row ≤ length (table_at tables.now table).rows }
-    requires places { AllByRecursion (λ c. c.place < length (table_at tables.now table).names) constants.now }
-    ensures { IsTrue result ↔ HasConstants (field_at (table_at tables.now table) (row - 1)) (map constant_shown constants.now) }
+    requires places { AllByRecursion
+        (λ c. c.place < length (table_at tables.now table).names) constants.now }
+    ensures { IsTrue result
+        ↔ HasConstants (field_at (table_at tables.now table) (row - 1))
+        (map constant_shown constants.now) }
 {
     for constant in constants {
         if tables.field(table, row, constant.place) != constant.bytes.bytes() {
@@ -146,7 +156,9 @@ pub(crate) fn filters_of(
 ) -> Result<Vec<Filter>, AllocError>
     requires items { length items.now ≤ 16 }
     requires known { AllByRecursion (λ (i : BoundItem). i.table < length tables.now) items.now }
-    ensures { IfOk result (λ v. HaveFilters (least_in classes.now) (map equality_shown equalities.now) tables.now (items_shown items.now) (length items.now) (map filter_shown v.items)) }
+    ensures { IfOk result
+        (λ v. HaveFilters (least_in classes.now) (map equality_shown equalities.now) tables.now
+        (items_shown items.now) (length items.now) (map filter_shown v.items)) }
 {
     let mut filters = Vec::new(alloc);
     for i in 0..items.len() {
@@ -161,11 +173,16 @@ pub(crate) fn stands(filter: &Filter, tables: &Tables, table: u32, row: u32) -> 
     requires table { table < length tables.now }
     requires first { 1 ≤ row }
     requires row { row ≤ length (table_at tables.now table).rows }
-    requires left { AllByRecursion (λ p. p.0 < length (table_at tables.now table).names) filter.now.pairs.items }
-    requires right { AllByRecursion (λ p. p.1 < length (table_at tables.now table).names) filter.now.pairs.items }
-    requires places { AllByRecursion (λ c. c.place < length (table_at tables.now table).names) filter.now.constants.items }
-    ensures { IsTrue result ↔ (HasEqual (field_at (table_at tables.now table) (row - 1)) (filter_shown filter.now).pairs
-        × HasConstants (field_at (table_at tables.now table) (row - 1)) (filter_shown filter.now).constants) }
+    requires left { AllByRecursion
+        (λ p. p.0 < length (table_at tables.now table).names) filter.now.pairs.items }
+    requires right { AllByRecursion
+        (λ p. p.1 < length (table_at tables.now table).names) filter.now.pairs.items }
+    requires places { AllByRecursion
+        (λ c. c.place < length (table_at tables.now table).names) filter.now.constants.items }
+    ensures { IsTrue result
+        ↔ (HasEqual (field_at (table_at tables.now table) (row - 1)) (filter_shown filter.now).pairs
+        × HasConstants (field_at (table_at tables.now table) (row - 1))
+        (filter_shown filter.now).constants) }
 {
     has_pairs(filter.pairs.as_slice(), tables, table, row)
         && has_constants(filter.constants.as_slice(), tables, table, row)

@@ -44,7 +44,8 @@ pub(crate) fn item_sets(
     count: u32,
 ) -> Result<Vec<u16>, AllocError>
     requires { length of_items.now ≤ 16 }
-    ensures { IfOk result (λ v. AreItemSets (lists_shown of_items.now) (length of_items.now) count v.items) }
+    ensures { IfOk result
+        (λ v. AreItemSets (lists_shown of_items.now) (length of_items.now) count v.items) }
 {
     let mut sets = Vec::new(alloc);
     for number in 0..count {

@@ -123,7 +123,8 @@ impl Query {
         requires first { 1 ≤ row }
         requires row { row ≤ length (table_in _tables.now self.now.query.items item).rows }
         requires key { key < length self.now.query.order }
-        ensures { result ≡ part_of _tables.now self.now.query.items item row (key_at self.now.query.order key) }
+        ensures { result ≡ part_of _tables.now self.now.query.items item row
+            (key_at self.now.query.order key) }
     {
         let parts = &self.weighed[key as usize][item as usize].parts;
         part_at(parts.as_slice(), row as usize - 1)
@@ -134,7 +135,8 @@ impl Query {
         requires fits { (tables : List Table) × Fits self.now tables }
         requires item { item < length self.now.query.items }
         requires key { key < length self.now.query.order }
-        ensures { (tables : List Table) → Fits self.now tables → result ≡ cap_of tables self.now.query.items item (key_at self.now.query.order key) }
+        ensures { (tables : List Table) → Fits self.now tables
+            → result ≡ cap_of tables self.now.query.items item (key_at self.now.query.order key) }
     {
         self.weighed[key as usize][item as usize].cap
     }
@@ -154,7 +156,8 @@ impl Query {
         requires fits { (tables : List Table) × Fits self.now tables }
         requires item { item < length self.now.query.items }
         ensures value { result.now ≡ variables_at self.now.lists item }
-        ensures variables { AreVariablesOf self.now.query.equalities self.now.variables item result.now }
+        ensures variables { AreVariablesOf self.now.query.equalities self.now.variables item
+            result.now }
     {
         self.variables.of_items[item as usize].as_slice()
     }

@@ -43,7 +43,8 @@ fn counted(tally: Tally, minus: bool) -> Tally
 /// The place of a column among tallies, from 0, if it has one.
 fn place_of(tallies: &[Tally], column: (u32, u32)) -> Option<usize>
     ensures within { IfSome result (λ place. place < length tallies.now) }
-    ensures there { IfSome result (λ place. (d : Tally) → (get_or tallies.now place d).column ≡ column) }
+    ensures there { IfSome result
+        (λ place. (d : Tally) → (get_or tallies.now place d).column ≡ column) }
     ensures absent { IfNone result (IsMember column (columns_of tallies.now) → ⊥) }
 {
     for i in 0..tallies.len() {
@@ -59,7 +60,8 @@ fn count(tallies: &mut Vec<Tally>, term: &BoundTerm) -> Result<(), AllocError>
     requires { sum_of_all (map (tally_size (λ c. 1)) tallies.old.items) + 1 < 2 ^ 64 }
     ensures same { OnOk result ((terms : List Term) → AreTallies terms tallies.old.items
         → AreTallies (terms ++ term_shown term.now ∷ []) tallies.new.items) }
-    ensures once { OnOk result (StandOnce (columns_of tallies.old.items) → StandOnce (columns_of tallies.new.items)) }
+    ensures once { OnOk result
+        (StandOnce (columns_of tallies.old.items) → StandOnce (columns_of tallies.new.items)) }
 {
     let column = term.column;
     match place_of(tallies.as_slice(), column) {

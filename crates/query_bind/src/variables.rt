@@ -21,7 +21,8 @@ pub(crate) struct Variables {
 
 /// Whether an equality gives a constant to the class with this least column.
 fn fixes(classes: &[Member], least: (u32, u32), equality: &BoundEquality) -> bool
-    ensures { result ≡ is_fixing (least_in classes.now) (column_shown least) (equality_shown equality.now) }
+    ensures { result ≡ is_fixing (least_in classes.now) (column_shown least)
+        (equality_shown equality.now) }
 {
     match &equality.right {
         BoundSide::Column(_) => false,
@@ -68,7 +69,9 @@ pub(crate) fn find_variables(
     equalities: &[BoundEquality],
     columns: &[(u32, u32)],
 ) -> Result<Vec<(u32, u32)>, AllocError>
-    ensures { IfOk result (λ v. v.items ≡ filter (λ c. is_variable classes.now equalities.now (column_shown c)) columns.now) }
+    ensures { IfOk result
+        (λ v. v.items ≡ filter
+        (λ c. is_variable classes.now equalities.now (column_shown c)) columns.now) }
 {
     columns
         .iter()
@@ -86,7 +89,9 @@ pub(crate) fn places_of(
     width: u32,
 ) -> Result<Vec<(u32, u32)>, AllocError>
     requires few { length variables.now < 2 ^ 32 }
-    ensures { IfOk result (λ v. HavePlaces (least_in classes.now) (map column_shown variables.now) item width (length variables.now) v.items) }
+    ensures { IfOk result
+        (λ v. HavePlaces (least_in classes.now) (map column_shown variables.now) item width
+        (length variables.now) v.items) }
 {
     let mut places = Vec::new(alloc);
     for number in 0..variables.len() {
@@ -109,7 +114,9 @@ pub(crate) fn places_of_all(
     requires few { length variables.now < 2 ^ 32 }
     requires items { length items.now ≤ 16 }
     requires known { AllByRecursion (λ (i : BoundItem). i.table < length tables.now) items.now }
-    ensures { IfOk result (λ v. HavePlacesEach (least_in classes.now) (map column_shown variables.now) tables.now (items_shown items.now) (length items.now) (lists_shown v.items)) }
+    ensures { IfOk result
+        (λ v. HavePlacesEach (least_in classes.now) (map column_shown variables.now) tables.now
+        (items_shown items.now) (length items.now) (lists_shown v.items)) }
 {
     let mut of_items = Vec::new(alloc);
     for i in 0..items.len() {

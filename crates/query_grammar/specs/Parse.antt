@@ -24,7 +24,13 @@ limit_of None = None
 limit_of (Some digits) = Some (decimal digits.body)
 
 abbrev pub select_of : Clauses → Select
-select_of x = record { list = x.0.list; items = x.0.items; equalities = x.0.equalities; keys = x.0.keys; limit = limit_of x.1 }
+select_of x = record {
+  list = x.0.list;
+  items = x.0.items;
+  equalities = x.0.equalities;
+  keys = x.0.keys;
+  limit = limit_of x.1;
+}
 
 -- the bytes are this query, and short enough
 pub record Says (bytes : List ℕ) (x : Clauses) : Type 0 where
@@ -43,8 +49,10 @@ Faults bytes (fault.Syntax at) =
     × (at ≡ place_of (length bytes) left)
 Faults bytes fault.TooManyBranches = ⊥
 Faults bytes fault.TooManyItems = (x : Clauses) × Says bytes x × (16 < length x.0.items)
-Faults bytes fault.TooManyKeys = (x : Clauses) × Says bytes x × (length x.0.items ≤ 16) × (8 < length x.0.keys)
-Faults bytes (fault.LimitRange at) = (x : Clauses) × Says bytes x × (length x.0.items ≤ 16) × (length x.0.keys ≤ 8) × IsTooGreat at x.1
+Faults bytes fault.TooManyKeys = (x : Clauses) × Says bytes x × (length x.0.items ≤ 16)
+    × (8 < length x.0.keys)
+Faults bytes (fault.LimitRange at) = (x : Clauses) × Says bytes x × (length x.0.items ≤ 16)
+    × (length x.0.keys ≤ 8) × IsTooGreat at x.1
 Faults bytes fault.NoMemory = Unit {0}
 
 -- the select that the bytes write, within the limits
@@ -93,14 +101,18 @@ HasManyKeys s = 8 < length s.keys
 abbrev pub FaultsAll : List ℕ → ParseFault → Type 0
 FaultsAll bytes fault.TooLong = 65536 < length bytes
 FaultsAll bytes (fault.Syntax at) =
-    (length bytes ≤ 65536) × (left : List Lexeme) × IsFirstFault (AreQueries true) (tokens_of bytes) left
+    (length bytes ≤ 65536) × (left : List Lexeme)
+    × IsFirstFault (AreQueries true) (tokens_of bytes) left
     × (at ≡ place_of (length bytes) left)
 FaultsAll bytes fault.TooManyBranches = (x : Branches) × SaysAll bytes x × (8 < length x.0)
-FaultsAll bytes fault.TooManyItems = (x : Branches) × SaysAll bytes x × (length x.0 ≤ 8) × (16 < items_in x.0)
+FaultsAll bytes fault.TooManyItems = (x : Branches) × SaysAll bytes x × (length x.0 ≤ 8)
+    × (16 < items_in x.0)
 FaultsAll bytes fault.TooManyKeys =
-    (x : Branches) × SaysAll bytes x × (length x.0 ≤ 8) × (items_in x.0 ≤ 16) × ExistsByRecursion HasManyKeys x.0
+    (x : Branches) × SaysAll bytes x × (length x.0 ≤ 8) × (items_in x.0 ≤ 16)
+    × ExistsByRecursion HasManyKeys x.0
 FaultsAll bytes (fault.LimitRange at) =
-    (x : Branches) × SaysAll bytes x × (length x.0 ≤ 8) × (items_in x.0 ≤ 16) × AllByRecursion HasFewKeys x.0
+    (x : Branches) × SaysAll bytes x × (length x.0 ≤ 8) × (items_in x.0 ≤ 16)
+    × AllByRecursion HasFewKeys x.0
     × IsTooGreat at x.1
 FaultsAll bytes fault.NoMemory = Unit {0}
 
@@ -140,10 +152,12 @@ LimitNumber digits (Err at) = IsTooGreat at digits
 
 -- the result of testing the limits: the limit of the query, or the first limit that is passed
 abbrev pub Limits : Select → Option Lexeme → Result (Option ℕ) ParseFault → Type 0
-Limits select digits (Ok limit) = (length select.items ≤ 16) × (length select.keys ≤ 8) × (limit ≡ limit_of digits) × IfSome limit (λ n. n < 2 ^ 64)
+Limits select digits (Ok limit) = (length select.items ≤ 16) × (length select.keys ≤ 8)
+    × (limit ≡ limit_of digits) × IfSome limit (λ n. n < 2 ^ 64)
 Limits select digits (Err fault.TooManyItems) = 16 < length select.items
 Limits select digits (Err fault.TooManyKeys) = (length select.items ≤ 16) × (8 < length select.keys)
-Limits select digits (Err (fault.LimitRange at)) = (length select.items ≤ 16) × (length select.keys ≤ 8) × IsTooGreat at digits
+Limits select digits (Err (fault.LimitRange at)) = (length select.items ≤ 16)
+    × (length select.keys ≤ 8) × IsTooGreat at digits
 Limits select digits (Err fault.TooLong) = ⊥
 Limits select digits (Err (fault.Syntax at)) = ⊥
 Limits select digits (Err fault.TooManyBranches) = ⊥
@@ -155,11 +169,13 @@ LimitsAll branches digits (Ok limit) =
     (length branches ≤ 8) × (items_in branches ≤ 16) × AllByRecursion HasFewKeys branches
     × (limit ≡ limit_of digits) × IfSome limit (λ n. n < 2 ^ 64)
 LimitsAll branches digits (Err fault.TooManyBranches) = 8 < length branches
-LimitsAll branches digits (Err fault.TooManyItems) = (length branches ≤ 8) × (16 < items_in branches)
+LimitsAll branches digits (Err fault.TooManyItems) = (length branches ≤ 8)
+    × (16 < items_in branches)
 LimitsAll branches digits (Err fault.TooManyKeys) =
     (length branches ≤ 8) × (items_in branches ≤ 16) × ExistsByRecursion HasManyKeys branches
 LimitsAll branches digits (Err (fault.LimitRange at)) =
-    (length branches ≤ 8) × (items_in branches ≤ 16) × AllByRecursion HasFewKeys branches × IsTooGreat at digits
+    (length branches ≤ 8) × (items_in branches ≤ 16) × AllByRecursion HasFewKeys branches
+    × IsTooGreat at digits
 LimitsAll branches digits (Err fault.TooLong) = ⊥
 LimitsAll branches digits (Err (fault.Syntax at)) = ⊥
 LimitsAll branches digits (Err fault.NoMemory) = ⊥

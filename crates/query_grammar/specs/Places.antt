@@ -63,11 +63,13 @@ abbrev pub ending : Choice
 ending = record { step = λ _. None; may_end = true }
 
 abbrev pub on : Kind → Place → Choice → Choice
-on k p others = record { step = λ x. if same x k then Some p else others.step x; may_end = others.may_end }
+on k p others = record
+    { step = λ x. if same x k then Some p else others.step x; may_end = others.may_end }
 
 -- the same, if b says so
 abbrev pub on_if : Bool → Kind → Place → Choice → Choice
-on_if b k p others = record { step = λ x. if same x k && b then Some p else others.step x; may_end = others.may_end }
+on_if b k p others = record
+    { step = λ x. if same x k && b then Some p else others.step x; may_end = others.may_end }
 
 -- `many` says whether there may be several branches
 module _ (many : Bool) where
@@ -89,7 +91,8 @@ module _ (many : Bool) where
   after_items = on kind.Where (condition where_clause) after_where
 
   abbrev pub after_item : Choice
-  after_item = on kind.Comma (item plain) (on kind.Inner inner (on kind.Join (item joined) after_items))
+  after_item = on kind.Comma (item plain)
+      (on kind.Inner inner (on kind.Join (item joined) after_items))
 
   abbrev pub after_conditions : Clause → Choice
   after_conditions on_clause = after_item
@@ -136,10 +139,12 @@ module _ (many : Bool) where
   choice_of (item_as i) = on kind.Name (item_done i) nothing
   choice_of (item_done i) = after_one_item i
   choice_of inner = on kind.Join (item joined) nothing
-  choice_of (condition w) = on kind.Text (left_done w) (on kind.Minus (left_minus w) (on kind.Digits (left_done w) (a_column (on_left w))))
+  choice_of (condition w) = on kind.Text (left_done w)
+      (on kind.Minus (left_minus w) (on kind.Digits (left_done w) (a_column (on_left w))))
   choice_of (left_minus w) = on kind.Digits (left_done w) nothing
   choice_of (left_done w) = on kind.Equals (constant_equals w) nothing
-  choice_of (equals w) = on kind.Text (right_done w) (on kind.Minus (right_minus w) (on kind.Digits (right_done w) (a_column (on_right w))))
+  choice_of (equals w) = on kind.Text (right_done w)
+      (on kind.Minus (right_minus w) (on kind.Digits (right_done w) (a_column (on_right w))))
   choice_of (constant_equals w) = a_column (on_right w)
   choice_of (right_minus w) = on kind.Digits (right_done w) nothing
   choice_of (right_done w) = after_condition w

@@ -39,14 +39,16 @@ place_of end (t ∷ ts) = t.at
 -- The result of a function, as `view` sees it, is what reading gives, unless memory ran out.
 abbrev pub Fails : {Y : Type 0} → ℕ → ParseFault → Result Y (List Lexeme) → Type 0
 Fails end fault.NoMemory read = Unit {0}
-Fails end (fault.Syntax at) read = (left : List Lexeme) × (read ≡ Err left) × (at ≡ place_of end left)
+Fails end (fault.Syntax at) read = (left : List Lexeme) × (read ≡ Err left)
+    × (at ≡ place_of end left)
 Fails end fault.TooLong read = ⊥
 Fails end fault.TooManyBranches read = ⊥
 Fails end fault.TooManyItems read = ⊥
 Fails end fault.TooManyKeys read = ⊥
 Fails end (fault.LimitRange at) read = ⊥
 
-abbrev pub Gives : {X Y : Type 0} → ℕ → (X → Y) → Result X ParseFault → Result Y (List Lexeme) → Type 0
+abbrev pub Gives : {X Y : Type 0} → ℕ → (X → Y) → Result X ParseFault → Result Y (List Lexeme)
+    → Type 0
 Gives end view (Ok x) read = read ≡ Ok (view x)
 Gives end view (Err e) read = Fails end e read
 
@@ -96,7 +98,8 @@ optional_at k (t ∷ ts) = if same t.kind k then (Some t, ts) else (None, t ∷ 
 abbrev pub Next : Type 0 → Type 0
 Next A = Result (Option (A × List Lexeme)) (List Lexeme)
 
-abbrev pub one_more : {A : Type 0} → (List Lexeme → Read (List A)) → List Lexeme → Option (A × List Lexeme) → Read (List A)
+abbrev pub one_more : {A : Type 0} → (List Lexeme → Read (List A)) → List Lexeme
+    → Option (A × List Lexeme) → Read (List A)
 one_more others tokens None = Ok ([], tokens)
 one_more others tokens (Some x) = others x.1 >>= λ xs. Ok (x.0 ∷ xs.0, xs.1)
 
@@ -119,7 +122,8 @@ behind read (Some t, rest) = found (read rest)
 -- ---- columns
 
 abbrev pub with_column : Lexeme → Option Lexeme × List Lexeme → Read ColumnRef
-with_column first (None, rest) = Ok (record { alias = None; column = first.body; at = first.at }, rest)
+with_column first (None, rest) = Ok
+    (record { alias = None; column = first.body; at = first.at }, rest)
 with_column first (Some dot, rest) = do
   second ← expect_at kind.Name rest
   Ok (record { alias = Some first.body; column = second.0.body; at = first.at }, second.1)
@@ -153,7 +157,8 @@ list_at tokens = with_star tokens (optional_at kind.Star tokens)
 unfoldable pub undoubled_from : Bool → List ℕ → List ℕ
 undoubled_from second [] = []
 undoubled_from second (b ∷ bs) =
-    if b == 39 then (if second then undoubled_from false bs else (b ∷ undoubled_from true bs)) else (b ∷ undoubled_from false bs)
+    if b == 39 then (if second then undoubled_from false bs else (b ∷ undoubled_from true bs)) else
+    (b ∷ undoubled_from false bs)
 
 abbrev pub undoubled : List ℕ → List ℕ
 undoubled bytes = undoubled_from false bytes
@@ -300,7 +305,8 @@ unfoldable pub direction_at : List Lexeme → Bool × List Lexeme
 direction_at tokens = with_desc tokens (optional_at kind.Desc tokens)
 
 abbrev pub with_direction : List Term → Bool × List Lexeme → Read KeyRef
-with_direction terms (descending, rest) = Ok (record { terms = terms; descending = descending }, rest)
+with_direction terms (descending, rest) = Ok
+    (record { terms = terms; descending = descending }, rest)
 
 unfoldable pub terms_at : List Lexeme → Read (List Term)
 terms_at tokens = do

@@ -8,7 +8,8 @@ use Rattle.query_grammar.specs.Tokens.{is_letter, is_word_byte, kind_of_word}
 -- a word that is not a keyword
 abbrev pub is_bare : List ℕ → Bool
 is_bare [] = false
-is_bare (b ∷ bs) = is_letter b && (list_all is_word_byte bs && same (kind_of_word (b ∷ bs)) kind.Name)
+is_bare (b ∷ bs) = is_letter b &&
+    (list_all is_word_byte bs && same (kind_of_word (b ∷ bs)) kind.Name)
 
 -- a name as the text writes it: bare if that is possible, else between quotes
 abbrev pub name_text_of : List ℕ → List ℕ

@@ -78,10 +78,18 @@ quoted_scan k inside None = stray
 quoted_scan k inside (Some n) = record { kind = k; body = take n inside; len = n + 2 }
 
 abbrev pub word_scan : List ℕ → Scan
-word_scan bytes = record { kind = kind_of_word (take (prefix_len is_word_byte bytes) bytes); body = take (prefix_len is_word_byte bytes) bytes; len = prefix_len is_word_byte bytes }
+word_scan bytes = record {
+  kind = kind_of_word (take (prefix_len is_word_byte bytes) bytes);
+  body = take (prefix_len is_word_byte bytes) bytes;
+  len = prefix_len is_word_byte bytes;
+}
 
 abbrev pub digits_scan : List ℕ → Scan
-digits_scan bytes = record { kind = kind.Digits; body = take (prefix_len is_ascii_digit bytes) bytes; len = prefix_len is_ascii_digit bytes }
+digits_scan bytes = record {
+  kind = kind.Digits;
+  body = take (prefix_len is_ascii_digit bytes) bytes;
+  len = prefix_len is_ascii_digit bytes;
+}
 
 -- the longest token at the front
 unfoldable pub scan_of : List ℕ → Scan
@@ -99,7 +107,8 @@ tokens_from taken at [] = []
 tokens_from (suc taken) at (b ∷ bs) = tokens_from taken (at + 1) bs
 tokens_from zero at (b ∷ bs) =
     if is_blank b then tokens_from zero (at + 1) bs else
-    (record { kind = (scan_of (b ∷ bs)).kind; at = at; body = (scan_of (b ∷ bs)).body } ∷ tokens_from ((scan_of (b ∷ bs)).len - 1) (at + 1) bs)
+    (record { kind = (scan_of (b ∷ bs)).kind; at = at; body = (scan_of (b ∷ bs)).body }
+    ∷ tokens_from ((scan_of (b ∷ bs)).len - 1) (at + 1) bs)
 
 abbrev pub tokens_of : List ℕ → List Lexeme
 tokens_of bytes = tokens_from 0 0 bytes

@@ -122,7 +122,8 @@ pub fn parse(alloc: Global, bytes: &[u8]) -> Result<Select, ParseFault>
     // Each result is true of the bytes.
     ensures sound { Parses bytes.now result }
     // No other result is true of them, unless memory runs out.
-    ensures exact { (other : Result Select ParseFault) → Parses bytes.now other → Agree other result }
+    ensures exact { (other : Result Select ParseFault) → Parses bytes.now other
+        → Agree other result }
     // The column references are in the order of the text.
     ensures ordered { IfOk result (λ select. AreInTextOrder (columns_of select)) }
     // So are the from-items.
@@ -145,16 +146,20 @@ pub fn parse_all(alloc: Global, bytes: &[u8]) -> Result<SelectAll, ParseFault>
     // Each result is true of the bytes.
     ensures sound { ParsesAll bytes.now result }
     // No other result is true of them, unless memory runs out.
-    ensures exact { (other : Result SelectAll ParseFault) → ParsesAll bytes.now other → Agree other result }
+    ensures exact { (other : Result SelectAll ParseFault) → ParsesAll bytes.now other
+        → Agree other result }
     // The column references of each branch are in the order of the text.
-    ensures ordered { IfOk result (λ all. AllByRecursion (λ s. AreInTextOrder (columns_of s)) all.branches) }
+    ensures ordered { IfOk result
+        (λ all. AllByRecursion (λ s. AreInTextOrder (columns_of s)) all.branches) }
     // So are its from-items.
-    ensures items_ordered { IfOk result (λ all. AllByRecursion (λ s. ItemsAreInTextOrder s.items) all.branches) }
+    ensures items_ordered { IfOk result
+        (λ all. AllByRecursion (λ s. ItemsAreInTextOrder s.items) all.branches) }
     // There is at least one branch.
     ensures some { IfOk result (λ all. 1 ≤ length all.branches) }
     // Each branch has at least one item, and is within the limits on one query.
     ensures filled { IfOk result (λ all.
-        AllByRecursion (λ s. (1 ≤ length s.items) × ((length s.items ≤ 16) × (length s.keys ≤ 8))) all.branches) }
+        AllByRecursion (λ s. (1 ≤ length s.items) × ((length s.items ≤ 16) × (length s.keys ≤ 8)))
+        all.branches) }
 {
     if bytes.len() > MAX_BYTES {
         return Err(ParseFault::TooLong);

@@ -34,7 +34,8 @@ fn expect<'a, 't>(
     end: u32,
     kind: Kind,
 ) -> Result<(Token<'a>, &'t [Token<'a>]), ParseFault>
-    ensures { Gives end (λ x. (lexeme x.0, lexemes x.1.now)) result (expect_at kind (lexemes tokens.now)) }
+    ensures { Gives end (λ x. (lexeme x.0, lexemes x.1.now)) result
+        (expect_at kind (lexemes tokens.now)) }
 {
     match tokens {
         [token, rest @ ..] if is_kind(token, kind) => Ok((*token, rest)),
@@ -86,7 +87,8 @@ fn next_column<'a, 't>(
     tokens: &'t [Token<'a>],
     end: u32,
 ) -> Result<Option<(ColumnRef, &'t [Token<'a>])>, ParseFault>
-    ensures { Gives end (option_map (λ x. (x.0, lexemes x.1.now))) result (next_column_at (lexemes tokens.now)) }
+    ensures { Gives end (option_map (λ x. (x.0, lexemes x.1.now))) result
+        (next_column_at (lexemes tokens.now)) }
 {
     let (comma, rest) = optional(tokens, Kind::Comma);
     if comma.is_none() {
@@ -134,7 +136,10 @@ fn list<'a, 't>(
 /// first of two quotes.
 #[tactic(auto, unfolding(crate::specs::Reading::undoubled_from))]
 fn push_undoubled(bytes: &mut Vec<u8>, byte: u8, second: bool) -> Result<bool, AllocError>
-    ensures { IfOk result (λ next. (rest : List ℕ) → bytes.new.items ++ undoubled_from next rest ≡ bytes.old.items ++ undoubled_from second (byte ∷ rest)) }
+    ensures { IfOk result
+        (λ next. (rest : List ℕ)
+        → bytes.new.items ++ undoubled_from next rest
+        ≡ bytes.old.items ++ undoubled_from second (byte ∷ rest)) }
 {
     let is_quote = byte == b'\'';
     if is_quote && second {
@@ -219,7 +224,8 @@ fn next_condition<'a, 't>(
     tokens: &'t [Token<'a>],
     end: u32,
 ) -> Result<Option<(Equality, &'t [Token<'a>])>, ParseFault>
-    ensures { Gives end (option_map (λ x. (x.0, lexemes x.1.now))) result (next_condition_at (lexemes tokens.now)) }
+    ensures { Gives end (option_map (λ x. (x.0, lexemes x.1.now))) result
+        (next_condition_at (lexemes tokens.now)) }
 {
     let (and, rest) = optional(tokens, Kind::And);
     if and.is_none() {
@@ -235,7 +241,8 @@ fn conditions<'a, 't>(
     tokens: &'t [Token<'a>],
     end: u32,
 ) -> Result<(Vec<Equality>, &'t [Token<'a>]), ParseFault>
-    ensures { Gives end (λ x. (x.0.items, lexemes x.1.now)) result (conditions_at (lexemes tokens.now)) }
+    ensures { Gives end (λ x. (x.0.items, lexemes x.1.now)) result
+        (conditions_at (lexemes tokens.now)) }
 {
     let (first, mut rest) = condition(alloc, tokens, end)?;
     let mut equalities = Vec::new(alloc);
@@ -269,7 +276,8 @@ fn alias<'a, 't>(
     end: u32,
     table: Token<'a>,
 ) -> Result<(Token<'a>, &'t [Token<'a>]), ParseFault>
-    ensures { Gives end (λ x. (lexeme x.0, lexemes x.1.now)) result (alias_at (lexeme table.entry) (lexemes tokens.now)) }
+    ensures { Gives end (λ x. (lexeme x.0, lexemes x.1.now)) result
+        (alias_at (lexeme table.entry) (lexemes tokens.now)) }
 {
     if let (Some(_), rest) = optional(tokens, Kind::As) {
         return expect(rest, end, Kind::Name);
@@ -293,7 +301,8 @@ fn plain_item<'a, 't>(
     tokens: &'t [Token<'a>],
     end: u32,
 ) -> Result<(Joined, &'t [Token<'a>]), ParseFault>
-    ensures { Gives end (λ x. ((x.0.item, x.0.on.items), lexemes x.1.now)) result (plain_item_at (lexemes tokens.now)) }
+    ensures { Gives end (λ x. ((x.0.item, x.0.on.items), lexemes x.1.now)) result
+        (plain_item_at (lexemes tokens.now)) }
 {
     let (item, rest) = item(alloc, tokens, end)?;
     let on = Vec::new(alloc);
@@ -306,7 +315,8 @@ fn joined_item<'a, 't>(
     tokens: &'t [Token<'a>],
     end: u32,
 ) -> Result<(Joined, &'t [Token<'a>]), ParseFault>
-    ensures { Gives end (λ x. ((x.0.item, x.0.on.items), lexemes x.1.now)) result (joined_item_at (lexemes tokens.now)) }
+    ensures { Gives end (λ x. ((x.0.item, x.0.on.items), lexemes x.1.now)) result
+        (joined_item_at (lexemes tokens.now)) }
 {
     let (item, rest) = item(alloc, tokens, end)?;
     let (_, rest) = expect(rest, end, Kind::On)?;
@@ -320,7 +330,8 @@ fn inner_item<'a, 't>(
     tokens: &'t [Token<'a>],
     end: u32,
 ) -> Result<(Joined, &'t [Token<'a>]), ParseFault>
-    ensures { Gives end (λ x. ((x.0.item, x.0.on.items), lexemes x.1.now)) result (inner_item_at (lexemes tokens.now)) }
+    ensures { Gives end (λ x. ((x.0.item, x.0.on.items), lexemes x.1.now)) result
+        (inner_item_at (lexemes tokens.now)) }
 {
     let (_, rest) = expect(tokens, end, Kind::Join)?;
     joined_item(alloc, rest, end)
@@ -332,7 +343,8 @@ fn next_item<'a, 't>(
     tokens: &'t [Token<'a>],
     end: u32,
 ) -> Result<Option<(Joined, &'t [Token<'a>])>, ParseFault>
-    ensures { Gives end (option_map (λ x. ((x.0.item, x.0.on.items), lexemes x.1.now))) result (next_item_at (lexemes tokens.now)) }
+    ensures { Gives end (option_map (λ x. ((x.0.item, x.0.on.items), lexemes x.1.now))) result
+        (next_item_at (lexemes tokens.now)) }
 {
     if let (Some(_), rest) = optional(tokens, Kind::Comma) {
         let found = plain_item(alloc, rest, end)?;
@@ -358,7 +370,8 @@ struct FromItems {
 
 impl FromItems {
     fn push(&mut self, joined: Joined) -> Result<(), AllocError>
-        ensures items { OnOk result (self.new.items.items ≡ self.old.items.items ++ joined.item ∷ []) }
+        ensures items { OnOk result
+            (self.new.items.items ≡ self.old.items.items ++ joined.item ∷ []) }
         ensures on { OnOk result (self.new.on.items ≡ self.old.on.items ++ joined.on.items) }
     {
         let Joined { item, mut on } = joined;
@@ -374,7 +387,8 @@ fn items<'a, 't>(
     tokens: &'t [Token<'a>],
     end: u32,
 ) -> Result<(FromItems, &'t [Token<'a>]), ParseFault>
-    ensures { Gives end (λ x. ((x.0.items.items, x.0.on.items), lexemes x.1.now)) result (items_at (lexemes tokens.now)) }
+    ensures { Gives end (λ x. ((x.0.items.items, x.0.on.items), lexemes x.1.now)) result
+        (items_at (lexemes tokens.now)) }
 {
     let (first, mut rest) = item(alloc, tokens, end)?;
     let mut found = FromItems {
@@ -437,7 +451,8 @@ fn next_term<'a, 't>(
     tokens: &'t [Token<'a>],
     end: u32,
 ) -> Result<Option<(Term, &'t [Token<'a>])>, ParseFault>
-    ensures { Gives end (option_map (λ x. (x.0, lexemes x.1.now))) result (next_term_at (lexemes tokens.now)) }
+    ensures { Gives end (option_map (λ x. (x.0, lexemes x.1.now))) result
+        (next_term_at (lexemes tokens.now)) }
 {
     if let (Some(minus), rest) = sign(tokens) {
         let found = term(alloc, minus, rest, end)?;
@@ -496,7 +511,8 @@ fn next_key<'a, 't>(
     tokens: &'t [Token<'a>],
     end: u32,
 ) -> Result<Option<(KeyRef, &'t [Token<'a>])>, ParseFault>
-    ensures { Gives end (option_map (λ x. (x.0, lexemes x.1.now))) result (next_key_at (lexemes tokens.now)) }
+    ensures { Gives end (option_map (λ x. (x.0, lexemes x.1.now))) result
+        (next_key_at (lexemes tokens.now)) }
 {
     let (comma, rest) = optional(tokens, Kind::Comma);
     if comma.is_none() {
@@ -545,7 +561,8 @@ fn limit_clause<'a, 't>(
     tokens: &'t [Token<'a>],
     end: u32,
 ) -> Result<(Option<Token<'a>>, &'t [Token<'a>]), ParseFault>
-    ensures { Gives end (λ x. (some_lexeme x.0, lexemes x.1.now)) result (limit_at (lexemes tokens.now)) }
+    ensures { Gives end (λ x. (some_lexeme x.0, lexemes x.1.now)) result
+        (limit_at (lexemes tokens.now)) }
 {
     let (word, rest) = optional(tokens, Kind::Limit);
     if word.is_none() {
@@ -609,7 +626,8 @@ fn next_branch<'a, 't>(
     tokens: &'t [Token<'a>],
     end: u32,
 ) -> Result<Option<(Select, &'t [Token<'a>])>, ParseFault>
-    ensures { Gives end (option_map (λ x. (x.0, lexemes x.1.now))) result (next_branch_at true (lexemes tokens.now)) }
+    ensures { Gives end (option_map (λ x. (x.0, lexemes x.1.now))) result
+        (next_branch_at true (lexemes tokens.now)) }
 {
     let (union, rest) = optional(tokens, Kind::Union);
     if union.is_none() {
@@ -626,7 +644,8 @@ fn branches<'a, 't>(
     tokens: &'t [Token<'a>],
     end: u32,
 ) -> Result<(Sequence<Select>, &'t [Token<'a>]), ParseFault>
-    ensures { Gives end (λ x. (x.0, lexemes x.1.now)) result (branches_at true (lexemes tokens.now)) }
+    ensures { Gives end (λ x. (x.0, lexemes x.1.now)) result
+        (branches_at true (lexemes tokens.now)) }
 {
     let (first, mut rest) = branch(alloc, tokens, end)?;
     let mut branches = Vec::new(alloc);
@@ -645,7 +664,8 @@ pub(crate) fn queries<'a>(
     tokens: &[Token<'a>],
     end: u32,
 ) -> Result<(Sequence<Select>, Option<Token<'a>>), ParseFault>
-    ensures { Gives end (λ x. (x.0, some_lexeme x.1)) result (queries_at true (lexemes tokens.now)) }
+    ensures { Gives end (λ x. (x.0, some_lexeme x.1)) result
+        (queries_at true (lexemes tokens.now)) }
 {
     let (branches, rest) = branches(alloc, tokens, end)?;
     let (digits, rest) = limit_clause(rest, end)?;
@@ -660,7 +680,15 @@ fn selected(
     conditions: Vec<Equality>,
     keys: Vec<KeyRef>,
 ) -> Result<Select, AllocError>
-    ensures { IfOk result (λ s. s ≡ record { list = list; items = found.items.items; equalities = found.on.items ++ conditions.items; keys = keys.items; limit = None }) }
+    ensures { IfOk result
+        (λ s. s ≡ record {
+          list = list;
+          items = found.items.items;
+          equalities = found.on.items
+              ++ conditions.items;
+          keys = keys.items;
+          limit = None;
+        }) }
 {
     let FromItems { items, on } = found;
     let mut equalities = on;

@@ -73,7 +73,8 @@ fn text_len(bytes: &[u8]) -> Option<usize>
 }
 
 fn is_keyword(word: &[u8], keyword: &[u8]) -> bool
-    ensures { result ≡ bytes_eq (map to_ascii_lowercase word.now) (map to_ascii_lowercase keyword.now) }
+    ensures { result ≡ bytes_eq (map to_ascii_lowercase word.now)
+        (map to_ascii_lowercase keyword.now) }
 {
     word.eq_ignore_ascii_case(keyword)
 }

@@ -15,5 +15,6 @@ pub fn scans_are_longest()
 /// The tokens of some bytes are cut off from left to right. Blanks separate them, and each is the
 /// longest form that begins at its place. A byte at which no form begins is a stray token.
 pub fn tokens_are_longest()
-    ensures { (bytes : List ℕ) (tokens : List Lexeme) → AreTokens 0 bytes tokens ↔ (tokens ≡ tokens_of bytes) }
+    ensures { (bytes : List ℕ) (tokens : List Lexeme)
+        → AreTokens 0 bytes tokens ↔ (tokens ≡ tokens_of bytes) }
 {}

@@ -230,7 +230,9 @@ pub fn text(alloc: Global, select: &Select) -> Result<Vec<u8>, NoMemory>
     ensures text { IfOk result (λ v. v.items ≡ text_of select.now) }
     // If the query was read from some bytes, the text is read as that query again, unless it is too
     // long.
-    ensures reads_back { IfOk result (λ v. (bytes : List ℕ) → IsParsed bytes select.now → length v.items ≤ 65536 → ReadsBack v.items select.now) }
+    ensures reads_back { IfOk result
+        (λ v. (bytes : List ℕ) → IsParsed bytes select.now → length v.items ≤ 65536
+        → ReadsBack v.items select.now) }
 {
     let text = write_select(alloc, select)?;
     Ok(text)

@@ -84,5 +84,6 @@ same_key a b = pointwise same_term a.terms b.terms && beq a.descending b.descend
 -- the same, except for the offsets
 abbrev pub same_select : Select → Select → Bool
 same_select a b =
-    same_list a.list b.list && (pointwise same_item a.items b.items && (pointwise same_equality a.equalities b.equalities
+    same_list a.list b.list &&
+    (pointwise same_item a.items b.items && (pointwise same_equality a.equalities b.equalities
     && (pointwise same_key a.keys b.keys && option_eq nat_eq a.limit b.limit)))

@@ -31,9 +31,11 @@ one_answer true b f g = sym (f refl)
 one_answer false true f g = g refl
 one_answer false false f g = refl
 
-pub laws_of : {K V : Type 0} (test : K → K → Bool) (view : K → V) → Tells test view → IsPartialEquivalence test
+pub laws_of : {K V : Type 0} (test : K → K → Bool) (view : K → V) → Tells test view
+    → IsPartialEquivalence test
 laws_of test view t = record {
-  symm = λ x y. one_answer (test x y) (test y x) (λ e. t.are_same y x (sym (t.are_one x y e))) (λ e. t.are_same x y (sym (t.are_one y x e)));
+  symm = λ x y. one_answer (test x y) (test y x) (λ e. t.are_same y x (sym (t.are_one x y e)))
+      (λ e. t.are_same x y (sym (t.are_one y x e)));
   trans = λ x y z e f. t.are_same x z (t.are_one x y e ∙ t.are_one y z f);
 }
 
@@ -48,7 +50,8 @@ and_true true b e f = f
 and_true false b e f = absurd cc
 
 bytes_tell : Tells bytes_eq (λ (x : List ℕ). x)
-bytes_tell = record { are_one = λ x y e. (bytes_decides x y).0 e; are_same = λ x y e. (bytes_decides x y).1 e }
+bytes_tell = record
+    { are_one = λ x y e. (bytes_decides x y).0 e; are_same = λ x y e. (bytes_decides x y).1 e }
 
 pub bytes_laws : IsPartialEquivalence bytes_eq
 bytes_laws = laws_of bytes_eq (λ x. x) bytes_tell
@@ -68,19 +71,22 @@ bools_same true false e = absurd cc
 bools_same false true e = absurd cc
 bools_same false false e = refl
 
-options_one : {K : Type 0} (test : K → K → Bool) → Tells test (λ (x : K). x) → (a b : Option K) → option_eq test a b ≡ true → a ≡ b
+options_one : {K : Type 0} (test : K → K → Bool) → Tells test (λ (x : K). x) → (a b : Option K)
+    → option_eq test a b ≡ true → a ≡ b
 options_one test t None None e = refl
 options_one test t None (Some y) e = absurd cc
 options_one test t (Some x) None e = absurd cc
 options_one test t (Some x) (Some y) e = ap Some (t.are_one x y e)
 
-options_same : {K : Type 0} (test : K → K → Bool) → Tells test (λ (x : K). x) → (a b : Option K) → a ≡ b → option_eq test a b ≡ true
+options_same : {K : Type 0} (test : K → K → Bool) → Tells test (λ (x : K). x) → (a b : Option K)
+    → a ≡ b → option_eq test a b ≡ true
 options_same test t None None e = refl
 options_same test t None (Some y) e = absurd cc
 options_same test t (Some x) None e = absurd cc
 options_same test t (Some x) (Some y) e = t.are_same x y (let is : x ≡ y = cc in is)
 
-lists_one : {K V : Type 0} (test : K → K → Bool) (view : K → V) → Tells test view → (a b : List K) → pointwise test a b ≡ true → map view a ≡ map view b
+lists_one : {K V : Type 0} (test : K → K → Bool) (view : K → V) → Tells test view → (a b : List K)
+    → pointwise test a b ≡ true → map view a ≡ map view b
 lists_one test view t [] [] e = refl
 lists_one test view t [] (y ∷ ys) e = absurd cc
 lists_one test view t (x ∷ xs) [] e = absurd cc
@@ -90,14 +96,16 @@ lists_one test view t (x ∷ xs) (y ∷ ys) e =
     let others = lists_one test view t xs ys h.1 in
     λ i. first i ∷ others i
 
-lists_same : {K V : Type 0} (test : K → K → Bool) (view : K → V) → Tells test view → (a b : List K) → map view a ≡ map view b → pointwise test a b ≡ true
+lists_same : {K V : Type 0} (test : K → K → Bool) (view : K → V) → Tells test view → (a b : List K)
+    → map view a ≡ map view b → pointwise test a b ≡ true
 lists_same test view t [] [] e = refl
 lists_same test view t [] (y ∷ ys) e = absurd cc
 lists_same test view t (x ∷ xs) [] e = absurd cc
 lists_same test view t (x ∷ xs) (y ∷ ys) e =
     let first : view x ≡ view y = cc in
     let others : map view xs ≡ map view ys = cc in
-    and_true (test x y) (pointwise test xs ys) (t.are_same x y first) (lists_same test view t xs ys others)
+    and_true (test x y) (pointwise test xs ys) (t.are_same x y first)
+    (lists_same test view t xs ys others)
 
 -- ---- the parts of a query
 
@@ -112,19 +120,23 @@ column_tells = record { are_one = one; are_same = same }
         λ i. record { alias = alias i; column = column i; at = 0 }
 
     same : (x y : ColumnRef) → placeless_column x ≡ placeless_column y → same_column x y ≡ true
-    same x y e = and_true (option_eq bytes_eq x.alias y.alias) (bytes_eq x.column y.column) (options_same bytes_eq bytes_tell x.alias y.alias (ap (λ (c : ColumnRef). c.alias) e)) (bytes_tell.are_same x.column y.column (ap (λ (c : ColumnRef). c.column) e))
+    same x y e = and_true (option_eq bytes_eq x.alias y.alias) (bytes_eq x.column y.column)
+        (options_same bytes_eq bytes_tell x.alias y.alias (ap (λ (c : ColumnRef). c.alias) e))
+        (bytes_tell.are_same x.column y.column (ap (λ (c : ColumnRef). c.column) e))
 
 list_one : (x y : SelectList) → same_list x y ≡ true → placeless_list x ≡ placeless_list y
 list_one Star Star e = refl
 list_one Star (Columns b) e = absurd cc
 list_one (Columns a) Star e = absurd cc
-list_one (Columns a) (Columns b) e = ap Columns (lists_one same_column placeless_column column_tells a b e)
+list_one (Columns a) (Columns b) e = ap Columns
+    (lists_one same_column placeless_column column_tells a b e)
 
 list_same : (x y : SelectList) → placeless_list x ≡ placeless_list y → same_list x y ≡ true
 list_same Star Star e = refl
 list_same Star (Columns b) e = absurd cc
 list_same (Columns a) Star e = absurd cc
-list_same (Columns a) (Columns b) e = lists_same same_column placeless_column column_tells a b (let is : map placeless_column a ≡ map placeless_column b = cc in is)
+list_same (Columns a) (Columns b) e = lists_same same_column placeless_column column_tells a b
+    (let is : map placeless_column a ≡ map placeless_column b = cc in is)
 
 pub list_tells : Tells same_list placeless_list
 list_tells = record { are_one = list_one; are_same = list_same }
@@ -140,7 +152,9 @@ item_tells = record { are_one = one; are_same = same }
         λ i. record { table = table i; alias = alias i; at = 0 }
 
     same : (x y : ItemRef) → placeless_item x ≡ placeless_item y → same_item x y ≡ true
-    same x y e = and_true (bytes_eq x.table y.table) (bytes_eq x.alias y.alias) (bytes_tell.are_same x.table y.table (ap (λ (c : ItemRef). c.table) e)) (bytes_tell.are_same x.alias y.alias (ap (λ (c : ItemRef). c.alias) e))
+    same x y e = and_true (bytes_eq x.table y.table) (bytes_eq x.alias y.alias)
+        (bytes_tell.are_same x.table y.table (ap (λ (c : ItemRef). c.table) e))
+        (bytes_tell.are_same x.alias y.alias (ap (λ (c : ItemRef). c.alias) e))
 
 side_one : (x y : Side) → same_side x y ≡ true → placeless_side x ≡ placeless_side y
 side_one (Column a) (Column b) e = ap Column (column_tells.are_one a b e)
@@ -149,7 +163,8 @@ side_one (Constant a) (Column b) e = absurd cc
 side_one (Constant a) (Constant b) e = ap Constant (bytes_tell.are_one a b e)
 
 side_same : (x y : Side) → placeless_side x ≡ placeless_side y → same_side x y ≡ true
-side_same (Column a) (Column b) e = column_tells.are_same a b (let is : placeless_column a ≡ placeless_column b = cc in is)
+side_same (Column a) (Column b) e = column_tells.are_same a b
+    (let is : placeless_column a ≡ placeless_column b = cc in is)
 side_same (Column a) (Constant b) e = absurd cc
 side_same (Constant a) (Column b) e = absurd cc
 side_same (Constant a) (Constant b) e = bytes_tell.are_same a b (let is : a ≡ b = cc in is)
@@ -168,7 +183,9 @@ equality_tells = record { are_one = one; are_same = same }
         λ i. record { left = left i; right = right i }
 
     same : (x y : Equality) → placeless_equality x ≡ placeless_equality y → same_equality x y ≡ true
-    same x y e = and_true (same_column x.left y.left) (same_side x.right y.right) (column_tells.are_same x.left y.left (ap (λ (c : Equality). c.left) e)) (side_tells.are_same x.right y.right (ap (λ (c : Equality). c.right) e))
+    same x y e = and_true (same_column x.left y.left) (same_side x.right y.right)
+        (column_tells.are_same x.left y.left (ap (λ (c : Equality). c.left) e))
+        (side_tells.are_same x.right y.right (ap (λ (c : Equality). c.right) e))
 
 pub term_tells : Tells same_term placeless_term
 term_tells = record { are_one = one; are_same = same }
@@ -181,7 +198,9 @@ term_tells = record { are_one = one; are_same = same }
         λ i. record { minus = minus i; column = column i }
 
     same : (x y : Term) → placeless_term x ≡ placeless_term y → same_term x y ≡ true
-    same x y e = and_true (beq x.minus y.minus) (same_column x.column y.column) (bools_same x.minus y.minus (ap (λ (c : Term). c.minus) e)) (column_tells.are_same x.column y.column (ap (λ (c : Term). c.column) e))
+    same x y e = and_true (beq x.minus y.minus) (same_column x.column y.column)
+        (bools_same x.minus y.minus (ap (λ (c : Term). c.minus) e))
+        (column_tells.are_same x.column y.column (ap (λ (c : Term). c.column) e))
 
 pub key_tells : Tells same_key placeless_key
 key_tells = record { are_one = one; are_same = same }
@@ -194,7 +213,10 @@ key_tells = record { are_one = one; are_same = same }
         λ i. record { terms = terms i; descending = descending i }
 
     same : (x y : KeyRef) → placeless_key x ≡ placeless_key y → same_key x y ≡ true
-    same x y e = and_true (pointwise same_term x.terms y.terms) (beq x.descending y.descending) (lists_same same_term placeless_term term_tells x.terms y.terms (ap (λ (c : KeyRef). c.terms) e)) (bools_same x.descending y.descending (ap (λ (c : KeyRef). c.descending) e))
+    same x y e = and_true (pointwise same_term x.terms y.terms) (beq x.descending y.descending)
+        (lists_same same_term placeless_term term_tells x.terms y.terms
+        (ap (λ (c : KeyRef). c.terms) e))
+        (bools_same x.descending y.descending (ap (λ (c : KeyRef). c.descending) e))
 
 pub select_tells : Tells same_select placeless
 select_tells = record { are_one = one; are_same = same }
@@ -207,17 +229,33 @@ select_tells = record { are_one = one; are_same = same }
         let k = both (pointwise same_key x.keys y.keys) (option_eq nat_eq x.limit y.limit) f.1 in
         let list = list_tells.are_one x.list y.list h.0 in
         let items = lists_one same_item placeless_item item_tells x.items y.items g.0 in
-        let equalities = lists_one same_equality placeless_equality equality_tells x.equalities y.equalities f.0 in
+        let equalities = lists_one same_equality placeless_equality equality_tells x.equalities
+        y.equalities f.0 in
         let keys = lists_one same_key placeless_key key_tells x.keys y.keys k.0 in
         let limit = options_one nat_eq numbers_tell x.limit y.limit k.1 in
-        λ i. record { list = list i; items = items i; equalities = equalities i; keys = keys i; limit = limit i }
+        λ i. record {
+          list = list i;
+          items = items i;
+          equalities = equalities i;
+          keys = keys i;
+          limit = limit i;
+        }
 
     same : (x y : Select) → placeless x ≡ placeless y → same_select x y ≡ true
     same x y e =
-        and_true (same_list x.list y.list) _ (list_tells.are_same x.list y.list (ap (λ (s : Select). s.list) e))
-        (and_true (pointwise same_item x.items y.items) _ (lists_same same_item placeless_item item_tells x.items y.items (ap (λ (s : Select). s.items) e))
-        (and_true (pointwise same_equality x.equalities y.equalities) _ (lists_same same_equality placeless_equality equality_tells x.equalities y.equalities (ap (λ (s : Select). s.equalities) e))
-        (and_true (pointwise same_key x.keys y.keys) (option_eq nat_eq x.limit y.limit) (lists_same same_key placeless_key key_tells x.keys y.keys (ap (λ (s : Select). s.keys) e)) (options_same nat_eq numbers_tell x.limit y.limit (ap (λ (s : Select). s.limit) e)))))
+        and_true (same_list x.list y.list) _
+        (list_tells.are_same x.list y.list (ap (λ (s : Select). s.list) e))
+        (and_true (pointwise same_item x.items y.items) _
+        (lists_same same_item placeless_item item_tells x.items y.items
+        (ap (λ (s : Select). s.items) e))
+        (and_true (pointwise same_equality x.equalities y.equalities) _
+        (lists_same same_equality placeless_equality equality_tells x.equalities y.equalities
+        (ap (λ (s : Select). s.equalities) e))
+        (and_true (pointwise same_key x.keys y.keys) (option_eq nat_eq x.limit y.limit)
+        (lists_same same_key placeless_key key_tells x.keys y.keys
+        (ap (λ (s : Select). s.keys) e))
+        (options_same nat_eq numbers_tell x.limit y.limit (ap (λ (s : Select). s.limit) e)))))
 
 pub same_iff : (x y : Select) (t : Bool) → t ≡ same_select x y → IsTrue t ↔ AreOne x y
-same_iff x y t is = (λ e. select_tells.are_one x y (sym is ∙ e), λ e. is ∙ select_tells.are_same x y e)
+same_iff x y t is =
+    (λ e. select_tells.are_one x y (sym is ∙ e), λ e. is ∙ select_tells.are_same x y e)

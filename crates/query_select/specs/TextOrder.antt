@@ -29,7 +29,8 @@ key_columns key = map (λ (t : Term). t.column) key.terms
 
 -- the references of the select list, then of the equalities, then of the order keys
 abbrev pub columns_of : Select → List ColumnRef
-columns_of select = list_columns select.list ++ (flat_map equality_columns select.equalities ++ flat_map key_columns select.keys)
+columns_of select = list_columns select.list
+    ++ (flat_map equality_columns select.equalities ++ flat_map key_columns select.keys)
 
 -- each begins before all the later ones
 abbrev pub Ascend : {R : Type 0} → (R → ℕ) → List R → Type 0

@@ -55,14 +55,18 @@ pub record Shape : Type 0 where
 pub record HasNodeRows (query : Query) (tables : List Table) (item count : ℕ) : Type 0 where
   pub rows : List ℕ
   pub ascending : IsAscending (λ a b. a < b) rows
-  pub members : (row : ℕ) → IsMember row rows ↔ ((1 ≤ row) × (row ≤ length (item_table query tables item).rows) × Passes query tables item row)
+  pub members : (row : ℕ)
+      → IsMember row rows
+      ↔ ((1 ≤ row) × (row ≤ length (item_table query tables item).rows)
+      × Passes query tables item row)
   pub counted : length rows ≡ count
 
 -- the join tree, with the numbers of its node rows
 pub record HasShape (query : Query) (tables : List Table) (shape : Shape) : Type 0 where
   pub hung : HasTree query shape.atoms shape.parents
   pub counts : length shape.node_rows ≡ length shape.atoms
-  pub rows : (k : ℕ) → k < length shape.atoms → HasNodeRows query tables (slice_index shape.atoms k) (slice_index shape.node_rows k)
+  pub rows : (k : ℕ) → k < length shape.atoms
+      → HasNodeRows query tables (slice_index shape.atoms k) (slice_index shape.node_rows k)
 
 -- the greatest number of node rows, of all nodes together
 abbrev pub most_node_rows : ℕ
@@ -70,6 +74,8 @@ most_node_rows = 4194304
 
 -- the shape, or no join tree exists, or there are too many node rows
 abbrev pub IsShape : Query → List Table → Result Shape Flaw → Type 0
-IsShape query tables (Ok shape) = HasShape query tables shape × (sum_of_all shape.node_rows ≤ most_node_rows)
+IsShape query tables (Ok shape) = HasShape query tables shape
+    × (sum_of_all shape.node_rows ≤ most_node_rows)
 IsShape query tables (Err (cyclic items)) = IsCyclic query items
-IsShape query tables (Err too_many_rows) = (shape : Shape) × HasShape query tables shape × (most_node_rows < sum_of_all shape.node_rows)
+IsShape query tables (Err too_many_rows) = (shape : Shape) × HasShape query tables shape
+    × (most_node_rows < sum_of_all shape.node_rows)

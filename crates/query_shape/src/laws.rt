@@ -6,5 +6,6 @@ ghost use Rattle.query_shape.specs.Shape.{Flaw, IsShape, Shape};
 
 /// A query has at most one result over its tables: a shape, or a flaw.
 pub fn one_shape()
-    ensures { (query : Query) (tables : List Table) (x y : Result Shape Flaw) → IsShape query tables x → IsShape query tables y → x ≡ y }
+    ensures { (query : Query) (tables : List Table) (x y : Result Shape Flaw)
+        → IsShape query tables x → IsShape query tables y → x ≡ y }
 {}

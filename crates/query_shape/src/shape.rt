@@ -16,7 +16,8 @@ pub fn tree_shape(query: &Query) -> Result<JoinTree, ShapeFault>
     ensures tree { IfOk result (λ tree. HasStoredTree query.now.query tree) }
     ensures ordered { IfOk result (λ tree. IsTree tree.count tree.atom tree.parent) }
     ensures count { IfOk result (λ tree. tree.count ≡ length query.now.query.items) }
-    ensures items { IfOk result (λ tree. HasItems tree.count tree.atom (length query.now.query.items)) }
+    ensures items { IfOk result
+        (λ tree. HasItems tree.count tree.atom (length query.now.query.items)) }
     ensures refusal { IfErr result (TellsCycle query.now.query) }
 {
     let graph = query.graph()?;

@@ -15,7 +15,8 @@ fn ears_of(alloc: Global, atoms: u32, sets: &[u16]) -> Result<Ears, NoMemory>
     requires some { 1 ≤ atoms }
     requires few { atoms ≤ 16 }
     requires within { All (λ set. set < 2 ^ atoms) sets.now }
-    ensures { IfOk result (λ e. (graph : Hypergraph) × IsRemoval graph e.parent e.order e.removed e.core) }
+    ensures { IfOk result
+        (λ e. (graph : Hypergraph) × IsRemoval graph e.parent e.order e.removed e.core) }
 {
     let graph = Graph::new(alloc, atoms, sets)?;
     Ok(ears(&graph))

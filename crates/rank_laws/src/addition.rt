@@ -38,7 +38,8 @@ pub fn joined_both_ways<R: Rank, L: Ledger>(a: R, b: R, steps: &mut Steps<L>) ->
 pub fn grouped_both_ways<R: Rank, L: Ledger>(a: R, b: R, c: R, steps: &mut Steps<L>) -> (R, R)
     requires left { KeyFits R.KEYS (key_add R.KEYS 16 (R.key a) (R.key b)) }
     requires right { KeyFits R.KEYS (key_add R.KEYS 16 (R.key b) (R.key c)) }
-    requires whole { KeyFits R.KEYS (key_add R.KEYS 16 (R.key a) (key_add R.KEYS 16 (R.key b) (R.key c))) }
+    requires whole { KeyFits R.KEYS
+        (key_add R.KEYS 16 (R.key a) (key_add R.KEYS 16 (R.key b) (R.key c))) }
     ensures associative { R.key result.0 ≡ R.key result.1 }
     ensures counted { steps.new ≡ steps.old + 4 }
 {

@@ -16,7 +16,8 @@ IsPrintCause before now reason.NoMemory = Unit {0}
 IsPrintCause before now other = ⊥
 
 -- the sink got the whole text at `Ok`, and a prefix of it at `Err`
-pub record Printed (old new : SinkState) (text : List ℕ) (result : Result (Unit {0}) Refusal) : Type 0 where
+pub record Printed (old new : SinkState) (text : List ℕ)
+    (result : Result (Unit {0}) Refusal) : Type 0 where
   pub whole : OnOk result (Appends old.written new.written text)
   pub prefix : GotPrefix old.written new.written text
   pub cause : IfErr result (λ refusal. IsPrintCause old.faults new.faults (reason_of refusal))
@@ -30,11 +31,13 @@ GotBeginning IsText old new = (text : List ℕ) × IsText text × GotPrefix old.
 
 -- what the sink got if printing ended early: if memory ran out, maybe nothing, before any text was known
 abbrev pub IsBroken : (List ℕ → Type 0) → SinkState → SinkState → Reason → Type 0
-IsBroken IsText old new reason.NoMemory = Appends old.written new.written [] ⊎ GotBeginning IsText old new
+IsBroken IsText old new reason.NoMemory = Appends old.written new.written []
+    ⊎ GotBeginning IsText old new
 IsBroken IsText old new other = GotBeginning IsText old new
 
 -- the sink got the whole of such a text at `Ok`, and at most a prefix of one at `Err`
-pub record PrintedSome (IsText : List ℕ → Type 0) (old new : SinkState) (result : Result (Unit {0}) Refusal) : Type 0 where
+pub record PrintedSome (IsText : List ℕ → Type 0) (old new : SinkState)
+    (result : Result (Unit {0}) Refusal) : Type 0 where
   pub whole : OnOk result ((text : List ℕ) × IsText text × Appends old.written new.written text)
   pub part : IfErr result (λ refusal. IsBroken IsText old new (reason_of refusal))
   pub cause : IfErr result (λ refusal. IsPrintCause old.faults new.faults (reason_of refusal))

@@ -139,12 +139,17 @@ text_of (UnknownColumn at) = on_byte at (codes "unknown column")
 text_of (Ambiguous at) = on_byte at (codes "ambiguous column")
 text_of UnknownBest = codes "unknown alias in --best-of"
 text_of (NoHeader table) = on_table table (codes "no header")
-text_of (DuplicateName table column) = on_table table (codes "column " ++ (decimal column ++ codes ": name used twice"))
-text_of (Ragged table row) = on_table table (codes "row " ++ (decimal row ++ codes ": wrong number of fields"))
+text_of (DuplicateName table column) = on_table table
+    (codes "column " ++ (decimal column ++ codes ": name used twice"))
+text_of (Ragged table row) = on_table table
+    (codes "row " ++ (decimal row ++ codes ": wrong number of fields"))
 text_of (BadWeight branch item row column) =
-    codes "item " ++ (decimal item ++ (codes ": row " ++ (decimal row ++ (codes ": column " ++ (decimal column ++ codes ": not a weight")))))
+    codes "item " ++ (decimal item
+    ++ (codes ": row " ++
+    (decimal row ++ (codes ": column " ++ (decimal column ++ codes ": not a weight")))))
 text_of (Cyclic branch core) = codes "cyclic query: items" ++ spaced core
-text_of (RankRange branch key) = codes "order key " ++ (decimal key ++ codes ": rank may pass 128 bits")
+text_of (RankRange branch key) = codes "order key "
+    ++ (decimal key ++ codes ": rank may pass 128 bits")
 text_of TooLong = codes "query longer than 65536 bytes"
 text_of TooManyBranches = codes "more than 8 branches"
 text_of TooManyItems = codes "more than 16 items"
@@ -164,7 +169,8 @@ text_of BadProofHeader = codes "proof: bad header"
 text_of (BadProofLine line) = on_proof_line line (codes "bad line")
 text_of (BadBound line) = on_proof_line line (codes "no solution")
 text_of (BoundTwice line) = on_proof_line line (codes "bound twice")
-text_of (WeakBound node) = codes "proof node " ++ (decimal node ++ codes ": bound missing or too high")
+text_of (WeakBound node) = codes "proof node "
+    ++ (decimal node ++ codes ": bound missing or too high")
 text_of (BadAnswer line) = on_proof_line line (codes "no answer")
 text_of (AnswerOrder line) = on_proof_line line (codes "not in order")
 text_of AnswerCount = codes "proof: wrong number of answers"
@@ -173,4 +179,5 @@ text_of (BranchShape branch) = codes "shape differs"
 text_of UnionBest = codes "several branches with --best-of"
 
 abbrev pub line_of : Reason → List ℕ
-line_of reason = codes "anyk: " ++ (branch_text (branch_of reason) ++ (text_of reason ++ codes "\n"))
+line_of reason = codes "anyk: "
+    ++ (branch_text (branch_of reason) ++ (text_of reason ++ codes "\n"))

@@ -15,7 +15,8 @@ use outer_io::{Sink, Unwritten};
 /// Writes the line of the refusal, with its line feed, as far as the sink takes it. It takes no
 /// memory. The error says that the sink did not take all of it.
 pub fn write_line<E: Sink>(err: &mut E, refusal: Refusal<'_>) -> Result<(), Unwritten>
-    ensures { Sent (state_of E.Sink err.old) (state_of E.Sink err.new) (line_of (reason_of refusal.entry)) result }
+    ensures { Sent (state_of E.Sink err.old) (state_of E.Sink err.new)
+        (line_of (reason_of refusal.entry)) result }
 {
     write_text(err, b"anyk: ")?;
     write_branch(err, refusal.branch())?;
@@ -35,7 +36,8 @@ fn write_branch<E: Sink>(err: &mut E, branch: Option<u32>) -> Result<(), Unwritt
 
 /// Writes the reason, without what stands before it and without the line feed.
 fn write_reason<E: Sink>(err: &mut E, refusal: Refusal<'_>) -> Result<(), Unwritten>
-    ensures { Sent (state_of E.Sink err.old) (state_of E.Sink err.new) (text_of (reason_of refusal.entry)) result }
+    ensures { Sent (state_of E.Sink err.old) (state_of E.Sink err.new)
+        (text_of (reason_of refusal.entry)) result }
 {
     match refusal {
         Refusal::Usage => write_text(err, b"usage"),
@@ -106,7 +108,8 @@ fn write_numbered<'a, E: Sink>(
     number: u32,
     after: &'a [u8],
 ) -> Result<(), Unwritten>
-    ensures { Sent (state_of E.Sink err.old) (state_of E.Sink err.new) (before.now ++ (decimal number ++ after.now)) result }
+    ensures { Sent (state_of E.Sink err.old) (state_of E.Sink err.new)
+        (before.now ++ (decimal number ++ after.now)) result }
 {
     let pieces = [
         Piece::Text(before),
@@ -118,7 +121,8 @@ fn write_numbered<'a, E: Sink>(
 
 /// Writes a reason at a byte of the query.
 fn write_on_byte<'a, E: Sink>(err: &mut E, at: u32, what: &'a [u8]) -> Result<(), Unwritten>
-    ensures { Sent (state_of E.Sink err.old) (state_of E.Sink err.new) (on_byte at what.now) result }
+    ensures { Sent (state_of E.Sink err.old) (state_of E.Sink err.new)
+        (on_byte at what.now) result }
 {
     let pieces = [
         Piece::Text(b"byte "),
@@ -131,7 +135,8 @@ fn write_on_byte<'a, E: Sink>(err: &mut E, at: u32, what: &'a [u8]) -> Result<()
 
 /// Writes a reason at a line of the script.
 fn write_on_line<'a, E: Sink>(err: &mut E, line: u32, what: &'a [u8]) -> Result<(), Unwritten>
-    ensures { Sent (state_of E.Sink err.old) (state_of E.Sink err.new) (on_line line what.now) result }
+    ensures { Sent (state_of E.Sink err.old) (state_of E.Sink err.new)
+        (on_line line what.now) result }
 {
     let pieces = [
         Piece::Text(b"script line "),
@@ -144,7 +149,8 @@ fn write_on_line<'a, E: Sink>(err: &mut E, line: u32, what: &'a [u8]) -> Result<
 
 /// Writes a reason at a line of the certificate.
 fn write_on_proof_line<'a, E: Sink>(err: &mut E, line: u32, what: &'a [u8]) -> Result<(), Unwritten>
-    ensures { Sent (state_of E.Sink err.old) (state_of E.Sink err.new) (on_proof_line line what.now) result }
+    ensures { Sent (state_of E.Sink err.old) (state_of E.Sink err.new)
+        (on_proof_line line what.now) result }
 {
     let pieces = [
         Piece::Text(b"proof line "),
@@ -161,7 +167,8 @@ fn write_on_table<'a, E: Sink>(
     table: &'a [u8],
     what: &'a [u8],
 ) -> Result<(), Unwritten>
-    ensures { Sent (state_of E.Sink err.old) (state_of E.Sink err.new) (on_table table.now what.now) result }
+    ensures { Sent (state_of E.Sink err.old) (state_of E.Sink err.new)
+        (on_table table.now what.now) result }
 {
     let pieces = [
         Piece::Text(b"table "),
@@ -174,7 +181,8 @@ fn write_on_table<'a, E: Sink>(
 
 /// Writes a reason about a file.
 fn write_on_file<'a, E: Sink>(err: &mut E, file: &'a str, what: &'a [u8]) -> Result<(), Unwritten>
-    ensures { Sent (state_of E.Sink err.old) (state_of E.Sink err.new) (on_file file.now what.now) result }
+    ensures { Sent (state_of E.Sink err.old) (state_of E.Sink err.new)
+        (on_file file.now what.now) result }
 {
     let pieces = [
         Piece::Text(b"file "),
@@ -186,7 +194,8 @@ fn write_on_file<'a, E: Sink>(err: &mut E, file: &'a str, what: &'a [u8]) -> Res
 
 /// Writes that a column has the same name as an earlier one.
 fn write_duplicate_name<E: Sink>(err: &mut E, table: &[u8], column: u32) -> Result<(), Unwritten>
-    ensures { Sent (state_of E.Sink err.old) (state_of E.Sink err.new) (text_of (DuplicateName table.now column)) result }
+    ensures { Sent (state_of E.Sink err.old) (state_of E.Sink err.new)
+        (text_of (DuplicateName table.now column)) result }
 {
     let pieces = [
         Piece::Text(b"table "),
@@ -200,7 +209,8 @@ fn write_duplicate_name<E: Sink>(err: &mut E, table: &[u8], column: u32) -> Resu
 
 /// Writes that a row has more or fewer fields than the header.
 fn write_ragged<E: Sink>(err: &mut E, table: &[u8], row: u32) -> Result<(), Unwritten>
-    ensures { Sent (state_of E.Sink err.old) (state_of E.Sink err.new) (text_of (Ragged table.now row)) result }
+    ensures { Sent (state_of E.Sink err.old) (state_of E.Sink err.new)
+        (text_of (Ragged table.now row)) result }
 {
     let pieces = [
         Piece::Text(b"table "),
@@ -214,7 +224,8 @@ fn write_ragged<E: Sink>(err: &mut E, table: &[u8], row: u32) -> Result<(), Unwr
 
 /// Writes that the sums of an order key may be too great.
 fn write_rank_range<E: Sink>(err: &mut E, key: u32) -> Result<(), Unwritten>
-    ensures { Sent (state_of E.Sink err.old) (state_of E.Sink err.new) (text_of (RankRange None key)) result }
+    ensures { Sent (state_of E.Sink err.old) (state_of E.Sink err.new)
+        (text_of (RankRange None key)) result }
 {
     write_numbered(err, b"order key ", key, b": rank may pass 128 bits")
 }
@@ -238,7 +249,8 @@ fn write_bad_weight<E: Sink>(err: &mut E, item: u32, row: u32, column: u32) -> R
 
 /// Writes that the query is cyclic, with its core.
 fn write_cyclic<E: Sink>(err: &mut E, core: u16) -> Result<(), Unwritten>
-    ensures { Sent (state_of E.Sink err.old) (state_of E.Sink err.new) (codes "cyclic query: items" ++ spaced (items_of core)) result }
+    ensures { Sent (state_of E.Sink err.old) (state_of E.Sink err.new)
+        (codes "cyclic query: items" ++ spaced (items_of core)) result }
 {
     write_text(err, b"cyclic query: items")?;
     write_items(err, core)
@@ -246,7 +258,8 @@ fn write_cyclic<E: Sink>(err: &mut E, core: u16) -> Result<(), Unwritten>
 
 /// Writes the items of a core, each with a space before it.
 fn write_items<E: Sink>(err: &mut E, core: u16) -> Result<(), Unwritten>
-    ensures { Sent (state_of E.Sink err.old) (state_of E.Sink err.new) (spaced (items_of core)) result }
+    ensures { Sent (state_of E.Sink err.old) (state_of E.Sink err.new)
+        (spaced (items_of core)) result }
 {
     for place in 0..16 {
         write_item(err, core, place)?;
@@ -257,7 +270,8 @@ fn write_items<E: Sink>(err: &mut E, core: u16) -> Result<(), Unwritten>
 /// Writes the item with this number, from 0, if it is in the core.
 fn write_item<E: Sink>(err: &mut E, core: u16, place: u32) -> Result<(), Unwritten>
     requires { place < 16 }
-    ensures { Sent (state_of E.Sink err.old) (state_of E.Sink err.new) (item_text core place) result }
+    ensures { Sent (state_of E.Sink err.old) (state_of E.Sink err.new)
+        (item_text core place) result }
 {
     if is_in(core, place) {
         write_numbered(err, b" ", place + 1, b"")

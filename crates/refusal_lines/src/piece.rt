@@ -18,7 +18,8 @@ pub(crate) enum Piece<'a> {
 
 /// Writes the pieces, one after another, as far as the sink takes them.
 pub(crate) fn write_pieces<E: Sink>(err: &mut E, pieces: &[Piece<'_>]) -> Result<(), Unwritten>
-    ensures { Sent (state_of E.Sink err.old) (state_of E.Sink err.new) (text_of_pieces pieces.now) result }
+    ensures { Sent (state_of E.Sink err.old) (state_of E.Sink err.new)
+        (text_of_pieces pieces.now) result }
 {
     for piece in pieces {
         write_piece(err, *piece)?;
@@ -28,7 +29,8 @@ pub(crate) fn write_pieces<E: Sink>(err: &mut E, pieces: &[Piece<'_>]) -> Result
 
 /// Writes one piece.
 fn write_piece<E: Sink>(err: &mut E, piece: Piece<'_>) -> Result<(), Unwritten>
-    ensures { Sent (state_of E.Sink err.old) (state_of E.Sink err.new) (text_of_piece piece.entry) result }
+    ensures { Sent (state_of E.Sink err.old) (state_of E.Sink err.new)
+        (text_of_piece piece.entry) result }
 {
     match piece {
         Piece::Text(text) => write_text(err, text),

@@ -18,7 +18,8 @@ abbrev pub right_text : List ℕ
 right_text = codes "b,c,w\nx,p,5\ny,q,2\nx,q,4\n"
 
 abbrev pub row_files : Files
-row_files = (codes "q.sql", query_text) ∷ (codes "R.csv", left_text) ∷ (codes "S.csv", right_text) ∷ []
+row_files = (codes "q.sql", query_text) ∷ (codes "R.csv", left_text) ∷ (codes "S.csv", right_text)
+    ∷ []
 
 -- what the command line asks for
 abbrev pub row_words : Words

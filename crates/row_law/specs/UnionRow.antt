@@ -8,4 +8,5 @@ abbrev pub union_text : List ℕ
 union_text = codes "select R.a from R order by R.w union all select S.c from S order by S.w limit 4"
 
 abbrev pub union_files : Files
-union_files = (codes "q.sql", union_text) ∷ (codes "R.csv", left_text) ∷ (codes "S.csv", right_text) ∷ []
+union_files = (codes "q.sql", union_text) ∷ (codes "R.csv", left_text) ∷ (codes "S.csv", right_text)
+    ∷ []

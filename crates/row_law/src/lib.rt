@@ -18,7 +18,8 @@ pub fn row_accepted()
 /// A call over the files of the row that keeps the bound on counted steps takes at most 7,936 of
 /// them: there are two items, 12 rows of tables and nodes, and three calls for answers.
 pub fn row_steps()
-    ensures { (before now : ℕ) → IsBounded row_asked (Some row_files) before now → now ≤ before + 7936 }
+    ensures { (before now : ℕ) → IsBounded row_asked (Some row_files) before now
+        → now ≤ before + 7936 }
 {}
 
 /// The second row is accepted.
@@ -30,5 +31,6 @@ pub fn union_accepted()
 /// of them: each query has one item and 6 rows of its table and its node. The first one has three of
 /// the members and the second one has one, and each is called once more.
 pub fn union_steps()
-    ensures { (before now : ℕ) → IsBounded row_asked (Some union_files) before now → now ≤ before + 2816 }
+    ensures { (before now : ℕ) → IsBounded row_asked (Some union_files) before now
+        → now ≤ before + 2816 }
 {}

@@ -10,8 +10,10 @@ use Rattle.session_script.specs.Words.{is_skipped, is_count, decimal_value}
 -- exactly one space is between two parts
 pub data Says : List ℕ → Step → Type 0 where
   opens : {name : List ℕ} → IsTrue (is_name name) → Says (codes "open " ++ name) (Open name)
-  moves : {name : List ℕ} (digits : List ℕ) → IsTrue (is_name name) → IsTrue (is_count digits) → Says (codes "next " ++ (name ++ 32 ∷ digits)) (Next name (decimal_value digits))
-  forks : {name new : List ℕ} → IsTrue (is_name name) → IsTrue (is_name new) → Says (codes "fork " ++ (name ++ 32 ∷ new)) (Fork name new)
+  moves : {name : List ℕ} (digits : List ℕ) → IsTrue (is_name name) → IsTrue (is_count digits)
+      → Says (codes "next " ++ (name ++ 32 ∷ digits)) (Next name (decimal_value digits))
+  forks : {name new : List ℕ} → IsTrue (is_name name) → IsTrue (is_name new)
+      → Says (codes "fork " ++ (name ++ 32 ∷ new)) (Fork name new)
   rewinds : {name : List ℕ} → IsTrue (is_name name) → Says (codes "rewind " ++ name) (Rewind name)
   closes : {name : List ℕ} → IsTrue (is_name name) → Says (codes "close " ++ name) (Close name)
 

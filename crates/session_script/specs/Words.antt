@@ -31,10 +31,13 @@ one_name_step word text = option_and_then (λ name.
     if bytes_eq word (codes "close") then Some (step.Close name) else None) (name_of text)
 
 unfoldable pub next_step : List ℕ → List ℕ → Option Step
-next_step text digits = option_and_then (λ name. option_and_then (λ count. Some (step.Next name count)) (count_of digits)) (name_of text)
+next_step text digits = option_and_then
+    (λ name. option_and_then (λ count. Some (step.Next name count)) (count_of digits))
+    (name_of text)
 
 unfoldable pub fork_step : List ℕ → List ℕ → Option Step
-fork_step text new = option_and_then (λ name. option_and_then (λ other. Some (step.Fork name other)) (name_of new)) (name_of text)
+fork_step text new = option_and_then
+    (λ name. option_and_then (λ other. Some (step.Fork name other)) (name_of new)) (name_of text)
 
 -- `next NAME M` and `fork NAME NEW`
 unfoldable pub two_part_step : List ℕ → List ℕ → List ℕ → Option Step

@@ -20,7 +20,8 @@ pub const MAX_LINES: usize = 10000;
 /// The step of one line, and the cursors that are open after it.
 #[tactic(auto, unfolding(crate::specs::Script::turn))]
 fn read_step(names: &mut Vec<Name>, line: &[u8], number: u32) -> Result<Step, ScriptFault>
-    ensures value { MatchResult result (λ s. turn number names.old.items line.now ≡ Ok s) (λ e. Fails (turn number names.old.items line.now) e) }
+    ensures value { MatchResult result (λ s. turn number names.old.items line.now ≡ Ok s)
+        (λ e. Fails (turn number names.old.items line.now) e) }
     ensures after { IfOk result (λ s. names.new.items ≡ names_after s names.old.items) }
 {
     let Some(step) = read_line(line) else {
@@ -35,7 +36,8 @@ fn read_step(names: &mut Vec<Name>, line: &[u8], number: u32) -> Result<Step, Sc
 
 fn read_steps(alloc: Global, bytes: &[u8]) -> Result<Vec<Step>, ScriptFault>
     requires { length (lines bytes.now) ≤ 10000 }
-    ensures { MatchResult result (λ v. steps_from 1 [] (lines bytes.now) ≡ Ok v.items) (λ e. Fails (steps_from 1 [] (lines bytes.now)) e) }
+    ensures { MatchResult result (λ v. steps_from 1 [] (lines bytes.now) ≡ Ok v.items)
+        (λ e. Fails (steps_from 1 [] (lines bytes.now)) e) }
 {
     let mut steps = Vec::new(alloc);
     let mut names = Vec::new(alloc);
@@ -58,7 +60,8 @@ fn read_steps(alloc: Global, bytes: &[u8]) -> Result<Vec<Step>, ScriptFault>
 /// first line that breaks a rule, or `TooManyLines`; `NoMemory` if memory is refused.
 pub fn read_script(alloc: Global, bytes: &[u8]) -> Result<Vec<Step>, ScriptFault>
     // The steps that the text says, or the reason why it says none.
-    ensures value { MatchResult result (λ v. steps_of bytes.now ≡ Ok v.items) (λ e. Fails (steps_of bytes.now) e) }
+    ensures value { MatchResult result (λ v. steps_of bytes.now ≡ Ok v.items)
+        (λ e. Fails (steps_of bytes.now) e) }
     // Each line that is neither empty nor a comment says its step.
     ensures says { IfOk result (λ v. SayEach (said_lines (lines bytes.now)) v.items) }
     // A bad line is one that has no form of a step, and all lines before it say steps.

@@ -25,10 +25,13 @@ steps_for share n = n * share (n - 1)
 -- the number of texts that are whole at the front of a text
 unfoldable pub whole_lines : List (List ℕ) → List ℕ → ℕ
 whole_lines [] part = 0
-whole_lines (line ∷ lines) part = if nat_le (length line) (length part) then suc (whole_lines lines (drop (length line) part)) else 0
+whole_lines (line ∷ lines) part = if nat_le (length line) (length part) then suc
+    (whole_lines lines (drop (length line) part)) else 0
 
 -- Texts were written one by one with calls between them. The steps of these calls are within those
 -- of `most` calls, and within those of the whole texts that were written and one call more.
-pub record Paced (share : ℕ → ℕ) (lines : List (List ℕ)) (most : ℕ) (old new : Option (List ℕ)) (before now : ℕ) : Type 0 where
+pub record Paced (share : ℕ → ℕ) (lines : List (List ℕ)) (most : ℕ) (old new : Option (List ℕ))
+    (before now : ℕ) : Type 0 where
   pub bounded : now ≤ before + steps_for share most
-  pub prompt : (start part : List ℕ) → old ≡ Some start → new ≡ Some (start ++ part) → now ≤ before + steps_for share (whole_lines lines part + 1)
+  pub prompt : (start part : List ℕ) → old ≡ Some start → new ≡ Some (start ++ part)
+      → now ≤ before + steps_for share (whole_lines lines part + 1)

@@ -20,6 +20,7 @@ pub fn small_costs()
 /// Preparation, the start of an engine, and c calls for answers keep the bound together, each
 /// within its share. There are l items, b rows of tables and nodes, and n rows of the tree.
 pub fn shares_add_up()
-    ensures { (l b n c : ℕ) (share : ℕ → ℕ) → 1 ≤ l → n ≤ b → ((k : ℕ) → share k ≤ 24 * (l * (1 + bit_length (n + (k + 1) * l))))
+    ensures { (l b n c : ℕ) (share : ℕ → ℕ) → 1 ≤ l → n ≤ b
+        → ((k : ℕ) → share k ≤ 24 * (l * (1 + bit_length (n + (k + 1) * l))))
         → 16 * (l * l * (1 + b)) + 16 * (l * (1 + n)) + steps_for share c ≤ cost l b c }
 {}

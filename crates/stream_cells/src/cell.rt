@@ -31,7 +31,9 @@ pub fn down_cell(cell: &Cell, below: Option<EntryId>) -> Option<Cell>
 /// `known` ones. `None` if there is no such cell.
 pub fn across_cell(cell: &Cell, head: EntryId, known: usize) -> Option<Cell>
     requires { cell.now.left < known }
-    ensures { MatchOption result (cell.now.right ≡ head → known ≤ cell.now.left + 1) (λ c. (cell.now.right ≡ head) × (cell.now.left + 1 < known) × (c ≡ record { left = cell.now.left + 1; right = head })) }
+    ensures { MatchOption result (cell.now.right ≡ head → known ≤ cell.now.left + 1)
+        (λ c. (cell.now.right ≡ head) × (cell.now.left + 1 < known)
+        × (c ≡ record { left = cell.now.left + 1; right = head })) }
 {
     if cell.right == head && cell.left + 1 < known {
         Some(Cell {

@@ -14,7 +14,8 @@ place_in vs gs i = owned (take i vs) (take i gs) (slice_index vs i) (slice_index
 
 -- what follows entry i: the entry at the next place of its list, or none if it is the last
 abbrev pub IsLinkedAt : List ℕ → List ℕ → ℕ → Option ℕ → Type 0
-IsLinkedAt vs gs i (Some n) = (n < length vs) × (slice_index vs n ≡ slice_index vs i) × (slice_index gs n ≡ slice_index gs i) × (place_in vs gs n ≡ place_in vs gs i + 1)
+IsLinkedAt vs gs i (Some n) = (n < length vs) × (slice_index vs n ≡ slice_index vs i)
+    × (slice_index gs n ≡ slice_index gs i) × (place_in vs gs n ≡ place_in vs gs i + 1)
 IsLinkedAt vs gs i None = place_in vs gs i + 1 ≡ owned vs gs (slice_index vs i) (slice_index gs i)
 
 -- each entry is followed by the next one of its list

@@ -22,10 +22,15 @@ pub fn pass_top<R: Rank, T: Copy, A: Allocator, L: Ledger>(
 )
     requires top { 0 < length queue.old.entries }
     requires room { 0 < queue.old.spare }
-    ensures moved { (d : Entry R T) → IsPermutation (offers next other queue.old.entries) (slice_index_or queue.old.entries 0 d ∷ queue.new.entries) }
-    ensures least { (d : Entry R T) → IsLeast R.KEYS R.key (slice_index_or queue.old.entries 0 d) queue.old.entries }
+    ensures moved { (d : Entry R T)
+        → IsPermutation (offers next other queue.old.entries)
+        (slice_index_or queue.old.entries 0 d ∷ queue.new.entries) }
+    ensures least { (d : Entry R T)
+        → IsLeast R.KEYS R.key (slice_index_or queue.old.entries 0 d) queue.old.entries }
     ensures heap_order { IsMinHeap R.KEYS R.key queue.new.entries }
-    ensures cost { steps.new ≤ steps.old + 2 * bit_length (length queue.old.entries) + bit_length (length queue.old.entries + 1) }
+    ensures cost { steps.new
+        ≤ steps.old + 2 * bit_length (length queue.old.entries)
+        + bit_length (length queue.old.entries + 1) }
 {
     match (next, other) {
         (Some(next), Some(other)) => {

@@ -37,7 +37,9 @@ impl<T, A: Allocator + Clone> Model for Store<T, A> {
 
     ghost view = { λ s. record { entries = joined s.buckets.items; spare = s.room - s.len } };
 
-    ghost invariant = { λ s. AreFilled 16 s.len s.buckets.items × (s.made ≡ whole_room 16 s.buckets.items) × (s.len ≤ s.room) × (s.room ≤ s.made) × (s.made < 2 ^ 32) };
+    ghost invariant = { λ s. AreFilled 16 s.len s.buckets.items
+        × (s.made ≡ whole_room 16 s.buckets.items) × (s.len ≤ s.room) × (s.room ≤ s.made)
+        × (s.made < 2 ^ 32) };
 }
 
 impl<T, A: Allocator + Clone> Store<T, A> {
@@ -84,7 +86,8 @@ impl<T, A: Allocator + Clone> Store<T, A> {
     pub fn push_reserved<L: Ledger>(&mut self, value: T, steps: &mut Steps<L>) -> EntryId
         requires { 0 < self.old.spare }
         ensures id { result ≡ length self.old.entries }
-        ensures entries { self.new.entries ≡ self.old.entries ++ record { value = value; next = None } ∷ [] }
+        ensures entries { self.new.entries
+            ≡ self.old.entries ++ record { value = value; next = None } ∷ [] }
         ensures spare { self.new.spare + 1 ≡ self.old.spare }
         ensures cost { steps.new ≡ steps.old + 1 }
     {
@@ -107,7 +110,8 @@ impl<T, A: Allocator + Clone> Store<T, A> {
         steps: &mut Steps<L>,
     ) -> Result<EntryId, (T, NoMemory)>
         ensures id { IfOk result (λ id. id ≡ length self.old.entries) }
-        ensures entries { OnOk result (self.new.entries ≡ self.old.entries ++ record { value = value; next = None } ∷ []) }
+        ensures entries { OnOk result
+            (self.new.entries ≡ self.old.entries ++ record { value = value; next = None } ∷ []) }
         ensures spare { OnOk result (self.old.spare ≤ self.new.spare + 1) }
         ensures value { IfErr result (λ e. e.0 ≡ value) }
         ensures err { OnErr result (self.new ≡ self.old) }
@@ -156,7 +160,9 @@ impl<T, A: Allocator + Clone> Store<T, A> {
         requires id { id < length self.old.entries }
         requires to { to < length self.old.entries }
         requires none { (d : Linked T) → (slice_index_or self.old.entries id d).next ≡ None }
-        ensures entries { (d : Linked T) → self.new.entries ≡ slice_set self.old.entries id (record (slice_index_or self.old.entries id d) { next = Some to }) }
+        ensures entries { (d : Linked T)
+            → self.new.entries ≡ slice_set self.old.entries id
+            (record (slice_index_or self.old.entries id d) { next = Some to }) }
         ensures spare { self.new.spare ≡ self.old.spare }
         ensures cost { steps.new ≡ steps.old + 1 }
     {
@@ -199,7 +205,8 @@ fn make_bucket<T, A: Allocator + Clone>(
 ) -> Result<(), NoMemory>
     requires made { made.old ≡ whole_room 16 buckets.old.items }
     requires small { made.old < 2 ^ 32 }
-    ensures filled { (len : ℕ) → AreFilled 16 len buckets.old.items → AreFilled 16 len buckets.new.items }
+    ensures filled { (len : ℕ) → AreFilled 16 len buckets.old.items
+        → AreFilled 16 len buckets.new.items }
     ensures made { made.new ≡ whole_room 16 buckets.new.items }
     ensures entries { joined buckets.new.items ≡ joined buckets.old.items }
     ensures ok { OnOk result (made.old < made.new) }

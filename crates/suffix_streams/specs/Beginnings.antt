@@ -13,13 +13,17 @@ use Rattle.suffix_streams.specs.Rankings.{child, group_list}
 use Rattle.suffix_streams.specs.StreamsData.{open_rows, node_list, group_list_of, node_of, group_of, next_of, lists_of, stream_of, products_of, run_of, HasKey}
 
 -- the entries stand for the first solutions of the members r, r + 1 and so on
-abbrev pub AreHeads : {R T : Type 0} (d : ℕ) → (R → KeyOf d 16) → (T → Pair) → (ℕ → KeyOf d 16) → ℕ → List (Entry R T) → Type 0
+abbrev pub AreHeads : {R T : Type 0} (d : ℕ) → (R → KeyOf d 16) → (T → Pair) → (ℕ → KeyOf d 16) → ℕ
+    → List (Entry R T) → Type 0
 AreHeads d key at best_at r [] = Unit {0}
-AreHeads d key at best_at r (e ∷ es) = (at e.tag ≡ record { left = r; right = 0 }) × (key e.rank ≡ best_at r) × AreHeads d key at best_at (suc r) es
+AreHeads d key at best_at r (e ∷ es) = (at e.tag ≡ record { left = r; right = 0 })
+    × (key e.rank ≡ best_at r) × AreHeads d key at best_at (suc r) es
 
 -- the queue has the first solution of each member of group g of node q, in the order of the group
-abbrev pub HasHeads : {R : Type 0} (d : ℕ) → (R → KeyOf d 16) → List (NodeData R) → ℕ → ℕ → List (Entry R Source) → Type 0
-HasHeads d key t q g queue = (length queue ≡ length (members t q g)) × AreHeads d key run_of (λ i. best t d key q (slice_index (members t q g) i)) 0 queue
+abbrev pub HasHeads : {R : Type 0} (d : ℕ) → (R → KeyOf d 16) → List (NodeData R) → ℕ → ℕ
+    → List (Entry R Source) → Type 0
+HasHeads d key t q g queue = (length queue ≡ length (members t q g))
+    × AreHeads d key run_of (λ i. best t d key q (slice_index (members t q g) i)) 0 queue
 
 module _ {R : Type 0} (t : List (NodeData R)) where
   -- the children of node v in ascending order
@@ -34,36 +38,45 @@ module _ {R : Type 0} (t : List (NodeData R)) where
     pub all_rows : length n.products ≡ open_rows (child_count t v) (rows t v)
     pub no_products : (r : ℕ) → slice_index_or n.products r [] ≡ []
 
-module _ {R : Type 0} (d : ℕ) (key : R → KeyOf d 16) (t : List (NodeData R)) (es : List (Linked (Found R))) (nodes : List (NodeLists R)) where
+module _ {R : Type 0} (d : ℕ) (key : R → KeyOf d 16) (t : List (NodeData R))
+    (es : List (Linked (Found R))) (nodes : List (NodeLists R)) where
   -- the stream of group g of node q has only its head
   pub record IsBegunAt (q g : ℕ) : Type 0 where
     pub head_in : (stream_of nodes q g).head < length es
     pub node : node_of es (stream_of nodes q g).head ≡ q
     pub group : group_of es (stream_of nodes q g).head ≡ g
-    pub first : HasKey d key es (stream_of nodes q g).head (slice_index_or (group_list d key t q g) 0 (key_none d 16))
+    pub first : HasKey d key es (stream_of nodes q g).head
+        (slice_index_or (group_list d key t q g) 0 (key_none d 16))
     pub heads : HasHeads d key t q g (stream_of nodes q g).queue
 
   -- the streams that are there have only their heads, and no row has products
   pub record IsBegun : Type 0 where
     pub all_nodes : length nodes ≡ length t
     pub children : (v : ℕ) → v < length t → AreChildren t v (lists_of nodes v).children
-    pub all_rows : (v : ℕ) → v < length t → length (lists_of nodes v).products ≡ open_rows (child_count t v) (rows t v)
+    pub all_rows : (v : ℕ) → v < length t
+        → length (lists_of nodes v).products ≡ open_rows (child_count t v) (rows t v)
     pub no_products : (v r : ℕ) → products_of nodes v r ≡ []
     pub few_streams : (v : ℕ) → v < length t → length (lists_of nodes v).streams ≤ group_count t v
     pub no_links : (i : ℕ) → next_of es i ≡ None
-    pub owners : (i : ℕ) → i < length es → (node_of es i < length t) × (group_of es i < length (lists_of nodes (node_of es i)).streams)
-    pub counted : (q g : ℕ) → owned (node_list es) (group_list_of es) q g ≡ cond (nat_lt g (length (lists_of nodes q).streams)) 1 0
+    pub owners : (i : ℕ) → i < length es
+        → (node_of es i < length t)
+        × (group_of es i < length (lists_of nodes (node_of es i)).streams)
+    pub counted : (q g : ℕ)
+        → owned (node_list es) (group_list_of es) q g
+        ≡ cond (nat_lt g (length (lists_of nodes q).streams)) 1 0
     pub begun : (q g : ℕ) → q < length t → g < length (lists_of nodes q).streams → IsBegunAt q g
 
   -- all streams of node v and of later nodes are there, and none of earlier nodes
   pub record IsBegunFrom (v : ℕ) : Type 0 where
     pub streams : IsBegun
-    pub behind : (q : ℕ) → v ≤ q → q < length t → length (lists_of nodes q).streams ≡ group_count t q
+    pub behind : (q : ℕ) → v ≤ q → q < length t
+        → length (lists_of nodes q).streams ≡ group_count t q
     pub before : (q : ℕ) → q < v → (lists_of nodes q).streams ≡ []
 
   -- the first g streams of node v are there, all streams of later nodes, and none of earlier nodes
   pub record IsBegunIn (v g : ℕ) : Type 0 where
     pub streams : IsBegun
-    pub behind : (q : ℕ) → v < q → q < length t → length (lists_of nodes q).streams ≡ group_count t q
+    pub behind : (q : ℕ) → v < q → q < length t
+        → length (lists_of nodes q).streams ≡ group_count t q
     pub own : length (lists_of nodes v).streams ≡ g
     pub before : (q : ℕ) → q < v → (lists_of nodes q).streams ≡ []

@@ -14,22 +14,34 @@ abbrev pub HasRows : {R : Type 0} (d : ℕ) → (R → KeyOf d 16) → Answer R 
 HasRows d key a = a.rows ≡ rows_of_key d 16 (key a.rank)
 
 -- some of the ranking's first members: their keys, and the keys' slots as row numbers
-abbrev pub IsPrefix : {R : Type 0} (d : ℕ) → (R → KeyOf d 16) → List (Answer R) → List (KeyOf d 16) → Type 0
-IsPrefix d key xs ks = (0 < length xs) × (length xs ≤ length ks) × (map (λ a. key a.rank) xs ≡ take (length xs) ks) × All (HasRows d key) xs
+abbrev pub IsPrefix : {R : Type 0} (d : ℕ) → (R → KeyOf d 16) → List (Answer R) → List (KeyOf d 16)
+    → Type 0
+IsPrefix d key xs ks = (0 < length xs) × (length xs ≤ length ks)
+    × (map (λ a. key a.rank) xs ≡ take (length xs) ks) × All (HasRows d key) xs
 
 -- some of the ranking's first members, only by their keys
-abbrev pub AreFirst : {R T : Type 0} (d : ℕ) → (R → KeyOf d 16) → List (Entry R T) → List (KeyOf d 16) → Type 0
-AreFirst d key xs ks = (0 < length xs) × (length xs ≤ length ks) × (map (λ e. key e.rank) xs ≡ take (length xs) ks)
+abbrev pub AreFirst : {R T : Type 0} (d : ℕ) → (R → KeyOf d 16) → List (Entry R T)
+    → List (KeyOf d 16) → Type 0
+AreFirst d key xs ks = (0 < length xs) × (length xs ≤ length ks)
+    × (map (λ e. key e.rank) xs ≡ take (length xs) ks)
 
 -- the first sums of xs and ys, in the order of their ranking zs, and a queue of what follows
-pub record IsFrontier {R T : Type 0} (d : ℕ) (key : R → KeyOf d 16) (at : T → Pair) (xs ys zs : List (KeyOf d 16)) (found frontier : List (Entry R T)) : Type 0 where
+pub record IsFrontier {R T : Type 0} (d : ℕ) (key : R → KeyOf d 16) (at : T → Pair)
+    (xs ys zs : List (KeyOf d 16)) (found frontier : List (Entry R T)) : Type 0 where
   pub prefix : AreFirst d key found zs
-  pub kept : All (IsHeld d key (pair_key (key_add d 16) (key_none d 16) xs ys) (InProduct d xs ys) at) found
-  pub held : All (IsHeld d key (pair_key (key_add d 16) (key_none d 16) xs ys) (InProduct d xs ys) at) frontier
-  pub ahead : IsAhead Pair (KeyOf d 16) (key_below d 16) (pair_key (key_add d 16) (key_none d 16) xs ys) (stands_for (length xs) (length ys)) (InProduct d xs ys) zs (length found) (places at frontier)
+  pub kept : All (IsHeld d key (pair_key (key_add d 16) (key_none d 16) xs ys)
+      (InProduct d xs ys) at) found
+  pub held : All (IsHeld d key (pair_key (key_add d 16) (key_none d 16) xs ys)
+      (InProduct d xs ys) at) frontier
+  pub ahead : IsAhead Pair (KeyOf d 16) (key_below d 16)
+      (pair_key (key_add d 16) (key_none d 16) xs ys) (stands_for (length xs) (length ys))
+      (InProduct d xs ys) zs (length found) (places at frontier)
 
 -- the first members of n lists, in the order of their ranking zs, and a queue of what follows
-pub record IsMerge {R T : Type 0} (d : ℕ) (key : R → KeyOf d 16) (at : T → Pair) (n : ℕ) (lists : ℕ → List (KeyOf d 16)) (zs : List (KeyOf d 16)) (found : List (Answer R)) (queue : List (Entry R T)) : Type 0 where
+pub record IsMerge {R T : Type 0} (d : ℕ) (key : R → KeyOf d 16) (at : T → Pair) (n : ℕ)
+    (lists : ℕ → List (KeyOf d 16)) (zs : List (KeyOf d 16)) (found : List (Answer R))
+    (queue : List (Entry R T)) : Type 0 where
   pub prefix : IsPrefix d key found zs
   pub held : All (IsHeld d key (run_key (key_none d 16) lists) (InRuns d n lists) at) queue
-  pub ahead : IsAhead Pair (KeyOf d 16) (key_below d 16) (run_key (key_none d 16) lists) (runs_to n (λ r. length (lists r))) (InRuns d n lists) zs (length found) (places at queue)
+  pub ahead : IsAhead Pair (KeyOf d 16) (key_below d 16) (run_key (key_none d 16) lists)
+      (runs_to n (λ r. length (lists r))) (InRuns d n lists) zs (length found) (places at queue)

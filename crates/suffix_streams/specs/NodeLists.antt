@@ -14,7 +14,8 @@ pub record NodeLists (R : Type 0) : Type 0 where
 
 module _ {R : Type 0} (n : NodeLists R) where
   abbrev pub product_at : ℕ → ℕ → ProductData R
-  product_at r c = slice_index_or (slice_index_or n.products r []) c (record { found = []; frontier = []; room = 0; frontier_room = 0 })
+  product_at r c = slice_index_or (slice_index_or n.products r []) c
+      (record { found = []; frontier = []; room = 0; frontier_room = 0 })
 
   abbrev pub stream_at : ℕ → StreamData R
   stream_at g = slice_index_or n.streams g (record { head = 0; queue = [] })
@@ -26,7 +27,8 @@ module _ {R : Type 0} (n : NodeLists R) where
 
   -- the node with another product number c of row r
   abbrev pub with_product : ℕ → ℕ → ProductData R → NodeLists R
-  with_product r c p = record n { products = slice_set n.products r (slice_set (slice_index_or n.products r []) c p) }
+  with_product r c p = record n
+      { products = slice_set n.products r (slice_set (slice_index_or n.products r []) c p) }
 
   -- the node with another queue of group g
   abbrev pub with_queue : ℕ → List (Entry R Source) → NodeLists R

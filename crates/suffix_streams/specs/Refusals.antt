@@ -5,4 +5,6 @@ use Rattle.suffix_streams.specs.StreamsData.{product_of}
 
 -- each product of node v has the same solutions and the same frontier
 abbrev pub AreUnstepped : {R : Type 0} → ℕ → List (NodeLists R) → List (NodeLists R) → Type 0
-AreUnstepped v nodes nodes' = (r c : ℕ) → ((product_of nodes' v r c).found ≡ (product_of nodes v r c).found) × ((product_of nodes' v r c).frontier ≡ (product_of nodes v r c).frontier)
+AreUnstepped v nodes nodes' = (r c : ℕ)
+    → ((product_of nodes' v r c).found ≡ (product_of nodes v r c).found)
+    × ((product_of nodes' v r c).frontier ≡ (product_of nodes v r c).frontier)

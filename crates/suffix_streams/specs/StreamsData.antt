@@ -49,7 +49,8 @@ module _ {R : Type 0} (es : List (Linked (Found R))) where
 -- the stream of group g of node q: its solutions, in the order in which they were found
 unfoldable pub stream : {R : Type 0} → List (Linked (Found R)) → ℕ → ℕ → List (Answer R)
 stream [] q g = []
-stream (e ∷ es) q g = cond (nat_eq e.value.node q) (cond (nat_eq e.value.group g) (e.value.answer ∷ stream es q g) (stream es q g)) (stream es q g)
+stream (e ∷ es) q g = cond (nat_eq e.value.node q)
+    (cond (nat_eq e.value.group g) (e.value.answer ∷ stream es q g) (stream es q g)) (stream es q g)
 
 -- the number of entries in the streams of node q
 unfoldable pub node_size : {R : Type 0} → List (Linked (Found R)) → ℕ → ℕ
@@ -94,17 +95,23 @@ run_of s = record { left = s.member; right = s.place }
 
 -- the known solutions of row r of node v with its first c children are in their product; with no
 -- child there is one
-abbrev pub AreLefts : {R : Type 0} (d : ℕ) (key : R → KeyOf d 16) → List (NodeData R) → List (NodeLists R) → ℕ → ℕ → ℕ → Type 0
+abbrev pub AreLefts : {R : Type 0} (d : ℕ) (key : R → KeyOf d 16) → List (NodeData R)
+    → List (NodeLists R) → ℕ → ℕ → ℕ → Type 0
 AreLefts d key t nodes v r zero = Unit {0}
-AreLefts d key t nodes v r (suc c) = AreFirst d key (product_of nodes v r c).found (part_list d key t v r (suc c))
+AreLefts d key t nodes v r (suc c) = AreFirst d key (product_of nodes v r c).found
+    (part_list d key t v r (suc c))
 
 -- the solution that entry i stands for has this key, and the key's slots as row numbers
-abbrev pub HasKey : {R : Type 0} (d : ℕ) → (R → KeyOf d 16) → List (Linked (Found R)) → ℕ → KeyOf d 16 → Type 0
-HasKey {R} d key es i k = (x : Linked (Found R)) → (key (slice_index_or es i x).value.answer.rank ≡ k) × HasRows d key (slice_index_or es i x).value.answer
+abbrev pub HasKey : {R : Type 0} (d : ℕ) → (R → KeyOf d 16) → List (Linked (Found R)) → ℕ
+    → KeyOf d 16 → Type 0
+HasKey {R} d key es i k = (x : Linked (Found R))
+    → (key (slice_index_or es i x).value.answer.rank ≡ k)
+    × HasRows d key (slice_index_or es i x).value.answer
 
 -- # The invariants
 
-module _ {R : Type 0} (d : ℕ) (key : R → KeyOf d 16) (t : List (NodeData R)) (es : List (Linked (Found R))) (nodes : List (NodeLists R)) where
+module _ {R : Type 0} (d : ℕ) (key : R → KeyOf d 16) (t : List (NodeData R))
+    (es : List (Linked (Found R))) (nodes : List (NodeLists R)) where
   -- the stream of group g of node q is a prefix of the group's ranking, and its queue has the rest
   pub record IsStreamOf (q g : ℕ) : Type 0 where
     pub head_in : (stream_of nodes q g).head < length es
@@ -112,29 +119,44 @@ module _ {R : Type 0} (d : ℕ) (key : R → KeyOf d 16) (t : List (NodeData R))
     pub head_group : group_of es (stream_of nodes q g).head ≡ g
     pub head_place : place_of es (stream_of nodes q g).head ≡ 0
     pub few : length (stream_of nodes q g).queue ≤ length (members t q g)
-    pub known : All (λ e. e.tag.place < row_known nodes q (slice_index (members t q g) e.tag.member)) (stream_of nodes q g).queue
-    pub merge : IsMerge d key run_of (length (members t q g)) (λ i. part_list d key t q (slice_index (members t q g) i) (child_count t q)) (group_list d key t q g) (stream es q g) (stream_of nodes q g).queue
+    pub known : All (λ e. e.tag.place
+        < row_known nodes q (slice_index (members t q g) e.tag.member)) (stream_of nodes q g).queue
+    pub merge : IsMerge d key run_of (length (members t q g))
+        (λ i. part_list d key t q (slice_index (members t q g) i) (child_count t q))
+        (group_list d key t q g) (stream es q g) (stream_of nodes q g).queue
 
   -- product number c of row r of node v: the sums of the row's solutions with its first c children
   -- and of the next child's solutions
   pub record IsProductOf (v r c : ℕ) : Type 0 where
     pub few : length (product_of nodes v r c).frontier < 2 ^ 64
-    pub known : All (λ e. (e.tag.left < part_known nodes v r c) × (e.tag.right < length es) × (node_of es e.tag.right ≡ child t v c) × (group_of es e.tag.right ≡ group_named t v r c)) (product_of nodes v r c).frontier
-    pub found_known : All (λ e. (e.tag.left < part_known nodes v r c) × (e.tag.right < length es) × (node_of es e.tag.right ≡ child t v c) × (group_of es e.tag.right ≡ group_named t v r c)) (product_of nodes v r c).found
-    pub sums : IsFrontier d key (pair_of es) (part_list d key t v r c) (group_list d key t (child t v c) (group_named t v r c)) (part_list d key t v r (suc c)) (product_of nodes v r c).found (product_of nodes v r c).frontier
+    pub known : All (λ e. (e.tag.left < part_known nodes v r c) × (e.tag.right < length es)
+        × (node_of es e.tag.right ≡ child t v c) × (group_of es e.tag.right ≡ group_named t v r c))
+        (product_of nodes v r c).frontier
+    pub found_known : All
+        (λ e. (e.tag.left < part_known nodes v r c) × (e.tag.right < length es)
+        × (node_of es e.tag.right ≡ child t v c) × (group_of es e.tag.right ≡ group_named t v r c))
+        (product_of nodes v r c).found
+    pub sums : IsFrontier d key (pair_of es) (part_list d key t v r c)
+        (group_list d key t (child t v c) (group_named t v r c)) (part_list d key t v r (suc c))
+        (product_of nodes v r c).found (product_of nodes v r c).frontier
 
   pub record IsStreams : Type 0 where
     pub tree : IsFormed d key t
     pub all_nodes : length nodes ≡ length t
     pub all_children : (v : ℕ) → v < length t → length (lists_of nodes v).children ≡ child_count t v
-    pub children : (v c : ℕ) → v < length t → c < child_count t v → slice_index (lists_of nodes v).children c ≡ child t v c
+    pub children : (v c : ℕ) → v < length t → c < child_count t v
+        → slice_index (lists_of nodes v).children c ≡ child t v c
     pub all_streams : (v : ℕ) → v < length t → length (lists_of nodes v).streams ≡ group_count t v
-    pub all_rows : (v : ℕ) → v < length t → length (lists_of nodes v).products ≡ open_rows (child_count t v) (rows t v)
-    pub whole_rows : (v r : ℕ) → v < length t → r < rows t v → 0 < length (products_of nodes v r) → length (products_of nodes v r) ≡ child_count t v
-    pub owners : (i : ℕ) → i < length es → (node_of es i < length t) × (group_of es i < group_count t (node_of es i))
+    pub all_rows : (v : ℕ) → v < length t
+        → length (lists_of nodes v).products ≡ open_rows (child_count t v) (rows t v)
+    pub whole_rows : (v r : ℕ) → v < length t → r < rows t v → 0 < length (products_of nodes v r)
+        → length (products_of nodes v r) ≡ child_count t v
+    pub owners : (i : ℕ) → i < length es
+        → (node_of es i < length t) × (group_of es i < group_count t (node_of es i))
     pub linked : IsLinked (node_list es) (group_list_of es) (next_list es)
     pub streams : (q g : ℕ) → q < length t → g < group_count t q → IsStreamOf q g
-    pub products : (v r c : ℕ) → v < length t → r < rows t v → c < length (products_of nodes v r) → IsProductOf v r c
+    pub products : (v r c : ℕ) → v < length t → r < rows t v → c < length (products_of nodes v r)
+        → IsProductOf v r c
 
   -- # What is read while an object changes
 
@@ -142,20 +164,31 @@ module _ {R : Type 0} (d : ℕ) (key : R → KeyOf d 16) (t : List (NodeData R))
   pub record IsHeaded (v r : ℕ) : Type 0 where
     pub all_nodes : length nodes ≡ length t
     pub all_children : length (lists_of nodes v).children ≡ child_count t v
-    pub children : (c : ℕ) → c < child_count t v → slice_index (lists_of nodes v).children c ≡ child t v c
-    pub streams : (c : ℕ) → c < child_count t v → group_named t v r c < length (lists_of nodes (child t v c)).streams
-    pub heads : (c : ℕ) → c < child_count t v → (stream_of nodes (child t v c) (group_named t v r c)).head < length es
-    pub keys : (c : ℕ) → c < child_count t v → HasKey d key es (stream_of nodes (child t v c) (group_named t v r c)).head (slice_index_or (group_list d key t (child t v c) (group_named t v r c)) 0 (key_none d 16))
+    pub children : (c : ℕ) → c < child_count t v
+        → slice_index (lists_of nodes v).children c ≡ child t v c
+    pub streams : (c : ℕ) → c < child_count t v
+        → group_named t v r c < length (lists_of nodes (child t v c)).streams
+    pub heads : (c : ℕ) → c < child_count t v
+        → (stream_of nodes (child t v c) (group_named t v r c)).head < length es
+    pub keys : (c : ℕ) → c < child_count t v
+        → HasKey d key es (stream_of nodes (child t v c) (group_named t v r c)).head
+        (slice_index_or (group_list d key t (child t v c) (group_named t v r c)) 0 (key_none d 16))
 
   -- the parts of the sums of product number c of row r of node v
   pub record HasParts (v r c : ℕ) : Type 0 where
     pub node : v < length nodes
     pub count : c ≤ length (products_of nodes v r)
     pub lefts : AreLefts d key t nodes v r c
-    pub rights : (i : ℕ) → i < length es → node_of es i ≡ child t v c → group_of es i ≡ group_named t v r c
-        → (place_of es i < length (group_list d key t (child t v c) (group_named t v r c))) × HasKey d key es i (slice_index_or (group_list d key t (child t v c) (group_named t v r c)) (place_of es i) (key_none d 16))
-    pub fits : (i j : ℕ) → i < length (part_list d key t v r c) → j < length (group_list d key t (child t v c) (group_named t v r c))
-        → KeyFits d (key_add d 16 (slice_index_or (part_list d key t v r c) i (key_none d 16)) (slice_index_or (group_list d key t (child t v c) (group_named t v r c)) j (key_none d 16)))
+    pub rights : (i : ℕ) → i < length es → node_of es i ≡ child t v c
+        → group_of es i ≡ group_named t v r c
+        → (place_of es i < length (group_list d key t (child t v c) (group_named t v r c)))
+        × HasKey d key es i
+        (slice_index_or (group_list d key t (child t v c) (group_named t v r c)) (place_of es i)
+        (key_none d 16))
+    pub fits : (i j : ℕ) → i < length (part_list d key t v r c)
+        → j < length (group_list d key t (child t v c) (group_named t v r c))
+        → KeyFits d (key_add d 16 (slice_index_or (part_list d key t v r c) i (key_none d 16))
+        (slice_index_or (group_list d key t (child t v c) (group_named t v r c)) j (key_none d 16)))
 
   -- the cell has a known solution and an entry of the child's stream
   pub record IsCell (v r c : ℕ) (cell : Cell) : Type 0 where
@@ -171,24 +204,35 @@ module _ {R : Type 0} (d : ℕ) (key : R → KeyOf d 16) (t : List (NodeData R))
   -- what the known solutions of row r of node v are read from
   pub record HasRow (v r : ℕ) : Type 0 where
     pub headed : IsHeaded v r
-    pub whole : 0 < length (products_of nodes v r) → length (products_of nodes v r) ≡ child_count t v
+    pub whole : 0 < length (products_of nodes v r)
+        → length (products_of nodes v r) ≡ child_count t v
     pub parts : HaveParts v r
 
 -- the cell, if there is one, with the key of its sum
-abbrev pub IsOffer : {R : Type 0} (d : ℕ) (key : R → KeyOf d 16) → List (NodeData R) → List (Linked (Found R)) → ℕ → ℕ → ℕ → Option Cell → Option (Entry R Cell) → Type 0
+abbrev pub IsOffer : {R : Type 0} (d : ℕ) (key : R → KeyOf d 16) → List (NodeData R)
+    → List (Linked (Found R)) → ℕ → ℕ → ℕ → Option Cell → Option (Entry R Cell) → Type 0
 IsOffer d key t es v r c None None = Unit {0}
 IsOffer d key t es v r c None (Some e) = ⊥
 IsOffer d key t es v r c (Some x) None = ⊥
 IsOffer d key t es v r c (Some x) (Some e) =
-    (e.tag ≡ x) × (key e.rank ≡ pair_key (key_add d 16) (key_none d 16) (part_list d key t v r c) (group_list d key t (child t v c) (group_named t v r c)) (pair_of es x))
+    (e.tag ≡ x) × (key e.rank
+    ≡ pair_key (key_add d 16) (key_none d 16) (part_list d key t v r c)
+    (group_list d key t (child t v c) (group_named t v r c)) (pair_of es x))
 
 -- the product begins with the first solution of row r of node v with its first c + 1 children
-abbrev pub IsFreshAt : {R : Type 0} (d : ℕ) (key : R → KeyOf d 16) → List (NodeData R) → List (NodeLists R) → ℕ → ℕ → ℕ → ProductData R → Type 0
+abbrev pub IsFreshAt : {R : Type 0} (d : ℕ) (key : R → KeyOf d 16) → List (NodeData R)
+    → List (NodeLists R) → ℕ → ℕ → ℕ → ProductData R → Type 0
 IsFreshAt {R} d key t nodes v r c p =
-    (e : Entry R Cell) × (p.found ≡ e ∷ []) × (p.frontier ≡ e ∷ []) × (e.tag ≡ record { left = 0; right = (stream_of nodes (child t v c) (group_named t v r c)).head })
+    (e : Entry R Cell) × (p.found ≡ e ∷ []) × (p.frontier ≡ e ∷ [])
+    × (e.tag ≡ record {
+      left = 0;
+      right = (stream_of nodes (child t v c) (group_named t v r c)).head;
+    })
     × (key e.rank ≡ slice_index_or (part_list d key t v r (suc c)) 0 (key_none d 16))
 
 -- n products that begin with the first solutions of row r of node v
-pub record AreFreshTo {R : Type 0} (d : ℕ) (key : R → KeyOf d 16) (t : List (NodeData R)) (nodes : List (NodeLists R)) (v r n : ℕ) (products : List (ProductData R)) : Type 0 where
+pub record AreFreshTo {R : Type 0} (d : ℕ) (key : R → KeyOf d 16) (t : List (NodeData R))
+    (nodes : List (NodeLists R)) (v r n : ℕ) (products : List (ProductData R)) : Type 0 where
   pub count : length products ≡ n
-  pub first : (c : ℕ) (p : ProductData R) → c < n → IsFreshAt d key t nodes v r c (slice_index_or products c p)
+  pub first : (c : ℕ) (p : ProductData R) → c < n
+      → IsFreshAt d key t nodes v r c (slice_index_or products c p)

@@ -46,7 +46,8 @@ module _ {R : Type 0} (d : ℕ) (key : R → KeyOf d 16) where
   -- each stream is a nonempty prefix of the ranking of its group's subtree solutions
   abbrev pub ArePrefixes : StreamsView R → Type 0
   ArePrefixes s =
-      (q g : ℕ) (ks : List (KeyOf d 16)) → q < length s.tree → g < group_count s.tree q → IsRanking (KeyOf d 16) (key_below d 16) (GroupSolution d key s.tree q g) ks
+      (q g : ℕ) (ks : List (KeyOf d 16)) → q < length s.tree → g < group_count s.tree q
+      → IsRanking (KeyOf d 16) (key_below d 16) (GroupSolution d key s.tree q g) ks
       → IsPrefix d key (stream s.entries q g) ks
 
   pub record IsStreamsView (s : StreamsView R) : Type 0 where
@@ -74,6 +75,7 @@ abbrev pub IsEntry : {R : Type 0} (d : ℕ) (key : R → KeyOf d 16) → Streams
 IsEntry d key s e = entry_place s e < length (entry_ranking d key s e)
 
 -- the entry after entry e, or none if e stands for the last member of the ranking
-abbrev pub Follows : {R : Type 0} (d : ℕ) (key : R → KeyOf d 16) → StreamsView R → ℕ → Option ℕ → Type 0
+abbrev pub Follows : {R : Type 0} (d : ℕ) (key : R → KeyOf d 16) → StreamsView R → ℕ → Option ℕ
+    → Type 0
 Follows d key s e (Some n) = IsNextEntry s e n × IsEntry d key s n
 Follows d key s e None = length (entry_ranking d key s e) ≡ entry_place s e + 1

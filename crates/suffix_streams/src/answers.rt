@@ -13,7 +13,8 @@ use tdp_core::Tree;
 pub(crate) fn joined_rows(a: &[u32; 16], b: &[u32; 16]) -> [u32; 16]
     requires { (i : ℕ) → i < 16 → slice_index a.now i + slice_index b.now i < 2 ^ 32 }
     ensures count { length result ≡ 16 }
-    ensures sums { (i : ℕ) → i < 16 → slice_index result i ≡ slice_index a.now i + slice_index b.now i }
+    ensures sums { (i : ℕ) → i < 16
+        → slice_index result i ≡ slice_index a.now i + slice_index b.now i }
 {
     let mut rows = *a;
     for item in 0..16 {

@@ -47,7 +47,8 @@ fn no_products<R: Rank, A: Allocator + Clone>(
     rows: u32,
 ) -> Result<Vec<Vec<Product<R, A>, A>, A>, NoMemory>
     ensures count { IfOk result (λ v. length v.items ≡ rows) }
-    ensures none { IfOk result (λ v. (r : ℕ) → slice_index_or (map (λ p. p.items) v.items) r [] ≡ []) }
+    ensures none { IfOk result
+        (λ v. (r : ℕ) → slice_index_or (map (λ p. p.items) v.items) r [] ≡ []) }
 {
     let mut products = Vec::with_capacity(alloc.clone()?, rows as usize)?;
     for _ in 0..rows {
@@ -88,7 +89,8 @@ pub(crate) fn empty_nodes<R: Rank, A: Allocator + Clone>(
     tree: &Tree<R>,
 ) -> Result<Vec<NodeStreams<R, A>, A>, NoMemory>
     ensures count { IfOk result (λ nodes. length nodes.items ≡ length tree.now) }
-    ensures empty { IfOk result (λ nodes. (v : ℕ) → v < length tree.now → IsEmptyNode tree.now v (lists_of nodes.items v)) }
+    ensures empty { IfOk result
+        (λ nodes. (v : ℕ) → v < length tree.now → IsEmptyNode tree.now v (lists_of nodes.items v)) }
 {
     let mut nodes = Vec::new(alloc.clone()?);
     for node in 0..tree.nodes() {
@@ -142,9 +144,15 @@ fn first_stream<R: Rank, A: Allocator + Clone, L: Ledger>(
     requires begun { IsBegunIn R.KEYS R.key tree.now entries.old.entries nodes.now node group }
     ensures head { IfOk result (λ s. s.head ≡ length entries.old.entries) }
     ensures heads { IfOk result (λ s. HasHeads R.KEYS R.key tree.now node group s.queue) }
-    ensures entry { OnOk result ((e : Linked (Found R)) × (entries.new.entries ≡ entries.old.entries ++ e ∷ []) × (e.value.node ≡ node) × (e.value.group ≡ group) × (e.next ≡ None)
-        × (R.key e.value.answer.rank ≡ slice_index_or (group_list R.KEYS R.key tree.now node group) 0 (key_none R.KEYS 16)) × HasRows R.KEYS R.key e.value.answer) }
-    ensures cost { steps.new ≤ steps.old + 2 * length (members tree.now node group) + (3 + 3 * child_count tree.now node) }
+    ensures entry { OnOk result
+        ((e : Linked (Found R)) × (entries.new.entries ≡ entries.old.entries ++ e ∷ [])
+        × (e.value.node ≡ node) × (e.value.group ≡ group) × (e.next ≡ None)
+        × (R.key e.value.answer.rank
+        ≡ slice_index_or (group_list R.KEYS R.key tree.now node group) 0 (key_none R.KEYS 16))
+        × HasRows R.KEYS R.key e.value.answer) }
+    ensures cost { steps.new
+        ≤ steps.old + 2 * length (members tree.now node group)
+        + (3 + 3 * child_count tree.now node) }
 {
     let heads = heads_of(alloc, tree, node, group, steps)?;
     let rank = heads[0].rank;
@@ -168,7 +176,8 @@ fn first_stream<R: Rank, A: Allocator + Clone, L: Ledger>(
 impl<R: Rank, A: Allocator> NodeStreams<R, A> {
     /// Adds the stream of the next group.
     fn add_stream(&mut self, stream: Stream<R, A>) -> Result<(), NoMemory>
-        ensures { OnOk result (self.new ≡ record self.old { streams = self.old.streams ++ stream ∷ [] }) }
+        ensures { OnOk result
+            (self.new ≡ record self.old { streams = self.old.streams ++ stream ∷ [] }) }
     {
         self.streams.push(stream)?;
         Ok(())
@@ -188,8 +197,10 @@ pub(crate) fn begin_node<R: Rank, A: Allocator + Clone, L: Ledger>(
     requires formed { IsFormed R.KEYS R.key tree.now }
     requires tie_free { IsTieFreeTree tree.now }
     requires node { node < length tree.now }
-    requires begun { IsBegunFrom R.KEYS R.key tree.now entries.old.entries nodes.old.items (node + 1) }
-    ensures begun { OnOk result (IsBegunFrom R.KEYS R.key tree.now entries.new.entries nodes.new.items node) }
+    requires begun { IsBegunFrom R.KEYS R.key tree.now entries.old.entries nodes.old.items
+        (node + 1) }
+    ensures begun { OnOk result
+        (IsBegunFrom R.KEYS R.key tree.now entries.new.entries nodes.new.items node) }
     ensures cost { steps.new ≤ steps.old + 8 * length tree.now * rows tree.now node }
 {
     for group in 0..tree.groups(node) {

@@ -35,7 +35,11 @@ impl<R: Rank, A: Allocator> Model for NodeStreams<R, A> {
 
     ghost Value = { NodeLists R };
 
-    ghost view = { λ n. record { children = n.children.items; streams = n.streams.items; products = map (λ p. p.items) n.products.items } };
+    ghost view = { λ n. record {
+      children = n.children.items;
+      streams = n.streams.items;
+      products = map (λ p. p.items) n.products.items;
+    } };
 }
 
 impl<R: Rank, A: Allocator> NodeStreams<R, A> {
@@ -100,7 +104,8 @@ impl<R: Rank, A: Allocator> NodeStreams<R, A> {
     pub(crate) fn cell(&self, row: u32, child: usize, place: usize) -> Cell
         requires child { child < length (slice_index_or self.now.products row []) }
         requires place { place < length (product_at self.now row child).found }
-        ensures { (d : Entry R Cell) → result ≡ (slice_index_or (product_at self.now row child).found place d).tag }
+        ensures { (d : Entry R Cell)
+            → result ≡ (slice_index_or (product_at self.now row child).found place d).tag }
     {
         self.product(row, child).cell(place)
     }
@@ -109,7 +114,8 @@ impl<R: Rank, A: Allocator> NodeStreams<R, A> {
     pub(crate) fn rank(&self, row: u32, child: usize, place: usize) -> R
         requires child { child < length (slice_index_or self.now.products row []) }
         requires place { place < length (product_at self.now row child).found }
-        ensures { (d : Entry R Cell) → result ≡ (slice_index_or (product_at self.now row child).found place d).rank }
+        ensures { (d : Entry R Cell)
+            → result ≡ (slice_index_or (product_at self.now row child).found place d).rank }
     {
         self.product(row, child).rank(place)
     }
@@ -118,8 +124,11 @@ impl<R: Rank, A: Allocator> NodeStreams<R, A> {
     pub(crate) fn product_top(&self, row: u32, child: usize) -> Option<Entry<R, Cell>>
         requires child { child < length (slice_index_or self.now.products row []) }
         ensures variant { IsSome result ↔ (0 < length (product_at self.now row child).frontier) }
-        ensures top { IfSome result (λ e. (d : Entry R Cell) → e ≡ slice_index_or (product_at self.now row child).frontier 0 d) }
-        ensures least { IfSome result (λ e. IsLeast R.KEYS R.key e (product_at self.now row child).frontier) }
+        ensures top { IfSome result
+            (λ e. (d : Entry R Cell)
+            → e ≡ slice_index_or (product_at self.now row child).frontier 0 d) }
+        ensures least { IfSome result
+            (λ e. IsLeast R.KEYS R.key e (product_at self.now row child).frontier) }
         ensures limit { length (product_at self.now row child).frontier < 2 ^ 64 }
     {
         self.product(row, child).top()
@@ -129,8 +138,10 @@ impl<R: Rank, A: Allocator> NodeStreams<R, A> {
     pub(crate) fn top(&self, group: u32) -> Option<Entry<R, Source>>
         requires { group < length self.now.streams }
         ensures variant { IsSome result ↔ (0 < length (stream_at self.now group).queue) }
-        ensures top { IfSome result (λ e. (d : Entry R Source) → e ≡ slice_index_or (stream_at self.now group).queue 0 d) }
-        ensures least { IfSome result (λ e. IsLeast R.KEYS R.key e (stream_at self.now group).queue) }
+        ensures top { IfSome result
+            (λ e. (d : Entry R Source) → e ≡ slice_index_or (stream_at self.now group).queue 0 d) }
+        ensures least { IfSome result
+            (λ e. IsLeast R.KEYS R.key e (stream_at self.now group).queue) }
     {
         self.streams[group as usize].top()
     }
@@ -138,10 +149,17 @@ impl<R: Rank, A: Allocator> NodeStreams<R, A> {
     /// The solution of the row at the place of `next`, or `None` if it is not known.
     pub(crate) fn offered(&self, row: u32, next: Source) -> Option<Entry<R, Source>>
         requires place { 0 < next.place }
-        ensures none { IfNone result (known_of self.now row (length (slice_index_or self.now.products row [])) ≤ next.place) }
+        ensures none { IfNone result
+            (known_of self.now row (length (slice_index_or self.now.products row []))
+            ≤ next.place) }
         ensures tag { IfSome result (λ e. e.tag ≡ next) }
-        ensures known { IfSome result (λ e. next.place < known_of self.now row (length (slice_index_or self.now.products row []))) }
-        ensures rank { IfSome result (λ e. (c : ℕ) (d : Entry R Cell) → length (slice_index_or self.now.products row []) ≡ c + 1 → e.rank ≡ (slice_index_or (product_at self.now row c).found next.place d).rank) }
+        ensures known { IfSome result
+            (λ e. next.place < known_of self.now row
+            (length (slice_index_or self.now.products row []))) }
+        ensures rank { IfSome result
+            (λ e. (c : ℕ) (d : Entry R Cell)
+            → length (slice_index_or self.now.products row []) ≡ c + 1
+            → e.rank ≡ (slice_index_or (product_at self.now row c).found next.place d).rank) }
     {
         let count = self.product_count(row);
         if count == 0 || self.known(row, count) <= next.place {
@@ -156,9 +174,12 @@ impl<R: Rank, A: Allocator> NodeStreams<R, A> {
     /// Makes room for one more solution in a product. `NoMemory` if memory is refused.
     pub(crate) fn reserve_product(&mut self, row: u32, child: usize) -> Result<(), NoMemory>
         requires child { child < length (slice_index_or self.old.products row []) }
-        ensures changed { self.new ≡ with_product self.old row child (product_at self.new row child) }
-        ensures found { (product_at self.new row child).found ≡ (product_at self.old row child).found }
-        ensures frontier { (product_at self.new row child).frontier ≡ (product_at self.old row child).frontier }
+        ensures changed { self.new
+            ≡ with_product self.old row child (product_at self.new row child) }
+        ensures found { (product_at self.new row child).found
+            ≡ (product_at self.old row child).found }
+        ensures frontier { (product_at self.new row child).frontier
+            ≡ (product_at self.old row child).frontier }
         ensures room { OnOk result (0 < (product_at self.new row child).room) }
         ensures frontier_room { OnOk result (0 < (product_at self.new row child).frontier_room) }
     {
@@ -178,12 +199,22 @@ impl<R: Rank, A: Allocator> NodeStreams<R, A> {
         requires child { child < length (slice_index_or self.old.products row []) }
         requires top { 0 < length (product_at self.old row child).frontier }
         requires room { 0 < (product_at self.old row child).frontier_room }
-        ensures changed { self.new ≡ with_product self.old row child (product_at self.new row child) }
-        ensures found { (product_at self.new row child).found ≡ (product_at self.old row child).found }
-        ensures moved { (d : Entry R Cell) → IsPermutation (offers down across (product_at self.old row child).frontier) (slice_index_or (product_at self.old row child).frontier 0 d ∷ (product_at self.new row child).frontier) }
-        ensures least { (d : Entry R Cell) → IsLeast R.KEYS R.key (slice_index_or (product_at self.old row child).frontier 0 d) (product_at self.old row child).frontier }
-        ensures found_room { (product_at self.new row child).room ≡ (product_at self.old row child).room }
-        ensures cost { steps.new ≤ steps.old + 2 * bit_length (length (product_at self.old row child).frontier) + bit_length (length (product_at self.old row child).frontier + 1) }
+        ensures changed { self.new
+            ≡ with_product self.old row child (product_at self.new row child) }
+        ensures found { (product_at self.new row child).found
+            ≡ (product_at self.old row child).found }
+        ensures moved { (d : Entry R Cell)
+            → IsPermutation (offers down across (product_at self.old row child).frontier)
+            (slice_index_or (product_at self.old row child).frontier 0 d
+            ∷ (product_at self.new row child).frontier) }
+        ensures least { (d : Entry R Cell)
+            → IsLeast R.KEYS R.key (slice_index_or (product_at self.old row child).frontier 0 d)
+            (product_at self.old row child).frontier }
+        ensures found_room { (product_at self.new row child).room
+            ≡ (product_at self.old row child).room }
+        ensures cost { steps.new
+            ≤ steps.old + 2 * bit_length (length (product_at self.old row child).frontier)
+            + bit_length (length (product_at self.old row child).frontier + 1) }
     {
         let products = &mut self.products[row as usize];
         products[child].pass(down, across, steps);
@@ -193,9 +224,12 @@ impl<R: Rank, A: Allocator> NodeStreams<R, A> {
     pub(crate) fn keep(&mut self, row: u32, child: usize, sum: Entry<R, Cell>)
         requires child { child < length (slice_index_or self.old.products row []) }
         requires room { 0 < (product_at self.old row child).room }
-        ensures changed { self.new ≡ with_product self.old row child (product_at self.new row child) }
-        ensures found { (product_at self.new row child).found ≡ (product_at self.old row child).found ++ sum ∷ [] }
-        ensures frontier { (product_at self.new row child).frontier ≡ (product_at self.old row child).frontier }
+        ensures changed { self.new
+            ≡ with_product self.old row child (product_at self.new row child) }
+        ensures found { (product_at self.new row child).found
+            ≡ (product_at self.old row child).found ++ sum ∷ [] }
+        ensures frontier { (product_at self.new row child).frontier
+            ≡ (product_at self.old row child).frontier }
     {
         let products = &mut self.products[row as usize];
         products[child].keep(sum);
@@ -212,9 +246,15 @@ impl<R: Rank, A: Allocator> NodeStreams<R, A> {
         requires group { group < length self.old.streams }
         requires top { 0 < length (stream_at self.old group).queue }
         ensures changed { self.new ≡ with_queue self.old group (stream_at self.new group).queue }
-        ensures moved { (d : Entry R Source) → IsPermutation (offers next None (stream_at self.old group).queue) (slice_index_or (stream_at self.old group).queue 0 d ∷ (stream_at self.new group).queue) }
-        ensures least { (d : Entry R Source) → IsLeast R.KEYS R.key (slice_index_or (stream_at self.old group).queue 0 d) (stream_at self.old group).queue }
-        ensures cost { steps.new ≤ steps.old + 2 * bit_length (length (stream_at self.old group).queue) }
+        ensures moved { (d : Entry R Source)
+            → IsPermutation (offers next None (stream_at self.old group).queue)
+            (slice_index_or (stream_at self.old group).queue 0 d
+            ∷ (stream_at self.new group).queue) }
+        ensures least { (d : Entry R Source)
+            → IsLeast R.KEYS R.key (slice_index_or (stream_at self.old group).queue 0 d)
+            (stream_at self.old group).queue }
+        ensures cost { steps.new
+            ≤ steps.old + 2 * bit_length (length (stream_at self.old group).queue) }
     {
         self.streams[group as usize].pass(next, steps);
     }
@@ -222,7 +262,8 @@ impl<R: Rank, A: Allocator> NodeStreams<R, A> {
     /// Sets the products of a row.
     pub(crate) fn set_products(&mut self, row: u32, products: Vec<Product<R, A>, A>)
         requires { row < length self.old.products }
-        ensures { self.new ≡ record self.old { products = slice_set self.old.products row products.items } }
+        ensures { self.new ≡ record self.old
+            { products = slice_set self.old.products row products.items } }
     {
         self.products[row as usize] = products;
     }

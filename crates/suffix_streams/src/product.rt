@@ -34,15 +34,23 @@ impl<R: Rank, A: Allocator> Model for Product<R, A> {
 
     ghost Value = { ProductData R };
 
-    ghost view = { λ p. record { found = p.found.items; frontier = p.frontier.entries; room = vec_capacity p.found - vec_len p.found; frontier_room = p.frontier.spare } };
+    ghost view = { λ p. record {
+      found = p.found.items;
+      frontier = p.frontier.entries;
+      room = vec_capacity p.found - vec_len p.found;
+      frontier_room = p.frontier.spare;
+    } };
 }
 
 impl<R: Rank, A: Allocator + Clone> Product<R, A> {
     /// The product whose first solution has this rank and this right part. `NoMemory` if memory is
     /// refused.
     pub(crate) fn new(alloc: &A, rank: R, right: EntryId) -> Result<Product<R, A>, NoMemory>
-        ensures found { IfOk result (λ p. p.found ≡ record { rank = rank; tag = record { left = 0; right = right } } ∷ []) }
-        ensures frontier { IfOk result (λ p. p.frontier ≡ record { rank = rank; tag = record { left = 0; right = right } } ∷ []) }
+        ensures found { IfOk result
+            (λ p. p.found ≡ record { rank = rank; tag = record { left = 0; right = right } } ∷ []) }
+        ensures frontier { IfOk result
+            (λ p. p.frontier ≡ record { rank = rank; tag = record { left = 0; right = right } }
+            ∷ []) }
     {
         let sum = Entry {
             rank,
@@ -86,7 +94,8 @@ impl<R: Rank, A: Allocator> Product<R, A> {
     /// The last solution found, as a sum, or `None` if no further one follows.
     pub(crate) fn top(&self) -> Option<Entry<R, Cell>>
         ensures variant { IsSome result ↔ (0 < length self.now.frontier) }
-        ensures top { IfSome result (λ e. (d : Entry R Cell) → e ≡ slice_index_or self.now.frontier 0 d) }
+        ensures top { IfSome result
+            (λ e. (d : Entry R Cell) → e ≡ slice_index_or self.now.frontier 0 d) }
         ensures least { IfSome result (λ e. IsLeast R.KEYS R.key e self.now.frontier) }
         ensures limit { length self.now.frontier < 2 ^ 64 }
     {
@@ -115,10 +124,15 @@ impl<R: Rank, A: Allocator> Product<R, A> {
         requires top { 0 < length self.old.frontier }
         requires room { 0 < self.old.frontier_room }
         ensures found { self.new.found ≡ self.old.found }
-        ensures moved { (d : Entry R Cell) → IsPermutation (offers down across self.old.frontier) (slice_index_or self.old.frontier 0 d ∷ self.new.frontier) }
-        ensures least { (d : Entry R Cell) → IsLeast R.KEYS R.key (slice_index_or self.old.frontier 0 d) self.old.frontier }
+        ensures moved { (d : Entry R Cell)
+            → IsPermutation (offers down across self.old.frontier)
+            (slice_index_or self.old.frontier 0 d ∷ self.new.frontier) }
+        ensures least { (d : Entry R Cell)
+            → IsLeast R.KEYS R.key (slice_index_or self.old.frontier 0 d) self.old.frontier }
         ensures found_room { self.new.room ≡ self.old.room }
-        ensures cost { steps.new ≤ steps.old + 2 * bit_length (length self.old.frontier) + bit_length (length self.old.frontier + 1) }
+        ensures cost { steps.new
+            ≤ steps.old + 2 * bit_length (length self.old.frontier)
+            + bit_length (length self.old.frontier + 1) }
     {
         pass_top(&mut self.frontier, down, across, steps);
     }

@@ -37,7 +37,9 @@ pub(crate) fn child_head<R: Rank, A: Allocator + Clone, L: Ledger>(
     requires row { row < rows tree.now node }
     requires child { child < child_count tree.now node }
     requires headed { IsHeaded R.KEYS R.key tree.now entries.now.entries nodes.now node row }
-    ensures head { result ≡ (stream_of nodes.now (child_node tree.now node child) (group_named tree.now node row child)).head }
+    ensures head { result
+        ≡ (stream_of nodes.now (child_node tree.now node child)
+        (group_named tree.now node row child)).head }
     ensures cost { steps.new ≡ steps.old + 1 }
 {
     let _store = entries;
@@ -62,7 +64,9 @@ pub(crate) fn first_answer<R: Rank, A: Allocator + Clone, L: Ledger>(
     requires node { node < length tree.now }
     requires row { row < rows tree.now node }
     requires headed { IsHeaded R.KEYS R.key tree.now entries.now.entries nodes.now node row }
-    requires key { R.key rank ≡ slice_index_or (part_list R.KEYS R.key tree.now node row (child_count tree.now node)) 0 (key_none R.KEYS 16) }
+    requires key { R.key rank
+        ≡ slice_index_or (part_list R.KEYS R.key tree.now node row (child_count tree.now node)) 0
+        (key_none R.KEYS 16) }
     ensures rank { result.rank ≡ rank }
     ensures rows { HasRows R.KEYS R.key result }
     ensures cost { steps.new ≡ steps.old + 1 + 2 * child_count tree.now node }
@@ -90,7 +94,9 @@ pub(crate) fn made_products<R: Rank, A: Allocator + Clone, L: Ledger>(
     requires node { node < length tree.now }
     requires row { row < rows tree.now node }
     requires headed { IsHeaded R.KEYS R.key tree.now entries.now.entries nodes.now node row }
-    ensures fresh { IfOk result (λ p. AreFreshTo R.KEYS R.key tree.now nodes.now node row (child_count tree.now node) p.items) }
+    ensures fresh { IfOk result
+        (λ p. AreFreshTo R.KEYS R.key tree.now nodes.now node row
+        (child_count tree.now node) p.items) }
     ensures cost { steps.new ≤ steps.old + 1 + 3 * child_count tree.now node }
 {
     let children = nodes[node as usize].child_count();
@@ -121,7 +127,9 @@ fn part_rank<R: Rank, A: Allocator + Clone, L: Ledger>(
     requires count { count ≤ length (products_of nodes.now node row) }
     requires lefts { AreLefts R.KEYS R.key tree.now nodes.now node row count }
     requires place { place < part_known nodes.now node row count }
-    ensures key { R.key result ≡ slice_index_or (part_list R.KEYS R.key tree.now node row count) place (key_none R.KEYS 16) }
+    ensures key { R.key result
+        ≡ slice_index_or (part_list R.KEYS R.key tree.now node row count) place
+        (key_none R.KEYS 16) }
     ensures cost { steps.new ≤ steps.old + 1 }
 {
     if count == 0 {
@@ -145,8 +153,13 @@ fn cell_rank<R: Rank, A: Allocator + Clone, L: Ledger>(
     requires node { node < length tree.now }
     requires row { row < rows tree.now node }
     requires parts { HasParts R.KEYS R.key tree.now entries.now.entries nodes.now node row child }
-    requires cell { IsCell R.KEYS R.key tree.now entries.now.entries nodes.now node row child cell.now }
-    ensures key { R.key result ≡ pair_key (key_add R.KEYS 16) (key_none R.KEYS 16) (part_list R.KEYS R.key tree.now node row child) (group_list R.KEYS R.key tree.now (child_node tree.now node child) (group_named tree.now node row child)) (pair_of entries.now.entries cell.now) }
+    requires cell { IsCell R.KEYS R.key tree.now entries.now.entries nodes.now node row child
+        cell.now }
+    ensures key { R.key result
+        ≡ pair_key (key_add R.KEYS 16) (key_none R.KEYS 16)
+        (part_list R.KEYS R.key tree.now node row child)
+        (group_list R.KEYS R.key tree.now (child_node tree.now node child)
+        (group_named tree.now node row child)) (pair_of entries.now.entries cell.now) }
     ensures cost { steps.new ≤ steps.old + 3 }
 {
     let left = part_rank(tree, nodes, node, row, child, cell.left, steps);
@@ -169,7 +182,8 @@ pub(crate) fn offered<R: Rank, A: Allocator + Clone, L: Ledger>(
     requires node { node < length tree.now }
     requires row { row < rows tree.now node }
     requires parts { HasParts R.KEYS R.key tree.now entries.now.entries nodes.now node row child }
-    requires cell { IfSome cell (IsCell R.KEYS R.key tree.now entries.now.entries nodes.now node row child) }
+    requires cell { IfSome cell
+        (IsCell R.KEYS R.key tree.now entries.now.entries nodes.now node row child) }
     ensures offer { IsOffer R.KEYS R.key tree.now entries.now.entries node row child cell result }
     ensures cost { steps.new ≤ steps.old + 3 }
 {
@@ -196,7 +210,10 @@ fn part_rows<R: Rank, A: Allocator + Clone, L: Ledger>(
     requires count { count ≤ length (products_of nodes.now node row) }
     requires parts { HaveParts R.KEYS R.key tree.now entries.now.entries nodes.now node row }
     requires place { place < part_known nodes.now node row count }
-    ensures rows { result ≡ rows_of_key R.KEYS 16 (slice_index_or (part_list R.KEYS R.key tree.now node row count) place (key_none R.KEYS 16)) }
+    ensures rows { result
+        ≡ rows_of_key R.KEYS 16
+        (slice_index_or (part_list R.KEYS R.key tree.now node row count) place
+        (key_none R.KEYS 16)) }
     ensures cost { steps.new ≡ steps.old + 1 + count }
 {
     if count == 0 {
@@ -225,7 +242,9 @@ pub(crate) fn row_answer<R: Rank, A: Allocator + Clone, L: Ledger>(
     requires row { row < rows tree.now node }
     requires known { HasRow R.KEYS R.key tree.now entries.now.entries nodes.now node row }
     requires place { next.now.tag.place < row_known nodes.now node row }
-    requires key { R.key next.now.rank ≡ slice_index_or (part_list R.KEYS R.key tree.now node row (child_count tree.now node)) next.now.tag.place (key_none R.KEYS 16) }
+    requires key { R.key next.now.rank
+        ≡ slice_index_or (part_list R.KEYS R.key tree.now node row
+        (child_count tree.now node)) next.now.tag.place (key_none R.KEYS 16) }
     ensures rank { result.rank ≡ next.now.rank }
     ensures rows { HasRows R.KEYS R.key result }
     ensures cost { steps.new ≤ steps.old + 1 + 2 * child_count tree.now node }

@@ -41,16 +41,29 @@ impl<'t, R: Rank, A: Allocator + Clone> Solutions<'t, R, A> {
         entry: EntryId,
         steps: &mut Steps<L>,
     ) -> Result<Option<EntryId>, NoMemory>
-        requires formed { IsStreams R.KEYS R.key self.old.tree.now self.old.entries.entries self.old.nodes.items }
+        requires formed { IsStreams R.KEYS R.key self.old.tree.now self.old.entries.entries
+            self.old.nodes.items }
         requires tie_free { IsTieFreeTree self.old.tree.now }
         requires entry { entry < length self.old.entries.entries }
-        ensures formed { IsStreams R.KEYS R.key self.new.tree.now self.new.entries.entries self.new.nodes.items }
+        ensures formed { IsStreams R.KEYS R.key self.new.tree.now self.new.entries.entries
+            self.new.nodes.items }
         ensures tree { self.new.tree.now ≡ self.old.tree.now }
-        ensures grown { IsGrown (parent self.old.tree.now) (node_of self.old.entries.entries entry) self.old.entries.entries self.old.nodes.items self.new.entries.entries self.new.nodes.items }
-        ensures answer { IfOk result (IsAnswered R.KEYS R.key self.old.tree.now self.new.entries.entries entry) }
-        ensures known { IsSome (next_of self.old.entries.entries entry) → (IsOk result) × (self.new ≡ self.old) × (steps.new ≤ steps.old + 4) }
-        ensures queues { AreQueuesGrown (is_below (parent self.old.tree.now) (node_of self.old.entries.entries entry)) self.old.nodes.items self.new.nodes.items }
-        ensures cost { IsWithinSteps self.old.tree.now self.old.nodes.items (is_below (parent self.old.tree.now) (node_of self.old.entries.entries entry)) (λ b. 8 + 2 * b + 20 * kids_size self.old.tree.now (node_of self.old.entries.entries entry) (child_count self.old.tree.now (node_of self.old.entries.entries entry)) * (1 + b)) steps.old steps.new }
+        ensures grown { IsGrown (parent self.old.tree.now)
+            (node_of self.old.entries.entries entry) self.old.entries.entries self.old.nodes.items
+            self.new.entries.entries self.new.nodes.items }
+        ensures answer { IfOk result
+            (IsAnswered R.KEYS R.key self.old.tree.now self.new.entries.entries entry) }
+        ensures known { IsSome (next_of self.old.entries.entries entry)
+            → (IsOk result) × (self.new ≡ self.old) × (steps.new ≤ steps.old + 4) }
+        ensures queues { AreQueuesGrown
+            (is_below (parent self.old.tree.now)
+            (node_of self.old.entries.entries entry)) self.old.nodes.items self.new.nodes.items }
+        ensures cost { IsWithinSteps self.old.tree.now self.old.nodes.items
+            (is_below (parent self.old.tree.now) (node_of self.old.entries.entries entry))
+            (λ b. 8 + 2 * b + 20
+            * kids_size self.old.tree.now (node_of self.old.entries.entries entry)
+            (child_count self.old.tree.now (node_of self.old.entries.entries entry))
+            * (1 + b)) steps.old steps.new }
     {
         if let Some(next) = self.entries.next_of(entry, steps) {
             return Ok(Some(next));
@@ -80,20 +93,30 @@ impl<'t, R: Rank, A: Allocator + Clone> Solutions<'t, R, A> {
         place: usize,
         steps: &mut Steps<L>,
     ) -> Result<(), NoMemory>
-        requires formed { IsStreams R.KEYS R.key self.old.tree.now self.old.entries.entries self.old.nodes.items }
+        requires formed { IsStreams R.KEYS R.key self.old.tree.now self.old.entries.entries
+            self.old.nodes.items }
         requires tie_free { IsTieFreeTree self.old.tree.now }
         requires node { node < length self.old.tree.now }
         requires row { row < rows self.old.tree.now node }
         requires count { count ≤ length (products_of self.old.nodes.items node row) }
         requires place { place ≤ part_known self.old.nodes.items node row count }
-        ensures formed { IsStreams R.KEYS R.key self.new.tree.now self.new.entries.entries self.new.nodes.items }
+        ensures formed { IsStreams R.KEYS R.key self.new.tree.now self.new.entries.entries
+            self.new.nodes.items }
         ensures tree { self.new.tree.now ≡ self.old.tree.now }
-        ensures extended { IsExtended self.old.tree.now node row count self.old.entries.entries self.old.nodes.items self.new.entries.entries self.new.nodes.items }
-        ensures reached { OnOk result (IsReached R.KEYS R.key self.old.tree.now self.new.nodes.items node row count place) }
+        ensures extended { IsExtended self.old.tree.now node row count self.old.entries.entries
+            self.old.nodes.items self.new.entries.entries self.new.nodes.items }
+        ensures reached { OnOk result
+            (IsReached R.KEYS R.key self.old.tree.now self.new.nodes.items node row count place) }
         ensures room { OnOk result (0 < self.new.entries.spare) }
-        ensures refused { OnErr result (AreUnstepped node self.old.nodes.items self.new.nodes.items) }
-        ensures queues { AreQueuesGrown (λ v. below_kids self.old.tree.now node count v + cond (nat_eq v node) 1 0) self.old.nodes.items self.new.nodes.items }
-        ensures cost { IsWithinSteps self.old.tree.now self.old.nodes.items (λ v. below_kids self.old.tree.now node count v + cond (nat_eq v node) 1 0) (λ b. 20 * kids_size self.old.tree.now node count * (1 + b)) steps.old (steps.new + 6 * count) }
+        ensures refused { OnErr result
+            (AreUnstepped node self.old.nodes.items self.new.nodes.items) }
+        ensures queues { AreQueuesGrown
+            (λ v. below_kids self.old.tree.now node count v
+            + cond (nat_eq v node) 1 0) self.old.nodes.items self.new.nodes.items }
+        ensures cost { IsWithinSteps self.old.tree.now self.old.nodes.items
+            (λ v. below_kids self.old.tree.now node count v + cond (nat_eq v node) 1 0)
+            (λ b. 20 * kids_size self.old.tree.now node count * (1 + b)) steps.old
+            (steps.new + 6 * count) }
     {
         if place < self.nodes[node as usize].known(row, count) || count == 0 {
             return self.entries.reserve(1);
@@ -130,16 +153,22 @@ impl<'t, R: Rank, A: Allocator + Clone> Solutions<'t, R, A> {
         row: u32,
         steps: &mut Steps<L>,
     ) -> Result<(), NoMemory>
-        requires formed { IsStreams R.KEYS R.key self.old.tree.now self.old.entries.entries self.old.nodes.items }
+        requires formed { IsStreams R.KEYS R.key self.old.tree.now self.old.entries.entries
+            self.old.nodes.items }
         requires tie_free { IsTieFreeTree self.old.tree.now }
         requires node { node < length self.old.tree.now }
         requires row { row < rows self.old.tree.now node }
-        ensures formed { IsStreams R.KEYS R.key self.new.tree.now self.new.entries.entries self.new.nodes.items }
+        ensures formed { IsStreams R.KEYS R.key self.new.tree.now self.new.entries.entries
+            self.new.nodes.items }
         ensures tree { self.new.tree.now ≡ self.old.tree.now }
         ensures entries { self.new.entries ≡ self.old.entries }
-        ensures above { (v : ℕ) → v ≢ node → lists_of self.new.nodes.items v ≡ lists_of self.old.nodes.items v }
-        ensures streams { (lists_of self.new.nodes.items node).streams ≡ (lists_of self.old.nodes.items node).streams }
-        ensures count { OnOk result (length (products_of self.new.nodes.items node row) ≡ child_count self.old.tree.now node) }
+        ensures above { (v : ℕ) → v ≢ node
+            → lists_of self.new.nodes.items v ≡ lists_of self.old.nodes.items v }
+        ensures streams { (lists_of self.new.nodes.items node).streams
+            ≡ (lists_of self.old.nodes.items node).streams }
+        ensures count { OnOk result
+            (length (products_of self.new.nodes.items node row)
+            ≡ child_count self.old.tree.now node) }
         ensures queues { AreQueuesGrown (λ _. 0) self.old.nodes.items self.new.nodes.items }
         ensures cost { steps.new ≤ steps.old + 1 + 3 * child_count self.old.tree.now node }
     {
@@ -171,25 +200,39 @@ impl<'t, R: Rank, A: Allocator + Clone> Solutions<'t, R, A> {
         head: EntryId,
         steps: &mut Steps<L>,
     )
-        requires formed { IsStreams R.KEYS R.key self.old.tree.now self.old.entries.entries self.old.nodes.items }
+        requires formed { IsStreams R.KEYS R.key self.old.tree.now self.old.entries.entries
+            self.old.nodes.items }
         requires tie_free { IsTieFreeTree self.old.tree.now }
         requires node { node < length self.old.tree.now }
         requires row { row < rows self.old.tree.now node }
         requires child { child < length (products_of self.old.nodes.items node row) }
         requires top { 0 < length (product_of self.old.nodes.items node row child).frontier }
-        requires cell { (d : Entry R Cell) → (slice_index_or (product_of self.old.nodes.items node row child).frontier 0 d).tag ≡ cell.now }
-        requires head { head ≡ (stream_of self.old.nodes.items (child_node self.old.tree.now node child) (group_named self.old.tree.now node row child)).head }
-        requires below { IsAnswered R.KEYS R.key self.old.tree.now self.old.entries.entries cell.now.right below }
-        requires across { cell.now.right ≡ head → IsReached R.KEYS R.key self.old.tree.now self.old.nodes.items node row child (cell.now.left + 1) }
+        requires cell { (d : Entry R Cell)
+            → (slice_index_or (product_of self.old.nodes.items node row child).frontier 0 d).tag
+            ≡ cell.now }
+        requires head { head
+            ≡ (stream_of self.old.nodes.items (child_node self.old.tree.now node child)
+            (group_named self.old.tree.now node row child)).head }
+        requires below { IsAnswered R.KEYS R.key self.old.tree.now self.old.entries.entries
+            cell.now.right below }
+        requires across { cell.now.right ≡ head
+            → IsReached R.KEYS R.key self.old.tree.now self.old.nodes.items node row child
+            (cell.now.left + 1) }
         requires room { 0 < (product_of self.old.nodes.items node row child).room }
-        requires frontier_room { 0 < (product_of self.old.nodes.items node row child).frontier_room }
-        ensures formed { IsStreams R.KEYS R.key self.new.tree.now self.new.entries.entries self.new.nodes.items }
+        requires frontier_room { 0
+            < (product_of self.old.nodes.items node row child).frontier_room }
+        ensures formed { IsStreams R.KEYS R.key self.new.tree.now self.new.entries.entries
+            self.new.nodes.items }
         ensures tree { self.new.tree.now ≡ self.old.tree.now }
         ensures entries { self.new.entries ≡ self.old.entries }
         ensures changed { HasOtherProduct self.old.nodes.items node row child self.new.nodes.items }
-        ensures reached { IsReached R.KEYS R.key self.old.tree.now self.new.nodes.items node row (child + 1) (part_known self.old.nodes.items node row (child + 1)) }
-        ensures queue { length (product_of self.new.nodes.items node row child).frontier ≤ length (product_of self.old.nodes.items node row child).frontier + 1 }
-        ensures cost { steps.new ≤ steps.old + 9 + 3 * bit_length (length (product_of self.old.nodes.items node row child).frontier + 1) }
+        ensures reached { IsReached R.KEYS R.key self.old.tree.now self.new.nodes.items node row
+            (child + 1) (part_known self.old.nodes.items node row (child + 1)) }
+        ensures queue { length (product_of self.new.nodes.items node row child).frontier
+            ≤ length (product_of self.old.nodes.items node row child).frontier + 1 }
+        ensures cost { steps.new
+            ≤ steps.old + 9 + 3
+            * bit_length (length (product_of self.old.nodes.items node row child).frontier + 1) }
     {
         let known = self.nodes[node as usize].known(row, child);
         let down = down_cell(cell, below);
@@ -233,27 +276,42 @@ impl<'t, R: Rank, A: Allocator + Clone> Solutions<'t, R, A> {
         next: Source,
         steps: &mut Steps<L>,
     ) -> Option<EntryId>
-        requires formed { IsStreams R.KEYS R.key self.old.tree.now self.old.entries.entries self.old.nodes.items }
+        requires formed { IsStreams R.KEYS R.key self.old.tree.now self.old.entries.entries
+            self.old.nodes.items }
         requires tie_free { IsTieFreeTree self.old.tree.now }
         requires last { last < length self.old.entries.entries }
         requires node { node_of self.old.entries.entries last ≡ node }
         requires group { group_of self.old.entries.entries last ≡ group }
         requires none { next_of self.old.entries.entries last ≡ None }
         requires top { 0 < length (stream_of self.old.nodes.items node group).queue }
-        requires member { (d : Entry R Source) → (slice_index_or (stream_of self.old.nodes.items node group).queue 0 d).tag.member ≡ next.member }
-        requires after { (d : Entry R Source) → (slice_index_or (stream_of self.old.nodes.items node group).queue 0 d).tag.place + 1 ≡ next.place }
+        requires member { (d : Entry R Source)
+            → (slice_index_or (stream_of self.old.nodes.items node group).queue 0 d).tag.member
+            ≡ next.member }
+        requires after { (d : Entry R Source)
+            → (slice_index_or (stream_of self.old.nodes.items node group).queue 0 d).tag.place + 1
+            ≡ next.place }
         requires row { row ≡ slice_index (members self.old.tree.now node group) next.member }
-        requires count { length (products_of self.old.nodes.items node row) ≡ child_count self.old.tree.now node }
-        requires place { IsReached R.KEYS R.key self.old.tree.now self.old.nodes.items node row (child_count self.old.tree.now node) next.place }
+        requires count { length (products_of self.old.nodes.items node row)
+            ≡ child_count self.old.tree.now node }
+        requires place { IsReached R.KEYS R.key self.old.tree.now self.old.nodes.items node row
+            (child_count self.old.tree.now node) next.place }
         requires room { 0 < self.old.entries.spare }
-        ensures formed { IsStreams R.KEYS R.key self.new.tree.now self.new.entries.entries self.new.nodes.items }
+        ensures formed { IsStreams R.KEYS R.key self.new.tree.now self.new.entries.entries
+            self.new.nodes.items }
         ensures tree { self.new.tree.now ≡ self.old.tree.now }
         ensures store { IsStoreGrown node self.old.entries.entries self.new.entries.entries }
-        ensures above { (v : ℕ) → v ≢ node → lists_of self.new.nodes.items v ≡ lists_of self.old.nodes.items v }
-        ensures products { (lists_of self.new.nodes.items node).products ≡ (lists_of self.old.nodes.items node).products }
-        ensures growth { (v : ℕ) → node_size self.new.entries.entries v ≤ node_size self.old.entries.entries v + cond (nat_eq v node) 1 0 }
-        ensures answer { IsAnswered R.KEYS R.key self.old.tree.now self.new.entries.entries last result }
-        ensures cost { steps.new ≤ steps.old + 4 + 3 * child_count self.old.tree.now node + 2 * bit_length (length (members self.old.tree.now node group) + 1) }
+        ensures above { (v : ℕ) → v ≢ node
+            → lists_of self.new.nodes.items v ≡ lists_of self.old.nodes.items v }
+        ensures products { (lists_of self.new.nodes.items node).products
+            ≡ (lists_of self.old.nodes.items node).products }
+        ensures growth { (v : ℕ)
+            → node_size self.new.entries.entries v
+            ≤ node_size self.old.entries.entries v + cond (nat_eq v node) 1 0 }
+        ensures answer { IsAnswered R.KEYS R.key self.old.tree.now self.new.entries.entries last
+            result }
+        ensures cost { steps.new
+            ≤ steps.old + 4 + 3 * child_count self.old.tree.now node
+            + 2 * bit_length (length (members self.old.tree.now node group) + 1) }
     {
         let offer = self.nodes[node as usize].offered(row, next);
         self.nodes[node as usize].pass(group, offer, steps);
@@ -291,10 +349,13 @@ fn make_room<R: Rank, A: Allocator + Clone>(
     requires node { node < length nodes.old.items }
     requires child { child < length (products_of nodes.old.items node row) }
     ensures changed { HasOtherProduct nodes.old.items node row child nodes.new.items }
-    ensures found { (product_of nodes.new.items node row child).found ≡ (product_of nodes.old.items node row child).found }
-    ensures frontier { (product_of nodes.new.items node row child).frontier ≡ (product_of nodes.old.items node row child).frontier }
+    ensures found { (product_of nodes.new.items node row child).found
+        ≡ (product_of nodes.old.items node row child).found }
+    ensures frontier { (product_of nodes.new.items node row child).frontier
+        ≡ (product_of nodes.old.items node row child).frontier }
     ensures room { OnOk result (0 < (product_of nodes.new.items node row child).room) }
-    ensures frontier_room { OnOk result (0 < (product_of nodes.new.items node row child).frontier_room) }
+    ensures frontier_room { OnOk result
+        (0 < (product_of nodes.new.items node row child).frontier_room) }
 {
     nodes[node as usize].reserve_product(row, child)
 }

@@ -46,7 +46,8 @@ impl<R: Rank, A: Allocator> Stream<R, A> {
     /// The last solution found, or `None` if no further one follows.
     pub(crate) fn top(&self) -> Option<Entry<R, Source>>
         ensures variant { IsSome result ↔ (0 < length self.now.queue) }
-        ensures top { IfSome result (λ e. (d : Entry R Source) → e ≡ slice_index_or self.now.queue 0 d) }
+        ensures top { IfSome result
+            (λ e. (d : Entry R Source) → e ≡ slice_index_or self.now.queue 0 d) }
         ensures least { IfSome result (λ e. IsLeast R.KEYS R.key e self.now.queue) }
     {
         let top = self.queue.peek()?;
@@ -58,8 +59,11 @@ impl<R: Rank, A: Allocator> Stream<R, A> {
     pub(crate) fn pass<L: Ledger>(&mut self, next: Option<Entry<R, Source>>, steps: &mut Steps<L>)
         requires { 0 < length self.old.queue }
         ensures head { self.new.head ≡ self.old.head }
-        ensures moved { (d : Entry R Source) → IsPermutation (offers next None self.old.queue) (slice_index_or self.old.queue 0 d ∷ self.new.queue) }
-        ensures least { (d : Entry R Source) → IsLeast R.KEYS R.key (slice_index_or self.old.queue 0 d) self.old.queue }
+        ensures moved { (d : Entry R Source)
+            → IsPermutation (offers next None self.old.queue)
+            (slice_index_or self.old.queue 0 d ∷ self.new.queue) }
+        ensures least { (d : Entry R Source)
+            → IsLeast R.KEYS R.key (slice_index_or self.old.queue 0 d) self.old.queue }
         ensures cost { steps.new ≤ steps.old + 2 * bit_length (length self.old.queue) }
     {
         match next {

@@ -30,9 +30,20 @@ impl<'t, R: Rank, A: Allocator + Clone> Model for Streams<'t, R, A> {
 
     ghost Value = { StreamsView R };
 
-    ghost view = { λ s. record { tree = s.solutions.tree.now; entries = s.solutions.entries.entries; nodes = s.solutions.nodes.items; calls = s.calls } };
+    ghost view = { λ s. record {
+      tree = s.solutions.tree.now;
+      entries = s.solutions.entries.entries;
+      nodes = s.solutions.nodes.items;
+      calls = s.calls;
+    } };
 
-    ghost invariant = { λ s. IsStreamsView R.KEYS R.key (record { tree = s.solutions.tree.now; entries = s.solutions.entries.entries; nodes = s.solutions.nodes.items; calls = s.calls }) };
+    ghost invariant = { λ s. IsStreamsView R.KEYS R.key
+        (record {
+          tree = s.solutions.tree.now;
+          entries = s.solutions.entries.entries;
+          nodes = s.solutions.nodes.items;
+          calls = s.calls;
+        }) };
 }
 
 impl<'t, R: Rank, A: Allocator + Clone> Streams<'t, R, A> {
@@ -94,10 +105,15 @@ impl<'t, R: Rank, A: Allocator + Clone> Streams<'t, R, A> {
         ensures prefixes { ArePrefixes R.KEYS R.key self.new }
         ensures kept { AreKept self.old self.new }
         ensures follows { IfOk result (Follows R.KEYS R.key self.new entry) }
-        ensures known { IsSome (next_of self.old.entries entry) → (IsOk result) × (self.new ≡ record self.old { calls = counted self.old.calls }) × (steps.new ≤ steps.old + 4) }
+        ensures known { IsSome (next_of self.old.entries entry)
+            → (IsOk result) × (self.new ≡ record self.old { calls = counted self.old.calls })
+            × (steps.new ≤ steps.old + 4) }
         ensures growth { (q : ℕ) → size_of_node self.new q ≤ size_of_node self.old q + 1 }
         ensures calls { self.new.calls ≡ counted self.old.calls }
-        ensures cost { steps.new ≤ steps.old + 20 * length self.old.tree * (1 + bit_length (row_count self.old.tree + (self.old.calls + 1) * length self.old.tree)) }
+        ensures cost { steps.new
+            ≤ steps.old + 20 * length self.old.tree
+            * (1 + bit_length (row_count self.old.tree
+            + (self.old.calls + 1) * length self.old.tree)) }
     {
         self.calls = self.calls.saturating_add(1);
         self.solutions.after(entry, steps)

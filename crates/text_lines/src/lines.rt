@@ -24,7 +24,8 @@ fn without_return(line: &[u8]) -> &[u8]
 /// dropped, and the last line may lack its end. `None` if there are no bytes.
 pub fn first_line(bytes: &[u8]) -> Option<(&[u8], &[u8])>
     // The first of the lines, and those after it.
-    ensures value { MatchOption result (lines bytes.now ≡ []) (λ x. lines bytes.now ≡ x.0.now ∷ lines x.1.now) }
+    ensures value { MatchOption result (lines bytes.now ≡ [])
+        (λ x. lines bytes.now ≡ x.0.now ∷ lines x.1.now) }
     // Fewer bytes are left.
     ensures shorter { IfSome result (λ x. length x.1.now < length bytes.now) }
 {

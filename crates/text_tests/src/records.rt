@@ -14,7 +14,9 @@ const SUM: &str = "select R.a, S.c from R, S where R.b = S.b order by R.w + S.w"
 // Whether each item has the row that is given for it.
 fn are_rows(query: &Query, tables: &Tables, rows: &[u32; 16]) -> bool
     requires { Fits query.now tables.now }
-    ensures { IsTrue result → IsCombination (row_counts query.now.query.items tables.now) (take (length query.now.query.items) rows.now) }
+    ensures { IsTrue result
+        → IsCombination (row_counts query.now.query.items tables.now)
+        (take (length query.now.query.items) rows.now) }
 {
     for item in 0..query.items() {
         let row = rows[item as usize];
@@ -60,7 +62,8 @@ fn has_header(alloc: Global, query: &Query, tables: &Tables, case: &Case) -> boo
 // Whether the line is printed.
 fn has_line(alloc: Global, query: &Query, tables: &Tables, rows: &[u32; 16], case: &Case) -> bool
     requires fits { Fits query.now tables.now }
-    requires rows { IsCombination (row_counts query.now.query.items tables.now) (take (length query.now.query.items) rows.now) }
+    requires rows { IsCombination (row_counts query.now.query.items tables.now)
+        (take (length query.now.query.items) rows.now) }
 {
     match line(alloc, query, tables, rows, &style_of(case)) {
         Ok(text) => text.as_slice() == case.line.as_bytes(),
@@ -71,7 +74,8 @@ fn has_line(alloc: Global, query: &Query, tables: &Tables, rows: &[u32; 16], cas
 // Whether the line is written as a record.
 fn writes_line(alloc: Global, query: &Query, tables: &Tables, rows: &[u32; 16], case: &Case) -> bool
     requires fits { Fits query.now tables.now }
-    requires rows { IsCombination (row_counts query.now.query.items tables.now) (take (length query.now.query.items) rows.now) }
+    requires rows { IsCombination (row_counts query.now.query.items tables.now)
+        (take (length query.now.query.items) rows.now) }
 {
     let mut records = RecordWriter::new(alloc);
     let written = write_line(alloc, &mut records, query, tables, rows, &style_of(case));

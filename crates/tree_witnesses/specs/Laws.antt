@@ -32,7 +32,8 @@ LinksMakeWitnesses =
 -- the key of the row that a combination has of an item
 abbrev pub item_key : (d : ℕ) → Query → List Table → List ℕ → ℕ → KeyOf d 16
 item_key d query tables rows i =
-    row_key d (map (part_of tables query.items i (slice_index rows i)) query.order) i (slice_index rows i)
+    row_key d (map (part_of tables query.items i (slice_index rows i)) query.order) i
+    (slice_index rows i)
 
 -- the keys of the rows of the nodes add up to the key of the combination
 abbrev pub KeysAddUp : Type 0
@@ -40,5 +41,6 @@ KeysAddUp =
     (query : Query) (tables : List Table) (graph : Hypergraph) (atoms parents rows : List ℕ) (d : ℕ)
     → IsWithin query tables → IsGraphOf query graph → IsJoinTree graph atoms parents
     → length rows ≡ length query.items
-    → sum_from (key_add d 16) (key_none d 16) (λ q. item_key d query tables rows (slice_index atoms q)) (length atoms) 0
+    → sum_from (key_add d 16) (key_none d 16)
+    (λ q. item_key d query tables rows (slice_index atoms q)) (length atoms) 0
     ≡ witness_key d query tables rows

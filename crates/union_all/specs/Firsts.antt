@@ -16,7 +16,8 @@ module _ (queries : List Query) (tables : List Table) (lists : List (List (List 
     pub rows : List ℕ
     pub later : List (List ℕ)
     pub is_first : get_or lists b [] ≡ rows ∷ later
-    pub least : (c : ℕ) (other : List ℕ) (others : List (List ℕ)) → c < n → c ≢ b → get_or lists c [] ≡ other ∷ others → StandsBefore queries tables b rows c other
+    pub least : (c : ℕ) (other : List ℕ) (others : List (List ℕ)) → c < n → c ≢ b
+        → get_or lists c [] ≡ other ∷ others → StandsBefore queries tables b rows c other
 
   -- this is that branch, or the first n branches have nothing left
   abbrev pub IsFirst : ℕ → Option ℕ → Type 0

@@ -46,12 +46,16 @@ first_of n (Some rows) = take n rows ∷ []
 abbrev pub rests_of : {E : Type 0} → (E → List Seen) → List Query → List E → List (List (List ℕ))
 rests_of rest [] engines = []
 rests_of rest (query ∷ queries) [] = []
-rests_of rest (query ∷ queries) (engine ∷ engines) = combinations_in query (rest engine) ∷ rests_of rest queries engines
+rests_of rest (query ∷ queries) (engine ∷ engines) = combinations_in query (rest engine)
+    ∷ rests_of rest queries engines
 
 -- each branch has combinations of its rows left, in the order of its own ranking
-pub record AreLeft (queries : List Query) (tables : List Table) (lists : List (List (List ℕ))) : Type 0 where
+pub record AreLeft (queries : List Query) (tables : List Table)
+    (lists : List (List (List ℕ))) : Type 0 where
   pub ascending : AreAscending queries tables lists
-  pub combinations : (b : ℕ) → AllByRecursion (IsCombination (row_counts (branch_at queries b).items tables)) (get_or lists b [])
+  pub combinations : (b : ℕ)
+      → AllByRecursion (IsCombination (row_counts (branch_at queries b).items tables))
+      (get_or lists b [])
 
 -- at most 8 branches, of queries that fit the tables
 pub record AreBranches (tables : List Table) (branches : List BranchSeen) : Type 0 where

@@ -28,7 +28,8 @@ impl<'q, E: Ranked> Model for Branch<'q, E> {
 
     ghost view = { λ s. record {
       bound = s.query.now;
-      left = first_of (length s.query.now.query.items) s.head ++ combinations_in s.query.now.query (E.rest s.engine);
+      left = first_of (length s.query.now.query.items) s.head
+          ++ combinations_in s.query.now.query (E.rest s.engine);
       engine = record { calls = E.calls s.engine; due = E.due s.engine; size = E.size s.engine };
     } };
 
@@ -46,7 +47,8 @@ impl<'q, E: Ranked + Drop> Branch<'q, E> {
         ensures bound { IfOk result (λ b. b.bound ≡ query.now) }
         ensures left { IfOk result (λ b. b.left ≡ combinations_in query.now.query (E.rest engine)) }
         ensures called { IfOk result (λ b. HasCalled
-            (record { calls = E.calls engine; due = E.due engine; size = E.size engine }) b.engine) }
+            (record { calls = E.calls engine; due = E.due engine; size = E.size engine })
+            b.engine) }
         ensures cost { steps.new ≤ steps.old + E.due engine }
     {
         let mut engine = engine;
@@ -82,9 +84,13 @@ impl<'q, E: Ranked + Drop> Branch<'q, E> {
     ) -> Result<Option<[u32; 16]>, NoMemory>
         ensures found { IfOk result (λ o. IfSome o (λ rows. self.old.left
             ≡ take (length self.old.bound.query.items) rows ∷ self.new.left)) }
-        ensures called { IfOk result (λ o. IfSome o (λ _. HasCalled self.old.engine self.new.engine)) }
-        ensures end { IfOk result (λ o. IfNone o ((self.old.left ≡ []) × (self.new ≡ self.old) × (steps.new ≡ steps.old))) }
-        ensures refused { OnErr result ((self.new.left ≡ self.old.left) × HasCalled self.old.engine self.new.engine) }
+        ensures called { IfOk result
+            (λ o. IfSome o (λ _. HasCalled self.old.engine self.new.engine)) }
+        ensures end { IfOk result
+            (λ o. IfNone o ((self.old.left ≡ []) × (self.new ≡ self.old)
+            × (steps.new ≡ steps.old))) }
+        ensures refused { OnErr result
+            ((self.new.left ≡ self.old.left) × HasCalled self.old.engine self.new.engine) }
         ensures bound { self.new.bound ≡ self.old.bound }
         ensures cost { steps.new ≤ steps.old + self.old.engine.due }
         ensures share { steps.new ≤ steps.old + E.share self.old.engine.size self.old.engine.calls }

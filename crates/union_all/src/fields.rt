@@ -5,7 +5,9 @@ use step_counter::NoMemory;
 
 /// Appends empty fields.
 pub(crate) fn push_empty(fields: &mut Vec<&[u8]>, count: u32) -> Result<(), NoMemory>
-    ensures { OnOk result (map (λ f. f.now) fields.new.items ≡ map (λ f. f.now) fields.old.items ++ replicate count []) }
+    ensures { OnOk result
+        (map (λ f. f.now) fields.new.items
+        ≡ map (λ f. f.now) fields.old.items ++ replicate count []) }
 {
     for _field in 0..count {
         fields.push(b"")?;

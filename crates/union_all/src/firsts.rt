@@ -18,7 +18,8 @@ fn is_sooner<E: Ranked + Drop>(
     requires branches { AreBranches tables.now branches.now }
     requires inside { b < length branches.now }
     requires first { IsFirst (queries_of branches.now) tables.now (lists_of branches.now) b first }
-    ensures { IsFirst (queries_of branches.now) tables.now (lists_of branches.now) (b + 1) (if result then Some b else first) }
+    ensures { IsFirst (queries_of branches.now) tables.now (lists_of branches.now) (b + 1)
+        (if result then Some b else first) }
 {
     let Some(rows) = branches[b].head() else {
         return false;
@@ -45,7 +46,8 @@ pub(crate) fn first_branch<E: Ranked + Drop>(
     tables: &Tables,
 ) -> Option<usize>
     requires { AreBranches tables.now branches.now }
-    ensures { IsFirst (queries_of branches.now) tables.now (lists_of branches.now) (length branches.now) result }
+    ensures { IsFirst (queries_of branches.now) tables.now (lists_of branches.now)
+        (length branches.now) result }
 {
     let mut first = None;
     for b in 0..branches.len() {

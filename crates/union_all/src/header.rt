@@ -23,7 +23,10 @@ pub fn header_of(
 ) -> Result<Vec<u8>, NoMemory>
     requires some { 1 ≤ length queries.now }
     requires fits { All (λ q. Fits q tables.now) queries.now }
-    ensures { IfOk result (λ text. text.items ≡ output.union_header_text (map (λ q. q.query) queries.now) tables.now (style_shown style.now)) }
+    ensures { IfOk result
+        (λ text. text.items
+        ≡ output.union_header_text (map (λ q. q.query) queries.now) tables.now
+        (style_shown style.now)) }
 {
     let first = &queries[0];
     let titles = number_titles(alloc, first, most_items(queries), style)?;

@@ -33,10 +33,12 @@ pub fn line_of(
 ) -> Result<Vec<u8>, NoMemory>
     requires branch { tagged.now.branch < length queries.now }
     requires fits { All (λ q. Fits q tables.now) queries.now }
-    requires rows { let all = map (λ q. q.query) queries.now in let shown = tagged_shown all tagged.now in
+    requires rows { let all = map (λ q. q.query) queries.now in
+        let shown = tagged_shown all tagged.now in
         IsCombination (row_counts (branch_at all shown.branch).items tables.now) shown.rows }
     ensures { let all = map (λ q. q.query) queries.now in IfOk result (λ text. text.items
-        ≡ output.union_line_text all tables.now (style_shown style.now) (tagged_shown all tagged.now)) }
+        ≡ output.union_line_text all tables.now (style_shown style.now)
+        (tagged_shown all tagged.now)) }
 {
     let query = &queries[tagged.branch as usize];
     let numbers = numbers(alloc, tagged, query, tables, style)?;
@@ -59,10 +61,12 @@ pub fn write_line_of(
 ) -> Result<(), NoMemory>
     requires branch { tagged.now.branch < length queries.now }
     requires fits { All (λ q. Fits q tables.now) queries.now }
-    requires rows { let all = map (λ q. q.query) queries.now in let shown = tagged_shown all tagged.now in
+    requires rows { let all = map (λ q. q.query) queries.now in
+        let shown = tagged_shown all tagged.now in
         IsCombination (row_counts (branch_at all shown.branch).items tables.now) shown.rows }
     ensures { let all = map (λ q. q.query) queries.now in OnOk result (records.new
-        ≡ output.union_line_text all tables.now (style_shown style.now) (tagged_shown all tagged.now)) }
+        ≡ output.union_line_text all tables.now (style_shown style.now)
+        (tagged_shown all tagged.now)) }
 {
     let query = &queries[tagged.branch as usize];
     let numbers = numbers(alloc, tagged, query, tables, style)?;
@@ -76,7 +80,8 @@ pub fn write_line_of(
 /// The number of items that the branch of a query has less than the longest branch, if row numbers are shown, else 0.
 fn lacking_items(queries: &[Query], query: &Query, style: &Style<'_>) -> u32
     ensures { result ≡ (if style.now.rows
-        then output.most_items (map (λ q. q.query) queries.now) - length query.now.query.items else 0) }
+        then output.most_items (map (λ q. q.query) queries.now)
+        - length query.now.query.items else 0) }
 {
     if style.rows {
         most_items(queries).saturating_sub(query.items())
@@ -100,7 +105,8 @@ fn collect_fields<'a>(
     requires rows { HasRows query.now tables.now rows.now }
     ensures { IfOk result (λ fields. map (λ f. f.now) fields.items
         ≡ optional_field (option_map (λ name. name.now) cursor.entry)
-        ++ (map (value_of query.now.query tables.now (rows_of query.now rows.now)) query.now.query.list
+        ++ (map (value_of query.now.query tables.now
+        (rows_of query.now rows.now)) query.now.query.list
         ++ (numbers.now ++ replicate lacking []))) }
 {
     let mut fields = Vec::new(alloc);
@@ -121,8 +127,11 @@ fn numbers(
 ) -> Result<Vec<NumberText>, NoMemory>
     requires fits { Fits query.now tables.now }
     requires rows { HasRows query.now tables.now tagged.now.rows }
-    ensures { let chosen = rows_of query.now tagged.now.rows in IfOk result (λ numbers. numbers.items
-        ≡ (if style.now.ranks then map (λ k. signed_decimal (sum_of query.now.query tables.now chosen k)) query.now.query.order else [])
+    ensures { let chosen = rows_of query.now tagged.now.rows in
+        IfOk result (λ numbers. numbers.items
+        ≡ (if style.now.ranks then map
+        (λ k. signed_decimal
+        (sum_of query.now.query tables.now chosen k)) query.now.query.order else [])
         ++ (if style.now.rows then decimal (tagged.now.branch + 1) ∷ map decimal chosen else [])) }
 {
     let mut numbers = Vec::new(alloc);

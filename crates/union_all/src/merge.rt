@@ -57,9 +57,11 @@ impl<'q, E: Ranked + Drop> Merge<'q, E> {
         requires left { AreLeft (map (λ q. q.query) queries.now) tables.now
             (rests_of E.rest (map (λ q. q.query) queries.now) engines.items) }
         ensures queries { IfOk result (λ m. m.queries ≡ map (λ q. q.query) queries.now) }
-        ensures rest { IfOk result (λ m. m.rest ≡ left_of m.queries tables.now (rests_of E.rest m.queries engines.items)) }
+        ensures rest { IfOk result
+            (λ m. m.rest ≡ left_of m.queries tables.now (rests_of E.rest m.queries engines.items)) }
         ensures engines { IfOk result (λ m. AreBegun
-            (map (λ e. record { calls = E.calls e; due = E.due e; size = E.size e }) engines.items) m.engines) }
+            (map (λ e. record { calls = E.calls e; due = E.due e; size = E.size e }) engines.items)
+            m.engines) }
         ensures cost { steps.new ≤ steps.old + sum_by (λ e. E.due e) engines.items }
     {
         let branches = begin(alloc, queries, engines, steps)?;
@@ -69,11 +71,16 @@ impl<'q, E: Ranked + Drop> Merge<'q, E> {
     /// The next member, or `None` if none is left. The engine of the member's branch is called for the next answer before
     /// the member is taken out. `NoMemory` if memory is refused; no member is lost then.
     pub fn next<L: Ledger>(&mut self, steps: &mut Steps<L>) -> Result<Option<Tagged>, NoMemory>
-        ensures found { IfOk result (λ o. IfSome o (λ t. (self.old.rest ≡ tagged_shown self.old.queries t ∷ self.new.rest)
+        ensures found { IfOk result
+            (λ o. IfSome o (λ t. (self.old.rest ≡ tagged_shown self.old.queries t ∷ self.new.rest)
             × IsCalled E.share self.old self.new t.branch steps.old steps.new)) }
-        ensures end { IfOk result (λ o. IfNone o ((self.old.rest ≡ []) × (self.new ≡ self.old) × (steps.new ≡ steps.old))) }
-        ensures refused { OnErr result ((m : union.Tagged) × (later : List union.Tagged) × (self.old.rest ≡ m ∷ later)
-            × (self.new.rest ≡ self.old.rest) × IsCalled E.share self.old self.new m.branch steps.old steps.new) }
+        ensures end { IfOk result
+            (λ o. IfNone o ((self.old.rest ≡ []) × (self.new ≡ self.old)
+            × (steps.new ≡ steps.old))) }
+        ensures refused { OnErr result
+            ((m : union.Tagged) × (later : List union.Tagged) × (self.old.rest ≡ m ∷ later)
+            × (self.new.rest ≡ self.old.rest)
+            × IsCalled E.share self.old self.new m.branch steps.old steps.new) }
     {
         let Some(first) = first_branch(self.branches.as_slice(), self.tables) else {
             return Ok(None);
@@ -97,9 +104,12 @@ fn begin<'q, E: Ranked + Drop, L: Ledger>(
 ) -> Result<Vec<Branch<'q, E>>, NoMemory>
     requires each { length engines.items ≡ length queries.now }
     ensures bounds { IfOk result (λ v. map (λ b. b.bound) v.items ≡ queries.now) }
-    ensures lists { IfOk result (λ v. map (λ b. b.left) v.items ≡ rests_of E.rest (map (λ q. q.query) queries.now) engines.items) }
+    ensures lists { IfOk result
+        (λ v. map (λ b. b.left) v.items
+        ≡ rests_of E.rest (map (λ q. q.query) queries.now) engines.items) }
     ensures engines { IfOk result (λ v. AreBegun
-        (map (λ e. record { calls = E.calls e; due = E.due e; size = E.size e }) engines.items) (map (λ b. b.engine) v.items)) }
+        (map (λ e. record { calls = E.calls e; due = E.due e; size = E.size e }) engines.items)
+        (map (λ b. b.engine) v.items)) }
     ensures cost { steps.new ≤ steps.old + sum_by (λ e. E.due e) engines.items }
 {
     let mut branches = Vec::with_capacity(alloc, engines.len())?;

@@ -15,7 +15,8 @@ fn compared_sum(query: &Query, tables: &Tables, rows: &[u32; 16], key: u32) -> i
     requires fits { Fits query.now tables.now }
     requires rows { HasRows query.now tables.now rows.now }
     requires key { key < length query.now.query.order }
-    ensures { result ≡ rank_of query.now.query tables.now (rows_of query.now rows.now) (key_at query.now.query.order key) }
+    ensures { result ≡ rank_of query.now.query tables.now (rows_of query.now rows.now)
+        (key_at query.now.query.order key) }
 {
     let sum = key_sum(query, tables, rows, key);
     if query.descending(key) { -sum } else { sum }
@@ -35,7 +36,8 @@ pub(crate) fn has_less_sums(
     requires other_rows { HasRows other.now tables.now other_rows.now }
     ensures { result ≡ is_before
         (map (rank_of one.now.query tables.now (rows_of one.now rows.now)) one.now.query.order)
-        (map (rank_of other.now.query tables.now (rows_of other.now other_rows.now)) other.now.query.order) }
+        (map (rank_of other.now.query tables.now
+        (rows_of other.now other_rows.now)) other.now.query.order) }
 {
     let keys = one.keys().min(other.keys());
     for key in 0..keys {

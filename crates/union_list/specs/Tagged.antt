@@ -16,15 +16,18 @@ tagged b rows = record { branch = b; rows = rows }
 
 -- the query of a branch, and past the last branch a query without items
 abbrev pub branch_at : List Query → ℕ → Query
-branch_at queries b = get_or queries b (record { items = []; equalities = []; order = []; list = []; limit = None })
+branch_at queries b = get_or queries b
+    (record { items = []; equalities = []; order = []; list = []; limit = None })
 
 -- a witness of one of the branches
 abbrev pub IsTagged : List Query → List Table → Tagged → Type 0
-IsTagged queries tables m = (m.branch < length queries) × IsWitness (branch_at queries m.branch) tables m.rows
+IsTagged queries tables m = (m.branch < length queries)
+    × IsWitness (branch_at queries m.branch) tables m.rows
 
 -- the sums of a combination of branch b as they are compared
 abbrev pub sums_of : List Query → List Table → ℕ → List ℕ → List ℤ
-sums_of queries tables b rows = map (rank_of (branch_at queries b) tables rows) (branch_at queries b).order
+sums_of queries tables b rows = map (rank_of (branch_at queries b) tables rows)
+    (branch_at queries b).order
 
 -- the order of members: by their sums, then by the branch, and then by the row numbers
 abbrev pub PrecedesTagged : List Query → List Table → Tagged → Tagged → Type 0
@@ -35,7 +38,8 @@ PrecedesTagged queries tables a b =
 
 -- the strictly ascending list of exactly the branches' witnesses
 abbrev pub IsUnionRanking : List Query → List Table → List Tagged → Type 0
-IsUnionRanking queries tables list = order.IsRanking Tagged (PrecedesTagged queries tables) (IsTagged queries tables) list
+IsUnionRanking queries tables list = order.IsRanking Tagged (PrecedesTagged queries tables)
+    (IsTagged queries tables) list
 
 -- each branch has this many order keys
 abbrev pub HaveKeys : ℕ → List Query → Type 0

@@ -16,7 +16,8 @@ before-of xs ys (before t p) e = p
 before-of xs ys (same t u p) e = absurd (false≢true (sym t ∙ e))
 before-of xs ys (after t u p) e = absurd (false≢true (sym t ∙ e))
 
-pub same-of : (xs ys : List ℤ) → Compared xs ys → is_before xs ys ≡ false → is_before ys xs ≡ false → xs ≡ ys
+pub same-of : (xs ys : List ℤ) → Compared xs ys → is_before xs ys ≡ false → is_before ys xs ≡ false
+    → xs ≡ ys
 same-of xs ys (before t p) e f = absurd (false≢true (sym e ∙ t))
 same-of xs ys (same t u p) e f = p
 same-of xs ys (after t u p) e f = absurd (false≢true (sym f ∙ u))
@@ -25,29 +26,35 @@ same-of xs ys (after t u p) e f = absurd (false≢true (sym f ∙ u))
 abbrev compared : (xs ys : List ℤ) → IsBefore xs ys ⊎ (xs ≡ ys) ⊎ IsBefore ys xs
 compared xs ys = by (is_before xs ys) (is_before ys xs) refl refl
   where
-    by : (b c : Bool) → is_before xs ys ≡ b → is_before ys xs ≡ c → IsBefore xs ys ⊎ (xs ≡ ys) ⊎ IsBefore ys xs
+    by : (b c : Bool) → is_before xs ys ≡ b → is_before ys xs ≡ c
+        → IsBefore xs ys ⊎ (xs ≡ ys) ⊎ IsBefore ys xs
     by true c e f = inl (before-of xs ys (compare xs ys) e)
     by false true e f = inr (inr (before-of ys xs (compare ys xs) f))
     by false false e f = inr (inl (same-of xs ys (compare xs ys) e f))
 
 -- # The order by two lists, of which the second tells its element
 
-module _ {A : Type 0} (first second : A → List ℤ) (tells : (a b : A) → second a ≡ second b → a ≡ b) where
+module _ {A : Type 0} (first second : A → List ℤ)
+    (tells : (a b : A) → second a ≡ second b → a ≡ b) where
   abbrev Below : A → A → Type 0
   Below a b = IsBefore (first a) (first b) ⊎ ((first a ≡ first b) × IsBefore (second a) (second b))
 
   pub below-trans : (a b c : A) → Below a b → Below b c → Below a c
   below-trans a b c (inl p) (inl q) = inl (before-trans (first a) (first b) (first c) p q)
   below-trans a b c (inl p) (inr q) = inl (subst (λ (xs : List ℤ). IsBefore (first a) xs) q.0 p)
-  below-trans a b c (inr p) (inl q) = inl (subst (λ (xs : List ℤ). IsBefore xs (first c)) (sym p.0) q)
-  below-trans a b c (inr p) (inr q) = inr (p.0 ∙ q.0, before-trans (second a) (second b) (second c) p.1 q.1)
+  below-trans a b c (inr p) (inl q) = inl
+      (subst (λ (xs : List ℤ). IsBefore xs (first c)) (sym p.0) q)
+  below-trans a b c (inr p) (inr q) = inr
+      (p.0 ∙ q.0, before-trans (second a) (second b) (second c) p.1 q.1)
 
   pub below-irrefl : (a : A) → Below a a → ⊥
   below-irrefl a (inl p) = before-irrefl (first a) p
   below-irrefl a (inr p) = before-irrefl (second a) p.1
 
-  abbrev by-both : (a b : A) → IsBefore (first a) (first b) ⊎ (first a ≡ first b) ⊎ IsBefore (first b) (first a)
-      → IsBefore (second a) (second b) ⊎ (second a ≡ second b) ⊎ IsBefore (second b) (second a) → Below a b ⊎ (a ≡ b) ⊎ Below b a
+  abbrev by-both : (a b : A)
+      → IsBefore (first a) (first b) ⊎ (first a ≡ first b) ⊎ IsBefore (first b) (first a)
+      → IsBefore (second a) (second b) ⊎ (second a ≡ second b) ⊎ IsBefore (second b) (second a)
+      → Below a b ⊎ (a ≡ b) ⊎ Below b a
   by-both a b (inl p) c = inl (inl p)
   by-both a b (inr (inr p)) c = inr (inr (inl p))
   by-both a b (inr (inl e)) (inl p) = inl (inr (e, p))
@@ -75,8 +82,11 @@ of-numbers (b ∷ rows) = tagged b rows
 -- the branch and the row numbers tell a member
 pub member-told : (a b : Tagged) → map pos (a.branch ∷ a.rows) ≡ map pos (b.branch ∷ b.rows) → a ≡ b
 member-told a b e =
-    ap of-numbers (sym (same-numbers (a.branch ∷ a.rows)) ∙ ap (map nat_abs) e ∙ same-numbers (b.branch ∷ b.rows))
+    ap of-numbers (sym (same-numbers (a.branch ∷ a.rows)) ∙ ap (map nat_abs) e ∙ same-numbers
+    (b.branch ∷ b.rows))
 
-abbrev pub tagged_order : (queries : List Query) (tables : List Table) → IsOrder Tagged (PrecedesTagged queries tables)
+abbrev pub tagged_order : (queries : List Query) (tables : List Table)
+    → IsOrder Tagged (PrecedesTagged queries tables)
 tagged_order queries tables =
-    order-by-both (λ (m : Tagged). sums_of queries tables m.branch m.rows) (λ (m : Tagged). map pos (m.branch ∷ m.rows)) member-told
+    order-by-both (λ (m : Tagged). sums_of queries tables m.branch m.rows)
+    (λ (m : Tagged). map pos (m.branch ∷ m.rows)) member-told

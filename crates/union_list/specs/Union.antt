@@ -14,7 +14,8 @@ tagged_lists b (list ∷ lists) = map (tagged b) list ++ tagged_lists (b + 1) li
 
 -- what is left of the branches, a list for each, in the order of the union
 abbrev pub left_of : List Query → List Table → List (List (List ℕ)) → List Tagged
-left_of queries tables lists = ranked (PrecedesTagged queries tables) (tagged_order queries tables) (tagged_lists 0 lists)
+left_of queries tables lists = ranked (PrecedesTagged queries tables) (tagged_order queries tables)
+    (tagged_lists 0 lists)
 
 -- the ranking of the union
 abbrev pub union_of : List Query → List Table → List Tagged
@@ -22,7 +23,8 @@ union_of queries tables = left_of queries tables (map (λ query. witnesses query
 
 -- the list of each branch is in the order of the branch's own ranking
 abbrev pub AreAscending : List Query → List Table → List (List (List ℕ)) → Type 0
-AreAscending queries tables lists = (b : ℕ) → IsAscending (Precedes (branch_at queries b) tables) (get_or lists b [])
+AreAscending queries tables lists = (b : ℕ)
+    → IsAscending (Precedes (branch_at queries b) tables) (get_or lists b [])
 
 -- how many members of a list are of branch b
 abbrev pub members_in : ℕ → List Tagged → ℕ

@@ -26,7 +26,8 @@ union_header_fields queries tables style =
 abbrev pub union_line_fields : List Query → List Table → Style → Tagged → List (List ℕ)
 union_line_fields queries tables style m =
     line_fields (branch_at queries m.branch) tables (without_rows style) m.rows
-    ++ (if style.rows then decimal (m.branch + 1) ∷ (map decimal m.rows ++ replicate (most_items queries - length m.rows) []) else [])
+    ++ (if style.rows then decimal (m.branch + 1)
+    ∷ (map decimal m.rows ++ replicate (most_items queries - length m.rows) []) else [])
 
 abbrev pub union_header_text : List Query → List Table → Style → List ℕ
 union_header_text queries tables style = record_text (union_header_fields queries tables style)
@@ -36,4 +37,5 @@ union_line_text queries tables style m = record_text (union_line_fields queries 
 
 -- the header, and then a line for each member of a list
 abbrev pub union_output_of : List Query → List Table → Style → List Tagged → List ℕ
-union_output_of queries tables style list = union_header_text queries tables style ++ flat_map (union_line_text queries tables style) list
+union_output_of queries tables style list = union_header_text queries tables style
+    ++ flat_map (union_line_text queries tables style) list

@@ -17,7 +17,8 @@ pub fn one_union()
 
 /// Each union has a ranking: the list of the branches' witnesses in the order of the union.
 pub fn the_union()
-    ensures { (queries : List Query) (tables : List Table) → IsUnionRanking queries tables (union_of queries tables) }
+    ensures { (queries : List Query) (tables : List Table)
+        → IsUnionRanking queries tables (union_of queries tables) }
 {}
 
 /// The union of one branch is the ranking of that branch.
@@ -29,12 +30,14 @@ pub fn union_of_one()
 /// Of the branches' rankings the union is left.
 pub fn left_is_union()
     ensures { (queries : List Query) (tables : List Table)
-        → left_of queries tables (map (λ query. ranking_of query tables) queries) ≡ union_of queries tables }
+        → left_of queries tables (map (λ query. ranking_of query tables) queries)
+        ≡ union_of queries tables }
 {}
 
 /// If all branches have as many order keys, members are in the order of their keys, as one list.
 pub fn keys_agree()
     ensures { (keys : ℕ) (queries : List Query) (tables : List Table) (a b : Tagged)
         → HaveKeys keys queries → a.branch < length queries → b.branch < length queries
-        → PrecedesTagged queries tables a b ↔ IsBefore (tagged_key queries tables a) (tagged_key queries tables b) }
+        → PrecedesTagged queries tables a b
+        ↔ IsBefore (tagged_key queries tables a) (tagged_key queries tables b) }
 {}

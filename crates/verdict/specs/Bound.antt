@@ -20,13 +20,15 @@ cost_of found calls = cost_over (query_of found) found.tables (structure_of foun
 -- `prove` and `verify`.
 abbrev pub most_steps : Command → Found → Option ℕ
 most_steps (run words) found =
-    Some (if is_union found then union_cost found.tables (tagged_of found) 0 found.queries found.shapes
+    Some (if is_union found then union_cost found.tables
+    (tagged_of found) 0 found.queries found.shapes
     else cost_of found (calls_for (query_of found).limit (asked_list found)))
 most_steps (plan words) found = Some (cost_of found 0)
 most_steps (session script words) found =
     Some (cost_of found (session_reach (query_of found).limit (asked_list found) found.steps)
     + 4 * session_calls (query_of found).limit (asked_list found) found.steps)
-most_steps (load number rows) found = Some (cost_of found (calls_for (query_of found).limit (asked_list found)))
+most_steps (load number rows) found = Some
+    (cost_of found (calls_for (query_of found).limit (asked_list found)))
 most_steps (prove words) found = None
 most_steps (verify proof words) found = None
 
@@ -37,20 +39,26 @@ IsWithin command found before now = IfSome (most_steps command found) (λ most. 
 -- if the files are known and the input is accepted, the steps are within the bound, even if the
 -- call ended early
 abbrev pub IsBounded : Asked → Option Files → ℕ → ℕ → Type 0
-IsBounded (built command) told before now = IfSome told (λ files. (found : Found) → IsVerdict (built command) files (Ok found) → IsWithin command found before now)
+IsBounded (built command) told before now = IfSome told
+    (λ files. (found : Found) → IsVerdict (built command) files (Ok found)
+    → IsWithin command found before now)
 IsBounded asked told before now = Unit {0}
 
 -- the bound for the whole records in a part of the output of `run`, and for one more
 abbrev pub steps_for_part : Words → Found → List ℕ → ℕ
 steps_for_part words found part =
     if is_union found then
-    union_cost found.tables (take (union_records found.queries found.tables (tagged_of found) (style_of words) part + 1) (tagged_of found)) 0
+    union_cost found.tables
+    (take (union_records found.queries found.tables (tagged_of found) (style_of words) part + 1)
+    (tagged_of found)) 0
     found.queries found.shapes
-    else cost_of found (records_in (query_of found) found.tables (asked_list found) (style_of words) part + 1)
+    else cost_of found (records_in (query_of found) found.tables (asked_list found)
+    (style_of words) part + 1)
 
 -- a run took no more steps than for the whole records that the output got, and one call more
 abbrev pub IsPaced : Command → Found → Option (List ℕ) → Option (List ℕ) → ℕ → ℕ → Type 0
-IsPaced (run words) found old new before now = (start part : List ℕ) → old ≡ Some start → new ≡ Some (start ++ part)
+IsPaced (run words) found old new before now = (start part : List ℕ) → old ≡ Some start
+    → new ≡ Some (start ++ part)
     → now ≤ before + steps_for_part words found part
 IsPaced (plan words) found old new before now = Unit {0}
 IsPaced (session script words) found old new before now = Unit {0}
@@ -61,5 +69,6 @@ IsPaced (verify proof words) found old new before now = Unit {0}
 -- the same, if the files are known and the input is accepted
 abbrev pub IsPrompt : Asked → Option Files → Option (List ℕ) → Option (List ℕ) → ℕ → ℕ → Type 0
 IsPrompt (built command) told old new before now =
-    IfSome told (λ files. (found : Found) → IsVerdict (built command) files (Ok found) → IsPaced command found old new before now)
+    IfSome told (λ files. (found : Found) → IsVerdict (built command) files (Ok found)
+    → IsPaced command found old new before now)
 IsPrompt asked told old new before now = Unit {0}

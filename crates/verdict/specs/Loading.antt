@@ -53,7 +53,8 @@ IsParse bytes (Err reason) =
 abbrev pub IsParseAll : List ℕ → Result SelectAll Reason → Type 0
 IsParseAll bytes (Ok all) = IsParsedAll bytes all
 IsParseAll bytes (Err reason) =
-    (fault : ParseFault) × FaultsAll bytes fault × (fault ≢ out_of_memory) × (reason ≡ of_parse fault)
+    (fault : ParseFault) × FaultsAll bytes fault × (fault ≢ out_of_memory)
+    × (reason ≡ of_parse fault)
 
 -- each branch with the limit of the whole
 abbrev pub branches_of : SelectAll → List Select
@@ -107,8 +108,10 @@ proof_said bytes = told_proof (proof_of bytes)
 -- what the file beside the query and the tables has, if there is one
 abbrev pub beside_in : Files → Aside → Result Beside Reason
 beside_in files nothing = Ok (with_steps [])
-beside_in files (script name) = then_by (then_by (file_in files name) steps_said) (λ steps. Ok (with_steps steps))
-beside_in files (certificate name) = then_by (then_by (file_in files name) proof_said) (λ proof. Ok (with_proof proof))
+beside_in files (script name) = then_by (then_by (file_in files name) steps_said)
+    (λ steps. Ok (with_steps steps))
+beside_in files (certificate name) = then_by (then_by (file_in files name) proof_said)
+    (λ proof. Ok (with_proof proof))
 
 -- ---- the tables
 
@@ -120,7 +123,8 @@ unknown_with (Some file) at later = later
 
 abbrev pub unknown_table : List (List ℕ × List ℕ) → List ItemRef → Option Reason
 unknown_table named [] = None
-unknown_table named (item ∷ items) = unknown_with (bytes_of named item.table) item.at (unknown_table named items)
+unknown_table named (item ∷ items) = unknown_with (bytes_of named item.table) item.at
+    (unknown_table named items)
 
 -- the names that are not in the first list and not earlier in the second
 abbrev pub first_uses_after : List (List ℕ) → List (List ℕ) → List (List ℕ)
@@ -138,7 +142,8 @@ first_uses items = first_uses_after [] (table_names items)
 
 -- the number of each item's table among these names
 abbrev pub table_numbers : List (List ℕ) → List ItemRef → List ℕ
-table_numbers names items = map (λ name. position_or_len (λ other. bytes_eq other name) names) (table_names items)
+table_numbers names items = map (λ name. position_or_len (λ other. bytes_eq other name) names)
+    (table_names items)
 
 -- the file of a table that the command line names
 abbrev pub known_file : List (List ℕ × List ℕ) → List ℕ → List ℕ
@@ -146,7 +151,8 @@ known_file named table = unwrap_or (bytes_of named table) []
 
 -- the table in the bytes of its file
 abbrev pub sound_table : List ℕ → List ℕ → Result Table Reason
-sound_table name bytes = unless (option_map (of_flaw name) (flaw_of (records_of bytes))) (table_of (records_of bytes))
+sound_table name bytes = unless (option_map (of_flaw name) (flaw_of (records_of bytes)))
+    (table_of (records_of bytes))
 
 -- a table: its file, and then its records
 abbrev pub table_in : Files → List (List ℕ × List ℕ) → List ℕ → Result Table Reason
@@ -156,7 +162,8 @@ table_in files named name = then_by (file_in files (known_file named name)) (sou
 abbrev pub tables_in : Files → List (List ℕ × List ℕ) → List (List ℕ) → Result (List Table) Reason
 tables_in files named [] = Ok []
 tables_in files named (name ∷ names) =
-    then_by (table_in files named name) (λ table. then_by (tables_in files named names) (λ tables. Ok (table ∷ tables)))
+    then_by (table_in files named name)
+    (λ table. then_by (tables_in files named names) (λ tables. Ok (table ∷ tables)))
 
 abbrev pub go_on : {A : Type 0} → Result A Reason → List (List ℕ) → List (List ℕ)
 go_on (Ok a) later = later
@@ -165,7 +172,8 @@ go_on (Err reason) later = []
 -- the files that are read for these tables: up to the first that is refused
 abbrev pub files_read : Files → List (List ℕ × List ℕ) → List (List ℕ) → List (List ℕ)
 files_read files named [] = []
-files_read files named (name ∷ names) = known_file named name ∷ go_on (table_in files named name) (files_read files named names)
+files_read files named (name ∷ names) = known_file named name
+    ∷ go_on (table_in files named name) (files_read files named names)
 
 -- ---- the queries bound to their tables
 
@@ -180,19 +188,23 @@ told_branch several number = if several then Some number else None
 -- the names, the weights and the ranges of a query are checked
 abbrev pub bound_as : Option ℕ → List (List ℕ) → List Table → Select → Result Query Reason
 bound_as branch names tables select =
-    unless (option_map (of_bind branch) (bind_fault select tables (table_numbers names select.items)))
+    unless (option_map (of_bind branch)
+    (bind_fault select tables (table_numbers names select.items)))
     (bound_query select tables (table_numbers names select.items))
 
 -- those of each branch in order, of which the first has this number
-abbrev pub bound_from : List (List ℕ) → List Table → Bool → ℕ → List Select → Result (List Query) Reason
+abbrev pub bound_from : List (List ℕ) → List Table → Bool → ℕ → List Select
+    → Result (List Query) Reason
 bound_from names tables several number [] = Ok []
 bound_from names tables several number (select ∷ selects) =
     then_by (bound_as (told_branch several number) names tables select)
-    (λ query. then_by (bound_from names tables several (number + 1) selects) (λ queries. Ok (query ∷ queries)))
+    (λ query. then_by (bound_from names tables several (number + 1) selects)
+    (λ queries. Ok (query ∷ queries)))
 
 -- all tables are there, for each branch those that its items name
 abbrev pub bound_in : List Select → List Table → Result (List Query) Reason
-bound_in selects tables = bound_from (first_uses (all_items selects)) tables (are_several selects) 1 selects
+bound_in selects tables = bound_from (first_uses (all_items selects)) tables
+    (are_several selects) 1 selects
 
 -- ---- the shape of the branches
 
@@ -201,7 +213,8 @@ abbrev pub have_directions : List OrderKey → List OrderKey → Bool
 have_directions [] [] = true
 have_directions [] (key ∷ keys) = false
 have_directions (key ∷ keys) [] = false
-have_directions (key ∷ keys) (other ∷ others) = beq key.descending other.descending && have_directions keys others
+have_directions (key ∷ keys)
+    (other ∷ others) = beq key.descending other.descending && have_directions keys others
 
 -- as many selected columns, and keys of the same directions
 abbrev pub have_one_shape : Query → Query → Bool
@@ -211,7 +224,8 @@ have_one_shape a b = nat_eq (length a.list) (length b.list) && have_directions a
 abbrev pub odd_from : Query → ℕ → List Query → Option Reason
 odd_from first number [] = None
 odd_from first number (query ∷ queries) =
-    if have_one_shape first query then odd_from first (number + 1) queries else Some (BranchShape number)
+    if have_one_shape first query then odd_from first (number + 1) queries else Some
+    (BranchShape number)
 
 abbrev pub odd_branch : List Query → Option Reason
 odd_branch [] = None
@@ -227,7 +241,8 @@ known_item (Some item) = Ok (Some item)
 abbrev pub best_in : Option (List ℕ) → List Query → Result (Option ℕ) Reason
 best_in None queries = Ok None
 best_in (Some alias) [] = Err UnknownBest
-best_in (Some alias) (query ∷ []) = known_item (position (λ (i : Item). bytes_eq i.alias alias) query.items)
+best_in (Some alias) (query ∷ []) = known_item
+    (position (λ (i : Item). bytes_eq i.alias alias) query.items)
 best_in (Some alias) (query ∷ other ∷ queries) = Err UnionBest
 
 -- ---- all together
@@ -249,4 +264,10 @@ abbrev pub loaded_in : Option (List ℕ) → List Query → List Table → Besid
 loaded_in alias queries tables beside =
     then_by (unless (odd_branch queries) queries)
     (λ queries. then_by (best_in alias queries)
-    (λ best. Ok (record { queries = queries; tables = tables; best = best; steps = beside.steps; proof = beside.proof })))
+    (λ best. Ok (record {
+      queries = queries;
+      tables = tables;
+      best = best;
+      steps = beside.steps;
+      proof = beside.proof;
+    })))

@@ -7,7 +7,8 @@ use Rattle.verdict.specs.Words.{Asked, Command, no_command, built, run, plan, se
 
 -- the query over the four tables, and the tables that are made from the number
 abbrev pub made_files : ℕ → ℕ → Files
-made_files number rows = (query_file, load_query) ∷ zip (map (λ (t : List ℕ × List ℕ). t.1) table_files) (files number rows)
+made_files number rows = (query_file, load_query)
+    ∷ zip (map (λ (t : List ℕ × List ℕ). t.1) table_files) (files number rows)
 
 -- `load` reads the files that it makes, and the other commands read those that they are given
 abbrev pub files_of : Command → Files → Files

@@ -57,19 +57,28 @@ GotNothing old new = Appends old.output new.output []
 -- once the query is parsed; or of one of the tables up to the first refusal, once these are read.
 pub data IsTurnOf (sought : Sought) (files : Files) (name : List ℕ) : Type 0 where
   query_turn : name ≡ sought.query → IsTurnOf sought files name
-  aside_turn : {bytes : List ℕ} (selects : List Select) → file_in files sought.query ≡ Ok bytes → IsReading sought.several bytes (Ok selects)
+  aside_turn : {bytes : List ℕ} (selects : List Select) → file_in files sought.query ≡ Ok bytes
+      → IsReading sought.several bytes (Ok selects)
       → aside_name sought.aside ≡ Some name → IsTurnOf sought files name
-  table_turn : {bytes : List ℕ} (selects : List Select) {beside : Beside} → file_in files sought.query ≡ Ok bytes → IsReading sought.several bytes (Ok selects)
-      → beside_in files sought.aside ≡ Ok beside → unknown_table sought.named (all_items selects) ≡ None
-      → IsMember name (files_read files sought.named (first_uses (all_items selects))) → IsTurnOf sought files name
+  table_turn : {bytes : List ℕ} (selects : List Select) {beside : Beside}
+      → file_in files sought.query ≡ Ok bytes → IsReading sought.several bytes (Ok selects)
+      → beside_in files sought.aside ≡ Ok beside
+      → unknown_table sought.named (all_items selects) ≡ None
+      → IsMember name (files_read files sought.named (first_uses (all_items selects)))
+      → IsTurnOf sought files name
 
 -- if the files are known, it is a file that the command reads; `load` reads none
 abbrev pub IsCommandTurn : Command → Option Files → List ℕ → Type 0
-IsCommandTurn (run words) told name = IfSome told (λ files. IsTurnOf (sought_by (run words)) files name)
-IsCommandTurn (plan words) told name = IfSome told (λ files. IsTurnOf (sought_by (plan words)) files name)
-IsCommandTurn (session script words) told name = IfSome told (λ files. IsTurnOf (sought_by (session script words)) files name)
-IsCommandTurn (prove words) told name = IfSome told (λ files. IsTurnOf (sought_by (prove words)) files name)
-IsCommandTurn (verify proof words) told name = IfSome told (λ files. IsTurnOf (sought_by (verify proof words)) files name)
+IsCommandTurn (run words) told name = IfSome told
+    (λ files. IsTurnOf (sought_by (run words)) files name)
+IsCommandTurn (plan words) told name = IfSome told
+    (λ files. IsTurnOf (sought_by (plan words)) files name)
+IsCommandTurn (session script words) told name = IfSome told
+    (λ files. IsTurnOf (sought_by (session script words)) files name)
+IsCommandTurn (prove words) told name = IfSome told
+    (λ files. IsTurnOf (sought_by (prove words)) files name)
+IsCommandTurn (verify proof words) told name = IfSome told
+    (λ files. IsTurnOf (sought_by (verify proof words)) files name)
 IsCommandTurn (load number rows) told name = ⊥
 
 abbrev pub IsTurn : Asked → Option Files → List ℕ → Type 0
@@ -81,7 +90,8 @@ IsTurn no_command told name = ⊥
 abbrev pub IsReason : Asked → Option Files → Reason → Type 0
 IsReason asked told reason.Usage = asked ≡ no_command
 IsReason asked told (reason.ReadFault name) = IsTurn asked told name
-IsReason asked told reason.WriteFault = IfSome told (λ files. (found : Found) × IsVerdict asked files (Ok found))
+IsReason asked told reason.WriteFault = IfSome told
+    (λ files. (found : Found) × IsVerdict asked files (Ok found))
 IsReason asked told reason.NoMemory = Unit {0}
 IsReason asked told refusal = IfSome told (λ files. IsVerdict asked files (Err refusal))
 
@@ -101,7 +111,8 @@ IsCut asked told old new reason.NoMemory = GotNothing old new ⊎ GotAccepted as
 IsCut asked told old new other = GotNothing old new
 
 -- the call ended for this reason
-pub record Ended (asked : Asked) (told : Option Files) (old new : Outside) (reason : Reason) : Type 0 where
+pub record Ended (asked : Asked) (told : Option Files) (old new : Outside)
+    (reason : Reason) : Type 0 where
   pub fits : IsReason asked told reason
   pub caused : IsCaused old new reason
   pub cut : IsCut asked told old new reason
@@ -111,18 +122,22 @@ pub record Ended (asked : Asked) (told : Option Files) (old new : Outside) (reas
 
 -- if the input is accepted and nothing failed, the call is done, or memory ran out
 abbrev pub IsDoneWhereAccepted : Asked → Option Files → Outside → Outside → ℕ → Type 0
-IsDoneWhereAccepted asked told old new status = IfSome told (λ files. (found : Found) → IsVerdict asked files (Ok found)
-    → (Rose old.read_faults new.read_faults → ⊥) → (Rose old.write_faults new.write_faults → ⊥) → (status ≡ 0) ⊎ (status ≡ 12))
+IsDoneWhereAccepted asked told old new status = IfSome told
+    (λ files. (found : Found) → IsVerdict asked files (Ok found)
+    → (Rose old.read_faults new.read_faults → ⊥) → (Rose old.write_faults new.write_faults → ⊥)
+    → (status ≡ 0) ⊎ (status ≡ 12))
 
 -- if the input is refused and no read failed, the status is the refusal's, or memory ran out
 abbrev pub IsRefusedWhereRefused : Asked → Option Files → Outside → Outside → ℕ → Type 0
-IsRefusedWhereRefused asked told old new status = IfSome told (λ files. (refusal : Reason) → IsVerdict asked files (Err refusal)
+IsRefusedWhereRefused asked told old new status = IfSome told
+    (λ files. (refusal : Reason) → IsVerdict asked files (Err refusal)
     → (Rose old.read_faults new.read_faults → ⊥) → (status ≡ status_of refusal) ⊎ (status ≡ 12))
 
 -- if the input is refused, the output got nothing, whatever the status is
 abbrev pub IsUnwrittenWhereRefused : Asked → Option Files → Outside → Outside → Type 0
 IsUnwrittenWhereRefused asked told old new =
-    IfSome told (λ files. (refusal : Reason) → IsVerdict asked files (Err refusal) → GotNothing old new)
+    IfSome told (λ files. (refusal : Reason) → IsVerdict asked files (Err refusal)
+    → GotNothing old new)
 
 -- ---- all together
 
@@ -130,11 +145,13 @@ abbrev pub statuses : List ℕ
 statuses = 0 ∷ 2 ∷ 3 ∷ 4 ∷ 5 ∷ 6 ∷ 7 ∷ 8 ∷ 9 ∷ 10 ∷ 11 ∷ 12 ∷ 14 ∷ 15 ∷ []
 
 -- all that is stated about one call of the program
-pub record Outcome (asked : Asked) (told : Option Files) (old new : Outside) (status : ℕ) : Type 0 where
+pub record Outcome (asked : Asked) (told : Option Files) (old new : Outside)
+    (status : ℕ) : Type 0 where
   pub known : list_any (λ s. s == status) statuses ≡ true
   pub done : status ≡ 0 → IsComplete asked told old new
   pub quiet : status ≡ 0 → Appends old.errors new.errors []
-  pub refused : status ≢ 0 → (reason : Reason) × (status_of reason ≡ status) × Ended asked told old new reason
+  pub refused : status ≢ 0
+      → (reason : Reason) × (status_of reason ≡ status) × Ended asked told old new reason
   pub usage : asked ≡ no_command → (status ≡ 2) ⊎ (status ≡ 12)
   pub accepted : IsDoneWhereAccepted asked told old new status
   pub exact : IsRefusedWhereRefused asked told old new status

@@ -31,7 +31,8 @@ tagged_of found = cut (query_of found).limit (union_of found.queries found.table
 -- several
 abbrev pub answers_text : Words → Found → List ℕ
 answers_text words found =
-    if is_union found then union_output_of found.queries found.tables (style_of words) (tagged_of found)
+    if is_union found then union_output_of found.queries found.tables (style_of words)
+    (tagged_of found)
     else output_of (query_of found) found.tables (style_of words) (members_of found)
 
 -- The output of `run` is the answers, and so is that of `verify`. That of `plan` is the report of the join tree, that
@@ -39,9 +40,12 @@ answers_text words found =
 -- that of `prove` is the text of a certificate.
 abbrev pub HasOutput : Command → Found → List ℕ → Type 0
 HasOutput (run words) found text = text ≡ answers_text words found
-HasOutput (plan words) found text = text ≡ report_of (query_of found) found.tables (structure_of found)
+HasOutput (plan words) found text = text
+    ≡ report_of (query_of found) found.tables (structure_of found)
 HasOutput (session script words) found text =
-    text ≡ session_text (query_of found) found.tables (style_of words) (members_of found) found.steps
-HasOutput (load number rows) found text = text ≡ summary_text (query_of found) found.tables (members_of found)
+    text ≡ session_text (query_of found) found.tables (style_of words)
+    (members_of found) found.steps
+HasOutput (load number rows) found text = text
+    ≡ summary_text (query_of found) found.tables (members_of found)
 HasOutput (prove words) found text = IsProofText (query_of found) found.tables text
 HasOutput (verify proof words) found text = text ≡ answers_text words found

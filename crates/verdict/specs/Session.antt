@@ -26,13 +26,15 @@ place_in places name = unwrap_or (places name) 0
 abbrev pub next_text : (List ℕ → List ℕ) → List ℕ → List (List ℕ) → ℕ → List ℕ
 next_text line ending members zero = []
 next_text line ending [] (suc count) = ending
-next_text line ending (member ∷ members) (suc count) = line member ++ next_text line ending members count
+next_text line ending (member ∷ members) (suc count) = line member
+    ++ next_text line ending members count
 
 -- what a step prints: `next` prints the members from its cursor's place, and the cursor's name
 -- alone if the list ends before that
 abbrev pub step_text : (List ℕ → List ℕ → List ℕ) → List (List ℕ) → Places → Step → List ℕ
 step_text line members places (Open name) = []
-step_text line members places (Next name count) = next_text (line name) (name ++ codes "\n") (drop (place_in places name) members) count
+step_text line members places (Next name count) = next_text (line name) (name ++ codes "\n")
+    (drop (place_in places name) members) count
 step_text line members places (Fork name new) = []
 step_text line members places (Rewind name) = []
 step_text line members places (Close name) = []
@@ -41,7 +43,8 @@ step_text line members places (Close name) = []
 abbrev pub places_after : List (List ℕ) → Places → Step → Places
 places_after members places (Open name) = with_cursor places name (Some 0)
 places_after members places (Next name count) =
-    with_cursor places name (Some (place_in places name + length (take count (drop (place_in places name) members))))
+    with_cursor places name
+    (Some (place_in places name + length (take count (drop (place_in places name) members))))
 places_after members places (Fork name new) = with_cursor places new (places name)
 places_after members places (Rewind name) = with_cursor places name (Some 0)
 places_after members places (Close name) = with_cursor places name None
@@ -49,7 +52,8 @@ places_after members places (Close name) = with_cursor places name None
 -- what steps print, one after another
 abbrev pub steps_text : (List ℕ → List ℕ → List ℕ) → List (List ℕ) → Places → List Step → List ℕ
 steps_text line members places [] = []
-steps_text line members places (step ∷ steps) = step_text line members places step ++ steps_text line members (places_after members places step) steps
+steps_text line members places (step ∷ steps) = step_text line members places step
+    ++ steps_text line members (places_after members places step) steps
 
 abbrev pub with_name : Style → List ℕ → Style
 with_name style name = record style { cursor = Some name }
@@ -57,4 +61,6 @@ with_name style name = record style { cursor = Some name }
 -- the header with the title of the cursors' names, and then what the steps print, each record with the name of its cursor
 abbrev pub session_text : Query → List Table → Style → List (List ℕ) → List Step → List ℕ
 session_text query tables style members steps =
-    header_text query tables (with_name style []) ++ steps_text (λ name. line_text query tables (with_name style name)) members no_cursors steps
+    header_text query tables (with_name style [])
+    ++ steps_text (λ name. line_text query tables (with_name style name)) members no_cursors
+    steps

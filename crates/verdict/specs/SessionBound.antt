@@ -12,4 +12,5 @@ use Rattle.verdict.specs.SessionCalls.{session_calls, session_reach}
 abbrev pub KeepsSessionBound : Query → List Table → List (List ℕ) → List Step → ℕ → ℕ → Type 0
 KeepsSessionBound query tables list script before now =
     (shape : Shape) → IsShape query tables (Ok shape)
-    → now ≤ before + cost_over query tables shape (session_reach query.limit list script) + 4 * session_calls query.limit list script
+    → now ≤ before + cost_over query tables shape (session_reach query.limit list script)
+    + 4 * session_calls query.limit list script

@@ -19,7 +19,8 @@ calls_among ends left count = min count left + (if ends && nat_lt left count the
 -- the calls of one step
 abbrev pub calls_of_step : Bool → List (List ℕ) → Places → Step → ℕ
 calls_of_step ends members places (Open name) = 0
-calls_of_step ends members places (Next name count) = calls_among ends (length (drop (place_in places name) members)) count
+calls_of_step ends members places (Next name count) = calls_among ends
+    (length (drop (place_in places name) members)) count
 calls_of_step ends members places (Fork name new) = 0
 calls_of_step ends members places (Rewind name) = 0
 calls_of_step ends members places (Close name) = 0
@@ -27,13 +28,15 @@ calls_of_step ends members places (Close name) = 0
 -- the calls of steps, one after another
 abbrev pub calls_of_steps : Bool → List (List ℕ) → Places → List Step → ℕ
 calls_of_steps ends members places [] = 0
-calls_of_steps ends members places (step ∷ steps) = calls_of_step ends members places step + calls_of_steps ends members (places_after members places step) steps
+calls_of_steps ends members places (step ∷ steps) = calls_of_step ends members places step
+    + calls_of_steps ends members (places_after members places step) steps
 
 -- how far one step reaches in the list: the place that its cursor gets to, and one place more if it
 -- finds the end
 abbrev pub reach_of_step : Bool → List (List ℕ) → Places → Step → ℕ
 reach_of_step ends members places (Open name) = 0
-reach_of_step ends members places (Next name count) = place_in places name + calls_among ends (length (drop (place_in places name) members)) count
+reach_of_step ends members places (Next name count) = place_in places name
+    + calls_among ends (length (drop (place_in places name) members)) count
 reach_of_step ends members places (Fork name new) = 0
 reach_of_step ends members places (Rewind name) = 0
 reach_of_step ends members places (Close name) = 0
@@ -41,11 +44,14 @@ reach_of_step ends members places (Close name) = 0
 -- how far steps reach, one after another
 abbrev pub reach_of_steps : Bool → List (List ℕ) → Places → List Step → ℕ
 reach_of_steps ends members places [] = 0
-reach_of_steps ends members places (step ∷ steps) = max (reach_of_step ends members places step) (reach_of_steps ends members (places_after members places step) steps)
+reach_of_steps ends members places (step ∷ steps) = max (reach_of_step ends members places step)
+    (reach_of_steps ends members (places_after members places step) steps)
 
 -- the same for a whole script, over the members of a ranking that are within a limit
 abbrev pub session_calls : Option ℕ → List (List ℕ) → List Step → ℕ
-session_calls limit ranking script = calls_of_steps (ends_by_itself limit ranking) (cut limit ranking) no_cursors script
+session_calls limit ranking script = calls_of_steps (ends_by_itself limit ranking)
+    (cut limit ranking) no_cursors script
 
 abbrev pub session_reach : Option ℕ → List (List ℕ) → List Step → ℕ
-session_reach limit ranking script = reach_of_steps (ends_by_itself limit ranking) (cut limit ranking) no_cursors script
+session_reach limit ranking script = reach_of_steps (ends_by_itself limit ranking)
+    (cut limit ranking) no_cursors script

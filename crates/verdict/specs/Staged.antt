@@ -17,11 +17,17 @@ pub record Shelved : Type 0 where
 -- this of a shelf
 abbrev pub shelved : {S : Type 0} → Ghosts S → S → Shelved
 shelved counts shelf =
-    record { files = counts.files shelf; misses = counts.misses shelf; faults = counts.faults shelf; taken = counts.taken shelf }
+    record {
+      files = counts.files shelf;
+      misses = counts.misses shelf;
+      faults = counts.faults shelf;
+      taken = counts.taken shelf;
+    }
 
 -- if the files are known: the result is the stage's, or, if a read failed, the file is one that the
 -- stage reads
-abbrev pub Fits : {A : Type 0} → (Files → Result A Reason → Type 0) → (Files → List ℕ → Type 0) → Option Files → Result A Reason → Type 0
+abbrev pub Fits : {A : Type 0} → (Files → Result A Reason → Type 0) → (Files → List ℕ → Type 0)
+    → Option Files → Result A Reason → Type 0
 Fits Gives Turn told (Err reason.NoMemory) = Unit {0}
 Fits Gives Turn told (Err (reason.ReadFault name)) = IfSome told (λ files. Turn files name)
 Fits Gives Turn told (Err reason.WriteFault) = ⊥
@@ -36,7 +42,8 @@ Causes old new (Err (reason.ReadFault name)) = Rose old.faults new.faults
 Causes old new (Err (reason.TooLarge name)) = RoseAbove most_bytes old.taken new.taken
 Causes old new result = Unit {0}
 
-pub record Staged {A : Type 0} (Gives : Files → Result A Reason → Type 0) (Turn : Files → List ℕ → Type 0) (old new : Shelved) (result : Result A Reason) : Type 0 where
+pub record Staged {A : Type 0} (Gives : Files → Result A Reason → Type 0)
+    (Turn : Files → List ℕ → Type 0) (old new : Shelved) (result : Result A Reason) : Type 0 where
   pub fits : Fits Gives Turn old.files result
   pub caused : Causes old new result
   pub files : new.files ≡ old.files
@@ -59,6 +66,9 @@ abbrev pub NoTurn : Files → List ℕ → Type 0
 NoTurn files name = ⊥
 
 -- the files that two stages read, one after another
-pub data EitherTurn {A : Type 0} (Gives : Files → Result A Reason → Type 0) (First : Files → List ℕ → Type 0) (Second : A → Files → List ℕ → Type 0) (files : Files) (name : List ℕ) : Type 0 where
+pub data EitherTurn {A : Type 0} (Gives : Files → Result A Reason → Type 0)
+    (First : Files → List ℕ → Type 0) (Second : A → Files → List ℕ → Type 0) (files : Files)
+    (name : List ℕ) : Type 0 where
   first_turn : First files name → EitherTurn Gives First Second files name
-  second_turn : {a : A} → Gives files (Ok a) → Second a files name → EitherTurn Gives First Second files name
+  second_turn : {a : A} → Gives files (Ok a) → Second a files name
+      → EitherTurn Gives First Second files name

@@ -3,9 +3,11 @@ use Rattle.std.specs.Prelude.{◌≡◌, Option, Some, None, Result, Ok, Err}
 use Rattle.refusal_lines.specs.Reason.{Reason}
 
 -- what the second stage finds after the first, or the first refusal
-pub data Then {A B : Type 0} (First : Result A Reason → Type 0) (Second : A → Result B Reason → Type 0) : Result B Reason → Type 0 where
+pub data Then {A B : Type 0} (First : Result A Reason → Type 0)
+    (Second : A → Result B Reason → Type 0) : Result B Reason → Type 0 where
   refused : {reason : Reason} → First (Err reason) → Then First Second (Err reason)
-  followed : {a : A} {result : Result B Reason} → First (Ok a) → Second a result → Then First Second result
+  followed : {a : A} {result : Result B Reason} → First (Ok a) → Second a result
+      → Then First Second result
 
 -- a stage that computes its result
 abbrev pub Is : {A : Type 0} → Result A Reason → Result A Reason → Type 0

@@ -16,27 +16,34 @@ abbrev pub union_cost : List Table → List Tagged → ℕ → List Query → Li
 union_cost tables list b [] shapes = 0
 union_cost tables list b (query ∷ queries) [] = 0
 union_cost tables list b (query ∷ queries) (shape ∷ shapes) =
-    cost_over query tables shape (members_in b list + 1) + union_cost tables list (b + 1) queries shapes
+    cost_over query tables shape (members_in b list + 1)
+    + union_cost tables list (b + 1) queries shapes
 
 -- the number of whole records, after the header, in a part of the output
 abbrev pub union_records : List Query → List Table → List Tagged → Style → List ℕ → ℕ
 union_records queries tables list style part =
-    whole_lines (map (union_line_text queries tables style) list) (drop (length (union_header_text queries tables style)) part)
+    whole_lines (map (union_line_text queries tables style) list)
+    (drop (length (union_header_text queries tables style)) part)
 
 -- each query has the structure at its place
 abbrev pub HaveShapes : List Table → List Query → List Shape → Type 0
 HaveShapes tables [] [] = Unit {0}
 HaveShapes tables [] (shape ∷ shapes) = ⊥
 HaveShapes tables (query ∷ queries) [] = ⊥
-HaveShapes tables (query ∷ queries) (shape ∷ shapes) = IsShape query tables (Ok shape) × HaveShapes tables queries shapes
+HaveShapes tables (query ∷ queries) (shape ∷ shapes) = IsShape query tables (Ok shape)
+    × HaveShapes tables queries shapes
 
 -- no more steps than the bound for the members of the list
 abbrev pub KeepsUnionBound : List Query → List Table → List Tagged → ℕ → ℕ → Type 0
 KeepsUnionBound queries tables list before now =
-    (shapes : List Shape) → HaveShapes tables queries shapes → now ≤ before + union_cost tables list 0 queries shapes
+    (shapes : List Shape) → HaveShapes tables queries shapes
+    → now ≤ before + union_cost tables list 0 queries shapes
 
 -- no more steps than the bound for the members whose records were written, and for one more
-abbrev pub KeepsUnionPace : List Query → List Table → List Tagged → Style → Option (List ℕ) → Option (List ℕ) → ℕ → ℕ → Type 0
+abbrev pub KeepsUnionPace : List Query → List Table → List Tagged → Style → Option (List ℕ)
+    → Option (List ℕ) → ℕ → ℕ → Type 0
 KeepsUnionPace queries tables list style old new before now =
-    (shapes : List Shape) → HaveShapes tables queries shapes → (start part : List ℕ) → old ≡ Some start → new ≡ Some (start ++ part)
-    → now ≤ before + union_cost tables (take (union_records queries tables list style part + 1) list) 0 queries shapes
+    (shapes : List Shape) → HaveShapes tables queries shapes → (start part : List ℕ)
+    → old ≡ Some start → new ≡ Some (start ++ part)
+    → now ≤ before + union_cost tables
+    (take (union_records queries tables list style part + 1) list) 0 queries shapes

@@ -24,21 +24,25 @@ use Rattle.verdict.specs.Stages.{Then, Is, unless}
 -- the names, the weights and the ranges of each branch, then the branches' shape, and then the item of
 -- which each row's best answer is asked for
 abbrev pub IsBound : Sought → List Select → List Table → Beside → Result Loaded Reason → Type 0
-IsBound sought selects tables beside = Then (Is (bound_in selects tables)) (λ queries. Is (loaded_in sought.best_of queries tables beside))
+IsBound sought selects tables beside = Then (Is (bound_in selects tables))
+    (λ queries. Is (loaded_in sought.best_of queries tables beside))
 
 -- each table in the order of first use
 abbrev pub IsTabled : Sought → Files → List Select → Beside → Result Loaded Reason → Type 0
 IsTabled sought files selects beside =
-    Then (Is (tables_in files sought.named (first_uses (all_items selects)))) (λ tables. IsBound sought selects tables beside)
+    Then (Is (tables_in files sought.named (first_uses (all_items selects))))
+    (λ tables. IsBound sought selects tables beside)
 
 -- a table that the command line does not name
 abbrev pub IsSelected : Sought → Files → List Select → Beside → Result Loaded Reason → Type 0
 IsSelected sought files selects beside =
-    Then (Is (unless (unknown_table sought.named (all_items selects)) selects)) (λ known. IsTabled sought files known beside)
+    Then (Is (unless (unknown_table sought.named (all_items selects)) selects))
+    (λ known. IsTabled sought files known beside)
 
 -- the script or the certificate, if there is one
 abbrev pub IsAccompanied : Sought → Files → List Select → Result Loaded Reason → Type 0
-IsAccompanied sought files selects = Then (Is (beside_in files sought.aside)) (λ beside. IsSelected sought files selects beside)
+IsAccompanied sought files selects = Then (Is (beside_in files sought.aside))
+    (λ beside. IsSelected sought files selects beside)
 
 -- what the bytes of the query file write
 abbrev pub IsRead : Sought → Files → List ℕ → Result Loaded Reason → Type 0
@@ -56,7 +60,8 @@ IsLoaded (built command) files = IsLoadedOn (sought_by command) (files_of comman
 -- ---- the structure
 
 -- the query has no join tree, or too many node rows
-pub record IsFlawed (branch : Option ℕ) (query : Query) (tables : List Table) (reason : Reason) : Type 0 where
+pub record IsFlawed (branch : Option ℕ) (query : Query) (tables : List Table)
+    (reason : Reason) : Type 0 where
   pub flaw : Flaw
   pub is_flaw : IsShape query tables (Err flaw)
   pub told : reason ≡ of_shape branch flaw
@@ -71,25 +76,32 @@ abbrev pub AreStructures : Bool → ℕ → List Table → List Query → Result
 AreStructures several number tables [] = Is (Ok [])
 AreStructures several number tables (query ∷ queries) =
     Then (IsStructure (told_branch several number) tables query)
-    (λ shape. Then (AreStructures several (number + 1) tables queries) (λ shapes. Is (Ok (shape ∷ shapes))))
+    (λ shape. Then (AreStructures several (number + 1) tables queries)
+    (λ shapes. Is (Ok (shape ∷ shapes))))
 
 -- the structure of what was loaded
 abbrev pub IsShaped : Loaded → Result Found Reason → Type 0
 IsShaped loaded =
-    Then (AreStructures (are_several loaded.queries) 1 loaded.tables loaded.queries) (λ shapes. Is (Ok (found_of loaded shapes)))
+    Then (AreStructures (are_several loaded.queries) 1 loaded.tables loaded.queries)
+    (λ shapes. Is (Ok (found_of loaded shapes)))
 
 -- ---- the certificate
 
 -- the certificate is valid for the query with this structure, or the reason tells its first flaw
-abbrev pub IsCertified : Query → List Table → Shape → Certificate → Result (Unit {0}) Reason → Type 0
-IsCertified query tables shape proof (Ok done) = IsValid (problem_of query tables shape.atoms shape.parents) proof query.limit
+abbrev pub IsCertified : Query → List Table → Shape → Certificate → Result (Unit {0}) Reason
+    → Type 0
+IsCertified query tables shape proof (Ok done) = IsValid
+    (problem_of query tables shape.atoms shape.parents) proof query.limit
 IsCertified query tables shape proof (Err reason) =
-    (flaw : ProofFlaw) × (reason ≡ of_proof (fault_of (problem_of query tables shape.atoms shape.parents) proof flaw))
+    (flaw : ProofFlaw) ×
+    (reason ≡ of_proof (fault_of
+    (problem_of query tables shape.atoms shape.parents) proof flaw))
     × IsFirst (problem_of query tables shape.atoms shape.parents) proof query.limit flaw
 
 -- the certificate that was read is checked for the first query, which is the only one
 abbrev pub IsVerified : Found → Result Found Reason → Type 0
-IsVerified found = Then (IsCertified (query_of found) found.tables (structure_of found) found.proof) (λ done. Is (Ok found))
+IsVerified found = Then (IsCertified (query_of found) found.tables (structure_of found) found.proof)
+    (λ done. Is (Ok found))
 
 -- ---- all together
 
@@ -99,5 +111,6 @@ IsStructured asked files = Then (IsLoaded asked files) IsShaped
 
 -- and then, if the command is `verify`, its certificate is checked
 abbrev pub IsVerdict : Asked → Files → Result Found Reason → Type 0
-IsVerdict (built (verify proof words)) files = Then (IsStructured (built (verify proof words)) files) IsVerified
+IsVerdict (built (verify proof words)) files = Then
+    (IsStructured (built (verify proof words)) files) IsVerified
 IsVerdict asked files = IsStructured asked files

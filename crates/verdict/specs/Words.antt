@@ -55,14 +55,35 @@ pub record Sought : Type 0 where
 
 -- Only `run` may have several branches, and only `run` and `session` an item. `load` reads the files that it makes.
 abbrev pub sought_by : Command → Sought
-sought_by (run words) = record { query = words.query; several = true; aside = nothing; named = words.tables; best_of = words.best_of }
-sought_by (plan words) = record { query = words.query; several = false; aside = nothing; named = words.tables; best_of = None }
+sought_by (run words) = record {
+  query = words.query;
+  several = true;
+  aside = nothing;
+  named = words.tables;
+  best_of = words.best_of;
+}
+sought_by (plan words) = record
+    { query = words.query; several = false; aside = nothing; named = words.tables; best_of = None }
 sought_by (session name words) =
-    record { query = words.query; several = false; aside = script name; named = words.tables; best_of = words.best_of }
-sought_by (load number rows) = record { query = query_file; several = false; aside = nothing; named = table_files; best_of = None }
-sought_by (prove words) = record { query = words.query; several = false; aside = nothing; named = words.tables; best_of = None }
+    record {
+      query = words.query;
+      several = false;
+      aside = script name;
+      named = words.tables;
+      best_of = words.best_of;
+    }
+sought_by (load number rows) = record
+    { query = query_file; several = false; aside = nothing; named = table_files; best_of = None }
+sought_by (prove words) = record
+    { query = words.query; several = false; aside = nothing; named = words.tables; best_of = None }
 sought_by (verify name words) =
-    record { query = words.query; several = false; aside = certificate name; named = words.tables; best_of = None }
+    record {
+      query = words.query;
+      several = false;
+      aside = certificate name;
+      named = words.tables;
+      best_of = None;
+    }
 
 pub data Asked : Type 0 where
   -- the arguments are not a command

@@ -11,10 +11,12 @@ use Rattle.anyk_model.specs.Query.{Query, IsCombination, IsWitness, rank_of, row
 -- the sums as they are compared, filled with zeros up to d sums, and each row number in the slot of
 -- its item
 abbrev pub witness_key : (d : ℕ) → Query → List Table → List ℕ → KeyOf d 16
-witness_key d query tables rows = key_of_lists d 16 (map (rank_of query tables rows) query.order) rows
+witness_key d query tables rows = key_of_lists d 16
+    (map (rank_of query tables rows) query.order) rows
 
 -- the key of some witness
-pub record IsWitnessKey (d : ℕ) (query : Query) (tables : List Table) (key : KeyOf d 16) : Type 0 where
+pub record IsWitnessKey (d : ℕ) (query : Query) (tables : List Table)
+    (key : KeyOf d 16) : Type 0 where
   pub rows : List ℕ
   pub witness : IsWitness query tables rows
   pub is : key ≡ witness_key d query tables rows
@@ -35,4 +37,5 @@ combinations_in query answers = map (λ (a : Seen). take (length query.items) a.
 -- each answer stands for a combination of rows of the query's items
 abbrev pub AreCombinations : Query → List Table → List Seen → Type 0
 AreCombinations query tables answers =
-    AllByRecursion (λ (a : Seen). IsCombination (row_counts query.items tables) (take (length query.items) a.rows)) answers
+    AllByRecursion (λ (a : Seen). IsCombination (row_counts query.items tables)
+    (take (length query.items) a.rows)) answers

@@ -14,9 +14,11 @@ ghost use Rattle.witness_key.specs.WitnessKey.{AreCombinations, IsWitnessKey, an
 
 /// The ranks of two combinations are in the order of the query's own keys.
 pub fn both_orders_agree()
-    ensures { (d : ℕ) (query : Query) (tables : List Table) (a b : List ℕ) → length query.order ≤ d → length query.items ≤ 16
+    ensures { (d : ℕ) (query : Query) (tables : List Table) (a b : List ℕ) → length query.order ≤ d
+        → length query.items ≤ 16
         → length a ≡ length query.items → length b ≡ length query.items
-        → key_below d 16 (witness_key d query tables a) (witness_key d query tables b) ↔ Precedes query tables a b }
+        → key_below d 16 (witness_key d query tables a) (witness_key d query tables b)
+        ↔ Precedes query tables a b }
 {}
 
 /// No two combinations have the same key.
@@ -28,14 +30,16 @@ pub fn keys_tell_witnesses()
 
 /// The ranking of the witnesses' keys is the list of the keys of the ranked witnesses.
 pub fn rankings_agree()
-    ensures { (d : ℕ) (query : Query) (tables : List Table) (keys : List (KeyOf d 16)) → length query.order ≤ d → length query.items ≤ 16
+    ensures { (d : ℕ) (query : Query) (tables : List Table) (keys : List (KeyOf d 16))
+        → length query.order ≤ d → length query.items ≤ 16
         → IsRanking (KeyOf d 16) (key_below d 16) (IsWitnessKey d query tables) keys
         → keys ≡ map (witness_key d query tables) (ranking_of query tables) }
 {}
 
 /// The combinations that the answers of a list of combinations stand for are the list itself.
 pub fn answers_tell_combinations()
-    ensures { (d : ℕ) (query : Query) (tables : List Table) (list : List (List ℕ)) → length query.items ≤ 16
+    ensures { (d : ℕ) (query : Query) (tables : List Table) (list : List (List ℕ))
+        → length query.items ≤ 16
         → AllByRecursion (IsCombination (row_counts query.items tables)) list
         → (combinations_in query (answers_of_ranking d query tables list) ≡ list)
         × AreCombinations query tables (answers_of_ranking d query tables list) }
@@ -44,6 +48,8 @@ pub fn answers_tell_combinations()
 /// The combinations that the answers of the ranking stand for are the ranking itself.
 pub fn ranking_tells_combinations()
     ensures { (d : ℕ) (query : Query) (tables : List Table) → length query.items ≤ 16
-        → (combinations_in query (answers_of_ranking d query tables (ranking_of query tables)) ≡ ranking_of query tables)
-        × AreCombinations query tables (answers_of_ranking d query tables (ranking_of query tables)) }
+        → (combinations_in query (answers_of_ranking d query tables (ranking_of query tables))
+        ≡ ranking_of query tables)
+        × AreCombinations query tables
+        (answers_of_ranking d query tables (ranking_of query tables)) }
 {}
