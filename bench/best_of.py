@@ -4,7 +4,7 @@
 usage: bench/best_of.py [ROWS] [ANSWERS]
 
 ROWS is the number of rows of each of two tables, 1000000 if it is not given, and ANSWERS how many answers are asked for, 1000. The
-tables and the query are those of bench/preparing.py, whose three orders are measured: `run`, and `run --best-of R` with the same limit.
+tables and the query are those of bench/preparing.py, whose orders are all measured: `run`, and `run --best-of R` with the same limit.
 The figures are instructions, in millions, counted by `valgrind --tool=callgrind`, and what the second is of the first. The program is
 what `./anyk` has built on its first use, or what ANYK names.
 """

@@ -4,7 +4,7 @@
 usage: bench/certificates.py [ROWS] [PATH_ROWS] [ANSWERS]
 
 ROWS is the number of rows of each of two tables, 1000000 if it is not given; the tables and the query are those of bench/preparing.py in
-its three orders, asked for the first answer and for the first ANSWERS, 100000 if that is not given. PATH_ROWS is the number of rows of
+each of its orders, asked for the first answer and for the first ANSWERS, 100000 if that is not given. PATH_ROWS is the number of rows of
 each table of the path of 4, the star of 4 and the tree of 7 of bench/ranking.py, 10000, asked for the first 1,000 and the first ANSWERS. For
 each there are three whole commands: `run`, `prove`, and `verify` of what `prove` wrote. The figures are instructions, in millions,
 counted by `valgrind --tool=callgrind`, what the second and the third are of the first, and the peak of memory of each, in MB, without

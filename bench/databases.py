@@ -4,7 +4,7 @@ Tables are lists of rows of whole numbers. Seconds are the processor's: for sqli
 those of the backend that answers, as /proc has them. Both give up a query after PATIENCE such seconds.
 
 PostgreSQL runs in a private cluster in a temporary folder, is reached by a socket there and by no network, and is stopped at the end. It
-refuses to run as root, so it runs as NOBODY if the script does. Its columns are bigint, its tables are not logged, it has WORK_MEM for
+refuses to run as root, so it runs as NOBODY if the script does. Its columns are bigint, or text if they hold texts, its tables are not logged, it has WORK_MEM for
 each sort or hash, no parallel workers and no just-in-time compiler.
 """
 import glob
@@ -41,22 +41,28 @@ def seconds_of(process):
 
 # ---- sqlite3
 
+def type_of(value):
+    return "text" if isinstance(value, str) else "bigint"
+
+
 def in_sqlite(tables, indexes, query, answer):
+    start = time.process_time()
     base = sqlite3.connect(":memory:")
     for name, columns, rows in tables:
-        base.execute("create table %s (%s)" % (name, ", ".join("%s integer" % it for it in columns)))
+        base.execute("create table %s (%s)" % (name, ", ".join("%s %s" % (it, type_of(value)) for it, value in zip(columns, rows[0]))))
         base.executemany("insert into %s values (%s)" % (name, ", ".join("?" * len(columns))), rows)
     for name, column in indexes:
         base.execute("create index %s_%s on %s (%s)" % (name, column, name, column))
     base.execute("analyze")
+    loaded = time.process_time()
     answer.put(None)
-    start = time.process_time()
     rows = base.execute(query).fetchall()
-    answer.put((time.process_time() - start, rows))
+    answer.put((time.process_time() - loaded, rows, loaded - start))
 
 
 def by_sqlite(tables, indexes, query):
-    """The seconds of the query alone and its rows, or None if it was given up. The tables are in memory, with the indexes."""
+    """The seconds of the query alone, its rows, and the seconds of loading: the inserts of rows that Python has read already, the indexes
+    and ANALYZE. None if the query was given up. The tables are in memory."""
     answer = multiprocessing.Queue()
     process = multiprocessing.Process(target=in_sqlite, args=(tables, indexes, query, answer))
     process.start()
@@ -167,7 +173,7 @@ class Postgres:
         """Loads tables from the CSV files in a folder, indexes them and has them analysed. Returns the seconds of that."""
         self.ask("drop schema public cascade; create schema public;")
         copies = ["create unlogged table %s (%s);\n\\copy %s from '%s/%s.csv' with (format csv, header)" % (
-            name, ", ".join("%s bigint" % it for it in columns), name, folder, name) for name, columns, _ in tables]
+            name, ", ".join("%s %s" % (it, type_of(value)) for it, value in zip(columns, rows[0])), name, folder, name) for name, columns, rows in tables]
         made = ["create index on %s (%s);" % it for it in indexes]
         return self.timed("\n".join([*copies, *made, *("analyze %s;" % name for name, _, _ in tables)]))[0]
 

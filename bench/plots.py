@@ -7,6 +7,8 @@ usage: bench/plots.py
 - preparing.svg: processor nanoseconds for each row until the first answer, against the rows of each table, for each order of the rows,
   beside sqlite3 and PostgreSQL
 
+- growth.svg: processor nanoseconds for each answer, against the number of answers, with each engine
+
 All axes are logarithmic. PostgreSQL has a line for the query alone and one with its loading; both are left out if the table has `-`
 there. A figure such as `over 100` is drawn as a triangle at its number.
 
@@ -191,12 +193,29 @@ def draw_preparing(text):
                 ("preparing.svg", "Processor nanoseconds for each row until the first answer, against the rows of each table"))
 
 
+def draw_growth(text):
+    _, rows = table_of(text, "Growth", "part, ns")
+    lines = [points_of(rows, "answers", it) for it in ("part, ns", "rec, ns")]
+    ways = [("anyk, --engine part", 182), ("anyk, --engine rec", 176)]
+    counts = [number(it["answers"])[0] for it in rows]
+    across = decades(round(math.log10(min(counts))), round(math.log10(max(counts))), lambda value: f"{value:,}")
+    figures = [y for points in lines for _, y, _ in points]
+    up = decades(math.floor(math.log10(min(figures))), math.ceil(math.log10(max(figures))), plain)
+    drawn = legend(92, 24, [(style, *way) for style, way in zip(STYLES, ways)])
+    panel = Panel(92, 60, 420, 250, across, up, True)
+    drawn += panel.axes(None, "k, the answers asked for", "processor nanoseconds for each answer")
+    for style, points in reversed(list(zip(STYLES, lines))):
+        drawn += panel.line(points, style)
+    write("growth.svg", 560, 364, "Processor nanoseconds for each answer, against the answers asked for", drawn)
+
+
 def main():
     with open(f"{HERE}/RESULTS.md", encoding="utf-8") as file:
         text = file.read()
     os.makedirs(f"{HERE}/plots", exist_ok=True)
     draw_ranking(text)
     draw_preparing(text)
+    draw_growth(text)
 
 
 if __name__ == "__main__":

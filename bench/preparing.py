@@ -4,14 +4,15 @@
 usage: bench/preparing.py [ROWS ..]
 
 Each ROWS is the number of rows of each of two tables, 10000 100000 1000000 if none is given. The query joins them on one column and
-asks for one answer. There are three pairs of tables: `sorted`, whose rows are in the order of the join column's ROWS / 4 values; `few`,
-with 1,000 values at random; and `random`, with ROWS / 4 values at random, where each step from a row to its group goes to another place
-of memory. Preparation is the whole command less one that reads the same tables and prepares nothing (a query that no row passes). Times
+asks for one answer. There are five pairs of tables: `sorted`, whose rows are in the order of the join column's ROWS / 4 values; `few`,
+with 1,000 values at random; `random`, with ROWS / 4 values at random, where each step from a row to its group goes to another place
+of memory; `distinct`, where each row meets one other, by ROWS values in order; and `texts`, the same with texts in place of numbers. Preparation is the whole command less one that reads the same tables and prepares nothing (a query that no row passes). Times
 are the processor's, in nanoseconds for each row of both tables: the least of several runs, and one run for the databases. The columns:
 
 - preparing, and factor: preparation, and its time for a row against that of the smallest tables
 - whole: the whole command, with reading
-- sqlite3: the same query alone; the tables are in memory, with indexes on the join column, and analysed
+- sqlite3: the same query alone; the tables are in memory, with indexes on the join column, and analysed; and with that loading: the
+  inserts of rows that Python has read already, the indexes and ANALYZE
 - PostgreSQL: the query alone, on tables that are loaded, indexed and analysed; and with COPY, the indexes and ANALYZE
 - instructions a row: counted by `valgrind --tool=callgrind`, if valgrind is installed
 - allocations: counted by `valgrind --tool=memcheck`, if besides a table has at most COUNTED rows
@@ -43,6 +44,8 @@ KEYS = {
     "sorted": lambda rows, row, drawn: row // 4,
     "few": lambda rows, row, drawn: drawn % 1000,
     "random": lambda rows, row, drawn: drawn % max(1, rows // 4),
+    "distinct": lambda rows, row, drawn: row,
+    "texts": lambda rows, row, drawn: "k%07d" % row,
 }
 
 
@@ -68,7 +71,7 @@ def write_tables(folder, tables):
     for name, columns, rows in tables:
         with open(os.path.join(folder, name + ".csv"), "w") as file:
             file.write(",".join(columns) + "\n")
-            file.writelines("%d,%d,%d\n" % row for row in rows)
+            file.writelines("%s,%s,%s\n" % row for row in rows)
 
 
 def words(folder, query):
@@ -116,10 +119,11 @@ def each(seconds, rows):
 
 
 def beside(folder, tables, rows, postgres):
-    """What sqlite3 takes for each row, and PostgreSQL without and with its loading."""
+    """What sqlite3 takes for each row, and PostgreSQL, each without and with its loading."""
     late = "over " + each(databases.PATIENCE, rows)
     found = databases.by_sqlite(tables, INDEXES, JOIN)
     yield each(found[0], rows) if found else late
+    yield each(found[0] + found[2], rows) if found else late
     if not postgres:
         yield from ("-", "-")
         return
@@ -132,7 +136,7 @@ def beside(folder, tables, rows, postgres):
 def main():
     os.environ.setdefault("GLIBC_TUNABLES", "glibc.malloc.hugetlb=1")
     sizes = [int(it) for it in sys.argv[1:]] or [10000, 100000, 1000000]
-    names = ("order", "rows", "preparing", "whole", "sqlite3", "PostgreSQL", "PostgreSQL with loading", "factor", "instructions a row", "allocations")
+    names = ("order", "rows", "preparing", "whole", "sqlite3", "sqlite3 with loading", "PostgreSQL", "PostgreSQL with loading", "factor", "instructions a row", "allocations")
     print("| %s |\n|%s" % (" | ".join(names), "---|" * len(names)))
     with databases.Postgres() if databases.is_installed() else contextlib.nullcontext() as postgres:
         for order in KEYS:

@@ -4,7 +4,7 @@
 usage: bench/union.py [ROWS] [ANSWERS]
 
 ROWS is the number of rows of each of two tables, 100000 if it is not given, and ANSWERS how many answers are asked for, 1000. The
-tables are those of bench/preparing.py in its three orders. The queries join the two tables with each other, and each of them with itself.
+tables are those of bench/preparing.py in each of its orders. The queries join the two tables with each other, and each of them with itself.
 `single` is the sum of three runs, each with this limit; `union` is one run of all three queries with `UNION ALL` between them and the same
 limit. The figures are instructions, in millions, counted by `valgrind --tool=callgrind`, and what the second is of the first, which
 is to be at most 1.3. The union reads each table once, and prepares it for each query. The program is what `./anyk` has built on
