@@ -1,10 +1,13 @@
 //! Ranks as arrays of a fixed number of sums and of slots.
 ghost use Rattle.std.specs.Prelude.{◌≡◌, ℕ, ◌+◌, ◌-◌, ◌^◌, ◌<◌, ◌≤◌, ℤ, pos, length, drop, ◌++◌, map, All, FitsSigned};
 ghost use Rattle.std.specs.Int.{FitsUnsigned, w32, w128};
+ghost use Rattle.std.specs.Ordering.{int_cmp};
+ghost use Rattle.std.specs.Cmp.Lexicographic.{slice_cmp};
 ghost use Rattle.tdp_model.specs.KeyNumbers.{plus, key_of_lists};
 ghost use Rattle.rank_key.specs.Keys.{NoneAfter, minus};
 
 use crate::rank::Rank;
+use crate::sum::Sum;
 use std::cmp::Ordering;
 use std::sync::ledger::Ledger;
 use step_counter::Steps;
@@ -13,7 +16,7 @@ use step_counter::Steps;
 /// both, the less memory it takes.
 #[derive(Clone, Copy)]
 pub struct FixedRank<const N: usize, const M: usize> {
-    sums: [i128; N],
+    sums: [Sum; N],
     slots: [u32; M],
     ghost sums_len: { length sums ≡ N },
     ghost slots_len: { length slots ≡ M },
@@ -35,34 +38,48 @@ pub type LexRank = FixedRank<8, 16>;
 /// A rank with two sums and four slots, for a query of at most four items and an order by at most two keys.
 pub type SmallLexRank = FixedRank<2, 4>;
 
-fn add_sums(to: &mut [i128], from: &[i128])
+fn add_sums(to: &mut [Sum], from: &[Sum])
     requires len { length to.old ≡ length from.now }
     requires fits { All (FitsSigned w128) (plus to.old from.now) }
     ensures { to.new ≡ plus to.old from.now }
 {
     for place in 0..from.len() {
-        to[place] += from[place];
+        to[place] = Sum::new(to[place].get() + from[place].get());
     }
 }
 
 /// The sums in place of the first ones.
-fn copy_sums(to: &mut [i128], from: &[i128])
+fn copy_sums(to: &mut [Sum], from: &[i128])
     requires len { length from.now ≤ length to.old }
     ensures { to.new ≡ from.now ++ drop (length from.now) to.old }
 {
     for place in 0..from.len() {
-        to[place] = from[place];
+        to[place] = Sum::new(from[place]);
     }
 }
 
-fn subtract_sums(to: &mut [i128], from: &[i128])
+fn subtract_sums(to: &mut [Sum], from: &[Sum])
     requires len { length to.old ≡ length from.now }
     requires fits { All (FitsSigned w128) (minus to.old from.now) }
     ensures { to.new ≡ minus to.old from.now }
 {
     for place in 0..from.len() {
-        to[place] -= from[place];
+        to[place] = Sum::new(to[place].get() - from[place].get());
     }
+}
+
+/// The order of two lists of sums: that of the first place at which they differ.
+fn compare_sums(a: &[Sum], b: &[Sum]) -> Ordering
+    requires { length a.now ≡ length b.now }
+    ensures { result ≡ slice_cmp int_cmp a.now b.now }
+{
+    for place in 0..a.len() {
+        let order = a[place].get().cmp(&b[place].get());
+        if order.is_ne() {
+            return order;
+        }
+    }
+    Ordering::Equal
 }
 
 fn subtract_slots(to: &mut [u32], from: &[u32])
@@ -126,14 +143,14 @@ impl<const N: usize, const M: usize> Rank for FixedRank<N, M> {
 
     fn zero() -> Self {
         FixedRank {
-            sums: [0; N],
+            sums: [Sum::new(0); N],
             slots: [0; M],
         }
     }
 
     fn of_row(sums: &[i128], slot: u32, row: u32) -> Self {
         let mut rank = FixedRank {
-            sums: [0; N],
+            sums: [Sum::new(0); N],
             slots: [0; M],
         };
         copy_sums(&mut rank.sums, sums);
@@ -153,7 +170,7 @@ impl<const N: usize, const M: usize> Rank for FixedRank<N, M> {
 
     fn less<L: Ledger>(a: &Self, b: &Self, steps: &mut Steps<L>) -> bool {
         steps.tick();
-        match a.sums.as_slice().cmp(&b.sums.as_slice()) {
+        match compare_sums(&a.sums, &b.sums) {
             Ordering::Less => true,
             Ordering::Equal => a.slots.as_slice().cmp(&b.slots.as_slice()).is_lt(),
             Ordering::Greater => false,

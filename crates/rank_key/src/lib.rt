@@ -11,6 +11,7 @@
 mod binary_digits;
 mod fixed_rank;
 mod rank;
+mod sum;
 
 pub use binary_digits::bits;
 pub use fixed_rank::{FixedRank, LexRank, MiddleSumRank, SmallLexRank, SmallSumRank, SumRank};

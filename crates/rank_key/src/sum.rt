@@ -1,0 +1,47 @@
+//! A sum of 128 bits in two halves.
+ghost use Rattle.std.specs.Prelude.{◌≡◌};
+
+use std::marker::Model;
+
+/// A whole number of 128 bits with a sign. It is kept in two halves, so that a rank needs no more room than its numbers
+/// take, at any place that is a multiple of 8.
+#[derive(Clone, Copy)]
+pub(crate) struct Sum {
+    high: u64,
+    low: u64,
+}
+
+impl Model for Sum {
+    ghost use Rattle.std.specs.Prelude.{ℤ, ◌<◌, ◌^◌};
+    ghost use Rattle.rank_key.specs.Sums.{number_of, halves_of, halves_of-number};
+
+    ghost Value = { ℤ };
+
+    ghost view = { number_of };
+
+    ghost invariant = { λ s. (s.high < 2 ^ 64) × (s.low < 2 ^ 64) };
+
+    ghost inverse = { halves_of };
+
+    ghost inverse_ok = { halves_of-number };
+}
+
+impl Sum {
+    /// The halves of a number.
+    pub(crate) fn new(number: i128) -> Sum
+        ensures { result ≡ number }
+    {
+        let bits = number.cast_unsigned();
+        Sum {
+            high: (bits >> 64) as u64,
+            low: (bits % (1 << 64)) as u64,
+        }
+    }
+
+    /// The number.
+    pub(crate) fn get(self) -> i128
+        ensures { result ≡ self }
+    {
+        (((self.high as u128) << 64) + self.low as u128).cast_signed()
+    }
+}
