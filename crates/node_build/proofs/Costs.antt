@@ -1,16 +1,29 @@
 -- The nodes have no more rows than the tables of all items.
-use Rattle.std.proofs.Common.{◌≡◌, ◌≤◌, ◌+◌, ◌*◌, ℕ, List, [], length, ap, arith}
-use Rattle.std.specs.List.{sum_by}
+use Rattle.std.proofs.Common.{◌≡◌, ◌<◌, ◌≤◌, ◌+◌, ◌*◌, ℕ, suc, List, [], ◌∷◌, map, length, get_or, refl, sym, ap, ◌∙◌, arith}
+use Rattle.std.specs.List.{range_with_len, sum_by}
 use Rattle.std.proofs.Math.Nat.{mul-le-mul_right}
 use Rattle.tdp_model.specs.TreeProblem.{sum_from}
 use Rattle.join_tree.specs.declared.tree.JoinTree.{JoinTree}
 use Rattle.anyk_model.specs.Table.{Table, table_at}
 use Rattle.anyk_model.specs.Query.{Item, Query, item_table, row_counts}
 use Rattle.query_bind.specs.Parts.{sum_of_all}
+use Rattle.step_bounds.proofs.NodeSums.{fewer-nodes, lengths-fewer, over}
 use Rattle.node_build.specs.Nodes.{IsJoinTreeOf, item_of}
 use Rattle.node_build.specs.Rows.{HaveRows, table_rows}
-use Rattle.node_build.proofs.NodeSums.{fewer-nodes, lengths-fewer, over, range-map}
 use Rattle.node_build.proofs.Shaped.{apart}
+
+-- a sum over the numbers of a list's elements
+range-map-from : {A : Type 0} (g : A → ℕ) (d : A) (xs : List A) (all : ℕ → A) (a : ℕ) → ((k : ℕ) → k < length xs → get_or xs k d ≡ all (a + k))
+    → map (λ i. g (all i)) (range_with_len a (length xs)) ≡ map g xs
+range-map-from g d [] all a h = refl
+range-map-from g d (x ∷ xs) all a h =
+    let none : a + 0 ≡ a = omega arith in
+    let here : x ≡ all a = h 0 (omega arith) ∙ ap all none in
+    let rest = range-map-from g d xs all (a + 1) (λ k l. let move : a + suc k ≡ a + 1 + k = omega arith in h (suc k) (omega (arith, l)) ∙ ap all move) in
+    (λ j. g (sym here j) ∷ rest j)
+
+range-map : {A : Type 0} (g : A → ℕ) (d : A) (xs : List A) → map (λ i. g (get_or xs i d)) (range_with_len 0 (length xs)) ≡ map g xs
+range-map g d xs = range-map-from g d xs (λ i. get_or xs i d) 0 (λ k l. let none : 0 + k ≡ k = omega arith in ap (λ (p : ℕ). get_or xs p d) (sym none))
 
 module _ (query : Query) (tables : List Table) (join : JoinTree) (tree : IsJoinTreeOf query join) (rows : List (List ℕ)) (of_nodes : HaveRows query tables join join.count rows) where
   abbrev rows_in : ℕ → ℕ

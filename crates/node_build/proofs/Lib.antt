@@ -5,11 +5,11 @@ pub mod Costs
 pub mod Fitting
 pub mod Growing
 pub mod Naming
-pub mod NodeSums
 pub mod Numbering
 pub mod Passing
 pub mod Ranks
 pub mod Read
 pub mod Results
+pub mod ShapeOf
 pub mod Shaped
 pub mod Sharing

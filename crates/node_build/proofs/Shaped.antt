@@ -16,9 +16,9 @@ use Rattle.query_bind.specs.Weights.{cap_of, key_at, most_sum, terms_size}
 use Rattle.query_bind.specs.declared.fault.BindFault.TheVariants as fault
 use Rattle.query_bind.proofs.Parts.{caps-add}
 use Rattle.query_bind.proofs.Search.{all-at}
+use Rattle.step_bounds.proofs.NodeSums.{AreApart, fewer-nodes, over, sum-same}
 use Rattle.node_build.specs.Nodes.{IsJoinTreeOf, cap_at, item_of, parent_of}
 use Rattle.node_build.specs.Shapes.{AreShapesOf}
-use Rattle.node_build.proofs.NodeSums.{AreApart, fewer-nodes, over, sum_from-ap}
 
 -- ---- join trees
 
@@ -146,7 +146,7 @@ module _ (bound : BoundQuery) (tables : List Table) (fits : Fits bound tables) w
               | inr (inr more) ↦ absurd (items-differ bound.query join tree v u more (omega (arith, a, count)) (sym f ∙ sym same ∙ e))
             ];
         caps_fit = λ i.
-            let same = sum_from-ap (λ v. shape_cap shapes v i) (λ v. cap_at bound tables (item_of join v) i) join.count 0 (λ v a b. of_join.caps v i (omega (arith, b))) in
+            let same = sum-same (λ v. shape_cap shapes v i) (λ v. cap_at bound tables (item_of join v) i) join.count 0 (λ v a b. of_join.caps v i (omega (arith, b))) in
             let fewer = fewer-nodes (length bound.query.items) (item_of join) join.count (λ item. cap_at bound tables item i) (apart bound.query join tree) in
             let small = caps-small i in
             let all : sum_from ◌+◌ 0 (λ v. shape_cap shapes v i) (length shapes) 0 ≡ sum_from ◌+◌ 0 (λ v. shape_cap shapes v i) join.count 0 =

@@ -15,10 +15,9 @@ use Rattle.proof_text.specs.Certificate.{Certificate}
 use Rattle.proof_model.specs.Problem.{Problem}
 use Rattle.proof_model.specs.QueryProblem.{problem_in}
 use Rattle.proof_model.specs.Valid.{Serves, bound_key}
-use Rattle.proof_model.proofs.Wider.{wide-add, wide-none}
+use Rattle.proof_model.proofs.Wider.{wide-add, wide-none, wide-sum}
 use Rattle.proof_bounds.specs.Bounded.{BoundedData, IsBounded, named_bound, query_key, rank_of_bound}
 use Rattle.proof_answers.specs.Lows.{AreServed, IsLow, low_key}
-use Rattle.proof_bounds.proofs.RankSums.{wide-sum}
 use Rattle.proof_answers.proofs.LowParts.{AreNamed, low_part, named_key}
 
 module _ {R : Type 0} (query : Query) (tables : List Table) (join : JoinTree) (d : ℕ) (key : R → KeyOf d 16)

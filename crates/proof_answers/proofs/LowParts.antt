@@ -20,7 +20,8 @@ use Rattle.proof_model.specs.QueryProblem.{problem_in}
 use Rattle.proof_model.specs.Valid.{bound_at, bound_key}
 use Rattle.proof_model.proofs.Sums.{pick_eq, pick_ne, sum_none, sum_one}
 use Rattle.proof_bounds.specs.Bounded.{BoundedData, IsBounded, bound_ranks, named_bound, query_key, rank_of_bound}
-use Rattle.proof_bounds.proofs.RankSums.{IsRawPart, wide-cond, wide-sum}
+use Rattle.proof_bounds.proofs.RankSums.{IsRawPart}
+use Rattle.proof_model.proofs.Wider.{wide-cond, wide-sum}
 use Rattle.proof_answers.proofs.RawSums.{double_sums_fit}
 
 -- # Parts

@@ -1,10 +1,9 @@
 pub mod BoundLines
+pub mod LeftOut
 pub mod LineFaults
-pub mod NodeSums
 pub mod NumberedGroups
 pub mod Pigeons
 pub mod Placing
-pub mod ProblemRows
 pub mod Pushed
 pub mod RankSums
 pub mod Solutions

@@ -1,9 +1,9 @@
 -- Sums of ranks of rows of a raw tree, one of each node or none.
-use Rattle.std.proofs.Common.{◌≡◌, ◌⊎◌, ℕ, zero, suc, ◌+◌, ◌-◌, ◌^◌, ◌<◌, ◌≤◌, ℤ, ◌+ℤ◌, Bool, true, false, cond, nat_eq, List, [], ◌∷◌}
+use Rattle.std.proofs.Common.{◌≡◌, ◌⊎◌, ℕ, zero, suc, ◌+◌, ◌-◌, ◌^◌, ◌<◌, ◌≤◌, Bool, true, false, cond, nat_eq, List, [], ◌∷◌}
 use Rattle.std.proofs.Common.{length, map, get_or, unsigned_abs, refl, sym, ap, subst, ◌∙◌, inl, inr, arith}
 use Rattle.std.specs.List.{All}
+use Rattle.std.proofs.lemmas.Bool.{cond-false, cond-true}
 use Rattle.std.proofs.lemmas.Bool.Decides.{Decides-eqb}
-use Rattle.std.proofs.lemmas.Int.{ints}
 use Rattle.std.proofs.lemmas.List.Elements.{All-head, All-tail}
 use Rattle.anyk_model.specs.Table.{Table}
 use Rattle.anyk_model.specs.Query.{Query}
@@ -21,17 +21,14 @@ use Rattle.tdp_core.specs.declared.parts.NodeShape.{NodeShape}
 use Rattle.tdp_core.specs.RawData.{AreShapes, IsRawFormed, RawData, RawRowData, RawRowFits, raw_len, raw_rank, rows_at}
 use Rattle.tdp_core.specs.RawData.{shape_cap, shape_item, shape_parent}
 use Rattle.tdp_core.proofs.KeyRanges.{within_fits}
+use Rattle.query_bind.proofs.Parts.{nat_abs-add}
 use Rattle.proof_model.specs.Problem.{Problem, key_at, row_in}
 use Rattle.proof_model.specs.QueryProblem.{problem_in}
-use Rattle.proof_model.specs.Wide.{wide}
-use Rattle.proof_model.proofs.Wider.{wide-add, wide-none}
+use Rattle.proof_model.proofs.Wider.{wide-cond, wide-sum}
 use Rattle.proof_bounds.specs.Bounded.{HasProblemRows, query_key}
 use Rattle.proof_bounds.specs.Places.{ArePlacesOf, HasSolutionAt}
 use Rattle.proof_bounds.specs.Subtrees.{raw_below}
 use Rattle.proof_bounds.proofs.Solutions.{below-same, in-nodes}
-
-abs_add : (a b : ℤ) → unsigned_abs (a +ℤ b) ≤ unsigned_abs a + unsigned_abs b
-abs_add a b = grind (arith, ints)
 
 fewer-terms : (g : ℕ → ℕ) (n k q : ℕ) → ranges.sum_of g n q ≤ ranges.sum_of g (n + k) q
 unfolding ranges.sum_of
@@ -47,7 +44,7 @@ module _ {R : Type 0} (d : ℕ) (key : R → KeyOf d 16) where
 
   weight-add : (i : ℕ) (a b : KeyOf d 16) → weight i (key_add d 16 a b) ≤ weight i a + weight i b
   weight-add i a b =
-      subst (λ z. unsigned_abs z ≤ weight i a + weight i b) (sym (sum_of_add d 16 i a b)) (abs_add (sum_of d 16 i a) (sum_of d 16 i b))
+      subst (λ z. unsigned_abs z ≤ weight i a + weight i b) (sym (sum_of_add d 16 i a b)) (nat_abs-add (sum_of d 16 i a) (sum_of d 16 i b))
 
   weight-none : (i : ℕ) → weight i (key_none d 16) ≡ 0
   weight-none i = ap unsigned_abs (sum_of_none d 16 i)
@@ -144,14 +141,6 @@ module _ {R : Type 0} (d : ℕ) (key : R → KeyOf d 16) where
     unfolding sum_from
     rank-begun = refl
 
-    at-true : {A : Type 0} (b : Bool) (x y : A) → b ≡ true → cond b x y ≡ x
-    at-true true x y e = refl
-    at-true false x y e = absurd (cc)
-
-    at-false : {A : Type 0} (b : Bool) (x y : A) → b ≡ false → cond b x y ≡ y
-    at-false true x y e = absurd (cc)
-    at-false false x y e = refl
-
     next-sum : (n : ℕ) → rank_sum (n + 1) ≡ key_add d 16 (rank_sum n) (placed_rank n)
     next-sum n =
         let e : n + 1 ≡ suc n = omega arith in
@@ -159,18 +148,18 @@ module _ {R : Type 0} (d : ℕ) (key : R → KeyOf d 16) where
 
     pub rank-more : (n : ℕ) → nat_eq (raw_below raw v n) 1 ≡ true
         → rank_sum (n + 1) ≡ key_add d 16 (rank_sum n) (raw_rank raw d key n (get_or places n 0))
-    rank-more n e = next-sum n ∙ ap (key_add d 16 (rank_sum n)) (at-true (nat_eq (raw_below raw v n) 1) _ _ e)
+    rank-more n e = next-sum n ∙ ap (key_add d 16 (rank_sum n)) (cond-true (nat_eq (raw_below raw v n) 1) _ _ e)
 
     pub rank-skip : (n : ℕ) → nat_eq (raw_below raw v n) 1 ≡ false → rank_sum (n + 1) ≡ rank_sum n
     rank-skip n e =
-        next-sum n ∙ ap (key_add d 16 (rank_sum n)) (at-false (nat_eq (raw_below raw v n) 1) _ _ e)
+        next-sum n ∙ ap (key_add d 16 (rank_sum n)) (cond-false (nat_eq (raw_below raw v n) 1) _ _ e)
         ∙ (tuple_keys d 16).add_none (rank_sum n)
 
     placed-part : (q : ℕ) (b : Bool) → nat_eq (raw_below raw v q) 1 ≡ b
         → (b ≡ true → get_or places q 0 < raw_len raw q)
         → IsRawPart raw q (placed_rank q)
-    placed-part q true e h = inr (get_or places q 0, h refl, at-true (nat_eq (raw_below raw v q) 1) _ _ e)
-    placed-part q false e h = inl (at-false (nat_eq (raw_below raw v q) 1) _ _ e)
+    placed-part q true e h = inr (get_or places q 0, h refl, cond-true (nat_eq (raw_below raw v q) 1) _ _ e)
+    placed-part q false e h = inl (cond-false (nat_eq (raw_below raw v q) 1) _ _ e)
 
     pub sums-fit : (formed : IsRawFormed d key raw)
         → ((q : ℕ) → q < length raw.shapes → nat_eq (raw_below raw v q) 1 ≡ true → get_or places q 0 < raw_len raw q)
@@ -178,21 +167,7 @@ module _ {R : Type 0} (d : ℕ) (key : R → KeyOf d 16) where
     sums-fit formed within n few =
         parts-fit raw formed placed_rank (λ q l. placed-part q (nat_eq (raw_below raw v q) 1) refl (λ e. within q l e)) n few
 
--- ---- wide sums
-
-pub wide-sum : (few more : ℕ) → few ≤ more → (f : ℕ → KeyOf few 16) (n q : ℕ)
-    → wide few more 16 (sum_from (key_add few 16) (key_none few 16) f n q)
-    ≡ sum_from (key_add more 16) (key_none more 16) (λ i. wide few more 16 (f i)) n q
-unfolding sum_from
-wide-sum few more h f zero q = wide-none few more 16 h
-wide-sum few more h f (suc n) q =
-    wide-add few more 16 h (f q) (sum_from (key_add few 16) (key_none few 16) f n (suc q))
-    ∙ ap (key_add more 16 (wide few more 16 (f q))) (wide-sum few more h f n (suc q))
-
-pub wide-cond : (few more : ℕ) → few ≤ more → (b : Bool) (x : KeyOf few 16)
-    → wide few more 16 (cond b x (key_none few 16)) ≡ cond b (wide few more 16 x) (key_none more 16)
-wide-cond few more h true x = refl
-wide-cond few more h false x = wide-none few more 16 h
+-- ---- the key of a solution
 
 module _ (query : Query) (tables : List Table) (join : JoinTree) {R : Type 0} (d : ℕ) (key : R → KeyOf d 16) (raw : RawData R)
     (shaped : AreShapes raw.shapes) (few : length query.order ≤ d) (has : HasProblemRows query tables join d key raw)

@@ -10,12 +10,12 @@ use Rattle.tdp_model.specs.KeyTuple.{KeyOf}
 use Rattle.tdp_model.specs.TreeProblem.{sum_from}
 use Rattle.tdp_core.specs.RawData.{AreShapes, RawData, child_link, own_link, raw_len, raw_number}
 use Rattle.tdp_core.specs.RawData.{shape_child_place, shape_item, shape_parent}
+use Rattle.step_bounds.proofs.NodeSums.{sum-same}
 use Rattle.proof_model.specs.Problem.{IsSolutionAt, Problem, place_in, row_in, size}
 use Rattle.proof_model.specs.QueryProblem.{problem_in}
 use Rattle.proof_bounds.specs.Bounded.{HasProblemRows}
 use Rattle.proof_bounds.specs.Places.{ArePlacesOf}
 use Rattle.proof_bounds.specs.Subtrees.{ArePlacedBefore, HasLinkOf, raw_below, raw_place, raw_size}
-use Rattle.proof_bounds.proofs.NodeSums.{sum-same}
 use Rattle.proof_bounds.proofs.Subtrees.{before, below-after, below-self, below-up, parent-low}
 
 -- subtrees are the same if parents are

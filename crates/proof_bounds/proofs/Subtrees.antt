@@ -10,7 +10,7 @@ use Rattle.tdp_model.proofs.Descent.{below_itself, below_less, below_once, below
 use Rattle.tdp_model.proofs.Keys.{ascending_below}
 use Rattle.tdp_core.specs.RawData.{AreShapes, RawData, raw_len, raw_number, rows_at, shape_item, shape_parent}
 use Rattle.proof_bounds.specs.Subtrees.{AreAscending, AreBelow, raw_below, raw_place, raw_size}
-use Rattle.proof_bounds.proofs.NodeSums.{sum-less, sum-more}
+use Rattle.proof_bounds.proofs.LeftOut.{sum-less, sum-more}
 
 -- later rows have greater numbers
 pub rows-ascend : {R : Type 0} (raw : RawData R) (v i j : ℕ) → AreAscending raw v → i < j → j < raw_len raw v

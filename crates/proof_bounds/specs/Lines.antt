@@ -1,5 +1,5 @@
 -- The bound lines of a certificate, node by node, as rows of a raw tree.
-use Rattle.std.specs.Prelude.{◌≡◌, ◌≢◌, ℕ, ◌<◌, ◌≤◌, cond, nat_eq, suc, List, [], length, map, position, slice_index, slice_index_or, Option, None}
+use Rattle.std.specs.Prelude.{◌≡◌, ◌≢◌, ℕ, ◌<◌, cond, nat_eq, suc, List, [], length, map, position, slice_index, slice_index_or, Option, None}
 use Rattle.std.specs.List.{filter, range_with_len}
 use Rattle.anyk_model.specs.Table.{Table}
 use Rattle.anyk_model.specs.Query.{Query}

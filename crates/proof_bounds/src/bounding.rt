@@ -1,17 +1,14 @@
 //! From a certificate to the bounds of groups.
-ghost use Rattle.std.specs.Prelude.{◌≡◌, ◌≤◌, ◌<◌, ℕ, length, IfErr, IfOk};
-ghost use Rattle.query_bind.specs.Weighed.{Fits};
-ghost use Rattle.query_shape.specs.Shown.{HasItems, HasStoredTree};
-ghost use Rattle.join_tree.specs.Rerooting.{IsTree};
+ghost use Rattle.std.specs.Prelude.{◌≡◌, ◌≤◌, ◌<◌, ℕ, length, IfErr, IfOk, Ok};
+ghost use Rattle.query_shape.specs.Shape.{IsShape, Shape};
 ghost use Rattle.proof_text.specs.Seen.{seen_proof};
 ghost use Rattle.proof_model.specs.Faults.{TellsFlaw};
-ghost use Rattle.proof_bounds.specs.Bounded.{IsBounded};
+ghost use Rattle.proof_bounds.specs.Bounded.{HasProblemRows, IsBounded};
 
 use crate::bounded::BoundedTree;
 use crate::groups::line_groups;
 use crate::lines::{PlacedLines, placed_lines};
 use crate::names::name_all;
-use crate::rows::query_rows;
 use csv_tables::Tables;
 use join_tree::JoinTree;
 use proof_text::{Proof, ProofFault};
@@ -20,31 +17,27 @@ use rank_key::Rank;
 use std::alloc::Global;
 use std::sync::ledger::Ledger;
 use step_counter::Steps;
+use tdp_core::RawTree;
 
-/// The rows of a query's nodes with the bounds of a certificate. `TooManyRows` exactly if more than 4,194,304 rows of
-/// all nodes pass; then `BadBound` and `BoundTwice`, each exactly if it tells the first flaw. `NoMemory` if memory is
-/// refused.
-pub fn bounded_tree<R: Rank, L: Ledger>(
+/// The rows of a query's nodes with the bounds of a certificate. `BadBound` and `BoundTwice`, each exactly if it tells
+/// the first flaw. `NoMemory` if memory is refused.
+pub fn with_bounds<R: Rank, L: Ledger>(
     alloc: Global,
     query: &Query,
     tables: &Tables,
     join: &JoinTree,
+    raw: RawTree<R>,
     proof: &Proof,
     steps: &mut Steps<L>,
 ) -> Result<BoundedTree<R>, ProofFault>
-    requires fits { Fits query.now tables.now }
     requires keys { length query.now.query.order ≤ R.KEYS }
-    requires slots { length query.now.query.items ≤ R.ITEMS }
-    requires tree { HasStoredTree query.now.query join.now }
-    requires ordered { IsTree join.now.count join.now.atom join.now.parent }
-    requires items { HasItems join.now.count join.now.atom (length query.now.query.items) }
-    requires count { join.now.count ≡ length query.now.query.items }
+    requires rows { HasProblemRows query.now.query tables.now join.now R.KEYS R.key raw }
+    requires shape { (shape : Shape) × IsShape query.now.query tables.now (Ok shape) }
     ensures bounded { IfOk result
         (IsBounded query.now.query tables.now join.now R.KEYS R.key (seen_proof proof.now)) }
     ensures fault { IfErr result
         (TellsFlaw query.now.query tables.now join.now (seen_proof proof.now)) }
 {
-    let raw = query_rows(alloc, query, tables, join, steps)?;
     let _nodes = raw.nodes();
     let PlacedLines { tops, mut bounds } = placed_lines(alloc, &raw, proof, steps)?;
     let groups = line_groups(alloc, &raw, tables.keys(), proof, tops.as_slice(), steps)?;

@@ -10,10 +10,9 @@ mod groups;
 mod lines;
 mod names;
 mod places;
-mod rows;
 mod searching;
 mod subtree;
 
 pub use bounded::{BoundedTree, NodeBounds};
-pub use bounding::bounded_tree;
+pub use bounding::with_bounds;
 pub use places::{rank_of_places, solution_places};

@@ -14,8 +14,9 @@ ghost use Rattle.proof_text.specs.declared.fault.ProofFault.TheVariants.{NoMemor
 use csv_tables::Tables;
 use join_tree::JoinTree;
 use proof_answers::placed_answers;
-use proof_bounds::{BoundedTree, bounded_tree};
+use proof_bounds::BoundedTree;
 use proof_choices::check_choices;
+use proof_rows::bounded_tree;
 use proof_text::{Listed, Proof, ProofFault};
 use query_bind::Query;
 use rank_key::Rank;

@@ -20,9 +20,9 @@ use Rattle.proof_model.specs.Valid.{IsBoundOf, Serves, bound_at, bound_key}
 use Rattle.proof_model.proofs.Choices.{pick_le, pick_gt}
 use Rattle.proof_model.proofs.QueryLaws.{query-problem}
 use Rattle.proof_model.proofs.Sums.{pick_eq, pick_ne}
-use Rattle.proof_model.proofs.Wider.{wide-add, wide-none}
+use Rattle.proof_model.proofs.Wider.{wide-add, wide-none, wide-sum}
 use Rattle.proof_bounds.specs.Bounded.{BoundedData, IsBounded, named_bound, query_key, rank_of_bound}
-use Rattle.proof_bounds.proofs.RankSums.{parts-fit, wide-sum}
+use Rattle.proof_bounds.proofs.RankSums.{parts-fit}
 use Rattle.proof_answers.specs.Lows.{AreServed, low_key}
 use Rattle.proof_answers.proofs.Nodes.{parent-at, parents-first, option-some}
 use Rattle.proof_choices.proofs.Keys.{base_key, base_term, choice_term}

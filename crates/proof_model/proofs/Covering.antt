@@ -7,11 +7,12 @@ use Rattle.tdp_model.specs.Remains.{AtMost}
 use Rattle.tdp_model.specs.TreeProblem.{sum_from, kid_key}
 use Rattle.tdp_model.proofs.Descent.{below_itself, child_below}
 use Rattle.tdp_model.proofs.Keys.{add_at_most, at_most_trans}
+use Rattle.tdp_model.proofs.LeastKeys.{sum_at_most}
 use Rattle.proof_text.specs.Certificate.{Certificate}
 use Rattle.proof_model.specs.Problem.{Problem}
 use Rattle.proof_model.specs.Laws.{IsProblem, IsSubtree, subtree_key}
 use Rattle.proof_model.specs.Valid.{IsValid, IsBoundOf, StandsFor, Serves, bound_key, bound_row}
-use Rattle.proof_model.proofs.Sums.{pick_eq, pick_ne, sum_at_most}
+use Rattle.proof_model.proofs.Sums.{pick_eq, pick_ne}
 use Rattle.proof_model.proofs.Splitting.{within_split}
 
 module _ {K : Type 0} (t : Problem K) (laws : IsProblem t) where

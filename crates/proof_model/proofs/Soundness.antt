@@ -6,12 +6,12 @@ use Rattle.tdp_model.specs.Below.{is_below}
 use Rattle.tdp_model.specs.Remains.{AtMost}
 use Rattle.tdp_model.specs.TreeProblem.{sum_from}
 use Rattle.tdp_model.proofs.Descent.{below_itself, below_parent}
+use Rattle.tdp_model.proofs.LeastKeys.{sum_at_most}
 use Rattle.proof_text.specs.Certificate.{Certificate}
 use Rattle.proof_model.specs.Problem.{Problem}
 use Rattle.proof_model.specs.Laws.{IsProblem, IsSubtree, subtree_key}
 use Rattle.proof_model.specs.Valid.{IsValid, IsPassed, OpenChoice, Begins, answer_key, answer_row, bound_key}
 use Rattle.proof_model.specs.Valid.{choice_key}
-use Rattle.proof_model.proofs.Sums.{sum_at_most}
 use Rattle.proof_model.proofs.Covering.{IsLow, cover, serves}
 use Rattle.proof_model.proofs.Choices.{part_at, parts-whole, pick_le, pick_gt}
 

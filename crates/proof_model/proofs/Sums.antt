@@ -3,9 +3,7 @@ use Rattle.std.proofs.Common.{◌≡◌, ◌≢◌, ℕ, zero, suc, ◌+◌, ◌
 use Rattle.std.proofs.lemmas.Bool.Decides.{nat_tests}
 use Rattle.std.proofs.lemmas.Bool.{cases_eq}
 use Rattle.tdp_model.specs.KeyLaws.{IsKeys}
-use Rattle.tdp_model.specs.Remains.{AtMost}
 use Rattle.tdp_model.specs.TreeProblem.{sum_from}
-use Rattle.tdp_model.proofs.Keys.{add_at_most}
 use Rattle.tdp_model.proofs.Sums.{none_add}
 
 pub pick_eq : {K : Type 0} (x y : ℕ) (a b : K) → x ≡ y → cond (nat_eq x y) a b ≡ a
@@ -53,12 +51,3 @@ module _ {K : Type 0} (Below : K → K → Type 0) (add : K → K → K) (none :
         ∙ none_add Below add none keys _
         ∙ sum_one x n (suc q) p (omega arith) (omega arith)
   ]
-
-  pub sum_at_most : (f g : ℕ → K) (n q : ℕ) → ((i : ℕ) → q ≤ i → i < q + n → AtMost Below (f i) (g i))
-      → AtMost Below (sum_from add none f n q) (sum_from add none g n q)
-  unfolding sum_from
-  sum_at_most f g zero q e = inr refl
-  sum_at_most f g (suc n) q e =
-      add_at_most Below add none keys (f q) (g q) (sum_from add none f n (suc q)) (sum_from add none g n (suc q))
-      (e q (omega arith) (omega arith))
-      (sum_at_most f g n (suc q) (λ i l h. e i (omega arith) (omega arith)))

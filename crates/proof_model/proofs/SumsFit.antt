@@ -1,6 +1,6 @@
 -- Sums of keys of rows, at most one of each node, fit a rank.
-use Rattle.std.proofs.Common.{◌≡◌, ◌≢◌, ◌<◌, ◌≤◌, ◌+◌, ◌-◌, ◌^◌, ◌==◌, ℕ, zero, suc, Bool, true, false, cond}
-use Rattle.std.proofs.Common.{ℤ, pos, ◌+ℤ◌, unsigned_abs, List, [], ◌∷◌, map, length, get_or, slice_index}
+use Rattle.std.proofs.Common.{◌≡◌, ◌<◌, ◌≤◌, ◌+◌, ◌-◌, ◌^◌, ◌==◌, ℕ, zero, suc, Bool, true, false, cond}
+use Rattle.std.proofs.Common.{ℤ, pos, unsigned_abs, List, [], ◌∷◌, map, length, get_or, slice_index}
 use Rattle.std.proofs.Common.{replicate, refl, sym, ap, subst, ◌∙◌, inl, inr, arith}
 use Rattle.std.specs.Int.{w128}
 use Rattle.std.specs.List.{AllByRecursion, range_with_len}
@@ -8,7 +8,7 @@ use Rattle.std.proofs.Math.ListN.{set}
 use Rattle.std.proofs.lemmas.Bool.{cases_eq}
 use Rattle.std.proofs.lemmas.Bool.Decides.{Decides-eqb}
 use Rattle.std.proofs.lemmas.Grind.{get_or-set_at}
-use Rattle.std.proofs.lemmas.Int.{ints, fits_signed_from_abs}
+use Rattle.std.proofs.lemmas.Int.{fits_signed_from_abs}
 use Rattle.std.proofs.lemmas.List.{get_or-map, get_or-set_other, get_or-replicate}
 use Rattle.tdp_model.specs.KeyTuple.{KeyOf, key_add, key_none, slot_of}
 use Rattle.tdp_model.specs.KeyNumbers.{sum_of}
@@ -24,68 +24,14 @@ use Rattle.csv_tables.proofs.Places.{sound-few_rows}
 use Rattle.query_bind.specs.Parts.{sum_of_all}
 use Rattle.query_bind.specs.Weighed.{BoundQuery, Fits}
 use Rattle.query_bind.specs.Weights.{cap_of, key_at, part_of}
-use Rattle.query_bind.proofs.Parts.{counts, part-capped}
+use Rattle.query_bind.proofs.Parts.{nat_abs-add, part-capped}
 use Rattle.query_bind.proofs.Range.{caps-fit}
 use Rattle.query_shape.specs.Shape.{HasTree}
+use Rattle.step_bounds.proofs.NodeSums.{AreApart, fewer-nodes, over, sum-range}
 use Rattle.proof_model.specs.Problem.{Problem}
 use Rattle.proof_model.specs.QueryProblem.{problem_of}
 use Rattle.proof_model.specs.Parts.{HaveFewRows, IsPart}
 use Rattle.proof_model.specs.Wide.{wide}
-
--- ---- sums of numbers over nodes whose items differ
-
-abbrev over : (ℕ → ℕ) → ℕ → ℕ
-over f n = sum_of_all (map f (range_with_len 0 n))
-
--- the values without that of one item
-abbrev without : ℕ → (ℕ → ℕ) → ℕ → ℕ
-without i f k = cond (i == k) 0 (f k)
-
-sum-ap : (f g : ℕ → ℕ) (ns : List ℕ) → ((i : ℕ) → f i ≡ g i) → sum_of_all (map f ns) ≡ sum_of_all (map g ns)
-sum-ap f g [] e = refl
-sum-ap f g (n ∷ ns) e = (λ j. e n j + sum-ap f g ns e j)
-
-split-at : (i : ℕ) (f : ℕ → ℕ) (k : ℕ) → f k ≡ cond (i == k) (f k + without i f k) (without i f k)
-split-at i f k = by (i == k)
-  where
-    by : (b : Bool) → f k ≡ cond b (f k + cond {A = ℕ} b 0 (f k)) (cond {A = ℕ} b 0 (f k))
-    by true = omega arith
-    by false = refl
-
-take-out : (i n : ℕ) (f : ℕ → ℕ) → i < n → over f n ≡ f i + over (without i f) n
-take-out i n f inside =
-    sum-ap f (λ k. cond (i == k) (f k + without i f k) (without i f k)) (range_with_len 0 n) (split-at i f)
-    ∙ counts i f (without i f) 0 n (omega arith) (omega (arith, inside))
-
-without-other : (i k : ℕ) (f : ℕ → ℕ) → i ≢ k → without i f k ≡ f k
-without-other i k f other = by (i == k) refl
-  where
-    by : (b : Bool) → (i == k) ≡ b → cond {A = ℕ} b 0 (f k) ≡ f k
-    by true e = absurd (other ((Decides-eqb i k).0 e))
-    by false e = refl
-
-module _ (n : ℕ) (item : ℕ → ℕ) where
-  -- the items of the nodes from q on, k of them, are there and differ
-  record AreApart (k q : ℕ) : Type 0 where
-    pub within : (v : ℕ) → q ≤ v → v < q + k → item v < n
-    pub differ : (u v : ℕ) → q ≤ u → u < v → v < q + k → item u ≢ item v
-
-  -- a sum over the nodes is at most the sum over all items
-  fewer : (k q : ℕ) (f : ℕ → ℕ) → AreApart k q → ranges.sum_of (λ v. f (item v)) k q ≤ over f n
-  unfolding ranges.sum_of
-  fewer zero q f apart = omega arith
-  fewer (suc k) q f apart =
-      let i = item q in
-      let out = take-out i n f (apart.within q (omega arith) (omega arith)) in
-      let later : AreApart k (suc q) = record {
-        within = λ v a b. apart.within v (omega (arith, a)) (omega (arith, b));
-        differ = λ u v a b c. apart.differ u v (omega (arith, a)) b (omega (arith, c));
-      } in
-      let rest = fewer k (suc q) (without i f) later in
-      let same = ranges.sum_of_le (λ v. f (item v)) (λ v. without i f (item v)) k (suc q) (λ v a b.
-      let e = without-other i (item v) f (apart.differ q v (omega arith) (omega (arith, a)) (omega (arith, b))) in
-      omega (arith, e)) in
-      omega (arith, out, rest, same)
 
 -- ---- wide keys
 
@@ -144,9 +90,6 @@ pub sound-few : (tables : List Table) → AllByRecursion IsSound tables → Have
 sound-few [] h = tt
 sound-few (t ∷ ts) h = (sound-few_rows t h.0, sound-few ts h.1)
 
-abs_add : (a b : ℤ) → unsigned_abs (a +ℤ b) ≤ unsigned_abs a + unsigned_abs b
-abs_add a b = grind (arith, ints)
-
 module _ (bound : BoundQuery) (tables : List Table) (atoms parents : List ℕ) (fits : Fits bound tables)
     (few : HaveFewRows tables) (hung : HasTree bound.query atoms parents) where
   abbrev d : ℕ
@@ -185,7 +128,7 @@ module _ (bound : BoundQuery) (tables : List Table) (atoms parents : List ℕ) (
       → weight i (key_add d 16 a b) ≤ weight i a + weight i b
   weight-add i a b =
       subst (λ z. unsigned_abs z ≤ weight i a + weight i b) (sym (sum_of_add d 16 i a b))
-      (abs_add (sum_of d 16 i a) (sum_of d 16 i b))
+      (nat_abs-add (sum_of d 16 i a) (sum_of d 16 i b))
 
   weight-none : (i : ℕ) → weight i (key_none d 16) ≡ 0
   weight-none i = ap unsigned_abs (sum_of_none d 16 i)
@@ -262,19 +205,21 @@ module _ (bound : BoundQuery) (tables : List Table) (atoms parents : List ℕ) (
     sums-small i l =
         let a = ranges.weight_sum (key_add d 16) (key_none d 16) (weight i) (weight-add i) (weight-none i) part
         (λ v. sum_cap i (item v)) (length atoms) 0 (λ q _ b. part-weight i q l (omega (arith, b))) in
-        let b = fewer (length bound.query.items) item (length atoms) 0 (sum_cap i) apart in
+        let e = sum-range (λ v. sum_cap i (item v)) (length atoms) 0 in
+        let b = fewer-nodes (length bound.query.items) item (length atoms) (sum_cap i) apart in
         let c : over (sum_cap i) (length bound.query.items) ≤ 170141183460469231731687303715884105727 =
         caps-fit bound tables i fits l in
-        omega (arith, a, b, c)
+        omega (arith, a, b, c, e)
 
     slots-small : (i : ℕ) → i < 16 → slot_of d 16 i whole < 2 ^ 32
     slots-small i l =
         let a = ranges.weight_sum (key_add d 16) (key_none d 16) (slot_of d 16 i) (slot-add i)
         (slot_of_none d 16 i) part
         (λ v. slot_cap i (item v)) (length atoms) 0 (λ q _ b. part-slot i q l (omega (arith, b))) in
-        let b = fewer (length bound.query.items) item (length atoms) 0 (slot_cap i) apart in
+        let e = sum-range (λ v. slot_cap i (item v)) (length atoms) 0 in
+        let b = fewer-nodes (length bound.query.items) item (length atoms) (slot_cap i) apart in
         let c = slots-all i in
-        omega (arith, a, b, c)
+        omega (arith, a, b, c, e)
 
     pub sums-fit : (more : ℕ) → length bound.query.order ≤ more
         → KeyFits more (wide (length bound.query.order) more 16 whole)

@@ -1,9 +1,12 @@
--- Wide keys are added and compared as the keys that they stand for.
-use Rattle.std.proofs.Common.{◌≡◌, ◌↔◌, ℕ, zero, suc, ◌≤◌, ℤ, pos, ◌+ℤ◌, ◌<ℤ◌, List, [], ◌∷◌, length, refl, inl, inr}
-use Rattle.std.proofs.Common.{arith}
+-- Wide keys are added, summed and compared as the keys that they stand for.
+use Rattle.std.proofs.Common.{◌≡◌, ◌↔◌, ℕ, zero, suc, ◌≤◌, ℤ, pos, ◌+ℤ◌, ◌<ℤ◌, Bool, true, false, cond, List, [], ◌∷◌, length}
+use Rattle.std.proofs.Common.{refl, sym, ap, subst, ◌∙◌, inl, inr, arith}
 use Rattle.std.proofs.lemmas.Int.{ints}
 use Rattle.tdp_model.specs.KeyTuple.{KeyOf, key_add, key_none, key_below}
 use Rattle.tdp_model.specs.KeyNumbers.{key_of_lists}
+use Rattle.tdp_model.specs.Remains.{AtMost}
+use Rattle.tdp_model.specs.TreeProblem.{sum_from}
+use Rattle.tdp_model.proofs.KeyTuples.{tuple_keys}
 use Rattle.proof_model.specs.Wide.{wide}
 
 zero-sum : pos 0 ≡ pos 0 +ℤ pos 0
@@ -46,3 +49,36 @@ wide-lists zero (suc more) e h (x ∷ xs) us l = absurd (omega arith)
 wide-lists (suc few) zero e h xs us l = absurd (omega arith)
 wide-lists (suc few) (suc more) e h [] us l = λ i. (pos 0, wide-lists few more e (omega arith) [] us (omega arith) i)
 wide-lists (suc few) (suc more) e h (x ∷ xs) us l = λ i. (x, wide-lists few more e (omega arith) xs us (omega arith) i)
+
+-- ---- keys with 16 slots
+
+module _ (few more : ℕ) (h : few ≤ more) where
+  pub wide-sum : (f : ℕ → KeyOf few 16) (n q : ℕ)
+      → wide few more 16 (sum_from (key_add few 16) (key_none few 16) f n q)
+      ≡ sum_from (key_add more 16) (key_none more 16) (λ i. wide few more 16 (f i)) n q
+  unfolding sum_from
+  wide-sum f zero q = wide-none few more 16 h
+  wide-sum f (suc n) q =
+      wide-add few more 16 h (f q) (sum_from (key_add few 16) (key_none few 16) f n (suc q))
+      ∙ ap (key_add more 16 (wide few more 16 (f q))) (wide-sum f n (suc q))
+
+  pub wide-cond : (b : Bool) (k : KeyOf few 16)
+      → wide few more 16 (cond b k (key_none few 16)) ≡ cond b (wide few more 16 k) (key_none more 16)
+  wide-cond true k = refl
+  wide-cond false k = wide-none few more 16 h
+
+  -- of two keys one is at most the other if its wide key is
+  pub wide-most : (a b : KeyOf few 16) → AtMost (key_below more 16) (wide few more 16 a) (wide few more 16 b)
+      → AtMost (key_below few 16) a b
+  wide-most a b m = elim ((tuple_keys few 16).order.compare a b) [
+    | inl less ↦ inl less
+    | inr (inl same) ↦ inr same
+    | inr (inr greater) ↦
+        let order = (tuple_keys more 16).order in
+        let up = (wide-below few more 16 h b a).1 greater in
+        elim m [
+          | inl less ↦ absurd (order.irreflexive _ (order.transitive _ _ _ less up))
+          | inr same ↦ absurd (order.irreflexive (wide few more 16 a)
+              (subst (λ k. key_below more 16 k (wide few more 16 a)) (sym same) up))
+        ]
+  ]

@@ -4,7 +4,6 @@ pub mod Groups
 pub mod Listing
 pub mod NodeBounds
 pub mod BestSums
-pub mod WideSums
 pub mod PlanProblem
 pub mod Writes
 pub mod PlanText

@@ -27,14 +27,13 @@ use Rattle.proof_model.specs.Wide.{wide}
 use Rattle.proof_model.proofs.Matching.{equal-iff, match-iff}
 use Rattle.proof_model.proofs.SolutionRows.{HasItems, IsListOf}
 use Rattle.proof_model.proofs.Sums.{pick_ne}
-use Rattle.proof_model.proofs.Wider.{wide-lists}
+use Rattle.proof_model.proofs.Wider.{wide-cond, wide-lists, wide-sum}
 use Rattle.proof_write.specs.Firsts.{AreTold, IsFirst, IsUnder, listed}
 use Rattle.proof_write.proofs.BestSums.{chosen_key}
 use Rattle.proof_write.proofs.Groups.{group-of, one-group}
 use Rattle.proof_write.proofs.Listing.{listed-count, listed-place}
 use Rattle.proof_write.proofs.NodeBounds.{absent, early, first-inside, items-apart, items-within, itself, once}
 use Rattle.proof_write.proofs.NodeBounds.{parent-under, positive, row-there, under-from}
-use Rattle.proof_write.proofs.WideSums.{wide-pick, wide-sum}
 
 -- the tree problem of a query, over nodes with these parents and items
 abbrev pub problem_with : (query : Query) → List Table → ℕ → (ℕ → ℕ) → (ℕ → ℕ) → Problem (KeyOf (length query.order) 16)
@@ -264,7 +263,7 @@ module _ {R : Type 0} (d : ℕ) (key : R → KeyOf d 16) (bound : BoundQuery) (t
           (λ q. cond (nat_eq (is_below (parent tree) v q) 1) (rank tree d key q (chosen q)) (key_none d 16))
           (length tree) 0
           (λ q a b.
-          wide-pick (length bound.query.order) d few (nat_eq (is_below (parent tree) v q) 1) (u.key q (s q))
+          wide-cond (length bound.query.order) d few (nat_eq (is_below (parent tree) v q) 1) (u.key q (s q))
           ∙ elim (cases_eq (is_below (parent tree) v q) 1) [
             | inl one ↦
                 let l : q < length tree = omega (arith, b) in

@@ -26,13 +26,13 @@ use Rattle.proof_model.specs.Wide.{wide}
 use Rattle.proof_model.specs.Valid.{StandsFor}
 use Rattle.proof_model.specs.Written.{BoundBefore, IsFirstOfGroup, IsWritten}
 use Rattle.proof_model.proofs.SolutionRows.{list-key, list-solves, own-below, solution-subtree}
+use Rattle.proof_model.proofs.Wider.{wide-most}
 use Rattle.proof_write.specs.Firsts.{AreBounds, IsFirst, listed}
 use Rattle.proof_write.proofs.BestSums.{chosen_key, first-best, first-sum, sum-least}
 use Rattle.proof_write.proofs.Groups.{group-of}
 use Rattle.proof_write.proofs.NodeBounds.{itself, row-there}
 use Rattle.proof_write.proofs.PlanProblem.{first-listed, first-subtree, items-of, joined, place-linked, place-number}
 use Rattle.proof_write.proofs.PlanProblem.{place-there, problem_with, sum-wide, together}
-use Rattle.proof_write.proofs.WideSums.{wide-most}
 
 -- ---- lines
 

@@ -2,3 +2,4 @@ pub mod Pacing
 pub mod Shares
 pub mod Calls
 pub mod Rising
+pub mod NodeSums

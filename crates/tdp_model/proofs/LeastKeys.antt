@@ -7,7 +7,8 @@ use Rattle.tdp_model.specs.TreeProblem.{sum_from, least_of, kid_part, kid_key, b
 use Rattle.tdp_model.proofs.Subtrees.{climbs_ordered, climbs_all}
 use Rattle.tdp_model.proofs.Keys.{at_most_trans, add_at_most}
 
-sum_at_most : {K : Type 0} (Below : K → K → Type 0) (add : K → K → K) (none : K) (keys : IsKeys K Below add none) (f g : ℕ → K) (n q : ℕ)
+-- a sum of which no term is after the other's is not after the other
+pub sum_at_most : {K : Type 0} (Below : K → K → Type 0) (add : K → K → K) (none : K) (keys : IsKeys K Below add none) (f g : ℕ → K) (n q : ℕ)
     → ((i : ℕ) → q ≤ i → i < q + n → AtMost Below (f i) (g i)) → AtMost Below (sum_from add none f n q) (sum_from add none g n q)
 unfolding sum_from
 sum_at_most Below add none keys f g zero q e = inr refl

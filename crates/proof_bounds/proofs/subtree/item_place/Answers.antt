@@ -1,6 +1,6 @@
 use Rattle.std.proofs.Common.{◌≡◌, ◌+◌, ◌<◌, length, sym, ap, ◌∙◌, arith}
 use Rattle.tdp_model.specs.TreeProblem.{sum_from}
-use Rattle.proof_bounds.proofs.NodeSums.{sum-none}
+use Rattle.step_bounds.proofs.NodeSums.{sum-none}
 use Rattle.proof_bounds.proofs.Subtrees.{before, below-small, place-more, place-same, place-within}
 use Rattle.proof_bounds.proofs.subtree.item_place.Goals as goal
 use Rattle.proof_bounds.proofs.subtree.item_place.Goals.{then-shape-item, else-shape-item}

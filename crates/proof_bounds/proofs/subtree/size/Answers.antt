@@ -1,7 +1,7 @@
 use Rattle.std.proofs.Common.{◌≡◌, ◌+◌, ◌<◌, length, sym, ap, ◌∙◌, arith}
 use Rattle.tdp_model.specs.TreeProblem.{sum_from}
 use Rattle.proof_bounds.specs.Subtrees.{raw_below}
-use Rattle.proof_bounds.proofs.NodeSums.{sum-none}
+use Rattle.step_bounds.proofs.NodeSums.{sum-none}
 use Rattle.proof_bounds.proofs.Subtrees.{below-small, size-more}
 use Rattle.proof_bounds.proofs.subtree.size.Goals as goal
 

@@ -4,8 +4,9 @@ use Rattle.join_tree.specs.declared.tree.JoinTree.{JoinTree}
 use Rattle.query_bind.specs.Weighed.{BoundQuery}
 use Rattle.node_build.specs.Nodes.{PassesBudget, TellsFault}
 use Rattle.node_build.specs.declared.built.BuildFault.TheVariants as fault
-use Rattle.proof_bounds.proofs.ProblemRows.{joined, problem-rows, shape-known, too-many}
-use Rattle.proof_bounds.proofs.rows.query_rows.Goals as goal
+use Rattle.node_build.proofs.ShapeOf.{join-tree-of}
+use Rattle.proof_rows.proofs.ProblemRows.{problem-rows, shape-known, too-many}
+use Rattle.proof_rows.proofs.rows.query_rows.Goals as goal
 
 passed : (bound : BoundQuery) (tables : List Table) (join : JoinTree) (budget told : ℕ)
     → TellsFault bound tables join budget (fault.TooManyRows told) → PassesBudget bound tables join budget
@@ -13,7 +14,7 @@ passed bound tables join budget told (inl none) = cc
 passed bound tables join budget told (inr (same, past)) = past
 
 pub build-requires-clause-tree : goal.build-requires-clause-tree
-build-requires-clause-tree g c = joined c.args.query.now.query c.args.join.now c.requires.tree c.requires.count
+build-requires-clause-tree g c = join-tree-of c.args.query.now.query c.args.join.now c.requires.tree c.requires.count
 
 pub returns-in-Ok-clause-rows : goal.returns-in-Ok-clause-rows
 returns-in-Ok-clause-rows g c =

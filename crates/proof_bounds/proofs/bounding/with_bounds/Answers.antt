@@ -6,20 +6,15 @@ use Rattle.proof_bounds.specs.Lines.{AreLineGroups, ArePlacedLines}
 use Rattle.proof_bounds.proofs.LineFaults.{groups-few, rows-few, tells-bad, tells-twice}
 use Rattle.proof_bounds.proofs.NumberedGroups.{bounded}
 use Rattle.proof_bounds.proofs.Pushed.{take-front}
-use Rattle.proof_bounds.proofs.bounding.bounded_tree.Goals as goal
-
-pub returns-in_err-raw-clause-fault : goal.returns-in_err-raw-clause-fault
-returns-in_err-raw-clause-fault g c =
-    let e : c.from_residual.result ≡ Err c.in_err-raw.field-0.0 = search rules in
-    rw e (c.in_err-raw.ensures.fault (seen_proof c.args.proof.now))
+use Rattle.proof_bounds.proofs.bounding.with_bounds.Goals as goal
 
 pub returns-in_err-tops-clause-fault : goal.returns-in_err-tops-clause-fault
 returns-in_err-tops-clause-fault g c =
-    let e : c.from_residual-in_err-tops.result ≡ Err c.in_err-tops.field-0.0 = search rules in
+    let e : c.from_residual.result ≡ Err c.in_err-tops.field-0.0 = search rules in
     rw e
-    (tells-bad c.args.query.now.query c.args.tables.now c.args.join.now (seen_proof c.args.proof.now) c.in_ok-raw.ensures.shape
+    (tells-bad c.args.query.now.query c.args.tables.now c.args.join.now (seen_proof c.args.proof.now) c.requires.shape
     c.in_err-tops.field-0.0
-    (c.in_err-tops.ensures.fault c.args.query.now.query c.args.tables.now c.args.join.now c.requires.keys c.in_ok-raw.ensures.rows))
+    (c.in_err-tops.ensures.fault c.args.query.now.query c.args.tables.now c.args.join.now c.requires.keys c.requires.rows))
 
 pub line_groups-requires : goal.line_groups-requires
 line_groups-requires g c = record {
@@ -27,37 +22,37 @@ line_groups-requires g c = record {
   tables = c.args.tables.now;
   join = c.args.join.now;
   ranks = map (λ b. b.ranks.items) c.in_ok-tops.field-0.bounds.items;
-  tree = c.in_ok-raw.ensures.rows;
+  tree = c.requires.rows;
   placed = subst (λ tops. ArePlacedLines c.args.query.now.query c.args.tables.now c.args.join.now g.R.Rank.KEYS g.R.Rank.key
-      c.in_ok-raw.raw (seen_proof c.args.proof.now) (length c.args.proof.now.bounds.items) tops
+      c.args.raw (seen_proof c.args.proof.now) (length c.args.proof.now.bounds.items) tops
       (map (λ b. b.ranks.items) c.in_ok-tops.field-0.bounds.items)) (sym c.as_slice.ensures.value)
-      (c.in_ok-tops.ensures.placed c.args.query.now.query c.args.tables.now c.args.join.now c.requires.keys c.in_ok-raw.ensures.rows);
+      (c.in_ok-tops.ensures.placed c.args.query.now.query c.args.tables.now c.args.join.now c.requires.keys c.requires.rows);
 }
 
 pub returns-in_err-groups-clause-fault : goal.returns-in_err-groups-clause-fault
 returns-in_err-groups-clause-fault g c =
     let e : c.from_residual-in_err-groups.result ≡ Err c.in_err-groups.field-0.0 = search rules in
     rw e
-    (tells-twice c.args.query.now.query c.args.tables.now c.args.join.now (seen_proof c.args.proof.now) c.in_ok-raw.ensures.shape
+    (tells-twice c.args.query.now.query c.args.tables.now c.args.join.now (seen_proof c.args.proof.now) c.requires.shape
     c.in_err-groups.field-0.0
     (c.in_err-groups.ensures.fault c.args.query.now.query c.args.tables.now c.args.join.now
-    (map (λ b. b.ranks.items) c.in_ok-tops.field-0.bounds.items) c.in_ok-raw.ensures.rows
+    (map (λ b. b.ranks.items) c.in_ok-tops.field-0.bounds.items) c.requires.rows
     (subst (λ tops. ArePlacedLines c.args.query.now.query c.args.tables.now c.args.join.now g.R.Rank.KEYS g.R.Rank.key
-    c.in_ok-raw.raw (seen_proof c.args.proof.now) (length c.args.proof.now.bounds.items) tops
+    c.args.raw (seen_proof c.args.proof.now) (length c.args.proof.now.bounds.items) tops
     (map (λ b. b.ranks.items) c.in_ok-tops.field-0.bounds.items)) (sym c.as_slice.ensures.value)
-    (c.in_ok-tops.ensures.placed c.args.query.now.query c.args.tables.now c.args.join.now c.requires.keys c.in_ok-raw.ensures.rows))))
+    (c.in_ok-tops.ensures.placed c.args.query.now.query c.args.tables.now c.args.join.now c.requires.keys c.requires.rows))))
 
 pub name_all-requires-clause-few : goal.name_all-requires-clause-few
 name_all-requires-clause-few g c = λ v l.
     let p = subst (λ tops. ArePlacedLines c.args.query.now.query c.args.tables.now c.args.join.now g.R.Rank.KEYS g.R.Rank.key
-    c.in_ok-raw.raw (seen_proof c.args.proof.now) (length c.args.proof.now.bounds.items) tops
+    c.args.raw (seen_proof c.args.proof.now) (length c.args.proof.now.bounds.items) tops
     (map (λ b. b.ranks.items) c.in_ok-tops.field-0.bounds.items)) (sym c.as_slice.ensures.value)
-    (c.in_ok-tops.ensures.placed c.args.query.now.query c.args.tables.now c.args.join.now c.requires.keys c.in_ok-raw.ensures.rows) in
-    let few = groups-few c.args.query.now.query c.args.tables.now c.args.join.now g.R.Rank.KEYS g.R.Rank.key c.in_ok-raw.raw
-    c.nodes-nodes.ensures.formed.shaped c.in_ok-raw.ensures.rows (seen_proof c.args.proof.now) (length c.args.proof.now.bounds.items)
+    (c.in_ok-tops.ensures.placed c.args.query.now.query c.args.tables.now c.args.join.now c.requires.keys c.requires.rows) in
+    let few = groups-few c.args.query.now.query c.args.tables.now c.args.join.now g.R.Rank.KEYS g.R.Rank.key c.args.raw
+    c.nodes-nodes.ensures.formed.shaped c.requires.rows (seen_proof c.args.proof.now) (length c.args.proof.now.bounds.items)
     c.as_slice.result.now (map (λ b. b.ranks.items) c.in_ok-tops.field-0.bounds.items) p (length c.args.proof.now.bounds.items)
     (omega arith) c.in_ok-groups.groups.items c.in_ok-groups.ensures.groups v l in
-    let all = rows-few g.R.Rank.KEYS g.R.Rank.key c.in_ok-raw.raw c.nodes-nodes.ensures.formed v in
+    let all = rows-few g.R.Rank.KEYS g.R.Rank.key c.args.raw c.nodes-nodes.ensures.formed v in
     let read = ap (λ xs. length (get_or xs v [])) c.as_slice-2.ensures.value in
     omega (arith, few, all, read)
 
@@ -66,10 +61,10 @@ returns-clause-bounded g c =
     let query = c.args.query.now.query in
     let tables = c.args.tables.now in
     let join = c.args.join.now in
-    let raw = c.in_ok-raw.raw in
+    let raw = c.args.raw in
     let certificate = seen_proof c.args.proof.now in
     let items = c.args.proof.now.bounds.items in
-    let shape = c.in_ok-raw.ensures.shape in
+    let shape = c.requires.shape in
     let all = sym (length-map items seen_bound) in
     let ranks = ap (map (λ b. b.ranks.items)) (sym c.as_mut_slice.ensures.value) ∙ sym c.in_ok-name_all.ensures.ranks in
     let p = subst (λ k. ArePlacedLines query tables join g.R.Rank.KEYS g.R.Rank.key raw certificate k c.as_slice.result.now
@@ -78,7 +73,7 @@ returns-clause-bounded g c =
     ranks
     (subst (λ tops. ArePlacedLines query tables join g.R.Rank.KEYS g.R.Rank.key raw certificate (length items) tops
     (map (λ b. b.ranks.items) c.in_ok-tops.field-0.bounds.items)) (sym c.as_slice.ensures.value)
-    (c.in_ok-tops.ensures.placed query tables join c.requires.keys c.in_ok-raw.ensures.rows))) in
+    (c.in_ok-tops.ensures.placed query tables join c.requires.keys c.requires.rows))) in
     let groups = subst (λ k. AreLineGroups raw certificate c.as_slice.result.now k c.as_slice-2.result.now) all
     (subst (AreLineGroups raw certificate c.as_slice.result.now (length items)) (sym c.as_slice-2.ensures.value)
     c.in_ok-groups.ensures.groups) in
@@ -91,5 +86,5 @@ returns-clause-bounded g c =
     (omega (arith, each, old.ok.0, c.in_ok-tops.ensures.each_node)) in
     subst (λ bounds. IsBounded query tables join g.R.Rank.KEYS g.R.Rank.key certificate (record { raw = raw; bounds = bounds })) (sym same)
     (bounded query tables join g.R.Rank.KEYS g.R.Rank.key (record { raw = raw; bounds = c.name_all.new.bounds })
-    c.nodes-nodes.ensures.formed.shaped certificate c.in_ok-raw.ensures.rows shape.0 shape.1 c.as_slice.result.now c.as_slice-2.result.now
+    c.nodes-nodes.ensures.formed.shaped certificate c.requires.rows shape.0 shape.1 c.as_slice.result.now c.as_slice-2.result.now
     p groups each c.in_ok-name_all.ensures.named)

@@ -1,18 +1,7 @@
--- Sums of numbers over nodes.
-use Rattle.std.proofs.Common.{◌≡◌, ℕ, zero, suc, ◌+◌, ◌*◌, ◌<◌, ◌≤◌, Bool, true, false, cond, refl, ap, ◌∙◌, inl, inr, arith}
+-- Sums of numbers over nodes, with one node more and with terms left out.
+use Rattle.std.proofs.Common.{◌≡◌, ℕ, zero, suc, ◌+◌, ◌*◌, ◌<◌, ◌≤◌, Bool, true, false, cond, ap, ◌∙◌, inl, inr, arith}
 use Rattle.std.proofs.lemmas.Bool.{cases_eq}
 use Rattle.tdp_model.specs.TreeProblem.{sum_from}
-
-pub sum-same : (f g : ℕ → ℕ) (n q : ℕ) → ((u : ℕ) → q ≤ u → u < q + n → f u ≡ g u)
-    → sum_from ◌+◌ 0 f n q ≡ sum_from ◌+◌ 0 g n q
-unfolding sum_from
-sum-same f g zero q h = refl
-sum-same f g (suc n) q h =
-    omega (
-      arith,
-      h q (omega arith) (omega arith),
-      sum-same f g n (suc q) (λ u a b. h u (omega arith) (omega arith)),
-    )
 
 -- one node more
 last-term : (f : ℕ → ℕ) (n q r : ℕ) → r ≡ q + n → sum_from ◌+◌ 0 f (suc n) q ≡ sum_from ◌+◌ 0 f n q + f r
@@ -22,10 +11,6 @@ last-term f (suc n) q r e = omega (arith, last-term f n (suc q) r (omega arith))
 
 pub sum-more : (f : ℕ → ℕ) (n : ℕ) → sum_from ◌+◌ 0 f (n + 1) 0 ≡ sum_from ◌+◌ 0 f n 0 + f n
 sum-more f n = let s : n + 1 ≡ suc n = omega arith in ap (λ k. sum_from ◌+◌ 0 f k 0) s ∙ last-term f n 0 n (omega arith)
-
-pub sum-none : (f : ℕ → ℕ) → sum_from ◌+◌ 0 f 0 0 ≡ 0
-unfolding sum_from
-sum-none f = refl
 
 masked : (b : ℕ) (t : Bool) → b * cond {A = ℕ} t 1 0 ≤ b
 masked b true = omega arith

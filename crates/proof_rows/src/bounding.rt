@@ -1,0 +1,46 @@
+//! The bounds of a certificate beside the rows of a query.
+ghost use Rattle.std.specs.Prelude.{◌≡◌, ◌≤◌, ◌<◌, ℕ, length, IfErr, IfOk};
+ghost use Rattle.query_bind.specs.Weighed.{Fits};
+ghost use Rattle.query_shape.specs.Shown.{HasItems, HasStoredTree};
+ghost use Rattle.join_tree.specs.Rerooting.{IsTree};
+ghost use Rattle.proof_text.specs.Seen.{seen_proof};
+ghost use Rattle.proof_model.specs.Faults.{TellsFlaw};
+ghost use Rattle.proof_bounds.specs.Bounded.{IsBounded};
+
+use crate::rows::query_rows;
+use csv_tables::Tables;
+use join_tree::JoinTree;
+use proof_bounds::{BoundedTree, with_bounds};
+use proof_text::{Proof, ProofFault};
+use query_bind::Query;
+use rank_key::Rank;
+use std::alloc::Global;
+use std::sync::ledger::Ledger;
+use step_counter::Steps;
+
+/// The rows of a query's nodes with the bounds of a certificate. `TooManyRows` exactly if more than 4,194,304 rows of
+/// all nodes pass; then `BadBound` and `BoundTwice`, each exactly if it tells the first flaw. `NoMemory` if memory is
+/// refused.
+pub fn bounded_tree<R: Rank, L: Ledger>(
+    alloc: Global,
+    query: &Query,
+    tables: &Tables,
+    join: &JoinTree,
+    proof: &Proof,
+    steps: &mut Steps<L>,
+) -> Result<BoundedTree<R>, ProofFault>
+    requires fits { Fits query.now tables.now }
+    requires keys { length query.now.query.order ≤ R.KEYS }
+    requires slots { length query.now.query.items ≤ R.ITEMS }
+    requires tree { HasStoredTree query.now.query join.now }
+    requires ordered { IsTree join.now.count join.now.atom join.now.parent }
+    requires items { HasItems join.now.count join.now.atom (length query.now.query.items) }
+    requires count { join.now.count ≡ length query.now.query.items }
+    ensures bounded { IfOk result
+        (IsBounded query.now.query tables.now join.now R.KEYS R.key (seen_proof proof.now)) }
+    ensures fault { IfErr result
+        (TellsFlaw query.now.query tables.now join.now (seen_proof proof.now)) }
+{
+    let raw = query_rows(alloc, query, tables, join, steps)?;
+    with_bounds(alloc, query, tables, join, raw, proof, steps)
+}
