@@ -1,7 +1,7 @@
 pub mod TreeSolutions
 pub mod PlanOf
 pub mod Sizes
-pub mod ShapeOf
+pub mod Kept
 pub mod Filled
 pub mod Reordered
 pub mod Planned

@@ -10,25 +10,22 @@ use Rattle.tdp_core.specs.WellFormed.{IsFormed}
 use Rattle.join_tree.specs.Rerooting.{IsTree}
 use Rattle.join_tree.specs.declared.tree.JoinTree.{JoinTree}
 use Rattle.anyk_model.specs.Table.{Table}
-use Rattle.anyk_model.specs.Query.{Query, row_counts}
+use Rattle.anyk_model.specs.Query.{row_counts}
 use Rattle.query_bind.specs.Parts.{sum_of_all}
 use Rattle.query_bind.specs.Weighed.{BoundQuery, Fits}
 use Rattle.query_shape.specs.Shape.{HasShape, IsShape, too_many_rows}
 use Rattle.query_shape.specs.Shown.{HasItems, HasStoredTree}
 use Rattle.node_build.specs.Nodes.{IsBuilt, IsJoinTreeOf, PassesBudget, item_of, parent_of}
+use Rattle.node_build.proofs.ShapeOf.{flaw-if-many, join-tree-of, numbers-in-all, numbers_of, rows-of-built, same-lengths, shape-of-rows}
+use Rattle.step_bounds.proofs.NodeSums.{sum-fewer, sum-of-lengths}
 use Rattle.semi_join.specs.Reduced.{IsReduced}
 use Rattle.tree_dp.specs.Solved.{IsSolved}
 use Rattle.plan_build.specs.Plan.{IsPlanFor, tree_shown}
+use Rattle.plan_build.proofs.Kept.{kept-in-all}
 use Rattle.plan_build.proofs.PlanOf.{AreWitnesses, has-witnesses, ranking-agrees}
 use Rattle.plan_build.proofs.PlanRows.{ranks-are, reduced-rows}
 use Rattle.plan_build.proofs.Reordered.{moved-count, moved-length, moved-rows, moved-sum, node-item, node-within, node_from, rows_moved}
-use Rattle.plan_build.proofs.ShapeOf.{kept-in-all, numbers-in-all, numbers_of, rows-of-built, same-lengths, shape-of-rows, shape_with}
-use Rattle.plan_build.proofs.Sizes.{fewer-in-all, sum-of-lengths}
 use Rattle.plan_build.proofs.Witnesses.{raw-witness, witness-raw}
-
--- a stored tree of ear removal is a join tree
-pub join-tree-of : (query : Query) (join : JoinTree) → HasStoredTree query join → join.count ≡ length query.items → IsJoinTreeOf query join
-join-tree-of query join stored count = record { count = count; graph = stored.graph; of_query = stored.of_query; tree = stored.join_tree }
 
 -- the nodes of the solved tree are those of the join tree of which they are built
 module _ {R : Type 0} (bound : BoundQuery) (tables : List Table) (d : ℕ) (key : R → KeyOf d 16) (over : JoinTree) (raw : RawData R) (built : IsBuilt bound tables d key over raw)
@@ -66,11 +63,10 @@ module _ (bound : BoundQuery) (tables : List Table) (join : JoinTree) (stored : 
   too-many budget is past =
       let rows = rows_moved bound tables over join joined by_ears past.rows in
       let of_nodes = moved-rows bound tables over join joined by_ears past.rows past.of_nodes in
-      let moved = moved-sum bound tables over join joined by_ears past.rows (past.of_nodes.count ∙ joined.count) in (
-        shape_with bound tables join stored count rows,
-        shape-of-rows bound tables join stored count rows of_nodes,
-        (let sum = sum-of-lengths past.rows in let p = past.past in omega (arith, is, sum, p, moved)),
-      )
+      let moved = moved-sum bound tables over join joined by_ears past.rows (past.of_nodes.count ∙ joined.count) in
+      let sum = sum-of-lengths past.rows in
+      let p = past.past in
+      flaw-if-many bound tables join stored count rows of_nodes (omega (arith, is, sum, p, moved))
 
   module _ {R : Type 0} (d : ℕ) (key : R → KeyOf d 16) (fits : Fits bound tables) (few : length bound.query.order ≤ d) (items : length bound.query.items ≤ 16)
       (ordered : IsTree join.count join.atom join.parent) (atoms : HasItems join.count join.atom (length bound.query.items))
@@ -86,7 +82,7 @@ module _ (bound : BoundQuery) (tables : List Table) (join : JoinTree) (stored : 
     rows-in-all =
         let same : length tree ≡ length raw.shapes = solved.node_count ∙ nodes-before bound tables d key over raw built parts tree reduced solved in
         let kept = kept-in-all d key raw parts reduced each_node in
-        let fewer = fewer-in-all (rows tree) (rows parts) (length raw.shapes) 0 (λ v a b. let e = ap length ((solved.nodes v).rows) in omega (arith, e)) in
+        let fewer = sum-fewer (rows tree) (rows parts) (length raw.shapes) 0 (λ v a b. let e = ap length ((solved.nodes v).rows) in omega (arith, e)) in
         let all : sum_from ◌+◌ 0 (rows tree) (length tree) 0 ≡ sum_from ◌+◌ 0 (rows tree) (length raw.shapes) 0 = ap (λ n. sum_from ◌+◌ 0 (rows tree) n 0) same in
         omega (arith, kept, fewer, all)
 

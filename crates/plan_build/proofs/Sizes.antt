@@ -1,10 +1,7 @@
 -- Numbers of rows, node by node and in all.
-use Rattle.std.proofs.Common.{◌≡◌, ℕ, zero, suc, ◌+◌, ◌*◌, ◌<◌, ◌≤◌, List, [], ◌∷◌, map, take, length, get_or, slice_index, slice_index_or, refl, sym, ap, ◌∙◌, subst, arith}
-use Rattle.std.specs.List.{sum_by}
+use Rattle.std.proofs.Common.{◌≡◌, ℕ, zero, suc, ◌+◌, ◌*◌, ◌<◌, ◌≤◌, List, [], ◌∷◌, take, length, get_or, slice_index, ap, subst, arith}
 use Rattle.std.specs.List.Sorted.{IsStrictlyIncreasing}
 use Rattle.std.proofs.lemmas.Nat.{mul-le}
-use Rattle.std.proofs.lemmas.List.Sums.{sum_by-cons}
-use Rattle.tdp_model.specs.TreeProblem.{sum_from}
 use Rattle.std.proofs.lemmas.List.{get_or-map}
 use Rattle.anyk_model.specs.Table.{Table, table_at}
 use Rattle.anyk_model.specs.Query.{Item, row_counts}
@@ -27,10 +24,6 @@ few-below (x ∷ xs) n rises low =
         let up : slice_index (x ∷ xs) k < slice_index (x ∷ xs) (suc k) = subst (λ j. slice_index (x ∷ xs) k < slice_index (x ∷ xs) j) same (rises k (omega (arith, l))) in
         omega (arith, before, up)
 
-pub sum-of-lengths : {X : Type 0} (xss : List (List X)) → sum_of_all (map length xss) ≡ sum_by length xss
-sum-of-lengths [] = refl
-sum-of-lengths (xs ∷ xss) = let rest = sum-of-lengths xss in let whole = sum_by-cons length xs xss in omega (arith, rest, whole)
-
 -- the first i numbers and the next one
 pub sum-one-more : (xs : List ℕ) (i : ℕ) → i < length xs → sum_of_all (take (i + 1) xs) ≡ sum_of_all (take i xs) + get_or xs i 0
 sum-one-more xs i l = subst (λ n. sum_of_all (take n xs) ≡ sum_of_all (take i xs) + get_or xs i 0) (let e : suc i ≡ i + 1 = omega arith in e) (by xs i l)
@@ -39,30 +32,6 @@ sum-one-more xs i l = subst (λ n. sum_of_all (take n xs) ≡ sum_of_all (take i
     by [] i l = absurd (omega (arith, l))
     by (x ∷ xs) zero l = omega arith
     by (x ∷ xs) (suc i) l = let rest = by xs i (omega (arith, l)) in omega (arith, rest)
-
--- if each node has at most this many rows, so have all together
-pub fewer-in-all : (few many : ℕ → ℕ) (k q : ℕ) → ((v : ℕ) → q ≤ v → v < q + k → few v ≤ many v) → sum_from ◌+◌ 0 few k q ≤ sum_from ◌+◌ 0 many k q
-unfolding sum_from
-fewer-in-all few many zero q h = omega arith
-fewer-in-all few many (suc k) q h =
-    let here = h q (omega arith) (omega arith) in
-    let rest = fewer-in-all few many k (suc q) (λ v a b. h v (omega (arith, a)) (omega (arith, b))) in
-    omega (arith, here, rest)
-
-lengths-from : {X : Type 0} (xss : List (List X)) (all : ℕ → ℕ) (q : ℕ) → ((v : ℕ) → v < length xss → all (q + v) ≡ length (slice_index_or xss v []))
-    → sum_from ◌+◌ 0 all (length xss) q ≡ sum_by length xss
-unfolding sum_from
-lengths-from [] all q h = refl
-lengths-from (xs ∷ xss) all q h =
-    let none : q + 0 ≡ q = omega arith in
-    let here : all q ≡ length xs = ap all (sym none) ∙ h 0 (omega arith) in
-    let rest = lengths-from xss all (suc q) (λ v l. let move : suc q + v ≡ q + suc v = omega arith in ap all move ∙ h (suc v) (omega (arith, l))) in
-    let whole = sum_by-cons length xs xss in
-    omega (arith, here, rest, whole)
-
--- the lengths of lists, by node
-pub lengths-in-all : {X : Type 0} (xss : List (List X)) → sum_from ◌+◌ 0 (λ v. length (slice_index_or xss v [])) (length xss) 0 ≡ sum_by length xss
-lengths-in-all xss = lengths-from xss (λ v. length (slice_index_or xss v [])) 0 (λ v l. let none : 0 + v ≡ v = omega arith in ap (λ w. length (slice_index_or xss w [])) none)
 
 -- the shares of building, reducing and solving, if l nodes have n rows before the reduction and k
 -- rows after it

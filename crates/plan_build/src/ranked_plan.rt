@@ -3,7 +3,7 @@ ghost use Rattle.std.specs.Prelude.{◌<◌, ◌≤◌, IfErr, IfOk, IfSome, len
 ghost use Rattle.query_bind.specs.Weighed.{Fits};
 ghost use Rattle.step_bounds.specs.Bounded.{IsPrepared};
 ghost use Rattle.plan_build.specs.Plan.{IsPlanOf, TellsFlaw};
-ghost use Rattle.plan_build.specs.RankedPlan.{IsRankedPlan};
+ghost use Rattle.plan_build.specs.RankedPlan.{HasLeastRoom, IsRankedPlan};
 
 use crate::fault::PlanFault;
 use crate::plan::{Plan, prepare, prepare_at};
@@ -30,8 +30,8 @@ pub enum RankedPlan {
 }
 
 /// The plan of a query over the tables to which it is bound, with this item, counted from 0, at the
-/// root if one is given, and with ranks that have room for the order keys. Its errors and its steps
-/// are those of `prepare`.
+/// root if one is given, and with the smallest ranks that have room for the order keys and the items.
+/// Its errors and its steps are those of `prepare`.
 pub fn prepare_ranked<L: Ledger>(
     alloc: Global,
     query: &Query,
@@ -42,6 +42,7 @@ pub fn prepare_ranked<L: Ledger>(
     requires fits { Fits query.now tables.now }
     requires item { IfSome item (λ i. i < length query.now.query.items) }
     ensures plan { IfOk result (IsRankedPlan query.now tables.now item) }
+    ensures smallest { IfOk result (HasLeastRoom query.now.query) }
     ensures refusal { IfErr result (TellsFlaw query.now.query tables.now) }
     ensures cost { IsPrepared query.now.query tables.now steps.old steps.new }
 {
@@ -64,6 +65,7 @@ fn prepare_sum<L: Ledger>(
     requires keys { length query.now.query.order ≤ 1 }
     requires item { IfSome item (λ i. i < length query.now.query.items) }
     ensures plan { IfOk result (IsRankedPlan query.now tables.now item) }
+    ensures smallest { IfOk result (HasLeastRoom query.now.query) }
     ensures refusal { IfErr result (TellsFlaw query.now.query tables.now) }
     ensures cost { IsPrepared query.now.query tables.now steps.old steps.new }
 {
@@ -89,8 +91,10 @@ fn prepare_lex<L: Ledger>(
     steps: &mut Steps<L>,
 ) -> Result<RankedPlan, PlanFault>
     requires fits { Fits query.now tables.now }
+    requires several { 1 < length query.now.query.order }
     requires item { IfSome item (λ i. i < length query.now.query.items) }
     ensures plan { IfOk result (IsRankedPlan query.now tables.now item) }
+    ensures smallest { IfOk result (HasLeastRoom query.now.query) }
     ensures refusal { IfErr result (TellsFlaw query.now.query tables.now) }
     ensures cost { IsPrepared query.now.query tables.now steps.old steps.new }
 {

@@ -2,8 +2,8 @@ use Rattle.std.proofs.Common.{◌≡◌, arith, length, sym, ap, ◌∙◌}
 use Rattle.std.proofs.lemmas.List.{length-map}
 use Rattle.tdp_core.specs.RawData.{row_total}
 use Rattle.tdp_core.specs.TreeData.{node_data, tree_data, row_count}
+use Rattle.plan_build.proofs.Kept.{kept-in-all}
 use Rattle.plan_build.proofs.Planned.{items-are, parents-are, planned}
-use Rattle.plan_build.proofs.ShapeOf.{kept-in-all}
 use Rattle.plan_build.proofs.Sizes.{steps-of-plan, steps-of-reduction}
 use Rattle.plan_build.proofs.plan.plan_over.Goals as goal
 

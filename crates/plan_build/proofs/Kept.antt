@@ -1,0 +1,26 @@
+-- The number of rows that stay in a reduction.
+use Rattle.std.proofs.Common.{◌≡◌, ℕ, ◌+◌, ◌<◌, ◌≤◌, List, length, slice_index, Some, sym, ap, ◌∙◌, arith}
+use Rattle.std.proofs.lemmas.List.{get_or_default, length-map}
+use Rattle.tdp_model.specs.KeyTuple.{KeyOf}
+use Rattle.tdp_model.specs.TreeProblem.{sum_from}
+use Rattle.tdp_core.specs.RawData.{RawData, raw_len, raw_row_at, row_total}
+use Rattle.tdp_core.specs.TreeData.{NodeData, node_at, rows}
+use Rattle.step_bounds.proofs.NodeSums.{lengths-in-all, sum-fewer}
+use Rattle.semi_join.specs.Reduced.{IsReduced}
+use Rattle.plan_build.proofs.Sizes.{few-below}
+
+module _ {R : Type 0} (d : ℕ) (key : R → KeyOf d 16) (raw : RawData R) (parts : List (NodeData R)) (reduced : IsReduced d key raw parts) where
+  kept-few : (v : ℕ) → v < length raw.shapes → rows parts v ≤ raw_len raw v
+  kept-few v l =
+      let long : rows parts v ≡ length (reduced.kept v) =
+      sym (length-map (node_at parts v).rows Some) ∙ ap length (reduced.rows v l) ∙ length-map (reduced.kept v) (raw_row_at raw v) in
+      let few = few-below (reduced.kept v) (raw_len raw v) (reduced.ascending v l)
+      (λ k inside. ((reduced.exact v (slice_index (reduced.kept v) k) l).0 (k, inside, get_or_default (reduced.kept v) k (slice_index (reduced.kept v) k) 0 inside)).0) in
+      omega (arith, long, few)
+
+  pub kept-in-all : length raw.rows ≡ length raw.shapes → sum_from ◌+◌ 0 (rows parts) (length raw.shapes) 0 ≤ row_total raw
+  kept-in-all each_node =
+      let fewer = sum-fewer (rows parts) (raw_len raw) (length raw.shapes) 0 (λ v a b. kept-few v (omega (arith, b))) in
+      let all : sum_from ◌+◌ 0 (raw_len raw) (length raw.shapes) 0 ≡ row_total raw =
+      ap (λ n. sum_from ◌+◌ 0 (raw_len raw) n 0) (sym each_node) ∙ lengths-in-all raw.rows in
+      omega (arith, fewer, all)
