@@ -7,10 +7,10 @@ ghost use Rattle.query_bind.specs.Weighed.{Fits};
 ghost use Rattle.query_bind.specs.Weights.{key_at};
 ghost use Rattle.answer_print.specs.Shown.{style_shown};
 
-use crate::fields::{push_numbers, push_optional};
+use crate::fields::{Fields, push_numbers, push_optional};
+use crate::number::{Number, Numbers};
 use crate::style::Style;
 use csv_tables::{RecordWriter, Tables};
-use number_text::NumberText;
 use query_bind::Query;
 use std::alloc::Global;
 use step_counter::NoMemory;
@@ -33,8 +33,17 @@ pub fn line(
         ≡ line_text query.now.query tables.now (style_shown style.now)
         (take (length query.now.query.items) rows.now)) }
 {
-    let numbers = numbers(alloc, query, tables, rows, style)?;
-    let fields = collect_fields(alloc, query, tables, rows, style.cursor, numbers.as_slice())?;
+    let mut numbers = Numbers::new(alloc);
+    push_shown(&mut numbers, query, tables, rows, style)?;
+    let mut fields = Fields::new(alloc);
+    push_fields(
+        &mut fields,
+        query,
+        tables,
+        rows,
+        style.cursor,
+        numbers.as_slice(),
+    )?;
     csv_tables::line(alloc, fields.as_slice())
 }
 
@@ -55,41 +64,47 @@ pub fn write_line(
         (records.new ≡ line_text query.now.query tables.now (style_shown style.now)
         (take (length query.now.query.items) rows.now)) }
 {
-    let numbers = numbers(alloc, query, tables, rows, style)?;
-    let fields = collect_fields(alloc, query, tables, rows, style.cursor, numbers.as_slice())?;
+    let mut numbers = Numbers::new(alloc);
+    push_shown(&mut numbers, query, tables, rows, style)?;
+    let mut fields = Fields::new(alloc);
+    push_fields(
+        &mut fields,
+        query,
+        tables,
+        rows,
+        style.cursor,
+        numbers.as_slice(),
+    )?;
     records.write(fields.as_slice())
 }
 
-/// The fields of the record: the cursor's name if there is one, the selected columns of the rows,
-/// and these numbers.
-fn collect_fields<'a>(
-    alloc: Global,
+/// Appends the fields of the record: the cursor's name if there is one, the selected columns of the
+/// rows, and these numbers.
+fn push_fields<'a>(
+    fields: &mut Fields<'a>,
     query: &Query,
     tables: &'a Tables,
     rows: &[u32; 16],
     cursor: Option<&'a [u8]>,
-    numbers: &'a [NumberText],
-) -> Result<Vec<&'a [u8]>, NoMemory>
+    numbers: &'a [Number],
+) -> Result<(), NoMemory>
     requires fits { Fits query.now tables.now }
     requires rows { IsCombination (row_counts query.now.query.items tables.now)
         (take (length query.now.query.items) rows.now) }
-    ensures { IfOk result
-        (λ fields. map (λ f. f.now) fields.items
-        ≡ optional_field (option_map (λ name. name.now) cursor.entry)
+    ensures { OnOk result (map (λ f. f.now) fields.new.items ≡ map (λ f. f.now) fields.old.items
+        ++ (optional_field (option_map (λ name. name.now) cursor.entry)
         ++ (map (value_of query.now.query tables.now
-        (take (length query.now.query.items) rows.now)) query.now.query.list ++ numbers.now)) }
+        (take (length query.now.query.items) rows.now)) query.now.query.list ++ numbers.now))) }
 {
-    let mut fields = Vec::with_capacity(alloc, 1 + query.columns().len() + numbers.len())?;
-    push_optional(&mut fields, cursor)?;
-    push_values(&mut fields, query, tables, rows)?;
-    push_numbers(&mut fields, numbers)?;
-    Ok(fields)
+    push_optional(fields, cursor)?;
+    push_values(fields, query, tables, rows)?;
+    push_numbers(fields, numbers)
 }
 
 /// Appends the selected columns of the rows, one row for each item, counted from 1. `NoMemory` if
 /// memory is refused.
 pub fn push_values<'a>(
-    fields: &mut Vec<&'a [u8]>,
+    fields: &mut Fields<'a>,
     query: &Query,
     tables: &'a Tables,
     rows: &[u32; 16],
@@ -109,38 +124,37 @@ pub fn push_values<'a>(
     Ok(())
 }
 
-/// The numbers that the style shows, in decimal.
-fn numbers(
-    alloc: Global,
+/// Appends the numbers that the style shows, in decimal. `NoMemory` if memory is refused.
+fn push_shown(
+    numbers: &mut Numbers,
     query: &Query,
     tables: &Tables,
     rows: &[u32; 16],
     style: &Style<'_>,
-) -> Result<Vec<NumberText>, NoMemory>
+) -> Result<(), NoMemory>
     requires fits { Fits query.now tables.now }
     requires rows { IsCombination (row_counts query.now.query.items tables.now)
         (take (length query.now.query.items) rows.now) }
     ensures { let chosen = take (length query.now.query.items) rows.now in
-        IfOk result (λ numbers. numbers.items
-        ≡ (if style.now.ranks then map
+        OnOk result (numbers.new.items ≡ numbers.old.items
+        ++ ((if style.now.ranks then map
         (λ k. signed_decimal
         (sum_of query.now.query tables.now chosen k)) query.now.query.order else [])
-        ++ (if style.now.rows then map decimal chosen else [])) }
+        ++ (if style.now.rows then map decimal chosen else []))) }
 {
-    let mut numbers = Vec::new(alloc);
     if style.ranks {
-        push_sums(&mut numbers, query, tables, rows)?;
+        push_sums(numbers, query, tables, rows)?;
     }
     if style.rows {
-        push_rows(&mut numbers, query, rows)?;
+        push_rows(numbers, query, rows)?;
     }
-    Ok(numbers)
+    Ok(())
 }
 
 /// Appends the sums of the order keys over these rows, one for each item, counted from 1. `NoMemory`
 /// if memory is refused.
 pub fn push_sums(
-    numbers: &mut Vec<NumberText>,
+    numbers: &mut Numbers,
     query: &Query,
     tables: &Tables,
     rows: &[u32; 16],
@@ -153,28 +167,22 @@ pub fn push_sums(
         ++ map (λ k. signed_decimal
         (sum_of query.now.query tables.now chosen k)) query.now.query.order) }
 {
-    numbers.reserve(query.keys() as usize)?;
     for key in 0..query.keys() {
         let sum = key_sum(query, tables, rows, key);
-        numbers.push(NumberText::of_signed(sum))?;
+        numbers.push(Number::of_signed(sum))?;
     }
     Ok(())
 }
 
 /// Appends the row numbers of the items, counted from 1. `NoMemory` if memory is refused.
-pub fn push_rows(
-    numbers: &mut Vec<NumberText>,
-    query: &Query,
-    rows: &[u32; 16],
-) -> Result<(), NoMemory>
+pub fn push_rows(numbers: &mut Numbers, query: &Query, rows: &[u32; 16]) -> Result<(), NoMemory>
     ensures { OnOk result
         (numbers.new.items ≡ numbers.old.items
         ++ map decimal (take (length query.now.query.items) rows.now)) }
 {
     let items = query.items() as usize;
-    numbers.reserve(items)?;
     for row in &rows[..items] {
-        numbers.push(NumberText::of(*row))?;
+        numbers.push(Number::of(*row))?;
     }
     Ok(())
 }

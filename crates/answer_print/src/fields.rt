@@ -2,14 +2,15 @@
 ghost use Rattle.std.specs.Prelude.{◌≡◌, ◌++◌, OnOk, map, option_map, string_bytes};
 ghost use Rattle.anyk_model.specs.Output.{optional_field};
 
-use number_text::NumberText;
+use crate::number::Number;
+use smallvec::SmallVec;
 use step_counter::NoMemory;
 
+/// The fields of a record. Up to 12 are kept in place, more on the heap.
+pub type Fields<'a> = SmallVec<&'a [u8], 12>;
+
 /// Appends a field, if there is one. `NoMemory` if memory is refused.
-pub fn push_optional<'a>(
-    fields: &mut Vec<&'a [u8]>,
-    field: Option<&'a [u8]>,
-) -> Result<(), NoMemory>
+pub fn push_optional<'a>(fields: &mut Fields<'a>, field: Option<&'a [u8]>) -> Result<(), NoMemory>
     ensures { OnOk result
         (map (λ f. f.now) fields.new.items
         ≡ map (λ f. f.now) fields.old.items
@@ -22,7 +23,7 @@ pub fn push_optional<'a>(
 }
 
 /// Appends texts. `NoMemory` if memory is refused.
-pub fn push_texts<'a>(fields: &mut Vec<&'a [u8]>, texts: &'a [String]) -> Result<(), NoMemory>
+pub fn push_texts<'a>(fields: &mut Fields<'a>, texts: &'a [String]) -> Result<(), NoMemory>
     ensures { OnOk result
         (map (λ f. f.now) fields.new.items
         ≡ map (λ f. f.now) fields.old.items ++ map string_bytes texts.now) }
@@ -34,10 +35,7 @@ pub fn push_texts<'a>(fields: &mut Vec<&'a [u8]>, texts: &'a [String]) -> Result
 }
 
 /// Appends the texts of numbers. `NoMemory` if memory is refused.
-pub fn push_numbers<'a>(
-    fields: &mut Vec<&'a [u8]>,
-    numbers: &'a [NumberText],
-) -> Result<(), NoMemory>
+pub fn push_numbers<'a>(fields: &mut Fields<'a>, numbers: &'a [Number]) -> Result<(), NoMemory>
     ensures { OnOk result
         (map (λ f. f.now) fields.new.items ≡ map (λ f. f.now) fields.old.items ++ numbers.now) }
 {

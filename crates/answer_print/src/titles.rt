@@ -4,7 +4,7 @@ ghost use Rattle.anyk_model.specs.Output.{column_name, cursor_title, header_text
 ghost use Rattle.query_bind.specs.Weighed.{Fits};
 ghost use Rattle.answer_print.specs.Shown.{style_shown};
 
-use crate::fields::{push_optional, push_texts};
+use crate::fields::{Fields, push_optional, push_texts};
 use crate::style::Style;
 use csv_tables::Tables;
 use query_bind::Query;
@@ -25,7 +25,7 @@ pub fn header(
         (λ text. text.items ≡ header_text query.now.query tables.now (style_shown style.now)) }
 {
     let titles = number_titles(alloc, query, style)?;
-    let mut fields = Vec::new(alloc);
+    let mut fields = Fields::new(alloc);
     push_optional(&mut fields, title_of_cursor(style))?;
     push_names(&mut fields, query, tables)?;
     push_texts(&mut fields, titles.as_slice())?;
@@ -77,7 +77,7 @@ pub fn push_numbered(
 
 /// Appends the names of the selected columns. `NoMemory` if memory is refused.
 pub fn push_names<'a>(
-    fields: &mut Vec<&'a [u8]>,
+    fields: &mut Fields<'a>,
     query: &Query,
     tables: &'a Tables,
 ) -> Result<(), NoMemory>

@@ -6,7 +6,9 @@ ghost use Rattle.query_bind.specs.Weighed.{Fits};
 ghost use Rattle.answer_print.specs.Shown.{style_shown};
 ghost use Rattle.union_list.specs.UnionOutput as output;
 
-use answer_print::{Style, push_names, push_numbered, push_optional, push_texts, title_of_cursor};
+use answer_print::{
+    Fields, Style, push_names, push_numbered, push_optional, push_texts, title_of_cursor,
+};
 use csv_tables::Tables;
 use query_bind::Query;
 use std::alloc::Global;
@@ -30,7 +32,7 @@ pub fn header_of(
 {
     let first = &queries[0];
     let titles = number_titles(alloc, first, most_items(queries), style)?;
-    let mut fields = Vec::new(alloc);
+    let mut fields = Fields::new(alloc);
     push_optional(&mut fields, title_of_cursor(style))?;
     push_names(&mut fields, first, tables)?;
     push_texts(&mut fields, titles.as_slice())?;

@@ -14,9 +14,10 @@ ghost use Rattle.union_all.specs.Rows.{HasRows, rows_of};
 use crate::fields::push_empty;
 use crate::header::most_items;
 use crate::tagged::Tagged;
-use answer_print::{Style, push_numbers, push_optional, push_rows, push_sums, push_values};
+use answer_print::{
+    Fields, Number, Numbers, Style, push_numbers, push_optional, push_rows, push_sums, push_values,
+};
 use csv_tables::{RecordWriter, Tables};
-use number_text::NumberText;
 use query_bind::Query;
 use std::alloc::Global;
 use step_counter::NoMemory;
@@ -41,11 +42,20 @@ pub fn line_of(
         (tagged_shown all tagged.now)) }
 {
     let query = &queries[tagged.branch as usize];
-    let numbers = numbers(alloc, tagged, query, tables, style)?;
+    let mut numbers = Numbers::new(alloc);
+    push_shown(&mut numbers, tagged, query, tables, style)?;
     let numbers = numbers.as_slice();
     let lacking = lacking_items(queries, query, style);
-    let rows = &tagged.rows;
-    let fields = collect_fields(alloc, query, tables, rows, style.cursor, numbers, lacking)?;
+    let mut fields = Fields::new(alloc);
+    push_fields(
+        &mut fields,
+        query,
+        tables,
+        &tagged.rows,
+        style.cursor,
+        numbers,
+    )?;
+    push_empty(&mut fields, lacking)?;
     csv_tables::line(alloc, fields.as_slice())
 }
 
@@ -69,11 +79,20 @@ pub fn write_line_of(
         (tagged_shown all tagged.now)) }
 {
     let query = &queries[tagged.branch as usize];
-    let numbers = numbers(alloc, tagged, query, tables, style)?;
+    let mut numbers = Numbers::new(alloc);
+    push_shown(&mut numbers, tagged, query, tables, style)?;
     let numbers = numbers.as_slice();
     let lacking = lacking_items(queries, query, style);
-    let rows = &tagged.rows;
-    let fields = collect_fields(alloc, query, tables, rows, style.cursor, numbers, lacking)?;
+    let mut fields = Fields::new(alloc);
+    push_fields(
+        &mut fields,
+        query,
+        tables,
+        &tagged.rows,
+        style.cursor,
+        numbers,
+    )?;
+    push_empty(&mut fields, lacking)?;
     records.write(fields.as_slice())
 }
 
@@ -90,57 +109,52 @@ fn lacking_items(queries: &[Query], query: &Query, style: &Style<'_>) -> u32
     }
 }
 
-/// The fields of the record: the cursor's name if there is one, the selected columns of the rows, these numbers, and
-/// this many empty fields.
-fn collect_fields<'a>(
-    alloc: Global,
+/// Appends the fields of the record but the empty ones: the cursor's name if there is one, the selected columns of the
+/// rows, and these numbers.
+fn push_fields<'a>(
+    fields: &mut Fields<'a>,
     query: &Query,
     tables: &'a Tables,
     rows: &[u32; 16],
     cursor: Option<&'a [u8]>,
-    numbers: &'a [NumberText],
-    lacking: u32,
-) -> Result<Vec<&'a [u8]>, NoMemory>
+    numbers: &'a [Number],
+) -> Result<(), NoMemory>
     requires fits { Fits query.now tables.now }
     requires rows { HasRows query.now tables.now rows.now }
-    ensures { IfOk result (λ fields. map (λ f. f.now) fields.items
-        ≡ optional_field (option_map (λ name. name.now) cursor.entry)
+    ensures { OnOk result (map (λ f. f.now) fields.new.items ≡ map (λ f. f.now) fields.old.items
+        ++ (optional_field (option_map (λ name. name.now) cursor.entry)
         ++ (map (value_of query.now.query tables.now
-        (rows_of query.now rows.now)) query.now.query.list
-        ++ (numbers.now ++ replicate lacking []))) }
+        (rows_of query.now rows.now)) query.now.query.list ++ numbers.now))) }
 {
-    let mut fields = Vec::new(alloc);
-    push_optional(&mut fields, cursor)?;
-    push_values(&mut fields, query, tables, rows)?;
-    push_numbers(&mut fields, numbers)?;
-    push_empty(&mut fields, lacking)?;
-    Ok(fields)
+    push_optional(fields, cursor)?;
+    push_values(fields, query, tables, rows)?;
+    push_numbers(fields, numbers)
 }
 
-/// The numbers that the style shows, in decimal.
-fn numbers(
-    alloc: Global,
+/// Appends the numbers that the style shows, in decimal.
+fn push_shown(
+    numbers: &mut Numbers,
     tagged: &Tagged,
     query: &Query,
     tables: &Tables,
     style: &Style<'_>,
-) -> Result<Vec<NumberText>, NoMemory>
+) -> Result<(), NoMemory>
     requires fits { Fits query.now tables.now }
     requires rows { HasRows query.now tables.now tagged.now.rows }
     ensures { let chosen = rows_of query.now tagged.now.rows in
-        IfOk result (λ numbers. numbers.items
-        ≡ (if style.now.ranks then map
+        OnOk result (numbers.new.items ≡ numbers.old.items
+        ++ ((if style.now.ranks then map
         (λ k. signed_decimal
         (sum_of query.now.query tables.now chosen k)) query.now.query.order else [])
-        ++ (if style.now.rows then decimal (tagged.now.branch + 1) ∷ map decimal chosen else [])) }
+        ++ (if style.now.rows
+        then decimal (tagged.now.branch + 1) ∷ map decimal chosen else []))) }
 {
-    let mut numbers = Vec::new(alloc);
     if style.ranks {
-        push_sums(&mut numbers, query, tables, &tagged.rows)?;
+        push_sums(numbers, query, tables, &tagged.rows)?;
     }
     if style.rows {
-        numbers.push(NumberText::of_signed(i128::from(tagged.branch) + 1))?;
-        push_rows(&mut numbers, query, &tagged.rows)?;
+        numbers.push(Number::of_signed(i128::from(tagged.branch) + 1))?;
+        push_rows(numbers, query, &tagged.rows)?;
     }
-    Ok(numbers)
+    Ok(())
 }

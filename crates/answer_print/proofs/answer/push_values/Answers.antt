@@ -50,4 +50,4 @@ loop-item-preserved c =
     c.field.ensures ∙ ap (λ (t : ℕ). field_at (table_at tables t) (get_or c.args.rows.now column.0 0 - 1) column.1) c.table_of-table.ensures
     ∙ ap (λ (r : ℕ). field_at (table_at tables (item_at query.items column.0).table) (r - 1) column.1) (sym row.same) ∙ ap (value_of query tables chosen) there.same in
     element-more (λ f. f.now) (value_of query tables chosen) c.loop-item.fields.items c.push.new.self.items c.field.result _ query.list c.loop-item.item-index (column_shown (0, 0))
-    c.loop-item.invariant c.in_ok-push.ensures.items read there.place
+    c.loop-item.invariant c.in_ok-push.ensures.ok read there.place

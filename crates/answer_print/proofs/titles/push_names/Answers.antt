@@ -29,4 +29,4 @@ loop-item-preserved c =
     c.name.ensures ∙ ap (λ (t : ℕ). get_or (table_at c.args.tables.now t).names place []) c.table_of.ensures
     ∙ ap (column_name query c.args.tables.now) there.same in
     element-more (λ f. f.now) (column_name query c.args.tables.now) c.loop-item.fields.items c.push.new.self.items c.name.result _ query.list c.loop-item.item-index (column_shown (0, 0))
-    c.loop-item.invariant c.in_ok-push.ensures.items named there.place
+    c.loop-item.invariant c.in_ok-push.ensures.ok named there.place

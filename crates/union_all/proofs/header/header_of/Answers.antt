@@ -19,5 +19,5 @@ returns c =
     let own = ap (λ (k : Query). header_fields k tables (without_rows style) ++ (if style.rows then codes "branch" ∷ numbered (codes "row") (most_items (queries_in bounds)) else []))
     (sym (query-of bounds 0 c.requires.some q c.index-queries-0.is)) in
     let all : map (λ f. f.now) c.push_texts.new.fields.items ≡ union_header_fields (queries_in bounds) tables style = told ∙ most ∙ own in
-    let line = rw c.as_slice-2.ensures.value at c.line.ensures in
+    let line = rw c.as_slice-2.ensures at c.line.ensures in
     subst (λ (fs : List (List ℕ)). IfOk c.line.result (λ text. text.items ≡ record_text fs)) all line
