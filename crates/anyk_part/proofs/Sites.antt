@@ -100,16 +100,6 @@ module _ {R : Type 0} (d : ℕ) (key : R → KeyOf d 16) (t : List (NodeData R))
   same_region : (r : R) (place : ℕ) (u : List ℕ) → in_region (followers t) (region_of links (length t) (entry_at r place).tag) u ≡ in_region (followers t) (region_at t prefix place) u
   same_region r place u = ap (λ n. in_region (followers t) (record { chosen = prefix; place = place; left = length t - suc n }) u) (sym long)
 
-  -- the queue without a candidate past the group's end holds the same
-  pub nothing_past : (stands : Bool) (place : ℕ) (old : List (Entry R Candidate)) → length (members t s.node s.group) ≤ place → (u : List ℕ)
-      → in_region (followers t) (region_at t prefix place) u + held_by t links old u ≡ cond stands (cond stands 0 (held_by t links (take 1 old) u)) 0 + held_by t links old u
-  nothing_past stands place old l u =
-      omega (arith, none_past (followers t) (region_at t prefix place) u (subst (λ ms. length ms ≤ place) (sym members_are) l), none stands (held_by t links (take 1 old) u))
-    where
-      none : (b : Bool) (n : ℕ) → cond {A = ℕ} b (cond b 0 n) 0 ≡ 0
-      none true n = refl
-      none false n = refl
-
   pub held_replaced : (r : R) (place : ℕ) (old new : List (Entry R Candidate)) → 0 < length old
       → IsPermutation (entry_at r place ∷ old) (get_or old 0 (entry_at r place) ∷ new) → (u : List ℕ)
       → in_region (followers t) (region_at t prefix place) u + held_by t links old u ≡ held_by t links (take 1 old) u + held_by t links new u

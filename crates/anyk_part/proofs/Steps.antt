@@ -1,10 +1,10 @@
 -- One node of the division of a region.
-use Rattle.std.proofs.Common.{◌≡◌, ℕ, suc, ◌+◌, ◌-◌, ◌*◌, ◌<◌, Bool, true, false, cond, nat_eq, Some, None, List, [], ◌∷◌, ◌++◌, length, take, get_or, refl, sym, ap, ◌∙◌, subst, inl, inr, arith}
+use Rattle.std.proofs.Common.{◌≡◌, ℕ, suc, ◌+◌, ◌-◌, ◌*◌, ◌<◌, ◌≤◌, Bool, true, false, cond, nat_eq, Some, None, List, [], ◌∷◌, ◌++◌, length, take, get_or, refl, sym, ap, ◌∙◌, subst, inl, inr, arith}
 use Rattle.std.specs.List.{All}
 use Rattle.std.proofs.Math.ListN.{set, length-set}
 use Rattle.std.proofs.Math.Seq.{take-suc-set}
 use Rattle.std.proofs.lemmas.List.{get_or-take}
-use Rattle.std.proofs.lemmas.Bool.{cases_eq, eq-eqb, cond-true, false≢true}
+use Rattle.std.proofs.lemmas.Bool.{cases_eq, eq-eqb, cond-true}
 use Rattle.std.proofs.lemmas.List.Sums.{sum_by-cons}
 use Rattle.std.proofs.lemmas.List.Elements.{All-head, All-tail, All-cons, All-nil}
 use Rattle.stream_store.specs.declared.entry.Linked.{Linked}
@@ -23,6 +23,7 @@ use Rattle.anyk_part.specs.Regions.{followers, Reached, least, region_of, region
 use Rattle.anyk_part.specs.Walks.{IsSite, IsAt, IsChoice, row_at}
 use Rattle.anyk_part.proofs.ChainLemmas.{chain-length, IsChain-kept, chain-kept, IsChain-new, chain-new}
 use Rattle.anyk_part.proofs.LiveTrees.{staged}
+use Rattle.anyk_part.proofs.Sites.{none_past}
 
 -- # Entries and a growing store
 
@@ -57,18 +58,21 @@ pub All-first : {X : Type 0} (P : X → Type 0) (xs : List X) → All P xs → A
 All-first P [] all = all
 All-first P (x ∷ xs) all = All-cons P x [] (All-head P x xs all) (All-nil P)
 
--- two candidates put in, one after the other: f of what the queue held, of its top, and of what it holds
-pub put_twice : (first second third : Bool) (i j old top mid mid_top new : ℕ) → i + old ≡ cond first (cond second 0 top) 0 + mid → j + mid ≡ cond second (cond third 0 mid_top) 0 + new
-    → (second ≡ true → first ≡ true) → (second ≡ true → mid_top ≡ top) → (third ≡ true → second ≡ true) → i + (j + old) ≡ cond first (cond third 0 top) 0 + new
-put_twice true true third i j old top mid mid_top new a b p q r = at third b
-  where
-    at : (x : Bool) → j + mid ≡ cond x 0 mid_top + new → i + (j + old) ≡ cond {A = ℕ} x 0 top + new
-    at true h = omega (arith, a, h)
-    at false h = omega (arith, a, h, q refl)
-put_twice true false true i j old top mid mid_top new a b p q r = absurd (false≢true (r refl))
-put_twice true false false i j old top mid mid_top new a b p q r = omega (arith, a, b)
-put_twice false true third i j old top mid mid_top new a b p q r = absurd (false≢true (p refl))
-put_twice false false third i j old top mid mid_top new a b p q r = omega (arith, a, b)
+-- The candidates of two places put in, of which i and j hold a solution: how many of what the queue held, of its top, and of what it
+-- holds, do so too. The group may end before the first place,
+pub put_none : (stands : Bool) (i j old top : ℕ) → i ≡ 0 → j ≡ 0 → i + (j + old) ≡ cond stands (cond stands 0 top) 0 + old
+put_none true i j old top a b = omega (arith, a, b)
+put_none false i j old top a b = omega (arith, a, b)
+
+-- or before the second one,
+pub put_once : (stood : Bool) (i j old top mid : ℕ) → i + old ≡ cond stood top 0 + mid → j ≡ 0 → i + (j + old) ≡ cond stood top 0 + mid
+put_once true i j old top mid a b = omega (arith, a, b)
+put_once false i j old top mid a b = omega (arith, a, b)
+
+-- or after it
+pub put_twice : (stood : Bool) (i j old top mid new : ℕ) → i + old ≡ cond stood top 0 + mid → j + mid ≡ 0 + new → i + (j + old) ≡ cond stood top 0 + new
+put_twice true i j old top mid new a b = omega (arith, a, b)
+put_twice false i j old top mid new a b = omega (arith, a, b)
 
 module _ {R : Type 0} (d : ℕ) (key : R → KeyOf d 16) (t : List (NodeData R)) (whole : R) (w : Walk) (chosen : List ℕ) (links : List (Linked Link)) (h : IsAt d key t whole w chosen links) (l : w.node < length t) where
   abbrev pub so_far : List ℕ
@@ -102,6 +106,10 @@ module _ {R : Type 0} (d : ℕ) (key : R → KeyOf d 16) (t : List (NodeData R))
   pub row_fits : (g r : ℕ) → g ≡ group_number t w.node (get_or chosen (parent t w.node) 0) → r ≡ get_or (members t w.node g) w.place 0 → r < rows t w.node
   row_fits g r e f =
       subst (λ z. z < rows t w.node) (sym f) (member_is_row d key t h.formed w.node g w.place l (subst (λ ms. w.place < length ms) (sym (group_is g e)) (h.place l)))
+
+  -- no solution has its row at a place past the group's end
+  pub none_at : (g place : ℕ) → g ≡ group_number t w.node (get_or chosen (parent t w.node) 0) → length (members t w.node g) ≤ place → (u : List ℕ) → in_region (followers t) (region_at t so_far place) u ≡ 0
+  none_at g place e far u = none_past (followers t) (region_at t so_far place) u (subst (λ ms. length ms ≤ place) (group_is g e) far)
 
   pub place_small : (g : ℕ) → g ≡ group_number t w.node (get_or chosen (parent t w.node) 0) → w.place < 4194304
   place_small g e =

@@ -5,6 +5,7 @@ ghost use Rattle.std.specs.List.Sorted.{IsPermutation};
 ghost use Rattle.take2_heap.specs.Order.{IsLeast};
 ghost use Rattle.rank_key.specs.Bits.{bit_length};
 ghost use Rattle.tdp_model.specs.Regions.{in_region, in_regions, best_of, divided};
+ghost use Rattle.tdp_core.specs.TreeData.{members};
 ghost use Rattle.anyk_part.specs.Chains.{chain, IsChain};
 ghost use Rattle.anyk_part.specs.Places.{ArePlaces};
 ghost use Rattle.anyk_part.specs.Regions.{followers, Reached, region_at, held_by, IsEntry};
@@ -121,8 +122,8 @@ impl<R: Rank, A: Allocator + Clone> Frontier<R, A> {
         }
     }
 
-    /// Puts in the candidate at one place of a site, if the group reaches that far. Returns whether the region being
-    /// divided is still at the top of the queue.
+    /// Puts in the candidate at one place of a site. It replaces the region being divided if that is still at the top
+    /// of the queue.
     fn offer<L: Ledger>(
         &mut self,
         tree: &Tree<R>,
@@ -130,8 +131,9 @@ impl<R: Rank, A: Allocator + Clone> Frontier<R, A> {
         place: u32,
         top_stands: bool,
         steps: &mut Steps<L>,
-    ) -> bool
+    )
         requires site { IsSite R.KEYS R.key tree.now self.old.links.entries site.now }
+        requires place { place < length (members tree.now site.now.node site.now.group) }
         requires entries { All
             (IsEntry R.KEYS R.key tree.now self.old.links.entries) self.old.queue.entries }
         requires top { top_stands ≡ true → 0 < length self.old.queue.entries }
@@ -143,20 +145,15 @@ impl<R: Rank, A: Allocator + Clone> Frontier<R, A> {
             (region_at tree.now
             (chain self.old.links.entries site.now.node site.now.before) place) s
             + held_by tree.now self.old.links.entries self.old.queue.entries s
-            ≡ gone top_stands result
-            (held_by tree.now self.old.links.entries (take 1 self.old.queue.entries) s)
+            ≡ cond top_stands
+            (held_by tree.now self.old.links.entries (take 1 self.old.queue.entries) s) 0
             + held_by tree.now self.old.links.entries self.new.queue.entries s }
-        ensures stands { result ≡ true
-            → (top_stands ≡ true) × (self.new.queue.entries ≡ self.old.queue.entries) }
         ensures links { self.new.links ≡ self.old.links }
         ensures room { self.old.queue.spare ≤ self.new.queue.spare + 1 }
         ensures length { length self.new.queue.entries ≤ length self.old.queue.entries + 1 }
         ensures cost { steps.new
             ≤ steps.old + 3 + 2 * bit_length (length self.old.queue.entries + 1) }
     {
-        if place >= tree.group_len(site.node, site.group) {
-            return top_stands;
-        }
         let row = tree.member(site.node, site.group, place, steps);
         let best = tree.best(site.node, row, steps);
         let rank = R::swap(site.total, site.best, best, steps);
@@ -166,21 +163,21 @@ impl<R: Rank, A: Allocator + Clone> Frontier<R, A> {
             before: site.before,
         };
         self.put(rank, candidate, top_stands, steps);
-        false
     }
 
-    /// Chooses the row at one node, and puts in the candidates that deviate from it.
+    /// Chooses the row at one node, and puts in the candidates that deviate from it, if its group reaches that far.
     fn choose<L: Ledger>(
         &mut self,
         tree: &Tree<R>,
         places: &[u32; 16],
-        total: R,
+        total: &R,
         walk: &Walk,
         chosen: &mut [u32; 16],
         steps: &mut Steps<L>,
     ) -> Choice
         requires places { ArePlaces tree.now places.now }
-        requires at { IsAt R.KEYS R.key tree.now total walk.now chosen.old self.old.links.entries }
+        requires at { IsAt R.KEYS R.key tree.now total.now walk.now chosen.old
+            self.old.links.entries }
         requires node { walk.now.node < length tree.now }
         requires entries { All
             (IsEntry R.KEYS R.key tree.now self.old.links.entries) self.old.queue.entries }
@@ -194,19 +191,28 @@ impl<R: Rank, A: Allocator + Clone> Frontier<R, A> {
             ≤ steps.old + 9 + 4 * bit_length (length self.old.queue.entries + 2) }
     {
         let group = group_at(tree, places, walk.node, chosen, steps);
+        let size = tree.group_len(walk.node, group);
         let row = tree.member(walk.node, group, walk.place, steps);
+        chosen[walk.node as usize] = row;
+        let place = 2 * walk.place + 1;
+        if place >= size {
+            let top_stands = walk.top_stands;
+            return Choice { row, top_stands };
+        }
         let best = tree.best(walk.node, row, steps);
         let site = Site {
-            total,
+            total: *total,
             best,
             node: walk.node,
             group,
             row,
             before: walk.before,
         };
-        let stands = self.offer(tree, &site, 2 * walk.place + 1, walk.top_stands, steps);
-        let top_stands = self.offer(tree, &site, 2 * walk.place + 2, stands, steps);
-        chosen[walk.node as usize] = row;
+        self.offer(tree, &site, place, walk.top_stands, steps);
+        if place + 1 < size {
+            self.offer(tree, &site, place + 1, false, steps);
+        }
+        let top_stands = false;
         Choice { row, top_stands }
     }
 
@@ -215,13 +221,13 @@ impl<R: Rank, A: Allocator + Clone> Frontier<R, A> {
         &mut self,
         tree: &Tree<R>,
         places: &[u32; 16],
-        total: R,
+        total: &R,
         walk: Walk,
         chosen: &mut [u32; 16],
         steps: &mut Steps<L>,
     ) -> Walk
         requires places { ArePlaces tree.now places.now }
-        requires at { IsAt R.KEYS R.key tree.now total walk chosen.old self.old.links.entries }
+        requires at { IsAt R.KEYS R.key tree.now total.now walk chosen.old self.old.links.entries }
         requires node { walk.node < length tree.now }
         requires entries { All
             (IsEntry R.KEYS R.key tree.now self.old.links.entries) self.old.queue.entries }
@@ -230,7 +236,7 @@ impl<R: Rank, A: Allocator + Clone> Frontier<R, A> {
         requires link_room { 1 ≤ self.old.links.spare }
         ensures node { result.node ≡ walk.node + 1 }
         ensures place { result.place ≡ 0 }
-        ensures at { IsAt R.KEYS R.key tree.now total result chosen.new self.new.links.entries }
+        ensures at { IsAt R.KEYS R.key tree.now total.now result chosen.new self.new.links.entries }
         ensures chain { chain self.new.links.entries result.node result.before
             ≡ chain self.old.links.entries walk.node walk.before
             ++ (row_at R.KEYS R.key tree.now walk self.old.links.entries ∷ []) }
@@ -278,13 +284,13 @@ impl<R: Rank, A: Allocator + Clone> Frontier<R, A> {
         &mut self,
         tree: &Tree<R>,
         places: &[u32; 16],
-        total: R,
+        total: &R,
         start: Walk,
         chosen: &mut [u32; 16],
         steps: &mut Steps<L>,
     )
         requires places { ArePlaces tree.now places.now }
-        requires at { IsAt R.KEYS R.key tree.now total start chosen.old self.old.links.entries }
+        requires at { IsAt R.KEYS R.key tree.now total.now start chosen.old self.old.links.entries }
         requires node { start.node < length tree.now }
         requires stands { start.top_stands ≡ true }
         requires entries { All

@@ -151,7 +151,7 @@ impl<'t, R: Rank, A: Allocator + Clone> Ranked for Part<'t, R, A> {
         self.frontier.make_room(self.tree.nodes())?;
         let mut chosen = self.frontier.prefix(start.node, start.before, steps);
         self.frontier
-            .divide(self.tree, &self.places, rank, start, &mut chosen, steps);
+            .divide(self.tree, &self.places, &rank, start, &mut chosen, steps);
         let rows = row_numbers(self.tree, &chosen, steps);
         Ok(Some(Answer { rows, rank }))
     }

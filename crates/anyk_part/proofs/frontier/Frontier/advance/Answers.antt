@@ -13,7 +13,7 @@ returns-clause-at g c =
     let made : Linked Link = record { value = record { row = c.choose-choice.result.row; before = c.args.walk.before }; next = None } in
     let grown : c.push_reserved-last.new.self.entries ≡ links ++ (made ∷ []) = c.push_reserved-last.ensures.entries ∙ ap (λ (l : Entries Link). l.entries ++ (made ∷ [])) same in
     let named : c.push_reserved-last.result ≡ length links = c.push_reserved-last.ensures.id ∙ ap (λ (l : Entries Link). length l.entries) same in
-    at_after g.R.Rank.KEYS g.R.Rank.key c.args.tree.now c.args.total c.args.walk c.args.chosen.now links c.requires.at c.requires.node c.push_reserved-last.result c.choose-choice.result.row c.choose-choice.new.chosen
+    at_after g.R.Rank.KEYS g.R.Rank.key c.args.tree.now c.args.total.now c.args.walk c.args.chosen.now links c.requires.at c.requires.node c.push_reserved-last.result c.choose-choice.result.row c.choose-choice.new.chosen
     c.push_reserved-last.new.self.entries c.choose-choice.result.top_stands choice.row choice.put grown named
 
 pub returns-clause-chain : goal.returns-clause-chain
@@ -24,7 +24,7 @@ returns-clause-chain g c =
     let made : Linked Link = record { value = record { row = c.choose-choice.result.row; before = c.args.walk.before }; next = None } in
     let grown : c.push_reserved-last.new.self.entries ≡ links ++ (made ∷ []) = c.push_reserved-last.ensures.entries ∙ ap (λ (l : Entries Link). l.entries ++ (made ∷ [])) same in
     let named : c.push_reserved-last.result ≡ length links = c.push_reserved-last.ensures.id ∙ ap (λ (l : Entries Link). length l.entries) same in
-    chain_after g.R.Rank.KEYS g.R.Rank.key c.args.tree.now c.args.total c.args.walk c.args.chosen.now links c.requires.at c.requires.node c.push_reserved-last.result c.choose-choice.result.row
+    chain_after g.R.Rank.KEYS g.R.Rank.key c.args.tree.now c.args.total.now c.args.walk c.args.chosen.now links c.requires.at c.requires.node c.push_reserved-last.result c.choose-choice.result.row
     c.push_reserved-last.new.self.entries choice.row grown named
 
 pub returns-clause-entries : goal.returns-clause-entries

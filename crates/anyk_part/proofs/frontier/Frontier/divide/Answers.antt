@@ -36,7 +36,7 @@ loop-walk-preserved g c =
     let digits = bit_length-rises (length c.loop-walk.self.queue.entries + 2) (n + 2 * m) (omega (arith, l.division.few, below)) in
     record {
       at = e.at;
-      division = division_next g.R.Rank.KEYS g.R.Rank.key c.args.tree.now c.args.total c.args.start c.args.self.now.links.entries c.args.self.now.queue.entries c.loop-walk.walk c.advance-walk.result
+      division = division_next g.R.Rank.KEYS g.R.Rank.key c.args.tree.now c.args.total.now c.args.start c.args.self.now.links.entries c.args.self.now.queue.entries c.loop-walk.walk c.advance-walk.result
           c.loop-walk.self.links.entries c.advance-walk.new.self.links.entries c.loop-walk.chosen c.loop-walk.self.queue.entries c.advance-walk.new.self.queue.entries l.at below l.division e.node e.place e.chain e.entries e.held e.stands e.top e.length;
       below = omega (arith, e.node, c.loop-walk-test.true, l.count);
       count = l.count;
@@ -49,13 +49,13 @@ loop-walk-preserved g c =
 pub returns-then-choice-clause-best : goal.returns-then-choice-clause-best
 returns-then-choice-clause-best g c =
     let l = c.loop-walk.invariant in
-    choice_best g.R.Rank.KEYS g.R.Rank.key c.args.tree.now c.args.total c.args.start c.args.self.now.links.entries c.args.self.now.queue.entries c.loop-walk.walk c.loop-walk.self.links.entries c.loop-walk.chosen c.loop-walk.self.queue.entries
+    choice_best g.R.Rank.KEYS g.R.Rank.key c.args.tree.now c.args.total.now c.args.start c.args.self.now.links.entries c.args.self.now.queue.entries c.loop-walk.walk c.loop-walk.self.links.entries c.loop-walk.chosen c.loop-walk.self.queue.entries
     l.at l.division l.below (omega (arith, c.loop-walk-test.false, l.count)) c.choose-choice.result c.choose-choice.new.chosen c.choose-choice.new.self.queue.entries c.choose-choice.ensures.choice
 
 pub returns-then-choice-clause-reached : goal.returns-then-choice-clause-reached
 returns-then-choice-clause-reached g c =
     let l = c.loop-walk.invariant in
-    choice_reached g.R.Rank.KEYS g.R.Rank.key c.args.tree.now c.args.total c.args.start c.args.self.now.links.entries c.args.self.now.queue.entries c.loop-walk.walk c.loop-walk.self.links.entries c.loop-walk.chosen c.loop-walk.self.queue.entries
+    choice_reached g.R.Rank.KEYS g.R.Rank.key c.args.tree.now c.args.total.now c.args.start c.args.self.now.links.entries c.args.self.now.queue.entries c.loop-walk.walk c.loop-walk.self.links.entries c.loop-walk.chosen c.loop-walk.self.queue.entries
     l.at l.division l.below (omega (arith, c.loop-walk-test.false, l.count)) c.choose-choice.result c.choose-choice.new.chosen c.choose-choice.new.self.queue.entries c.choose-choice.ensures.choice
 
 pub returns-then-choice-clause-held : goal.returns-then-choice-clause-held
@@ -63,13 +63,13 @@ returns-then-choice-clause-held g c =
     let l = c.loop-walk.invariant in
     let before : List (Entry g.row.R.Denot Candidate) = c.args.self.now.queue.entries in
     let full : 0 < length c.choose-choice.new.self.queue.entries =
-    choice_full g.R.Rank.KEYS g.R.Rank.key c.args.tree.now c.args.total c.args.start c.args.self.now.links.entries c.args.self.now.queue.entries c.loop-walk.walk c.loop-walk.self.links.entries c.loop-walk.chosen c.loop-walk.self.queue.entries
+    choice_full g.R.Rank.KEYS g.R.Rank.key c.args.tree.now c.args.total.now c.args.start c.args.self.now.links.entries c.args.self.now.queue.entries c.loop-walk.walk c.loop-walk.self.links.entries c.loop-walk.chosen c.loop-walk.self.queue.entries
     l.at l.division l.below (omega (arith, c.loop-walk-test.false, l.count)) c.choose-choice.result c.choose-choice.new.chosen c.choose-choice.new.self.queue.entries c.choose-choice.ensures.choice c.if-choice.true c.requires.some in
     let some : IsSome c.pop.result = search rules in
     let top : (x : Entry g.row.R.Denot Candidate) × (c.pop.result ≡ Some x) = some_is c.pop.result some in
     let p : IsPermutation c.choose-choice.new.self.queue.entries (top.0 ∷ c.pop.new.self.entries) =
     subst (λ (o : Option (Entry g.row.R.Denot Candidate)). IfSome o (λ e. IsPermutation c.choose-choice.new.self.queue.entries (e ∷ c.pop.new.self.entries))) top.1 c.pop.ensures.permutation in
-    λ s. choice_popped g.R.Rank.KEYS g.R.Rank.key c.args.tree.now c.args.total c.args.start c.args.self.now.links.entries c.args.self.now.queue.entries c.loop-walk.walk c.loop-walk.self.links.entries c.loop-walk.chosen c.loop-walk.self.queue.entries
+    λ s. choice_popped g.R.Rank.KEYS g.R.Rank.key c.args.tree.now c.args.total.now c.args.start c.args.self.now.links.entries c.args.self.now.queue.entries c.loop-walk.walk c.loop-walk.self.links.entries c.loop-walk.chosen c.loop-walk.self.queue.entries
     l.at l.division l.below (omega (arith, c.loop-walk-test.false, l.count)) c.choose-choice.result c.choose-choice.new.chosen c.choose-choice.new.self.queue.entries c.choose-choice.ensures.choice c.if-choice.true top.0 c.pop.new.self.entries c.requires.some
     (subst (λ (o : Option (Entry g.row.R.Denot Candidate)). IfSome o (λ e. e ≡ get_or c.choose-choice.new.self.queue.entries 0 e)) top.1 c.pop.ensures.top) p s
     ∙ ap (λ (k : Entries Link). held_by c.args.tree.now c.args.self.now.links.entries (take 1 before) s + held_by c.args.tree.now k.entries c.pop.new.self.entries s) (sym c.choose-choice.ensures.links)
@@ -78,27 +78,27 @@ pub returns-then-choice-clause-entries : goal.returns-then-choice-clause-entries
 returns-then-choice-clause-entries g c =
     let l = c.loop-walk.invariant in
     let full : 0 < length c.choose-choice.new.self.queue.entries =
-    choice_full g.R.Rank.KEYS g.R.Rank.key c.args.tree.now c.args.total c.args.start c.args.self.now.links.entries c.args.self.now.queue.entries c.loop-walk.walk c.loop-walk.self.links.entries c.loop-walk.chosen c.loop-walk.self.queue.entries
+    choice_full g.R.Rank.KEYS g.R.Rank.key c.args.tree.now c.args.total.now c.args.start c.args.self.now.links.entries c.args.self.now.queue.entries c.loop-walk.walk c.loop-walk.self.links.entries c.loop-walk.chosen c.loop-walk.self.queue.entries
     l.at l.division l.below (omega (arith, c.loop-walk-test.false, l.count)) c.choose-choice.result c.choose-choice.new.chosen c.choose-choice.new.self.queue.entries c.choose-choice.ensures.choice c.if-choice.true c.requires.some in
     let some : IsSome c.pop.result = search rules in
     let top : (x : Entry g.row.R.Denot Candidate) × (c.pop.result ≡ Some x) = some_is c.pop.result some in
     let p : IsPermutation c.choose-choice.new.self.queue.entries (top.0 ∷ c.pop.new.self.entries) =
     subst (λ (o : Option (Entry g.row.R.Denot Candidate)). IfSome o (λ e. IsPermutation c.choose-choice.new.self.queue.entries (e ∷ c.pop.new.self.entries))) top.1 c.pop.ensures.permutation in
     subst (λ (k : Entries Link). All (IsEntry g.R.Rank.KEYS g.R.Rank.key c.args.tree.now k.entries) c.pop.new.self.entries) (sym c.choose-choice.ensures.links)
-    (choice_entries g.R.Rank.KEYS g.R.Rank.key c.args.tree.now c.args.total c.args.start c.args.self.now.links.entries c.args.self.now.queue.entries c.loop-walk.walk c.loop-walk.self.links.entries c.loop-walk.chosen c.loop-walk.self.queue.entries
+    (choice_entries g.R.Rank.KEYS g.R.Rank.key c.args.tree.now c.args.total.now c.args.start c.args.self.now.links.entries c.args.self.now.queue.entries c.loop-walk.walk c.loop-walk.self.links.entries c.loop-walk.chosen c.loop-walk.self.queue.entries
     l.at l.division l.below (omega (arith, c.loop-walk-test.false, l.count)) c.choose-choice.result c.choose-choice.new.chosen c.choose-choice.new.self.queue.entries c.choose-choice.ensures.choice top.0 c.pop.new.self.entries p)
 
 pub returns-then-choice-clause-length : goal.returns-then-choice-clause-length
 returns-then-choice-clause-length g c =
     let l = c.loop-walk.invariant in
     let full : 0 < length c.choose-choice.new.self.queue.entries =
-    choice_full g.R.Rank.KEYS g.R.Rank.key c.args.tree.now c.args.total c.args.start c.args.self.now.links.entries c.args.self.now.queue.entries c.loop-walk.walk c.loop-walk.self.links.entries c.loop-walk.chosen c.loop-walk.self.queue.entries
+    choice_full g.R.Rank.KEYS g.R.Rank.key c.args.tree.now c.args.total.now c.args.start c.args.self.now.links.entries c.args.self.now.queue.entries c.loop-walk.walk c.loop-walk.self.links.entries c.loop-walk.chosen c.loop-walk.self.queue.entries
     l.at l.division l.below (omega (arith, c.loop-walk-test.false, l.count)) c.choose-choice.result c.choose-choice.new.chosen c.choose-choice.new.self.queue.entries c.choose-choice.ensures.choice c.if-choice.true c.requires.some in
     let some : IsSome c.pop.result = search rules in
     let top : (x : Entry g.row.R.Denot Candidate) × (c.pop.result ≡ Some x) = some_is c.pop.result some in
     let p : IsPermutation c.choose-choice.new.self.queue.entries (top.0 ∷ c.pop.new.self.entries) =
     subst (λ (o : Option (Entry g.row.R.Denot Candidate)). IfSome o (λ e. IsPermutation c.choose-choice.new.self.queue.entries (e ∷ c.pop.new.self.entries))) top.1 c.pop.ensures.permutation in
-    let few = choice_few g.R.Rank.KEYS g.R.Rank.key c.args.tree.now c.args.total c.args.start c.args.self.now.links.entries c.args.self.now.queue.entries c.loop-walk.walk c.loop-walk.self.links.entries c.loop-walk.chosen c.loop-walk.self.queue.entries
+    let few = choice_few g.R.Rank.KEYS g.R.Rank.key c.args.tree.now c.args.total.now c.args.start c.args.self.now.links.entries c.args.self.now.queue.entries c.loop-walk.walk c.loop-walk.self.links.entries c.loop-walk.chosen c.loop-walk.self.queue.entries
     l.at l.division l.below (omega (arith, c.loop-walk-test.false, l.count)) c.choose-choice.result c.choose-choice.new.chosen c.choose-choice.new.self.queue.entries c.choose-choice.ensures.choice in
     omega (arith, few, length_permutation c.choose-choice.new.self.queue.entries (top.0 ∷ c.pop.new.self.entries) p)
 
@@ -108,7 +108,7 @@ returns-then-choice-clause-cost g c =
     let n = length c.args.self.now.queue.entries in
     let m = length c.args.tree.now in
     let u = 10 + 4 * bit_length (n + 2 * m) in
-    let few = choice_few g.R.Rank.KEYS g.R.Rank.key c.args.tree.now c.args.total c.args.start c.args.self.now.links.entries c.args.self.now.queue.entries c.loop-walk.walk c.loop-walk.self.links.entries c.loop-walk.chosen c.loop-walk.self.queue.entries
+    let few = choice_few g.R.Rank.KEYS g.R.Rank.key c.args.tree.now c.args.total.now c.args.start c.args.self.now.links.entries c.args.self.now.queue.entries c.loop-walk.walk c.loop-walk.self.links.entries c.loop-walk.chosen c.loop-walk.self.queue.entries
     l.at l.division l.below (omega (arith, c.loop-walk-test.false, l.count)) c.choose-choice.result c.choose-choice.new.chosen c.choose-choice.new.self.queue.entries c.choose-choice.ensures.choice in
     let digits = bit_length-rises (length c.loop-walk.self.queue.entries + 2) (n + 2 * m) (omega (arith, l.division.few, l.below)) in
     let popped = bit_length-rises (length c.choose-choice.new.self.queue.entries) (n + 2 * m) (omega (arith, few)) in
@@ -120,20 +120,20 @@ returns-then-choice-clause-cost g c =
 pub returns-else-choice-clause-best : goal.returns-else-choice-clause-best
 returns-else-choice-clause-best g c =
     let l = c.loop-walk.invariant in
-    choice_best g.R.Rank.KEYS g.R.Rank.key c.args.tree.now c.args.total c.args.start c.args.self.now.links.entries c.args.self.now.queue.entries c.loop-walk.walk c.loop-walk.self.links.entries c.loop-walk.chosen c.loop-walk.self.queue.entries
+    choice_best g.R.Rank.KEYS g.R.Rank.key c.args.tree.now c.args.total.now c.args.start c.args.self.now.links.entries c.args.self.now.queue.entries c.loop-walk.walk c.loop-walk.self.links.entries c.loop-walk.chosen c.loop-walk.self.queue.entries
     l.at l.division l.below (omega (arith, c.loop-walk-test.false, l.count)) c.choose-choice.result c.choose-choice.new.chosen c.choose-choice.new.self.queue.entries c.choose-choice.ensures.choice
 
 pub returns-else-choice-clause-reached : goal.returns-else-choice-clause-reached
 returns-else-choice-clause-reached g c =
     let l = c.loop-walk.invariant in
-    choice_reached g.R.Rank.KEYS g.R.Rank.key c.args.tree.now c.args.total c.args.start c.args.self.now.links.entries c.args.self.now.queue.entries c.loop-walk.walk c.loop-walk.self.links.entries c.loop-walk.chosen c.loop-walk.self.queue.entries
+    choice_reached g.R.Rank.KEYS g.R.Rank.key c.args.tree.now c.args.total.now c.args.start c.args.self.now.links.entries c.args.self.now.queue.entries c.loop-walk.walk c.loop-walk.self.links.entries c.loop-walk.chosen c.loop-walk.self.queue.entries
     l.at l.division l.below (omega (arith, c.loop-walk-test.false, l.count)) c.choose-choice.result c.choose-choice.new.chosen c.choose-choice.new.self.queue.entries c.choose-choice.ensures.choice
 
 pub returns-else-choice-clause-held : goal.returns-else-choice-clause-held
 returns-else-choice-clause-held g c =
     let l = c.loop-walk.invariant in
     let before : List (Entry g.row.R.Denot Candidate) = c.args.self.now.queue.entries in
-    λ s. choice_gone g.R.Rank.KEYS g.R.Rank.key c.args.tree.now c.args.total c.args.start c.args.self.now.links.entries c.args.self.now.queue.entries c.loop-walk.walk c.loop-walk.self.links.entries c.loop-walk.chosen c.loop-walk.self.queue.entries
+    λ s. choice_gone g.R.Rank.KEYS g.R.Rank.key c.args.tree.now c.args.total.now c.args.start c.args.self.now.links.entries c.args.self.now.queue.entries c.loop-walk.walk c.loop-walk.self.links.entries c.loop-walk.chosen c.loop-walk.self.queue.entries
     l.at l.division l.below (omega (arith, c.loop-walk-test.false, l.count)) c.choose-choice.result c.choose-choice.new.chosen c.choose-choice.new.self.queue.entries c.choose-choice.ensures.choice c.if-choice.false s
     ∙ ap (λ (k : Entries Link). held_by c.args.tree.now c.args.self.now.links.entries (take 1 before) s + held_by c.args.tree.now k.entries c.choose-choice.new.self.queue.entries s) (sym c.choose-choice.ensures.links)
 
@@ -146,7 +146,7 @@ returns-else-choice-clause-entries g c =
 pub returns-else-choice-clause-length : goal.returns-else-choice-clause-length
 returns-else-choice-clause-length g c =
     let l = c.loop-walk.invariant in
-    let few = choice_few g.R.Rank.KEYS g.R.Rank.key c.args.tree.now c.args.total c.args.start c.args.self.now.links.entries c.args.self.now.queue.entries c.loop-walk.walk c.loop-walk.self.links.entries c.loop-walk.chosen c.loop-walk.self.queue.entries
+    let few = choice_few g.R.Rank.KEYS g.R.Rank.key c.args.tree.now c.args.total.now c.args.start c.args.self.now.links.entries c.args.self.now.queue.entries c.loop-walk.walk c.loop-walk.self.links.entries c.loop-walk.chosen c.loop-walk.self.queue.entries
     l.at l.division l.below (omega (arith, c.loop-walk-test.false, l.count)) c.choose-choice.result c.choose-choice.new.chosen c.choose-choice.new.self.queue.entries c.choose-choice.ensures.choice in
     omega (arith, few)
 
@@ -156,7 +156,7 @@ returns-else-choice-clause-cost g c =
     let n = length c.args.self.now.queue.entries in
     let m = length c.args.tree.now in
     let u = 10 + 4 * bit_length (n + 2 * m) in
-    let few = choice_few g.R.Rank.KEYS g.R.Rank.key c.args.tree.now c.args.total c.args.start c.args.self.now.links.entries c.args.self.now.queue.entries c.loop-walk.walk c.loop-walk.self.links.entries c.loop-walk.chosen c.loop-walk.self.queue.entries
+    let few = choice_few g.R.Rank.KEYS g.R.Rank.key c.args.tree.now c.args.total.now c.args.start c.args.self.now.links.entries c.args.self.now.queue.entries c.loop-walk.walk c.loop-walk.self.links.entries c.loop-walk.chosen c.loop-walk.self.queue.entries
     l.at l.division l.below (omega (arith, c.loop-walk-test.false, l.count)) c.choose-choice.result c.choose-choice.new.chosen c.choose-choice.new.self.queue.entries c.choose-choice.ensures.choice in
     let digits = bit_length-rises (length c.loop-walk.self.queue.entries + 2) (n + 2 * m) (omega (arith, l.division.few, l.below)) in
     let end = times_next (c.loop-walk.walk.node + 1 - c.args.start.node) (c.loop-walk.walk.node - c.args.start.node) u c.args.steps.now c.loop-walk.steps c.choose-choice.new.steps

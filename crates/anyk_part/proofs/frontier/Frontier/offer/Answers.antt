@@ -1,30 +1,23 @@
-use Rattle.std.proofs.Common.{◌<◌, ◌≤◌, length, subst, sym, arith}
+use Rattle.std.proofs.Common.{◌<◌, length, subst, sym}
 use Rattle.take2_heap.specs.declared.entry.Entry.{Entry}
 use Rattle.tdp_core.specs.TreeData.{members, rows}
 use Rattle.anyk_part.specs.declared.candidate.Candidate.{Candidate}
 use Rattle.anyk_part.specs.Regions.{IsEntry}
-use Rattle.anyk_part.proofs.Sites.{member_row, can_swap, new_entry, entry_at, nothing_past, held_put, entries_put, length_put}
+use Rattle.anyk_part.proofs.Sites.{member_row, can_swap, new_entry, entry_at, held_put, entries_put, length_put}
 use Rattle.anyk_part.proofs.frontier.Frontier.offer.Goals as goal
-
-pub returns-then-place-group_len-clause-held : goal.returns-then-place-group_len-clause-held
-returns-then-place-group_len-clause-held g c =
-    let t = c.args.tree.now in
-    let s = c.args.site.now in
-    let far : length (members t s.node s.group) ≤ c.args.place = omega (arith, c.group_len.ensures, c.if-place-group_len.true) in
-    nothing_past g.R.Rank.KEYS g.R.Rank.key t c.args.self.now.links.entries s c.requires.site c.args.top_stands c.args.place c.args.self.now.queue.entries far
 
 pub best-best-requires-clause-row : goal.best-best-requires-clause-row
 best-best-requires-clause-row g c =
     let t = c.args.tree.now in
     let s = c.args.site.now in
-    let near : c.args.place < length (members t s.node s.group) = omega (arith, c.group_len.ensures, c.if-place-group_len.false) in
+    let near : c.args.place < length (members t s.node s.group) = c.requires.place in
     subst (λ z. z < rows t s.node) (sym c.member-row.ensures.member) (member_row g.R.Rank.KEYS g.R.Rank.key t c.args.self.now.links.entries s c.requires.site c.args.place near)
 
 pub swap-rank-requires : goal.swap-rank-requires
 swap-rank-requires g c =
     let t = c.args.tree.now in
     let s = c.args.site.now in
-    let near : c.args.place < length (members t s.node s.group) = omega (arith, c.group_len.ensures, c.if-place-group_len.false) in
+    let near : c.args.place < length (members t s.node s.group) = c.requires.place in
     let row : c.member-row.result < rows t s.node =
     subst (λ z. z < rows t s.node) (sym c.member-row.ensures.member) (member_row g.R.Rank.KEYS g.R.Rank.key t c.args.self.now.links.entries s c.requires.site c.args.place near) in
     can_swap g.R.Rank.KEYS g.R.Rank.key t c.args.self.now.links.entries s c.requires.site c.member-row.result (g.R.Rank.key c.best-best.result) row c.best-best.ensures.best
@@ -34,7 +27,7 @@ returns-clause-entries g c =
     let t = c.args.tree.now in
     let s = c.args.site.now in
     let links = c.args.self.now.links.entries in
-    let near : c.args.place < length (members t s.node s.group) = omega (arith, c.group_len.ensures, c.if-place-group_len.false) in
+    let near : c.args.place < length (members t s.node s.group) = c.requires.place in
     let e : Entry g.row.R.Denot Candidate = entry_at g.R.Rank.KEYS g.R.Rank.key t links s c.requires.site c.swap-rank.result c.args.place in
     entries_put (IsEntry g.R.Rank.KEYS g.R.Rank.key t links) c.args.top_stands e c.args.self.now.queue.entries c.put.new.self.queue.entries (c.put.ensures.replaced e) c.put.ensures.pushed
     (new_entry g.R.Rank.KEYS g.R.Rank.key t links s c.requires.site c.swap-rank.result c.args.place c.member-row.result (g.R.Rank.key c.best-best.result) near c.member-row.ensures.member c.best-best.ensures.best c.swap-rank.ensures.swapped)
