@@ -10,7 +10,7 @@ use stream_store::EntryId;
 #[derive(Clone, Copy)]
 pub struct Cell {
     /// The place of the left solution, from 0.
-    pub left: usize,
+    pub left: u32,
     /// The entry of the right solution.
     pub right: EntryId,
 }
@@ -29,7 +29,7 @@ pub fn down_cell(cell: &Cell, below: Option<EntryId>) -> Option<Cell>
 
 /// The cell beside a cell whose right part is the head: the next left part, if it is one of the
 /// `known` ones. `None` if there is no such cell.
-pub fn across_cell(cell: &Cell, head: EntryId, known: usize) -> Option<Cell>
+pub fn across_cell(cell: &Cell, head: EntryId, known: u32) -> Option<Cell>
     requires { cell.now.left < known }
     ensures { MatchOption result (cell.now.right ≡ head → known ≤ cell.now.left + 1)
         (λ c. (cell.now.right ≡ head) × (cell.now.left + 1 < known)

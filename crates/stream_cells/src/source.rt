@@ -15,7 +15,7 @@ pub struct Source {
     /// The member of the group, from 0.
     pub member: u32,
     /// The place in the ranking of the member's solutions, from 0.
-    pub place: usize,
+    pub place: u32,
 }
 
 /// The row whose solution the source is. It takes one step.

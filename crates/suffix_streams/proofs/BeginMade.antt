@@ -5,13 +5,14 @@ use Rattle.std.proofs.lemmas.Bool.Decides.{nat_tests}
 use Rattle.std.proofs.lemmas.List.{length-map}
 use Rattle.stream_store.specs.declared.entry.Linked.{Linked}
 use Rattle.tdp_model.specs.KeyTuple.{KeyOf, key_none}
-use Rattle.tdp_core.specs.TreeData.{NodeData, group_count, rows}
+use Rattle.tdp_core.specs.TreeData.{NodeData, group_count}
 use Rattle.stream_model.specs.Links.{owned}
 use Rattle.suffix_streams.specs.declared.stream.Found.{Found}
 use Rattle.suffix_streams.specs.StreamData.{StreamData}
 use Rattle.suffix_streams.specs.NodeLists.{NodeLists}
 use Rattle.suffix_streams.specs.Rankings.{group_list}
-use Rattle.suffix_streams.specs.Frontiers.{HasRows}
+use Rattle.stream_cells.specs.declared.source.Source.{Source}
+use Rattle.take2_heap.specs.declared.entry.Entry.{Entry}
 use Rattle.suffix_streams.specs.StreamsData.{node_list, group_list_of, next_list, node_of, group_of, next_of, lists_of, stream_of}
 use Rattle.suffix_streams.proofs.BeginOwners.{owned_by, owned_else, map_behind, get_before, get_behind, length_behind, get_past}
 use Rattle.suffix_streams.specs.Beginnings.{HasHeads, AreChildren, IsEmptyNode, IsBegunAt, IsBegun}
@@ -102,8 +103,8 @@ module _ {R : Type 0} (d : ℕ) (key : R → KeyOf d 16) (t : List (NodeData R))
 
   -- A group's stream is made.
   pub begun_more : (g : ℕ) → v < length t → g ≡ length (lists_of nodes v).streams → g < group_count t v → e.value.node ≡ v → e.value.group ≡ g → e.next ≡ None
-      → s.head ≡ length es → key e.value.answer.rank ≡ get_or (group_list d key t v g) 0 (key_none d 16) → HasRows d key e.value.answer → HasHeads d key t v g s.queue → IsBegun d key t es nodes → IsBegun d key t (es ++ (e ∷ [])) nodes'
-  begun_more g l is_last lg en eg el at_head first rows heads b = record {
+      → s.head ≡ length es → key e.value.solution.rank ≡ get_or (group_list d key t v g) 0 (key_none d 16) → ((x : Entry R Source) → e.value.solution ≡ get_or s.queue 0 x) → HasHeads d key t v g s.queue → IsBegun d key t es nodes → IsBegun d key t (es ++ (e ∷ [])) nodes'
+  begun_more g l is_last lg en eg el at_head first own_top heads b = record {
     all_nodes = same_nodes ∙ b.all_nodes;
     children = λ q lq. subst (λ z. AreChildren t q z) (sym (children_kept q)) (b.children q lq);
     all_rows = λ q lq. ap length (products_kept q) ∙ b.all_rows q lq;
@@ -183,7 +184,8 @@ module _ {R : Type 0} (d : ℕ) (key : R → KeyOf d 16) (t : List (NodeData R))
             head_in = omega (arith, x.head_in, length_behind es e, ap (λ z. z.head) k);
             node = ap (λ z. node_of (es ++ (e ∷ [])) z.head) k ∙ node_before (stream_of nodes q h).head x.head_in ∙ x.node;
             group = ap (λ z. group_of (es ++ (e ∷ [])) z.head) k ∙ group_before (stream_of nodes q h).head x.head_in ∙ x.group;
-            first = λ y. subst (λ z. (key z.value.answer.rank ≡ get_or (group_list d key t q h) 0 (key_none d 16)) × HasRows d key z.value.answer) (sym (ap (λ z. get_or (es ++ (e ∷ [])) z.head y) k ∙ get_before es e (stream_of nodes q h).head y x.head_in)) (x.first y);
+            first = λ y. subst (λ z. key z.value.solution.rank ≡ get_or (group_list d key t q h) 0 (key_none d 16)) (sym (ap (λ z. get_or (es ++ (e ∷ [])) z.head y) k ∙ get_before es e (stream_of nodes q h).head y x.head_in)) (x.first y);
+            top = λ y w. ap (λ z. z.value.solution) (ap (λ z. get_or (es ++ (e ∷ [])) z.head y) k ∙ get_before es e (stream_of nodes q h).head y x.head_in) ∙ x.top y w ∙ ap (λ z. get_or z.queue 0 w) (sym k);
             heads = subst (λ z. HasHeads d key t q h z.queue) (sym k) x.heads;
           }
 
@@ -195,6 +197,7 @@ module _ {R : Type 0} (d : ℕ) (key : R → KeyOf d 16) (t : List (NodeData R))
         head_in = omega (arith, length_behind es e, ap (λ z. z.head) new_stream, at_head);
         node = node_behind (stream_of nodes' v g).head (ap (λ z. z.head) new_stream ∙ at_head) ∙ en;
         group = group_behind (stream_of nodes' v g).head (ap (λ z. z.head) new_stream ∙ at_head) ∙ eg;
-        first = λ y. subst (λ z. (key z.value.answer.rank ≡ get_or (group_list d key t v g) 0 (key_none d 16)) × HasRows d key z.value.answer) (sym (get_behind es e (stream_of nodes' v g).head y (ap (λ z. z.head) new_stream ∙ at_head))) (first, rows);
+        first = λ y. subst (λ z. key z.value.solution.rank ≡ get_or (group_list d key t v g) 0 (key_none d 16)) (sym (get_behind es e (stream_of nodes' v g).head y (ap (λ z. z.head) new_stream ∙ at_head))) first;
+        top = λ y w. ap (λ z. z.value.solution) (get_behind es e (stream_of nodes' v g).head y (ap (λ z. z.head) new_stream ∙ at_head)) ∙ own_top w ∙ ap (λ z. get_or z.queue 0 w) (sym new_stream);
         heads = subst (λ z. HasHeads d key t v g z.queue) (sym new_stream) heads;
       }

@@ -7,20 +7,20 @@ use Rattle.std.proofs.lemmas.List.Sorted.{length_permutation}
 use Rattle.stream_store.specs.declared.entry.Linked.{Linked}
 use Rattle.tdp_model.specs.KeyTuple.{KeyOf, key_none}
 use Rattle.tdp_model.specs.TreeProblem.{sum_from}
-use Rattle.tdp_core.specs.TreeData.{NodeData, node_at, best, parent, members, group_count, group_named, child_count, child_place, rows}
+use Rattle.tdp_core.specs.TreeData.{NodeData, node_at, best, parent, members, group_count, child_count, rows}
 use Rattle.tdp_core.specs.WellFormed.{IsFormed}
 use Rattle.tdp_core.proofs.TreeFacts.{member_is_row, group_count_within}
 use Rattle.tdp_core.proofs.Children.{kids_below-most}
 use Rattle.suffix_streams.specs.declared.stream.Found.{Found}
 use Rattle.suffix_streams.specs.StreamData.{StreamData}
 use Rattle.suffix_streams.specs.NodeLists.{NodeLists}
-use Rattle.suffix_streams.specs.Rankings.{child, part_list, group_list}
-use Rattle.suffix_streams.specs.Frontiers.{HasRows}
-use Rattle.suffix_streams.specs.StreamsData.{lists_of, IsHeaded}
+use Rattle.suffix_streams.specs.Rankings.{part_list, group_list}
+use Rattle.stream_cells.specs.declared.source.Source.{Source}
+use Rattle.take2_heap.specs.declared.entry.Entry.{Entry}
+use Rattle.suffix_streams.specs.StreamsData.{lists_of}
 use Rattle.suffix_streams.specs.Beginnings.{HasHeads, IsEmptyNode, IsBegunFrom, IsBegunIn}
 use Rattle.suffix_streams.proofs.BeginFirsts.{group_head, row_head}
 use Rattle.suffix_streams.proofs.Rankings.{group_is_ranking, row_is_ranking}
-use Rattle.suffix_streams.proofs.BeginChildren.{child_is}
 use Rattle.suffix_streams.proofs.BeginOwners.{get_before, get_behind, get_default}
 use Rattle.suffix_streams.proofs.BeginMade.{with_stream, begun_none, begun_more}
 
@@ -60,34 +60,13 @@ module _ {R : Type 0} (d : ℕ) (key : R → KeyOf d 16) (t : List (NodeData R))
     before = b.before;
   }
 
-  -- the children of a node have their streams when the node's own are made
-  pub in_headed : IsFormed d key t → (es : List (Linked (Found R))) (nodes : List (NodeLists R)) (v g r : ℕ) → v < length t → r < rows t v → IsBegunIn d key t es nodes v g → IsHeaded d key t es nodes v r
-  in_headed formed es nodes v g r l row b =
-      record {
-        all_nodes = b.streams.all_nodes;
-        all_children = (b.streams.children v l).count;
-        children = (b.streams.children v l).each;
-        streams = there;
-        heads = λ c lc. (b.streams.begun (child t v c) (group_named t v r c) (child_is t v c lc).1 (there c lc)).head_in;
-        keys = λ c lc. (b.streams.begun (child t v c) (group_named t v r c) (child_is t v c lc).1 (there c lc)).first;
-      }
-    where
-      there : (c : ℕ) → c < child_count t v → group_named t v r c < length (lists_of nodes (child t v c)).streams
-      there c lc =
-          let q = child_is t v c lc in
-          let above : v < child t v c = omega (arith, formed.shaped.parents_first (child t v c) q.0 q.1, q.2) in
-          let named : group_named t v r c < group_count t (child t v c) =
-          subst (λ z. group_named t v r z < group_count t (child t v c)) q.3 (subst (λ z. group_named t z r (child_place t (child t v c)) < group_count t (child t v c)) q.2
-          (formed.named (child t v c) r q.0 q.1 (subst (λ z. r < rows t z) (sym q.2) row))) in
-          omega (arith, named, b.behind (child t v c) above q.1)
-
   -- one more stream of the node is made
   pub in_more : (es : List (Linked (Found R))) (nodes nodes' : List (NodeLists R)) (v g w : ℕ) (e : Linked (Found R)) (s : StreamData R) → length nodes' ≡ length nodes → ((q : ℕ) → q ≢ v → lists_of nodes' q ≡ lists_of nodes q)
       → lists_of nodes' v ≡ with_stream (lists_of nodes v) s → v < length t → g < group_count t v → w ≡ g + 1 → e.value.node ≡ v → e.value.group ≡ g → e.next ≡ None → s.head ≡ length es
-      → key e.value.answer.rank ≡ get_or (group_list d key t v g) 0 (key_none d 16) → HasRows d key e.value.answer → HasHeads d key t v g s.queue
+      → key e.value.solution.rank ≡ get_or (group_list d key t v g) 0 (key_none d 16) → ((x : Entry R Source) → e.value.solution ≡ get_or s.queue 0 x) → HasHeads d key t v g s.queue
       → IsBegunIn d key t es nodes v g → IsBegunIn d key t (es ++ (e ∷ [])) nodes' v w
-  in_more es nodes nodes' v g w e s same other own l lg more en eg el at_head first rows heads b = record {
-    streams = begun_more d key t es nodes nodes' v e s same other own g l (sym b.own) lg en eg el at_head first rows heads b.streams;
+  in_more es nodes nodes' v g w e s same other own l lg more en eg el at_head first own_top heads b = record {
+    streams = begun_more d key t es nodes nodes' v e s same other own g l (sym b.own) lg en eg el at_head first own_top heads b.streams;
     behind = λ q a lq. ap (λ z. length z.streams) (other q (λ e. omega arith)) ∙ b.behind q a lq;
     own = ap (λ z. length z.streams) own ∙ length_more (lists_of nodes v).streams s ∙ ap (λ z. z + 1) b.own ∙ sym more;
     before = λ q lq. ap (λ z. z.streams) (other q (λ e. omega arith)) ∙ b.before q lq;

@@ -2,17 +2,17 @@
 use Rattle.std.proofs.Common.{◌≡◌, ℕ, zero, suc, ◌+◌, ◌<◌, ◌≤◌, Bool, true, false, cond, nat_eq, List, [], ◌∷◌, length, take, get_or, refl, sym, ap, ◌∙◌, subst, arith}
 use Rattle.std.proofs.lemmas.Bool.{eq-eqb}
 use Rattle.stream_store.specs.declared.entry.Linked.{Linked}
-use Rattle.tdp_core.specs.declared.ranked.Answer.{Answer}
+use Rattle.stream_cells.specs.declared.source.Source.{Source}
+use Rattle.take2_heap.specs.declared.entry.Entry.{Entry}
 use Rattle.tdp_core.specs.TreeData.{NodeData, rows, child_count, group_count, group_named}
 use Rattle.tdp_model.specs.KeyTuple.{KeyOf, key_none}
 use Rattle.stream_model.specs.Links.{owned}
 use Rattle.suffix_streams.specs.declared.stream.Found.{Found}
 use Rattle.suffix_streams.specs.NodeLists.{NodeLists}
 use Rattle.suffix_streams.specs.Rankings.{child, group_list}
-use Rattle.suffix_streams.specs.Frontiers.{HasRows}
-use Rattle.suffix_streams.specs.StreamsData.{node_list, group_list_of, node_of, group_of, place_of, stream, products_of, stream_of, HasKey, AreLefts, IsStreams, IsHeaded, HasParts, HasRow}
+use Rattle.suffix_streams.specs.StreamsData.{node_list, group_list_of, node_of, group_of, place_of, stream, products_of, stream_of, HasKey, AreLefts, IsStreams, IsHeaded, HasParts}
 use Rattle.suffix_streams.proofs.Rankings.{kid, named_in, sum_fits}
-use Rattle.suffix_streams.proofs.Firsts.{prefix_at}
+use Rattle.suffix_streams.proofs.Firsts.{first_at}
 use Rattle.suffix_streams.proofs.Stores.{node_value, group_value}
 
 shifted : {A : Type 0} (b c : Bool) (xs : List A) (y a z : A) (p : ℕ) → (p < length xs) × (get_or xs p a ≡ z)
@@ -21,19 +21,19 @@ shifted true true xs y a z p h = let e : suc p ≡ 1 + p = omega arith in (omega
 shifted true false xs y a z p h = let e : p ≡ 0 + p = omega arith in (omega (arith, h.0), subst (λ n. get_or xs n a ≡ z) e h.1)
 shifted false c xs y a z p h = let e : p ≡ 0 + p = omega arith in (omega (arith, h.0), subst (λ n. get_or xs n a ≡ z) e h.1)
 
-first_at : {A : Type 0} (b c : Bool) (xs : List A) (y a : A) → b ≡ true → c ≡ true → (0 < length (cond b (cond c (y ∷ xs) xs) xs)) × (get_or (cond b (cond c (y ∷ xs) xs) xs) 0 a ≡ y)
-first_at true true xs y a e f = (omega arith, refl)
-first_at true false xs y a e f = cc
-first_at false c xs y a e f = cc
+begins_at : {A : Type 0} (b c : Bool) (xs : List A) (y a : A) → b ≡ true → c ≡ true → (0 < length (cond b (cond c (y ∷ xs) xs) xs)) × (get_or (cond b (cond c (y ∷ xs) xs) xs) 0 a ≡ y)
+begins_at true true xs y a e f = (omega arith, refl)
+begins_at true false xs y a e f = cc
+begins_at false c xs y a e f = cc
 
 -- an entry's solution is in its stream, at the entry's place
-entry_at : {R : Type 0} (es : List (Linked (Found R))) (i q g : ℕ) (x : Linked (Found R)) (a : Answer R) → i < length es → (get_or es i x).value.node ≡ q → (get_or es i x).value.group ≡ g
-    → (owned (take i (node_list es)) (take i (group_list_of es)) q g < length (stream es q g)) × (get_or (stream es q g) (owned (take i (node_list es)) (take i (group_list_of es)) q g) a ≡ (get_or es i x).value.answer)
+entry_at : {R : Type 0} (es : List (Linked (Found R))) (i q g : ℕ) (x : Linked (Found R)) (a : Entry R Source) → i < length es → (get_or es i x).value.node ≡ q → (get_or es i x).value.group ≡ g
+    → (owned (take i (node_list es)) (take i (group_list_of es)) q g < length (stream es q g)) × (get_or (stream es q g) (owned (take i (node_list es)) (take i (group_list_of es)) q g) a ≡ (get_or es i x).value.solution)
 unfolding owned stream
 entry_at [] i q g x a l n h = absurd (omega arith)
-entry_at (e ∷ es) zero q g x a l n h = first_at (nat_eq e.value.node q) (nat_eq e.value.group g) (stream es q g) e.value.answer a (eq-eqb e.value.node q n) (eq-eqb e.value.group g h)
+entry_at (e ∷ es) zero q g x a l n h = begins_at (nat_eq e.value.node q) (nat_eq e.value.group g) (stream es q g) e.value.solution a (eq-eqb e.value.node q n) (eq-eqb e.value.group g h)
 entry_at (e ∷ es) (suc i) q g x a l n h =
-    shifted (nat_eq e.value.node q) (nat_eq e.value.group g) (stream es q g) e.value.answer a (get_or es i x).value.answer (owned (take i (node_list es)) (take i (group_list_of es)) q g) (entry_at es i q g x a (omega arith) n h)
+    shifted (nat_eq e.value.node q) (nat_eq e.value.group g) (stream es q g) e.value.solution a (get_or es i x).value.solution (owned (take i (node_list es)) (take i (group_list_of es)) q g) (entry_at es i q g x a (omega arith) n h)
 
 module _ {R : Type 0} (d : ℕ) (key : R → KeyOf d 16) (t : List (NodeData R)) (es : List (Linked (Found R))) (nodes : List (NodeLists R)) (h : IsStreams d key t es nodes) where
   -- an entry's solution is the member of its group's ranking at the entry's place
@@ -45,20 +45,20 @@ module _ {R : Type 0} (d : ℕ) (key : R → KeyOf d 16) (t : List (NodeData R))
       let in_group : g < group_count t q = subst (λ z. z < group_count t q) k (subst (λ z. group_of es i < group_count t z) n own.1) in
       let s = h.streams q g inside in_group in
       let place : owned (take i (node_list es)) (take i (group_list_of es)) q g ≡ place_of es i = ap (λ z. owned (take i (node_list es)) (take i (group_list_of es)) z g) (sym n) ∙ ap (λ z. owned (take i (node_list es)) (take i (group_list_of es)) (node_of es i) z) (sym k) in
-      let at : (x : Linked (Found R)) → (place_of es i < length (stream es q g)) × (get_or (stream es q g) (place_of es i) (get_or es i x).value.answer ≡ (get_or es i x).value.answer) =
-      λ x. subst (λ p. (p < length (stream es q g)) × (get_or (stream es q g) p (get_or es i x).value.answer ≡ (get_or es i x).value.answer)) place
-      (entry_at es i q g x (get_or es i x).value.answer l (sym (node_value es i x l) ∙ n) (sym (group_value es i x l) ∙ k)) in
+      let at : (x : Linked (Found R)) → (place_of es i < length (stream es q g)) × (get_or (stream es q g) (place_of es i) (get_or es i x).value.solution ≡ (get_or es i x).value.solution) =
+      λ x. subst (λ p. (p < length (stream es q g)) × (get_or (stream es q g) p (get_or es i x).value.solution ≡ (get_or es i x).value.solution)) place
+      (entry_at es i q g x (get_or es i x).value.solution l (sym (node_value es i x l) ∙ n) (sym (group_value es i x l) ∙ k)) in
       let within : place_of es i < length (stream es q g) = subst (λ p. p < length (stream es q g)) place (any_entry i q g l n k) in (
         within,
         omega (arith, within, s.merge.prefix.1),
         λ x.
-            let p : (key (get_or (stream es q g) (place_of es i) (get_or es i x).value.answer).rank ≡ get_or (group_list d key t q g) (place_of es i) (key_none d 16)) × HasRows d key (get_or (stream es q g) (place_of es i) (get_or es i x).value.answer) =
-            prefix_at d key (stream es q g) (group_list d key t q g) (place_of es i) (get_or es i x).value.answer s.merge.prefix within in
-            subst (λ (a : Answer R). (key a.rank ≡ get_or (group_list d key t q g) (place_of es i) (key_none d 16)) × HasRows d key a) (at x).1 p,
+            let p : key (get_or (stream es q g) (place_of es i) (get_or es i x).value.solution).rank ≡ get_or (group_list d key t q g) (place_of es i) (key_none d 16) =
+            first_at d key (stream es q g) (group_list d key t q g) (place_of es i) (get_or es i x).value.solution s.merge.prefix within in
+            subst (λ (a : Entry R Source). key a.rank ≡ get_or (group_list d key t q g) (place_of es i) (key_none d 16)) (at x).1 p,
       )
     where
       any_entry : (i q g : ℕ) → i < length es → node_of es i ≡ q → group_of es i ≡ g → owned (take i (node_list es)) (take i (group_list_of es)) q g < length (stream es q g)
-      any_entry i q g l n k = found es l (λ x. (entry_at es i q g x x.value.answer l (sym (node_value es i x l) ∙ n) (sym (group_value es i x l) ∙ k)).0)
+      any_entry i q g l n k = found es l (λ x. (entry_at es i q g x x.value.solution l (sym (node_value es i x l) ∙ n) (sym (group_value es i x l) ∙ k)).0)
         where
           found : (xs : List (Linked (Found R))) → i < length xs → ((x : Linked (Found R)) → owned (take i (node_list es)) (take i (group_list_of es)) q g < length (stream es q g)) → owned (take i (node_list es)) (take i (group_list_of es)) q g < length (stream es q g)
           found [] l f = absurd (omega arith)
@@ -96,20 +96,13 @@ module _ {R : Type 0} (d : ℕ) (key : R → KeyOf d 16) (t : List (NodeData R))
     fits = λ i j a b. sum_fits d key t h.tree v r c i j l (child_in v r c l row k) a b;
   }
 
-  pub row_of : (v r : ℕ) → v < length t → r < rows t v → HasRow d key t es nodes v r
-  row_of v r l row = record {
-    headed = headed_of v r l row;
-    whole = h.whole_rows v r l row;
-    parts = λ c k. (parts_of v r c l row k, h.products v r c l row k);
-  }
-
 -- a stream is as long as its owner has entries
 pub stream_owned : {R : Type 0} (es : List (Linked (Found R))) (q g : ℕ) → length (stream es q g) ≡ owned (node_list es) (group_list_of es) q g
 unfolding owned stream
 stream_owned [] q g = refl
-stream_owned {R} (e ∷ es) q g = counted (nat_eq e.value.node q) (nat_eq e.value.group g) (stream es q g) e.value.answer ∙ ap (λ n. cond (nat_eq e.value.node q) (cond (nat_eq e.value.group g) 1 0) 0 + n) (stream_owned es q g)
+stream_owned {R} (e ∷ es) q g = counted (nat_eq e.value.node q) (nat_eq e.value.group g) (stream es q g) e.value.solution ∙ ap (λ n. cond (nat_eq e.value.node q) (cond (nat_eq e.value.group g) 1 0) 0 + n) (stream_owned es q g)
   where
-    counted : (b c : Bool) (xs : List (Answer R)) (x : Answer R) → length (cond b (cond c (x ∷ xs) xs) xs) ≡ cond b (cond c 1 0) 0 + length xs
+    counted : (b c : Bool) (xs : List (Entry R Source)) (x : Entry R Source) → length (cond b (cond c (x ∷ xs) xs) xs) ≡ cond b (cond c 1 0) 0 + length xs
     counted true true xs x = omega arith
     counted true false xs x = omega arith
     counted false c xs x = omega arith

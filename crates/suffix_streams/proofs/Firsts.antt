@@ -1,9 +1,7 @@
 -- The first solutions of a row, and the known solutions.
 use Rattle.std.proofs.Common.{◌≡◌, ℕ, zero, suc, ◌+◌, ◌<◌, ◌≤◌, List, [], ◌∷◌, length, take, get_or, refl, sym, ap, ◌∙◌, subst, arith}
-use Rattle.std.proofs.lemmas.List.Elements.{All-get_or}
 use Rattle.rank_key.specs.Keys.{KeyFits}
 use Rattle.take2_heap.specs.declared.entry.Entry.{Entry}
-use Rattle.tdp_core.specs.declared.ranked.Answer.{Answer}
 use Rattle.tdp_core.specs.TreeData.{NodeData, rows, rank, child_count, group_named}
 use Rattle.tdp_core.specs.WellFormed.{IsFormed, IsTieFreeTree}
 use Rattle.tdp_model.specs.KeyTuple.{KeyOf, key_add, key_none}
@@ -13,7 +11,7 @@ use Rattle.stream_cells.specs.declared.cell.Cell.{Cell}
 use Rattle.suffix_streams.specs.declared.stream.Found.{Found}
 use Rattle.suffix_streams.specs.NodeLists.{NodeLists}
 use Rattle.suffix_streams.specs.Rankings.{child, part_list, group_list}
-use Rattle.suffix_streams.specs.Frontiers.{HasRows, IsPrefix, AreFirst, IsFrontier}
+use Rattle.suffix_streams.specs.Frontiers.{AreFirst, IsFrontier}
 use Rattle.suffix_streams.specs.StreamsData.{place_of, product_of, part_known, AreLefts, HasParts, IsCell}
 use Rattle.suffix_streams.proofs.Rankings.{kid, named_in, own_some, own_first, group_some, part_ascends, group_ascends, sums_begin, sum_fits}
 use Rattle.suffix_streams.proofs.Growth.{frontier_begins}
@@ -26,15 +24,7 @@ taken_at (k ∷ ks) zero i d l = absurd (omega arith)
 taken_at (k ∷ ks) (suc n) zero d l = refl
 taken_at (k ∷ ks) (suc n) (suc i) d l = taken_at ks n i d (omega arith)
 
--- the solutions of a prefix have the ranking's keys
-pub prefix_at : {R : Type 0} (d : ℕ) (key : R → KeyOf d 16) (xs : List (Answer R)) (ks : List (KeyOf d 16)) (i : ℕ) (x : Answer R) → IsPrefix d key xs ks → i < length xs
-    → (key (get_or xs i x).rank ≡ get_or ks i (key_none d 16)) × HasRows d key (get_or xs i x)
-prefix_at d key xs ks i x p l = (
-  sym (map_at (λ a. key a.rank) xs i x (key_none d 16) l) ∙ ap (λ z. get_or z i (key_none d 16)) p.2 ∙ taken_at ks (length xs) i (key_none d 16) l,
-  All-get_or (HasRows d key) xs i x l p.3,
-)
-
--- the same, only by the keys
+-- the first members of a ranking have its keys
 pub first_at : {R T : Type 0} (d : ℕ) (key : R → KeyOf d 16) (xs : List (Entry R T)) (ks : List (KeyOf d 16)) (i : ℕ) (x : Entry R T) → AreFirst d key xs ks → i < length xs → key (get_or xs i x).rank ≡ get_or ks i (key_none d 16)
 first_at d key xs ks i x p l = sym (map_at (λ e. key e.rank) xs i x (key_none d 16) l) ∙ ap (λ z. get_or z i (key_none d 16)) p.2 ∙ taken_at ks (length xs) i (key_none d 16) l
 

@@ -5,8 +5,6 @@ use Rattle.std.specs.List.Sorted.{IsPermutation}
 use Rattle.std.proofs.lemmas.List.Elements.{All-nil, All-cons, All-head, All-tail, All-get_or}
 use Rattle.take2_heap.specs.declared.entry.Entry.{Entry}
 use Rattle.take2_heap.specs.Order.{IsLeast}
-use Rattle.tdp_core.specs.declared.ranked.Answer.{Answer}
-use Rattle.tdp_core.specs.Seen.{rows_of_key}
 use Rattle.rankings.specs.Order.{IsAscending}
 use Rattle.tdp_model.specs.Remains.{Remains, total}
 use Rattle.tdp_model.specs.KeyTuple.{KeyOf, key_below, key_add, key_none}
@@ -18,7 +16,7 @@ use Rattle.stream_model.specs.Held.{IsHeld, places, InProduct, InRuns}
 use Rattle.stream_model.proofs.Held.{MaybeHolds}
 use Rattle.stream_model.proofs.Steps.{product_passes, product_shows, product_done, group_passes, group_shows, group_done, IsDown, IsAcross, IsNext}
 use Rattle.suffix_streams.specs.Frontiers.{IsFrontier, IsMerge}
-use Rattle.suffix_streams.proofs.State.{prefix_more, first_more, all_more, count_more}
+use Rattle.suffix_streams.proofs.State.{first_more, all_more, count_more}
 
 one_taken : {K : Type 0} (ks : List K) (d : K) → 0 < length ks → get_or ks 0 d ∷ [] ≡ take 1 ks
 one_taken [] d l = absurd (omega arith)
@@ -101,12 +99,12 @@ module _ {R T : Type 0} (d : ℕ) (key : R → KeyOf d 16) (xs ys zs : List (Key
 module _ {R T : Type 0} (d : ℕ) (key : R → KeyOf d 16) (n : ℕ) (lists : ℕ → List (KeyOf d 16)) (zs : List (KeyOf d 16))
     (asc : (r : ℕ) → r < n → IsAscending (key_below d 16) (lists r)) (at : T → Pair) where
   -- One more member of the group's ranking is found: the new top's.
-  pub merge_grows : (found : List (Answer R)) (old new : List (Entry R T)) (a : Option (Entry R T)) (top next : Entry R T) (answer : Answer R) → IsMerge d key at n lists zs found old
+  pub merge_grows : (found old new : List (Entry R T)) (a : Option (Entry R T)) (top next : Entry R T) → IsMerge d key at n lists zs found old
       → 0 < length old → top ≡ get_or old 0 top → IsLeast d key top old → IsPermutation (offers a None old) (top ∷ new)
       → MaybeHolds (IsHeld d key (run_key (key_none d 16) lists) (InRuns d n lists) at) a → InRuns d n lists (at top.tag) → IsNext d key n lists at (at top.tag) a
-      → 0 < length new → next ≡ get_or new 0 next → IsLeast d key next new → key answer.rank ≡ key next.rank → answer.rows ≡ rows_of_key d 16 (key answer.rank)
-      → (length found < length zs) × IsMerge d key at n lists zs (found ++ (answer ∷ [])) new
-  merge_grows found old new a top next answer f some is_top least moved ha inside na more is_next next_least rank rows =
+      → 0 < length new → next ≡ get_or new 0 next → IsLeast d key next new
+      → (length found < length zs) × IsMerge d key at n lists zs (found ++ (next ∷ [])) new
+  merge_grows found old new a top next f some is_top least moved ha inside na more is_next next_least =
       let p : All (IsHeld d key (run_key (key_none d 16) lists) (InRuns d n lists) at) new
       × Remains Pair (KeyOf d 16) (key_below d 16) (run_key (key_none d 16) lists) (total (runs_to n (λ r. length (lists r))) (places at new)) (drop (length found) zs) =
       group_passes d key n lists at asc zs (length found) a top old new f.held some is_top least moved ha inside na f.ahead in
@@ -115,14 +113,16 @@ module _ {R T : Type 0} (d : ℕ) (key : R → KeyOf d 16) (n : ℕ) (lists : �
       group_shows d key n lists at asc zs (length found) next new p.0 more is_next next_least p.1 in (
         s.0,
         record {
-          prefix = prefix_more d key found answer zs (key_none d 16) f.prefix s.0 (s.1 ∙ sym rank) rows;
+          prefix = first_more d key found next zs (key_none d 16) f.prefix s.0 s.1;
+          kept = all_more (IsHeld d key (run_key (key_none d 16) lists) (InRuns d n lists) at) found next f.kept
+              (subst (IsHeld d key (run_key (key_none d 16) lists) (InRuns d n lists) at) (sym is_next) (All-get_or (IsHeld d key (run_key (key_none d 16) lists) (InRuns d n lists) at) new 0 next more p.0));
           held = p.0;
-          ahead = subst (λ k. IsAhead Pair (KeyOf d 16) (key_below d 16) (run_key (key_none d 16) lists) (runs_to n (λ r. length (lists r))) (InRuns d n lists) zs k (places at new)) (sym (count_more found answer)) s.2;
+          ahead = subst (λ k. IsAhead Pair (KeyOf d 16) (key_below d 16) (run_key (key_none d 16) lists) (runs_to n (λ r. length (lists r))) (InRuns d n lists) zs k (places at new)) (sym (count_more found next)) s.2;
         },
       )
 
   -- There is no further member.
-  pub merge_ends : (found : List (Answer R)) (old : List (Entry R T)) (a : Option (Entry R T)) (top : Entry R T) → IsMerge d key at n lists zs found old
+  pub merge_ends : (found old : List (Entry R T)) (a : Option (Entry R T)) (top : Entry R T) → IsMerge d key at n lists zs found old
       → 0 < length old → top ≡ get_or old 0 top → IsLeast d key top old → IsPermutation (offers a None old) (top ∷ [])
       → MaybeHolds (IsHeld d key (run_key (key_none d 16) lists) (InRuns d n lists) at) a → InRuns d n lists (at top.tag) → IsNext d key n lists at (at top.tag) a
       → (length found ≡ length zs) × IsMerge d key at n lists zs found []
@@ -132,7 +132,7 @@ module _ {R T : Type 0} (d : ℕ) (key : R → KeyOf d 16) (n : ℕ) (lists : �
       group_passes d key n lists at asc zs (length found) a top old [] f.held some is_top least moved ha inside na f.ahead in
       let s : IsAhead Pair (KeyOf d 16) (key_below d 16) (run_key (key_none d 16) lists) (runs_to n (λ r. length (lists r))) (InRuns d n lists) zs (length found) [] × (length found ≡ length zs) =
       group_done d key n lists at asc zs (length found) f.prefix.0 f.prefix.1 p.1 in
-      (s.1, record { prefix = f.prefix; held = p.0; ahead = s.0 })
+      (s.1, record { prefix = f.prefix; kept = f.kept; held = p.0; ahead = s.0 })
 
 -- # What stays while the store grows
 

@@ -4,7 +4,6 @@ use Rattle.std.proofs.lemmas.Bool.{cases_lt}
 use Rattle.take2_heap.specs.declared.entry.Entry.{Entry}
 use Rattle.stream_cells.specs.declared.cell.Cell.{Cell}
 use Rattle.suffix_streams.specs.ProductData.{ProductData}
-use Rattle.suffix_streams.specs.Frontiers.{HasRows}
 use Rattle.suffix_streams.proofs.State.{count_more}
 use Rattle.stream_store.specs.declared.entry.Linked.{Linked}
 use Rattle.tdp_core.specs.TreeData.{NodeData, child_count, group_named}
@@ -26,11 +25,11 @@ children_count d key t es nodes v r n h l at = ap (λ z. length z.children) (sym
 
 -- the solution of the head that was read
 pub head_key : {R : Type 0} (d : ℕ) (key : R → KeyOf d 16) (es : List (Linked (Found R))) (head id : ℕ) (f : Found R) (k : KeyOf d 16) → id ≡ head → ((x : Linked (Found R)) → (get_or es id x).value ≡ f) → HasKey d key es head k
-    → (key f.answer.rank ≡ k) × HasRows d key f.answer
+    → key f.solution.rank ≡ k
 head_key {R} d key es head id f k e at h =
     let x : Linked (Found R) = record { value = f; next = None } in
     let same : (get_or es head x).value ≡ f = ap (λ i. (get_or es i x).value) (sym e) ∙ at x in
-    subst (λ (v : Found R). (key v.answer.rank ≡ k) × HasRows d key v.answer) same (h x)
+    subst (λ (v : Found R). key v.solution.rank ≡ k) same (h x)
 
 fresh_more : {R : Type 0} (d : ℕ) (key : R → KeyOf d 16) (t : List (NodeData R)) (nodes : List (NodeLists R)) (v r n : ℕ) (ps : List (ProductData R)) (p : ProductData R)
     → AreFreshTo d key t nodes v r n ps → IsFreshAt d key t nodes v r n p → AreFreshTo d key t nodes v r (n + 1) (ps ++ (p ∷ []))

@@ -4,7 +4,6 @@ use Rattle.std.specs.List.{All}
 use Rattle.std.proofs.lemmas.List.Elements.{All-weaker}
 use Rattle.take2_heap.specs.declared.entry.Entry.{Entry}
 use Rattle.stream_store.specs.declared.entry.Linked.{Linked}
-use Rattle.tdp_core.specs.declared.ranked.Answer.{Answer}
 use Rattle.tdp_core.specs.TreeData.{NodeData, members, group_named, child_count}
 use Rattle.tdp_model.specs.KeyTuple.{KeyOf, key_below, key_add, key_none}
 use Rattle.tdp_model.specs.Product.{Pair, pair_key, stands_for}
@@ -42,8 +41,11 @@ module _ {R : Type 0} (d : ℕ) (key : R → KeyOf d 16) (t : List (NodeData R))
     known = subst (λ (z : StreamData R). All (λ (e : Entry R Source). e.tag.place < row_known nodes' q (get_or (members t q g) e.tag.member 0)) z.queue) (sym same)
         (All-weaker (λ (e : Entry R Source). e.tag.place < row_known nodes q (get_or (members t q g) e.tag.member 0)) (λ (e : Entry R Source). e.tag.place < row_known nodes' q (get_or (members t q g) e.tag.member 0))
         (λ e h. omega (arith, h, rises (get_or (members t q g) e.tag.member 0))) (stream_of nodes q g).queue s.known);
+    found_known = subst (λ (z : List (Entry R Source)). All (λ (e : Entry R Source). e.tag.place < row_known nodes' q (get_or (members t q g) e.tag.member 0)) z) (sym found)
+        (All-weaker (λ (e : Entry R Source). e.tag.place < row_known nodes q (get_or (members t q g) e.tag.member 0)) (λ (e : Entry R Source). e.tag.place < row_known nodes' q (get_or (members t q g) e.tag.member 0))
+        (λ e h. omega (arith, h, rises (get_or (members t q g) e.tag.member 0))) (stream es q g) s.found_known);
     merge = subst (λ (z : StreamData R). IsMerge d key run_of (length (members t q g)) (λ i. part_list d key t q (get_or (members t q g) i 0) (child_count t q)) (group_list d key t q g) (stream es' q g) z.queue) (sym same)
-        (subst (λ (z : List (Answer R)). IsMerge d key run_of (length (members t q g)) (λ i. part_list d key t q (get_or (members t q g) i 0) (child_count t q)) (group_list d key t q g) z (stream_of nodes q g).queue) (sym found) s.merge);
+        (subst (λ (z : List (Entry R Source)). IsMerge d key run_of (length (members t q g)) (λ i. part_list d key t q (get_or (members t q g) i 0) (child_count t q)) (group_list d key t q g) z (stream_of nodes q g).queue) (sym found) s.merge);
   }
 
   -- a frontier whose entries stay

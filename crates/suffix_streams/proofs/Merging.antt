@@ -9,8 +9,7 @@ use Rattle.std.proofs.lemmas.List.Sorted.{All-permutation, length_permutation}
 use Rattle.stream_store.specs.declared.entry.Linked.{Linked}
 use Rattle.take2_heap.specs.declared.entry.Entry.{Entry}
 use Rattle.take2_heap.specs.Order.{IsLeast}
-use Rattle.tdp_core.specs.declared.ranked.Answer.{Answer}
-use Rattle.tdp_core.specs.TreeData.{NodeData, rows, members, child_count, group_count, group_named}
+use Rattle.tdp_core.specs.TreeData.{NodeData, rows, members, child_count, group_count}
 use Rattle.tdp_core.proofs.TreeFacts.{member_is_row}
 use Rattle.tdp_model.specs.KeyTuple.{KeyOf, key_none}
 use Rattle.tdp_model.specs.Product.{Pair, run_key}
@@ -25,16 +24,16 @@ use Rattle.suffix_streams.specs.declared.stream.Found.{Found}
 use Rattle.suffix_streams.specs.ProductData.{ProductData}
 use Rattle.suffix_streams.specs.StreamData.{StreamData}
 use Rattle.suffix_streams.specs.NodeLists.{NodeLists, stream_at, known_of, with_queue}
-use Rattle.suffix_streams.specs.Rankings.{child, part_list, group_list}
-use Rattle.suffix_streams.specs.Frontiers.{HasRows, AreFirst, IsMerge}
-use Rattle.suffix_streams.specs.StreamsData.{node_list, group_list_of, next_list, node_of, group_of, place_of, stream, lists_of, products_of, stream_of, part_known, row_known, run_of, HasKey, HasParts, IsProductOf, AreLefts, HasRow, IsStreamOf, IsStreams}
+use Rattle.suffix_streams.specs.Rankings.{part_list, group_list}
+use Rattle.suffix_streams.specs.Frontiers.{IsMerge}
+use Rattle.suffix_streams.specs.StreamsData.{node_list, group_list_of, next_list, node_of, group_of, place_of, stream, lists_of, products_of, stream_of, part_known, row_known, run_of, IsStreamOf, IsStreams}
 use Rattle.suffix_streams.specs.Growing.{IsReached}
 use Rattle.suffix_streams.proofs.Rankings.{part_ascends}
 use Rattle.suffix_streams.proofs.Stores.{set_length}
 use Rattle.suffix_streams.proofs.Growth.{merge_grows, merge_ends}
 use Rattle.suffix_streams.proofs.Firsts.{lefts_at, known_within}
 use Rattle.suffix_streams.proofs.Entries.{lefts_of}
-use Rattle.suffix_streams.proofs.Kept.{AreHeld, held_itself, stream_stays, product_stays}
+use Rattle.suffix_streams.proofs.Kept.{AreHeld, stream_stays, product_stays}
 use Rattle.suffix_streams.proofs.Changes.{lists_same, lists_other}
 
 module _ {R : Type 0} (d : ℕ) (key : R → KeyOf d 16) (t : List (NodeData R)) (es es' : List (Linked (Found R))) (nodes : List (NodeLists R)) (h : IsStreams d key t es nodes) (held : AreHeld es es') (q g : ℕ)
@@ -88,9 +87,10 @@ module _ {R : Type 0} (d : ℕ) (key : R → KeyOf d 16) (t : List (NodeData R))
   pub queue_set : ((i : ℕ) → i < length es' → (node_of es' i < length t) × (group_of es' i < group_count t (node_of es' i))) → IsLinked (node_list es') (group_list_of es') (next_list es')
       → ((w k : ℕ) → ((w ≢ q) ⊎ (k ≢ g)) → stream es' w k ≡ stream es w k) → length new ≤ length (members t q g)
       → All (λ (e : Entry R Source). e.tag.place < row_known nodes q (get_or (members t q g) e.tag.member 0)) new
+      → All (λ (e : Entry R Source). e.tag.place < row_known nodes q (get_or (members t q g) e.tag.member 0)) (stream es' q g)
       → IsMerge d key run_of (length (members t q g)) (λ i. part_list d key t q (get_or (members t q g) i 0) (child_count t q)) (group_list d key t q g) (stream es' q g) new
       → IsStreams d key t es' queued
-  queue_set owners linked same few known merge = record {
+  queue_set owners linked same few known found_known merge = record {
     tree = h.tree;
     all_nodes = set_length nodes q (with_queue (lists_of nodes q) g new) ∙ h.all_nodes;
     all_children = λ w a. ap length (queued_children w) ∙ h.all_children w a;
@@ -120,6 +120,8 @@ module _ {R : Type 0} (d : ℕ) (key : R → KeyOf d 16) (t : List (NodeData R))
         known = subst (λ (z : StreamData R). All (λ (e : Entry R Source). e.tag.place < row_known queued q (get_or (members t q g) e.tag.member 0)) z.queue) (sym queued_stream)
             (All-weaker (λ (e : Entry R Source). e.tag.place < row_known nodes q (get_or (members t q g) e.tag.member 0)) (λ (e : Entry R Source). e.tag.place < row_known queued q (get_or (members t q g) e.tag.member 0))
             (λ e k. omega (arith, k, queued_row q (get_or (members t q g) e.tag.member 0))) new known);
+        found_known = All-weaker (λ (e : Entry R Source). e.tag.place < row_known nodes q (get_or (members t q g) e.tag.member 0)) (λ (e : Entry R Source). e.tag.place < row_known queued q (get_or (members t q g) e.tag.member 0))
+            (λ e k. omega (arith, k, queued_row q (get_or (members t q g) e.tag.member 0))) (stream es' q g) found_known;
         merge = subst (λ (z : StreamData R). IsMerge d key run_of (length (members t q g)) (λ i. part_list d key t q (get_or (members t q g) i 0) (child_count t q)) (group_list d key t q g) (stream es' q g) z.queue) (sym queued_stream) merge;
       }
 
@@ -134,59 +136,6 @@ module _ {R : Type 0} (d : ℕ) (key : R → KeyOf d 16) (t : List (NodeData R))
           | inl f ↦ subst (λ z. IsStreamOf d key t es' queued z k) (sym e) (subst (λ z. IsStreamOf d key t es' queued q z) (sym f) own)
         ]
       ]
-
-module _ {R : Type 0} (d : ℕ) (key : R → KeyOf d 16) (t : List (NodeData R)) (es : List (Linked (Found R))) (nodes : List (NodeLists R)) (h : IsStreams d key t es nodes) (q g : ℕ)
-    (l : q < length t) (in_group : g < group_count t q) (new : List (Entry R Source)) where
-  abbrev later : List (NodeLists R)
-  later = slice_set nodes q (with_queue (lists_of nodes q) g new)
-
-  head_same : (w k : ℕ) → (stream_of later w k).head ≡ (stream_of nodes w k).head
-  head_same w k = elim (cases_eq w q) [
-    | inr n ↦ ap (λ z. (stream_at z k).head) (queued_other d key t es es nodes h (held_itself es) q g l in_group new w n)
-    | inl e ↦ elim (cases_eq k g) [
-      | inr n ↦ ap (λ z. z.head) (other_stream d key t es es nodes h (held_itself es) q g l in_group new w k (inr n))
-      | inl f ↦ subst (λ z. (stream_of later z k).head ≡ (stream_of nodes z k).head) (sym e) (subst (λ z. (stream_of later q z).head ≡ (stream_of nodes q z).head) (sym f) (ap (λ z. z.head) (queued_stream d key t es es nodes h (held_itself es) q g l in_group new)))
-    ]
-  ]
-
-  lefts_same : (r c : ℕ) → AreLefts d key t nodes q r c → AreLefts d key t later q r c
-  lefts_same r zero a = tt
-  lefts_same r (suc c) a =
-      subst (λ (ps : List (List (ProductData R))). AreFirst d key (get_or (get_or ps r []) c (record { found = []; frontier = []; room = 0; frontier_room = 0 })).found (part_list d key t q r (suc c))) (sym (queued_products d key t es es nodes h (held_itself es) q g l in_group new q)) a
-
-  rows_same : (r : ℕ) → length (products_of later q r) ≡ length (products_of nodes q r)
-  rows_same r = ap (λ z. length (get_or z r [])) (queued_products d key t es es nodes h (held_itself es) q g l in_group new q)
-
-  parts_same : (r c : ℕ) → HasParts d key t es nodes q r c → HasParts d key t es later q r c
-  parts_same r c a = record {
-    node = omega (arith, a.node, set_length nodes q (with_queue (lists_of nodes q) g new));
-    count = omega (arith, a.count, rows_same r);
-    lefts = lefts_same r c a.lefts;
-    rights = a.rights;
-    fits = a.fits;
-  }
-
-  product_same : (r c : ℕ) → IsProductOf d key t es nodes q r c → IsProductOf d key t es later q r c
-  product_same r c a =
-      product_stays d key t es es nodes later (held_itself es) q r c (ap (λ (ps : List (List (ProductData R))). (get_or (get_or ps r []) c (record { found = []; frontier = []; room = 0; frontier_room = 0 })).found) (queued_products d key t es es nodes h (held_itself es) q g l in_group new q))
-      (ap (λ (ps : List (List (ProductData R))). (get_or (get_or ps r []) c (record { found = []; frontier = []; room = 0; frontier_room = 0 })).frontier) (queued_products d key t es es nodes h (held_itself es) q g l in_group new q))
-      (omega (arith, queued_known d key t es es nodes h (held_itself es) q g l in_group new q r c)) a
-
-  -- what is read of a row after the queue has changed
-  pub row_after : (r : ℕ) → HasRow d key t es nodes q r → HasRow d key t es later q r
-  row_after r a = record {
-    headed = record {
-      all_nodes = set_length nodes q (with_queue (lists_of nodes q) g new) ∙ a.headed.all_nodes;
-      all_children = ap length (queued_children d key t es es nodes h (held_itself es) q g l in_group new q) ∙ a.headed.all_children;
-      children = λ c k. ap (λ z. get_or z c 0) (queued_children d key t es es nodes h (held_itself es) q g l in_group new q) ∙ a.headed.children c k;
-      streams = λ c k. omega (arith, a.headed.streams c k, queued_streams d key t es es nodes h (held_itself es) q g l in_group new (child t q c));
-      heads = λ c k. omega (arith, a.headed.heads c k, head_same (child t q c) (group_named t q r c));
-      keys = λ c k. subst (λ i. HasKey d key es i (get_or (group_list d key t (child t q c) (group_named t q r c)) 0 (key_none d 16))) (sym (head_same (child t q c) (group_named t q r c))) (a.headed.keys c k);
-    };
-    whole = λ some. ap (λ z. length (get_or z r [])) (queued_products d key t es es nodes h (held_itself es) q g l in_group new q)
-        ∙ a.whole (omega (arith, some, ap (λ z. length (get_or z r [])) (queued_products d key t es es nodes h (held_itself es) q g l in_group new q)));
-    parts = λ c k. (parts_same r c (a.parts c (omega (arith, k, rows_same r))).0, product_same r c (a.parts c (omega (arith, k, rows_same r))).1);
-  }
 
 -- the offer for the member whose solution was passed last: its next solution, if there is one
 pub record IsNextOffer {R : Type 0} (n : NodeLists R) (r : ℕ) (next : Source) (offer : Option (Entry R Source)) : Type 0 where
@@ -283,12 +232,11 @@ module _ {R : Type 0} (d : ℕ) (key : R → KeyOf d 16) (t : List (NodeData R))
       merge_ends d key n lists (group_list d key t q g) (λ i k. part_ascends d key t q (get_or (members t q g) i 0) (child_count t q)) run_of (stream es q g) queue offer top own.merge some is_top least
       (subst (λ z. IsPermutation (offers offer None queue) (top ∷ z)) e moved) all_facts.0 top_held.0 all_facts.2
 
-  pub group_grows : (after : Entry R Source) (answer : Answer R) → 0 < length new → after ≡ get_or new 0 after → IsLeast d key after new → key answer.rank ≡ run_key (key_none d 16) lists (run_of after.tag) → HasRows d key answer
-      → IsMerge d key run_of n lists (group_list d key t q g) (stream es q g ++ (answer ∷ [])) new
-  group_grows after answer more is_after after_least k rs =
-      let held : Held after = subst Held (sym is_after) (All-get_or Held new 0 after more queue_held) in
-      (merge_grows d key n lists (group_list d key t q g) (λ i k. part_ascends d key t q (get_or (members t q g) i 0) (child_count t q)) run_of (stream es q g) queue new offer top after answer own.merge some is_top least
-      moved all_facts.0 top_held.0 all_facts.2 more is_after after_least (k ∙ sym held.1) rs).1
+  pub group_grows : (after : Entry R Source) → 0 < length new → after ≡ get_or new 0 after → IsLeast d key after new
+      → IsMerge d key run_of n lists (group_list d key t q g) (stream es q g ++ (after ∷ [])) new
+  group_grows after more is_after after_least =
+      (merge_grows d key n lists (group_list d key t q g) (λ i k. part_ascends d key t q (get_or (members t q g) i 0) (child_count t q)) run_of (stream es q g) queue new offer top after own.merge some is_top least
+      moved all_facts.0 top_held.0 all_facts.2 more is_after after_least).1
 
 -- the offer that was made, in terms of the lists
 pub next_offer : {R : Type 0} (n m : NodeLists R) (r member place : ℕ) (next : Source) (offer : Option (Entry R Source)) → n ≡ m → next.member ≡ member → next.place ≡ place + 1

@@ -16,7 +16,7 @@ use Rattle.suffix_streams.specs.ProductData.{ProductData}
 use Rattle.suffix_streams.specs.NodeLists.{NodeLists}
 use Rattle.suffix_streams.specs.Rankings.{child, part_list, group_list}
 use Rattle.suffix_streams.specs.Frontiers.{IsFrontier}
-use Rattle.suffix_streams.specs.StreamsData.{node_of, group_of, place_of, lists_of, products_of, product_of, stream_of, part_known, row_known, pair_of, IsStreamOf, IsProductOf, IsStreams, IsFreshAt, AreFreshTo}
+use Rattle.suffix_streams.specs.StreamsData.{node_of, group_of, place_of, lists_of, products_of, product_of, part_known, row_known, pair_of, IsStreamOf, IsProductOf, IsStreams, IsFreshAt, AreFreshTo}
 use Rattle.suffix_streams.proofs.Rankings.{kid, part_ascends, group_ascends, group_some, sums_begin}
 use Rattle.suffix_streams.proofs.Stores.{set_length, open_all}
 use Rattle.suffix_streams.proofs.Growth.{frontier_begins}

@@ -1,62 +1,141 @@
--- The row numbers of a solution, from those of its left part and of its right part.
-use Rattle.std.proofs.Common.{◌≡◌, ℕ, suc, ◌<◌, ◌+◌, ◌^◌, List, [], ◌∷◌, length, get_or, refl, sym, ap, ◌∙◌, subst, arith}
+-- What the rows of a solution are read from: the source of an entry, and the parts of a solution of a row.
+use Rattle.std.proofs.Common.{◌≡◌, ℕ, zero, suc, ◌+◌, ◌<◌, None, List, [], ◌∷◌, length, get_or, refl, sym, ap, ◌∙◌, subst, inl, inr, arith}
+use Rattle.std.proofs.lemmas.Bool.{cases_lt}
 use Rattle.std.proofs.lemmas.List.Elements.{All-get_or}
 use Rattle.rank_key.specs.Keys.{KeyFits}
 use Rattle.stream_store.specs.declared.entry.Linked.{Linked}
 use Rattle.take2_heap.specs.declared.entry.Entry.{Entry}
-use Rattle.tdp_core.specs.Seen.{rows_of_key}
-use Rattle.tdp_core.specs.TreeData.{NodeData, group_named}
-use Rattle.tdp_core.specs.WellFormed.{IsFormed}
+use Rattle.tdp_core.specs.TreeData.{NodeData, rows, members, child_count, group_count, group_named}
+use Rattle.tdp_core.specs.WellFormed.{IsTieFreeTree}
+use Rattle.tdp_core.proofs.TreeFacts.{member_is_row}
 use Rattle.tdp_model.specs.KeyTuple.{KeyOf, key_add, key_none}
-use Rattle.tdp_model.specs.Product.{pair_key}
-use Rattle.stream_model.specs.Held.{IsHeld, InProduct}
+use Rattle.tdp_model.specs.Product.{pair_key, run_key}
+use Rattle.stream_model.specs.Held.{IsHeld, InProduct, InRuns}
 use Rattle.stream_cells.specs.declared.cell.Cell.{Cell}
+use Rattle.stream_cells.specs.declared.source.Source.{Source}
 use Rattle.suffix_streams.specs.declared.stream.Found.{Found}
 use Rattle.suffix_streams.specs.NodeLists.{NodeLists}
 use Rattle.suffix_streams.specs.Rankings.{child, part_list, group_list}
-use Rattle.suffix_streams.specs.Frontiers.{HasRows}
-use Rattle.suffix_streams.specs.StreamsData.{node_of, group_of, place_of, product_of, part_known, pair_of, IsProductOf, HasParts}
-use Rattle.suffix_streams.proofs.Rows.{sums_fit, joined_are}
-use Rattle.suffix_streams.proofs.Heads.{head_key}
-use Rattle.suffix_streams.proofs.Firsts.{first_at}
+use Rattle.suffix_streams.specs.StreamsData.{node_of, group_of, place_of, stream, products_of, product_of, stream_of, part_known, row_known, pair_of, run_of, IsStreams}
+use Rattle.suffix_streams.specs.Parts.{IsKnownPart, IsSumOf}
+use Rattle.suffix_streams.proofs.Rankings.{kid, group_some, sum_fits}
+use Rattle.suffix_streams.proofs.Stores.{node_value, group_value}
+use Rattle.suffix_streams.proofs.Firsts.{first_at, first_sum, part_some}
+use Rattle.suffix_streams.proofs.Entries.{named_stream, parts_of}
+use Rattle.suffix_streams.proofs.ViewEntries.{entry-at}
+use Rattle.suffix_streams.proofs.ViewPrefixes.{place_in_stream, entry_solution}
 
--- the cell of the solution at a place of product number c of row r of node v, and what is read
--- there
-pub record IsSumAt {R : Type 0} (d : ℕ) (key : R → KeyOf d 16) (t : List (NodeData R)) (es : List (Linked (Found R))) (nodes : List (NodeLists R)) (v r c place : ℕ) (cell : Cell) : Type 0 where
-  pub left : cell.left < part_known nodes v r c
-  pub right : cell.right < length es
-  pub joined : (xs : List ℕ) (f : Found R) → ((x : Linked (Found R)) → (get_or es cell.right x).value ≡ f) → xs ≡ rows_of_key d 16 (get_or (part_list d key t v r c) cell.left (key_none d 16))
-      → ((i : ℕ) → i < 16 → get_or xs i 0 + get_or f.answer.rows i 0 < 2 ^ 32)
-      × ((zs : List ℕ) → length zs ≡ 16 → ((i : ℕ) → i < 16 → get_or zs i 0 ≡ get_or xs i 0 + get_or f.answer.rows i 0) → zs ≡ rows_of_key d 16 (get_or (part_list d key t v r (suc c)) place (key_none d 16)))
+-- the solution of entry i, of group g of node v, is the one of a member that its source names
+pub record IsSourceAt {R : Type 0} (d : ℕ) (key : R → KeyOf d 16) (t : List (NodeData R)) (es : List (Linked (Found R))) (nodes : List (NodeLists R)) (i v g : ℕ) (s : Source) : Type 0 where
+  pub owner : node_of es i ≡ v
+  pub node : v < length t
+  pub group : g < group_count t v
+  pub member : s.member < length (members t v g)
+  pub row : get_or (members t v g) s.member 0 < rows t v
+  pub place : IsKnownPart nodes v (get_or (members t v g) s.member 0) (child_count t v) s.place
+  pub same : get_or (part_list d key t v (get_or (members t v g) s.member 0) (child_count t v)) s.place (key_none d 16) ≡ get_or (group_list d key t (node_of es i) (group_of es i)) (place_of es i) (key_none d 16)
 
-pub sum_at : {R : Type 0} (d : ℕ) (key : R → KeyOf d 16) (t : List (NodeData R)) (es : List (Linked (Found R))) (nodes : List (NodeLists R)) (v r c place : ℕ) (cell : Cell) → HasParts d key t es nodes v r c × IsProductOf d key t es nodes v r c
-    → place < length (product_of nodes v r c).found → ((x : Entry R Cell) → cell ≡ (get_or (product_of nodes v r c).found place x).tag) → IsSumAt d key t es nodes v r c place cell
-sum_at {R} d key t es nodes v r c place cell p l is = at (an_entry (product_of nodes v r c).found place l)
-  where
-    an_entry : (xs : List (Entry R Cell)) (i : ℕ) → i < length xs → Entry R Cell
-    an_entry [] i l = absurd (omega arith)
-    an_entry (x ∷ xs) i l = x
+module _ {R : Type 0} (d : ℕ) (key : R → KeyOf d 16) (t : List (NodeData R)) (es : List (Linked (Found R))) (nodes : List (NodeLists R)) (h : IsStreams d key t es nodes) where
+  -- a known solution of a row, by the row's products
+  known_part : (v r place : ℕ) → v < length t → r < rows t v → place < row_known nodes v r → IsKnownPart nodes v r (child_count t v) place
+  known_part v r place l row k = record {
+    found = λ some. subst (λ z. place < part_known nodes v r z) (h.whole_rows v r l row some) k;
+    first = λ none. let one : row_known nodes v r ≡ 1 = ap (λ z. part_known nodes v r z) none in omega (arith, one, k);
+  }
 
-    at : Entry R Cell → IsSumAt d key t es nodes v r c place cell
-    at x =
-        let e : Entry R Cell = get_or (product_of nodes v r c).found place x in
-        let k : (e.tag.left < part_known nodes v r c) × (e.tag.right < length es) × (node_of es e.tag.right ≡ child t v c) × (group_of es e.tag.right ≡ group_named t v r c) =
-        All-get_or (λ (e : Entry R Cell). (e.tag.left < part_known nodes v r c) × (e.tag.right < length es) × (node_of es e.tag.right ≡ child t v c) × (group_of es e.tag.right ≡ group_named t v r c)) (product_of nodes v r c).found place x l p.1.found_known in
-        let held : IsHeld d key (pair_key (key_add d 16) (key_none d 16) (part_list d key t v r c) (group_list d key t (child t v c) (group_named t v r c))) (InProduct d (part_list d key t v r c) (group_list d key t (child t v c) (group_named t v r c))) (pair_of es) e =
-        All-get_or (IsHeld d key (pair_key (key_add d 16) (key_none d 16) (part_list d key t v r c) (group_list d key t (child t v c) (group_named t v r c))) (InProduct d (part_list d key t v r c) (group_list d key t (child t v c) (group_named t v r c))) (pair_of es)) (product_of nodes v r c).found place x l p.1.sums.kept in
-        let whole : key e.rank ≡ get_or (part_list d key t v r (suc c)) place (key_none d 16) = first_at d key (product_of nodes v r c).found (part_list d key t v r (suc c)) place x p.1.sums.prefix l in
-        let right = p.0.rights e.tag.right k.1 k.2 k.3 in
-        let fits : KeyFits d (key_add d 16 (get_or (part_list d key t v r c) e.tag.left (key_none d 16)) (get_or (group_list d key t (child t v c) (group_named t v r c)) (place_of es e.tag.right) (key_none d 16))) = p.0.fits e.tag.left (place_of es e.tag.right) held.0.0 held.0.1 in
-        subst (λ (z : Cell). IsSumAt d key t es nodes v r c place z) (sym (is x))
-        (record {
-          left = k.0;
-          right = k.1;
-          joined = λ xs f value rows.
-              let h = head_key d key es e.tag.right e.tag.right f _ refl value right.1 in
-              let fit = subst (λ (z : KeyOf d 16). KeyFits d (key_add d 16 (get_or (part_list d key t v r c) e.tag.left (key_none d 16)) z)) (sym h.0) fits in
-              let sum : key_add d 16 (get_or (part_list d key t v r c) e.tag.left (key_none d 16)) (key f.answer.rank) ≡ get_or (part_list d key t v r (suc c)) place (key_none d 16) =
-              ap (λ z. key_add d 16 (get_or (part_list d key t v r c) e.tag.left (key_none d 16)) z) h.0 ∙ sym held.1 ∙ whole in (
-                sums_fit d xs f.answer.rows (get_or (part_list d key t v r c) e.tag.left (key_none d 16)) (key f.answer.rank) rows h.1 fit,
-                λ zs n sums. joined_are d xs f.answer.rows (get_or (part_list d key t v r c) e.tag.left (key_none d 16)) (key f.answer.rank) rows h.1 zs n sums ∙ ap (rows_of_key d 16) sum,
-              );
-        })
+  -- without children it is the first one
+  pub known_own : (v r c place : ℕ) → c ≡ 0 → IsKnownPart nodes v r c place → place < part_known nodes v r c
+  known_own v r zero place e k = elim (cases_lt 0 (length (products_of nodes v r))) [
+    | inl some ↦ k.found some
+    | inr none ↦ omega (arith, k.first (omega (arith, none)))
+  ]
+  known_own v r (suc c) place e k = absurd (omega arith)
+
+  abbrev Known : ℕ → ℕ → Entry R Source → Type 0
+  Known v g e = e.tag.place < row_known nodes v (get_or (members t v g) e.tag.member 0)
+
+  abbrev Held : ℕ → ℕ → Entry R Source → Type 0
+  Held v g = IsHeld d key (run_key (key_none d 16) (λ i. part_list d key t v (get_or (members t v g) i 0) (child_count t v)))
+      (InRuns d (length (members t v g)) (λ i. part_list d key t v (get_or (members t v g) i 0) (child_count t v))) run_of
+
+  pub source_at : (i : ℕ) (f : Found R) → i < length es → ((x : Linked (Found R)) → (get_or es i x).value ≡ f) → IsSourceAt d key t es nodes i f.node f.group f.solution.tag
+  source_at i f l value =
+      let own = h.owners i l in
+      let x : Linked (Found R) = record { value = f; next = None } in
+      let s = h.streams (node_of es i) (group_of es i) own.0 own.1 in
+      let within = place_in_stream d key t es nodes h i l in
+      let same : get_or (stream es (node_of es i) (group_of es i)) (place_of es i) f.solution ≡ f.solution = entry-at es i x f.solution l ∙ ap (λ z. z.solution) (value x) in
+      let known : Known (node_of es i) (group_of es i) f.solution = subst (Known (node_of es i) (group_of es i)) same (All-get_or (Known (node_of es i) (group_of es i)) (stream es (node_of es i) (group_of es i)) (place_of es i) f.solution within s.found_known) in
+      let held : Held (node_of es i) (group_of es i) f.solution = subst (Held (node_of es i) (group_of es i)) same (All-get_or (Held (node_of es i) (group_of es i)) (stream es (node_of es i) (group_of es i)) (place_of es i) f.solution within s.merge.kept) in
+      let row = member_is_row d key t h.tree (node_of es i) (group_of es i) f.solution.tag.member own.0 held.0.0 in
+      subst (λ v. IsSourceAt d key t es nodes i v f.group f.solution.tag) (node_value es i x l ∙ ap (λ z. z.node) (value x))
+      (subst (λ g. IsSourceAt d key t es nodes i (node_of es i) g f.solution.tag) (group_value es i x l ∙ ap (λ z. z.group) (value x))
+      (record {
+        owner = refl;
+        node = own.0;
+        group = own.1;
+        member = held.0.0;
+        row = row;
+        place = known_part (node_of es i) (get_or (members t (node_of es i) (group_of es i)) f.solution.tag.member 0) f.solution.tag.place own.0 row known;
+        same = sym held.1 ∙ (entry_solution d key t es nodes h i f l value).1;
+      }))
+
+  -- the first solution of a row without products is the sum of first solutions
+  pub first_cell : IsTieFreeTree t → (v r c place head : ℕ) → v < length t → r < rows t v → c < child_count t v → length (products_of nodes v r) ≡ 0 → IsKnownPart nodes v r (c + 1) place
+      → head ≡ (stream_of nodes (child t v c) (group_named t v r c)).head → IsSumOf d key t es nodes v r c place (record { left = 0; right = head })
+  first_cell apart v r c place head l row in_kids none known at =
+      let named = named_stream d key t es nodes h v r c l row in_kids in
+      let inside = (kid d key t h.tree v c in_kids).within in
+      let s = h.streams (child t v c) (group_named t v r c) inside named in
+      let some = part_some d key t h.tree apart v r c l row (omega arith) in
+      let zero : 0 ≡ place = omega (arith, known.first none) in
+      let more : suc c ≡ c + 1 = omega arith in
+      let first : 0 ≡ place_of es (stream_of nodes (child t v c) (group_named t v r c)).head = sym s.head_place in
+      subst (λ z. IsSumOf d key t es nodes v r c place (record { left = 0; right = z })) (sym at)
+      (record {
+        left = record { found = λ a. absurd (omega (arith, a, none)); first = λ a. refl };
+        right = s.head_in;
+        node = s.head_node;
+        group = s.head_group;
+        sum = subst (λ p. get_or (part_list d key t v r (c + 1)) place (key_none d 16) ≡ key_add d 16 (get_or (part_list d key t v r c) 0 (key_none d 16)) (get_or (group_list d key t (child t v c) (group_named t v r c)) p (key_none d 16))) first
+            (ap (λ z. get_or (part_list d key t v r z) place (key_none d 16)) (sym more) ∙ ap (λ p. get_or (part_list d key t v r (suc c)) p (key_none d 16)) (sym zero) ∙ (first_sum d key t h.tree apart v r c l row in_kids some).1);
+        fits = subst (λ p. KeyFits d (key_add d 16 (get_or (part_list d key t v r c) 0 (key_none d 16)) (get_or (group_list d key t (child t v c) (group_named t v r c)) p (key_none d 16)))) first
+            (sum_fits d key t h.tree v r c 0 0 l in_kids some (group_some d key t h.tree (child t v c) (group_named t v r c) inside named));
+      })
+
+  abbrev KnownCell : ℕ → ℕ → ℕ → Entry R Cell → Type 0
+  KnownCell v r c e = (e.tag.left < part_known nodes v r c) × (e.tag.right < length es) × (node_of es e.tag.right ≡ child t v c) × (group_of es e.tag.right ≡ group_named t v r c)
+
+  abbrev HeldCell : ℕ → ℕ → ℕ → Entry R Cell → Type 0
+  HeldCell v r c = IsHeld d key (pair_key (key_add d 16) (key_none d 16) (part_list d key t v r c) (group_list d key t (child t v c) (group_named t v r c)))
+      (InProduct d (part_list d key t v r c) (group_list d key t (child t v c) (group_named t v r c))) (pair_of es)
+
+  -- a solution of a product is the sum of its cell's parts
+  pub product_cell : (v r c place : ℕ) (cell : Cell) → v < length t → r < rows t v → c < child_count t v → 0 < length (products_of nodes v r) → IsKnownPart nodes v r (c + 1) place
+      → ((x : Entry R Cell) → cell ≡ (get_or (product_of nodes v r c).found place x).tag) → IsSumOf d key t es nodes v r c place cell
+  product_cell v r c place cell l row in_kids some known is =
+      let more : c + 1 ≡ suc c = omega arith in
+      at (omega (arith, in_kids, h.whole_rows v r l row some)) (subst (λ z. place < part_known nodes v r z) more (known.found some))
+    where
+      an_entry : (xs : List (Entry R Cell)) (i : ℕ) → i < length xs → Entry R Cell
+      an_entry [] i l = absurd (omega arith)
+      an_entry (x ∷ xs) i l = x
+
+      at : c < length (products_of nodes v r) → place < length (product_of nodes v r c).found → IsSumOf d key t es nodes v r c place cell
+      at in_row k =
+          let x : Entry R Cell = an_entry (product_of nodes v r c).found place k in
+          let e : Entry R Cell = get_or (product_of nodes v r c).found place x in
+          let p = h.products v r c l row in_row in
+          let found : KnownCell v r c e = All-get_or (KnownCell v r c) (product_of nodes v r c).found place x k p.found_known in
+          let held : HeldCell v r c e = All-get_or (HeldCell v r c) (product_of nodes v r c).found place x k p.sums.kept in
+          let whole : key e.rank ≡ get_or (part_list d key t v r (suc c)) place (key_none d 16) = first_at d key (product_of nodes v r c).found (part_list d key t v r (suc c)) place x p.sums.prefix k in
+          let more : c + 1 ≡ suc c = omega arith in
+          subst (λ (z : Cell). IsSumOf d key t es nodes v r c place z) (sym (is x))
+          (record {
+            left = record { found = λ a. found.0; first = λ none. absurd (omega (arith, some, none)) };
+            right = found.1;
+            node = found.2;
+            group = found.3;
+            sum = ap (λ z. get_or (part_list d key t v r z) place (key_none d 16)) more ∙ sym whole ∙ held.1;
+            fits = (parts_of d key t es nodes h v r c l row in_row).fits e.tag.left (place_of es e.tag.right) held.0.0 held.0.1;
+          })

@@ -6,7 +6,6 @@ use Rattle.std.proofs.lemmas.List.Elements.{All-get_or}
 use Rattle.stream_store.specs.declared.entry.Linked.{Linked}
 use Rattle.take2_heap.specs.declared.entry.Entry.{Entry}
 use Rattle.take2_heap.specs.Order.{IsLeast}
-use Rattle.tdp_core.specs.declared.ranked.Answer.{Answer}
 use Rattle.tdp_core.specs.TreeData.{NodeData, rows, members, child_count, group_count}
 use Rattle.tdp_model.specs.KeyTuple.{KeyOf, key_none}
 use Rattle.tdp_model.specs.Product.{run_key}
@@ -18,16 +17,16 @@ use Rattle.stream_cells.specs.declared.source.Source.{Source}
 use Rattle.suffix_streams.specs.declared.stream.Found.{Found}
 use Rattle.suffix_streams.specs.NodeLists.{NodeLists, stream_at, known_of, with_queue}
 use Rattle.suffix_streams.specs.Rankings.{part_list, group_list}
-use Rattle.suffix_streams.specs.Frontiers.{HasRows, IsMerge}
-use Rattle.suffix_streams.specs.StreamsData.{node_of, group_of, next_of, node_size, node_list, group_list_of, next_list, stream, lists_of, products_of, stream_of, row_known, run_of, HasRow, IsStreams}
+use Rattle.suffix_streams.specs.Frontiers.{IsMerge}
+use Rattle.suffix_streams.specs.StreamsData.{node_of, group_of, next_of, node_size, node_list, group_list_of, next_list, stream, lists_of, products_of, stream_of, row_known, run_of, IsStreams}
 use Rattle.suffix_streams.specs.Growing.{IsReached, IsStoreGrown}
 use Rattle.suffix_streams.proofs.Heads.{lists_at}
 use Rattle.suffix_streams.proofs.Kept.{AreHeld, held_itself}
 use Rattle.suffix_streams.proofs.StepCells.{first_of}
-use Rattle.suffix_streams.proofs.Entries.{row_of}
+use Rattle.suffix_streams.proofs.State.{all_more}
 use Rattle.suffix_streams.proofs.Stores.{any_default, with_entry, entry_added, size_longer, last_next, all_linked, stream_same, stream_longer}
 use Rattle.suffix_streams.proofs.Linked.{entries_are, all_owned, flipped}
-use Rattle.suffix_streams.proofs.Merging.{top_row, next_offer, queue_set, queued_row, row_after, queue_held, queue_known, queue_few, group_ends, group_grows}
+use Rattle.suffix_streams.proofs.Merging.{top_row, next_offer, queue_set, queue_held, queue_known, queue_few, group_ends, group_grows}
 
 -- the list of a member's solutions
 abbrev pub lists_of_member : {R : Type 0} (d : ℕ) (key : R → KeyOf d 16) → List (NodeData R) → ℕ → ℕ → ℕ → List (KeyOf d 16)
@@ -61,8 +60,8 @@ pub record IsQueuePassed {R : Type 0} (d : ℕ) (key : R → KeyOf d 16) (t : Li
   pub known : All (λ (e : Entry R Source). e.tag.place < row_known n v (get_or (members t v g) e.tag.member 0)) q
   pub held : All (IsHeld d key (run_key (key_none d 16) (lists_of_member d key t v g)) (InRuns d (length (members t v g)) (lists_of_member d key t v g)) run_of) q
   pub ends : q ≡ [] → (length (stream es v g) ≡ length (group_list d key t v g)) × IsMerge d key run_of (length (members t v g)) (lists_of_member d key t v g) (group_list d key t v g) (stream es v g) []
-  pub grows : (after : Entry R Source) (answer : Answer R) → 0 < length q → after ≡ get_or q 0 after → IsLeast d key after q → key answer.rank ≡ run_key (key_none d 16) (lists_of_member d key t v g) (run_of after.tag) → HasRows d key answer
-      → IsMerge d key run_of (length (members t v g)) (lists_of_member d key t v g) (group_list d key t v g) (stream es v g ++ (answer ∷ [])) q
+  pub grows : (after : Entry R Source) → 0 < length q → after ≡ get_or q 0 after → IsLeast d key after q
+      → IsMerge d key run_of (length (members t v g)) (lists_of_member d key t v g) (group_list d key t v g) (stream es v g ++ (after ∷ [])) q
 
 -- a and b are the lists of node v that were read, for the offer and for the queue
 pub queue_passed : {R : Type 0} {d : ℕ} {key : R → KeyOf d 16} {t : List (NodeData R)} {es : List (Linked (Found R))} {n : List (NodeLists R)} {last v g r : ℕ} → IsGroupTop d key t es n last v g r → (next : Source) (offer : Option (Entry R Source))
@@ -99,42 +98,23 @@ queue_passed {R} {d} {key} {t} {es} {n} {last} {v} {g} {r} top next offer q a b 
     }
 
 module _ {R : Type 0} {d : ℕ} {key : R → KeyOf d 16} {t : List (NodeData R)} {es : List (Linked (Found R))} {n : List (NodeLists R)} {v g : ℕ} {q : List (Entry R Source)} (p : IsQueuePassed d key t es n v g q) where
+  abbrev Known : Entry R Source → Type 0
+  Known e = e.tag.place < row_known n v (get_or (members t v g) e.tag.member 0)
+
   -- if the queue is empty, the stream is the whole ranking
   pub passed_ends : q ≡ [] → IsStreams d key t es (slice_set n v (with_queue (lists_of n v) g q))
   passed_ends empty =
-      queue_set d key t es es n p.before (held_itself es) v g p.node p.group q p.before.owners p.before.linked (λ w k z. refl) p.few p.known
+      queue_set d key t es es n p.before (held_itself es) v g p.node p.group q p.before.owners p.before.linked (λ w k z. refl) p.few p.known (p.before.streams v g p.node p.group).found_known
       (subst (λ z. IsMerge d key run_of (length (members t v g)) (lists_of_member d key t v g) (group_list d key t v g) (stream es v g) z) (sym empty) (p.ends empty).1)
 
   -- the store b has one more entry, which stands for `after`
-  pub passed_grows : (b : List (Linked (Found R))) (after : Entry R Source) (answer : Answer R) → AreHeld es b → ((i : ℕ) → i < length b → (node_of b i < length t) × (group_of b i < group_count t (node_of b i)))
-      → IsLinked (node_list b) (group_list_of b) (next_list b) → ((w k : ℕ) → ((w ≢ v) ⊎ (k ≢ g)) → stream b w k ≡ stream es w k) → stream b v g ≡ stream es v g ++ (answer ∷ [])
-      → 0 < length q → after ≡ get_or q 0 after → IsLeast d key after q → key answer.rank ≡ run_key (key_none d 16) (lists_of_member d key t v g) (run_of after.tag) → HasRows d key answer
-      → IsStreams d key t b (slice_set n v (with_queue (lists_of n v) g q))
-  passed_grows b after answer held owners linked others longer some first least key_is rows_is =
+  pub passed_grows : (b : List (Linked (Found R))) (after : Entry R Source) → AreHeld es b → ((i : ℕ) → i < length b → (node_of b i < length t) × (group_of b i < group_count t (node_of b i)))
+      → IsLinked (node_list b) (group_list_of b) (next_list b) → ((w k : ℕ) → ((w ≢ v) ⊎ (k ≢ g)) → stream b w k ≡ stream es w k) → stream b v g ≡ stream es v g ++ (after ∷ [])
+      → 0 < length q → after ≡ get_or q 0 after → IsLeast d key after q → IsStreams d key t b (slice_set n v (with_queue (lists_of n v) g q))
+  passed_grows b after held owners linked others longer some first least =
       queue_set d key t es b n p.before held v g p.node p.group q owners linked others p.few p.known
-      (subst (λ z. IsMerge d key run_of (length (members t v g)) (lists_of_member d key t v g) (group_list d key t v g) z q) (sym longer) (p.grows after answer some first least key_is rows_is))
-
-  -- the member and the place of an entry of the queue
-  pub queued_member : (e : Entry R Source) → 0 < length q → e ≡ get_or q 0 e → e.tag.member < length (members t v g)
-  queued_member e some first =
-      (subst (IsHeld d key (run_key (key_none d 16) (lists_of_member d key t v g)) (InRuns d (length (members t v g)) (lists_of_member d key t v g)) run_of) (sym first)
-      (All-get_or (IsHeld d key (run_key (key_none d 16) (lists_of_member d key t v g)) (InRuns d (length (members t v g)) (lists_of_member d key t v g)) run_of) q 0 e some p.held)).0.0
-
-  pub queued_key : (e : Entry R Source) → 0 < length q → e ≡ get_or q 0 e → key e.rank ≡ get_or (part_list d key t v (get_or (members t v g) e.tag.member 0) (child_count t v)) e.tag.place (key_none d 16)
-  queued_key e some first =
-      (subst (IsHeld d key (run_key (key_none d 16) (lists_of_member d key t v g)) (InRuns d (length (members t v g)) (lists_of_member d key t v g)) run_of) (sym first)
-      (All-get_or (IsHeld d key (run_key (key_none d 16) (lists_of_member d key t v g)) (InRuns d (length (members t v g)) (lists_of_member d key t v g)) run_of) q 0 e some p.held)).1
-
-  pub queued_place : (e : Entry R Source) → 0 < length q → e ≡ get_or q 0 e → e.tag.place < row_known (slice_set n v (with_queue (lists_of n v) g q)) v (get_or (members t v g) e.tag.member 0)
-  queued_place e some first =
-      omega (
-        arith,
-        subst (λ (z : Entry R Source). z.tag.place < row_known n v (get_or (members t v g) z.tag.member 0)) (sym first) (All-get_or (λ (z : Entry R Source). z.tag.place < row_known n v (get_or (members t v g) z.tag.member 0)) q 0 e some p.known),
-        queued_row d key t es es n p.before (held_itself es) v g p.node p.group q v (get_or (members t v g) e.tag.member 0),
-      )
-
-  pub row_read : (r : ℕ) → r < rows t v → HasRow d key t es (slice_set n v (with_queue (lists_of n v) g q)) v r
-  row_read r in_rows = row_after d key t es n p.before v g p.node p.group q r (row_of d key t es n p.before v r p.node in_rows)
+      (subst (All Known) (sym longer) (all_more Known (stream es v g) after (p.before.streams v g p.node p.group).found_known (subst Known (sym first) (All-get_or Known q 0 after some p.known))))
+      (subst (λ z. IsMerge d key run_of (length (members t v g)) (lists_of_member d key t v g) (group_list d key t v g) z q) (sym longer) (p.grows after some first least))
 
 -- # The store with one more entry, to which the last entry of its stream links
 
@@ -145,14 +125,14 @@ pub record IsEntryLinked {R : Type 0} (t : List (NodeData R)) (es es2 : List (Li
   pub owners : (i : ℕ) → i < length es2 → (node_of es2 i < length t) × (group_of es2 i < group_count t (node_of es2 i))
   pub linked : IsLinked (node_list es2) (group_list_of es2) (next_list es2)
   pub others : (w k : ℕ) → ((w ≢ f.node) ⊎ (k ≢ f.group)) → stream es2 w k ≡ stream es w k
-  pub longer : stream es2 f.node f.group ≡ stream es f.node f.group ++ (f.answer ∷ [])
+  pub longer : stream es2 f.node f.group ≡ stream es f.node f.group ++ (f.solution ∷ [])
 
 -- es1 is the store with the entry, and es2 the store with the link too
-pub entry_linked : {R : Type 0} {d : ℕ} {key : R → KeyOf d 16} {t : List (NodeData R)} {es : List (Linked (Found R))} {n : List (NodeLists R)} {last v g r : ℕ} → IsGroupTop d key t es n last v g r → (answer : Answer R) (es1 es2 : List (Linked (Found R)))
-    (id : ℕ) → IsStreams d key t es n → last < length es → node_of es last ≡ v → group_of es last ≡ g → next_of es last ≡ None → id ≡ length es → es1 ≡ es ++ (record { value = record { node = v; group = g; answer = answer }; next = None } ∷ [])
-    → ((x : Linked (Found R)) → es2 ≡ slice_set es1 last (record (get_or es1 last x) { next = Some id })) → IsEntryLinked t es es2 last (record { node = v; group = g; answer = answer })
-entry_linked {R} {d} {key} {t} {es} {n} {last} {v} {g} top answer es1 es2 id h within node_is group_is none id_is pushed set =
-    let f : Found R = record { node = v; group = g; answer = answer } in
+pub entry_linked : {R : Type 0} {d : ℕ} {key : R → KeyOf d 16} {t : List (NodeData R)} {es : List (Linked (Found R))} {n : List (NodeLists R)} {last v g r : ℕ} → IsGroupTop d key t es n last v g r → (solution : Entry R Source) (es1 es2 : List (Linked (Found R)))
+    (id : ℕ) → IsStreams d key t es n → last < length es → node_of es last ≡ v → group_of es last ≡ g → next_of es last ≡ None → id ≡ length es → es1 ≡ es ++ (record { value = record { node = v; group = g; solution = solution }; next = None } ∷ [])
+    → ((x : Linked (Found R)) → es2 ≡ slice_set es1 last (record (get_or es1 last x) { next = Some id })) → IsEntryLinked t es es2 last (record { node = v; group = g; solution = solution })
+entry_linked {R} {d} {key} {t} {es} {n} {last} {v} {g} top solution es1 es2 id h within node_is group_is none id_is pushed set =
+    let f : Found R = record { node = v; group = g; solution = solution } in
     let d0 : Linked (Found R) = record { value = f; next = None } in
     let linked : Linked (Found R) = record (get_or es last d0) { next = Some (length es) } in
     let same : linked.value ≡ (get_or es last linked).value = ap (λ (e : Linked (Found R)). e.value) (any_default es last d0 linked within) in

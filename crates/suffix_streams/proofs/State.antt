@@ -4,11 +4,10 @@ use Rattle.std.specs.List.{All}
 use Rattle.std.proofs.lemmas.List.Elements.{All-nil, All-cons, All-head, All-tail}
 use Rattle.stream_store.specs.declared.entry.Linked.{Linked}
 use Rattle.take2_heap.specs.declared.entry.Entry.{Entry}
-use Rattle.tdp_core.specs.declared.ranked.Answer.{Answer}
-use Rattle.tdp_core.specs.Seen.{rows_of_key}
+use Rattle.stream_cells.specs.declared.source.Source.{Source}
 use Rattle.tdp_model.specs.KeyTuple.{KeyOf}
 use Rattle.suffix_streams.specs.declared.stream.Found.{Found}
-use Rattle.suffix_streams.specs.Frontiers.{IsPrefix, AreFirst}
+use Rattle.suffix_streams.specs.Frontiers.{AreFirst}
 use Rattle.suffix_streams.specs.StreamsData.{stream, node_size}
 
 later : {A : Type 0} (b c : Bool) (x a : A) (xs : List A) →
@@ -22,23 +21,23 @@ true_not_false e = let h : cond {A = ℕ} true 1 0 ≡ cond {A = ℕ} false 1 0 
 
 module _ {R : Type 0} where
   -- the new entry is the last of its own stream
-  pub stream_own : (es : List (Linked (Found R))) (e : Linked (Found R)) (q g : ℕ) → nat_eq e.value.node q ≡ true → nat_eq e.value.group g ≡ true → stream (es ++ (e ∷ [])) q g ≡ stream es q g ++ (e.value.answer ∷ [])
+  pub stream_own : (es : List (Linked (Found R))) (e : Linked (Found R)) (q g : ℕ) → nat_eq e.value.node q ≡ true → nat_eq e.value.group g ≡ true → stream (es ++ (e ∷ [])) q g ≡ stream es q g ++ (e.value.solution ∷ [])
   unfolding stream
-  stream_own [] e q g a b = ap (λ z. cond z (cond (nat_eq e.value.group g) (e.value.answer ∷ []) []) []) a ∙ ap (λ z. cond z (e.value.answer ∷ []) []) b
+  stream_own [] e q g a b = ap (λ z. cond z (cond (nat_eq e.value.group g) (e.value.solution ∷ []) []) []) a ∙ ap (λ z. cond z (e.value.solution ∷ []) []) b
   stream_own (x ∷ es) e q g a b =
-      ap (λ z. cond (nat_eq x.value.node q) (cond (nat_eq x.value.group g) (x.value.answer ∷ z) z) z) (stream_own es e q g a b)
-      ∙ later (nat_eq x.value.node q) (nat_eq x.value.group g) x.value.answer e.value.answer (stream es q g)
+      ap (λ z. cond (nat_eq x.value.node q) (cond (nat_eq x.value.group g) (x.value.solution ∷ z) z) z) (stream_own es e q g a b)
+      ∙ later (nat_eq x.value.node q) (nat_eq x.value.group g) x.value.solution e.value.solution (stream es q g)
 
   -- it is in no other stream
   pub stream_other : (es : List (Linked (Found R))) (e : Linked (Found R)) (q g : ℕ) → cond (nat_eq e.value.node q) (nat_eq e.value.group g) false ≡ false → stream (es ++ (e ∷ [])) q g ≡ stream es q g
   unfolding stream
-  stream_other [] e q g a = none (nat_eq e.value.node q) (nat_eq e.value.group g) e.value.answer a
+  stream_other [] e q g a = none (nat_eq e.value.node q) (nat_eq e.value.group g) e.value.solution a
     where
-      none : (b c : Bool) (x : Answer R) → cond b c false ≡ false → cond b (cond c (x ∷ []) []) [] ≡ []
+      none : (b c : Bool) (x : Entry R Source) → cond b c false ≡ false → cond b (cond c (x ∷ []) []) [] ≡ []
       none true true x e = absurd (true_not_false e)
       none true false x e = refl
       none false c x e = refl
-  stream_other (x ∷ es) e q g a = ap (λ z. cond (nat_eq x.value.node q) (cond (nat_eq x.value.group g) (x.value.answer ∷ z) z) z) (stream_other es e q g a)
+  stream_other (x ∷ es) e q g a = ap (λ z. cond (nat_eq x.value.node q) (cond (nat_eq x.value.group g) (x.value.solution ∷ z) z) z) (stream_other es e q g a)
 
   -- the streams of the entry's node have one more entry together, and those of other nodes are as
   -- long as before
@@ -51,8 +50,8 @@ module _ {R : Type 0} where
   pub stream_linked : (es : List (Linked (Found R))) (i : ℕ) (x d : Linked (Found R)) (q g : ℕ) → x.value ≡ (get_or es i d).value → stream (slice_set es i x) q g ≡ stream es q g
   unfolding stream
   stream_linked [] i x d q g e = refl
-  stream_linked (y ∷ es) zero x d q g e = ap (λ v. cond (nat_eq v.node q) (cond (nat_eq v.group g) (v.answer ∷ stream es q g) (stream es q g)) (stream es q g)) e
-  stream_linked (y ∷ es) (suc i) x d q g e = ap (λ z. cond (nat_eq y.value.node q) (cond (nat_eq y.value.group g) (y.value.answer ∷ z) z) z) (stream_linked es i x d q g e)
+  stream_linked (y ∷ es) zero x d q g e = ap (λ v. cond (nat_eq v.node q) (cond (nat_eq v.group g) (v.solution ∷ stream es q g) (stream es q g)) (stream es q g)) e
+  stream_linked (y ∷ es) (suc i) x d q g e = ap (λ z. cond (nat_eq y.value.node q) (cond (nat_eq y.value.group g) (y.value.solution ∷ z) z) z) (stream_linked es i x d q g e)
 
 take_one_more : {K : Type 0} (ks : List K) (n : ℕ) (d : K) → n < length ks → take n ks ++ (get_or ks n d ∷ []) ≡ take (suc n) ks
 take_one_more [] n d l = absurd (omega arith)
@@ -73,16 +72,6 @@ all_more P (y ∷ xs) x a p = All-cons P y (xs ++ (x ∷ [])) (All-head P y xs a
 
 module _ {R : Type 0} (d : ℕ) (key : R → KeyOf d 16) where
   -- The next member of the ranking is found.
-  pub prefix_more : (xs : List (Answer R)) (a : Answer R) (ks : List (KeyOf d 16)) (none : KeyOf d 16) → IsPrefix d key xs ks → length xs < length ks → get_or ks (length xs) none ≡ key a.rank
-      → a.rows ≡ rows_of_key d 16 (key a.rank) → IsPrefix d key (xs ++ (a ∷ [])) ks
-  prefix_more xs a ks none p l e r = (
-    omega (arith, count_more xs a),
-    omega (arith, count_more xs a),
-    map_more (λ x. key x.rank) xs a ∙ ap (λ z. z ++ (key a.rank ∷ [])) p.2 ∙ ap (λ z. take (length xs) ks ++ (z ∷ [])) (sym e) ∙ take_one_more ks (length xs) none l ∙ ap (λ n. take n ks) (sym (count_more xs a)),
-    all_more (λ x. x.rows ≡ rows_of_key d 16 (key x.rank)) xs a p.3 r,
-  )
-
-  -- The next member of the ranking is found, only by its key.
   pub first_more : {T : Type 0} (xs : List (Entry R T)) (e : Entry R T) (ks : List (KeyOf d 16)) (none : KeyOf d 16) → AreFirst d key xs ks → length xs < length ks → get_or ks (length xs) none ≡ key e.rank → AreFirst d key (xs ++ (e ∷ [])) ks
   first_more xs e ks none p l at = (
     omega (arith, count_more xs e),

@@ -24,7 +24,7 @@ use Rattle.suffix_streams.specs.NodeLists.{NodeLists, with_product}
 use Rattle.stream_cells.specs.Cells.{cell_down}
 use Rattle.suffix_streams.specs.Rankings.{child, part_list, group_list}
 use Rattle.suffix_streams.specs.Frontiers.{IsFrontier}
-use Rattle.suffix_streams.specs.StreamsData.{node_list, group_list_of, node_of, group_of, place_of, next_of, lists_of, products_of, product_of, stream_of, part_known, pair_of, IsProductOf, IsStreamOf, IsStreams, IsCell, IsOffer}
+use Rattle.suffix_streams.specs.StreamsData.{node_list, group_list_of, node_of, group_of, place_of, next_of, lists_of, products_of, product_of, stream_of, part_known, pair_of, IsProductOf, IsStreamOf, IsStreams, IsOffer}
 use Rattle.suffix_streams.specs.Growing.{IsAnswered, IsReached}
 use Rattle.suffix_streams.proofs.Rankings.{part_ascends, group_ascends, kid}
 use Rattle.suffix_streams.proofs.Stores.{node_length, group_length}

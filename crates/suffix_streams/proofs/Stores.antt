@@ -244,7 +244,7 @@ module _ {R : Type 0} where
         clash : (n : ℕ) → Some n ≡ None → ⊥
         clash n e = cc
 
-    pub stream_longer : stream with_entry x.node x.group ≡ stream es x.node x.group ++ (x.answer ∷ [])
+    pub stream_longer : stream with_entry x.node x.group ≡ stream es x.node x.group ++ (x.solution ∷ [])
     stream_longer =
         stream_linked (es ++ (new ∷ [])) last linked linked x.node x.group as_last
         ∙ stream_own es new x.node x.group (eq-eqb x.node x.node refl) (eq-eqb x.group x.group refl)

@@ -2,7 +2,8 @@
 use Rattle.std.proofs.Common.{◌≡◌, ℕ, zero, suc, ◌+◌, ◌<◌, Bool, true, false, cond, nat_eq, List, [], ◌∷◌, length, take, get_or, refl, ap, ◌∙◌, arith}
 use Rattle.std.proofs.lemmas.Bool.Decides.{nat_tests}
 use Rattle.stream_store.specs.declared.entry.Linked.{Linked}
-use Rattle.tdp_core.specs.declared.ranked.Answer.{Answer}
+use Rattle.stream_cells.specs.declared.source.Source.{Source}
+use Rattle.take2_heap.specs.declared.entry.Entry.{Entry}
 use Rattle.stream_model.specs.Links.{owned}
 use Rattle.suffix_streams.specs.declared.stream.Found.{Found}
 use Rattle.suffix_streams.specs.StreamsData.{node_list, group_list_of, node_of, group_of, place_of, stream}
@@ -25,17 +26,17 @@ module _ {R : Type 0} where
   pub stream-length : (es : List (Linked (Found R))) (q g : ℕ) → length (stream es q g) ≡ owned (node_list es) (group_list_of es) q g
   unfolding stream owned
   stream-length [] q g = refl
-  stream-length (e ∷ es) q g = picked_length (nat_eq e.value.node q) (nat_eq e.value.group g) e.value.answer (stream es q g) _ (stream-length es q g)
+  stream-length (e ∷ es) q g = picked_length (nat_eq e.value.node q) (nat_eq e.value.group g) e.value.solution (stream es q g) _ (stream-length es q g)
 
   -- an entry's solution is at the entry's place of its stream
-  pub stream-at : (es : List (Linked (Found R))) (q g i : ℕ) (e : Linked (Found R)) (a : Answer R) → i < length es → node_of es i ≡ q → group_of es i ≡ g
-      → get_or (stream es q g) (owned (take i (node_list es)) (take i (group_list_of es)) q g) a ≡ (get_or es i e).value.answer
+  pub stream-at : (es : List (Linked (Found R))) (q g i : ℕ) (e : Linked (Found R)) (a : Entry R Source) → i < length es → node_of es i ≡ q → group_of es i ≡ g
+      → get_or (stream es q g) (owned (take i (node_list es)) (take i (group_list_of es)) q g) a ≡ (get_or es i e).value.solution
   unfolding stream owned
   stream-at [] q g i e a l n h = absurd (omega arith)
-  stream-at (x ∷ es) q g zero e a l n h = picked_head x.value.node x.value.group q g x.value.answer a (stream es q g) n h
+  stream-at (x ∷ es) q g zero e a l n h = picked_head x.value.node x.value.group q g x.value.solution a (stream es q g) n h
   stream-at (x ∷ es) q g (suc i) e a l n h =
-      picked_at (nat_eq x.value.node q) (nat_eq x.value.group g) x.value.answer ((get_or es i e).value.answer) a (stream es q g) (owned (take i (node_list es)) (take i (group_list_of es)) q g)
+      picked_at (nat_eq x.value.node q) (nat_eq x.value.group g) x.value.solution ((get_or es i e).value.solution) a (stream es q g) (owned (take i (node_list es)) (take i (group_list_of es)) q g)
       (stream-at es q g i e a (omega arith) n h)
 
-  pub entry-at : (es : List (Linked (Found R))) (i : ℕ) (e : Linked (Found R)) (a : Answer R) → i < length es → get_or (stream es (node_of es i) (group_of es i)) (place_of es i) a ≡ (get_or es i e).value.answer
+  pub entry-at : (es : List (Linked (Found R))) (i : ℕ) (e : Linked (Found R)) (a : Entry R Source) → i < length es → get_or (stream es (node_of es i) (group_of es i)) (place_of es i) a ≡ (get_or es i e).value.solution
   entry-at es i e a l = stream-at es (node_of es i) (group_of es i) i e a l refl refl

@@ -1,31 +1,25 @@
 -- Streams as prefixes of rankings, and their entries as members of them.
 use Rattle.std.proofs.Common.{◌≡◌, ℕ, zero, suc, ◌+◌, ◌<◌, ◌≤◌, Some, None, List, [], ◌∷◌, length, take, get_or, refl, sym, ap, ◌∙◌, subst, arith}
-use Rattle.std.specs.List.{All}
 use Rattle.std.proofs.lemmas.List.{length-map, get_or-map}
-use Rattle.std.proofs.lemmas.List.Elements.{All-head, All-tail}
 use Rattle.rankings.specs.Order.{IsRanking}
 use Rattle.rankings.proofs.Unique.{ranking_unique}
 use Rattle.stream_store.specs.declared.entry.Linked.{Linked}
 use Rattle.tdp_model.specs.KeyTuple.{KeyOf, key_below, key_none}
 use Rattle.tdp_model.proofs.KeyTuples.{tuple_keys}
-use Rattle.tdp_core.specs.declared.ranked.Answer.{Answer}
+use Rattle.stream_cells.specs.declared.source.Source.{Source}
+use Rattle.take2_heap.specs.declared.entry.Entry.{Entry}
 use Rattle.tdp_core.specs.TreeData.{NodeData, group_count}
 use Rattle.stream_model.specs.Links.{IsLinkedAt}
 use Rattle.suffix_streams.specs.declared.stream.Found.{Found}
 use Rattle.suffix_streams.specs.NodeLists.{NodeLists}
 use Rattle.suffix_streams.specs.Rankings.{GroupSolution, group_list}
-use Rattle.suffix_streams.specs.Frontiers.{HasRows, IsPrefix}
+use Rattle.suffix_streams.specs.Frontiers.{AreFirst}
 use Rattle.suffix_streams.specs.StreamsData.{node_list, group_list_of, node_of, group_of, place_of, next_of, stream, IsStreams}
 use Rattle.suffix_streams.proofs.BeginOwners.{owned_within}
 use Rattle.suffix_streams.proofs.Rankings.{group_is_ranking}
 use Rattle.suffix_streams.proofs.ViewEntries.{stream-length, entry-at}
 
 module _ {R : Type 0} (d : ℕ) (key : R → KeyOf d 16) where
-  all_get : (P : Answer R → Type 0) (xs : List (Answer R)) (i : ℕ) (a : Answer R) → All P xs → i < length xs → P (get_or xs i a)
-  all_get P [] i a h l = absurd (omega arith)
-  all_get P (x ∷ xs) zero a h l = All-head P x xs h
-  all_get P (x ∷ xs) (suc i) a h l = all_get P xs i a (All-tail P x xs h) (omega arith)
-
   get_taken : {K : Type 0} (n i : ℕ) (ks : List K) (k : K) → i < n → get_or (take n ks) i k ≡ get_or ks i k
   get_taken zero i ks k l = absurd (omega arith)
   get_taken (suc n) i [] k l = refl
@@ -33,19 +27,18 @@ module _ {R : Type 0} (d : ℕ) (key : R → KeyOf d 16) where
   get_taken (suc n) (suc i) (x ∷ ks) k l = get_taken n i ks k (omega arith)
 
   -- a member of a prefix
-  pub prefix_at : (xs : List (Answer R)) (ks : List (KeyOf d 16)) (i : ℕ) (a : Answer R) → IsPrefix d key xs ks → i < length xs
-      → (i < length ks) × (key (get_or xs i a).rank ≡ get_or ks i (key_none d 16)) × HasRows d key (get_or xs i a)
+  pub prefix_at : (xs : List (Entry R Source)) (ks : List (KeyOf d 16)) (i : ℕ) (a : Entry R Source) → AreFirst d key xs ks → i < length xs
+      → (i < length ks) × (key (get_or xs i a).rank ≡ get_or ks i (key_none d 16))
   prefix_at xs ks i a p l = (
     omega (arith, l, p.1),
     sym (get_or-map (λ x. key x.rank) xs i a (key_none d 16) l) ∙ ap (λ z. get_or z i (key_none d 16)) p.2 ∙ get_taken (length xs) i ks (key_none d 16) l,
-    all_get (HasRows d key) xs i a p.3 l,
   )
 
   module _ (t : List (NodeData R)) (es : List (Linked (Found R))) (nodes : List (NodeLists R)) (s : IsStreams d key t es nodes) where
     -- each stream is a prefix of any ranking of its group
-    pub all_prefixes : (q g : ℕ) (ks : List (KeyOf d 16)) → q < length t → g < group_count t q → IsRanking (KeyOf d 16) (key_below d 16) (GroupSolution d key t q g) ks → IsPrefix d key (stream es q g) ks
+    pub all_prefixes : (q g : ℕ) (ks : List (KeyOf d 16)) → q < length t → g < group_count t q → IsRanking (KeyOf d 16) (key_below d 16) (GroupSolution d key t q g) ks → AreFirst d key (stream es q g) ks
     all_prefixes q g ks l lg r =
-        subst (λ z. IsPrefix d key (stream es q g) z) (ranking_unique (key_below d 16) (tuple_keys d 16).order (GroupSolution d key t q g) (group_list d key t q g) ks (group_is_ranking d key t q g l) r)
+        subst (λ z. AreFirst d key (stream es q g) z) (ranking_unique (key_below d 16) (tuple_keys d 16).order (GroupSolution d key t q g) (group_list d key t q g) ks (group_is_ranking d key t q g l) r)
         (s.streams q g l lg).merge.prefix
 
     -- an entry is in its stream
@@ -60,15 +53,13 @@ module _ {R : Type 0} (d : ℕ) (key : R → KeyOf d 16) where
     -- the solution that an entry stands for
     pub entry_solution : (i : ℕ) (f : Found R) → i < length es → ((x : Linked (Found R)) → (get_or es i x).value ≡ f)
         → (place_of es i < length (group_list d key t (node_of es i) (group_of es i)))
-        × (key f.answer.rank ≡ get_or (group_list d key t (node_of es i) (group_of es i)) (place_of es i) (key_none d 16)) × HasRows d key f.answer
+        × (key f.solution.rank ≡ get_or (group_list d key t (node_of es i) (group_of es i)) (place_of es i) (key_none d 16))
     entry_solution i f l value =
         let o = s.owners i l in
         let x : Linked (Found R) = record { value = f; next = None } in
-        let same : get_or (stream es (node_of es i) (group_of es i)) (place_of es i) f.answer ≡ f.answer = entry-at es i x f.answer l ∙ ap (λ v. v.answer) (value x) in
-        let p = prefix_at (stream es (node_of es i) (group_of es i)) (group_list d key t (node_of es i) (group_of es i)) (place_of es i) f.answer (s.streams (node_of es i) (group_of es i) o.0 o.1).merge.prefix (place_in_stream i l) in
-        let q : (key f.answer.rank ≡ get_or (group_list d key t (node_of es i) (group_of es i)) (place_of es i) (key_none d 16)) × HasRows d key f.answer =
-        subst (λ a. (key a.rank ≡ get_or (group_list d key t (node_of es i) (group_of es i)) (place_of es i) (key_none d 16)) × HasRows d key a) same (p.1, p.2) in
-        (p.0, q.0, q.1)
+        let same : get_or (stream es (node_of es i) (group_of es i)) (place_of es i) f.solution ≡ f.solution = entry-at es i x f.solution l ∙ ap (λ v. v.solution) (value x) in
+        let p = prefix_at (stream es (node_of es i) (group_of es i)) (group_list d key t (node_of es i) (group_of es i)) (place_of es i) f.solution (s.streams (node_of es i) (group_of es i) o.0 o.1).merge.prefix (place_in_stream i l) in
+        (p.0, subst (λ a. key a.rank ≡ get_or (group_list d key t (node_of es i) (group_of es i)) (place_of es i) (key_none d 16)) same p.1)
 
     -- what is linked after an entry
     pub next_linked : (i n : ℕ) → i < length es → next_of es i ≡ Some n → (n < length es) × (node_of es n ≡ node_of es i) × (group_of es n ≡ group_of es i) × (place_of es n ≡ place_of es i + 1)

@@ -47,6 +47,9 @@ module _ {R : Type 0} (d : ℕ) (key : R → KeyOf d 16) (t : List (NodeData R))
     pub group : group_of es (stream_of nodes q g).head ≡ g
     pub first : HasKey d key es (stream_of nodes q g).head
         (slice_index_or (group_list d key t q g) 0 (key_none d 16))
+    pub top : (x : Linked (Found R)) (e : Entry R Source)
+        → (slice_index_or es (stream_of nodes q g).head x).value.solution
+        ≡ slice_index_or (stream_of nodes q g).queue 0 e
     pub heads : HasHeads d key t q g (stream_of nodes q g).queue
 
   -- the streams that are there have only their heads, and no row has products

@@ -2,24 +2,12 @@
 use Rattle.std.specs.Prelude.{◌≡◌, ℕ, ◌<◌, ◌≤◌, List, map, length, take}
 use Rattle.std.specs.List.{All}
 use Rattle.take2_heap.specs.declared.entry.Entry.{Entry}
-use Rattle.tdp_core.specs.declared.ranked.Answer.{Answer}
-use Rattle.tdp_core.specs.Seen.{rows_of_key}
 use Rattle.tdp_model.specs.KeyTuple.{KeyOf, key_below, key_add, key_none}
 use Rattle.tdp_model.specs.Product.{Pair, pair_key, stands_for, runs_to, run_key}
 use Rattle.stream_model.specs.Ahead.{IsAhead}
 use Rattle.stream_model.specs.Held.{IsHeld, places, InProduct, InRuns}
 
--- the answer's row numbers are the slots of its key
-abbrev pub HasRows : {R : Type 0} (d : ℕ) → (R → KeyOf d 16) → Answer R → Type 0
-HasRows d key a = a.rows ≡ rows_of_key d 16 (key a.rank)
-
--- some of the ranking's first members: their keys, and the keys' slots as row numbers
-abbrev pub IsPrefix : {R : Type 0} (d : ℕ) → (R → KeyOf d 16) → List (Answer R) → List (KeyOf d 16)
-    → Type 0
-IsPrefix d key xs ks = (0 < length xs) × (length xs ≤ length ks)
-    × (map (λ a. key a.rank) xs ≡ take (length xs) ks) × All (HasRows d key) xs
-
--- some of the ranking's first members, only by their keys
+-- some of the ranking's first members, by their keys
 abbrev pub AreFirst : {R T : Type 0} (d : ℕ) → (R → KeyOf d 16) → List (Entry R T)
     → List (KeyOf d 16) → Type 0
 AreFirst d key xs ks = (0 < length xs) × (length xs ≤ length ks)
@@ -39,9 +27,10 @@ pub record IsFrontier {R T : Type 0} (d : ℕ) (key : R → KeyOf d 16) (at : T 
 
 -- the first members of n lists, in the order of their ranking zs, and a queue of what follows
 pub record IsMerge {R T : Type 0} (d : ℕ) (key : R → KeyOf d 16) (at : T → Pair) (n : ℕ)
-    (lists : ℕ → List (KeyOf d 16)) (zs : List (KeyOf d 16)) (found : List (Answer R))
-    (queue : List (Entry R T)) : Type 0 where
-  pub prefix : IsPrefix d key found zs
+    (lists : ℕ → List (KeyOf d 16)) (zs : List (KeyOf d 16))
+    (found queue : List (Entry R T)) : Type 0 where
+  pub prefix : AreFirst d key found zs
+  pub kept : All (IsHeld d key (run_key (key_none d 16) lists) (InRuns d n lists) at) found
   pub held : All (IsHeld d key (run_key (key_none d 16) lists) (InRuns d n lists) at) queue
   pub ahead : IsAhead Pair (KeyOf d 16) (key_below d 16) (run_key (key_none d 16) lists)
       (runs_to n (λ r. length (lists r))) (InRuns d n lists) zs (length found) (places at queue)

@@ -4,6 +4,7 @@ pub mod NodeLists
 pub mod Rankings
 pub mod Frontiers
 pub mod StreamsData
+pub mod Parts
 pub mod Growing
 pub mod StreamsView
 pub mod Beginnings

@@ -3,7 +3,6 @@ use Rattle.std.specs.Prelude.{◌≡◌, ℕ, zero, suc, ◌+◌, ◌^◌, ◌<�
 use Rattle.std.specs.List.{All}
 use Rattle.take2_heap.specs.declared.entry.Entry.{Entry}
 use Rattle.stream_store.specs.declared.entry.Linked.{Linked}
-use Rattle.tdp_core.specs.declared.ranked.Answer.{Answer}
 use Rattle.tdp_core.specs.TreeData.{NodeData, members, group_named, child_count, group_count, rows}
 use Rattle.tdp_core.specs.WellFormed.{IsFormed}
 use Rattle.rank_key.specs.Keys.{KeyFits}
@@ -17,7 +16,7 @@ use Rattle.suffix_streams.specs.ProductData.{ProductData}
 use Rattle.suffix_streams.specs.StreamData.{StreamData}
 use Rattle.suffix_streams.specs.NodeLists.{NodeLists, product_at, stream_at, known_of}
 use Rattle.suffix_streams.specs.Rankings.{child, part_list, group_list}
-use Rattle.suffix_streams.specs.Frontiers.{HasRows, AreFirst, IsFrontier, IsMerge}
+use Rattle.suffix_streams.specs.Frontiers.{AreFirst, IsFrontier, IsMerge}
 
 -- # The store
 
@@ -47,10 +46,11 @@ module _ {R : Type 0} (es : List (Linked (Found R))) where
   next_of i = slice_index_or next_list i None
 
 -- the stream of group g of node q: its solutions, in the order in which they were found
-unfoldable pub stream : {R : Type 0} → List (Linked (Found R)) → ℕ → ℕ → List (Answer R)
+unfoldable pub stream : {R : Type 0} → List (Linked (Found R)) → ℕ → ℕ → List (Entry R Source)
 stream [] q g = []
 stream (e ∷ es) q g = cond (nat_eq e.value.node q)
-    (cond (nat_eq e.value.group g) (e.value.answer ∷ stream es q g) (stream es q g)) (stream es q g)
+    (cond (nat_eq e.value.group g) (e.value.solution ∷ stream es q g) (stream es q g))
+    (stream es q g)
 
 -- the number of entries in the streams of node q
 unfoldable pub node_size : {R : Type 0} → List (Linked (Found R)) → ℕ → ℕ
@@ -101,12 +101,11 @@ AreLefts d key t nodes v r zero = Unit {0}
 AreLefts d key t nodes v r (suc c) = AreFirst d key (product_of nodes v r c).found
     (part_list d key t v r (suc c))
 
--- the solution that entry i stands for has this key, and the key's slots as row numbers
+-- the solution that entry i stands for has this key
 abbrev pub HasKey : {R : Type 0} (d : ℕ) → (R → KeyOf d 16) → List (Linked (Found R)) → ℕ
     → KeyOf d 16 → Type 0
 HasKey {R} d key es i k = (x : Linked (Found R))
-    → (key (slice_index_or es i x).value.answer.rank ≡ k)
-    × HasRows d key (slice_index_or es i x).value.answer
+    → key (slice_index_or es i x).value.solution.rank ≡ k
 
 -- # The invariants
 
@@ -121,6 +120,8 @@ module _ {R : Type 0} (d : ℕ) (key : R → KeyOf d 16) (t : List (NodeData R))
     pub few : length (stream_of nodes q g).queue ≤ length (members t q g)
     pub known : All (λ e. e.tag.place
         < row_known nodes q (slice_index (members t q g) e.tag.member)) (stream_of nodes q g).queue
+    pub found_known : All (λ e. e.tag.place
+        < row_known nodes q (slice_index (members t q g) e.tag.member)) (stream es q g)
     pub merge : IsMerge d key run_of (length (members t q g))
         (λ i. part_list d key t q (slice_index (members t q g) i) (child_count t q))
         (group_list d key t q g) (stream es q g) (stream_of nodes q g).queue
@@ -196,17 +197,6 @@ module _ {R : Type 0} (d : ℕ) (key : R → KeyOf d 16) (t : List (NodeData R))
     pub right : cell.right < length es
     pub node : node_of es cell.right ≡ child t v c
     pub group : group_of es cell.right ≡ group_named t v r c
-
-  -- the products of row r of node v, each with the parts of its sums
-  abbrev pub HaveParts : ℕ → ℕ → Type 0
-  HaveParts v r = (c : ℕ) → c < length (products_of nodes v r) → HasParts v r c × IsProductOf v r c
-
-  -- what the known solutions of row r of node v are read from
-  pub record HasRow (v r : ℕ) : Type 0 where
-    pub headed : IsHeaded v r
-    pub whole : 0 < length (products_of nodes v r)
-        → length (products_of nodes v r) ≡ child_count t v
-    pub parts : HaveParts v r
 
 -- the cell, if there is one, with the key of its sum
 abbrev pub IsOffer : {R : Type 0} (d : ℕ) (key : R → KeyOf d 16) → List (NodeData R)

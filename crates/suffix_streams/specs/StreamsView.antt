@@ -8,7 +8,7 @@ use Rattle.tdp_model.specs.KeyTuple.{KeyOf, key_below, key_none}
 use Rattle.suffix_streams.specs.declared.stream.Found.{Found}
 use Rattle.suffix_streams.specs.NodeLists.{NodeLists}
 use Rattle.suffix_streams.specs.Rankings.{GroupSolution, group_list}
-use Rattle.suffix_streams.specs.Frontiers.{IsPrefix}
+use Rattle.suffix_streams.specs.Frontiers.{AreFirst}
 use Rattle.suffix_streams.specs.StreamsData.{IsStreams, node_of, group_of, place_of, stream, node_size, product_of}
 
 -- a tree, the entries of all streams in the order in which they were found, the data of each node,
@@ -48,7 +48,7 @@ module _ {R : Type 0} (d : ℕ) (key : R → KeyOf d 16) where
   ArePrefixes s =
       (q g : ℕ) (ks : List (KeyOf d 16)) → q < length s.tree → g < group_count s.tree q
       → IsRanking (KeyOf d 16) (key_below d 16) (GroupSolution d key s.tree q g) ks
-      → IsPrefix d key (stream s.entries q g) ks
+      → AreFirst d key (stream s.entries q g) ks
 
   pub record IsStreamsView (s : StreamsView R) : Type 0 where
     pub formed : IsFormed d key s.tree

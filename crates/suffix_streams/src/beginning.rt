@@ -2,16 +2,14 @@
 ghost use Rattle.std.specs.Prelude.{◌≡◌, ◌≢◌, ℕ, ◌+◌, ◌*◌, ◌<◌, ◌≤◌, [], ◌∷◌, ◌++◌, None, map, length, slice_index_or, IfOk, OnOk};
 ghost use Rattle.stream_store.specs.declared.entry.Linked.{Linked};
 ghost use Rattle.tdp_core.specs.TreeData.{rows, members, group_count, child_count};
-ghost use Rattle.tdp_core.specs.WellFormed.{IsFormed, IsTieFreeTree};
+ghost use Rattle.tdp_core.specs.WellFormed.{IsFormed};
 ghost use Rattle.tdp_model.specs.KeyTuple.{key_none};
 ghost use Rattle.suffix_streams.specs.Rankings.{group_list};
-ghost use Rattle.suffix_streams.specs.Frontiers.{HasRows};
 ghost use Rattle.suffix_streams.specs.StreamsData.{open_rows, lists_of};
-ghost use Rattle.suffix_streams.specs.Beginnings.{AreChildren, IsEmptyNode, HasHeads, IsBegunFrom, IsBegunIn};
+ghost use Rattle.suffix_streams.specs.Beginnings.{AreChildren, IsEmptyNode, HasHeads, IsBegunFrom};
 
 use crate::node::NodeStreams;
 use crate::product::Product;
-use crate::reads::first_answer;
 use crate::stream::{Found, Stream};
 use rank_key::Rank;
 use std::alloc::Allocator;
@@ -131,39 +129,32 @@ fn heads_of<R: Rank, A: Allocator + Clone, L: Ledger>(
 fn first_stream<R: Rank, A: Allocator + Clone, L: Ledger>(
     alloc: &A,
     tree: &Tree<R>,
-    nodes: &[NodeStreams<R, A>],
     entries: &mut Store<Found<R>, A>,
     node: u32,
     group: u32,
     steps: &mut Steps<L>,
 ) -> Result<Stream<R, A>, NoMemory>
     requires formed { IsFormed R.KEYS R.key tree.now }
-    requires tie_free { IsTieFreeTree tree.now }
     requires node { node < length tree.now }
     requires group { group < group_count tree.now node }
-    requires begun { IsBegunIn R.KEYS R.key tree.now entries.old.entries nodes.now node group }
     ensures head { IfOk result (λ s. s.head ≡ length entries.old.entries) }
     ensures heads { IfOk result (λ s. HasHeads R.KEYS R.key tree.now node group s.queue) }
-    ensures entry { OnOk result
-        ((e : Linked (Found R)) × (entries.new.entries ≡ entries.old.entries ++ e ∷ [])
+    ensures entry { IfOk result (λ s.
+        (e : Linked (Found R)) × (entries.new.entries ≡ entries.old.entries ++ e ∷ [])
         × (e.value.node ≡ node) × (e.value.group ≡ group) × (e.next ≡ None)
-        × (R.key e.value.answer.rank
+        × (R.key e.value.solution.rank
         ≡ slice_index_or (group_list R.KEYS R.key tree.now node group) 0 (key_none R.KEYS 16))
-        × HasRows R.KEYS R.key e.value.answer) }
-    ensures cost { steps.new
-        ≤ steps.old + 2 * length (members tree.now node group)
-        + (3 + 3 * child_count tree.now node) }
+        × ((d : Entry R Source) → e.value.solution ≡ slice_index_or s.queue 0 d)) }
+    ensures cost { steps.new ≤ steps.old + 2 * length (members tree.now node group) + 1 }
 {
     let heads = heads_of(alloc, tree, node, group, steps)?;
-    let rank = heads[0].rank;
-    let first = tree.member(node, group, 0, steps);
-    let answer = first_answer(tree, nodes, entries, node, first, rank, steps);
+    let solution = heads[0];
     entries.reserve(1)?;
     let head = entries.push_reserved(
         Found {
             node,
             group,
-            answer,
+            solution,
         },
         steps,
     );
@@ -195,7 +186,6 @@ pub(crate) fn begin_node<R: Rank, A: Allocator + Clone, L: Ledger>(
     steps: &mut Steps<L>,
 ) -> Result<(), NoMemory>
     requires formed { IsFormed R.KEYS R.key tree.now }
-    requires tie_free { IsTieFreeTree tree.now }
     requires node { node < length tree.now }
     requires begun { IsBegunFrom R.KEYS R.key tree.now entries.old.entries nodes.old.items
         (node + 1) }
@@ -204,7 +194,7 @@ pub(crate) fn begin_node<R: Rank, A: Allocator + Clone, L: Ledger>(
     ensures cost { steps.new ≤ steps.old + 8 * length tree.now * rows tree.now node }
 {
     for group in 0..tree.groups(node) {
-        let stream = first_stream(alloc, tree, nodes.as_slice(), entries, node, group, steps)?;
+        let stream = first_stream(alloc, tree, entries, node, group, steps)?;
         nodes[node as usize].add_stream(stream)?;
     }
     Ok(())

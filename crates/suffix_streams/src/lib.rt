@@ -16,5 +16,6 @@ mod reads;
 mod solutions;
 mod stream;
 mod streams;
+mod walk;
 
 pub use streams::Streams;

@@ -88,7 +88,7 @@ impl<R: Rank, A: Allocator> NodeStreams<R, A> {
     }
 
     /// The number of known solutions of a row with its first `count` children.
-    pub(crate) fn known(&self, row: u32, count: usize) -> usize
+    pub(crate) fn known(&self, row: u32, count: usize) -> u32
         requires count { count ≤ length (slice_index_or self.now.products row []) }
         ensures { result ≡ known_of self.now row count }
     {
@@ -101,7 +101,7 @@ impl<R: Rank, A: Allocator> NodeStreams<R, A> {
 
     /// The cell of a solution of a row with its first children up to number `child`, by its place
     /// from 0.
-    pub(crate) fn cell(&self, row: u32, child: usize, place: usize) -> Cell
+    pub(crate) fn cell(&self, row: u32, child: usize, place: u32) -> Cell
         requires child { child < length (slice_index_or self.now.products row []) }
         requires place { place < length (product_at self.now row child).found }
         ensures { (d : Entry R Cell)
@@ -111,7 +111,7 @@ impl<R: Rank, A: Allocator> NodeStreams<R, A> {
     }
 
     /// The rank of this solution.
-    pub(crate) fn rank(&self, row: u32, child: usize, place: usize) -> R
+    pub(crate) fn rank(&self, row: u32, child: usize, place: u32) -> R
         requires child { child < length (slice_index_or self.now.products row []) }
         requires place { place < length (product_at self.now row child).found }
         ensures { (d : Entry R Cell)

@@ -28,7 +28,7 @@ pub(crate) struct Product<R: Rank, A: Allocator> {
 }
 
 impl<R: Rank, A: Allocator> Model for Product<R, A> {
-    ghost use Rattle.std.specs.Prelude.{◌-◌};
+    ghost use Rattle.std.specs.Prelude.{◌-◌, ◌<◌, ◌^◌, min};
     ghost use Rattle.std.specs.Vec.{vec_len, vec_capacity};
     ghost use Rattle.suffix_streams.specs.ProductData.{ProductData};
 
@@ -37,9 +37,11 @@ impl<R: Rank, A: Allocator> Model for Product<R, A> {
     ghost view = { λ p. record {
       found = p.found.items;
       frontier = p.frontier.entries;
-      room = vec_capacity p.found - vec_len p.found;
+      room = min (vec_capacity p.found - vec_len p.found) (2 ^ 32 - 1 - vec_len p.found);
       frontier_room = p.frontier.spare;
     } };
+
+    ghost invariant = { λ p. vec_len p.found < 2 ^ 32 };
 }
 
 impl<R: Rank, A: Allocator + Clone> Product<R, A> {
@@ -69,26 +71,26 @@ impl<R: Rank, A: Allocator + Clone> Product<R, A> {
 
 impl<R: Rank, A: Allocator> Product<R, A> {
     /// The number of solutions that were found.
-    pub(crate) fn len(&self) -> usize
+    pub(crate) fn len(&self) -> u32
         ensures { result ≡ length self.now.found }
     {
-        self.found.len()
+        self.found.len() as u32
     }
 
     /// The cell of the solution at a place, from 0.
-    pub(crate) fn cell(&self, place: usize) -> Cell
+    pub(crate) fn cell(&self, place: u32) -> Cell
         requires { place < length self.now.found }
         ensures { (d : Entry R Cell) → result ≡ (slice_index_or self.now.found place d).tag }
     {
-        self.found[place].tag
+        self.found[place as usize].tag
     }
 
     /// The rank of the solution at a place, from 0.
-    pub(crate) fn rank(&self, place: usize) -> R
+    pub(crate) fn rank(&self, place: u32) -> R
         requires { place < length self.now.found }
         ensures { (d : Entry R Cell) → result ≡ (slice_index_or self.now.found place d).rank }
     {
-        self.found[place].rank
+        self.found[place as usize].rank
     }
 
     /// The last solution found, as a sum, or `None` if no further one follows.
@@ -103,13 +105,17 @@ impl<R: Rank, A: Allocator> Product<R, A> {
         Some(*top)
     }
 
-    /// Makes room for one more solution. `NoMemory` if memory is refused.
+    /// Makes room for one more solution. `NoMemory` if memory is refused, or if there are as many
+    /// solutions as a place can name.
     pub(crate) fn reserve(&mut self) -> Result<(), NoMemory>
         ensures found { self.new.found ≡ self.old.found }
         ensures frontier { self.new.frontier ≡ self.old.frontier }
         ensures room { OnOk result (0 < self.new.room) }
         ensures frontier_room { OnOk result (0 < self.new.frontier_room) }
     {
+        if self.found.len() >= u32::MAX as usize {
+            return Err(NoMemory);
+        }
         self.found.reserve(1)?;
         self.frontier.reserve(1)
     }

@@ -1,15 +1,12 @@
 //! Reading entries and products, which changes nothing.
 ghost use Rattle.std.specs.Prelude.{◌≡◌, ℕ, ◌+◌, ◌*◌, ◌<◌, ◌≤◌, length, slice_index_or, IfOk, IfSome};
 ghost use Rattle.tdp_core.specs.TreeData.{child_count, group_named, rows};
-ghost use Rattle.tdp_core.specs.Seen.{rows_of_key};
 ghost use Rattle.tdp_core.specs.WellFormed.{IsFormed, IsTieFreeTree};
 ghost use Rattle.tdp_model.specs.KeyTuple.{key_add, key_none};
 ghost use Rattle.tdp_model.specs.Product.{pair_key};
 ghost use Rattle.suffix_streams.specs.Rankings.{child as child_node, part_list, group_list};
-ghost use Rattle.suffix_streams.specs.Frontiers.{HasRows};
-ghost use Rattle.suffix_streams.specs.StreamsData.{lists_of, products_of, stream_of, part_known, row_known, pair_of, IsHeaded, HasParts, HaveParts, IsCell, IsOffer, HasRow, AreFreshTo, AreLefts};
+ghost use Rattle.suffix_streams.specs.StreamsData.{lists_of, products_of, stream_of, part_known, pair_of, IsHeaded, HasParts, IsCell, IsOffer, AreFreshTo, AreLefts};
 
-use crate::answers::{joined_rows, own_rows};
 use crate::node::NodeStreams;
 use crate::product::Product;
 use crate::stream::Found;
@@ -17,10 +14,10 @@ use rank_key::Rank;
 use std::alloc::Allocator;
 use std::sync::ledger::Ledger;
 use step_counter::{NoMemory, Steps};
-use stream_cells::{Cell, Source};
+use stream_cells::Cell;
 use stream_store::{EntryId, Store};
 use take2_heap::Entry;
-use tdp_core::{Answer, Tree};
+use tdp_core::Tree;
 
 /// The first entry of the group that a row names for a child of its node.
 pub(crate) fn child_head<R: Rank, A: Allocator + Clone, L: Ledger>(
@@ -48,37 +45,6 @@ pub(crate) fn child_head<R: Rank, A: Allocator + Clone, L: Ledger>(
     nodes[child_node as usize].head(group)
 }
 
-/// The first solution of a row, whose rank is given: its own part, and the head of each child's
-/// group.
-pub(crate) fn first_answer<R: Rank, A: Allocator + Clone, L: Ledger>(
-    tree: &Tree<R>,
-    nodes: &[NodeStreams<R, A>],
-    entries: &Store<Found<R>, A>,
-    node: u32,
-    row: u32,
-    rank: R,
-    steps: &mut Steps<L>,
-) -> Answer<R>
-    requires formed { IsFormed R.KEYS R.key tree.now }
-    requires tie_free { IsTieFreeTree tree.now }
-    requires node { node < length tree.now }
-    requires row { row < rows tree.now node }
-    requires headed { IsHeaded R.KEYS R.key tree.now entries.now.entries nodes.now node row }
-    requires key { R.key rank
-        ≡ slice_index_or (part_list R.KEYS R.key tree.now node row (child_count tree.now node)) 0
-        (key_none R.KEYS 16) }
-    ensures rank { result.rank ≡ rank }
-    ensures rows { HasRows R.KEYS R.key result }
-    ensures cost { steps.new ≡ steps.old + 1 + 2 * child_count tree.now node }
-{
-    let mut rows = own_rows(tree, node, row, steps);
-    for child in 0..nodes[node as usize].child_count() {
-        let head = child_head(tree, nodes, entries, node, row, child, steps);
-        rows = joined_rows(&rows, &entries.get(head, steps).answer.rows);
-    }
-    Answer { rows, rank }
-}
-
 /// The products of a row, each with its first solution. `NoMemory` if memory is refused.
 pub(crate) fn made_products<R: Rank, A: Allocator + Clone, L: Ledger>(
     alloc: &A,
@@ -104,7 +70,7 @@ pub(crate) fn made_products<R: Rank, A: Allocator + Clone, L: Ledger>(
     let mut rank = tree.row_at(node, row, steps).rank;
     for child in 0..children {
         let head = child_head(tree, nodes, entries, node, row, child, steps);
-        rank = R::join(rank, entries.get(head, steps).answer.rank, steps);
+        rank = R::join(rank, entries.get(head, steps).solution.rank, steps);
         products.push(Product::new(alloc, rank, head)?)?;
     }
     Ok(products)
@@ -117,7 +83,7 @@ fn part_rank<R: Rank, A: Allocator + Clone, L: Ledger>(
     node: u32,
     row: u32,
     count: usize,
-    place: usize,
+    place: u32,
     steps: &mut Steps<L>,
 ) -> R
     requires formed { IsFormed R.KEYS R.key tree.now }
@@ -164,7 +130,7 @@ fn cell_rank<R: Rank, A: Allocator + Clone, L: Ledger>(
 {
     let left = part_rank(tree, nodes, node, row, child, cell.left, steps);
     let right = entries.get(cell.right, steps);
-    R::join(left, right.answer.rank, steps)
+    R::join(left, right.solution.rank, steps)
 }
 
 /// A cell with the rank of its solution, or `None` if there is no cell.
@@ -190,81 +156,4 @@ pub(crate) fn offered<R: Rank, A: Allocator + Clone, L: Ledger>(
     let cell = cell?;
     let rank = cell_rank(tree, nodes, entries, node, row, child, &cell, steps);
     Some(Entry { rank, tag: cell })
-}
-
-/// The row numbers of a solution of a row with its first `count` children, at a known place.
-fn part_rows<R: Rank, A: Allocator + Clone, L: Ledger>(
-    tree: &Tree<R>,
-    nodes: &[NodeStreams<R, A>],
-    entries: &Store<Found<R>, A>,
-    node: u32,
-    row: u32,
-    count: usize,
-    place: usize,
-    steps: &mut Steps<L>,
-) -> [u32; 16]
-    requires formed { IsFormed R.KEYS R.key tree.now }
-    requires node { node < length tree.now }
-    requires row { row < rows tree.now node }
-    requires all_nodes { node < length nodes.now }
-    requires count { count ≤ length (products_of nodes.now node row) }
-    requires parts { HaveParts R.KEYS R.key tree.now entries.now.entries nodes.now node row }
-    requires place { place < part_known nodes.now node row count }
-    ensures rows { result
-        ≡ rows_of_key R.KEYS 16
-        (slice_index_or (part_list R.KEYS R.key tree.now node row count) place
-        (key_none R.KEYS 16)) }
-    ensures cost { steps.new ≡ steps.old + 1 + count }
-{
-    if count == 0 {
-        return own_rows(tree, node, row, steps);
-    }
-    let cell = nodes[node as usize].cell(row, count - 1, place);
-    let right = entries.get(cell.right, steps);
-    let left = part_rows(tree, nodes, entries, node, row, count - 1, cell.left, steps);
-    joined_rows(&left, &right.answer.rows)
-}
-
-/// The solution of a row that an entry of a group's queue stands for. Its rank is that of the
-/// entry.
-pub(crate) fn row_answer<R: Rank, A: Allocator + Clone, L: Ledger>(
-    tree: &Tree<R>,
-    nodes: &[NodeStreams<R, A>],
-    entries: &Store<Found<R>, A>,
-    node: u32,
-    row: u32,
-    next: &Entry<R, Source>,
-    steps: &mut Steps<L>,
-) -> Answer<R>
-    requires formed { IsFormed R.KEYS R.key tree.now }
-    requires tie_free { IsTieFreeTree tree.now }
-    requires node { node < length tree.now }
-    requires row { row < rows tree.now node }
-    requires known { HasRow R.KEYS R.key tree.now entries.now.entries nodes.now node row }
-    requires place { next.now.tag.place < row_known nodes.now node row }
-    requires key { R.key next.now.rank
-        ≡ slice_index_or (part_list R.KEYS R.key tree.now node row
-        (child_count tree.now node)) next.now.tag.place (key_none R.KEYS 16) }
-    ensures rank { result.rank ≡ next.now.rank }
-    ensures rows { HasRows R.KEYS R.key result }
-    ensures cost { steps.new ≤ steps.old + 1 + 2 * child_count tree.now node }
-{
-    let count = nodes[node as usize].product_count(row);
-    if count == 0 {
-        return first_answer(tree, nodes, entries, node, row, next.rank, steps);
-    }
-    let rows = part_rows(
-        tree,
-        nodes,
-        entries,
-        node,
-        row,
-        count,
-        next.tag.place,
-        steps,
-    );
-    Answer {
-        rows,
-        rank: next.rank,
-    }
 }

@@ -13,7 +13,7 @@ ghost use Rattle.suffix_streams.specs.Refusals.{AreUnstepped};
 ghost use Rattle.suffix_streams.specs.Growing.{IsStoreGrown, IsGrown, IsExtended, IsReached, IsAnswered, HasOtherProduct, AreQueuesGrown, IsWithinSteps, below_kids, kids_size};
 
 use crate::node::NodeStreams;
-use crate::reads::{child_head, made_products, offered, row_answer};
+use crate::reads::{child_head, made_products, offered};
 use crate::stream::Found;
 use rank_key::Rank;
 use std::alloc::Allocator;
@@ -90,7 +90,7 @@ impl<'t, R: Rank, A: Allocator + Clone> Solutions<'t, R, A> {
         node: u32,
         row: u32,
         count: usize,
-        place: usize,
+        place: u32,
         steps: &mut Steps<L>,
     ) -> Result<(), NoMemory>
         requires formed { IsStreams R.KEYS R.key self.old.tree.now self.old.entries.entries
@@ -278,7 +278,6 @@ impl<'t, R: Rank, A: Allocator + Clone> Solutions<'t, R, A> {
     ) -> Option<EntryId>
         requires formed { IsStreams R.KEYS R.key self.old.tree.now self.old.entries.entries
             self.old.nodes.items }
-        requires tie_free { IsTieFreeTree self.old.tree.now }
         requires last { last < length self.old.entries.entries }
         requires node { node_of self.old.entries.entries last ≡ node }
         requires group { group_of self.old.entries.entries last ≡ group }
@@ -316,21 +315,11 @@ impl<'t, R: Rank, A: Allocator + Clone> Solutions<'t, R, A> {
         let offer = self.nodes[node as usize].offered(row, next);
         self.nodes[node as usize].pass(group, offer, steps);
         let top = self.nodes[node as usize].top(group)?;
-        let row = self.tree.member(node, group, top.tag.member, steps);
-        let answer = row_answer(
-            self.tree,
-            self.nodes.as_slice(),
-            &self.entries,
-            node,
-            row,
-            &top,
-            steps,
-        );
         let next = self.entries.push_reserved(
             Found {
                 node,
                 group,
-                answer,
+                solution: top,
             },
             steps,
         );
@@ -363,7 +352,7 @@ fn make_room<R: Rank, A: Allocator + Clone>(
 /// The search in the product before this one that a step from `cell` needs, as a number of children
 /// and a place. It is for the next left part if the right part is the head, else for none. `known`
 /// is the number of known left parts.
-fn left_search(cell: &Cell, head: EntryId, child: usize, known: usize) -> (usize, usize)
+fn left_search(cell: &Cell, head: EntryId, child: usize, known: u32) -> (usize, u32)
     requires { cell.now.left < known }
     ensures beside { cell.now.right ≡ head → (result.0 ≡ child) × (result.1 ≡ cell.now.left + 1) }
     ensures apart { cell.now.right ≢ head → (result.0 ≡ 0) × (result.1 ≡ 0) }
@@ -377,7 +366,7 @@ fn left_search(cell: &Cell, head: EntryId, child: usize, known: usize) -> (usize
 
 /// The next solution of the row that `source` comes from. `known` is the number of known solutions
 /// of the row.
-fn following(source: &Source, known: usize) -> Source
+fn following(source: &Source, known: u32) -> Source
     requires { source.now.place < known }
     ensures { result ≡ record { member = source.now.member; place = source.now.place + 1 } }
 {
@@ -388,7 +377,7 @@ fn following(source: &Source, known: usize) -> Source
 }
 
 /// The place after this one, which is one of `known` places.
-fn next_place(place: usize, known: usize) -> usize
+fn next_place(place: u32, known: u32) -> u32
     requires { place < known }
     ensures { result ≡ place + 1 }
 {

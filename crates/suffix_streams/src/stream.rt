@@ -15,14 +15,14 @@ use step_counter::Steps;
 use stream_cells::Source;
 use stream_store::EntryId;
 use take2_heap::{Entry, HeapOf};
-use tdp_core::Answer;
 
-/// A subtree solution of a group, as the store has it.
+/// A subtree solution of a group, as the store has it: its rank, and the source that its rows are
+/// read from.
 #[derive(Clone, Copy)]
 pub(crate) struct Found<R> {
     pub(crate) node: u32,
     pub(crate) group: u32,
-    pub(crate) answer: Answer<R>,
+    pub(crate) solution: Entry<R, Source>,
 }
 
 /// The stream of a group: its first entry, and, for each member that has solutions left, the next

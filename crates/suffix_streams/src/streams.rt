@@ -120,13 +120,14 @@ impl<'t, R: Rank, A: Allocator + Clone> Streams<'t, R, A> {
     }
 
     /// The row numbers, from 1, of the entry's subtree solution, by item, from 0. They are 0 at
-    /// each item without a node in the subtree. It takes one step.
+    /// each item without a node in the subtree. They are read from entry to entry, in at most 4
+    /// steps for each node of the subtree.
     pub fn rows_of<L: Ledger>(&self, entry: EntryId, steps: &mut Steps<L>) -> [u32; 16]
         requires { entry < length self.now.entries }
         ensures rows { result ≡ rows_of_key R.KEYS 16 (entry_key R.KEYS R.key self.now entry) }
         ensures cost { steps.new ≤ steps.old + 4 * length self.now.tree }
     {
-        self.solutions.entries.get(entry, steps).answer.rows
+        self.solutions.entry_rows(entry, steps)
     }
 
     /// The rank of the entry's subtree solution. It takes one step.
@@ -135,6 +136,6 @@ impl<'t, R: Rank, A: Allocator + Clone> Streams<'t, R, A> {
         ensures rank { R.key result ≡ entry_key R.KEYS R.key self.now entry }
         ensures cost { steps.new ≤ steps.old + 4 }
     {
-        self.solutions.entries.get(entry, steps).answer.rank
+        self.solutions.entries.get(entry, steps).solution.rank
     }
 }

@@ -1,4 +1,4 @@
-use Rattle.std.proofs.Common.{get_or, refl, sym, ap, ◌∙◌, subst}
+use Rattle.std.proofs.Common.{get_or, refl, ap, ◌∙◌}
 use Rattle.tdp_model.specs.KeyTuple.{key_add, key_none}
 use Rattle.suffix_streams.specs.Rankings.{part_list}
 use Rattle.suffix_streams.proofs.Heads.{head_key}
@@ -9,11 +9,11 @@ pub join-requires : goal.join-requires
 join-requires g c =
     let r = c.requires.parts.rights c.args.cell.now.right c.requires.cell.right c.requires.cell.node c.requires.cell.group in
     let k = head_key g.R.Rank.KEYS g.R.Rank.key c.args.entries.now.entries c.args.cell.now.right c.args.cell.now.right c.get-right.result.now _ refl c.get-right.ensures.value r.1 in
-    cell_fits g.R.Rank.KEYS g.R.Rank.key c.args.tree.now c.requires.formed c.args.entries.now.entries c.args.nodes.now c.args.node c.args.row c.args.child c.args.cell.now c.requires.node c.requires.parts c.requires.cell _ _ c.part_rank-left.ensures.key k.0
+    cell_fits g.R.Rank.KEYS g.R.Rank.key c.args.tree.now c.requires.formed c.args.entries.now.entries c.args.nodes.now c.args.node c.args.row c.args.child c.args.cell.now c.requires.node c.requires.parts c.requires.cell _ _ c.part_rank-left.ensures.key k
 
 pub returns-clause-key : goal.returns-clause-key
 returns-clause-key g c =
     let r = c.requires.parts.rights c.args.cell.now.right c.requires.cell.right c.requires.cell.node c.requires.cell.group in
     let k = head_key g.R.Rank.KEYS g.R.Rank.key c.args.entries.now.entries c.args.cell.now.right c.args.cell.now.right c.get-right.result.now _ refl c.get-right.ensures.value r.1 in
-    c.join.ensures.sum ∙ ap (λ z. key_add g.R.Rank.KEYS 16 z (g.R.Rank.key c.get-right.result.now.answer.rank)) c.part_rank-left.ensures.key
-    ∙ ap (λ z. key_add g.R.Rank.KEYS 16 (get_or (part_list g.R.Rank.KEYS g.R.Rank.key c.args.tree.now c.args.node c.args.row c.args.child) c.args.cell.now.left (key_none g.R.Rank.KEYS 16)) z) k.0
+    c.join.ensures.sum ∙ ap (λ z. key_add g.R.Rank.KEYS 16 z (g.R.Rank.key c.get-right.result.now.solution.rank)) c.part_rank-left.ensures.key
+    ∙ ap (λ z. key_add g.R.Rank.KEYS 16 (get_or (part_list g.R.Rank.KEYS g.R.Rank.key c.args.tree.now c.args.node c.args.row c.args.child) c.args.cell.now.left (key_none g.R.Rank.KEYS 16)) z) k

@@ -19,14 +19,14 @@ join-rank-requires g c =
     let kids : length c.index-nodes-node.result.children ≡ child_count c.args.tree.now c.args.node = children_count g.R.Rank.KEYS g.R.Rank.key c.args.tree.now c.args.entries.now.entries c.args.nodes.now c.args.node c.args.row c.index-nodes-node.result c.requires.headed c.requires.node c.index-nodes-node.is in
     let kid_in : c.loop-child.child < child_count c.args.tree.now c.args.node = omega (arith, kids, c.child_count-children.ensures) in
     let k = head_key g.R.Rank.KEYS g.R.Rank.key c.args.entries.now.entries (stream_of c.args.nodes.now (child c.args.tree.now c.args.node c.loop-child.child) (group_named c.args.tree.now c.args.node c.args.row c.loop-child.child)).head c.child_head-head.result c.get.result.now _ c.child_head-head.ensures.head c.get.ensures.value (c.requires.headed.keys c.loop-child.child kid_in) in
-    firsts_fit g.R.Rank.KEYS g.R.Rank.key c.args.tree.now c.requires.formed c.requires.tie_free c.args.node c.args.row c.loop-child.child _ _ c.requires.node c.requires.row kid_in c.loop-child.invariant.key k.0
+    firsts_fit g.R.Rank.KEYS g.R.Rank.key c.args.tree.now c.requires.formed c.requires.tie_free c.args.node c.args.row c.loop-child.child _ _ c.requires.node c.requires.row kid_in c.loop-child.invariant.key k
 
 pub loop-child-preserved : goal.loop-child-preserved
 loop-child-preserved g c =
     let kids : length c.index-nodes-node.result.children ≡ child_count c.args.tree.now c.args.node = children_count g.R.Rank.KEYS g.R.Rank.key c.args.tree.now c.args.entries.now.entries c.args.nodes.now c.args.node c.args.row c.index-nodes-node.result c.requires.headed c.requires.node c.index-nodes-node.is in
     let kid_in : c.loop-child.child < child_count c.args.tree.now c.args.node = omega (arith, kids, c.child_count-children.ensures) in
     let k = head_key g.R.Rank.KEYS g.R.Rank.key c.args.entries.now.entries (stream_of c.args.nodes.now (child c.args.tree.now c.args.node c.loop-child.child) (group_named c.args.tree.now c.args.node c.args.row c.loop-child.child)).head c.child_head-head.result c.get.result.now _ c.child_head-head.ensures.head c.get.ensures.value (c.requires.headed.keys c.loop-child.child kid_in) in
-    let longer = first_longer g.R.Rank.KEYS g.R.Rank.key c.args.tree.now c.requires.formed c.requires.tie_free c.args.node c.args.row c.loop-child.child _ _ (g.R.Rank.key c.join-rank.result) c.requires.node c.requires.row kid_in c.loop-child.invariant.key k.0 c.join-rank.ensures.sum in
+    let longer = first_longer g.R.Rank.KEYS g.R.Rank.key c.args.tree.now c.requires.formed c.requires.tie_free c.args.node c.args.row c.loop-child.child _ _ (g.R.Rank.key c.join-rank.result) c.requires.node c.requires.row kid_in c.loop-child.invariant.key k c.join-rank.ensures.sum in
     record {
       key = longer;
       fresh = product_made g.R.Rank.KEYS g.R.Rank.key c.args.tree.now c.args.nodes.now c.args.node c.args.row c.loop-child.child c.child_head-head.result c.loop-child.products.items _ c.in_ok-new.field-0 c.join-rank.result c.loop-child.invariant.fresh c.in_ok-push.ensures.items c.in_ok-new.ensures.found c.in_ok-new.ensures.frontier c.child_head-head.ensures.head longer;

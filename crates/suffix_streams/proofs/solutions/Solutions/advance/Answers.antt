@@ -1,8 +1,8 @@
 use Rattle.std.proofs.Common.{◌≡◌, ◌+◌, ◌<◌, ◌≤◌, Some, is_some, List, [], length, slice_set, get_or, sym, ap, ◌∙◌, subst, arith}
 use Rattle.take2_heap.specs.Order.{IsLeast}
-use Rattle.tdp_core.specs.TreeData.{members, child_count, rows}
+use Rattle.tdp_core.specs.TreeData.{members}
 use Rattle.suffix_streams.specs.NodeLists.{NodeLists, stream_at, with_queue}
-use Rattle.suffix_streams.specs.StreamsData.{IsStreams, HasRow, node_list, group_list_of, row_known, node_of, group_of, lists_of, stream_of}
+use Rattle.suffix_streams.specs.StreamsData.{IsStreams, node_list, group_list_of, node_of, group_of, lists_of, stream_of}
 use Rattle.suffix_streams.specs.Growing.{IsAnswered}
 use Rattle.suffix_streams.proofs.Heads.{lists_at}
 use Rattle.suffix_streams.proofs.Kept.{held_itself}
@@ -15,10 +15,8 @@ use Rattle.rank_key.specs.Bits.{bit_length}
 use Rattle.rank_key.proofs.BitLemmas.{bit_length-rises}
 use Rattle.std.proofs.lemmas.List.{get_or-set_same}
 use Rattle.stream_model.specs.Links.{owned, IsLinkedAt}
-use Rattle.tdp_core.proofs.TreeFacts.{member_is_row}
-use Rattle.tdp_model.specs.KeyTuple.{key_none}
-use Rattle.suffix_streams.specs.Rankings.{part_list, group_list}
-use Rattle.suffix_streams.proofs.QueuePass.{IsGroupTop, IsQueuePassed, IsEntryLinked, group_top, queue_passed, passed_ends, passed_grows, queued_member, queued_key, queued_place, row_read, entry_linked}
+use Rattle.suffix_streams.specs.Rankings.{group_list}
+use Rattle.suffix_streams.proofs.QueuePass.{IsGroupTop, IsQueuePassed, IsEntryLinked, group_top, queue_passed, passed_ends, passed_grows, entry_linked}
 use Rattle.suffix_streams.proofs.solutions.Solutions.advance.Given.{Over}
 use Rattle.suffix_streams.proofs.solutions.Solutions.advance.Goals.{After-index, After-pass, After-set_next, After-top, In_ok-top}
 use Rattle.suffix_streams.proofs.solutions.Solutions.advance.Goals as goal
@@ -53,8 +51,8 @@ module _ (g : Over) where
   first_is : (c : In_ok-top g) → IsGroupTop g.R.Rank.KEYS g.R.Rank.key c.args.self.now.tree.now c.args.self.now.entries.entries c.args.self.now.nodes.items c.args.last c.args.node c.args.group c.args.row → c.in_ok-top.top ≡ get_or (stream_at c.pass.new.self c.args.group).queue 0 c.in_ok-top.top
   first_is c o = c.in_ok-top.ensures.top c.in_ok-top.top ∙ ap (λ n. get_or (stream_at n c.args.group).queue 0 c.in_ok-top.top) (c.index-2.ensures ∙ get_or-set_same c.args.self.now.nodes.items c.args.node c.pass.new.self c.index-2.result.now o.in_nodes)
 
-  linked_of : (c : After-set_next g) → IsGroupTop g.R.Rank.KEYS g.R.Rank.key c.args.self.now.tree.now c.args.self.now.entries.entries c.args.self.now.nodes.items c.args.last c.args.node c.args.group c.args.row → IsEntryLinked c.args.self.now.tree.now c.args.self.now.entries.entries c.set_next.new.self.entries c.args.last (record { node = c.args.node; group = c.args.group; answer = c.row_answer-answer.result })
-  linked_of c o = entry_linked o c.row_answer-answer.result c.push_reserved-next.new.self.entries c.set_next.new.self.entries c.push_reserved-next.result c.requires.formed c.requires.last c.requires.node c.requires.group c.requires.none c.push_reserved-next.ensures.id c.push_reserved-next.ensures.entries c.set_next.ensures.entries
+  linked_of : (c : After-set_next g) → IsGroupTop g.R.Rank.KEYS g.R.Rank.key c.args.self.now.tree.now c.args.self.now.entries.entries c.args.self.now.nodes.items c.args.last c.args.node c.args.group c.args.row → IsEntryLinked c.args.self.now.tree.now c.args.self.now.entries.entries c.set_next.new.self.entries c.args.last (record { node = c.args.node; group = c.args.group; solution = c.in_ok-top.top })
+  linked_of c o = entry_linked o c.in_ok-top.top c.push_reserved-next.new.self.entries c.set_next.new.self.entries c.push_reserved-next.result c.requires.formed c.requires.last c.requires.node c.requires.group c.requires.none c.push_reserved-next.ensures.id c.push_reserved-next.ensures.entries c.set_next.ensures.entries
 
 pub returns-in_err-top-clause-formed : goal.returns-in_err-top-clause-formed
 returns-in_err-top-clause-formed g c =
@@ -84,57 +82,6 @@ returns-in_err-top-clause-cost g c =
     let o = top_of g at.After-index in
     let digits = digits_of g at.After-pass o in
     omega (arith, digits, c.pass.ensures.cost)
-
-pub member-row-requires-clause-place : goal.member-row-requires-clause-place
-member-row-requires-clause-place g c =
-    let at = goal.at.member-row-requires-clause-place g c in
-    let o = top_of g at.After-index in
-    let p = passed_of g at.After-pass o in
-    let some = some_of g at.In_ok-top o in
-    let first = first_is g at.In_ok-top o in
-    queued_member p c.in_ok-top.top some first
-
-pub row_answer-answer-requires-clause-row : goal.row_answer-answer-requires-clause-row
-row_answer-answer-requires-clause-row g c =
-    let at = goal.at.row_answer-answer-requires-clause-row g c in
-    let o = top_of g at.After-index in
-    let p = passed_of g at.After-pass o in
-    let some = some_of g at.In_ok-top o in
-    let first = first_is g at.In_ok-top o in
-    let in_row = member_is_row g.R.Rank.KEYS g.R.Rank.key c.args.self.now.tree.now c.requires.formed.tree c.args.node c.args.group c.in_ok-top.top.tag.member o.node (queued_member p c.in_ok-top.top some first) in
-    subst (λ z. z < rows c.args.self.now.tree.now c.args.node) (sym c.member-row.ensures.member) in_row
-
-pub row_answer-answer-requires-clause-known : goal.row_answer-answer-requires-clause-known
-row_answer-answer-requires-clause-known g c =
-    let at = goal.at.row_answer-answer-requires-clause-known g c in
-    let o = top_of g at.After-index in
-    let p = passed_of g at.After-pass o in
-    let changed = changed_of g at.After-pass o in
-    let some = some_of g at.In_ok-top o in
-    let first = first_is g at.In_ok-top o in
-    let in_row = member_is_row g.R.Rank.KEYS g.R.Rank.key c.args.self.now.tree.now c.requires.formed.tree c.args.node c.args.group c.in_ok-top.top.tag.member o.node (queued_member p c.in_ok-top.top some first) in
-    subst (λ (z : List (NodeLists g.row.R.Denot)). HasRow g.R.Rank.KEYS g.R.Rank.key c.args.self.now.tree.now c.args.self.now.entries.entries z c.args.node c.member-row.result) (sym (c.as_slice.ensures.value ∙ changed)) (row_read p c.member-row.result (subst (λ z. z < rows c.args.self.now.tree.now c.args.node) (sym c.member-row.ensures.member) in_row))
-
-pub row_answer-answer-requires-clause-place : goal.row_answer-answer-requires-clause-place
-row_answer-answer-requires-clause-place g c =
-    let at = goal.at.row_answer-answer-requires-clause-place g c in
-    let o = top_of g at.After-index in
-    let p = passed_of g at.After-pass o in
-    let changed = changed_of g at.After-pass o in
-    let some = some_of g at.In_ok-top o in
-    let first = first_is g at.In_ok-top o in
-    subst (λ (z : List (NodeLists g.row.R.Denot)). c.in_ok-top.top.tag.place < row_known z c.args.node c.member-row.result) (sym (c.as_slice.ensures.value ∙ changed))
-    (subst (λ z. c.in_ok-top.top.tag.place < row_known (slice_set c.args.self.now.nodes.items c.args.node (with_queue (lists_of c.args.self.now.nodes.items c.args.node) c.args.group (stream_at c.pass.new.self c.args.group).queue)) c.args.node z) (sym c.member-row.ensures.member) (queued_place p c.in_ok-top.top some first))
-
-pub row_answer-answer-requires-clause-key : goal.row_answer-answer-requires-clause-key
-row_answer-answer-requires-clause-key g c =
-    let at = goal.at.row_answer-answer-requires-clause-key g c in
-    let o = top_of g at.After-index in
-    let p = passed_of g at.After-pass o in
-    let some = some_of g at.In_ok-top o in
-    let first = first_is g at.In_ok-top o in
-    queued_key p c.in_ok-top.top some first
-    ∙ ap (λ z. get_or (part_list g.R.Rank.KEYS g.R.Rank.key c.args.self.now.tree.now c.args.node z (child_count c.args.self.now.tree.now c.args.node)) c.in_ok-top.top.tag.place (key_none g.R.Rank.KEYS 16)) (sym c.member-row.ensures.member)
 
 pub returns-clause-products : goal.returns-clause-products
 returns-clause-products g c =
@@ -169,7 +116,7 @@ returns-clause-cost g c =
     let at = goal.at.returns-clause-cost g c in
     let o = top_of g at.After-index in
     let digits = digits_of g at.After-pass o in
-    omega (arith, digits, c.pass.ensures.cost, c.member-row.ensures.counted, c.row_answer-answer.ensures.cost, c.push_reserved-next.ensures.cost, c.set_next.ensures.cost)
+    omega (arith, digits, c.pass.ensures.cost, c.push_reserved-next.ensures.cost, c.set_next.ensures.cost)
 
 pub returns-clause-formed : goal.returns-clause-formed
 returns-clause-formed g c =
@@ -181,10 +128,9 @@ returns-clause-formed g c =
     let some = some_of g at.In_ok-top o in
     let first = first_is g at.In_ok-top o in
     let e = linked_of g at.After-set_next o in
-    let key = ap g.R.Rank.key c.row_answer-answer.ensures.rank ∙ queued_key p c.in_ok-top.top some first in
     subst (λ (z : List (NodeLists g.row.R.Denot)). IsStreams g.R.Rank.KEYS g.R.Rank.key c.args.self.now.tree.now c.set_next.new.self.entries z) (sym changed)
-    (passed_grows p c.set_next.new.self.entries c.in_ok-top.top c.row_answer-answer.result (entry_held c.args.self.now.entries.entries c.set_next.new.self.entries e.store) e.owners e.linked e.others e.longer some first
-    (subst (λ n. IsLeast g.R.Rank.KEYS g.R.Rank.key c.in_ok-top.top (stream_at n c.args.group).queue) read c.in_ok-top.ensures.least) key c.row_answer-answer.ensures.rows)
+    (passed_grows p c.set_next.new.self.entries c.in_ok-top.top (entry_held c.args.self.now.entries.entries c.set_next.new.self.entries e.store) e.owners e.linked e.others e.longer some first
+    (subst (λ n. IsLeast g.R.Rank.KEYS g.R.Rank.key c.in_ok-top.top (stream_at n c.args.group).queue) read c.in_ok-top.ensures.least))
 
 pub offered-offer-requires : goal.offered-offer-requires
 offered-offer-requires g c =

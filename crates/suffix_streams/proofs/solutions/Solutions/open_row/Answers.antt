@@ -1,4 +1,4 @@
-use Rattle.std.proofs.Common.{◌≡◌, ℕ, ◌+◌, ◌<◌, ◌≤◌, max, List, [], length, get_or, sym, ap, ◌∙◌, subst, arith}
+use Rattle.std.proofs.Common.{ℕ, ◌+◌, ◌<◌, ◌≤◌, max, List, length, sym, ap, ◌∙◌, subst, arith}
 use Rattle.tdp_core.specs.TreeData.{child_count, rows}
 use Rattle.suffix_streams.specs.NodeLists.{NodeLists}
 use Rattle.suffix_streams.specs.StreamsData.{IsHeaded, IsStreams, AreFreshTo, products_of, product_of}

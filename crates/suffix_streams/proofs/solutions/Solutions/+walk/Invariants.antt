@@ -1,0 +1,9 @@
+use Rattle.std.proofs.Common.{◌+◌, ◌-◌, ◌*◌, length}
+use Rattle.suffix_streams.specs.StreamsData.{node_of}
+use Rattle.suffix_streams.proofs.solutions.Solutions.+walk.Given as goal
+
+abbrev pub decreases-entry_rows : goal.decreases-entry_rows
+decreases-entry_rows g l = 32 * (length l.self.now.tree.now - node_of l.self.now.entries.entries l.entry) + 31
+
+abbrev pub decreases-part_rows : goal.decreases-part_rows
+decreases-part_rows g l = 32 * (length l.self.now.tree.now - l.node) + l.count
