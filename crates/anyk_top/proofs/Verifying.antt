@@ -1,5 +1,5 @@
 -- An input whose certificate is checked.
-use Rattle.std.proofs.Common.{◌≡◌, ◌∙◌, ℕ, zero, suc, List, [], ◌∷◌, length, map, take, slice_index, inl, inr, Option, Some, None, Result, Ok, Err, refl, sym, ap, subst, arith}
+use Rattle.std.proofs.Common.{◌≡◌, ◌∙◌, ℕ, zero, suc, List, [], ◌∷◌, length, map, take, slice_index, inl, inr, Option, Some, None, Result, Ok, Err, IfOk, refl, sym, ap, subst, arith}
 use Rattle.std.specs.List.{AllByRecursion}
 use Rattle.std.proofs.lemmas.List.{length-map}
 use Rattle.anyk_model.specs.Output.{output_of}
@@ -42,8 +42,9 @@ use Rattle.verdict.specs.Stages.{Then, followed, refused}
 use Rattle.verdict.specs.Verdict.{IsLoadedOn, IsShaped, IsStructure, IsVerdict, IsVerified}
 use Rattle.verdict.specs.Words.{Words, built, verify, sought_by}
 use Rattle.verdict.proofs.Staging.{found_within, pure_staged}
-use Rattle.anyk_top.specs.Checked.{HasAnswers, IsCheckedFor, IsVerifiedIn, shape_reason, shown_done}
-use Rattle.anyk_top.specs.Judged.{IsJudgedOn, IsLookedUp}
+use Rattle.anyk_top.specs.Checked.{HasAnswers, IsChecked, IsCheckedFor, IsVerifiedIn, shape_reason, shown_done}
+use Rattle.anyk_top.specs.declared.verify.Checked.{Checked}
+use Rattle.task_answer.specs.Judged.{IsJudgedOn, IsLookedUp}
 
 -- ---- the steps, of which nothing is said
 
@@ -242,3 +243,15 @@ answers-shown words input shape answers h =
     }) in
     ap (output_of h.query.query input.tables (style_of words)) h.listed
     ∙ sym (ap (text (h.query ∷ [])) h.unnamed) ∙ sym (ap (λ (qs : List BoundQuery). text qs input.best) h.only)
+
+pub looked-checked : (proof : List ℕ) (words : Words) (before after : Shelved) (input : InputData) (r : Result Checked Refusal)
+    → IsLookedUp (sought_by (verify proof words)) before after (Ok (loaded_of input))
+    → IfOk r (λ checked. checked.input ≡ input) → IsVerifiedIn (loaded_of input) r
+    → IsChecked (verify proof words) before after r
+looked-checked proof words before after input (Ok checked) looked same verified = (
+  verified.0,
+  subst (λ (i : InputData). IsJudgedOn (verify proof words) before after (Ok (found_of (loaded_of i) (verified.0 ∷ [])))) (sym same)
+      (looked-verified proof words before after (loaded_of input) (Ok (found_of (loaded_of input) (verified.0 ∷ []))) looked verified.1),
+)
+looked-checked proof words before after input (Err refusal) looked same verified =
+    looked-verified proof words before after (loaded_of input) (Err (reason_of refusal)) looked verified

@@ -3,18 +3,8 @@ use Rattle.std.specs.Prelude.{◌≡◌, ℕ, List, Option, Some, None}
 use Rattle.refusal_lines.specs.Reason as reason
 use Rattle.refusal_lines.specs.Reason.{Reason}
 use Rattle.cmd_words.specs.Commands.{CommandSaid, run_said, session_said, plan_said, prove_said, verify_said, load_said}
-use Rattle.cmd_words.specs.Said.{WordsSaid}
+use Rattle.task_answer.specs.Tasks.{words_of}
 use Rattle.verdict.specs.Words.{Words, Asked, no_command, built, run, plan, session, load, prove, verify}
-
--- all but the engine, which does not change the output
-abbrev pub words_of : WordsSaid → Words
-words_of said = record {
-  ranks = said.ranks;
-  rows = said.rows;
-  best_of = said.best_of;
-  query = said.query;
-  tables = said.tables;
-}
 
 -- `clap` accepts the arguments of a session only if a script is among them
 abbrev pub asked_session : Option (List ℕ) → Words → Asked

@@ -2,18 +2,17 @@
 ghost use Rattle.std.specs.Prelude.{◌≡◌, Some, IfErr, IfOk, map};
 ghost use Rattle.std.specs.String.{string_bytes};
 ghost use Rattle.cmd_words.specs.Commands.{KeepsRange, said_of, seen_command};
-ghost use Rattle.cmd_words.specs.Numbers.{IsInRange};
-ghost use Rattle.cmd_words.specs.Said.{seen_words};
 ghost use Rattle.refusal_lines.specs.Refused.{reason_of};
 ghost use Rattle.verdict.specs.Words.{built};
-ghost use Rattle.anyk_top.specs.Asked.{IsEarly, asked_of, words_of};
+ghost use Rattle.anyk_top.specs.Asked.{IsEarly, asked_of};
 ghost use Rattle.anyk_top.specs.Requests.{asked_by};
 
-use crate::request::{Request, Task};
+use crate::request::Request;
 use cmd_words::{Command, Words, WordsFault, read_words};
 use input_load::MadeTables;
 use refusal_lines::Refusal;
 use std::alloc::Global;
+use task_answer::Task;
 
 /// The command that the arguments ask for. `Usage` if they are not a command, and `NoMemory` if
 /// memory is refused.

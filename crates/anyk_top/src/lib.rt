@@ -7,17 +7,8 @@ mod answering;
 mod asking;
 mod checking;
 mod ending;
-mod engine;
-mod load;
-mod looking;
-mod plan;
-mod planning;
-mod prove;
 mod request;
-mod run;
-mod session;
 mod top;
-mod union;
 mod verify;
 
 pub use top::{run_keyed, run_uncounted, run_words};

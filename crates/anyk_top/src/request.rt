@@ -1,6 +1,6 @@
 //! The commands.
-use cmd_words::{Engine, Words};
-use input_load::MadeTables;
+use cmd_words::Words;
+use task_answer::Task;
 
 /// A command with its arguments.
 #[derive(Drop)]
@@ -9,20 +9,4 @@ pub(crate) enum Request {
     Planned(Task),
     /// Prints the answers that the certificate in the file of this name lists, if it is valid.
     Verify(String, Words),
-}
-
-/// A command that plans its queries.
-#[derive(Drop)]
-pub(crate) enum Task {
-    /// Prints the answers of a query.
-    Run(Words),
-    /// Prints the join tree of a query.
-    Plan(Words),
-    /// Prints answers of a query as a script asks for them; the text is the name of the script's
-    /// file.
-    Session(String, Words),
-    /// Prints a summary of the answers of a query over tables that are made from a number.
-    Load(Engine, MadeTables),
-    /// Prints a certificate of the answers of a query.
-    Prove(Words),
 }

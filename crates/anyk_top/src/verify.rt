@@ -11,12 +11,11 @@ ghost use Rattle.verdict.specs.Output.{answers_text};
 ghost use Rattle.verdict.specs.Outcome.{IsCaused, IsComplete, IsCut, IsReason};
 ghost use Rattle.verdict.specs.Staged.{shelved};
 ghost use Rattle.verdict.specs.Words.{built, verify};
-ghost use Rattle.anyk_top.specs.Asked.{words_of};
+ghost use Rattle.task_answer.specs.Tasks.{words_of};
 ghost use Rattle.anyk_top.specs.Checked.{HasAnswers, IsChecked, IsVerifiedIn};
-ghost use Rattle.anyk_top.specs.Sides.{seen_by};
+ghost use Rattle.task_answer.specs.Sides.{seen_by};
 
 use crate::checking::check_proof;
-use crate::looking::look_up;
 use answer_print::Style;
 use cmd_words::Words;
 use command_verify::print_listed;
@@ -27,6 +26,7 @@ use refusal_lines::Refusal;
 use std::alloc::Global;
 use std::sync::ledger::Ledger;
 use step_counter::Steps;
+use task_answer::look_up;
 
 /// An accepted input, with the answers that its certificate lists.
 #[derive(Drop)]
@@ -61,8 +61,10 @@ pub(crate) fn answer_verified<'a, F: Shelf, S: Sink, L: Ledger>(
         (seen_by F.Shelf S.Sink shelf.old out.old)
         (seen_by F.Shelf S.Sink shelf.new out.new) (reason_of refusal)) }
 {
-    let checked = check_input(alloc, proof, words, shelf, keys, steps)?;
-    print_checked(alloc, words, &checked.input, &checked.answers, out)
+    match check_input(alloc, proof, words, shelf, keys, steps) {
+        Ok(checked) => print_checked(alloc, words, &checked.input, &checked.answers, out),
+        Err(refusal) => Err(refusal),
+    }
 }
 
 // Prints the header, and the answers that the certificate lists.
@@ -101,9 +103,28 @@ fn check_input<'a, F: Shelf, L: Ledger>(
     ensures answers { IfOk result (λ checked. HasAnswers checked.input checked.answers.items) }
 {
     let aside = Aside::Certificate(proof);
-    let input = look_up(alloc, words, false, aside, None, shelf, keys)?;
-    let answers = answers_in(alloc, &input, steps)?;
-    Ok(Checked { input, answers })
+    match look_up(alloc, words, false, aside, None, shelf, keys) {
+        Ok(input) => checked_input(alloc, input, steps),
+        Err(refusal) => Err(refusal),
+    }
+}
+
+// The input with the answers that its certificate lists, or the first refusal.
+fn checked_input<'a, L: Ledger>(
+    alloc: Global,
+    input: Input,
+    steps: &mut Steps<L>,
+) -> Result<Checked, Refusal<'a>>
+    requires one { length input.queries ≡ 1 }
+    requires unnamed { input.best ≡ None }
+    ensures same { IfOk result (λ checked. checked.input ≡ input) }
+    ensures verified { IsVerifiedIn (loaded_of input) result }
+    ensures answers { IfOk result (λ checked. HasAnswers checked.input checked.answers.items) }
+{
+    match answers_in(alloc, &input, steps) {
+        Ok(answers) => Ok(Checked { input, answers }),
+        Err(refusal) => Err(refusal),
+    }
 }
 
 // The answers that the certificate of the input lists, or the first refusal.

@@ -1,23 +1,23 @@
 use Rattle.std.specs.String.{string_bytes}
 use Rattle.cmd_words.specs.Said.{seen_words}
-use Rattle.anyk_top.specs.Asked.{words_of}
+use Rattle.task_answer.specs.Tasks.{words_of}
 use Rattle.anyk_top.proofs.Verifying.{verify-bounded, verify-prompt}
 use Rattle.anyk_top.proofs.answering.answer.Goals as goal
 
 pub returns-in-Planned-clause-done : goal.returns-in-Planned-clause-done
-returns-in-Planned-clause-done g c = rw c.in-Planned.is c.answer_planned.ensures.done
+returns-in-Planned-clause-done g c = rw c.in-Planned.is c.answer_task.ensures.done
 
 pub returns-in-Planned-clause-fits : goal.returns-in-Planned-clause-fits
-returns-in-Planned-clause-fits g c = rw c.in-Planned.is c.answer_planned.ensures.fits
+returns-in-Planned-clause-fits g c = rw c.in-Planned.is c.answer_task.ensures.fits
 
 pub returns-in-Planned-clause-cut : goal.returns-in-Planned-clause-cut
-returns-in-Planned-clause-cut g c = rw c.in-Planned.is c.answer_planned.ensures.cut
+returns-in-Planned-clause-cut g c = rw c.in-Planned.is c.answer_task.ensures.cut
 
 pub returns-in-Planned-clause-bounded : goal.returns-in-Planned-clause-bounded
-returns-in-Planned-clause-bounded g c = rw c.in-Planned.is c.answer_planned.ensures.bounded
+returns-in-Planned-clause-bounded g c = rw c.in-Planned.is c.answer_task.ensures.bounded
 
 pub returns-in-Planned-clause-prompt : goal.returns-in-Planned-clause-prompt
-returns-in-Planned-clause-prompt g c = rw c.in-Planned.is c.answer_planned.ensures.prompt
+returns-in-Planned-clause-prompt g c = rw c.in-Planned.is c.answer_task.ensures.prompt
 
 pub returns-in-Verify-clause-done : goal.returns-in-Verify-clause-done
 returns-in-Verify-clause-done g c = rw c.in-Verify.is (rw c.as_str.ensures.value at c.answer_verified.ensures.done)

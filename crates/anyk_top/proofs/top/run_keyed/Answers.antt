@@ -2,12 +2,12 @@ use Rattle.std.proofs.Common.{map}
 use Rattle.std.specs.String.{string_bytes}
 use Rattle.cmd_words.specs.Commands.{said_of}
 use Rattle.anyk_top.specs.Asked.{asked_of}
-use Rattle.anyk_top.proofs.Bounds.{bounded-still, prompt-still}
+use Rattle.task_answer.proofs.Bounds.{bounded-still, prompt-still}
 use Rattle.verdict.specs.Made.{known_to}
 use Rattle.verdict.specs.Outcome.{Outside}
 use Rattle.verdict.specs.Words.{built}
 use Rattle.anyk_top.specs.Requests.{asked_by}
-use Rattle.anyk_top.specs.Sides.{seen_by}
+use Rattle.task_answer.specs.Sides.{seen_by}
 use Rattle.anyk_top.proofs.Ends.{early-outcome, built-outcome}
 use Rattle.refusal_lines.specs.SinkState.{state_of}
 use Rattle.refusal_lines.proofs.Prints.{appends-nothing}

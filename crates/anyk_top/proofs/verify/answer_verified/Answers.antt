@@ -1,4 +1,4 @@
-use Rattle.std.proofs.Common.{◌≡◌, ◌∷◌, [], Err, refl, rules}
+use Rattle.std.proofs.Common.{◌∷◌, [], refl}
 use Rattle.cmd_words.specs.Said.{seen_words}
 use Rattle.input_load.specs.Input.{loaded_of}
 use Rattle.refusal_lines.specs.Printed.{PrintedSome}
@@ -11,95 +11,92 @@ use Rattle.verdict.specs.Outcome.{Outside}
 use Rattle.verdict.specs.Output.{HasOutput}
 use Rattle.verdict.specs.Staged.{Shelved, shelved}
 use Rattle.verdict.specs.Words.{Command, verify}
-use Rattle.anyk_top.specs.Asked.{words_of}
-use Rattle.anyk_top.specs.Sides.{seen_by}
-use Rattle.anyk_top.proofs.Ends.{judged-accepts, judged-reason, judged-caused, judged-cut, printed-caused, printed-complete, printed-cut, printed-fits}
+use Rattle.task_answer.specs.Tasks.{words_of}
+use Rattle.task_answer.specs.Sides.{seen_by}
+use Rattle.task_answer.proofs.Ends.{judged-accepts, judged-reason, judged-caused, judged-cut, printed-caused, printed-complete, printed-cut, printed-fits}
 use Rattle.anyk_top.proofs.verify.answer_verified.Goals as goal
 
-pub returns-in_err-checked-clause-fits : goal.returns-in_err-checked-clause-fits
-returns-in_err-checked-clause-fits g c =
+pub returns-in-Err-clause-fits : goal.returns-in-Err-clause-fits
+returns-in-Err-clause-fits g c =
     let command : Command = verify c.args.proof.now (words_of (seen_words c.args.words.now)) in
     let before : Shelved = shelved g.F.Shelf c.args.shelf.now in
     let after : Shelved = shelved g.F.Shelf c.check_input.new.shelf in
-    let a : Reason = reason_of c.in_err-checked.field-0.0 in
-    let e : c.from_residual.result ≡ Err c.in_err-checked.field-0.0 = search rules in
-    rw e (judged-reason command before after a c.in_err-checked.ensures.checked)
+    let a : Reason = reason_of c.in-Err.refusal in
+    judged-reason command before after a c.in-Err.ensures.checked
 
-pub returns-in_err-checked-clause-caused : goal.returns-in_err-checked-clause-caused
-returns-in_err-checked-clause-caused g c =
+pub returns-in-Err-clause-caused : goal.returns-in-Err-clause-caused
+returns-in-Err-clause-caused g c =
     let command : Command = verify c.args.proof.now (words_of (seen_words c.args.words.now)) in
     let old : Outside = seen_by g.F.Shelf g.S.Sink c.args.shelf.now c.args.out.now in
     let new : Outside = seen_by g.F.Shelf g.S.Sink c.check_input.new.shelf c.args.out.now in
-    let a : Reason = reason_of c.in_err-checked.field-0.0 in
-    let e : c.from_residual.result ≡ Err c.in_err-checked.field-0.0 = search rules in
-    rw e (judged-caused command old new (g.F.Shelf.files c.args.shelf.now) (g.F.Shelf.files c.check_input.new.shelf) a c.in_err-checked.ensures.checked)
+    let a : Reason = reason_of c.in-Err.refusal in
+    judged-caused command old new (g.F.Shelf.files c.args.shelf.now) (g.F.Shelf.files c.check_input.new.shelf) a c.in-Err.ensures.checked
 
-pub returns-in_err-checked-clause-cut : goal.returns-in_err-checked-clause-cut
-returns-in_err-checked-clause-cut g c =
+pub returns-in-Err-clause-cut : goal.returns-in-Err-clause-cut
+returns-in-Err-clause-cut g c =
     let command : Command = verify c.args.proof.now (words_of (seen_words c.args.words.now)) in
     let old : Outside = seen_by g.F.Shelf g.S.Sink c.args.shelf.now c.args.out.now in
     let new : Outside = seen_by g.F.Shelf g.S.Sink c.check_input.new.shelf c.args.out.now in
     let before : Shelved = shelved g.F.Shelf c.args.shelf.now in
     let after : Shelved = shelved g.F.Shelf c.check_input.new.shelf in
-    let a : Reason = reason_of c.in_err-checked.field-0.0 in
-    let e : c.from_residual.result ≡ Err c.in_err-checked.field-0.0 = search rules in
-    rw e (judged-cut command before after old new a c.in_err-checked.ensures.checked (appends-nothing (g.S.Sink.written c.args.out.now)))
+    let a : Reason = reason_of c.in-Err.refusal in
+    judged-cut command before after old new a c.in-Err.ensures.checked (appends-nothing (g.S.Sink.written c.args.out.now))
 
-pub returns-clause-done : goal.returns-clause-done
-returns-clause-done g c =
+pub returns-in-Ok-clause-done : goal.returns-in-Ok-clause-done
+returns-in-Ok-clause-done g c =
     let command : Command = verify c.args.proof.now (words_of (seen_words c.args.words.now)) in
     let told = g.F.Shelf.files c.args.shelf.now in
     let old : Outside = seen_by g.F.Shelf g.S.Sink c.args.shelf.now c.args.out.now in
     let new : Outside = seen_by g.F.Shelf g.S.Sink c.check_input.new.shelf c.print_checked.new.out in
     let before : Shelved = shelved g.F.Shelf c.args.shelf.now in
     let after : Shelved = shelved g.F.Shelf c.check_input.new.shelf in
-    let checked = c.in_ok-checked.ensures.checked in
-    let found : Found = found_of (loaded_of c.in_ok-checked.checked.input) (checked.0 ∷ []) in
+    let checked = c.in-Ok.ensures.checked in
+    let found : Found = found_of (loaded_of c.in-Ok.checked.input) (checked.0 ∷ []) in
     let accepts = judged-accepts command before after found checked.1 in
     let shown : PrintedSome (HasOutput command found) (state_of g.S.Sink c.args.out.now) (state_of g.S.Sink c.print_checked.new.out)
     c.print_checked.result = printed-some (HasOutput command found) _ _ _ _ refl (c.print_checked.ensures checked.0) in
     printed-complete command told old new found c.print_checked.result accepts shown.whole
 
-pub returns-clause-fits : goal.returns-clause-fits
-returns-clause-fits g c =
+pub returns-in-Ok-clause-fits : goal.returns-in-Ok-clause-fits
+returns-in-Ok-clause-fits g c =
     let command : Command = verify c.args.proof.now (words_of (seen_words c.args.words.now)) in
     let told = g.F.Shelf.files c.args.shelf.now in
     let old : Outside = seen_by g.F.Shelf g.S.Sink c.args.shelf.now c.args.out.now in
     let new : Outside = seen_by g.F.Shelf g.S.Sink c.check_input.new.shelf c.print_checked.new.out in
     let before : Shelved = shelved g.F.Shelf c.args.shelf.now in
     let after : Shelved = shelved g.F.Shelf c.check_input.new.shelf in
-    let checked = c.in_ok-checked.ensures.checked in
-    let found : Found = found_of (loaded_of c.in_ok-checked.checked.input) (checked.0 ∷ []) in
+    let checked = c.in-Ok.ensures.checked in
+    let found : Found = found_of (loaded_of c.in-Ok.checked.input) (checked.0 ∷ []) in
     let accepts = judged-accepts command before after found checked.1 in
     let shown : PrintedSome (HasOutput command found) (state_of g.S.Sink c.args.out.now) (state_of g.S.Sink c.print_checked.new.out)
     c.print_checked.result = printed-some (HasOutput command found) _ _ _ _ refl (c.print_checked.ensures checked.0) in
     printed-fits command told old new found accepts c.print_checked.result shown.cause
 
-pub returns-clause-caused : goal.returns-clause-caused
-returns-clause-caused g c =
+pub returns-in-Ok-clause-caused : goal.returns-in-Ok-clause-caused
+returns-in-Ok-clause-caused g c =
     let command : Command = verify c.args.proof.now (words_of (seen_words c.args.words.now)) in
     let told = g.F.Shelf.files c.args.shelf.now in
     let old : Outside = seen_by g.F.Shelf g.S.Sink c.args.shelf.now c.args.out.now in
     let new : Outside = seen_by g.F.Shelf g.S.Sink c.check_input.new.shelf c.print_checked.new.out in
     let before : Shelved = shelved g.F.Shelf c.args.shelf.now in
     let after : Shelved = shelved g.F.Shelf c.check_input.new.shelf in
-    let checked = c.in_ok-checked.ensures.checked in
-    let found : Found = found_of (loaded_of c.in_ok-checked.checked.input) (checked.0 ∷ []) in
+    let checked = c.in-Ok.ensures.checked in
+    let found : Found = found_of (loaded_of c.in-Ok.checked.input) (checked.0 ∷ []) in
     let accepts = judged-accepts command before after found checked.1 in
     let shown : PrintedSome (HasOutput command found) (state_of g.S.Sink c.args.out.now) (state_of g.S.Sink c.print_checked.new.out)
     c.print_checked.result = printed-some (HasOutput command found) _ _ _ _ refl (c.print_checked.ensures checked.0) in
     printed-caused command told old new found accepts c.print_checked.result shown.cause
 
-pub returns-clause-cut : goal.returns-clause-cut
-returns-clause-cut g c =
+pub returns-in-Ok-clause-cut : goal.returns-in-Ok-clause-cut
+returns-in-Ok-clause-cut g c =
     let command : Command = verify c.args.proof.now (words_of (seen_words c.args.words.now)) in
     let told = g.F.Shelf.files c.args.shelf.now in
     let old : Outside = seen_by g.F.Shelf g.S.Sink c.args.shelf.now c.args.out.now in
     let new : Outside = seen_by g.F.Shelf g.S.Sink c.check_input.new.shelf c.print_checked.new.out in
     let before : Shelved = shelved g.F.Shelf c.args.shelf.now in
     let after : Shelved = shelved g.F.Shelf c.check_input.new.shelf in
-    let checked = c.in_ok-checked.ensures.checked in
-    let found : Found = found_of (loaded_of c.in_ok-checked.checked.input) (checked.0 ∷ []) in
+    let checked = c.in-Ok.ensures.checked in
+    let found : Found = found_of (loaded_of c.in-Ok.checked.input) (checked.0 ∷ []) in
     let accepts = judged-accepts command before after found checked.1 in
     let shown : PrintedSome (HasOutput command found) (state_of g.S.Sink c.args.out.now) (state_of g.S.Sink c.print_checked.new.out)
     c.print_checked.result = printed-some (HasOutput command found) _ _ _ _ refl (c.print_checked.ensures checked.0) in

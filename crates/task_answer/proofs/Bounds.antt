@@ -1,0 +1,227 @@
+-- The steps of a command, if its input is accepted.
+use Rattle.std.proofs.Common.{◌≡◌, ◌<◌, ◌≤◌, ◌+◌, ◌++◌, ◌*◌, ℕ, Bool, true, false, if◌then◌else◌, List, [], ◌∷◌}
+use Rattle.std.proofs.Common.{length, take, Option, Some, None, Result, Ok, refl, sym, subst, arith}
+use Rattle.std.specs.List.{sum_by}
+use Rattle.std.proofs.lemmas.Bool.{false≢true, lt-ltb, ltb-false}
+use Rattle.std.proofs.lemmas.List.{length-map}
+use Rattle.std.proofs.lemmas.List.Sums.{sum_by-cons}
+use Rattle.std.proofs.lemmas.Nat.{mul-le}
+use Rattle.anyk_model.specs.Output.{cut}
+use Rattle.anyk_model.specs.Query.{Query, row_counts}
+use Rattle.anyk_model.specs.Table.{Table}
+use Rattle.outer_io.specs.Files.{Files}
+use Rattle.query_bind.specs.Parts.{sum_of_all}
+use Rattle.query_shape.specs.Shape.{Shape}
+use Rattle.rank_key.specs.Bits.{bit_length}
+use Rattle.refusal_lines.specs.Reason.{Reason}
+use Rattle.step_bounds.specs.Bounded.{IsPrepared, cost_over, total_of}
+use Rattle.verdict.specs.SessionCalls.{session_reach}
+use Rattle.union_list.specs.Tagged.{Tagged, branch_at}
+use Rattle.union_list.specs.Union.{members_in, union_of}
+use Rattle.union_list.specs.UnionOutput.{union_output_of}
+use Rattle.query_bind.specs.Weighed.{BoundQuery}
+use Rattle.input_load.specs.Input.{InputData, loaded_of, queries_in}
+use Rattle.verdict.specs.Bound.{IsBounded, IsPaced, IsPrompt, IsWithin, cost_of}
+use Rattle.verdict.specs.Found.{Found, found_of, is_union, query_of, structure_of}
+use Rattle.verdict.specs.Loading.{are_several}
+use Rattle.verdict.specs.Output.{answers_text, asked_list, style_of, tagged_of}
+use Rattle.verdict.specs.Stages.{followed}
+use Rattle.verdict.specs.UnionBound.{HaveShapes, union_cost, union_records}
+use Rattle.verdict.specs.Verdict.{IsStructured, IsVerdict}
+use Rattle.verdict.specs.Words.{Asked, Command, Words, no_command, built, run, plan, session, load, prove, verify}
+use Rattle.verdict.proofs.One.{one_verdict}
+use Rattle.verdict.proofs.Structure.{shapes_had}
+use Rattle.task_answer.specs.Planned.{ArePrepared, IsEarlyFor, IsEarlyWithin, preparation_of}
+use Rattle.task_answer.proofs.Ends.{Accepts}
+use Rattle.task_answer.proofs.Judging.{verdict-structured}
+
+-- known files have one verdict
+found-is : (command : Command) (files : Files) (found other : Found) → Accepts command (Some files) found
+    → IsVerdict (built command) files (Ok other) → found ≡ other
+found-is command files found other accepts verdict = let e =
+    one_verdict (built command) files (Ok found) (Ok other) accepts verdict in cc
+
+-- no step was taken
+within-still : (command : Command) (found : Found) (n : ℕ) → IsWithin command found n n
+within-still (run words) found n = omega arith
+within-still (plan words) found n = omega arith
+within-still (session script words) found n = omega arith
+within-still (load number rows) found n = omega arith
+within-still (prove words) found n = tt
+within-still (verify proof words) found n = tt
+
+pub bounded-still : (asked : Asked) (told : Option Files) (n : ℕ) → IsBounded asked told n n
+bounded-still no_command told n = tt
+bounded-still (built command) None n = tt
+bounded-still (built command) (Some files) n = λ found verdict. within-still command found n
+
+paced-still : (command : Command) (found : Found) (old new : Option (List ℕ)) (n : ℕ)
+    → IsPaced command found old new n n
+paced-still (run words) found old new n = λ start part is_old is_new. omega arith
+paced-still (plan words) found old new n = tt
+paced-still (session script words) found old new n = tt
+paced-still (load number rows) found old new n = tt
+paced-still (prove words) found old new n = tt
+paced-still (verify proof words) found old new n = tt
+
+pub prompt-still : (asked : Asked) (told : Option Files) (old new : Option (List ℕ)) (n : ℕ)
+    → IsPrompt asked told old new n n
+prompt-still no_command told old new n = tt
+prompt-still (built command) None old new n = tt
+prompt-still (built command) (Some files) old new n = λ found verdict. paced-still command found old new n
+
+-- the steps for the input that is accepted
+pub bounded-found : (command : Command) (told : Option Files) (found : Found) (before now : ℕ)
+    → Accepts command told found → IsWithin command found before now
+    → IsBounded (built command) told before now
+bounded-found command None found before now accepts h = tt
+bounded-found command (Some files) found before now accepts h = λ other verdict.
+    subst (λ f. IsWithin command f before now) (found-is command files found other accepts verdict) h
+
+pub prompt-found : (command : Command) (told : Option Files) (found : Found) (old new : Option (List ℕ))
+    (before now : ℕ) → Accepts command told found
+    → IsPaced command found old new before now → IsPrompt (built command) told old new before now
+prompt-found command None found old new before now accepts h = tt
+prompt-found command (Some files) found old new before now accepts h = λ other verdict.
+    subst (λ f. IsPaced command f old new before now) (found-is command files found other accepts verdict) h
+
+-- ---- the steps of a preparation, as part of all steps
+
+prepared-cost : (l t b x : ℕ) → t ≤ b → 16 * (l * l * (1 + t)) ≤ 64 * (l * l) * (1 + b + x)
+prepared-cost l t b x h = let more = mul-le (l * l) (1 + t) (l * l) (1 + b + x) (omega arith) (omega (arith, h)) in
+    omega (arith, more)
+
+pub prepared-over : (query : Query) (tables : List Table) (shape : Shape) (before now calls : ℕ)
+    → IsPrepared query tables before now
+    → now ≤ before + cost_over query tables shape calls
+prepared-over query tables shape before now calls h =
+    let l : ℕ = length query.items in
+    let b : ℕ = total_of query tables shape in
+    let more = prepared-cost l (sum_of_all (row_counts query.items tables)) b
+    (calls * (1 + bit_length (b + calls * l))) (omega arith) in
+    omega (arith, h, more)
+
+-- that of several queries, as part of the steps of their union
+pub union-prepared : (tables : List Table) (list : List Tagged) (b : ℕ) (queries : List Query) (shapes : List Shape)
+    → HaveShapes tables queries shapes
+    → sum_by (preparation_of tables) queries ≤ union_cost tables list b queries shapes
+union-prepared tables list b [] [] h = omega arith
+union-prepared tables list b [] (shape ∷ shapes) h = absurd h
+union-prepared tables list b (query ∷ queries) [] h = absurd h
+union-prepared tables list b (query ∷ queries) (shape ∷ shapes) h =
+    let sum = sum_by-cons (preparation_of tables) query queries in
+    let own = prepared-over query tables shape 0 (preparation_of tables query) (members_in b list + 1) (omega arith) in
+    let rest = union-prepared tables list (b + 1) queries shapes h.1 in
+    omega (arith, sum, own, rest)
+
+at-most-one : (queries : List Query) (tables : List Table) → length queries ≤ 1
+    → sum_by (preparation_of tables) queries ≤ preparation_of tables (branch_at queries 0)
+at-most-one [] tables few = omega arith
+at-most-one (query ∷ []) tables few = let sum = sum_by-cons (preparation_of tables) query [] in omega (arith, sum)
+at-most-one (query ∷ other ∷ queries) tables few = absurd (omega (arith, few))
+
+-- the steps of a run, whether it has several queries or not
+run-prepared : (found : Found) (list : List Tagged) (before now calls : ℕ)
+    → HaveShapes found.tables found.queries found.shapes
+    → ArePrepared found.queries found.tables before now
+    → now ≤ before + (if is_union found then union_cost found.tables list 0 found.queries found.shapes else cost_of
+    found calls)
+run-prepared found list before now calls have h = by (is_union found) refl
+  where
+    by : (b : Bool) → is_union found ≡ b
+        → now ≤ before + (if b then union_cost found.tables list 0 found.queries found.shapes else cost_of found calls)
+    by true several = let more = union-prepared found.tables list 0 found.queries found.shapes have in
+        omega (arith, h, more)
+    by false one =
+        let few = ltb-false 1 (length found.queries) one in
+        let own = at-most-one found.queries found.tables (omega (arith, few)) in
+        prepared-over (query_of found) found.tables (structure_of found) before now calls (omega (arith, h, own))
+
+within-prepared : (command : Command) (found : Found) (before now : ℕ)
+    → HaveShapes found.tables found.queries found.shapes → IsEarlyFor command found before now
+    → IsWithin command found before now
+within-prepared (run words) found before now have h = run-prepared found (tagged_of found) before now _ have h
+within-prepared (plan words) found before now have h =
+    prepared-over (query_of found) found.tables (structure_of found) before now 0 h
+within-prepared (session script words) found before now have h =
+    let least = prepared-over (query_of found) found.tables (structure_of found) before now
+    (session_reach (query_of found).limit (asked_list found) found.steps) h in
+    omega (arith, least)
+within-prepared (load number rows) found before now have h =
+    prepared-over (query_of found) found.tables (structure_of found) before now _ h
+within-prepared (prove words) found before now have h = tt
+within-prepared (verify proof words) found before now have h = tt
+
+paced-prepared : (command : Command) (found : Found) (old new : Option (List ℕ)) (before now : ℕ)
+    → HaveShapes found.tables found.queries found.shapes
+    → IsEarlyFor command found before now → IsPaced command found old new before now
+paced-prepared (run words) found old new before now have h =
+    λ start part is_old is_new. run-prepared found _ before now _ have h
+paced-prepared (plan words) found old new before now have h = tt
+paced-prepared (session script words) found old new before now have h = tt
+paced-prepared (load number rows) found old new before now have h = tt
+paced-prepared (prove words) found old new before now have h = tt
+paced-prepared (verify proof words) found old new before now have h = tt
+
+same-found : {a b : Found} → ◌≡◌ {A = Result Found Reason} (Ok a) (Ok b) → a ≡ b
+same-found e = cc
+
+-- what is accepted has a structure for each query
+found-shaped : (asked : Asked) (files : Files) (found : Found) → IsStructured asked files (Ok found)
+    → HaveShapes found.tables found.queries found.shapes
+found-shaped asked files found (followed {a = loaded} loads (followed {a = shapes} are same)) =
+    subst (λ (f : Found). HaveShapes f.tables f.queries f.shapes) (sym (same-found same))
+    (shapes_had (are_several loaded.queries) 1 loaded.tables loaded.queries shapes are)
+
+pub bounded-early : (command : Command) (told : Option Files) (before now : ℕ) → IsEarlyWithin command told before now
+    → IsBounded (built command) told before now
+bounded-early command None before now h = tt
+bounded-early command (Some files) before now h = λ found verdict.
+    within-prepared command found before now (found-shaped (built command) files found (verdict-structured command files found verdict)) (h found verdict)
+
+pub prompt-early : (command : Command) (told : Option Files) (old new : Option (List ℕ)) (before now : ℕ)
+    → IsEarlyWithin command told before now
+    → IsPrompt (built command) told old new before now
+prompt-early command None old new before now h = tt
+prompt-early command (Some files) old new before now h = λ found verdict.
+    paced-prepared command found old new before now (found-shaped (built command) files found (verdict-structured command files found verdict)) (h found verdict)
+
+-- # Several queries
+
+chosen : {A : Type 0} (b : Bool) (x y : A) → b ≡ true → (if b then x else y) ≡ x
+chosen true x y e = refl
+chosen false x y e = absurd (false≢true e)
+
+are-union : (input : InputData) (shapes : List Shape) → 1 < length input.queries
+    → is_union (found_of (loaded_of input) shapes) ≡ true
+are-union input shapes more =
+    let count = length-map input.queries (λ (q : BoundQuery). q.query) in
+    lt-ltb 1 (length (queries_in input.queries)) (omega (arith, count, more))
+
+pub several-output : (words : Words) (input : InputData) (shapes : List Shape) → 1 < length input.queries
+    → answers_text words (found_of (loaded_of input) shapes)
+    ≡ union_output_of (queries_in input.queries) input.tables (style_of words)
+    (cut (branch_at (queries_in input.queries) 0).limit (union_of (queries_in input.queries) input.tables))
+several-output words input shapes more =
+    chosen (is_union (found_of (loaded_of input) shapes)) _ _ (are-union input shapes more)
+
+pub several-within : (words : Words) (input : InputData) (shapes : List Shape) (before now : ℕ)
+    → 1 < length input.queries
+    → now ≤ before + union_cost input.tables (tagged_of (found_of (loaded_of input) shapes)) 0
+    (queries_in input.queries) shapes
+    → IsWithin (run words) (found_of (loaded_of input) shapes) before now
+several-within words input shapes before now more h =
+    subst (λ (most : ℕ). now ≤ before + most)
+    (sym (chosen (is_union (found_of (loaded_of input) shapes)) _ _ (are-union input shapes more))) h
+
+pub several-paced : (words : Words) (input : InputData) (shapes : List Shape) (old new : Option (List ℕ))
+    (before now : ℕ) → 1 < length input.queries
+    → ((start part : List ℕ) → old ≡ Some start → new ≡ Some (start ++ part) → now ≤ before + union_cost input.tables
+    (take (union_records (queries_in input.queries) input.tables (tagged_of (found_of (loaded_of input) shapes))
+    (style_of words) part + 1)
+    (tagged_of (found_of (loaded_of input) shapes))) 0 (queries_in input.queries) shapes)
+    → IsPaced (run words) (found_of (loaded_of input) shapes) old new before now
+several-paced words input shapes old new before now more h = λ start part is_old is_new.
+    subst (λ (most : ℕ). now ≤ before + most)
+    (sym (chosen (is_union (found_of (loaded_of input) shapes)) _ _ (are-union input shapes more)))
+    (h start part is_old is_new)

@@ -1,0 +1,248 @@
+//! A command that plans its queries, from its input to its output.
+ghost use Rattle.std.specs.Prelude.{◌<◌, [], ◌∷◌, IfErr, OnOk, length, ℕ};
+ghost use Rattle.input_load.specs.Input.{loaded_of, queries_in};
+ghost use Rattle.plan_build.specs.Plan.{IsPlanOf, shape_of};
+ghost use Rattle.proof_text.specs.Certificate.{Certificate};
+ghost use Rattle.query_bind.specs.Weighed.{Fits};
+ghost use Rattle.refusal_lines.specs.Printed.{PrintedSome};
+ghost use Rattle.refusal_lines.specs.Refused.{reason_of};
+ghost use Rattle.refusal_lines.specs.SinkState.{state_of};
+ghost use Rattle.session_script.specs.Script.{KeepsRules};
+ghost use Rattle.step_bounds.specs.Bounded.{IsPrepared};
+ghost use Rattle.verdict.specs.Bound.{IsBounded, IsPaced, IsPrompt, IsWithin};
+ghost use Rattle.verdict.specs.Found.{found_of};
+ghost use Rattle.verdict.specs.Made.{known_to};
+ghost use Rattle.verdict.specs.Outcome.{IsReason, IsCaused, IsComplete, IsCut};
+ghost use Rattle.verdict.specs.Output.{HasOutput};
+ghost use Rattle.verdict.specs.Words.{built};
+ghost use Rattle.task_answer.specs.Judged.{HasOne, IsUnnamed};
+ghost use Rattle.task_answer.specs.Planned.{ArePlans, ArePrepared, HavePlans, IsOnePlan, IsOnePlanOf, found_by};
+ghost use Rattle.task_answer.specs.Planned.{found_in, shape_in, shapes_of};
+ghost use Rattle.task_answer.specs.Tasks.{command_of};
+ghost use Rattle.task_answer.specs.Sides.{seen_by};
+
+use crate::load::print_load;
+use crate::plan::print_report;
+use crate::planning::{Planned, Plans, plan_task};
+use crate::prove::print_certificate;
+use crate::run::print_run;
+use crate::session::print_script;
+use crate::task::Task;
+use crate::union::print_union_run;
+use csv_tables::Tables;
+use hash_keys::Keys;
+use input_load::Input;
+use outer_io::{Shelf, Sink};
+use plan_build::{Plan, RankedPlan};
+use query_bind::Query;
+use rank_key::Rank;
+use refusal_lines::Refusal;
+use session_script::Step;
+use std::alloc::Global;
+use std::sync::ledger::Ledger;
+use step_counter::Steps;
+
+/// Reads or makes the input of the command, plans its query, and prints the command's output. The
+/// result is an error if the input is refused, if a read or a write failed, or if memory is refused.
+pub fn answer_task<'a, F: Shelf, S: Sink, L: Ledger>(
+    alloc: Global,
+    task: &'a Task,
+    shelf: &mut F,
+    out: &mut S,
+    keys: Keys,
+    steps: &mut Steps<L>,
+) -> Result<(), Refusal<'a>>
+    ensures done { OnOk result (IsComplete (built (command_of task.now))
+        (known_to (built (command_of task.now)) (F.files shelf.old))
+        (seen_by F.Shelf S.Sink shelf.old out.old)
+        (seen_by F.Shelf S.Sink shelf.new out.new)) }
+    ensures fits { IfErr result (λ refusal. IsReason (built (command_of task.now))
+        (known_to (built (command_of task.now)) (F.files shelf.old)) (reason_of refusal)) }
+    ensures caused { IfErr result (λ refusal. IsCaused
+        (seen_by F.Shelf S.Sink shelf.old out.old)
+        (seen_by F.Shelf S.Sink shelf.new out.new) (reason_of refusal)) }
+    ensures cut { IfErr result (λ refusal. IsCut (built (command_of task.now))
+        (known_to (built (command_of task.now)) (F.files shelf.old))
+        (seen_by F.Shelf S.Sink shelf.old out.old)
+        (seen_by F.Shelf S.Sink shelf.new out.new) (reason_of refusal)) }
+    ensures bounded { IsBounded (built (command_of task.now))
+        (known_to (built (command_of task.now)) (F.files shelf.old)) steps.old steps.new }
+    ensures prompt { IsPrompt (built (command_of task.now))
+        (known_to (built (command_of task.now)) (F.files shelf.old)) (S.written out.old)
+        (S.written out.new) steps.old steps.new }
+{
+    match plan_task(alloc, task, shelf, keys, steps) {
+        Ok(planned) => print_planned(alloc, task, &planned, out, steps),
+        Err(refusal) => Err(refusal),
+    }
+}
+
+// Prints the output, with the rank type of the plans.
+fn print_planned<'a, S: Sink, L: Ledger>(
+    alloc: Global,
+    task: &Task,
+    planned: &Planned,
+    out: &mut S,
+    steps: &mut Steps<L>,
+) -> Result<(), Refusal<'a>>
+    requires plans { ArePlans planned.now.input planned.now.plans }
+    requires alone { HasOne (command_of task.now) planned.now.input }
+    ensures printed { PrintedSome (HasOutput (command_of task.now) (found_in planned.now))
+        (state_of S.Sink out.old) (state_of S.Sink out.new) result }
+    ensures bounded { (before : ℕ)
+        → ArePrepared (queries_in planned.now.input.queries) planned.now.input.tables before
+        steps.old
+        → IsWithin (command_of task.now) (found_in planned.now) before steps.new }
+    ensures paced { (before : ℕ)
+        → ArePrepared (queries_in planned.now.input.queries) planned.now.input.tables before
+        steps.old
+        → IsPaced (command_of task.now) (found_in planned.now)
+        (S.written out.old) (S.written out.new) before steps.new }
+{
+    let Planned { input, plans } = planned;
+    match plans {
+        Plans::One(plan) => print_one(alloc, task, plan, input, out, steps),
+        Plans::Sums(plans) => { print_branches(alloc, task, plans.as_slice(), input, out, steps) }
+        Plans::Lexes(plans) => { print_branches(alloc, task, plans.as_slice(), input, out, steps) }
+    }
+}
+
+// Prints the output over one query, with the rank type of its plan.
+fn print_one<'a, S: Sink, L: Ledger>(
+    alloc: Global,
+    task: &Task,
+    plan: &RankedPlan,
+    input: &Input,
+    out: &mut S,
+    steps: &mut Steps<L>,
+) -> Result<(), Refusal<'a>>
+    requires plan { IsOnePlan input.now.queries input.now.tables input.now.best plan.now }
+    requires alone { HasOne (command_of task.now) input.now }
+    ensures printed { PrintedSome
+        (HasOutput (command_of task.now) (found_of (loaded_of input.now) (shape_in plan.now ∷ [])))
+        (state_of S.Sink out.old) (state_of S.Sink out.new) result }
+    ensures bounded { (before : ℕ)
+        → ArePrepared (queries_in input.now.queries) input.now.tables before steps.old
+        → IsWithin (command_of task.now)
+        (found_of (loaded_of input.now) (shape_in plan.now ∷ [])) before steps.new }
+    ensures paced { (before : ℕ)
+        → ArePrepared (queries_in input.now.queries) input.now.tables before steps.old
+        → IsPaced (command_of task.now) (found_of (loaded_of input.now) (shape_in plan.now ∷ []))
+        (S.written out.old) (S.written out.new) before steps.new }
+{
+    match plan {
+        RankedPlan::SmallSum(plan) => print_plan(alloc, task, plan, input, out, steps),
+        RankedPlan::MiddleSum(plan) => print_plan(alloc, task, plan, input, out, steps),
+        RankedPlan::Sum(plan) => print_plan(alloc, task, plan, input, out, steps),
+        RankedPlan::SmallLex(plan) => print_plan(alloc, task, plan, input, out, steps),
+        RankedPlan::Lex(plan) => print_plan(alloc, task, plan, input, out, steps),
+    }
+}
+
+// Prints the output over one query for one rank type.
+fn print_plan<'a, R: Rank, S: Sink, L: Ledger>(
+    alloc: Global,
+    task: &Task,
+    plan: &Plan<R>,
+    input: &Input,
+    out: &mut S,
+    steps: &mut Steps<L>,
+) -> Result<(), Refusal<'a>>
+    requires plan { IsOnePlanOf R.KEYS R.key input.now.queries input.now.tables input.now.best
+        plan.now }
+    requires alone { HasOne (command_of task.now) input.now }
+    ensures printed { PrintedSome
+        (HasOutput (command_of task.now) (found_of (loaded_of input.now) (shape_of plan.now ∷ [])))
+        (state_of S.Sink out.old) (state_of S.Sink out.new) result }
+    ensures bounded { (before : ℕ)
+        → ArePrepared (queries_in input.now.queries) input.now.tables before steps.old
+        → IsWithin (command_of task.now)
+        (found_of (loaded_of input.now) (shape_of plan.now ∷ [])) before steps.new }
+    ensures paced { (before : ℕ)
+        → ArePrepared (queries_in input.now.queries) input.now.tables before steps.old
+        → IsPaced (command_of task.now) (found_of (loaded_of input.now) (shape_of plan.now ∷ []))
+        (S.written out.old) (S.written out.new) before steps.new }
+{
+    let query = &input.queries[0];
+    let tables = &input.tables;
+    let script = input.script.as_slice();
+    print_output(
+        alloc, task, plan, query, tables, input.best, script, out, steps,
+    )
+}
+
+// Prints the output over several queries, which only `run` may have.
+fn print_branches<'a, R: Rank, S: Sink, L: Ledger>(
+    alloc: Global,
+    task: &Task,
+    plans: &[Plan<R>],
+    input: &Input,
+    out: &mut S,
+    steps: &mut Steps<L>,
+) -> Result<(), Refusal<'a>>
+    requires several { 1 < length input.now.queries }
+    requires alone { HasOne (command_of task.now) input.now }
+    requires plans { HavePlans R.KEYS R.key input.now.tables input.now.queries plans.now }
+    ensures printed { PrintedSome
+        (HasOutput (command_of task.now) (found_of (loaded_of input.now) (shapes_of plans.now)))
+        (state_of S.Sink out.old) (state_of S.Sink out.new) result }
+    ensures bounded { (before : ℕ)
+        → ArePrepared (queries_in input.now.queries) input.now.tables before steps.old
+        → IsWithin (command_of task.now)
+        (found_of (loaded_of input.now) (shapes_of plans.now)) before steps.new }
+    ensures paced { (before : ℕ)
+        → ArePrepared (queries_in input.now.queries) input.now.tables before steps.old
+        → IsPaced (command_of task.now) (found_of (loaded_of input.now) (shapes_of plans.now))
+        (S.written out.old) (S.written out.new) before steps.new }
+{
+    match task {
+        Task::Run(words) => {
+            let queries = input.queries.as_slice();
+            print_union_run(alloc, words, plans, queries, &input.tables, out, steps)
+        }
+        _ => Err(Refusal::NoMemory),
+    }
+}
+
+// Prints the output of the command for one rank type.
+fn print_output<'a, R: Rank, S: Sink, L: Ledger>(
+    alloc: Global,
+    task: &Task,
+    plan: &Plan<R>,
+    query: &Query,
+    tables: &Tables,
+    best: Option<u32>,
+    script: &[Step],
+    out: &mut S,
+    steps: &mut Steps<L>,
+) -> Result<(), Refusal<'a>>
+    requires fits { Fits query.now tables.now }
+    requires rules { KeepsRules [] script.now }
+    requires plan { IsPlanOf R.KEYS R.key query.now tables.now best plan.now }
+    requires unnamed { IsUnnamed (command_of task.now) best }
+    ensures printed { (proof : Certificate)
+        → PrintedSome (HasOutput (command_of task.now)
+        (found_by query.now tables.now best script.now proof (shape_of plan.now)))
+        (state_of S.Sink out.old) (state_of S.Sink out.new) result }
+    ensures bounded { (proof : Certificate) (before : ℕ)
+        → IsPrepared query.now.query tables.now before steps.old
+        → IsWithin (command_of task.now)
+        (found_by query.now tables.now best script.now proof (shape_of plan.now)) before steps.new }
+    ensures paced { (proof : Certificate) (before : ℕ)
+        → IsPrepared query.now.query tables.now before steps.old
+        → IsPaced (command_of task.now)
+        (found_by query.now tables.now best script.now proof (shape_of plan.now))
+        (S.written out.old) (S.written out.new) before steps.new }
+{
+    match task {
+        Task::Run(words) => print_run(alloc, words, plan, query, tables, best, out, steps),
+        Task::Plan(_) => print_report(alloc, plan, query, tables, out),
+        Task::Session(_, words) => {
+            print_script(alloc, words, plan, query, tables, best, script, out, steps)
+        }
+        Task::Load(engine, _) => {
+            print_load(alloc, *engine, plan, query, tables, best, out, steps)
+        }
+        Task::Prove(words) => print_certificate(alloc, words.engine, plan, query, out, steps),
+    }
+}
