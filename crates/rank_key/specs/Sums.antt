@@ -23,7 +23,8 @@ low-of high low h = omega (arith, shr_split (high * 2 ^ 64 + low) 64, high-of hi
 -- the halves of the number that halves stand for are these
 pub halves_of-number : (s : Inside) → (s.high < 2 ^ 64) × (s.low < 2 ^ 64) → halves_of (number_of s) ≡ s
 halves_of-number s fits =
-    let bits : cast_unsigned w128 (cast_signed w128 (s.high * 2 ^ 64 + s.low)) ≡ s.high * 2 ^ 64 + s.low = of_z-to_z w128 (s.high * 2 ^ 64 + s.low) (omega (arith, fits.0, fits.1)) in
+    let bits : cast_unsigned w128 (cast_signed w128 (s.high * 2 ^ 64 + s.low)) ≡ s.high * 2 ^ 64 + s.low =
+    of_z-to_z w128 (s.high * 2 ^ 64 + s.low) (omega (arith, fits.0, fits.1)) in
     λ i. record {
       high = (ap (λ n. n / 2 ^ 64) bits ∙ high-of s.high s.low fits.1) i;
       low = (ap (λ n. n % 2 ^ 64) bits ∙ low-of s.high s.low fits.1) i;

@@ -74,7 +74,7 @@ fn compare_sums(a: &[Sum], b: &[Sum]) -> Ordering
     ensures { result ≡ slice_cmp int_cmp a.now b.now }
 {
     for place in 0..a.len() {
-        let order = a[place].get().cmp(&b[place].get());
+        let order = a[place].compare(&b[place]);
         if order.is_ne() {
             return order;
         }

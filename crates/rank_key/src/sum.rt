@@ -1,6 +1,8 @@
 //! A sum of 128 bits in two halves.
 ghost use Rattle.std.specs.Prelude.{◌≡◌};
+ghost use Rattle.std.specs.Ordering.{int_cmp};
 
+use std::cmp::Ordering;
 use std::marker::Model;
 
 /// A whole number of 128 bits with a sign. It is kept in two halves, so that a rank needs no more room than its numbers
@@ -43,5 +45,16 @@ impl Sum {
         ensures { result ≡ self }
     {
         (((self.high as u128) << 64) + self.low as u128).cast_signed()
+    }
+
+    /// The order of two numbers: that of the high halves with their sign, and then that of the low ones.
+    pub(crate) fn compare(&self, other: &Sum) -> Ordering
+        ensures { result ≡ int_cmp self.now other.now }
+    {
+        if self.high == other.high {
+            self.low.cmp(&other.low)
+        } else {
+            self.high.cast_signed().cmp(&other.high.cast_signed())
+        }
     }
 }
