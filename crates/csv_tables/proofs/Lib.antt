@@ -1,6 +1,7 @@
 pub mod Cuts
 pub mod Digits
 pub mod Flaws
+pub mod Fronts
 pub mod Headers
 pub mod Kept
 pub mod Numbers

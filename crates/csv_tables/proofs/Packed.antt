@@ -1,8 +1,11 @@
 -- Fields in one vector of bytes: what one more changes, and where each lies.
-use Rattle.std.proofs.Common.{◌≡◌, ◌<◌, ◌-◌, ℕ, List, [], ◌∷◌, ◌++◌, take, drop, length, get_or, refl, sym, ap, ◌∙◌, arith, length-append}
+use Rattle.std.proofs.Common.{◌≡◌, ◌<◌, ◌+◌, ◌-◌, ℕ, List, [], ◌∷◌, ◌++◌, take, drop, length, get_or, refl, sym, ap, ◌∙◌, arith, length-append, append-nil, append_assoc}
 use Rattle.std.proofs.Math.Seq.{drop-append_seam}
+use Rattle.std.specs.List.{concat}
 use Rattle.csv.specs.Records.{Rising, cut_from, last_end, prev}
 use Rattle.csv.proofs.RecordFacts.{cut-end, cut-more, field-cut, field-get, last-append, rising-end, rising-more}
+use Rattle.anyk_model.specs.Table.{Fields}
+use Rattle.csv_tables.specs.Fields.{ends_from}
 
 pub none-cut : (bytes : List ℕ) → cut_from 0 [] bytes ≡ []
 unfolding cut_from
@@ -32,6 +35,34 @@ module _ (ends bytes field : List ℕ) (rising : Rising 0 ends (length bytes)) (
 
   pub push-whole : last_end 0 (ends ++ length (bytes ++ field) ∷ []) ≡ length (bytes ++ field)
   push-whole = last-append 0 ends (length (bytes ++ field))
+
+-- places and bytes that show these fields
+pub record Shows (ends bytes : List ℕ) (fields : Fields) : Type 0 where
+  pub rising : Rising 0 ends (length bytes)
+  pub whole : last_end 0 ends ≡ length bytes
+  pub cut : cut_from 0 ends bytes ≡ fields
+
+shows-push : (ends bytes : List ℕ) (fields : Fields) (f : List ℕ) → Shows ends bytes fields
+    → Shows (ends ++ (length bytes + length f) ∷ []) (bytes ++ f) (fields ++ f ∷ [])
+shows-push ends bytes fields f shows =
+    rw (sym (length-append bytes f)) (record {
+      rising = push-rising ends bytes f shows.rising shows.whole;
+      whole = push-whole ends bytes f shows.rising shows.whole;
+      cut = push-cut ends bytes f shows.rising shows.whole ∙ ap (λ (l : Fields). l ++ f ∷ []) shows.cut;
+    })
+
+-- the bytes of more fields, and their ends
+pub shows-more : (more : Fields) (ends bytes : List ℕ) (fields : Fields) → Shows ends bytes fields
+    → Shows (ends ++ ends_from (length bytes) more) (bytes ++ concat more) (fields ++ more)
+shows-more [] ends bytes fields shows = rw (append-nil ends, append-nil bytes, append-nil fields) shows
+shows-more (f ∷ more) ends bytes fields shows =
+    let rest = shows-more more (ends ++ (length bytes + length f) ∷ []) (bytes ++ f) (fields ++ f ∷ []) (shows-push ends bytes fields f shows) in
+    rw (
+      length-append bytes f,
+      append_assoc ends ((length bytes + length f) ∷ []) (ends_from (length bytes + length f) more),
+      append_assoc bytes f (concat more),
+      append_assoc fields (f ∷ []) more,
+    ) at rest
 
 -- the field at a place is the bytes between its start and its end
 pub field-between : (ends bytes : List ℕ) (i : ℕ) → i < length ends

@@ -34,10 +34,12 @@ fn digits_value(bytes: &[u8]) -> Option<u64>
 {
     let mut number: u64 = 0;
     for byte in bytes {
-        if *byte < b'0' || *byte > b'9' {
+        // Past 9 for each byte that is no digit. At 64 bits, so that it is not widened again.
+        let digit = (*byte as u64).wrapping_sub(b'0' as u64);
+        if digit > 9 {
             return None;
         }
-        number = number * 10 + (*byte - b'0') as u64;
+        number = number * 10 + digit;
     }
     Some(number)
 }

@@ -88,13 +88,13 @@ impl Texts {
         ensures fields { OnOk result (fields.new ≡ fields.old ++ fields_of row.now) }
         ensures err { OnErr result (Extends self.old self.new) }
     {
+        fields.push_record(row)?;
         cells.reserve(row.len())?;
         for i in 0..row.len() {
             let Some(field) = row.get(i) else {
                 unreachable!()
             };
             cells.push_reserved(self.number(field)?);
-            fields.push(field)?;
         }
         Ok(())
     }

@@ -1,8 +1,7 @@
-use Rattle.std.proofs.Common.{◌≡◌, ◌<◌, ◌+◌, ◌∷◌, ◌++◌, [], ◌∙◌, sym, ap, take, length, append_assoc, append-nil, refl, arith, List, ℕ}
+use Rattle.std.proofs.Common.{◌≡◌, ◌<◌, ◌+◌, ◌∷◌, ◌++◌, [], ◌∙◌, sym, ap, take, length, refl, arith, List, ℕ}
 use Rattle.std.proofs.lemmas.List.{take_more}
 use Rattle.csv.specs.Records.{fields_of}
 use Rattle.csv.proofs.RecordFacts.{field-get, field-there}
-use Rattle.anyk_model.specs.Table.{Fields}
 use Rattle.csv_tables.specs.Values.{Extends, with_field}
 use Rattle.csv_tables.proofs.Stands.{adds-none, adds-push, extends-trans, on-err, with_fields-extends, with_fields-push, with_field-extends}
 use Rattle.csv_tables.proofs.texts.Texts.number_row.Goals as goal
@@ -10,7 +9,7 @@ use Rattle.csv_tables.proofs.texts.Texts.number_row.Goals as goal
 pub loop-i-init : goal.loop-i-init
 loop-i-init c =
     let same : c.reserve.new.self.items ≡ c.args.cells.now.items = c.reserve.ensures.items in
-    (refl, rw same (adds-none c.args.self.now c.args.cells.now.items), omega (arith, c.in_ok-reserve.ensures, c.len.ensures), sym (append-nil c.args.fields.now))
+    (refl, rw same (adds-none c.args.self.now c.args.cells.now.items), omega (arith, c.in_ok-reserve.ensures, c.len.ensures))
 
 pub unreachable-requires : goal.unreachable-requires
 unreachable-requires c = field-there (fields_of c.args.row.now) c.loop-i.i (omega arith) (sym c.in_default.ensures.value)
@@ -21,14 +20,6 @@ returns-in_err-number-clause-err c =
     let before = with_fields-extends old (take c.loop-i.i (fields_of c.args.row.now)) in
     let here : Extends old c.loop-i.self = (before.0, c.loop-i.invariant.0 ∙ before.1) in
     on-err c.from_residual-in_err-number.result (extends-trans old c.loop-i.self c.number.new.self here c.in_err-number.ensures.err)
-
-pub returns-in_err-push-clause-err : goal.returns-in_err-push-clause-err
-returns-in_err-push-clause-err c =
-    let old = c.args.self.now in
-    let fields = take c.loop-i.i (fields_of c.args.row.now) in
-    let all = with_fields-extends old (fields ++ c.in-Some.field.now ∷ []) in
-    let now = c.in_ok-number.ensures.texts ∙ ap (λ t. with_field t c.in-Some.field.now) c.loop-i.invariant.0 ∙ sym (with_fields-push old fields c.in-Some.field.now) in
-    on-err c.from_residual-in_err-push.result (all.0, now ∙ all.1)
 
 pub loop-i-preserved : goal.loop-i-preserved
 loop-i-preserved c =
@@ -47,5 +38,4 @@ loop-i-preserved c =
       adds-push c.loop-i.self new c.args.cells.now.items c.loop-i.cells.items fields c.in_ok-number.field-0 field
           more c.loop-i.invariant.1 c.in_ok-number.ensures.number,
       omega (arith, c.loop-i.invariant.2, c.push_reserved.ensures.len, c.push_reserved.ensures.capacity),
-      c.in_ok-push.ensures.added ∙ ap (λ (l : Fields). l ++ field ∷ []) c.loop-i.invariant.3 ∙ append_assoc c.args.fields.now fields (field ∷ []),
     )
