@@ -10,7 +10,8 @@ ghost use Rattle.answer_print.specs.Shown.{style_shown};
 use crate::fields::{Fields, push_numbers, push_optional};
 use crate::number::{Number, Numbers};
 use crate::style::Style;
-use csv_tables::{RecordWriter, Tables};
+use crate::writer::AnswerWriter;
+use csv_tables::Tables;
 use query_bind::Query;
 use std::alloc::Global;
 use step_counter::NoMemory;
@@ -48,10 +49,11 @@ pub fn line(
 }
 
 /// Writes the record of the answer with these rows, as `line` gives it, by a writer that is kept
-/// for many records. `NoMemory` if memory is refused.
+/// for many records. `NoMemory` if memory is refused; the writer's text is then unspecified, and
+/// further records can be written.
 pub fn write_line(
     alloc: Global,
-    records: &mut RecordWriter,
+    writer: &mut AnswerWriter,
     query: &Query,
     tables: &Tables,
     rows: &[u32; 16],
@@ -61,11 +63,11 @@ pub fn write_line(
     requires rows { IsCombination (row_counts query.now.query.items tables.now)
         (take (length query.now.query.items) rows.now) }
     ensures { OnOk result
-        (records.new ≡ line_text query.now.query tables.now (style_shown style.now)
+        (writer.new ≡ line_text query.now.query tables.now (style_shown style.now)
         (take (length query.now.query.items) rows.now)) }
 {
-    let mut numbers = Numbers::new(alloc);
-    push_shown(&mut numbers, query, tables, rows, style)?;
+    writer.numbers.clear();
+    push_shown(&mut writer.numbers, query, tables, rows, style)?;
     let mut fields = Fields::new(alloc);
     push_fields(
         &mut fields,
@@ -73,9 +75,9 @@ pub fn write_line(
         tables,
         rows,
         style.cursor,
-        numbers.as_slice(),
+        writer.numbers.as_slice(),
     )?;
-    records.write(fields.as_slice())
+    writer.records.write(fields.as_slice())
 }
 
 /// Appends the fields of the record: the cursor's name if there is one, the selected columns of the

@@ -10,7 +10,8 @@ ghost use Rattle.refusal_lines.specs.SinkState.{state_of};
 use crate::answer::write_line;
 use crate::style::Style;
 use crate::titles::header;
-use csv_tables::{RecordWriter, Tables};
+use crate::writer::AnswerWriter;
+use csv_tables::Tables;
 use outer_io::Sink;
 use query_bind::Query;
 use refusal_lines::{Refusal, print};
@@ -32,11 +33,11 @@ pub fn print_header<'a, S: Sink>(
     print(out, &text)
 }
 
-/// Prints the record of the answer with these rows, one for each item, counted from 1. `records`
+/// Prints the record of the answer with these rows, one for each item, counted from 1. `writer`
 /// keeps the memory for it. `WriteFault` if the write failed, and `NoMemory` if memory is refused.
 pub fn print_answer<'a, S: Sink>(
     alloc: Global,
-    records: &mut RecordWriter,
+    writer: &mut AnswerWriter,
     query: &Query,
     tables: &Tables,
     style: &Style<'_>,
@@ -50,6 +51,6 @@ pub fn print_answer<'a, S: Sink>(
         (line_text query.now.query tables.now (style_shown style.now)
         (take (length query.now.query.items) rows.now)) result }
 {
-    write_line(alloc, records, query, tables, rows, style)?;
-    print(out, records.text())
+    write_line(alloc, writer, query, tables, rows, style)?;
+    print(out, writer.text())
 }

@@ -9,8 +9,8 @@ ghost use Rattle.step_bounds.specs.Steps.{Paced, calls_for, steps_for, whole_lin
 ghost use Rattle.refusal_lines.specs.Printed.{Printed};
 ghost use Rattle.refusal_lines.specs.SinkState.{state_of};
 
-use answer_print::{Style, print_answer, print_header};
-use csv_tables::{RecordWriter, Tables};
+use answer_print::{AnswerWriter, Style, print_answer, print_header};
+use csv_tables::Tables;
 use outer_io::Sink;
 use query_bind::Query;
 use refusal_lines::Refusal;
@@ -71,7 +71,7 @@ fn print_answers<'a, E: Ranked, S: Sink, L: Ledger>(
         (S.written out.old) (S.written out.new) steps.old steps.new }
 {
     let most = query.limit().unwrap_or(u64::MAX);
-    let mut records = RecordWriter::new(alloc);
+    let mut records = AnswerWriter::new(alloc);
     for _given in 0..most {
         let Some(answer) = engine.next(steps)? else {
             return Ok(());

@@ -13,8 +13,8 @@ ghost use Rattle.witness_key.specs.WitnessKey.{AreCombinations, combinations_in}
 ghost use Rattle.command_session.specs.Spent.{Paid, calls_at};
 
 use crate::open_cursors::OpenCursor;
-use answer_print::{Style, print_answer};
-use csv_tables::{RecordWriter, Tables};
+use answer_print::{AnswerWriter, Style, print_answer};
+use csv_tables::Tables;
 use cursor_set::{CursorId, Cursors};
 use outer_io::Sink;
 use query_bind::Query;
@@ -29,7 +29,7 @@ use tdp_core::{Answer, Ranked};
 /// limit.
 pub(crate) fn print_next<'a, E: Ranked, S: Sink, L: Ledger>(
     alloc: Global,
-    records: &mut RecordWriter,
+    records: &mut AnswerWriter,
     query: &Query,
     tables: &Tables,
     style: &Style<'_>,

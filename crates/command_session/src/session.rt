@@ -17,8 +17,8 @@ ghost use Rattle.command_session.specs.Spent.{IsWithin, Paid};
 
 use crate::moving::print_next;
 use crate::open_cursors::{OpenCursors, close, fork, number_of, open, rewind};
-use answer_print::{Style, print_header};
-use csv_tables::{RecordWriter, Tables};
+use answer_print::{AnswerWriter, Style, print_header};
+use csv_tables::Tables;
 use cursor_set::{CursorId, Cursors, MAX_OPEN};
 use outer_io::Sink;
 use query_bind::Query;
@@ -103,7 +103,7 @@ fn print_steps<'a, E: Ranked, S: Sink, L: Ledger>(
         steps.new }
 {
     let mut cursors = [None; MAX_OPEN];
-    let mut records = RecordWriter::new(alloc);
+    let mut records = AnswerWriter::new(alloc);
     for step in script {
         take_step(
             alloc,
@@ -123,7 +123,7 @@ fn print_steps<'a, E: Ranked, S: Sink, L: Ledger>(
 
 fn take_step<'a, 's, E: Ranked, S: Sink, L: Ledger>(
     alloc: Global,
-    records: &mut RecordWriter,
+    records: &mut AnswerWriter,
     query: &Query,
     tables: &Tables,
     style: &Style<'_>,
@@ -184,7 +184,7 @@ fn take_step<'a, 's, E: Ranked, S: Sink, L: Ledger>(
 // Takes the step `next` of the cursor with this name.
 fn take_next<'a, E: Ranked, S: Sink, L: Ledger>(
     alloc: Global,
-    records: &mut RecordWriter,
+    records: &mut AnswerWriter,
     query: &Query,
     tables: &Tables,
     style: &Style<'_>,

@@ -11,8 +11,8 @@ ghost use Rattle.union_list.specs.UnionOutput.{union_header_text, union_line_tex
 ghost use Rattle.union_all.specs.Firsts.{tagged_shown};
 ghost use Rattle.command_union.specs.UnionSteps.{AreMembers, IsMember, UnionPaced, union_steps};
 
-use answer_print::Style;
-use csv_tables::{RecordWriter, Tables};
+use answer_print::{AnswerWriter, Style};
+use csv_tables::Tables;
 use outer_io::Sink;
 use query_bind::Query;
 use refusal_lines::{Refusal, print};
@@ -98,7 +98,7 @@ fn print_members<'a, 'q, E: Ranked + Drop, S: Sink, L: Ledger>(
         (S.written out.old) (S.written out.new) steps.old steps.new }
 {
     let most = limit.unwrap_or(u64::MAX);
-    let mut records = RecordWriter::new(alloc);
+    let mut records = AnswerWriter::new(alloc);
     for _given in 0..most {
         let Some(tagged) = merge.next(steps)? else {
             return Ok(());
@@ -115,7 +115,7 @@ fn print_members<'a, 'q, E: Ranked + Drop, S: Sink, L: Ledger>(
 /// if memory is refused.
 fn print_member<'a, S: Sink>(
     alloc: Global,
-    records: &mut RecordWriter,
+    records: &mut AnswerWriter,
     tagged: &Tagged,
     queries: &[Query],
     tables: &Tables,

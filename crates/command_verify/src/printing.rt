@@ -8,8 +8,8 @@ ghost use Rattle.query_bind.specs.Weighed.{Fits};
 ghost use Rattle.refusal_lines.specs.Printed.{Printed};
 ghost use Rattle.refusal_lines.specs.SinkState.{state_of};
 
-use answer_print::{Style, print_answer, print_header};
-use csv_tables::{RecordWriter, Tables};
+use answer_print::{AnswerWriter, Style, print_answer, print_header};
+use csv_tables::Tables;
 use outer_io::Sink;
 use query_bind::Query;
 use refusal_lines::Refusal;
@@ -54,7 +54,7 @@ fn print_records<'a, S: Sink>(
         (flat_map (line_text query.now.query tables.now (style_shown style.now))
         (map (take (length query.now.query.items)) answers.now)) result }
 {
-    let mut records = RecordWriter::new(alloc);
+    let mut records = AnswerWriter::new(alloc);
     for answer in answers {
         print_answer(alloc, &mut records, query, tables, style, answer, out)?;
     }

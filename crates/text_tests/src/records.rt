@@ -4,8 +4,8 @@ ghost use Rattle.anyk_model.specs.Query.{IsCombination, row_counts};
 ghost use Rattle.query_bind.specs.Weighed.{Fits};
 
 use crate::fixtures::{R, S, query_of, read_two};
-use answer_print::{Style, header, line, write_line};
-use csv_tables::{RecordWriter, Tables};
+use answer_print::{AnswerWriter, Style, header, line, write_line};
+use csv_tables::Tables;
 use query_bind::Query;
 use std::alloc::Global;
 
@@ -77,7 +77,7 @@ fn writes_line(alloc: Global, query: &Query, tables: &Tables, rows: &[u32; 16], 
     requires rows { IsCombination (row_counts query.now.query.items tables.now)
         (take (length query.now.query.items) rows.now) }
 {
-    let mut records = RecordWriter::new(alloc);
+    let mut records = AnswerWriter::new(alloc);
     let written = write_line(alloc, &mut records, query, tables, rows, &style_of(case));
     written.is_ok() && records.text() == case.line.as_bytes()
 }

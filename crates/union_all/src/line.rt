@@ -15,9 +15,10 @@ use crate::fields::push_empty;
 use crate::header::most_items;
 use crate::tagged::Tagged;
 use answer_print::{
-    Fields, Number, Numbers, Style, push_numbers, push_optional, push_rows, push_sums, push_values,
+    AnswerWriter, Fields, Number, Numbers, Style, push_numbers, push_optional, push_rows,
+    push_sums, push_values,
 };
-use csv_tables::{RecordWriter, Tables};
+use csv_tables::Tables;
 use query_bind::Query;
 use std::alloc::Global;
 use step_counter::NoMemory;
@@ -60,10 +61,10 @@ pub fn line_of(
 }
 
 /// Writes the record of a member, as `line_of` gives it, by a writer that is kept for many records. `NoMemory` if memory
-/// is refused.
+/// is refused; the writer's text is then unspecified, and further records can be written.
 pub fn write_line_of(
     alloc: Global,
-    records: &mut RecordWriter,
+    writer: &mut AnswerWriter,
     tagged: &Tagged,
     queries: &[Query],
     tables: &Tables,
@@ -74,14 +75,14 @@ pub fn write_line_of(
     requires rows { let all = map (λ q. q.query) queries.now in
         let shown = tagged_shown all tagged.now in
         IsCombination (row_counts (branch_at all shown.branch).items tables.now) shown.rows }
-    ensures { let all = map (λ q. q.query) queries.now in OnOk result (records.new
+    ensures { let all = map (λ q. q.query) queries.now in OnOk result (writer.new
         ≡ output.union_line_text all tables.now (style_shown style.now)
         (tagged_shown all tagged.now)) }
 {
     let query = &queries[tagged.branch as usize];
-    let mut numbers = Numbers::new(alloc);
-    push_shown(&mut numbers, tagged, query, tables, style)?;
-    let numbers = numbers.as_slice();
+    writer.numbers.clear();
+    push_shown(&mut writer.numbers, tagged, query, tables, style)?;
+    let numbers = writer.numbers.as_slice();
     let lacking = lacking_items(queries, query, style);
     let mut fields = Fields::new(alloc);
     push_fields(
@@ -93,7 +94,7 @@ pub fn write_line_of(
         numbers,
     )?;
     push_empty(&mut fields, lacking)?;
-    records.write(fields.as_slice())
+    writer.records.write(fields.as_slice())
 }
 
 /// The number of items that the branch of a query has less than the longest branch, if row numbers are shown, else 0.
