@@ -3,19 +3,23 @@
 ghost use Rattle.std.specs.Prelude.{◌≡◌, ◌+◌, ◌<◌, length, slice_index};
 ghost use Rattle.tdp_core.specs.TreeData.{group_count, members};
 
+use crate::cell::Cell;
 use rank_key::Rank;
 use std::sync::ledger::Ledger;
 use step_counter::Steps;
 use tdp_core::Tree;
 
-/// The source of a subtree solution of a group: a member of the group, and a place in the ranking
-/// of that member's solutions. Both count from 0.
+/// The source of a subtree solution of a group: a member of the group, a place in the ranking of
+/// that member's solutions, and the parts of the solution there. Members and places count from 0.
 #[derive(Clone, Copy)]
 pub struct Source {
     /// The member of the group, from 0.
     pub member: u32,
     /// The place in the ranking of the member's solutions, from 0.
     pub place: u32,
+    /// The parts of the solution: one of the row with its children but the last, and one of the
+    /// last child's group. It says nothing of a row without children.
+    pub cell: Cell,
 }
 
 /// The row whose solution the source is. It takes one step.

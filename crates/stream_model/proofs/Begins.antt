@@ -1,19 +1,19 @@
 -- A group's queue at its start, for any list of rows with different numbers, whether or not a row of the parent names it.
-use Rattle.std.proofs.Common.{◌≡◌, ℕ, zero, suc, ◌-◌, ◌*◌, ◌<◌, cond, nat_le, List, length, get_or, sym, ap, ◌∙◌, inl, inr, arith}
+use Rattle.std.proofs.Common.{◌≡◌, ℕ, zero, suc, ◌-◌, ◌<◌, List, [], ◌∷◌, length, get_or, sym, ap, ◌∙◌, inl, inr, arith}
 use Rattle.std.proofs.lemmas.Bool.{cases_eq}
-use Rattle.std.proofs.lemmas.Bool.Decides.{nat_tests}
 use Rattle.rankings.specs.Order.{IsRanking}
 use Rattle.tdp_model.specs.KeyLaws.{IsKeys}
 use Rattle.tdp_model.specs.Remains.{Remains, total}
 use Rattle.tdp_model.specs.Staged.{IsDistinct}
-use Rattle.tdp_model.specs.Product.{Pair, is_run, runs_to, run_key, run_heads}
+use Rattle.tdp_model.specs.Product.{Pair, is_run, run_key}
 use Rattle.tdp_model.specs.TreeProblem.{sum_from, kid_key, RowHas, GroupHas, IsTieFree}
 use Rattle.tdp_model.proofs.Removal.{Remains-same}
 use Rattle.tdp_model.proofs.Ties.{slot_zero}
 use Rattle.tdp_model.proofs.Descent.{below_less}
 use Rattle.tdp_model.proofs.SubtreeTies.{kid_yes, kid_no, slot_outside}
-use Rattle.tdp_model.proofs.Runs.{heads_stand}
 use Rattle.tdp_model.proofs.Streams.{group_remains}
+use Rattle.stream_model.specs.Reaches.{reaches}
+use Rattle.stream_model.proofs.Reaching.{root_stands}
 
 module _ {K : Type 0} (Below : K → K → Type 0) (add : K → K → K) (none : K) (keys : IsKeys K Below add none)
     (m : ℕ) (parent : ℕ → ℕ) (rank : ℕ → ℕ → K) (group : ℕ → ℕ → List ℕ) (parents_first : (q : ℕ) → 0 < q → q < m → parent q < q)
@@ -54,14 +54,12 @@ module _ {K : Type 0} (Below : K → K → Type 0) (add : K → K → K) (none :
       → ((i j : ℕ) → i < length members → j < length members → number q (get_or members i 0) ≡ number q (get_or members j 0) → get_or members i 0 ≡ get_or members j 0)
       → ((i : ℕ) → i < length members → IsRanking K Below (RowHas add none m parent rank group d q (get_or members i 0)) (lists i))
       → IsRanking K Below (AnyHas d q members) zs
-      → Remains Pair K Below (run_key none lists) (total (runs_to (length members) (λ i. length (lists i))) (run_heads (length members) 0)) zs
+      → Remains Pair K Below (run_key none lists) (total (reaches (length members) (λ i. length (lists i))) ((record { left = 0; right = 0 }) ∷ [])) zs
+  unfolding total
   members_begin d q members lists zs l distinct apart rows rz =
-      Remains-same Below (run_key none lists) (is_run (length members) (λ i. length (lists i))) (total (runs_to (length members) (λ i. length (lists i))) (run_heads (length members) 0)) zs
-      (λ p. heads_all (is_run (length members) (λ i. length (lists i)) p) p.left ∙ sym (heads_stand (length members) (λ i. length (lists i)) (length members) 0 (omega arith) p))
+      Remains-same Below (run_key none lists) (is_run (length members) (λ i. length (lists i))) (total (reaches (length members) (λ i. length (lists i))) ((record { left = 0; right = 0 }) ∷ [])) zs
+      (λ p. omega (arith, root_stands (length members) (λ i. length (lists i)) p))
       (group_remains Below none keys.order (length members) (λ i. RowHas add none m parent rank group d q (get_or members i 0)) (AnyHas d q members) lists zs rows rz
       (λ i k il h. (i, il, h))
       (λ k h. h)
       (λ i j k il jl hi hj. members_apart d q members i j k l distinct apart il jl hi hj))
-    where
-      heads_all : (a x : ℕ) → a ≡ a * cond (nat_le 0 x) 1 0
-      heads_all a x = grind (arith, nat_tests)

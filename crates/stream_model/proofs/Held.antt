@@ -31,7 +31,7 @@ abbrev pub MaybeHolds : {E : Type 0} → (E → Type 0) → Option E → Type 0
 MaybeHolds P (Some x) = P x
 MaybeHolds P None = Unit {0}
 
-all_offers : {E : Type 0} (P : E → Type 0) (a b : Option E) (es : List E) → MaybeHolds P a → MaybeHolds P b → All P es → All P (offers a b es)
+pub all_offers : {E : Type 0} (P : E → Type 0) (a b : Option E) (es : List E) → MaybeHolds P a → MaybeHolds P b → All P es → All P (offers a b es)
 all_offers P (Some x) (Some y) es p q r = All-cons P y (x ∷ es) q (All-cons P x es p r)
 all_offers P (Some x) None es p q r = All-cons P x es p r
 all_offers P None (Some y) es p q r = All-cons P y es q r
@@ -59,13 +59,16 @@ module _ {R T X : Type 0} (d : ℕ) (rank_key : R → KeyOf d 16) (key_at : X �
   total_places count (e ∷ es) x = omega (arith, total_places count es x, sum_by-cons (λ e. count (at e.tag) x) e es)
 
   -- what the entries stand for, where some are offered and one leaves
-  pub moved_total : (count : X → X → ℕ) (a b : Option (Entry R T)) (t : Entry R T) (old new : List (Entry R T)) → IsPermutation (offers a b old) (t ∷ new) → (x : X)
-      → maybe_count (λ e. count (at e.tag) x) a + maybe_count (λ e. count (at e.tag) x) b + total count (places at old) x ≡ count (at t.tag) x + total count (places at new) x
-  moved_total count a b t old new p x =
+  pub moved_total : (count : X → X → ℕ) (a b c : Option (Entry R T)) (t : Entry R T) (old new : List (Entry R T)) → IsPermutation (offers c None (offers a b old)) (t ∷ new) → (x : X)
+      → maybe_count (λ e. count (at e.tag) x) a + maybe_count (λ e. count (at e.tag) x) b + maybe_count (λ e. count (at e.tag) x) c + total count (places at old) x ≡ count (at t.tag) x + total count (places at new) x
+  moved_total count a b c t old new p x =
       let f : Entry R T → ℕ = λ e. count (at e.tag) x in
-      omega (arith, sum_offers f a b old, sum_by-IsPermutation f (offers a b old) (t ∷ new) p, sum_by-cons f t new, total_places count old x, total_places count new x)
+      omega (arith, sum_offers f a b old, sum_offers f c None (offers a b old), sum_by-IsPermutation f (offers c None (offers a b old)) (t ∷ new) p, sum_by-cons f t new, total_places count old x, total_places count new x)
 
   -- each entry that is left is at its place
-  pub held_moved : (a b : Option (Entry R T)) (t : Entry R T) (old new : List (Entry R T)) → IsPermutation (offers a b old) (t ∷ new) → MaybeHolds (IsHeld d rank_key key_at InRange at) a → MaybeHolds (IsHeld d rank_key key_at InRange at) b
+  pub held_moved : (a b c : Option (Entry R T)) (t : Entry R T) (old new : List (Entry R T)) → IsPermutation (offers c None (offers a b old)) (t ∷ new)
+      → MaybeHolds (IsHeld d rank_key key_at InRange at) a → MaybeHolds (IsHeld d rank_key key_at InRange at) b → MaybeHolds (IsHeld d rank_key key_at InRange at) c
       → All (IsHeld d rank_key key_at InRange at) old → All (IsHeld d rank_key key_at InRange at) new
-  held_moved a b t old new p ha hb h = All-tail (IsHeld d rank_key key_at InRange at) t new (All-permutation (IsHeld d rank_key key_at InRange at) (offers a b old) (t ∷ new) p (all_offers (IsHeld d rank_key key_at InRange at) a b old ha hb h))
+  held_moved a b c t old new p ha hb hc h =
+      All-tail (IsHeld d rank_key key_at InRange at) t new
+      (All-permutation (IsHeld d rank_key key_at InRange at) (offers c None (offers a b old)) (t ∷ new) p (all_offers (IsHeld d rank_key key_at InRange at) c None (offers a b old) hc tt (all_offers (IsHeld d rank_key key_at InRange at) a b old ha hb h)))

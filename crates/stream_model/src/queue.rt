@@ -1,5 +1,5 @@
 //! The step of a queue in code.
-ghost use Rattle.std.specs.Prelude.{◌≡◌, ℕ, ◌+◌, ◌*◌, ◌<◌, ◌≤◌, ◌++◌, ◌∷◌, length, slice_index_or, OnOk};
+ghost use Rattle.std.specs.Prelude.{◌≡◌, ℕ, ◌+◌, ◌*◌, ◌<◌, ◌≤◌, None, ◌∷◌, length, slice_index_or, IsSome};
 ghost use Rattle.std.specs.List.Sorted.{IsPermutation};
 ghost use Rattle.rank_key.specs.Bits.{bit_length};
 ghost use Rattle.take2_heap.specs.Order.{IsMinHeap, IsLeast};
@@ -21,7 +21,7 @@ pub fn pass_top<R: Rank, T: Copy, A: Allocator, L: Ledger>(
     steps: &mut Steps<L>,
 )
     requires top { 0 < length queue.old.entries }
-    requires room { 0 < queue.old.spare }
+    requires room { IsSome next → IsSome other → 0 < queue.old.spare }
     ensures moved { (d : Entry R T)
         → IsPermutation (offers next other queue.old.entries)
         (slice_index_or queue.old.entries 0 d ∷ queue.new.entries) }
@@ -31,6 +31,7 @@ pub fn pass_top<R: Rank, T: Copy, A: Allocator, L: Ledger>(
     ensures cost { steps.new
         ≤ steps.old + 2 * bit_length (length queue.old.entries)
         + bit_length (length queue.old.entries + 1) }
+    ensures spare { queue.old.spare ≤ queue.new.spare + 1 }
 {
     match (next, other) {
         (Some(next), Some(other)) => {
@@ -46,5 +47,21 @@ pub fn pass_top<R: Rank, T: Copy, A: Allocator, L: Ledger>(
         (None, None) => {
             queue.pop(steps);
         }
+    }
+}
+
+/// Adds an entry, if there is one, in reserved room. It takes at most as many steps as the new number of entries has
+/// binary digits.
+pub fn offer<R: Rank, T: Copy, A: Allocator, L: Ledger>(
+    queue: &mut HeapOf<R, T, A>,
+    entry: Option<Entry<R, T>>,
+    steps: &mut Steps<L>,
+)
+    requires room { IsSome entry → 0 < queue.old.spare }
+    ensures moved { IsPermutation (offers entry None queue.old.entries) queue.new.entries }
+    ensures cost { steps.new ≤ steps.old + bit_length (length queue.new.entries) }
+{
+    if let Some(entry) = entry {
+        queue.push_reserved(entry.rank, entry.tag, steps);
     }
 }

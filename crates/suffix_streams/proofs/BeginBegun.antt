@@ -1,33 +1,35 @@
 -- Streams that have only their heads are streams of the tree.
-use Rattle.std.proofs.Common.{◌≡◌, ℕ, suc, ◌+◌, ◌<◌, ◌≤◌, cond, nat_lt, List, [], ◌∷◌, length, take, get_or, refl, sym, ap, ◌∙◌, subst, arith}
+use Rattle.std.proofs.Common.{◌≡◌, ℕ, ◌+◌, ◌<◌, ◌≤◌, cond, nat_lt, List, [], ◌∷◌, length, take, get_or, refl, sym, ap, ◌∙◌, subst, arith}
 use Rattle.std.specs.List.{All}
 use Rattle.std.proofs.lemmas.Bool.Decides.{nat_tests}
 use Rattle.std.proofs.lemmas.List.{length-map}
-use Rattle.std.proofs.lemmas.List.Elements.{All-nil, All-cons, All-get_or}
+use Rattle.std.proofs.lemmas.List.Elements.{All-nil, All-cons}
 use Rattle.stream_store.specs.declared.entry.Linked.{Linked}
 use Rattle.take2_heap.specs.declared.entry.Entry.{Entry}
 use Rattle.tdp_model.specs.KeyTuple.{KeyOf, key_below, key_none}
-use Rattle.tdp_model.specs.Product.{Pair, runs_to, run_key}
-use Rattle.tdp_core.specs.TreeData.{NodeData, members, group_count, child_count, best}
+use Rattle.tdp_model.specs.Product.{Pair, run_key}
+use Rattle.tdp_core.specs.TreeData.{NodeData, rows, members, group_count, group_named, child_count}
 use Rattle.tdp_core.specs.WellFormed.{IsFormed, IsTieFreeTree}
 use Rattle.stream_model.specs.Ahead.{IsAhead}
 use Rattle.stream_model.specs.Held.{IsHeld, places, InRuns}
+use Rattle.stream_model.specs.Reaches.{reaches}
 use Rattle.stream_model.specs.Links.{owned, place_in, IsLinkedAt}
 use Rattle.suffix_streams.specs.declared.stream.Found.{Found}
 use Rattle.stream_cells.specs.declared.source.Source.{Source}
 use Rattle.suffix_streams.specs.ProductData.{ProductData}
 use Rattle.suffix_streams.specs.NodeLists.{NodeLists, known_of}
-use Rattle.suffix_streams.specs.Rankings.{part_list, group_list}
+use Rattle.suffix_streams.specs.Rankings.{child, part_list, group_list}
 use Rattle.suffix_streams.specs.Frontiers.{AreFirst}
-use Rattle.suffix_streams.specs.StreamsData.{node_list, group_list_of, node_of, group_of, stream, lists_of, stream_of, product_of, row_known, run_of, IsStreamOf, IsStreams}
-use Rattle.suffix_streams.specs.Beginnings.{AreHeads, IsBegun}
+use Rattle.suffix_streams.specs.StreamsData.{node_list, group_list_of, node_of, group_of, place_of, stream, lists_of, stream_of, product_of, row_known, run_of, IsHeaded, HasOwnParts, IsStreamOf, IsStreams}
+use Rattle.suffix_streams.specs.Beginnings.{IsBegunAt, IsBegun}
+use Rattle.suffix_streams.proofs.FirstSums.{first_own}
 use Rattle.suffix_streams.proofs.BeginFirsts.{group_head}
-use Rattle.suffix_streams.proofs.Rankings.{group_is_ranking, row_is_ranking}
-use Rattle.suffix_streams.proofs.BeginHeads.{heads_ahead}
+use Rattle.suffix_streams.proofs.Rankings.{kid, named_in, group_is_ranking, row_is_ranking}
+use Rattle.suffix_streams.proofs.BeginQueues.{first_ahead}
 use Rattle.suffix_streams.proofs.BeginOwners.{owned_within, only_one}
 use Rattle.suffix_streams.proofs.ViewEntries.{stream-length, stream-at}
 
-module _ {R : Type 0} (d : ℕ) (key : R → KeyOf d 16) (t : List (NodeData R)) (formed : IsFormed d key t) (free : IsTieFreeTree t) (es : List (Linked (Found R))) (nodes : List (NodeLists R)) (b : IsBegun d key t es nodes) where
+module _ {R : Type 0} (d : ℕ) (key : R → KeyOf d 16) (t : List (NodeData R)) (es : List (Linked (Found R))) (nodes : List (NodeLists R)) (b : IsBegun d key t es nodes) where
   nodes_groups : length (node_list es) ≡ length (group_list_of es)
   nodes_groups = length-map es (λ e. e.value.node) ∙ sym (length-map es (λ e. e.value.group))
 
@@ -41,12 +43,45 @@ module _ {R : Type 0} (d : ℕ) (key : R → KeyOf d 16) (t : List (NodeData R))
   place_first q h i l li n g =
       omega (arith, owned_within (node_list es) (group_list_of es) i q h nodes_groups (omega (arith, li, length-map es (λ e. e.value.node))) n g, owned_one q h l)
 
+  head_first : (q h : ℕ) → q < length t → h < length (lists_of nodes q).streams → place_of es (stream_of nodes q h).head ≡ 0
+  head_first q h l lh =
+      let x = b.begun q h l lh in
+      ap (λ z. owned (take (stream_of nodes q h).head (node_list es)) (take (stream_of nodes q h).head (group_list_of es)) z (group_of es (stream_of nodes q h).head)) x.node
+      ∙ ap (λ z. owned (take (stream_of nodes q h).head (node_list es)) (take (stream_of nodes q h).head (group_list_of es)) q z) x.group
+      ∙ place_first q h (stream_of nodes q h).head lh x.head_in x.node x.group
+
+module _ {R : Type 0} (d : ℕ) (key : R → KeyOf d 16) (t : List (NodeData R)) (formed : IsFormed d key t) (es : List (Linked (Found R))) (nodes : List (NodeLists R)) (b : IsBegun d key t es nodes) where
+  -- if the streams of all later nodes are there, the groups that a row names have heads
+  pub headed_begun : (v r : ℕ) → v < length t → r < rows t v → ((q : ℕ) → v < q → q < length t → length (lists_of nodes q).streams ≡ group_count t q) → IsHeaded d key t es nodes v r
+  headed_begun v r l row behind = record {
+    all_nodes = b.all_nodes;
+    all_children = (b.children v l).count;
+    children = λ c k. (b.children v l).each c k;
+    streams = λ c k. there c k;
+    heads = λ c k. (at c k).head_in;
+    owners = λ c k. ((at c k).node, (at c k).group);
+    places = λ c k. head_first d key t es nodes b (child t v c) (group_named t v r c) (inside c k) (there c k);
+    keys = λ c k. (at c k).first;
+  }
+    where
+      inside : (c : ℕ) → c < child_count t v → child t v c < length t
+      inside c k = (kid d key t formed v c k).within
+
+      there : (c : ℕ) → c < child_count t v → group_named t v r c < length (lists_of nodes (child t v c)).streams
+      there c k =
+          let x = kid d key t formed v c k in
+          omega (arith, named_in d key t formed v r c row k, behind (child t v c) (omega (arith, formed.shaped.parents_first (child t v c) x.some x.within, x.parent_is)) x.within)
+
+      at : (c : ℕ) (k : c < child_count t v) → IsBegunAt d key t es nodes (child t v c) (group_named t v r c)
+      at c k = b.begun (child t v c) (group_named t v r c) (inside c k) (there c k)
+
+module _ {R : Type 0} (d : ℕ) (key : R → KeyOf d 16) (t : List (NodeData R)) (formed : IsFormed d key t) (free : IsTieFreeTree t) (es : List (Linked (Found R))) (nodes : List (NodeLists R)) (b : IsBegun d key t es nodes) where
   -- the stream is its head
   stream_is : (q h : ℕ) (a : Entry R Source) → q < length t → h < length (lists_of nodes q).streams → (e : Linked (Found R)) → a ≡ (get_or es (stream_of nodes q h).head e).value.solution → stream es q h ≡ a ∷ []
   stream_is q h a l lh e s =
       let x = b.begun q h l lh in
-      only_one (stream es q h) a (stream-length es q h ∙ owned_one q h lh)
-      (ap (λ p. get_or (stream es q h) p a) (sym (place_first q h (stream_of nodes q h).head lh x.head_in x.node x.group))
+      only_one (stream es q h) a (stream-length es q h ∙ owned_one d key t es nodes b q h lh)
+      (ap (λ p. get_or (stream es q h) p a) (sym (place_first d key t es nodes b q h (stream_of nodes q h).head lh x.head_in x.node x.group))
       ∙ stream-at es q h (stream_of nodes q h).head e a x.head_in x.node x.group ∙ sym s)
 
   one_taken : (ks : List (KeyOf d 16)) (k n : KeyOf d 16) → 0 < length ks → get_or ks 0 n ≡ k → k ∷ [] ≡ take 1 ks
@@ -62,15 +97,11 @@ module _ {R : Type 0} (d : ℕ) (key : R → KeyOf d 16) (t : List (NodeData R))
   row_one : (q r : ℕ) → row_known nodes q r ≡ 1
   row_one q r = ap (λ (ps : List (ProductData R)). known_of (lists_of nodes q) r (length ps)) (b.no_products q r)
 
-  known_ones : (q h r : ℕ) (queue : List (Entry R Source)) → AreHeads d key run_of (λ i. best t d key q (get_or (members t q h) i 0)) r queue
-      → All (λ e. e.tag.place < row_known nodes q (get_or (members t q h) e.tag.member 0)) queue
-  known_ones q h r [] a = All-nil (λ e. e.tag.place < row_known nodes q (get_or (members t q h) e.tag.member 0))
-  known_ones q h r (e ∷ queue) a =
-      All-cons (λ e. e.tag.place < row_known nodes q (get_or (members t q h) e.tag.member 0)) e queue
-      (omega (arith, ap (λ (p : Pair). p.right) a.0, row_one q (get_or (members t q h) e.tag.member 0))) (known_ones q h (suc r) queue a.2)
-
   abbrev Known : ℕ → ℕ → Entry R Source → Type 0
   Known q h e = e.tag.place < row_known nodes q (get_or (members t q h) e.tag.member 0)
+
+  abbrev Parts : ℕ → ℕ → Entry R Source → Type 0
+  Parts q h e = HasOwnParts d key t es nodes q h e.tag
 
   abbrev Held : ℕ → ℕ → Entry R Source → Type 0
   Held q h = IsHeld d key (run_key (key_none d 16) (λ i. part_list d key t q (get_or (members t q h) i 0) (child_count t q)))
@@ -85,28 +116,33 @@ module _ {R : Type 0} (d : ℕ) (key : R → KeyOf d 16) (t : List (NodeData R))
       let e : Linked (Found R) = an_entry es (stream_of nodes q h).head x.head_in in
       let a : Entry R Source = (get_or es (stream_of nodes q h).head e).value.solution in
       let whole : stream es q h ≡ a ∷ [] = stream_is q h a l lh e refl in
-      let some : 0 < length (stream_of nodes q h).queue = omega (arith, x.heads.0, formed.inhabited q h l lg) in
-      let own : a ≡ get_or (stream_of nodes q h).queue 0 a = x.top e a in
-      let ahead = heads_ahead d key t formed free run_of q h (stream_of nodes q h).queue (group_list d key t q h) (λ i. part_list d key t q (get_or (members t q h) i 0) (child_count t q)) l (formed.inhabited q h l lg) x.heads.0 x.heads.1
+      let f : Entry R Source = x.only.0 in
+      let queue : (stream_of nodes q h).queue ≡ f ∷ [] = x.only.1 in
+      let own : a ≡ f = x.top e a ∙ ap (λ z. get_or z 0 a) queue in
+      let ahead = first_ahead d key t formed free run_of q h f (group_list d key t q h) (λ i. part_list d key t q (get_or (members t q h) i 0) (child_count t q)) l (formed.inhabited q h l lg) x.only.2.0 x.only.2.1
       (group_is_ranking d key t q h l) (λ i li. row_is_ranking d key t formed q (get_or (members t q h) i 0) l) in
+      let known : Known q h f = omega (arith, ap (λ (p : Pair). p.right) x.only.2.0, row_one q (get_or (members t q h) f.tag.member 0)) in
+      let parts : Parts q h f = first_own d key t formed free es nodes q h 0 f.tag l (formed.inhabited q h l lg) x.only.2.0 x.only.2.2 (λ c few. record { found = λ some. absurd (omega (arith, some, ap length (b.no_products q (get_or (members t q h) 0 0)))); first = λ none. refl }) in
       record {
         head_in = x.head_in;
         head_node = x.node;
         head_group = x.group;
-        head_place =
-            ap (λ z. owned (take (stream_of nodes q h).head (node_list es)) (take (stream_of nodes q h).head (group_list_of es)) z (group_of es (stream_of nodes q h).head)) x.node
-            ∙ ap (λ z. owned (take (stream_of nodes q h).head (node_list es)) (take (stream_of nodes q h).head (group_list_of es)) q z) x.group
-            ∙ place_first q h (stream_of nodes q h).head lh x.head_in x.node x.group;
-        few = omega (arith, x.heads.0);
-        known = known_ones q h 0 (stream_of nodes q h).queue x.heads.1;
-        found_known = subst (All (Known q h)) (sym whole) (only (Known q h) a (subst (Known q h) (sym own) (All-get_or (Known q h) (stream_of nodes q h).queue 0 a some (known_ones q h 0 (stream_of nodes q h).queue x.heads.1))));
+        head_place = head_first d key t es nodes b q h l lh;
+        few = omega (arith, ap length queue, formed.inhabited q h l lg);
+        known = subst (All (Known q h)) (sym queue) (only (Known q h) f known);
+        found_known = subst (All (Known q h)) (sym whole) (only (Known q h) a (subst (Known q h) (sym own) known));
+        parts = subst (All (Parts q h)) (sym queue) (only (Parts q h) f parts);
+        found_parts = subst (All (Parts q h)) (sym whole) (only (Parts q h) a (subst (Parts q h) (sym own) parts));
         merge = record {
           prefix = subst (λ z. AreFirst d key z (group_list d key t q h)) (sym whole) (prefix_one q h a l lg (x.first e));
-          kept = subst (All (Held q h)) (sym whole) (only (Held q h) a (subst (Held q h) (sym own) (All-get_or (Held q h) (stream_of nodes q h).queue 0 a some ahead.0)));
-          held = ahead.0;
-          ahead = subst (λ k. IsAhead Pair (KeyOf d 16) (key_below d 16) (run_key (key_none d 16) (λ i. part_list d key t q (get_or (members t q h) i 0) (child_count t q)))
-              (runs_to (length (members t q h)) (λ i. length (part_list d key t q (get_or (members t q h) i 0) (child_count t q)))) (InRuns d (length (members t q h)) (λ i. part_list d key t q (get_or (members t q h) i 0) (child_count t q)))
-              (group_list d key t q h) k (places run_of (stream_of nodes q h).queue)) (sym (ap length whole)) ahead.1;
+          kept = subst (All (Held q h)) (sym whole) (subst (λ z. All (Held q h) (z ∷ [])) (sym own) ahead.0);
+          held = subst (All (Held q h)) (sym queue) ahead.0;
+          ahead = subst (λ z. IsAhead Pair (KeyOf d 16) (key_below d 16) (run_key (key_none d 16) (λ i. part_list d key t q (get_or (members t q h) i 0) (child_count t q)))
+              (reaches (length (members t q h)) (λ i. length (part_list d key t q (get_or (members t q h) i 0) (child_count t q)))) (InRuns d (length (members t q h)) (λ i. part_list d key t q (get_or (members t q h) i 0) (child_count t q)))
+              (group_list d key t q h) (length (stream es q h)) (places run_of z)) (sym queue)
+              (subst (λ k. IsAhead Pair (KeyOf d 16) (key_below d 16) (run_key (key_none d 16) (λ i. part_list d key t q (get_or (members t q h) i 0) (child_count t q)))
+              (reaches (length (members t q h)) (λ i. length (part_list d key t q (get_or (members t q h) i 0) (child_count t q)))) (InRuns d (length (members t q h)) (λ i. part_list d key t q (get_or (members t q h) i 0) (child_count t q)))
+              (group_list d key t q h) k (places run_of (f ∷ []))) (sym (ap length whole)) ahead.1);
         };
       }
     where
@@ -129,8 +165,8 @@ module _ {R : Type 0} (d : ℕ) (key : R → KeyOf d 16) (t : List (NodeData R))
         let li : i < length es = omega (arith, l, length-map es (λ e. e.value.node)) in
         let o = b.owners i li in
         subst (λ z. IsLinkedAt (node_list es) (group_list_of es) i z) (sym (b.no_links i))
-        (let p : place_in (node_list es) (group_list_of es) i ≡ 0 = place_first (node_of es i) (group_of es i) i o.1 li refl refl in
-        omega (arith, p, owned_one (node_of es i) (group_of es i) o.1));
+        (let p : place_in (node_list es) (group_list_of es) i ≡ 0 = place_first d key t es nodes b (node_of es i) (group_of es i) i o.1 li refl refl in
+        omega (arith, p, owned_one d key t es nodes b (node_of es i) (group_of es i) o.1));
     streams = λ q g l lg. stream_begun q g l lg (omega (arith, lg, all q l));
     products = λ v r c l lr lc. absurd (omega (arith, lc, ap length (b.no_products v r)));
   }
@@ -138,4 +174,4 @@ module _ {R : Type 0} (d : ℕ) (key : R → KeyOf d 16) (t : List (NodeData R))
   -- no queue of a product has more than one entry
   pub few_begun : (v r c : ℕ) → length (product_of nodes v r c).frontier ≤ 0 + 1
   few_begun v r c =
-      omega (arith, ap (λ (ps : List (ProductData R)). length (get_or ps c (record { found = []; frontier = []; room = 0; frontier_room = 0 })).frontier) (b.no_products v r))
+      omega (arith, ap (λ (ps : List (ProductData R)). length (get_or ps c (record { found = []; ranks = []; frontier = []; room = 0; frontier_room = 0 })).frontier) (b.no_products v r))

@@ -6,16 +6,19 @@ use Rattle.std.proofs.lemmas.List.{length-map}
 use Rattle.stream_store.specs.declared.entry.Linked.{Linked}
 use Rattle.tdp_model.specs.KeyTuple.{KeyOf, key_none}
 use Rattle.tdp_core.specs.TreeData.{NodeData, group_count}
-use Rattle.stream_model.specs.Links.{owned}
+use Rattle.stream_model.specs.Links.{owned, place_in}
+use Rattle.stream_model.proofs.Linking.{place_kept}
+use Rattle.stream_cells.specs.declared.cell.Cell.{Cell}
+use Rattle.suffix_streams.specs.Firsts.{IsFirstCell}
 use Rattle.suffix_streams.specs.declared.stream.Found.{Found}
 use Rattle.suffix_streams.specs.StreamData.{StreamData}
 use Rattle.suffix_streams.specs.NodeLists.{NodeLists}
 use Rattle.suffix_streams.specs.Rankings.{group_list}
 use Rattle.stream_cells.specs.declared.source.Source.{Source}
 use Rattle.take2_heap.specs.declared.entry.Entry.{Entry}
-use Rattle.suffix_streams.specs.StreamsData.{node_list, group_list_of, next_list, node_of, group_of, next_of, lists_of, stream_of}
+use Rattle.suffix_streams.specs.StreamsData.{node_list, group_list_of, next_list, node_of, group_of, place_of, next_of, lists_of, stream_of}
 use Rattle.suffix_streams.proofs.BeginOwners.{owned_by, owned_else, map_behind, get_before, get_behind, length_behind, get_past}
-use Rattle.suffix_streams.specs.Beginnings.{HasHeads, AreChildren, IsEmptyNode, IsBegunAt, IsBegun}
+use Rattle.suffix_streams.specs.Beginnings.{HasFirst, AreChildren, IsEmptyNode, IsBegunAt, IsBegun}
 
 -- the lists of a node, with one more stream
 abbrev pub with_stream : {R : Type 0} → NodeLists R → StreamData R → NodeLists R
@@ -71,8 +74,8 @@ module _ {R : Type 0} (d : ℕ) (key : R → KeyOf d 16) (t : List (NodeData R))
   streams_rise = at_node (λ q n. length (lists_of nodes q).streams ≤ length n.streams) (λ q n. omega arith) (omega (arith, length_behind (lists_of nodes v).streams s))
 
   stream_kept : (q h : ℕ) → h < length (lists_of nodes q).streams → stream_of nodes' q h ≡ stream_of nodes q h
-  stream_kept q h l = at_node (λ q n. h < length (lists_of nodes q).streams → get_or n.streams h (record { head = 0; queue = [] }) ≡ stream_of nodes q h)
-      (λ q n l. refl) (λ l. get_before (lists_of nodes v).streams s h (record { head = 0; queue = [] }) l) q l
+  stream_kept q h l = at_node (λ q n. h < length (lists_of nodes q).streams → get_or n.streams h (record { head = 0; queue = []; room = 0 }) ≡ stream_of nodes q h)
+      (λ q n l. refl) (λ l. get_before (lists_of nodes v).streams s h (record { head = 0; queue = []; room = 0 }) l) q l
 
   lists_behind : length (node_list es) ≡ length (group_list_of es)
   lists_behind = length-map es (λ e. e.value.node) ∙ sym (length-map es (λ e. e.value.group))
@@ -82,6 +85,24 @@ module _ {R : Type 0} (d : ℕ) (key : R → KeyOf d 16) (t : List (NodeData R))
 
   group_before : (i : ℕ) → i < length es → group_of (es ++ (e ∷ [])) i ≡ group_of es i
   group_before i l = ap (λ z. get_or z i 0) (map_behind (λ e. e.value.group) es e) ∙ get_before (group_list_of es) e.value.group i 0 (omega (arith, l, length-map es (λ e. e.value.group)))
+
+  place_before : (i : ℕ) → i < length es → place_of (es ++ (e ∷ [])) i ≡ place_of es i
+  place_before i l =
+      ap (λ z. place_in z (group_list_of (es ++ (e ∷ []))) i) (map_behind (λ e. e.value.node) es e) ∙ ap (λ z. place_in (node_list es ++ (e.value.node ∷ [])) z i) (map_behind (λ e. e.value.group) es e)
+      ∙ place_kept (node_list es) (group_list_of es) lists_behind e.value.node e.value.group i (omega (arith, l, length-map es (λ e. e.value.node)))
+
+  -- a first solution keeps its parts
+  first_before : (q g : ℕ) (queue : List (Entry R Source)) → HasFirst d key t es q g queue → HasFirst d key t (es ++ (e ∷ [])) q g queue
+  first_before q g queue x = (x.0, x.1, (x.2.0, x.2.1, λ c kids. still (x.2.2 c kids)))
+    where
+      still : {r c : ℕ} {cell : Cell} → IsFirstCell t es q r c cell → IsFirstCell t (es ++ (e ∷ [])) q r c cell
+      still {r} {c} {cell} f = record {
+        left = f.left;
+        right = omega (arith, f.right, length_behind es e);
+        node = node_before cell.right f.right ∙ f.node;
+        group = group_before cell.right f.right ∙ f.group;
+        place = place_before cell.right f.right ∙ f.place;
+      }
 
   node_behind : (i : ℕ) → i ≡ length es → node_of (es ++ (e ∷ [])) i ≡ e.value.node
   node_behind i l = ap (λ z. get_or z i 0) (map_behind (λ e. e.value.node) es e) ∙ get_behind (node_list es) e.value.node i 0 (omega (arith, l, length-map es (λ e. e.value.node)))
@@ -103,8 +124,8 @@ module _ {R : Type 0} (d : ℕ) (key : R → KeyOf d 16) (t : List (NodeData R))
 
   -- A group's stream is made.
   pub begun_more : (g : ℕ) → v < length t → g ≡ length (lists_of nodes v).streams → g < group_count t v → e.value.node ≡ v → e.value.group ≡ g → e.next ≡ None
-      → s.head ≡ length es → key e.value.solution.rank ≡ get_or (group_list d key t v g) 0 (key_none d 16) → ((x : Entry R Source) → e.value.solution ≡ get_or s.queue 0 x) → HasHeads d key t v g s.queue → IsBegun d key t es nodes → IsBegun d key t (es ++ (e ∷ [])) nodes'
-  begun_more g l is_last lg en eg el at_head first own_top heads b = record {
+      → s.head ≡ length es → key e.value.solution.rank ≡ get_or (group_list d key t v g) 0 (key_none d 16) → ((x : Entry R Source) → e.value.solution ≡ get_or s.queue 0 x) → HasFirst d key t es v g s.queue → IsBegun d key t es nodes → IsBegun d key t (es ++ (e ∷ [])) nodes'
+  begun_more g l is_last lg en eg el at_head first own_top only b = record {
     all_nodes = same_nodes ∙ b.all_nodes;
     children = λ q lq. subst (λ z. AreChildren t q z) (sym (children_kept q)) (b.children q lq);
     all_rows = λ q lq. ap length (products_kept q) ∙ b.all_rows q lq;
@@ -186,11 +207,11 @@ module _ {R : Type 0} (d : ℕ) (key : R → KeyOf d 16) (t : List (NodeData R))
             group = ap (λ z. group_of (es ++ (e ∷ [])) z.head) k ∙ group_before (stream_of nodes q h).head x.head_in ∙ x.group;
             first = λ y. subst (λ z. key z.value.solution.rank ≡ get_or (group_list d key t q h) 0 (key_none d 16)) (sym (ap (λ z. get_or (es ++ (e ∷ [])) z.head y) k ∙ get_before es e (stream_of nodes q h).head y x.head_in)) (x.first y);
             top = λ y w. ap (λ z. z.value.solution) (ap (λ z. get_or (es ++ (e ∷ [])) z.head y) k ∙ get_before es e (stream_of nodes q h).head y x.head_in) ∙ x.top y w ∙ ap (λ z. get_or z.queue 0 w) (sym k);
-            heads = subst (λ z. HasHeads d key t q h z.queue) (sym k) x.heads;
+            only = subst (λ z. HasFirst d key t (es ++ (e ∷ [])) q h z.queue) (sym k) (first_before q h (stream_of nodes q h).queue x.only);
           }
 
       new_stream : stream_of nodes' v g ≡ s
-      new_stream = ap (λ z. get_or z.streams g (record { head = 0; queue = [] })) own ∙ get_behind (lists_of nodes v).streams s g (record { head = 0; queue = [] }) is_last
+      new_stream = ap (λ z. get_or z.streams g (record { head = 0; queue = []; room = 0 })) own ∙ get_behind (lists_of nodes v).streams s g (record { head = 0; queue = []; room = 0 }) is_last
 
       newest : IsBegunAt d key t (es ++ (e ∷ [])) nodes' v g
       newest = record {
@@ -199,5 +220,5 @@ module _ {R : Type 0} (d : ℕ) (key : R → KeyOf d 16) (t : List (NodeData R))
         group = group_behind (stream_of nodes' v g).head (ap (λ z. z.head) new_stream ∙ at_head) ∙ eg;
         first = λ y. subst (λ z. key z.value.solution.rank ≡ get_or (group_list d key t v g) 0 (key_none d 16)) (sym (get_behind es e (stream_of nodes' v g).head y (ap (λ z. z.head) new_stream ∙ at_head))) first;
         top = λ y w. ap (λ z. z.value.solution) (get_behind es e (stream_of nodes' v g).head y (ap (λ z. z.head) new_stream ∙ at_head)) ∙ own_top w ∙ ap (λ z. get_or z.queue 0 w) (sym new_stream);
-        heads = subst (λ z. HasHeads d key t v g z.queue) (sym new_stream) heads;
+        only = subst (λ z. HasFirst d key t (es ++ (e ∷ [])) v g z.queue) (sym new_stream) (first_before v g s.queue only);
       }

@@ -1,16 +1,12 @@
 -- The streams of a tree are made node by node, the last one first.
-use Rattle.std.proofs.Common.{◌≡◌, ◌≢◌, ℕ, zero, suc, ◌+◌, ◌-◌, ◌*◌, ◌<◌, ◌≤◌, None, List, [], ◌∷◌, ◌++◌, length, take, get_or, slice_set, refl, sym, ap, ◌∙◌, subst, inl, inr, arith, length-append, length-set, get_or-set_same, get_or-set_other}
-use Rattle.std.specs.List.{concat, range_with_len}
+use Rattle.std.proofs.Common.{◌≡◌, ◌≢◌, ℕ, suc, ◌+◌, ◌-◌, ◌<◌, None, List, [], ◌∷◌, ◌++◌, length, get_or, slice_set, refl, sym, ap, ◌∙◌, subst, inl, inr, arith, length-set, get_or-set_same, get_or-set_other}
 use Rattle.std.proofs.lemmas.Bool.{cases_lt, cases_eq}
-use Rattle.std.proofs.lemmas.List.FromFn.{length-range_with_len}
-use Rattle.std.proofs.lemmas.List.Sorted.{length_permutation}
 use Rattle.stream_store.specs.declared.entry.Linked.{Linked}
 use Rattle.tdp_model.specs.KeyTuple.{KeyOf, key_none}
 use Rattle.tdp_model.specs.TreeProblem.{sum_from}
-use Rattle.tdp_core.specs.TreeData.{NodeData, node_at, best, parent, members, group_count, child_count, rows}
+use Rattle.tdp_core.specs.TreeData.{NodeData, best, members, group_count, child_count, rows}
 use Rattle.tdp_core.specs.WellFormed.{IsFormed}
-use Rattle.tdp_core.proofs.TreeFacts.{member_is_row, group_count_within}
-use Rattle.tdp_core.proofs.Children.{kids_below-most}
+use Rattle.tdp_core.proofs.TreeFacts.{member_is_row}
 use Rattle.suffix_streams.specs.declared.stream.Found.{Found}
 use Rattle.suffix_streams.specs.StreamData.{StreamData}
 use Rattle.suffix_streams.specs.NodeLists.{NodeLists}
@@ -18,7 +14,7 @@ use Rattle.suffix_streams.specs.Rankings.{part_list, group_list}
 use Rattle.stream_cells.specs.declared.source.Source.{Source}
 use Rattle.take2_heap.specs.declared.entry.Entry.{Entry}
 use Rattle.suffix_streams.specs.StreamsData.{lists_of}
-use Rattle.suffix_streams.specs.Beginnings.{HasHeads, IsEmptyNode, IsBegunFrom, IsBegunIn}
+use Rattle.suffix_streams.specs.Beginnings.{HasFirst, IsEmptyNode, IsBegunFrom, IsBegunIn}
 use Rattle.suffix_streams.proofs.BeginFirsts.{group_head, row_head}
 use Rattle.suffix_streams.proofs.Rankings.{group_is_ranking, row_is_ranking}
 use Rattle.suffix_streams.proofs.BeginOwners.{get_before, get_behind, get_default}
@@ -63,10 +59,10 @@ module _ {R : Type 0} (d : ℕ) (key : R → KeyOf d 16) (t : List (NodeData R))
   -- one more stream of the node is made
   pub in_more : (es : List (Linked (Found R))) (nodes nodes' : List (NodeLists R)) (v g w : ℕ) (e : Linked (Found R)) (s : StreamData R) → length nodes' ≡ length nodes → ((q : ℕ) → q ≢ v → lists_of nodes' q ≡ lists_of nodes q)
       → lists_of nodes' v ≡ with_stream (lists_of nodes v) s → v < length t → g < group_count t v → w ≡ g + 1 → e.value.node ≡ v → e.value.group ≡ g → e.next ≡ None → s.head ≡ length es
-      → key e.value.solution.rank ≡ get_or (group_list d key t v g) 0 (key_none d 16) → ((x : Entry R Source) → e.value.solution ≡ get_or s.queue 0 x) → HasHeads d key t v g s.queue
+      → key e.value.solution.rank ≡ get_or (group_list d key t v g) 0 (key_none d 16) → ((x : Entry R Source) → e.value.solution ≡ get_or s.queue 0 x) → HasFirst d key t es v g s.queue
       → IsBegunIn d key t es nodes v g → IsBegunIn d key t (es ++ (e ∷ [])) nodes' v w
-  in_more es nodes nodes' v g w e s same other own l lg more en eg el at_head first own_top heads b = record {
-    streams = begun_more d key t es nodes nodes' v e s same other own g l (sym b.own) lg en eg el at_head first own_top heads b.streams;
+  in_more es nodes nodes' v g w e s same other own l lg more en eg el at_head first own_top only b = record {
+    streams = begun_more d key t es nodes nodes' v e s same other own g l (sym b.own) lg en eg el at_head first own_top only b.streams;
     behind = λ q a lq. ap (λ z. length z.streams) (other q (λ e. omega arith)) ∙ b.behind q a lq;
     own = ap (λ z. length z.streams) own ∙ length_more (lists_of nodes v).streams s ∙ ap (λ z. z + 1) b.own ∙ sym more;
     before = λ q lq. ap (λ z. z.streams) (other q (λ e. omega arith)) ∙ b.before q lq;
@@ -77,44 +73,6 @@ module _ {R : Type 0} (d : ℕ) (key : R → KeyOf d 16) (t : List (NodeData R))
       length_more (y ∷ xs) x = omega (arith, length_more xs x)
 
   -- # Steps
-
-  -- the number of members of the first g groups of node v
-  abbrev pub members_to : ℕ → ℕ → ℕ
-  members_to v g = length (concat (take g (node_at t v).groups))
-
-  pub members_none : (v g : ℕ) → g ≡ 0 → members_to v g ≡ 0
-  members_none v g e = ap (λ k. length (concat (take k (node_at t v).groups))) e
-
-  pub members_more : (v g : ℕ) → g < group_count t v → members_to v (g + 1) ≡ members_to v g + length (members t v g)
-  members_more v g l = let next : g + 1 ≡ suc g = omega arith in ap (members_to v) next ∙ more (node_at t v).groups g l
-    where
-      more : (xss : List (List ℕ)) (g : ℕ) → g < length xss → length (concat (take (suc g) xss)) ≡ length (concat (take g xss)) + length (get_or xss g [])
-      more [] g l = absurd (omega arith)
-      more (xs ∷ xss) zero l = omega (arith, length-append xs (concat (take 0 xss)))
-      more (xs ∷ xss) (suc g) l = omega (arith, length-append xs (concat (take (suc g) xss)), length-append xs (concat (take g xss)), more xss g (omega arith))
-
-  pub members_all : IsFormed d key t → (v g : ℕ) → v < length t → g ≡ group_count t v → members_to v g ≡ rows t v
-  members_all formed v g l e =
-      ap (λ k. length (concat (take k (node_at t v).groups))) e ∙ ap (λ z. length (concat z)) (all (node_at t v).groups)
-      ∙ length_permutation (range_with_len 0 (rows t v)) (concat (node_at t v).groups) (formed.grouped v l) ∙ length-range_with_len 0 (rows t v)
-    where
-      all : (xss : List (List ℕ)) → take (length xss) xss ≡ xss
-      all [] = refl
-      all (xs ∷ xss) = ap (λ z. xs ∷ z) (all xss)
-
-  -- the steps of all groups of a node
-  pub node_steps : IsFormed d key t → (v : ℕ) → v < length t → 2 * rows t v + group_count t v * (3 + 3 * child_count t v) ≤ 8 * length t * rows t v
-  node_steps formed v l =
-      let few : group_count t v ≤ rows t v = group_count_within d key t formed v l in
-      let kids : child_count t v ≤ length t = kids_below-most (parent t) v (length t) in
-      at (rows t v) (group_count t v) (child_count t v) (length t) few kids formed.shaped.some_node
-    where
-      at : (n g k m : ℕ) → g ≤ n → k ≤ m → 1 ≤ m → 2 * n + g * (3 + 3 * k) ≤ 8 * m * n
-      at n g k m a b c =
-          let x : g * (3 + 3 * k) ≤ n * (3 + 3 * k) = grind arith in
-          let y : n * (3 + 3 * k) ≤ n * (3 + 3 * m) = grind arith in
-          let z : n * 5 ≤ n * (5 * m) = grind arith in
-          omega (arith, x, y, z)
 
   -- the number of rows of the nodes from v
   abbrev pub rows_from : ℕ → ℕ
@@ -130,24 +88,6 @@ module _ {R : Type 0} (d : ℕ) (key : R → KeyOf d 16) (t : List (NodeData R))
       let step : length t - v ≡ suc (length t - suc v) = omega arith in
       let next : suc v ≡ w = omega arith in
       ap (λ n. sum_from ◌+◌ 0 (rows t) n v) step ∙ ap (λ z. rows t v + sum_from ◌+◌ 0 (rows t) (length t - z) z) next
-
-  pub members_most : IsFormed d key t → (v g : ℕ) → v < length t → members_to v g ≤ rows t v
-  members_most formed v g l = omega (arith, few (node_at t v).groups g, length_permutation (range_with_len 0 (rows t v)) (concat (node_at t v).groups) (formed.grouped v l), length-range_with_len 0 (rows t v))
-    where
-      few : (xss : List (List ℕ)) (g : ℕ) → length (concat (take g xss)) ≤ length (concat xss)
-      few [] zero = omega arith
-      few [] (suc g) = omega arith
-      few (xs ∷ xss) zero = omega arith
-      few (xs ∷ xss) (suc g) = omega (arith, length-append xs (concat (take g xss)), length-append xs (concat xss), few xss g)
-
-  -- the steps of the first groups of a node
-  pub groups_steps : IsFormed d key t → (v g : ℕ) → v < length t → g ≤ group_count t v → 2 * members_to v g + g * (3 + 3 * child_count t v) ≤ 8 * length t * rows t v
-  groups_steps formed v g l few =
-      let more : g * (3 + 3 * child_count t v) ≤ group_count t v * (3 + 3 * child_count t v) = at g (group_count t v) (3 + 3 * child_count t v) few in
-      omega (arith, members_most formed v g l, node_steps formed v l, more)
-    where
-      at : (a b c : ℕ) → a ≤ b → a * c ≤ b * c
-      at a b c l = grind arith
 
   -- the nodes when one node has one more stream
   pub nodes_set : (nodes : List (NodeLists R)) (v : ℕ) (n n' : NodeLists R) (s : StreamData R) → v < length nodes → n ≡ get_or nodes v n → n' ≡ with_stream n s

@@ -10,7 +10,7 @@ use Rattle.suffix_streams.specs.ProductData.{ProductData}
 use Rattle.suffix_streams.specs.NodeLists.{NodeLists, product_at, stream_at, known_of, with_product}
 use Rattle.suffix_streams.specs.StreamsData.{lists_of, products_of, product_of, stream_of, part_known, row_known, IsProductOf, IsStreams}
 use Rattle.suffix_streams.proofs.Stores.{set_length, row_inside}
-use Rattle.suffix_streams.proofs.Kept.{held_itself, stream_stays, product_stays}
+use Rattle.suffix_streams.proofs.Kept.{held_itself, stream_stays, part_stays, product_stays}
 
 module _ {R : Type 0} where
   pub lists_same : (nodes : List (NodeLists R)) (v : ℕ) (n : NodeLists R) → v < length nodes → lists_of (slice_set nodes v n) v ≡ n
@@ -22,16 +22,16 @@ module _ {R : Type 0} where
   module _ (n : NodeLists R) (r c : ℕ) (p : ProductData R) (row : r < length n.products) (in_row : c < length (get_or n.products r [])) where
     pub product_new : product_at (with_product n r c p) r c ≡ p
     product_new =
-        ap (λ z. get_or z c (record { found = []; frontier = []; room = 0; frontier_room = 0 })) (get_or-set_same n.products r (slice_set (get_or n.products r []) c p) [] row)
-        ∙ get_or-set_same (get_or n.products r []) c p (record { found = []; frontier = []; room = 0; frontier_room = 0 }) in_row
+        ap (λ z. get_or z c (record { found = []; ranks = []; frontier = []; room = 0; frontier_room = 0 })) (get_or-set_same n.products r (slice_set (get_or n.products r []) c p) [] row)
+        ∙ get_or-set_same (get_or n.products r []) c p (record { found = []; ranks = []; frontier = []; room = 0; frontier_room = 0 }) in_row
 
     pub product_row : (k : ℕ) → k ≢ c → product_at (with_product n r c p) r k ≡ product_at n r k
     product_row k h =
-        ap (λ z. get_or z k (record { found = []; frontier = []; room = 0; frontier_room = 0 })) (get_or-set_same n.products r (slice_set (get_or n.products r []) c p) [] row)
-        ∙ get_or-set_other (get_or n.products r []) c k p (record { found = []; frontier = []; room = 0; frontier_room = 0 }) h
+        ap (λ z. get_or z k (record { found = []; ranks = []; frontier = []; room = 0; frontier_room = 0 })) (get_or-set_same n.products r (slice_set (get_or n.products r []) c p) [] row)
+        ∙ get_or-set_other (get_or n.products r []) c k p (record { found = []; ranks = []; frontier = []; room = 0; frontier_room = 0 }) h
 
     pub product_elsewhere : (s k : ℕ) → s ≢ r → product_at (with_product n r c p) s k ≡ product_at n s k
-    product_elsewhere s k h = ap (λ z. get_or z k (record { found = []; frontier = []; room = 0; frontier_room = 0 })) (get_or-set_other n.products r s (slice_set (get_or n.products r []) c p) [] h)
+    product_elsewhere s k h = ap (λ z. get_or z k (record { found = []; ranks = []; frontier = []; room = 0; frontier_room = 0 })) (get_or-set_other n.products r s (slice_set (get_or n.products r []) c p) [] h)
 
     pub rows_kept : length (with_product n r c p).products ≡ length n.products
     rows_kept = set_length n.products r (slice_set (get_or n.products r []) c p)
@@ -126,7 +126,7 @@ module _ {R : Type 0} (d : ℕ) (key : R → KeyOf d 16) (t : List (NodeData R))
     whole_rows = λ w s a b some. changed_count w s ∙ h.whole_rows w s a b (omega (arith, changed_count w s));
     owners = h.owners;
     linked = h.linked;
-    streams = λ q g a b. stream_stays d key t es es nodes changed (held_itself es) q g (streams_changed q g) refl (λ s. changed_row_known q s) (h.streams q g a b);
+    streams = λ q g a b. stream_stays d key t es es nodes changed (held_itself es) q g (streams_changed q g) refl (λ s. changed_row_known q s) (λ s k p few. part_stays nodes changed q s k p (changed_count q s) (changed_known q s k)) (h.streams q g a b);
     products = λ w s k a b x. each w s k a b (omega (arith, x, changed_count w s));
   }
     where
@@ -150,7 +150,7 @@ module _ {R : Type 0} (d : ℕ) (key : R → KeyOf d 16) (t : List (NodeData R))
 
       apart : (w s k : ℕ) → w < length t → s < rows t w → k < length (products_of nodes w s) → ((w ≢ v) ⊎ (s ≢ r) ⊎ (k ≢ c)) → IsProductOf d key t es changed w s k
       apart w s k a b x n =
-          product_stays d key t es es nodes changed (held_itself es) w s k (ap (λ z. z.found) (others w s k n)) (ap (λ z. z.frontier) (others w s k n)) (changed_known w s k) (h.products w s k a b x)
+          product_stays d key t es es nodes changed (held_itself es) w s k (ap (λ z. z.found) (others w s k n)) (ap (λ z. z.frontier) (others w s k n)) (ap (λ z. z.ranks) (others w s k n)) (changed_known w s k) (h.products w s k a b x)
 
       each : (w s k : ℕ) → w < length t → s < rows t w → k < length (products_of nodes w s) → IsProductOf d key t es changed w s k
       each w s k a b x = elim (cases_eq w v) [

@@ -9,9 +9,9 @@ use Rattle.tdp_model.specs.KeyTuple.{KeyOf, key_none}
 use Rattle.stream_model.specs.Links.{owned}
 use Rattle.suffix_streams.specs.declared.stream.Found.{Found}
 use Rattle.suffix_streams.specs.NodeLists.{NodeLists}
-use Rattle.suffix_streams.specs.Rankings.{child, group_list}
-use Rattle.suffix_streams.specs.StreamsData.{node_list, group_list_of, node_of, group_of, place_of, stream, products_of, stream_of, HasKey, AreLefts, IsStreams, IsHeaded, HasParts}
-use Rattle.suffix_streams.proofs.Rankings.{kid, named_in, sum_fits}
+use Rattle.suffix_streams.specs.Rankings.{child, part_list, group_list}
+use Rattle.suffix_streams.specs.StreamsData.{node_list, group_list_of, node_of, group_of, place_of, stream, products_of, stream_of, part_known, HasKey, AreLefts, IsStreams, IsHeaded, HasParts}
+use Rattle.suffix_streams.proofs.Rankings.{kid, named_in, own_some, sum_fits}
 use Rattle.suffix_streams.proofs.Firsts.{first_at}
 use Rattle.suffix_streams.proofs.Stores.{node_value, group_value}
 
@@ -74,24 +74,39 @@ module _ {R : Type 0} (d : ℕ) (key : R → KeyOf d 16) (t : List (NodeData R))
     children = λ c k. h.children v c l k;
     streams = λ c k. omega (arith, named_stream v r c l row k, h.all_streams (child t v c) (kid d key t h.tree v c k).within);
     heads = λ c k. (h.streams (child t v c) (group_named t v r c) (kid d key t h.tree v c k).within (named_stream v r c l row k)).head_in;
+    owners = λ c k.
+        let s = h.streams (child t v c) (group_named t v r c) (kid d key t h.tree v c k).within (named_stream v r c l row k) in
+        (s.head_node, s.head_group);
+    places = λ c k. (h.streams (child t v c) (group_named t v r c) (kid d key t h.tree v c k).within (named_stream v r c l row k)).head_place;
     keys = λ c k.
         let s = h.streams (child t v c) (group_named t v r c) (kid d key t h.tree v c k).within (named_stream v r c l row k) in
         subst (λ p. HasKey d key es (stream_of nodes (child t v c) (group_named t v r c)).head (get_or (group_list d key t (child t v c) (group_named t v r c)) p (key_none d 16))) s.head_place
         (entry_key (stream_of nodes (child t v c) (group_named t v r c)).head (child t v c) (group_named t v r c) s.head_in s.head_node s.head_group).2;
   }
 
-  pub lefts_of : (v r c : ℕ) → v < length t → r < rows t v → c ≤ length (products_of nodes v r) → AreLefts d key t nodes v r c
-  lefts_of v r zero l row k = tt
-  lefts_of v r (suc c) l row k = (h.products v r c l row (omega arith)).sums.prefix
-
   pub child_in : (v r c : ℕ) → v < length t → r < rows t v → c < length (products_of nodes v r) → c < child_count t v
   child_in v r c l row k = omega (arith, k, h.whole_rows v r l row (omega arith))
+
+  -- the products before the last one keep ranks
+  pub lefts_of : (v r c : ℕ) → v < length t → r < rows t v → c < length (products_of nodes v r) → AreLefts d key t nodes v r c
+  lefts_of v r zero l row k = tt
+  lefts_of v r (suc c) l row k = (h.products v r c l row (omega arith)).ranked (child_in v r (suc c) l row k)
+
+  -- some solution is known
+  pub some_known : (v r c : ℕ) → v < length t → r < rows t v → c ≤ length (products_of nodes v r) → 0 < part_known nodes v r c
+  some_known v r zero l row k = omega arith
+  some_known v r (suc c) l row k = (h.products v r c l row (omega arith)).sums.prefix.0
+
+  -- what is known is in the ranking
+  pub known_inside : (v r c place : ℕ) → v < length t → r < rows t v → c ≤ length (products_of nodes v r) → place < part_known nodes v r c → place < length (part_list d key t v r c)
+  known_inside v r zero place l row k p = omega (arith, own_some d key t h.tree v r l)
+  known_inside v r (suc c) place l row k p = omega (arith, p, (h.products v r c l row (omega arith)).sums.prefix.1)
 
   pub parts_of : (v r c : ℕ) → v < length t → r < rows t v → c < length (products_of nodes v r) → HasParts d key t es nodes v r c
   parts_of v r c l row k = record {
     node = omega (arith, h.all_nodes);
     count = omega arith;
-    lefts = lefts_of v r c l row (omega arith);
+    lefts = lefts_of v r c l row k;
     rights = λ i a n m. let e = entry_key i (child t v c) (group_named t v r c) a n m in (e.1, e.2);
     fits = λ i j a b. sum_fits d key t h.tree v r c i j l (child_in v r c l row k) a b;
   }

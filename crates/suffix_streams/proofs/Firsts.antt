@@ -11,7 +11,7 @@ use Rattle.stream_cells.specs.declared.cell.Cell.{Cell}
 use Rattle.suffix_streams.specs.declared.stream.Found.{Found}
 use Rattle.suffix_streams.specs.NodeLists.{NodeLists}
 use Rattle.suffix_streams.specs.Rankings.{child, part_list, group_list}
-use Rattle.suffix_streams.specs.Frontiers.{AreFirst, IsFrontier}
+use Rattle.suffix_streams.specs.Frontiers.{AreFirst, AreFirstBy, IsFrontier}
 use Rattle.suffix_streams.specs.StreamsData.{place_of, product_of, part_known, AreLefts, HasParts, IsCell}
 use Rattle.suffix_streams.proofs.Rankings.{kid, named_in, own_some, own_first, group_some, part_ascends, group_ascends, sums_begin, sum_fits}
 use Rattle.suffix_streams.proofs.Growth.{frontier_begins}
@@ -25,23 +25,25 @@ taken_at (k ∷ ks) (suc n) zero d l = refl
 taken_at (k ∷ ks) (suc n) (suc i) d l = taken_at ks n i d (omega arith)
 
 -- the first members of a ranking have its keys
-pub first_at : {R T : Type 0} (d : ℕ) (key : R → KeyOf d 16) (xs : List (Entry R T)) (ks : List (KeyOf d 16)) (i : ℕ) (x : Entry R T) → AreFirst d key xs ks → i < length xs → key (get_or xs i x).rank ≡ get_or ks i (key_none d 16)
-first_at d key xs ks i x p l = sym (map_at (λ e. key e.rank) xs i x (key_none d 16) l) ∙ ap (λ z. get_or z i (key_none d 16)) p.2 ∙ taken_at ks (length xs) i (key_none d 16) l
+pub first_by_at : {X : Type 0} (d : ℕ) (key_at : X → KeyOf d 16) (xs : List X) (ks : List (KeyOf d 16)) (i : ℕ) (x : X) → AreFirstBy d key_at xs ks → i < length xs → key_at (get_or xs i x) ≡ get_or ks i (key_none d 16)
+first_by_at d key_at xs ks i x p l = sym (map_at key_at xs i x (key_none d 16) l) ∙ ap (λ z. get_or z i (key_none d 16)) p.2 ∙ taken_at ks (length xs) i (key_none d 16) l
 
-pub lefts_at : {R : Type 0} (d : ℕ) (key : R → KeyOf d 16) (t : List (NodeData R)) (nodes : List (NodeLists R)) (v r c b place : ℕ) (x : Entry R Cell) → c ≡ suc b → AreLefts d key t nodes v r c
-    → place < part_known nodes v r c → (place < length (product_of nodes v r b).found) × (key (get_or (product_of nodes v r b).found place x).rank ≡ get_or (part_list d key t v r c) place (key_none d 16))
+pub first_at : {R T : Type 0} (d : ℕ) (key : R → KeyOf d 16) (xs : List (Entry R T)) (ks : List (KeyOf d 16)) (i : ℕ) (x : Entry R T) → AreFirst d key xs ks → i < length xs → key (get_or xs i x).rank ≡ get_or ks i (key_none d 16)
+first_at {R} {T} d key xs ks i x p l = first_by_at d (λ (e : Entry R T). key e.rank) xs ks i x p l
+
+-- the rank of a known solution is kept
+pub lefts_at : {R : Type 0} (d : ℕ) (key : R → KeyOf d 16) (t : List (NodeData R)) (nodes : List (NodeLists R)) (v r c b place : ℕ) (x : R) → c ≡ suc b → AreLefts d key t nodes v r c
+    → place < part_known nodes v r c → (place < length (product_of nodes v r b).ranks) × (key (get_or (product_of nodes v r b).ranks place x) ≡ get_or (part_list d key t v r c) place (key_none d 16))
 lefts_at d key t nodes v r zero b place x e h l = absurd (omega arith)
 lefts_at {R} d key t nodes v r (suc c) b place x e h l =
     let same : c ≡ b = omega arith in
-    let at : key (get_or (product_of nodes v r c).found place x).rank ≡ get_or (part_list d key t v r (suc c)) place (key_none d 16) = first_at d key (product_of nodes v r c).found (part_list d key t v r (suc c)) place x h l in
-    subst (λ b. (place < length (product_of nodes v r b).found) × (key (get_or (product_of nodes v r b).found place x).rank ≡ get_or (part_list d key t v r (suc c)) place (key_none d 16))) same (l, at)
+    let within : place < length (product_of nodes v r c).ranks = omega (arith, l, h.0) in
+    let at : key (get_or (product_of nodes v r c).ranks place x) ≡ get_or (part_list d key t v r (suc c)) place (key_none d 16) = first_by_at d key (product_of nodes v r c).ranks (part_list d key t v r (suc c)) place x h.1 within in
+    subst (λ b. (place < length (product_of nodes v r b).ranks) × (key (get_or (product_of nodes v r b).ranks place x) ≡ get_or (part_list d key t v r (suc c)) place (key_none d 16))) same (within, at)
 
--- the rank of a known solution
 pub known_key : {R : Type 0} (d : ℕ) (key : R → KeyOf d 16) (t : List (NodeData R)) (nodes : List (NodeLists R)) (v r c b place : ℕ) (x : R) → c ≡ suc b → AreLefts d key t nodes v r c → place < part_known nodes v r c
-    → ((a : Entry R Cell) → x ≡ (get_or (product_of nodes v r b).found place a).rank) → key x ≡ get_or (part_list d key t v r c) place (key_none d 16)
-known_key {R} d key t nodes v r c b place x e h l at =
-    let a : Entry R Cell = record { rank = x; tag = record { left = 0; right = 0 } } in
-    ap key (at a) ∙ (lefts_at d key t nodes v r c b place a e h l).1
+    → ((a : R) → x ≡ get_or (product_of nodes v r b).ranks place a) → key x ≡ get_or (part_list d key t v r c) place (key_none d 16)
+known_key {R} d key t nodes v r c b place x e h l at = ap key (at x) ∙ (lefts_at d key t nodes v r c b place x e h l).1
 
 module _ {R : Type 0} (d : ℕ) (key : R → KeyOf d 16) (t : List (NodeData R)) (formed : IsFormed d key t) (apart : IsTieFreeTree t) where
   -- the first sum is the sum of the firsts
@@ -52,7 +54,7 @@ module _ {R : Type 0} (d : ℕ) (key : R → KeyOf d 16) (t : List (NodeData R))
       let k : KeyOf d 16 = key_add d 16 (get_or (part_list d key t v r c) 0 (key_none d 16)) (get_or (group_list d key t (child t v c) (group_named t v r c)) 0 (key_none d 16)) in
       let e : Entry (KeyOf d 16) Pair = record { rank = k; tag = record { left = 0; right = 0 } } in
       let f : (get_or (part_list d key t v r (suc c)) 0 (key_none d 16) ≡ k)
-      × IsFrontier d (λ (z : KeyOf d 16). z) (λ (p : Pair). p) (part_list d key t v r c) (group_list d key t (child t v c) (group_named t v r c)) (part_list d key t v r (suc c)) (e ∷ []) (e ∷ []) =
+      × IsFrontier d (λ (z : KeyOf d 16). z) (λ (p : Pair). p) (part_list d key t v r c) (group_list d key t (child t v c) (group_named t v r c)) (part_list d key t v r (suc c)) (e.tag ∷ []) (e ∷ []) =
       frontier_begins d (λ (z : KeyOf d 16). z) (part_list d key t v r c) (group_list d key t (child t v c) (group_named t v r c)) (part_list d key t v r (suc c)) (part_ascends d key t v r c) (group_ascends d key t (child t v c) (group_named t v r c)) (λ (p : Pair). p)
       e some (group_some d key t formed (child t v c) (group_named t v r c) (kid d key t formed v c h).within (named_in d key t formed v r c row h)) refl refl (sums_begin d key t formed apart v r c l h) in
       (omega (arith, f.1.prefix.1), f.0)
@@ -85,7 +87,7 @@ module _ {R : Type 0} (d : ℕ) (key : R → KeyOf d 16) (t : List (NodeData R))
   -- what is known is in the ranking
   pub known_within : (nodes : List (NodeLists R)) (v r c place : ℕ) → v < length t → AreLefts d key t nodes v r c → place < part_known nodes v r c → place < length (part_list d key t v r c)
   known_within nodes v r zero place l h p = omega (arith, own_some d key t formed v r l)
-  known_within nodes v r (suc c) place l h p = omega (arith, h.1)
+  known_within nodes v r (suc c) place l h p = omega (arith, p, h.0, h.1.1)
 
 -- the sum of a cell fits, if x and y are the keys of its parts
 pub cell_fits : {R : Type 0} (d : ℕ) (key : R → KeyOf d 16) (t : List (NodeData R)) → IsFormed d key t → (es : List (Linked (Found R))) (nodes : List (NodeLists R)) (v r c : ℕ) (cell : Cell) → v < length t → HasParts d key t es nodes v r c

@@ -46,13 +46,13 @@ fresh_more d key t nodes v r n ps p h f = record {
 
 -- one more product is made
 pub product_made : {R : Type 0} (d : ℕ) (key : R → KeyOf d 16) (t : List (NodeData R)) (nodes : List (NodeLists R)) (v r n head : ℕ) (ps qs : List (ProductData R)) (p : ProductData R) (x : R)
-    → AreFreshTo d key t nodes v r n ps → qs ≡ ps ++ (p ∷ []) → p.found ≡ record { rank = x; tag = record { left = 0; right = head } } ∷ [] → p.frontier ≡ record { rank = x; tag = record { left = 0; right = head } } ∷ []
-    → head ≡ (stream_of nodes (child t v n) (group_named t v r n)).head → key x ≡ get_or (part_list d key t v r (n + 1)) 0 (key_none d 16) → AreFreshTo d key t nodes v r (n + 1) qs
-product_made {R} d key t nodes v r n head ps qs p x h e found frontier at k =
+    → AreFreshTo d key t nodes v r n ps → qs ≡ ps ++ (p ∷ []) → p.found ≡ record { left = 0; right = head } ∷ [] → p.frontier ≡ record { rank = x; tag = record { left = 0; right = head } } ∷ []
+    → head ≡ (stream_of nodes (child t v n) (group_named t v r n)).head → key x ≡ get_or (part_list d key t v r (n + 1)) 0 (key_none d 16) → (suc n < child_count t v → p.ranks ≡ x ∷ []) → AreFreshTo d key t nodes v r (n + 1) qs
+product_made {R} d key t nodes v r n head ps qs p x h e found frontier at k ranks =
     let same : n + 1 ≡ suc n = omega arith in
     let sum : Entry R Cell = record { rank = x; tag = record { left = 0; right = head } } in
     subst (λ z. AreFreshTo d key t nodes v r (n + 1) z) (sym e)
-    (fresh_more d key t nodes v r n ps p h (sum, found, frontier, ap (λ (i : ℕ). (let c : Cell = record { left = 0; right = i } in c)) at, k ∙ ap (λ m. get_or (part_list d key t v r m) 0 (key_none d 16)) same))
+    (fresh_more d key t nodes v r n ps p h (sum, found, frontier, ap (λ (i : ℕ). (let c : Cell = record { left = 0; right = i } in c)) at, k ∙ ap (λ m. get_or (part_list d key t v r m) 0 (key_none d 16)) same, ranks))
 
 module _ {R : Type 0} (d : ℕ) (key : R → KeyOf d 16) (t : List (NodeData R)) (formed : IsFormed d key t) (es : List (Linked (Found R))) (nodes : List (NodeLists R)) (v r c : ℕ) (h : IsHeaded d key t es nodes v r)
     (l : v < length t) (kid_in : c < child_count t v) (n : NodeLists R) (at : n ≡ get_or nodes v n) where

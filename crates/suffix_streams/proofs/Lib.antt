@@ -2,7 +2,9 @@ pub mod Children
 pub mod Rankings
 pub mod State
 pub mod Growth
+pub mod Ranks
 pub mod Stores
+pub mod OpenedRows
 pub mod NodeFacts
 pub mod Rows
 pub mod Firsts
@@ -10,11 +12,12 @@ pub mod Heads
 pub mod Kept
 pub mod Changes
 pub mod Entries
+pub mod FirstSums
 pub mod Stepping
 pub mod BeginFirsts
 pub mod BeginChildren
 pub mod BeginRankings
-pub mod BeginHeads
+pub mod BeginQueues
 pub mod BeginOwners
 pub mod BeginBegun
 pub mod BeginMade
@@ -38,3 +41,4 @@ pub mod NextCall
 pub mod QueuePass
 pub mod ProductPass
 pub mod PartRows
+pub mod RowOffers

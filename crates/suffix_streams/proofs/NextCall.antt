@@ -1,5 +1,6 @@
 -- The facts of a call that asks for the entry after another one, after each of its own calls.
 use Rattle.std.proofs.Common.{◌≡◌, ◌≢◌, ℕ, ◌+◌, ◌*◌, ◌<◌, ◌≤◌, cond, nat_eq, List, [], length, get_or, sym, ap, ◌∙◌, subst, arith}
+use Rattle.std.proofs.lemmas.List.{get_or-set_same}
 use Rattle.stream_store.specs.declared.entry.Linked.{Linked}
 use Rattle.take2_heap.specs.declared.entry.Entry.{Entry}
 use Rattle.rank_key.specs.Bits.{bit_length}
@@ -10,7 +11,7 @@ use Rattle.tdp_model.specs.KeyTuple.{KeyOf}
 use Rattle.suffix_streams.specs.declared.stream.Found.{Found}
 use Rattle.stream_cells.specs.declared.source.Source.{Source}
 use Rattle.suffix_streams.specs.StreamData.{StreamData}
-use Rattle.suffix_streams.specs.NodeLists.{NodeLists, stream_at}
+use Rattle.suffix_streams.specs.NodeLists.{NodeLists, stream_at, with_queue}
 use Rattle.suffix_streams.specs.StreamsData.{lists_of, products_of, stream_of, part_known, row_known, node_of, group_of, node_size, IsStreams}
 use Rattle.suffix_streams.specs.Growing.{IsStoreGrown, IsGrown, IsExtended, AreQueuesGrown, IsWithinSteps, below_kids, kids_size}
 use Rattle.suffix_streams.proofs.Heads.{lists_at}
@@ -60,7 +61,7 @@ pub record IsRowOpen {R : Type 0} (d : ℕ) (key : R → KeyOf d 16) (t : List (
   pub row : r < rows t f.node
   pub formed : IsStreams d key t es m
   pub above : (w : ℕ) → w ≢ f.node → lists_of m w ≡ lists_of n w
-  pub stream : stream_of m f.node f.group ≡ stream_of n f.node f.group
+  pub queue : (stream_of m f.node f.group).queue ≡ (stream_of n f.node f.group).queue
   pub queues : AreQueuesGrown (λ w. 0) n m
   pub steps : s1 ≤ s0 + 4 + 3 * child_count t f.node
   pub in_nodes : f.node < length m
@@ -68,16 +69,18 @@ pub record IsRowOpen {R : Type 0} (d : ℕ) (key : R → KeyOf d 16) (t : List (
 
 pub row_open : {R : Type 0} {d : ℕ} {key : R → KeyOf d 16} {t : List (NodeData R)} {es : List (Linked (Found R))} {n : List (NodeLists R)} {entry : ℕ} {f : Found R} {top : Entry R Source} (o : IsOwned d key t es n entry f) (p : IsTopRead t n f top)
     (u : List (NodeData R)) (b : List (Linked (Found R))) (m : List (NodeLists R)) (row s0 s1 : ℕ) → row ≡ get_or (members t f.node f.group) top.tag.member 0 → u ≡ t → b ≡ es → IsStreams d key u b m
-    → ((w : ℕ) → w ≢ f.node → lists_of m w ≡ lists_of n w) → (lists_of m f.node).streams ≡ (lists_of n f.node).streams → AreQueuesGrown (λ w. 0) n m → s1 ≤ s0 + 4 + 3 * child_count t f.node → IsRowOpen d key t es n m f top row s0 s1
+    → ((w : ℕ) → w ≢ f.node → lists_of m w ≡ lists_of n w) → (lists_of m f.node).streams ≡ (with_queue (lists_of n f.node) f.group (stream_of n f.node f.group).queue (stream_of m f.node f.group).room).streams → AreQueuesGrown (λ w. 0) n m → s1 ≤ s0 + 4 + 3 * child_count t f.node → IsRowOpen d key t es n m f top row s0 s1
 row_open {R} {d} {key} {t} {es} {n} {entry} {f} {top} o p u b m row s0 s1 e same_tree same_entries h above streams queues steps =
     let h1 : IsStreams d key t es m = subst (λ (z : List (Linked (Found R))). IsStreams d key t z m) same_entries (subst (λ (z : List (NodeData R)). IsStreams d key z b m) same_tree h) in
-    let same : stream_of m f.node f.group ≡ stream_of n f.node f.group = ap (λ (z : List (StreamData R)). get_or z f.group (record { head = 0; queue = [] })) streams in
-    let known1 = top_known d key t es m h1 f.node f.group top o.node o.group (subst (λ (s : StreamData R). 0 < length s.queue) (sym same) p.some) (p.first ∙ ap (λ (s : StreamData R). get_or s.queue 0 top) (sym same)) in
+    let same : (stream_of m f.node f.group).queue ≡ (stream_of n f.node f.group).queue =
+    ap (λ (z : List (StreamData R)). (get_or z f.group (record { head = 0; queue = []; room = 0 })).queue) streams
+    ∙ ap (λ (z : StreamData R). z.queue) (get_or-set_same (lists_of n f.node).streams f.group (record (stream_of n f.node f.group) { room = (stream_of m f.node f.group).room }) (record { head = 0; queue = []; room = 0 }) (omega (arith, o.group, o.formed.all_streams f.node o.node))) in
+    let known1 = top_known d key t es m h1 f.node f.group top o.node o.group (subst (λ z. 0 < length z) (sym same) p.some) (p.first ∙ ap (λ z. get_or z 0 top) (sym same)) in
     record {
       row = row_within o p row e;
       formed = h1;
       above = above;
-      stream = same;
+      queue = same;
       queues = queues;
       steps = steps;
       in_nodes = omega (arith, o.node, h1.all_nodes);
@@ -125,9 +128,9 @@ row_searched {R} d key t u u2 es es1 b m o v row count s1 s2 same_tree same_entr
 module _ {R : Type 0} {d : ℕ} {key : R → KeyOf d 16} {t : List (NodeData R)} {es : List (Linked (Found R))} {n : List (NodeLists R)} {entry : ℕ} {f : Found R} (o : IsOwned d key t es n entry f) (s0 s1 : ℕ) where
   -- the steps of a call that only opens a row
   pub only_opened : s1 ≤ s0 + 4 + 3 * child_count t f.node
-      → IsWithinSteps t n (is_below (parent t) (node_of es entry)) (λ k. 8 + 2 * k + 20 * kids_size t (node_of es entry) (child_count t (node_of es entry)) * (1 + k)) s0 s1
+      → IsWithinSteps t n (is_below (parent t) (node_of es entry)) (λ k. 12 + 4 * k + 20 * kids_size t (node_of es entry) (child_count t (node_of es entry)) * (1 + k)) s0 s1
   only_opened steps =
-      subst (λ v. IsWithinSteps t n (is_below (parent t) v) (λ k. 8 + 2 * k + 20 * kids_size t v (child_count t v) * (1 + k)) s0 s1) (sym o.node_is)
+      subst (λ v. IsWithinSteps t n (is_below (parent t) v) (λ k. 12 + 4 * k + 20 * kids_size t v (child_count t v) * (1 + k)) s0 s1) (sym o.node_is)
       (opened_within d key t o.formed.tree n f.node s0 s1 steps)
 
 module _ {R : Type 0} {d : ℕ} {key : R → KeyOf d 16} {t : List (NodeData R)} {es b : List (Linked (Found R))} {n m z : List (NodeLists R)} {entry : ℕ} {f : Found R} {top : Entry R Source} {row count s0 s1 s2 : ℕ} (o : IsOwned d key t es n entry f)
@@ -141,14 +144,18 @@ module _ {R : Type 0} {d : ℕ} {key : R → KeyOf d 16} {t : List (NodeData R)}
       (queues_of d key t f.node row count o.node c.few es b n m z s.formed a.above s.extended a.queues s.queues)
 
   -- s3 are the steps at the end
-  pub searched_steps : (s3 : ℕ) → ((k : ℕ) → ((v g : ℕ) → bit_length (length (members t v g) + 1) ≤ k) → s3 ≤ s2 + 4 + 3 * child_count t f.node + 2 * k)
-      → IsWithinSteps t n (is_below (parent t) (node_of es entry)) (λ k. 8 + 2 * k + 20 * kids_size t (node_of es entry) (child_count t (node_of es entry)) * (1 + k)) s0 s3
+  pub searched_steps : (s3 : ℕ) → ((k : ℕ) → ((v g : ℕ) → bit_length (length (members t v g) + 1) ≤ k) → s3 ≤ s2 + 8 + 3 * child_count t f.node + 4 * k)
+      → IsWithinSteps t n (is_below (parent t) (node_of es entry)) (λ k. 12 + 4 * k + 20 * kids_size t (node_of es entry) (child_count t (node_of es entry)) * (1 + k)) s0 s3
   searched_steps s3 last =
-      subst (λ v. IsWithinSteps t n (is_below (parent t) v) (λ k. 8 + 2 * k + 20 * kids_size t v (child_count t v) * (1 + k)) s0 s3) (sym o.node_is)
+      subst (λ v. IsWithinSteps t n (is_below (parent t) v) (λ k. 12 + 4 * k + 20 * kids_size t v (child_count t v) * (1 + k)) s0 s3) (sym o.node_is)
       (call_within d key t o.formed.tree n f.node s0 s1 count s2 s3 m a.formed.all_nodes c.all a.queues a.steps s.steps last)
 
-  pub searched_stream : stream_of z f.node f.group ≡ stream_of n f.node f.group
-  searched_stream = ap (λ (x : List (StreamData R)). get_or x f.group (record { head = 0; queue = [] })) s.extended.streams ∙ a.stream
+  -- the search leaves the stream as it was after the row was opened
+  pub searched_stream : stream_of z f.node f.group ≡ stream_of m f.node f.group
+  searched_stream = ap (λ (x : List (StreamData R)). get_or x f.group (record { head = 0; queue = []; room = 0 })) s.extended.streams
+
+  pub searched_queue : (stream_of z f.node f.group).queue ≡ (stream_of n f.node f.group).queue
+  searched_queue = ap (λ (x : StreamData R). x.queue) searched_stream ∙ a.queue
 
   -- # And the entry got its next one
 

@@ -1,8 +1,7 @@
 -- What the rows of a solution are read from: the source of an entry, and the parts of a solution of a row.
-use Rattle.std.proofs.Common.{◌≡◌, ℕ, zero, suc, ◌+◌, ◌<◌, None, List, [], ◌∷◌, length, get_or, refl, sym, ap, ◌∙◌, subst, inl, inr, arith}
+use Rattle.std.proofs.Common.{◌≡◌, ℕ, zero, suc, ◌+◌, ◌<◌, None, List, length, get_or, refl, sym, ap, ◌∙◌, subst, inl, inr, arith}
 use Rattle.std.proofs.lemmas.Bool.{cases_lt}
 use Rattle.std.proofs.lemmas.List.Elements.{All-get_or}
-use Rattle.rank_key.specs.Keys.{KeyFits}
 use Rattle.stream_store.specs.declared.entry.Linked.{Linked}
 use Rattle.take2_heap.specs.declared.entry.Entry.{Entry}
 use Rattle.tdp_core.specs.TreeData.{NodeData, rows, members, child_count, group_count, group_named}
@@ -16,12 +15,11 @@ use Rattle.stream_cells.specs.declared.source.Source.{Source}
 use Rattle.suffix_streams.specs.declared.stream.Found.{Found}
 use Rattle.suffix_streams.specs.NodeLists.{NodeLists}
 use Rattle.suffix_streams.specs.Rankings.{child, part_list, group_list}
-use Rattle.suffix_streams.specs.StreamsData.{node_of, group_of, place_of, stream, products_of, product_of, stream_of, part_known, row_known, pair_of, run_of, IsStreams}
-use Rattle.suffix_streams.specs.Parts.{IsKnownPart, IsSumOf}
-use Rattle.suffix_streams.proofs.Rankings.{kid, group_some, sum_fits}
+use Rattle.suffix_streams.specs.StreamsData.{IsKnownPart, IsSumOf, HasOwnParts, node_of, group_of, place_of, stream, products_of, product_of, stream_of, part_known, row_known, pair_of, run_of, IsStreams}
 use Rattle.suffix_streams.proofs.Stores.{node_value, group_value}
-use Rattle.suffix_streams.proofs.Firsts.{first_at, first_sum, part_some}
-use Rattle.suffix_streams.proofs.Entries.{named_stream, parts_of}
+use Rattle.suffix_streams.proofs.Firsts.{first_by_at}
+use Rattle.suffix_streams.proofs.Entries.{parts_of}
+use Rattle.suffix_streams.proofs.FirstSums.{first_known, head_first, first_sum_of}
 use Rattle.suffix_streams.proofs.ViewEntries.{entry-at}
 use Rattle.suffix_streams.proofs.ViewPrefixes.{place_in_stream, entry_solution}
 
@@ -33,6 +31,7 @@ pub record IsSourceAt {R : Type 0} (d : ℕ) (key : R → KeyOf d 16) (t : List 
   pub member : s.member < length (members t v g)
   pub row : get_or (members t v g) s.member 0 < rows t v
   pub place : IsKnownPart nodes v (get_or (members t v g) s.member 0) (child_count t v) s.place
+  pub parts : HasOwnParts d key t es nodes v g s
   pub same : get_or (part_list d key t v (get_or (members t v g) s.member 0) (child_count t v)) s.place (key_none d 16) ≡ get_or (group_list d key t (node_of es i) (group_of es i)) (place_of es i) (key_none d 16)
 
 module _ {R : Type 0} (d : ℕ) (key : R → KeyOf d 16) (t : List (NodeData R)) (es : List (Linked (Found R))) (nodes : List (NodeLists R)) (h : IsStreams d key t es nodes) where
@@ -67,6 +66,8 @@ module _ {R : Type 0} (d : ℕ) (key : R → KeyOf d 16) (t : List (NodeData R))
       let same : get_or (stream es (node_of es i) (group_of es i)) (place_of es i) f.solution ≡ f.solution = entry-at es i x f.solution l ∙ ap (λ z. z.solution) (value x) in
       let known : Known (node_of es i) (group_of es i) f.solution = subst (Known (node_of es i) (group_of es i)) same (All-get_or (Known (node_of es i) (group_of es i)) (stream es (node_of es i) (group_of es i)) (place_of es i) f.solution within s.found_known) in
       let held : Held (node_of es i) (group_of es i) f.solution = subst (Held (node_of es i) (group_of es i)) same (All-get_or (Held (node_of es i) (group_of es i)) (stream es (node_of es i) (group_of es i)) (place_of es i) f.solution within s.merge.kept) in
+      let parts : HasOwnParts d key t es nodes (node_of es i) (group_of es i) f.solution.tag =
+      subst (λ (e : Entry R Source). HasOwnParts d key t es nodes (node_of es i) (group_of es i) e.tag) same (All-get_or (λ (e : Entry R Source). HasOwnParts d key t es nodes (node_of es i) (group_of es i) e.tag) (stream es (node_of es i) (group_of es i)) (place_of es i) f.solution within s.found_parts) in
       let row = member_is_row d key t h.tree (node_of es i) (group_of es i) f.solution.tag.member own.0 held.0.0 in
       subst (λ v. IsSourceAt d key t es nodes i v f.group f.solution.tag) (node_value es i x l ∙ ap (λ z. z.node) (value x))
       (subst (λ g. IsSourceAt d key t es nodes i (node_of es i) g f.solution.tag) (group_value es i x l ∙ ap (λ z. z.group) (value x))
@@ -77,65 +78,49 @@ module _ {R : Type 0} (d : ℕ) (key : R → KeyOf d 16) (t : List (NodeData R))
         member = held.0.0;
         row = row;
         place = known_part (node_of es i) (get_or (members t (node_of es i) (group_of es i)) f.solution.tag.member 0) f.solution.tag.place own.0 row known;
+        parts = parts;
         same = sym held.1 ∙ (entry_solution d key t es nodes h i f l value).1;
       }))
 
-  -- the first solution of a row without products is the sum of first solutions
+  -- of a row without products only this one is known
   pub first_cell : IsTieFreeTree t → (v r c place head : ℕ) → v < length t → r < rows t v → c < child_count t v → length (products_of nodes v r) ≡ 0 → IsKnownPart nodes v r (c + 1) place
       → head ≡ (stream_of nodes (child t v c) (group_named t v r c)).head → IsSumOf d key t es nodes v r c place (record { left = 0; right = head })
   first_cell apart v r c place head l row in_kids none known at =
-      let named = named_stream d key t es nodes h v r c l row in_kids in
-      let inside = (kid d key t h.tree v c in_kids).within in
-      let s = h.streams (child t v c) (group_named t v r c) inside named in
-      let some = part_some d key t h.tree apart v r c l row (omega arith) in
-      let zero : 0 ≡ place = omega (arith, known.first none) in
-      let more : suc c ≡ c + 1 = omega arith in
-      let first : 0 ≡ place_of es (stream_of nodes (child t v c) (group_named t v r c)).head = sym s.head_place in
-      subst (λ z. IsSumOf d key t es nodes v r c place (record { left = 0; right = z })) (sym at)
-      (record {
-        left = record { found = λ a. absurd (omega (arith, a, none)); first = λ a. refl };
-        right = s.head_in;
-        node = s.head_node;
-        group = s.head_group;
-        sum = subst (λ p. get_or (part_list d key t v r (c + 1)) place (key_none d 16) ≡ key_add d 16 (get_or (part_list d key t v r c) 0 (key_none d 16)) (get_or (group_list d key t (child t v c) (group_named t v r c)) p (key_none d 16))) first
-            (ap (λ z. get_or (part_list d key t v r z) place (key_none d 16)) (sym more) ∙ ap (λ p. get_or (part_list d key t v r (suc c)) p (key_none d 16)) (sym zero) ∙ (first_sum d key t h.tree apart v r c l row in_kids some).1);
-        fits = subst (λ p. KeyFits d (key_add d 16 (get_or (part_list d key t v r c) 0 (key_none d 16)) (get_or (group_list d key t (child t v c) (group_named t v r c)) p (key_none d 16)))) first
-            (sum_fits d key t h.tree v r c 0 0 l in_kids some (group_some d key t h.tree (child t v c) (group_named t v r c) inside named));
-      })
+      subst (λ p. IsSumOf d key t es nodes v r c p (record { left = 0; right = head })) (sym (known.first none))
+      (subst (λ z. IsSumOf d key t es nodes v r c 0 (record { left = 0; right = z })) (sym at)
+      (first_sum_of d key t h.tree apart es nodes v r c (record { left = 0; right = (stream_of nodes (child t v c) (group_named t v r c)).head }) l row in_kids (head_first d key t es nodes h v r c l row in_kids)
+      (first_known d key t es nodes h v r c l row (omega (arith, in_kids)))))
 
-  abbrev KnownCell : ℕ → ℕ → ℕ → Entry R Cell → Type 0
-  KnownCell v r c e = (e.tag.left < part_known nodes v r c) × (e.tag.right < length es) × (node_of es e.tag.right ≡ child t v c) × (group_of es e.tag.right ≡ group_named t v r c)
+  abbrev KnownCell : ℕ → ℕ → ℕ → Cell → Type 0
+  KnownCell v r c x = (x.left < part_known nodes v r c) × (x.right < length es) × (node_of es x.right ≡ child t v c) × (group_of es x.right ≡ group_named t v r c)
 
-  abbrev HeldCell : ℕ → ℕ → ℕ → Entry R Cell → Type 0
-  HeldCell v r c = IsHeld d key (pair_key (key_add d 16) (key_none d 16) (part_list d key t v r c) (group_list d key t (child t v c) (group_named t v r c)))
-      (InProduct d (part_list d key t v r c) (group_list d key t (child t v c) (group_named t v r c))) (pair_of es)
+  abbrev CellIn : ℕ → ℕ → ℕ → Cell → Type 0
+  CellIn v r c x = InProduct d (part_list d key t v r c) (group_list d key t (child t v c) (group_named t v r c)) (pair_of es x)
+
+  abbrev sum_of : ℕ → ℕ → ℕ → Cell → KeyOf d 16
+  sum_of v r c x = pair_key (key_add d 16) (key_none d 16) (part_list d key t v r c) (group_list d key t (child t v c) (group_named t v r c)) (pair_of es x)
 
   -- a solution of a product is the sum of its cell's parts
   pub product_cell : (v r c place : ℕ) (cell : Cell) → v < length t → r < rows t v → c < child_count t v → 0 < length (products_of nodes v r) → IsKnownPart nodes v r (c + 1) place
-      → ((x : Entry R Cell) → cell ≡ (get_or (product_of nodes v r c).found place x).tag) → IsSumOf d key t es nodes v r c place cell
+      → ((x : Cell) → cell ≡ get_or (product_of nodes v r c).found place x) → IsSumOf d key t es nodes v r c place cell
   product_cell v r c place cell l row in_kids some known is =
       let more : c + 1 ≡ suc c = omega arith in
       at (omega (arith, in_kids, h.whole_rows v r l row some)) (subst (λ z. place < part_known nodes v r z) more (known.found some))
     where
-      an_entry : (xs : List (Entry R Cell)) (i : ℕ) → i < length xs → Entry R Cell
-      an_entry [] i l = absurd (omega arith)
-      an_entry (x ∷ xs) i l = x
-
       at : c < length (products_of nodes v r) → place < length (product_of nodes v r c).found → IsSumOf d key t es nodes v r c place cell
       at in_row k =
-          let x : Entry R Cell = an_entry (product_of nodes v r c).found place k in
-          let e : Entry R Cell = get_or (product_of nodes v r c).found place x in
+          let x : Cell = get_or (product_of nodes v r c).found place cell in
           let p = h.products v r c l row in_row in
-          let found : KnownCell v r c e = All-get_or (KnownCell v r c) (product_of nodes v r c).found place x k p.found_known in
-          let held : HeldCell v r c e = All-get_or (HeldCell v r c) (product_of nodes v r c).found place x k p.sums.kept in
-          let whole : key e.rank ≡ get_or (part_list d key t v r (suc c)) place (key_none d 16) = first_at d key (product_of nodes v r c).found (part_list d key t v r (suc c)) place x p.sums.prefix k in
+          let found : KnownCell v r c x = All-get_or (KnownCell v r c) (product_of nodes v r c).found place cell k p.found_known in
+          let inside : CellIn v r c x = All-get_or (CellIn v r c) (product_of nodes v r c).found place cell k p.sums.kept in
+          let whole : sum_of v r c x ≡ get_or (part_list d key t v r (suc c)) place (key_none d 16) = first_by_at d (sum_of v r c) (product_of nodes v r c).found (part_list d key t v r (suc c)) place cell p.sums.prefix k in
           let more : c + 1 ≡ suc c = omega arith in
-          subst (λ (z : Cell). IsSumOf d key t es nodes v r c place z) (sym (is x))
+          subst (λ (z : Cell). IsSumOf d key t es nodes v r c place z) (sym (is cell))
           (record {
             left = record { found = λ a. found.0; first = λ none. absurd (omega (arith, some, none)) };
             right = found.1;
             node = found.2;
             group = found.3;
-            sum = ap (λ z. get_or (part_list d key t v r z) place (key_none d 16)) more ∙ sym whole ∙ held.1;
-            fits = (parts_of d key t es nodes h v r c l row in_row).fits e.tag.left (place_of es e.tag.right) held.0.0 held.0.1;
+            sum = ap (λ z. get_or (part_list d key t v r z) place (key_none d 16)) more ∙ sym whole;
+            fits = (parts_of d key t es nodes h v r c l row in_row).fits x.left (place_of es x.right) inside.0 inside.1;
           })

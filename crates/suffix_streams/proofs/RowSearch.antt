@@ -35,6 +35,7 @@ pub record IsRoomMade {R : Type 0} (d : ℕ) (key : R → KeyOf d 16) (t : List 
   pub changed : HasOtherProduct n v r (count - 1) m
   pub found : (product_of m v r (count - 1)).found ≡ (product_of n v r (count - 1)).found
   pub frontier : (product_of m v r (count - 1)).frontier ≡ (product_of n v r (count - 1)).frontier
+  pub ranks : (product_of m v r (count - 1)).ranks ≡ (product_of n v r (count - 1)).ranks
   pub formed : IsStreams d key t es m
   pub still_in_row : count - 1 < length (products_of m v r)
   pub some : 0 < length (product_of m v r (count - 1)).frontier
@@ -47,9 +48,9 @@ pub record IsRoomMade {R : Type 0} (d : ℕ) (key : R → KeyOf d 16) (t : List 
 -- x are the lists of node v that were read, and `top` is the first of the frontier
 pub room_made : {R : Type 0} (d : ℕ) (key : R → KeyOf d 16) (t : List (NodeData R)) (es : List (Linked (Found R))) (n m : List (NodeLists R)) (v r count : ℕ) (x : NodeLists R) (top : Entry R Cell) → IsStreams d key t es n → v < length t → r < rows t v
     → 0 < count → count ≤ length (products_of n v r) → HasOtherProduct n v r (count - 1) m → (product_of m v r (count - 1)).found ≡ (product_of n v r (count - 1)).found
-    → (product_of m v r (count - 1)).frontier ≡ (product_of n v r (count - 1)).frontier → x ≡ get_or n v x → 0 < length (product_at x r (count - 1)).frontier → top ≡ get_or (product_at x r (count - 1)).frontier 0 top
+    → (product_of m v r (count - 1)).frontier ≡ (product_of n v r (count - 1)).frontier → (product_of m v r (count - 1)).ranks ≡ (product_of n v r (count - 1)).ranks → x ≡ get_or n v x → 0 < length (product_at x r (count - 1)).frontier → top ≡ get_or (product_at x r (count - 1)).frontier 0 top
     → IsRoomMade d key t es n m v r count top.tag
-room_made {R} d key t es n m v r count x top h node row some within other found frontier read there is =
+room_made {R} d key t es n m v r count x top h node row some within other found frontier ranks read there is =
     let c : ℕ = count - 1 in
     let in_row : c < length (products_of n v r) = omega (arith, some, within) in
     let lists : lists_of n v ≡ x = lists_at n v x read (omega (arith, node, h.all_nodes)) in
@@ -58,8 +59,8 @@ room_made {R} d key t es n m v r count x top h node row some within other found 
     let there1 : 0 < length (product_of m v r c).frontier = omega (arith, there0, ap length frontier) in
     let first1 : (e : Entry R Cell) → (get_or (product_of m v r c).frontier 0 e).tag ≡ top.tag =
     λ e. ap (λ f. (get_or f 0 e).tag) frontier ∙ ap (λ z. z.tag) (any_default (product_of n v r c).frontier 0 e top there0 ∙ sym is0) in
-    let formed1 : IsStreams d key t es m = room_formed d key t es n h v r c node row in_row m other found frontier in
-    let in_row1 : c < length (products_of m v r) = omega (arith, in_row, room_count d key t es n h v r c node row in_row m other found frontier) in
+    let formed1 : IsStreams d key t es m = room_formed d key t es n h v r c node row in_row m other found frontier ranks in
+    let in_row1 : c < length (products_of m v r) = omega (arith, in_row, room_count d key t es n h v r c node row in_row m other found frontier ranks) in
     let kids : c < child_count t v = child_in d key t es m formed1 v r c node row in_row1 in
     record {
       before = h;
@@ -70,6 +71,7 @@ room_made {R} d key t es n m v r count x top h node row some within other found 
       changed = other;
       found = found;
       frontier = frontier;
+      ranks = ranks;
       formed = formed1;
       still_in_row = in_row1;
       some = there1;
@@ -82,7 +84,7 @@ room_made {R} d key t es n m v r count x top h node row some within other found 
 
 module _ {R : Type 0} {d : ℕ} {key : R → KeyOf d 16} {t : List (NodeData R)} {es : List (Linked (Found R))} {n m : List (NodeLists R)} {v r count : ℕ} {cell : Cell} (a : IsRoomMade d key t es n m v r count cell) where
   pub made_extended : (e : List (Linked (Found R))) (o : List (NodeLists R)) → IsExtended t v r (suc (count - 1)) es m e o → IsExtended t v r count es n e o
-  made_extended e o x = subst (λ z. IsExtended t v r z es n e o) a.last (room_extended d key t es n a.before v r (count - 1) a.node a.row a.in_row m a.changed a.found a.frontier e o x)
+  made_extended e o x = subst (λ z. IsExtended t v r z es n e o) a.last (room_extended d key t es n a.before v r (count - 1) a.node a.row a.in_row m a.changed a.found a.frontier a.ranks e o x)
 
   pub made_none : IsExtended t v r count es n es m
   made_none = made_extended es m (extended_none d key t v r (suc (count - 1)) es m)
@@ -90,17 +92,17 @@ module _ {R : Type 0} {d : ℕ} {key : R → KeyOf d 16} {t : List (NodeData R)}
   pub made_queues : (o : List (NodeLists R)) → AreQueuesGrown (λ w. below_kids t v (suc (count - 1)) w + cond (nat_eq w v) 1 0) m o → AreQueuesGrown (λ w. below_kids t v count w + cond (nat_eq w v) 1 0) n o
   made_queues o q =
       subst (λ z. AreQueuesGrown (λ w. below_kids t v z w + cond (nat_eq w v) 1 0) n o) a.last
-      (room_queues d key t es n a.before v r (count - 1) a.node a.row a.in_row m a.changed a.found a.frontier (λ w. below_kids t v (suc (count - 1)) w + cond (nat_eq w v) 1 0) o q)
+      (room_queues d key t es n a.before v r (count - 1) a.node a.row a.in_row m a.changed a.found a.frontier a.ranks (λ w. below_kids t v (suc (count - 1)) w + cond (nat_eq w v) 1 0) o q)
 
   pub made_within : (s0 s1 : ℕ) → IsWithinSteps t m (λ w. below_kids t v (suc (count - 1)) w + cond (nat_eq w v) 1 0) (λ b. 20 * kids_size t v (suc (count - 1)) * (1 + b)) s0 (s1 + 6 * suc (count - 1))
       → IsWithinSteps t n (λ w. below_kids t v count w + cond (nat_eq w v) 1 0) (λ b. 20 * kids_size t v count * (1 + b)) s0 (s1 + 6 * count)
   made_within s0 s1 w =
       subst (λ z. IsWithinSteps t n (λ w. below_kids t v z w + cond (nat_eq w v) 1 0) (λ b. 20 * kids_size t v z * (1 + b)) s0 (s1 + 6 * z)) a.last
-      (room_within d key t es n a.before v r (count - 1) a.node a.row a.in_row m a.changed a.found a.frontier (λ w. below_kids t v (suc (count - 1)) w + cond (nat_eq w v) 1 0) (λ b. 20 * kids_size t v (suc (count - 1)) * (1 + b)) s0
+      (room_within d key t es n a.before v r (count - 1) a.node a.row a.in_row m a.changed a.found a.frontier a.ranks (λ w. below_kids t v (suc (count - 1)) w + cond (nat_eq w v) 1 0) (λ b. 20 * kids_size t v (suc (count - 1)) * (1 + b)) s0
       (s1 + 6 * suc (count - 1)) w)
 
   pub made_unstepped : AreUnstepped v n m
-  made_unstepped = room_unstepped d key t es n a.before v r (count - 1) a.node a.row a.in_row m a.changed a.found a.frontier
+  made_unstepped = room_unstepped d key t es n a.before v r (count - 1) a.node a.row a.in_row m a.changed a.found a.frontier a.ranks
 
 -- # The entry after the cell's right part was asked for
 
@@ -108,14 +110,14 @@ pub record IsChildAsked {R : Type 0} (d : ℕ) (key : R → KeyOf d 16) (t : Lis
   pub formed : IsStreams d key t b o
   pub grown : IsGrown (parent t) (child t v (count - 1)) es m b o
   pub queues : AreQueuesGrown (is_below (parent t) (child t v (count - 1))) m o
-  pub steps : IsWithinSteps t m (is_below (parent t) (child t v (count - 1))) (λ k. 8 + 2 * k + 20 * kids_size t (child t v (count - 1)) (child_count t (child t v (count - 1))) * (1 + k)) s0 s1
+  pub steps : IsWithinSteps t m (is_below (parent t) (child t v (count - 1))) (λ k. 12 + 4 * k + 20 * kids_size t (child t v (count - 1)) (child_count t (child t v (count - 1))) * (1 + k)) s0 s1
   pub own : lists_of o v ≡ lists_of m v
   pub left : cell.left < part_known o v r (count - 1)
   pub in_row : count - 1 < length (products_of o v r)
 
 pub child_asked : {R : Type 0} {d : ℕ} {key : R → KeyOf d 16} {t : List (NodeData R)} {es : List (Linked (Found R))} {n m : List (NodeLists R)} {v r count : ℕ} {cell : Cell} (a : IsRoomMade d key t es n m v r count cell)
     (u : List (NodeData R)) (b : List (Linked (Found R))) (o : List (NodeLists R)) (s0 s1 : ℕ) → u ≡ t → IsStreams d key u b o → IsGrown (parent t) (node_of es cell.right) es m b o → AreQueuesGrown (is_below (parent t) (node_of es cell.right)) m o
-    → IsWithinSteps t m (is_below (parent t) (node_of es cell.right)) (λ k. 8 + 2 * k + 20 * kids_size t (node_of es cell.right) (child_count t (node_of es cell.right)) * (1 + k)) s0 s1 → IsChildAsked d key t es b m o v r count cell s0 s1
+    → IsWithinSteps t m (is_below (parent t) (node_of es cell.right)) (λ k. 12 + 4 * k + 20 * kids_size t (node_of es cell.right) (child_count t (node_of es cell.right)) * (1 + k)) s0 s1 → IsChildAsked d key t es b m o v r count cell s0 s1
 child_asked {R} {d} {key} {t} {es} {n} {m} {v} {r} {count} {cell} a u b o s0 s1 same h grown queues steps =
     let g : IsGrown (parent t) (child t v (count - 1)) es m b o = subst (λ q. IsGrown (parent t) q es m b o) a.known.node grown in
     let own : lists_of o v ≡ lists_of m v = g.above v a.below in
@@ -123,7 +125,7 @@ child_asked {R} {d} {key} {t} {es} {n} {m} {v} {r} {count} {cell} a u b o s0 s1 
       formed = subst (λ (z : List (NodeData R)). IsStreams d key z b o) same h;
       grown = g;
       queues = subst (λ q. AreQueuesGrown (is_below (parent t) q) m o) a.known.node queues;
-      steps = subst (λ q. IsWithinSteps t m (is_below (parent t) q) (λ k. 8 + 2 * k + 20 * kids_size t q (child_count t q) * (1 + k)) s0 s1) a.known.node steps;
+      steps = subst (λ q. IsWithinSteps t m (is_below (parent t) q) (λ k. 12 + 4 * k + 20 * kids_size t q (child_count t q) * (1 + k)) s0 s1) a.known.node steps;
       own = own;
       left = omega (arith, a.known.left, ap (λ z. known_of z r (count - 1)) own);
       in_row = omega (arith, a.still_in_row, ap (λ z. length (get_or z.products r [])) own);

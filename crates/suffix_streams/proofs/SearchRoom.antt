@@ -27,12 +27,15 @@ module _ {R : Type 0} (nodes : List (NodeLists R)) (v r c : ℕ) (m n : NodeList
   pub own_found : (product_at n r c).found ≡ (product_at m r c).found → (product_of (slice_set nodes v n) v r c).found ≡ (product_of nodes v r c).found
   own_found h = ap (λ z. z.found) own_product ∙ h ∙ ap (λ z. (product_at z r c).found) (sym (lists_at nodes v m at in_nodes))
 
+  pub own_ranks : (product_at n r c).ranks ≡ (product_at m r c).ranks → (product_of (slice_set nodes v n) v r c).ranks ≡ (product_of nodes v r c).ranks
+  own_ranks h = ap (λ z. z.ranks) own_product ∙ h ∙ ap (λ z. (product_at z r c).ranks) (sym (lists_at nodes v m at in_nodes))
+
   pub own_frontier : (product_at n r c).frontier ≡ (product_at m r c).frontier → (product_of (slice_set nodes v n) v r c).frontier ≡ (product_of nodes v r c).frontier
   own_frontier h = ap (λ z. z.frontier) own_product ∙ h ∙ ap (λ z. (product_at z r c).frontier) (sym (lists_at nodes v m at in_nodes))
 
 module _ {R : Type 0} (d : ℕ) (key : R → KeyOf d 16) (t : List (NodeData R)) (es : List (Linked (Found R))) (n : List (NodeLists R)) (h : IsStreams d key t es n) (v r c : ℕ) (in_tree : v < length t) (row : r < rows t v)
     (in_row : c < length (products_of n v r)) (n1 : List (NodeLists R)) (other : HasOtherProduct n v r c n1) (found : (product_of n1 v r c).found ≡ (product_of n v r c).found)
-    (frontier : (product_of n1 v r c).frontier ≡ (product_of n v r c).frontier) where
+    (frontier : (product_of n1 v r c).frontier ≡ (product_of n v r c).frontier) (ranks : (product_of n1 v r c).ranks ≡ (product_of n v r c).ranks) where
   in_nodes : v < length n
   in_nodes = omega (arith, in_tree, h.all_nodes)
 
@@ -40,7 +43,7 @@ module _ {R : Type 0} (d : ℕ) (key : R → KeyOf d 16) (t : List (NodeData R))
   in_rows = row_inside (lists_of n v).products r c in_row
 
   pub room_formed : IsStreams d key t es n1
-  room_formed = subst (λ z. IsStreams d key t es z) (sym other) (reserved_holds d key t es n h v r c (product_of n1 v r c) in_tree row in_row found frontier)
+  room_formed = subst (λ z. IsStreams d key t es z) (sym other) (reserved_holds d key t es n h v r c (product_of n1 v r c) in_tree row in_row found frontier ranks)
 
   pub room_count : length (products_of n1 v r) ≡ length (products_of n v r)
   room_count =
@@ -50,10 +53,10 @@ module _ {R : Type 0} (d : ℕ) (key : R → KeyOf d 16) (t : List (NodeData R))
   other_product : (w s k : ℕ) → ((w ≢ v) ⊎ (s ≢ r) ⊎ (k ≢ c)) → product_of n1 w s k ≡ product_of n w s k
   other_product w s k x = ap (λ z. product_of z w s k) other ∙ replaced_others n v r c (product_of n1 v r c) in_nodes in_rows in_row w s k x
 
-  other_sums : (w s k : ℕ) → ((w ≢ v) ⊎ (s ≢ r) ⊎ (k ≢ c)) → ((product_of n1 w s k).found ≡ (product_of n w s k).found) × ((product_of n1 w s k).frontier ≡ (product_of n w s k).frontier)
-  other_sums w s k x = (ap (λ (z : ProductData R). z.found) (other_product w s k x), ap (λ (z : ProductData R). z.frontier) (other_product w s k x))
+  other_sums : (w s k : ℕ) → ((w ≢ v) ⊎ (s ≢ r) ⊎ (k ≢ c)) → ((product_of n1 w s k).found ≡ (product_of n w s k).found) × ((product_of n1 w s k).frontier ≡ (product_of n w s k).frontier) × ((product_of n1 w s k).ranks ≡ (product_of n w s k).ranks)
+  other_sums w s k x = (ap (λ (z : ProductData R). z.found) (other_product w s k x), ap (λ (z : ProductData R). z.frontier) (other_product w s k x), ap (λ (z : ProductData R). z.ranks) (other_product w s k x))
 
-  same_sums : (w s k : ℕ) → ((product_of n1 w s k).found ≡ (product_of n w s k).found) × ((product_of n1 w s k).frontier ≡ (product_of n w s k).frontier)
+  same_sums : (w s k : ℕ) → ((product_of n1 w s k).found ≡ (product_of n w s k).found) × ((product_of n1 w s k).frontier ≡ (product_of n w s k).frontier) × ((product_of n1 w s k).ranks ≡ (product_of n w s k).ranks)
   same_sums w s k = elim (cases_eq w v) [
     | inr x ↦ other_sums w s k (inl x)
     | inl e ↦ elim (cases_eq s r) [
@@ -61,9 +64,9 @@ module _ {R : Type 0} (d : ℕ) (key : R → KeyOf d 16) (t : List (NodeData R))
       | inl f ↦ elim (cases_eq k c) [
         | inr x ↦ other_sums w s k (inr (inr x))
         | inl i ↦
-            subst (λ z. ((product_of n1 z s k).found ≡ (product_of n z s k).found) × ((product_of n1 z s k).frontier ≡ (product_of n z s k).frontier)) (sym e)
-            (subst (λ z. ((product_of n1 v z k).found ≡ (product_of n v z k).found) × ((product_of n1 v z k).frontier ≡ (product_of n v z k).frontier)) (sym f)
-            (subst (λ z. ((product_of n1 v r z).found ≡ (product_of n v r z).found) × ((product_of n1 v r z).frontier ≡ (product_of n v r z).frontier)) (sym i) (found, frontier)))
+            subst (λ z. ((product_of n1 z s k).found ≡ (product_of n z s k).found) × ((product_of n1 z s k).frontier ≡ (product_of n z s k).frontier) × ((product_of n1 z s k).ranks ≡ (product_of n z s k).ranks)) (sym e)
+            (subst (λ z. ((product_of n1 v z k).found ≡ (product_of n v z k).found) × ((product_of n1 v z k).frontier ≡ (product_of n v z k).frontier) × ((product_of n1 v z k).ranks ≡ (product_of n v z k).ranks)) (sym f)
+            (subst (λ z. ((product_of n1 v r z).found ≡ (product_of n v r z).found) × ((product_of n1 v r z).frontier ≡ (product_of n v r z).frontier) × ((product_of n1 v r z).ranks ≡ (product_of n v r z).ranks)) (sym i) (found, frontier, ranks)))
       ]
     ]
   ]
@@ -93,7 +96,7 @@ module _ {R : Type 0} (d : ℕ) (key : R → KeyOf d 16) (t : List (NodeData R))
 -- # What several calls leave as it was
 
 pub unstepped_on : {R : Type 0} (v : ℕ) (n m o : List (NodeLists R)) → AreUnstepped v n m → AreUnstepped v m o → AreUnstepped v n o
-unstepped_on v n m o p q s k = ((q s k).0 ∙ (p s k).0, (q s k).1 ∙ (p s k).1)
+unstepped_on v n m o p q s k = ((q s k).0 ∙ (p s k).0, (q s k).1 ∙ (p s k).1, (q s k).2 ∙ (p s k).2)
 
 pub unstepped_own : {R : Type 0} (v : ℕ) (n m : List (NodeLists R)) → lists_of m v ≡ lists_of n v → AreUnstepped v n m
-unstepped_own v n m e s k = (ap (λ z. (product_at z s k).found) e, ap (λ z. (product_at z s k).frontier) e)
+unstepped_own v n m e s k = (ap (λ z. (product_at z s k).found) e, ap (λ z. (product_at z s k).frontier) e, ap (λ z. (product_at z s k).ranks) e)

@@ -9,7 +9,8 @@ use Rattle.tdp_core.specs.TreeData.{NodeData, parent, rows, members, child_count
 use Rattle.tdp_core.specs.WellFormed.{IsFormed}
 use Rattle.tdp_model.specs.Below.{is_below}
 use Rattle.tdp_model.specs.KeyTuple.{KeyOf, key_below, key_add, key_none}
-use Rattle.tdp_model.specs.Product.{Pair, pair_key, stands_for, runs_to, run_key}
+use Rattle.tdp_model.specs.Product.{Pair, pair_key, stands_for, run_key}
+use Rattle.stream_model.specs.Reaches.{reaches}
 use Rattle.tdp_model.specs.Remains.{total}
 use Rattle.tdp_model.proofs.Removal.{none_left}
 use Rattle.stream_model.specs.Ahead.{IsAhead}
@@ -166,11 +167,11 @@ module _ {R : Type 0} (d : ℕ) (key : R → KeyOf d 16) (t : List (NodeData R))
       let link : IsLinkedAt (node_list es) (group_list_of es) i None = subst (λ o. IsLinkedAt (node_list es) (group_list_of es) i o) none (h.linked i (omega (arith, l, node_length es))) in
       let end : length (stream es (node_of es i) (group_of es i)) ≡ length (group_list d key t (node_of es i) (group_of es i)) =
       all_known d (run_key (key_none d 16) (λ j. part_list d key t (node_of es i) (get_or (members t (node_of es i) (group_of es i)) j 0) (child_count t (node_of es i))))
-      (runs_to (length (members t (node_of es i) (group_of es i))) (λ r. length (part_list d key t (node_of es i) (get_or (members t (node_of es i) (group_of es i)) r 0) (child_count t (node_of es i)))))
+      (reaches (length (members t (node_of es i) (group_of es i))) (λ r. length (part_list d key t (node_of es i) (get_or (members t (node_of es i) (group_of es i)) r 0) (child_count t (node_of es i)))))
       (InRuns d (length (members t (node_of es i) (group_of es i))) (λ j. part_list d key t (node_of es i) (get_or (members t (node_of es i) (group_of es i)) j 0) (child_count t (node_of es i))))
       (group_list d key t (node_of es i) (group_of es i)) (length (stream es (node_of es i) (group_of es i)))
       (subst (λ (z : List (Entry R Source)). IsAhead Pair (KeyOf d 16) (key_below d 16) (run_key (key_none d 16) (λ j. part_list d key t (node_of es i) (get_or (members t (node_of es i) (group_of es i)) j 0) (child_count t (node_of es i))))
-      (runs_to (length (members t (node_of es i) (group_of es i))) (λ r. length (part_list d key t (node_of es i) (get_or (members t (node_of es i) (group_of es i)) r 0) (child_count t (node_of es i)))))
+      (reaches (length (members t (node_of es i) (group_of es i))) (λ r. length (part_list d key t (node_of es i) (get_or (members t (node_of es i) (group_of es i)) r 0) (child_count t (node_of es i)))))
       (InRuns d (length (members t (node_of es i) (group_of es i))) (λ j. part_list d key t (node_of es i) (get_or (members t (node_of es i) (group_of es i)) j 0) (child_count t (node_of es i))))
       (group_list d key t (node_of es i) (group_of es i)) (length (stream es (node_of es i) (group_of es i))) (places run_of z)) empty s.merge.ahead) in
       sym end ∙ stream_owned es (node_of es i) (group_of es i) ∙ sym link
@@ -191,13 +192,13 @@ module _ {R : Type 0} (d : ℕ) (key : R → KeyOf d 16) (t : List (NodeData R))
   reached_none v r place l a = inr (omega (arith, own_only d key t h.tree v r l))
 
   -- all is as it was, if only the room of a product changes
-  pub reserved_holds : (v r c : ℕ) (p : ProductData R) → v < length t → r < rows t v → c < length (products_of nodes v r) → p.found ≡ (product_of nodes v r c).found → p.frontier ≡ (product_of nodes v r c).frontier
+  pub reserved_holds : (v r c : ℕ) (p : ProductData R) → v < length t → r < rows t v → c < length (products_of nodes v r) → p.found ≡ (product_of nodes v r c).found → p.frontier ≡ (product_of nodes v r c).frontier → p.ranks ≡ (product_of nodes v r c).ranks
       → IsStreams d key t es (slice_set nodes v (with_product (lists_of nodes v) r c p))
-  reserved_holds v r c p l row in_row found frontier =
+  reserved_holds v r c p l row in_row found frontier ranks =
       let rises : length (product_of nodes v r c).found ≤ length p.found = omega (arith, ap length found) in
       let new : product_of (slice_set nodes v (with_product (lists_of nodes v) r c p)) v r c ≡ p = changed_product d key t es nodes h v r c p l row in_row rises in
       product_set d key t es nodes h v r c p l row in_row rises
-      (product_stays d key t es es nodes (slice_set nodes v (with_product (lists_of nodes v) r c p)) (held_itself es) v r c (ap (λ z. z.found) new ∙ found) (ap (λ z. z.frontier) new ∙ frontier)
+      (product_stays d key t es es nodes (slice_set nodes v (with_product (lists_of nodes v) r c p)) (held_itself es) v r c (ap (λ z. z.found) new ∙ found) (ap (λ z. z.frontier) new ∙ frontier) (ap (λ z. z.ranks) new ∙ ranks)
       (changed_known d key t es nodes h v r c p l row in_row rises v r c) (h.products v r c l row in_row))
 
   pub reached_kept : (v r c k place : ℕ) (p : ProductData R) → v < length t → r < rows t v → c < length (products_of nodes v r) → p.found ≡ (product_of nodes v r c).found → IsReached d key t nodes v r k place
@@ -281,4 +282,4 @@ module _ {R : Type 0} (d : ℕ) (key : R → KeyOf d 16) (t : List (NodeData R))
 
     pub queues_more : AreQueuesGrown (λ w. 0) n m → AreQueuesGrown (λ w. below_kids t v c w + cond (nat_eq w v) 1 0) m o → AreQueuesGrown (is_below (parent t) v) n z
     queues_more p q w s k =
-        omega (arith, queues_of p q w s k, ap (λ (ps : List (List (ProductData R))). length (get_or (get_or ps s []) k (record { found = []; frontier = []; room = 0; frontier_room = 0 })).frontier) (same_products w))
+        omega (arith, queues_of p q w s k, ap (λ (ps : List (List (ProductData R))). length (get_or (get_or ps s []) k (record { found = []; ranks = []; frontier = []; room = 0; frontier_room = 0 })).frontier) (same_products w))

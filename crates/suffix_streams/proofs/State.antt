@@ -7,7 +7,7 @@ use Rattle.take2_heap.specs.declared.entry.Entry.{Entry}
 use Rattle.stream_cells.specs.declared.source.Source.{Source}
 use Rattle.tdp_model.specs.KeyTuple.{KeyOf}
 use Rattle.suffix_streams.specs.declared.stream.Found.{Found}
-use Rattle.suffix_streams.specs.Frontiers.{AreFirst}
+use Rattle.suffix_streams.specs.Frontiers.{AreFirst, AreFirstBy}
 use Rattle.suffix_streams.specs.StreamsData.{stream, node_size}
 
 later : {A : Type 0} (b c : Bool) (x a : A) (xs : List A) →
@@ -70,11 +70,14 @@ pub all_more : {A : Type 0} (P : A → Type 0) (xs : List A) (x : A) → All P x
 all_more P [] x a p = All-cons P x [] p (All-nil P)
 all_more P (y ∷ xs) x a p = All-cons P y (xs ++ (x ∷ [])) (All-head P y xs a) (all_more P xs x (All-tail P y xs a) p)
 
+-- The next member of the ranking is found.
+pub first_more_by : {X : Type 0} (d : ℕ) (key_at : X → KeyOf d 16) (xs : List X) (x : X) (ks : List (KeyOf d 16)) (none : KeyOf d 16) → AreFirstBy d key_at xs ks → length xs < length ks → get_or ks (length xs) none ≡ key_at x → AreFirstBy d key_at (xs ++ (x ∷ [])) ks
+first_more_by d key_at xs x ks none p l at = (
+  omega (arith, count_more xs x),
+  omega (arith, count_more xs x),
+  map_more key_at xs x ∙ ap (λ z. z ++ (key_at x ∷ [])) p.2 ∙ ap (λ z. take (length xs) ks ++ (z ∷ [])) (sym at) ∙ take_one_more ks (length xs) none l ∙ ap (λ n. take n ks) (sym (count_more xs x)),
+)
+
 module _ {R : Type 0} (d : ℕ) (key : R → KeyOf d 16) where
-  -- The next member of the ranking is found.
   pub first_more : {T : Type 0} (xs : List (Entry R T)) (e : Entry R T) (ks : List (KeyOf d 16)) (none : KeyOf d 16) → AreFirst d key xs ks → length xs < length ks → get_or ks (length xs) none ≡ key e.rank → AreFirst d key (xs ++ (e ∷ [])) ks
-  first_more xs e ks none p l at = (
-    omega (arith, count_more xs e),
-    omega (arith, count_more xs e),
-    map_more (λ x. key x.rank) xs e ∙ ap (λ z. z ++ (key e.rank ∷ [])) p.2 ∙ ap (λ z. take (length xs) ks ++ (z ∷ [])) (sym at) ∙ take_one_more ks (length xs) none l ∙ ap (λ n. take n ks) (sym (count_more xs e)),
-  )
+  first_more {T} xs e ks none p l at = first_more_by d (λ (x : Entry R T). key x.rank) xs e ks none p l at

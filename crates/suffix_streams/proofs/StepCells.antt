@@ -16,7 +16,7 @@ use Rattle.suffix_streams.specs.ProductData.{ProductData}
 use Rattle.suffix_streams.specs.NodeLists.{NodeLists, product_at, with_product}
 use Rattle.stream_cells.specs.Cells.{cell_down}
 use Rattle.suffix_streams.specs.Rankings.{child}
-use Rattle.suffix_streams.specs.StreamsData.{node_list, group_list_of, node_of, group_of, lists_of, products_of, product_of, stream_of, part_known, IsStreamOf, IsStreams, IsCell}
+use Rattle.suffix_streams.specs.StreamsData.{node_list, group_list_of, node_of, group_of, lists_of, products_of, product_of, stream_of, part_known, IsStreamOf, IsStreams, IsCell, IsOffer}
 use Rattle.suffix_streams.specs.Growing.{IsAnswered}
 use Rattle.suffix_streams.proofs.Rankings.{kid}
 use Rattle.suffix_streams.proofs.Stores.{node_length}
@@ -56,6 +56,14 @@ module _ {R : Type 0} (d : ℕ) (key : R → KeyOf d 16) (t : List (NodeData R))
       h.streams (child t v c) (group_named t v r c) (kid d key t h.tree v c (child_in d key t es nodes h v r c l row in_row)).within (named_stream d key t es nodes h v r c l row (child_in d key t es nodes h v r c l row in_row)) in
       subst (λ (z : Cell). IsCell d key t es nodes v r c z) (sym m.2)
       (record { left = m.1; right = omega (arith, e, s.head_in); node = ap (λ z. node_of es z) e ∙ s.head_node; group = ap (λ z. group_of es z) e ∙ s.head_group })
+
+-- if only one left part is known, no cell beside is offered
+pub none_beside : {R : Type 0} (d : ℕ) (key : R → KeyOf d 16) (t : List (NodeData R)) (es : List (Linked (Found R))) (v r c : ℕ) (cell : Cell) (head known : ℕ) → known ≤ 1 → (o : Option Cell) (e : Option (Entry R Cell))
+    → MatchOption o (cell.right ≡ head → known ≤ cell.left + 1) (λ x. (cell.right ≡ head) × (cell.left + 1 < known) × (x ≡ record { left = cell.left + 1; right = head })) → IsOffer d key t es v r c o e → IsSome e → ⊥
+none_beside d key t es v r c cell head known one (Some x) (Some e) m f s = omega (arith, one, m.1)
+none_beside d key t es v r c cell head known one (Some x) None m f s = f
+none_beside d key t es v r c cell head known one None (Some e) m f s = f
+none_beside d key t es v r c cell head known one None None m f s = cc
 
 module _ {R : Type 0} (nodes : List (NodeLists R)) (v r c : ℕ) (m n : NodeLists R) (in_nodes : v < length nodes) (at : m ≡ get_or nodes v m) (changed : n ≡ with_product m r c (product_at n r c)) where
   -- a change of one product, in terms of the lists

@@ -8,7 +8,7 @@ use Rattle.std.proofs.lemmas.List.Sorted.{All-permutation}
 use Rattle.stream_store.specs.declared.entry.Linked.{Linked}
 use Rattle.take2_heap.specs.declared.entry.Entry.{Entry}
 use Rattle.take2_heap.specs.Order.{IsLeast}
-use Rattle.tdp_core.specs.TreeData.{NodeData, rows, group_named}
+use Rattle.tdp_core.specs.TreeData.{NodeData, rows, child_count, group_named}
 use Rattle.tdp_model.specs.KeyTuple.{KeyOf, key_add, key_none}
 use Rattle.tdp_model.specs.Product.{Pair, pair_key}
 use Rattle.stream_model.specs.Offers.{offers}
@@ -19,19 +19,19 @@ use Rattle.stream_model.proofs.Linking.{place_once}
 use Rattle.stream_model.proofs.Steps.{IsDown, IsAcross}
 use Rattle.stream_cells.specs.declared.cell.Cell.{Cell}
 use Rattle.suffix_streams.specs.declared.stream.Found.{Found}
-use Rattle.suffix_streams.specs.ProductData.{ProductData}
+use Rattle.suffix_streams.specs.ProductData.{ProductData, with_rank}
 use Rattle.suffix_streams.specs.NodeLists.{NodeLists, with_product}
 use Rattle.stream_cells.specs.Cells.{cell_down}
 use Rattle.suffix_streams.specs.Rankings.{child, part_list, group_list}
 use Rattle.suffix_streams.specs.Frontiers.{IsFrontier}
-use Rattle.suffix_streams.specs.StreamsData.{node_list, group_list_of, node_of, group_of, place_of, next_of, lists_of, products_of, product_of, stream_of, part_known, pair_of, IsProductOf, IsStreamOf, IsStreams, IsOffer}
+use Rattle.suffix_streams.specs.StreamsData.{KeepsRanks, node_list, group_list_of, node_of, group_of, place_of, next_of, lists_of, products_of, product_of, stream_of, part_known, pair_of, IsProductOf, IsStreamOf, IsStreams, IsOffer}
 use Rattle.suffix_streams.specs.Growing.{IsAnswered, IsReached}
 use Rattle.suffix_streams.proofs.Rankings.{part_ascends, group_ascends, kid}
 use Rattle.suffix_streams.proofs.Stores.{node_length, group_length}
 use Rattle.suffix_streams.proofs.State.{all_more}
 use Rattle.suffix_streams.proofs.Growth.{frontier_grows, frontier_ends}
-use Rattle.suffix_streams.proofs.Firsts.{known_within}
-use Rattle.suffix_streams.proofs.Entries.{entry_key, child_in, lefts_of, named_stream}
+use Rattle.suffix_streams.proofs.Ranks.{ranks_more}
+use Rattle.suffix_streams.proofs.Entries.{entry_key, child_in, known_inside, named_stream}
 use Rattle.suffix_streams.proofs.Changes.{changed_product, changed_known, product_set}
 
 offers_hold : {E : Type 0} (P : E → Type 0) (a b : Option E) (es : List E) → MaybeHolds P a → MaybeHolds P b → All P es → All P (offers a b es)
@@ -61,8 +61,11 @@ module _ {R : Type 0} (d : ℕ) (key : R → KeyOf d 16) (t : List (NodeData R))
   abbrev Held : Entry R Cell → Type 0
   Held = IsHeld d key (pair_key (key_add d 16) (key_none d 16) xs ys) (InProduct d xs ys) (pair_of es)
 
+  abbrev KnownCell : Cell → Type 0
+  KnownCell x = (x.left < part_known nodes v r c) × (x.right < length es) × (node_of es x.right ≡ child t v c) × (group_of es x.right ≡ group_named t v r c)
+
   abbrev Known : Entry R Cell → Type 0
-  Known e = (e.tag.left < part_known nodes v r c) × (e.tag.right < length es) × (node_of es e.tag.right ≡ child t v c) × (group_of es e.tag.right ≡ group_named t v r c)
+  Known e = KnownCell e.tag
 
   own : IsProductOf d key t es nodes v r c
   own = h.products v r c l row in_row
@@ -149,7 +152,7 @@ module _ {R : Type 0} (d : ℕ) (key : R → KeyOf d 16) (t : List (NodeData R))
   across_facts (Some x) (Some a) e o =
       let same : a.tag ≡ record { left = cell.left + 1; right = head } = o.0 ∙ e.2 in
       let k = entry_key d key t es nodes h head (child t v c) (group_named t v r c) head_in head_node head_group in
-      let inside : cell.left + 1 < length xs = known_within d key t h.tree nodes v r c (cell.left + 1) l (lefts_of d key t es nodes h v r c l row (omega arith)) e.1 in (
+      let inside : cell.left + 1 < length xs = known_inside d key t es nodes h v r c (cell.left + 1) l row (omega arith) e.1 in (
         subst (λ (z : Cell). InProduct d xs ys (pair_of es z) × (key a.rank ≡ pair_key (key_add d 16) (key_none d 16) xs ys (pair_of es z))) (sym same) ((inside, k.1), o.1 ∙ ap (λ z. pair_key (key_add d 16) (key_none d 16) xs ys (pair_of es z)) e.2),
         subst (λ (z : Cell). (z.left < part_known nodes v r c) × (z.right < length es) × (node_of es z.right ≡ child t v c) × (group_of es z.right ≡ group_named t v r c)) (sym same) (e.1, head_in, head_node, head_group),
         (
@@ -168,7 +171,7 @@ module _ {R : Type 0} (d : ℕ) (key : R → KeyOf d 16) (t : List (NodeData R))
   new_known = All-tail Known top new (All-permutation Known (offers down across old.frontier) (top ∷ new) moved (offers_hold Known down across old.frontier down_all.1 across_all.1 own.known))
 
   pub new_held : All Held new
-  new_held = held_moved d key (pair_key (key_add d 16) (key_none d 16) xs ys) (InProduct d xs ys) (pair_of es) down across top old.frontier new moved down_all.0 across_all.0 own.sums.held
+  new_held = held_moved d key (pair_key (key_add d 16) (key_none d 16) xs ys) (InProduct d xs ys) (pair_of es) down across None top old.frontier new moved down_all.0 across_all.0 tt own.sums.held
 
   -- nothing follows
   pub sums_end : new ≡ [] → (length old.found ≡ length (part_list d key t v r (suc c))) × IsFrontier d key (pair_of es) xs ys (part_list d key t v r (suc c)) old.found []
@@ -177,36 +180,53 @@ module _ {R : Type 0} (d : ℕ) (key : R → KeyOf d 16) (t : List (NodeData R))
       (subst (λ z. IsPermutation (offers down across old.frontier) (top ∷ z)) e moved) down_all.0 across_all.0 top_held.0 down_all.2 across_all.2
 
   -- the cells of the sums found stay known
-  pub kept_known : All Known old.found
+  pub kept_known : All KnownCell old.found
   kept_known = own.found_known
 
-  pub next_known : (next : Entry R Cell) → 0 < length new → next ≡ get_or new 0 next → All Known (old.found ++ (next ∷ []))
-  next_known next more is_next = all_more Known old.found next own.found_known (subst Known (sym is_next) (All-get_or Known new 0 next more new_known))
+  pub next_known : (next : Entry R Cell) → 0 < length new → next ≡ get_or new 0 next → All KnownCell (old.found ++ (next.tag ∷ []))
+  next_known next more is_next = all_more KnownCell old.found next.tag own.found_known (subst Known (sym is_next) (All-get_or Known new 0 next more new_known))
+
+  next_sum : (next : Entry R Cell) → 0 < length new → next ≡ get_or new 0 next → IsLeast d key next new
+      → (length old.found < length (part_list d key t v r (suc c))) × (get_or (part_list d key t v r (suc c)) (length old.found) (key_none d 16) ≡ key next.rank)
+      × IsFrontier d key (pair_of es) xs ys (part_list d key t v r (suc c)) (old.found ++ (next.tag ∷ [])) new
+  next_sum next more is_next next_least =
+      frontier_grows d key xs ys (part_list d key t v r (suc c)) (part_ascends d key t v r c) (group_ascends d key t (child t v c) (group_named t v r c)) (pair_of es) old.found old.frontier new down across top next own.sums some is_top least
+      moved down_all.0 across_all.0 top_held.0 down_all.2 across_all.2 more is_next next_least
 
   -- the next sum
-  pub sums_grow : (next : Entry R Cell) → 0 < length new → next ≡ get_or new 0 next → IsLeast d key next new → IsFrontier d key (pair_of es) xs ys (part_list d key t v r (suc c)) (old.found ++ (next ∷ [])) new
-  sums_grow next more is_next next_least =
-      (frontier_grows d key xs ys (part_list d key t v r (suc c)) (part_ascends d key t v r c) (group_ascends d key t (child t v c) (group_named t v r c)) (pair_of es) old.found old.frontier new down across top next own.sums some is_top least
-      moved down_all.0 across_all.0 top_held.0 down_all.2 across_all.2 more is_next next_least).1
+  pub sums_grow : (next : Entry R Cell) → 0 < length new → next ≡ get_or new 0 next → IsLeast d key next new → IsFrontier d key (pair_of es) xs ys (part_list d key t v r (suc c)) (old.found ++ (next.tag ∷ [])) new
+  sums_grow next more is_next next_least = (next_sum next more is_next next_least).2
 
-  cells_after : (p : ProductData R) → (rises : length old.found ≤ length p.found) → (es1 es2 : List (Entry R Cell)) → es2 ≡ es1 → All Known es1
-      → All (λ (e : Entry R Cell). (e.tag.left < part_known (slice_set nodes v (with_product (lists_of nodes v) r c p)) v r c) × (e.tag.right < length es) × (node_of es e.tag.right ≡ child t v c) × (group_of es e.tag.right ≡ group_named t v r c)) es2
-  cells_after p rises es1 es2 same a =
-      subst (All (λ (e : Entry R Cell). (e.tag.left < part_known (slice_set nodes v (with_product (lists_of nodes v) r c p)) v r c) × (e.tag.right < length es) × (node_of es e.tag.right ≡ child t v c) × (group_of es e.tag.right ≡ group_named t v r c))) (sym same)
-      (All-weaker Known (λ (e : Entry R Cell). (e.tag.left < part_known (slice_set nodes v (with_product (lists_of nodes v) r c p)) v r c) × (e.tag.right < length es) × (node_of es e.tag.right ≡ child t v c) × (group_of es e.tag.right ≡ group_named t v r c))
-      (λ e k. (omega (arith, k.0, changed_known d key t es nodes h v r c p l row in_row rises v r c), k.1, k.2, k.3)) es1 a)
+  -- its rank is kept too, if the product keeps ranks
+  pub ranks_grow : (next : Entry R Cell) → 0 < length new → next ≡ get_or new 0 next → IsLeast d key next new → (p : ProductData R) → p.found ≡ old.found ++ (next.tag ∷ []) → p.ranks ≡ with_rank old.ranks next.rank
+      → suc c < child_count t v → KeepsRanks d key (part_list d key t v r (suc c)) p
+  ranks_grow next more is_next next_least p found ranks few =
+      let s = next_sum next more is_next next_least in
+      ranks_more d key (part_list d key t v r (suc c)) old p next found ranks s.0 s.1 (own.ranked few)
+
+  pub ranks_kept : suc c < child_count t v → KeepsRanks d key (part_list d key t v r (suc c)) old
+  ranks_kept few = own.ranked few
+
+  abbrev KnownAfter : ProductData R → Cell → Type 0
+  KnownAfter p x = (x.left < part_known (slice_set nodes v (with_product (lists_of nodes v) r c p)) v r c) × (x.right < length es) × (node_of es x.right ≡ child t v c) × (group_of es x.right ≡ group_named t v r c)
+
+  cells_after : {E : Type 0} (at : E → Cell) (p : ProductData R) → (rises : length old.found ≤ length p.found) → (es1 es2 : List E) → es2 ≡ es1 → All (λ e. KnownCell (at e)) es1 → All (λ e. KnownAfter p (at e)) es2
+  cells_after at p rises es1 es2 same a =
+      subst (All (λ e. KnownAfter p (at e))) (sym same)
+      (All-weaker (λ e. KnownCell (at e)) (λ e. KnownAfter p (at e)) (λ e k. (omega (arith, k.0, changed_known d key t es nodes h v r c p l row in_row rises v r c), k.1, k.2, k.3)) es1 a)
 
   -- the invariants after the step
-  pub step_holds : (p : ProductData R) → p.frontier ≡ new → length new < 2 ^ 64 → (rises : length old.found ≤ length p.found) → All Known p.found → IsFrontier d key (pair_of es) xs ys (part_list d key t v r (suc c)) p.found new
-      → IsStreams d key t es (slice_set nodes v (with_product (lists_of nodes v) r c p))
-  step_holds p same few rises found_known f =
+  pub step_holds : (p : ProductData R) → p.frontier ≡ new → length new < 2 ^ 64 → (rises : length old.found ≤ length p.found) → All KnownCell p.found → IsFrontier d key (pair_of es) xs ys (part_list d key t v r (suc c)) p.found new
+      → (suc c < child_count t v → KeepsRanks d key (part_list d key t v r (suc c)) p) → IsStreams d key t es (slice_set nodes v (with_product (lists_of nodes v) r c p))
+  step_holds p same few rises found_known f ranked =
       product_set d key t es nodes h v r c p l row in_row rises
       (record {
         few = subst (λ z. length z < 2 ^ 64) (sym (at_frontier ∙ same)) few;
-        known = cells_after p rises new (product_of (slice_set nodes v (with_product (lists_of nodes v) r c p)) v r c).frontier (at_frontier ∙ same) new_known;
-        found_known = cells_after p rises p.found (product_of (slice_set nodes v (with_product (lists_of nodes v) r c p)) v r c).found (ap (λ z. z.found) at_product) found_known;
+        known = cells_after (λ (e : Entry R Cell). e.tag) p rises new (product_of (slice_set nodes v (with_product (lists_of nodes v) r c p)) v r c).frontier (at_frontier ∙ same) new_known;
+        found_known = cells_after (λ (x : Cell). x) p rises p.found (product_of (slice_set nodes v (with_product (lists_of nodes v) r c p)) v r c).found (ap (λ z. z.found) at_product) found_known;
         sums = subst (λ (z : ProductData R). IsFrontier d key (pair_of es) xs ys (part_list d key t v r (suc c)) z.found z.frontier) (sym at_product)
             (subst (λ (z : List (Entry R Cell)). IsFrontier d key (pair_of es) xs ys (part_list d key t v r (suc c)) p.found z) (sym same) f);
+        ranked = λ less. subst (λ (z : ProductData R). KeepsRanks d key (part_list d key t v r (suc c)) z) (sym at_product) (ranked less);
       })
     where
       at_product : product_of (slice_set nodes v (with_product (lists_of nodes v) r c p)) v r c ≡ p

@@ -96,21 +96,21 @@ module _ {R : Type 0} (d : ℕ) (key : R → KeyOf d 16) (t : List (NodeData R))
           omega (arith, count, limit)
     ]
       where
-        no_product : (xs : List (List (ProductData R))) → length xs ≤ r → length (get_or (get_or xs r []) c (record { found = []; frontier = []; room = 0; frontier_room = 0 })).frontier ≡ 0
-        no_product xs l = ap (λ (ps : List (ProductData R)). length (get_or ps c (record { found = []; frontier = []; room = 0; frontier_room = 0 })).frontier) (get_past xs r [] l)
+        no_product : (xs : List (List (ProductData R))) → length xs ≤ r → length (get_or (get_or xs r []) c (record { found = []; ranks = []; frontier = []; room = 0; frontier_room = 0 })).frontier ≡ 0
+        no_product xs l = ap (λ (ps : List (ProductData R)). length (get_or ps c (record { found = []; ranks = []; frontier = []; room = 0; frontier_room = 0 })).frontier) (get_past xs r [] l)
 
         limit : length (product_of nodes' v r c).frontier ≤ 2 ^ 64
         limit = elim (cases_lt v (length t)) [
           | inl lv ↦ elim (cases_lt r (rows t v)) [
             | inl lr ↦ elim (cases_lt c (length (products_of nodes' v r))) [
               | inl lc ↦ let f = (s.products v r c lv lr lc).few in omega arith
-              | inr past ↦ omega (arith, ap (λ (p : ProductData R). length p.frontier) (get_past (products_of nodes' v r) c (record { found = []; frontier = []; room = 0; frontier_room = 0 }) past))
+              | inr past ↦ omega (arith, ap (λ (p : ProductData R). length p.frontier) (get_past (products_of nodes' v r) c (record { found = []; ranks = []; frontier = []; room = 0; frontier_room = 0 }) past))
             ]
             | inr past ↦ omega (arith, no_product (lists_of nodes' v).products (omega (arith, past, s.all_rows v lv, open_few (child_count t v) (rows t v))))
           ]
           | inr past ↦
               let none : lists_of nodes' v ≡ record { children = []; streams = []; products = [] } = get_past nodes' v (record { children = []; streams = []; products = [] }) (omega (arith, past, s.all_nodes)) in
-              omega (arith, ap (λ (n : NodeLists R). length (get_or (get_or n.products r []) c (record { found = []; frontier = []; room = 0; frontier_room = 0 })).frontier) none)
+              omega (arith, ap (λ (n : NodeLists R). length (get_or (get_or n.products r []) c (record { found = []; ranks = []; frontier = []; room = 0; frontier_room = 0 })).frontier) none)
         ]
 
 -- the entry that follows, as callers see it

@@ -1,5 +1,5 @@
 -- The streams of a tree at their start, as callers see them, and the steps of making them.
-use Rattle.std.proofs.Common.{◌≡◌, ℕ, zero, suc, ◌+◌, ◌-◌, ◌*◌, ◌<◌, ◌≤◌, List, length, ap, ◌∙◌, arith}
+use Rattle.std.proofs.Common.{◌≡◌, ℕ, zero, suc, ◌+◌, ◌-◌, ◌*◌, ◌≤◌, List, length, ap, arith}
 use Rattle.stream_store.specs.declared.entry.Linked.{Linked}
 use Rattle.tdp_model.specs.KeyTuple.{KeyOf}
 use Rattle.tdp_model.specs.TreeProblem.{sum_from}
@@ -32,15 +32,9 @@ module _ {R : Type 0} (d : ℕ) (key : R → KeyOf d 16) (t : List (NodeData R))
   pub rows_within : (v : ℕ) → v ≤ length t → rows_from d key t v ≤ row_count t
   rows_within v l = omega (arith, rows_falls v l, rows_whole)
 
-  share : (m a n : ℕ) → a ≤ n → 8 * m * a ≤ 16 * m * (1 + n)
-  share m a n l = let x : m * a ≤ m * n = grind arith in omega (arith, x)
+  share : (m a n : ℕ) → 1 ≤ m → a ≤ n → 4 * a ≤ 16 * m * (1 + n)
+  share m a n some l = let x : 16 * (1 + n) ≤ 16 * m * (1 + n) = grind arith in omega (arith, x)
 
   -- the steps for the nodes from v
-  pub start_steps : (v : ℕ) → v ≤ length t → 8 * length t * rows_from d key t v ≤ 16 * length t * (1 + row_count t)
-  start_steps v l = share (length t) (rows_from d key t v) (row_count t) (rows_within v l)
-
-  pub steps_more : (v w : ℕ) → v < length t → w ≡ v + 1 → 8 * length t * rows_from d key t v ≡ 8 * length t * rows t v + 8 * length t * rows_from d key t w
-  steps_more v w l e = ap (λ z. 8 * length t * z) (rows_more d key t v w l e) ∙ apart (8 * length t) (rows t v) (rows_from d key t w)
-    where
-      apart : (a b c : ℕ) → a * (b + c) ≡ a * b + a * c
-      apart a b c = omega arith
+  pub start_steps : IsFormed d key t → (v : ℕ) → v ≤ length t → 4 * rows_from d key t v ≤ 16 * length t * (1 + row_count t)
+  start_steps formed v l = share (length t) (rows_from d key t v) (row_count t) formed.shaped.some_node (rows_within v l)

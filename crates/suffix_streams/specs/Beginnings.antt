@@ -1,29 +1,22 @@
 -- The streams of a tree while they are made.
-use Rattle.std.specs.Prelude.{◌≡◌, ℕ, ◌<◌, ◌≤◌, suc, None, cond, nat_lt, List, [], ◌∷◌, length, slice_index, slice_index_or}
+use Rattle.std.specs.Prelude.{◌≡◌, ℕ, ◌<◌, ◌≤◌, None, cond, nat_lt, List, [], ◌∷◌, length, slice_index, slice_index_or}
 use Rattle.stream_store.specs.declared.entry.Linked.{Linked}
 use Rattle.take2_heap.specs.declared.entry.Entry.{Entry}
-use Rattle.tdp_core.specs.TreeData.{NodeData, members, group_count, child_count, rows, best}
+use Rattle.tdp_core.specs.TreeData.{NodeData, group_count, child_count, rows}
 use Rattle.tdp_model.specs.KeyTuple.{KeyOf, key_none}
-use Rattle.tdp_model.specs.Product.{Pair}
 use Rattle.stream_model.specs.Links.{owned}
 use Rattle.suffix_streams.specs.declared.stream.Found.{Found}
 use Rattle.stream_cells.specs.declared.source.Source.{Source}
 use Rattle.suffix_streams.specs.NodeLists.{NodeLists}
+use Rattle.suffix_streams.specs.Firsts.{IsFirstOf}
 use Rattle.suffix_streams.specs.Rankings.{child, group_list}
-use Rattle.suffix_streams.specs.StreamsData.{open_rows, node_list, group_list_of, node_of, group_of, next_of, lists_of, stream_of, products_of, run_of, HasKey}
+use Rattle.suffix_streams.specs.StreamsData.{open_rows, node_list, group_list_of, node_of, group_of, next_of, lists_of, stream_of, products_of, HasKey}
 
--- the entries stand for the first solutions of the members r, r + 1 and so on
-abbrev pub AreHeads : {R T : Type 0} (d : ℕ) → (R → KeyOf d 16) → (T → Pair) → (ℕ → KeyOf d 16) → ℕ
-    → List (Entry R T) → Type 0
-AreHeads d key at best_at r [] = Unit {0}
-AreHeads d key at best_at r (e ∷ es) = (at e.tag ≡ record { left = r; right = 0 })
-    × (key e.rank ≡ best_at r) × AreHeads d key at best_at (suc r) es
-
--- the queue has the first solution of each member of group g of node q, in the order of the group
-abbrev pub HasHeads : {R : Type 0} (d : ℕ) → (R → KeyOf d 16) → List (NodeData R) → ℕ → ℕ
-    → List (Entry R Source) → Type 0
-HasHeads d key t q g queue = (length queue ≡ length (members t q g))
-    × AreHeads d key run_of (λ i. best t d key q (slice_index (members t q g) i)) 0 queue
+-- the queue has the first solution of the first member of group g of node q, which stands for all
+abbrev pub HasFirst : {R : Type 0} (d : ℕ) → (R → KeyOf d 16) → List (NodeData R)
+    → List (Linked (Found R)) → ℕ → ℕ → List (Entry R Source) → Type 0
+HasFirst {R} d key t es q g queue = (e : Entry R Source) × (queue ≡ e ∷ [])
+    × IsFirstOf d key t es q g 0 e
 
 module _ {R : Type 0} (t : List (NodeData R)) where
   -- the children of node v in ascending order
@@ -50,7 +43,7 @@ module _ {R : Type 0} (d : ℕ) (key : R → KeyOf d 16) (t : List (NodeData R))
     pub top : (x : Linked (Found R)) (e : Entry R Source)
         → (slice_index_or es (stream_of nodes q g).head x).value.solution
         ≡ slice_index_or (stream_of nodes q g).queue 0 e
-    pub heads : HasHeads d key t q g (stream_of nodes q g).queue
+    pub only : HasFirst d key t es q g (stream_of nodes q g).queue
 
   -- the streams that are there have only their heads, and no row has products
   pub record IsBegun : Type 0 where

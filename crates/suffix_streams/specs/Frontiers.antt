@@ -3,22 +3,27 @@ use Rattle.std.specs.Prelude.{◌≡◌, ℕ, ◌<◌, ◌≤◌, List, map, len
 use Rattle.std.specs.List.{All}
 use Rattle.take2_heap.specs.declared.entry.Entry.{Entry}
 use Rattle.tdp_model.specs.KeyTuple.{KeyOf, key_below, key_add, key_none}
-use Rattle.tdp_model.specs.Product.{Pair, pair_key, stands_for, runs_to, run_key}
+use Rattle.tdp_model.specs.Product.{Pair, pair_key, stands_for, run_key}
 use Rattle.stream_model.specs.Ahead.{IsAhead}
 use Rattle.stream_model.specs.Held.{IsHeld, places, InProduct, InRuns}
+use Rattle.stream_model.specs.Reaches.{reaches}
 
 -- some of the ranking's first members, by their keys
+abbrev pub AreFirstBy : {X : Type 0} (d : ℕ) → (X → KeyOf d 16) → List X
+    → List (KeyOf d 16) → Type 0
+AreFirstBy d key_at xs ks = (0 < length xs) × (length xs ≤ length ks)
+    × (map key_at xs ≡ take (length xs) ks)
+
 abbrev pub AreFirst : {R T : Type 0} (d : ℕ) → (R → KeyOf d 16) → List (Entry R T)
     → List (KeyOf d 16) → Type 0
-AreFirst d key xs ks = (0 < length xs) × (length xs ≤ length ks)
-    × (map (λ e. key e.rank) xs ≡ take (length xs) ks)
+AreFirst d key xs ks = AreFirstBy d (λ e. key e.rank) xs ks
 
--- the first sums of xs and ys, in the order of their ranking zs, and a queue of what follows
+-- the first sums of xs and ys, by the places of their parts, in the order of their ranking zs, and
+-- a queue of what follows
 pub record IsFrontier {R T : Type 0} (d : ℕ) (key : R → KeyOf d 16) (at : T → Pair)
-    (xs ys zs : List (KeyOf d 16)) (found frontier : List (Entry R T)) : Type 0 where
-  pub prefix : AreFirst d key found zs
-  pub kept : All (IsHeld d key (pair_key (key_add d 16) (key_none d 16) xs ys)
-      (InProduct d xs ys) at) found
+    (xs ys zs : List (KeyOf d 16)) (found : List T) (frontier : List (Entry R T)) : Type 0 where
+  pub prefix : AreFirstBy d (λ c. pair_key (key_add d 16) (key_none d 16) xs ys (at c)) found zs
+  pub kept : All (λ c. InProduct d xs ys (at c)) found
   pub held : All (IsHeld d key (pair_key (key_add d 16) (key_none d 16) xs ys)
       (InProduct d xs ys) at) frontier
   pub ahead : IsAhead Pair (KeyOf d 16) (key_below d 16)
@@ -33,4 +38,4 @@ pub record IsMerge {R T : Type 0} (d : ℕ) (key : R → KeyOf d 16) (at : T →
   pub kept : All (IsHeld d key (run_key (key_none d 16) lists) (InRuns d n lists) at) found
   pub held : All (IsHeld d key (run_key (key_none d 16) lists) (InRuns d n lists) at) queue
   pub ahead : IsAhead Pair (KeyOf d 16) (key_below d 16) (run_key (key_none d 16) lists)
-      (runs_to n (λ r. length (lists r))) (InRuns d n lists) zs (length found) (places at queue)
+      (reaches n (λ r. length (lists r))) (InRuns d n lists) zs (length found) (places at queue)

@@ -1,11 +1,12 @@
 pub mod ProductData
 pub mod StreamData
+pub mod OpenedRows
 pub mod NodeLists
 pub mod Rankings
 pub mod Frontiers
 pub mod StreamsData
-pub mod Parts
 pub mod Growing
 pub mod StreamsView
+pub mod Firsts
 pub mod Beginnings
 pub mod Refusals

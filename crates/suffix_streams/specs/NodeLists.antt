@@ -15,10 +15,10 @@ pub record NodeLists (R : Type 0) : Type 0 where
 module _ {R : Type 0} (n : NodeLists R) where
   abbrev pub product_at : ℕ → ℕ → ProductData R
   product_at r c = slice_index_or (slice_index_or n.products r []) c
-      (record { found = []; frontier = []; room = 0; frontier_room = 0 })
+      (record { found = []; ranks = []; frontier = []; room = 0; frontier_room = 0 })
 
   abbrev pub stream_at : ℕ → StreamData R
-  stream_at g = slice_index_or n.streams g (record { head = 0; queue = [] })
+  stream_at g = slice_index_or n.streams g (record { head = 0; queue = []; room = 0 })
 
   -- the number of known solutions of row r with its first c children
   abbrev pub known_of : ℕ → ℕ → ℕ
@@ -30,6 +30,7 @@ module _ {R : Type 0} (n : NodeLists R) where
   with_product r c p = record n
       { products = slice_set n.products r (slice_set (slice_index_or n.products r []) c p) }
 
-  -- the node with another queue of group g
-  abbrev pub with_queue : ℕ → List (Entry R Source) → NodeLists R
-  with_queue g q = record n { streams = slice_set n.streams g (record (stream_at g) { queue = q }) }
+  -- the node with another queue of group g, which has room for k more entries
+  abbrev pub with_queue : ℕ → List (Entry R Source) → ℕ → NodeLists R
+  with_queue g q k = record n
+      { streams = slice_set n.streams g (record (stream_at g) { queue = q; room = k }) }

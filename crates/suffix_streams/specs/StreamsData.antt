@@ -16,7 +16,7 @@ use Rattle.suffix_streams.specs.ProductData.{ProductData}
 use Rattle.suffix_streams.specs.StreamData.{StreamData}
 use Rattle.suffix_streams.specs.NodeLists.{NodeLists, product_at, stream_at, known_of}
 use Rattle.suffix_streams.specs.Rankings.{child, part_list, group_list}
-use Rattle.suffix_streams.specs.Frontiers.{AreFirst, IsFrontier, IsMerge}
+use Rattle.suffix_streams.specs.Frontiers.{AreFirstBy, IsFrontier, IsMerge}
 
 -- # The store
 
@@ -93,19 +93,58 @@ pair_of es c = record { left = c.left; right = place_of es c.right }
 abbrev pub run_of : Source → Pair
 run_of s = record { left = s.member; right = s.place }
 
--- the known solutions of row r of node v with its first c children are in their product; with no
--- child there is one
+-- the product keeps the rank of each of its solutions, which are the first of the ranking ks
+abbrev pub KeepsRanks : {R : Type 0} (d : ℕ) → (R → KeyOf d 16) → List (KeyOf d 16) → ProductData R
+    → Type 0
+KeepsRanks d key ks p = (length p.ranks ≡ length p.found) × AreFirstBy d key p.ranks ks
+
+-- the ranks of the known solutions of row r of node v with its first c children are in their
+-- product; with no child there is one solution, whose rank is the row's
 abbrev pub AreLefts : {R : Type 0} (d : ℕ) (key : R → KeyOf d 16) → List (NodeData R)
     → List (NodeLists R) → ℕ → ℕ → ℕ → Type 0
 AreLefts d key t nodes v r zero = Unit {0}
-AreLefts d key t nodes v r (suc c) = AreFirst d key (product_of nodes v r c).found
-    (part_list d key t v r (suc c))
+AreLefts d key t nodes v r (suc c) = KeepsRanks d key (part_list d key t v r (suc c))
+    (product_of nodes v r c)
 
 -- the solution that entry i stands for has this key
 abbrev pub HasKey : {R : Type 0} (d : ℕ) → (R → KeyOf d 16) → List (Linked (Found R)) → ℕ
     → KeyOf d 16 → Type 0
 HasKey {R} d key es i k = (x : Linked (Found R))
     → key (slice_index_or es i x).value.solution.rank ≡ k
+
+-- # The parts of a solution
+
+-- The solution at this place, of row r of node v with its first c children, is known. Of a row
+-- without products it is the first one.
+pub record IsKnownPart {R : Type 0} (nodes : List (NodeLists R)) (v r c place : ℕ) : Type 0 where
+  pub found : 0 < length (products_of nodes v r) → place < part_known nodes v r c
+  pub first : length (products_of nodes v r) ≡ 0 → place ≡ 0
+
+-- the solution at this place, of row r of node v with its first c + 1 children, is the sum of the
+-- cell's parts
+pub record IsSumOf {R : Type 0} (d : ℕ) (key : R → KeyOf d 16) (t : List (NodeData R))
+    (es : List (Linked (Found R))) (nodes : List (NodeLists R)) (v r c place : ℕ)
+    (cell : Cell) : Type 0 where
+  pub left : IsKnownPart nodes v r c cell.left
+  pub right : cell.right < length es
+  pub node : node_of es cell.right ≡ child t v c
+  pub group : group_of es cell.right ≡ group_named t v r c
+  pub sum : slice_index_or (part_list d key t v r (c + 1)) place (key_none d 16)
+      ≡ key_add d 16 (slice_index_or (part_list d key t v r c) cell.left (key_none d 16))
+      (slice_index_or (group_list d key t (child t v c) (group_named t v r c))
+      (place_of es cell.right) (key_none d 16))
+  pub fits : KeyFits d
+      (key_add d 16 (slice_index_or (part_list d key t v r c) cell.left (key_none d 16))
+      (slice_index_or (group_list d key t (child t v c) (group_named t v r c))
+      (place_of es cell.right) (key_none d 16)))
+
+-- the cell of the source has the parts of its solution, which is one of group g of node q, if the
+-- node has children
+abbrev pub HasOwnParts : {R : Type 0} (d : ℕ) → (R → KeyOf d 16) → List (NodeData R)
+    → List (Linked (Found R)) → List (NodeLists R) → ℕ → ℕ → Source → Type 0
+HasOwnParts d key t es nodes q g s =
+    (c : ℕ) → child_count t q ≡ suc c
+    → IsSumOf d key t es nodes q (slice_index (members t q g) s.member) c s.place s.cell
 
 -- # The invariants
 
@@ -122,6 +161,8 @@ module _ {R : Type 0} (d : ℕ) (key : R → KeyOf d 16) (t : List (NodeData R))
         < row_known nodes q (slice_index (members t q g) e.tag.member)) (stream_of nodes q g).queue
     pub found_known : All (λ e. e.tag.place
         < row_known nodes q (slice_index (members t q g) e.tag.member)) (stream es q g)
+    pub parts : All (λ e. HasOwnParts d key t es nodes q g e.tag) (stream_of nodes q g).queue
+    pub found_parts : All (λ e. HasOwnParts d key t es nodes q g e.tag) (stream es q g)
     pub merge : IsMerge d key run_of (length (members t q g))
         (λ i. part_list d key t q (slice_index (members t q g) i) (child_count t q))
         (group_list d key t q g) (stream es q g) (stream_of nodes q g).queue
@@ -133,13 +174,14 @@ module _ {R : Type 0} (d : ℕ) (key : R → KeyOf d 16) (t : List (NodeData R))
     pub known : All (λ e. (e.tag.left < part_known nodes v r c) × (e.tag.right < length es)
         × (node_of es e.tag.right ≡ child t v c) × (group_of es e.tag.right ≡ group_named t v r c))
         (product_of nodes v r c).frontier
-    pub found_known : All
-        (λ e. (e.tag.left < part_known nodes v r c) × (e.tag.right < length es)
-        × (node_of es e.tag.right ≡ child t v c) × (group_of es e.tag.right ≡ group_named t v r c))
+    pub found_known : All (λ x. (x.left < part_known nodes v r c) × (x.right < length es)
+        × (node_of es x.right ≡ child t v c) × (group_of es x.right ≡ group_named t v r c))
         (product_of nodes v r c).found
     pub sums : IsFrontier d key (pair_of es) (part_list d key t v r c)
         (group_list d key t (child t v c) (group_named t v r c)) (part_list d key t v r (suc c))
         (product_of nodes v r c).found (product_of nodes v r c).frontier
+    pub ranked : suc c < child_count t v
+        → KeepsRanks d key (part_list d key t v r (suc c)) (product_of nodes v r c)
 
   pub record IsStreams : Type 0 where
     pub tree : IsFormed d key t
@@ -171,6 +213,12 @@ module _ {R : Type 0} (d : ℕ) (key : R → KeyOf d 16) (t : List (NodeData R))
         → group_named t v r c < length (lists_of nodes (child t v c)).streams
     pub heads : (c : ℕ) → c < child_count t v
         → (stream_of nodes (child t v c) (group_named t v r c)).head < length es
+    pub owners : (c : ℕ) → c < child_count t v
+        → (node_of es (stream_of nodes (child t v c) (group_named t v r c)).head ≡ child t v c)
+        × (group_of es (stream_of nodes (child t v c) (group_named t v r c)).head
+        ≡ group_named t v r c)
+    pub places : (c : ℕ) → c < child_count t v
+        → place_of es (stream_of nodes (child t v c) (group_named t v r c)).head ≡ 0
     pub keys : (c : ℕ) → c < child_count t v
         → HasKey d key es (stream_of nodes (child t v c) (group_named t v r c)).head
         (slice_index_or (group_list d key t (child t v c) (group_named t v r c)) 0 (key_none d 16))
@@ -209,16 +257,18 @@ IsOffer d key t es v r c (Some x) (Some e) =
     ≡ pair_key (key_add d 16) (key_none d 16) (part_list d key t v r c)
     (group_list d key t (child t v c) (group_named t v r c)) (pair_of es x))
 
--- the product begins with the first solution of row r of node v with its first c + 1 children
+-- The product begins with the first solution of row r of node v with its first c + 1 children. It
+-- keeps its rank if it is not the last product of the row.
 abbrev pub IsFreshAt : {R : Type 0} (d : ℕ) (key : R → KeyOf d 16) → List (NodeData R)
     → List (NodeLists R) → ℕ → ℕ → ℕ → ProductData R → Type 0
 IsFreshAt {R} d key t nodes v r c p =
-    (e : Entry R Cell) × (p.found ≡ e ∷ []) × (p.frontier ≡ e ∷ [])
+    (e : Entry R Cell) × (p.found ≡ e.tag ∷ []) × (p.frontier ≡ e ∷ [])
     × (e.tag ≡ record {
       left = 0;
       right = (stream_of nodes (child t v c) (group_named t v r c)).head;
     })
     × (key e.rank ≡ slice_index_or (part_list d key t v r (suc c)) 0 (key_none d 16))
+    × (suc c < child_count t v → p.ranks ≡ e.rank ∷ [])
 
 -- n products that begin with the first solutions of row r of node v
 pub record AreFreshTo {R : Type 0} (d : ℕ) (key : R → KeyOf d 16) (t : List (NodeData R))

@@ -1,15 +1,16 @@
 //! The streams of a tree at their start, when each has only its head.
-ghost use Rattle.std.specs.Prelude.{◌≡◌, ◌≢◌, ℕ, ◌+◌, ◌*◌, ◌<◌, ◌≤◌, [], ◌∷◌, ◌++◌, None, map, length, slice_index_or, IfOk, OnOk};
+ghost use Rattle.std.specs.Prelude.{◌≡◌, ◌≢◌, ℕ, ◌+◌, ◌*◌, ◌<◌, ◌≤◌, [], ◌∷◌, ◌++◌, None, length, slice_index, slice_index_or, IfOk, OnOk};
 ghost use Rattle.stream_store.specs.declared.entry.Linked.{Linked};
-ghost use Rattle.tdp_core.specs.TreeData.{rows, members, group_count, child_count};
+ghost use Rattle.tdp_core.specs.TreeData.{rows, group_count, child_count, members};
 ghost use Rattle.tdp_core.specs.WellFormed.{IsFormed};
 ghost use Rattle.tdp_model.specs.KeyTuple.{key_none};
 ghost use Rattle.suffix_streams.specs.Rankings.{group_list};
-ghost use Rattle.suffix_streams.specs.StreamsData.{open_rows, lists_of};
-ghost use Rattle.suffix_streams.specs.Beginnings.{AreChildren, IsEmptyNode, HasHeads, IsBegunFrom};
+ghost use Rattle.suffix_streams.specs.StreamsData.{open_rows, lists_of, IsHeaded};
+ghost use Rattle.suffix_streams.specs.Beginnings.{AreChildren, IsEmptyNode, HasFirst, IsBegunFrom};
 
+use crate::members::first_solution;
 use crate::node::NodeStreams;
-use crate::product::Product;
+use crate::opened::RowProducts;
 use crate::stream::{Found, Stream};
 use rank_key::Rank;
 use std::alloc::Allocator;
@@ -39,22 +40,6 @@ fn children_of<R: Rank, A: Allocator + Clone>(
     Ok(children)
 }
 
-/// An empty list of products for each of `rows` rows.
-fn no_products<R: Rank, A: Allocator + Clone>(
-    alloc: &A,
-    rows: u32,
-) -> Result<Vec<Vec<Product<R, A>, A>, A>, NoMemory>
-    ensures count { IfOk result (λ v. length v.items ≡ rows) }
-    ensures none { IfOk result
-        (λ v. (r : ℕ) → slice_index_or (map (λ p. p.items) v.items) r [] ≡ []) }
-{
-    let mut products = Vec::with_capacity(alloc.clone()?, rows as usize)?;
-    for _ in 0..rows {
-        products.push(Vec::new(alloc.clone()?))?;
-    }
-    Ok(products)
-}
-
 /// The number of rows whose products can be kept: 0 if the node has no children, else all.
 fn rows_to_open(children: usize, rows: u32) -> u32
     ensures { result ≡ open_rows children rows }
@@ -72,7 +57,7 @@ fn empty_node<R: Rank, A: Allocator + Clone>(
     ensures { IfOk result (IsEmptyNode tree.now node) }
 {
     let children = children_of(alloc, tree, node)?;
-    let products = no_products(alloc, rows_to_open(children.len(), tree.len(node)))?;
+    let products = RowProducts::with_rows(alloc, rows_to_open(children.len(), tree.len(node)))?;
     let streams = Vec::with_capacity(alloc.clone()?, tree.groups(node) as usize)?;
     Ok(NodeStreams {
         children,
@@ -97,38 +82,12 @@ pub(crate) fn empty_nodes<R: Rank, A: Allocator + Clone>(
     Ok(nodes)
 }
 
-/// The first solutions of a group's members, in the order of the group. It takes two steps for each
+/// The stream of a group with its head. The queue has the first solution of the group's first
 /// member.
-fn heads_of<R: Rank, A: Allocator + Clone, L: Ledger>(
-    alloc: &A,
-    tree: &Tree<R>,
-    node: u32,
-    group: u32,
-    steps: &mut Steps<L>,
-) -> Result<Vec<Entry<R, Source>, A>, NoMemory>
-    requires formed { IsFormed R.KEYS R.key tree.now }
-    requires node { node < length tree.now }
-    requires group { group < group_count tree.now node }
-    ensures heads { IfOk result (λ heads. HasHeads R.KEYS R.key tree.now node group heads.items) }
-    ensures cost { steps.new ≤ steps.old + 2 * length (members tree.now node group) }
-{
-    let members = tree.group_len(node, group);
-    let mut heads = Vec::with_capacity(alloc.clone()?, members as usize)?;
-    for member in 0..members {
-        let row = tree.member(node, group, member, steps);
-        let rank = tree.best(node, row, steps);
-        heads.push(Entry {
-            rank,
-            tag: Source { member, place: 0 },
-        })?;
-    }
-    Ok(heads)
-}
-
-/// The stream of a group with its head. The queue has the first solutions of all members.
 fn first_stream<R: Rank, A: Allocator + Clone, L: Ledger>(
     alloc: &A,
     tree: &Tree<R>,
+    nodes: &[NodeStreams<R, A>],
     entries: &mut Store<Found<R>, A>,
     node: u32,
     group: u32,
@@ -137,18 +96,22 @@ fn first_stream<R: Rank, A: Allocator + Clone, L: Ledger>(
     requires formed { IsFormed R.KEYS R.key tree.now }
     requires node { node < length tree.now }
     requires group { group < group_count tree.now node }
+    requires headed { IsHeaded R.KEYS R.key tree.now entries.old.entries nodes.now node
+        (slice_index (members tree.now node group) 0) }
     ensures head { IfOk result (λ s. s.head ≡ length entries.old.entries) }
-    ensures heads { IfOk result (λ s. HasHeads R.KEYS R.key tree.now node group s.queue) }
+    ensures only { IfOk result
+        (λ s. HasFirst R.KEYS R.key tree.now entries.old.entries node group s.queue) }
     ensures entry { IfOk result (λ s.
         (e : Linked (Found R)) × (entries.new.entries ≡ entries.old.entries ++ e ∷ [])
         × (e.value.node ≡ node) × (e.value.group ≡ group) × (e.next ≡ None)
         × (R.key e.value.solution.rank
         ≡ slice_index_or (group_list R.KEYS R.key tree.now node group) 0 (key_none R.KEYS 16))
         × ((d : Entry R Source) → e.value.solution ≡ slice_index_or s.queue 0 d)) }
-    ensures cost { steps.new ≤ steps.old + 2 * length (members tree.now node group) + 1 }
+    ensures cost { steps.new ≤ steps.old + 4 }
 {
-    let heads = heads_of(alloc, tree, node, group, steps)?;
-    let solution = heads[0];
+    let solution = first_solution(tree, nodes, entries, node, group, 0, steps);
+    let mut queue = Vec::with_capacity(alloc.clone()?, 1)?;
+    queue.push(solution)?;
     entries.reserve(1)?;
     let head = entries.push_reserved(
         Found {
@@ -160,7 +123,7 @@ fn first_stream<R: Rank, A: Allocator + Clone, L: Ledger>(
     );
     Ok(Stream {
         head,
-        queue: HeapOf::from_heap(heads),
+        queue: HeapOf::from_heap(queue),
     })
 }
 
@@ -191,10 +154,10 @@ pub(crate) fn begin_node<R: Rank, A: Allocator + Clone, L: Ledger>(
         (node + 1) }
     ensures begun { OnOk result
         (IsBegunFrom R.KEYS R.key tree.now entries.new.entries nodes.new.items node) }
-    ensures cost { steps.new ≤ steps.old + 8 * length tree.now * rows tree.now node }
+    ensures cost { steps.new ≤ steps.old + 4 * rows tree.now node }
 {
     for group in 0..tree.groups(node) {
-        let stream = first_stream(alloc, tree, entries, node, group, steps)?;
+        let stream = first_stream(alloc, tree, nodes.as_slice(), entries, node, group, steps)?;
         nodes[node as usize].add_stream(stream)?;
     }
     Ok(())

@@ -10,7 +10,9 @@
 
 mod answers;
 mod beginning;
+mod members;
 mod node;
+mod opened;
 mod product;
 mod reads;
 mod solutions;

@@ -1,5 +1,5 @@
 //! The data of one node of the tree.
-ghost use Rattle.std.specs.Prelude.{◌≡◌, ℕ, ◌+◌, ◌*◌, ◌^◌, ◌<◌, ◌≤◌, ◌↔◌, None, [], ◌∷◌, ◌++◌, length, slice_set, slice_index, slice_index_or, OnOk, IsSome, IfSome, IfNone};
+ghost use Rattle.std.specs.Prelude.{◌≡◌, ℕ, ◌+◌, ◌*◌, ◌^◌, ◌<◌, ◌≤◌, ◌↔◌, None, [], ◌∷◌, ◌++◌, length, slice_set, slice_index, slice_index_or, OnOk, OnErr, IsSome, IfSome};
 ghost use Rattle.std.specs.List.Sorted.{IsPermutation};
 ghost use Rattle.rank_key.specs.Bits.{bit_length};
 ghost use Rattle.take2_heap.specs.Order.{IsLeast};
@@ -7,8 +7,11 @@ ghost use Rattle.take2_heap.specs.declared.entry.Entry.{Entry};
 ghost use Rattle.stream_model.specs.Offers.{offers};
 ghost use Rattle.stream_cells.specs.declared.cell.Cell.{Cell};
 ghost use Rattle.stream_cells.specs.declared.source.Source.{Source};
+ghost use Rattle.suffix_streams.specs.ProductData.{with_rank};
+ghost use Rattle.suffix_streams.specs.Firsts.{can_enter};
 ghost use Rattle.suffix_streams.specs.NodeLists.{known_of, product_at, stream_at, with_product, with_queue};
 
+use crate::opened::RowProducts;
 use crate::product::Product;
 use crate::stream::Stream;
 use rank_key::Rank;
@@ -26,11 +29,10 @@ use take2_heap::Entry;
 pub(crate) struct NodeStreams<R: Rank, A: Allocator> {
     pub(crate) children: Vec<u32, A>,
     pub(crate) streams: Vec<Stream<R, A>, A>,
-    pub(crate) products: Vec<Vec<Product<R, A>, A>, A>,
+    pub(crate) products: RowProducts<R, A>,
 }
 
 impl<R: Rank, A: Allocator> Model for NodeStreams<R, A> {
-    ghost use Rattle.std.specs.Prelude.{map};
     ghost use Rattle.suffix_streams.specs.NodeLists.{NodeLists};
 
     ghost Value = { NodeLists R };
@@ -38,7 +40,7 @@ impl<R: Rank, A: Allocator> Model for NodeStreams<R, A> {
     ghost view = { λ n. record {
       children = n.children.items;
       streams = n.streams.items;
-      products = map (λ p. p.items) n.products.items;
+      products = n.products;
     } };
 }
 
@@ -71,12 +73,7 @@ impl<R: Rank, A: Allocator> NodeStreams<R, A> {
     pub(crate) fn product_count(&self, row: u32) -> usize
         ensures { result ≡ length (slice_index_or self.now.products row []) }
     {
-        let row = row as usize;
-        if row < self.products.len() {
-            self.products[row].len()
-        } else {
-            0
-        }
+        self.products.of_row(row).len()
     }
 
     /// A product of a row. Products count from 0.
@@ -84,7 +81,7 @@ impl<R: Rank, A: Allocator> NodeStreams<R, A> {
         requires child { child < length (slice_index_or self.now.products row []) }
         ensures { result.now ≡ product_at self.now row child }
     {
-        &self.products[row as usize][child]
+        &self.products.of_row(row)[child]
     }
 
     /// The number of known solutions of a row with its first `count` children.
@@ -104,18 +101,17 @@ impl<R: Rank, A: Allocator> NodeStreams<R, A> {
     pub(crate) fn cell(&self, row: u32, child: usize, place: u32) -> Cell
         requires child { child < length (slice_index_or self.now.products row []) }
         requires place { place < length (product_at self.now row child).found }
-        ensures { (d : Entry R Cell)
-            → result ≡ (slice_index_or (product_at self.now row child).found place d).tag }
+        ensures { (d : Cell)
+            → result ≡ slice_index_or (product_at self.now row child).found place d }
     {
         self.product(row, child).cell(place)
     }
 
-    /// The rank of this solution.
+    /// The rank of this solution. The product must keep ranks.
     pub(crate) fn rank(&self, row: u32, child: usize, place: u32) -> R
         requires child { child < length (slice_index_or self.now.products row []) }
-        requires place { place < length (product_at self.now row child).found }
-        ensures { (d : Entry R Cell)
-            → result ≡ (slice_index_or (product_at self.now row child).found place d).rank }
+        requires place { place < length (product_at self.now row child).ranks }
+        ensures { (d : R) → result ≡ slice_index_or (product_at self.now row child).ranks place d }
     {
         self.product(row, child).rank(place)
     }
@@ -146,45 +142,24 @@ impl<R: Rank, A: Allocator> NodeStreams<R, A> {
         self.streams[group as usize].top()
     }
 
-    /// The solution of the row at the place of `next`, or `None` if it is not known.
-    pub(crate) fn offered(&self, row: u32, next: Source) -> Option<Entry<R, Source>>
-        requires place { 0 < next.place }
-        ensures none { IfNone result
-            (known_of self.now row (length (slice_index_or self.now.products row []))
-            ≤ next.place) }
-        ensures tag { IfSome result (λ e. e.tag ≡ next) }
-        ensures known { IfSome result
-            (λ e. next.place < known_of self.now row
-            (length (slice_index_or self.now.products row []))) }
-        ensures rank { IfSome result
-            (λ e. (c : ℕ) (d : Entry R Cell)
-            → length (slice_index_or self.now.products row []) ≡ c + 1
-            → e.rank ≡ (slice_index_or (product_at self.now row c).found next.place d).rank) }
-    {
-        let count = self.product_count(row);
-        if count == 0 || self.known(row, count) <= next.place {
-            return None;
-        }
-        Some(Entry {
-            rank: self.rank(row, count - 1, next.place),
-            tag: next,
-        })
-    }
-
-    /// Makes room for one more solution in a product. `NoMemory` if memory is refused.
+    /// Makes room for one more solution in a product. The first product of a row has one left part,
+    /// so no sum is beside another there. `NoMemory` if memory is refused.
     pub(crate) fn reserve_product(&mut self, row: u32, child: usize) -> Result<(), NoMemory>
         requires child { child < length (slice_index_or self.old.products row []) }
         ensures changed { self.new
             ≡ with_product self.old row child (product_at self.new row child) }
         ensures found { (product_at self.new row child).found
             ≡ (product_at self.old row child).found }
+        ensures ranks { (product_at self.new row child).ranks
+            ≡ (product_at self.old row child).ranks }
         ensures frontier { (product_at self.new row child).frontier
             ≡ (product_at self.old row child).frontier }
         ensures room { OnOk result (0 < (product_at self.new row child).room) }
-        ensures frontier_room { OnOk result (0 < (product_at self.new row child).frontier_room) }
+        ensures frontier_room { OnOk result
+            (0 < child → 0 < (product_at self.new row child).frontier_room) }
     {
-        let products = &mut self.products[row as usize];
-        products[child].reserve()
+        let product = self.products.product_mut(row, child);
+        product.reserve(child > 0)
     }
 
     /// Passes the last solution of a product: what follows it replaces it in the frontier.
@@ -198,11 +173,14 @@ impl<R: Rank, A: Allocator> NodeStreams<R, A> {
     )
         requires child { child < length (slice_index_or self.old.products row []) }
         requires top { 0 < length (product_at self.old row child).frontier }
-        requires room { 0 < (product_at self.old row child).frontier_room }
+        requires room { IsSome down → IsSome across
+            → 0 < (product_at self.old row child).frontier_room }
         ensures changed { self.new
             ≡ with_product self.old row child (product_at self.new row child) }
         ensures found { (product_at self.new row child).found
             ≡ (product_at self.old row child).found }
+        ensures ranks { (product_at self.new row child).ranks
+            ≡ (product_at self.old row child).ranks }
         ensures moved { (d : Entry R Cell)
             → IsPermutation (offers down across (product_at self.old row child).frontier)
             (slice_index_or (product_at self.old row child).frontier 0 d
@@ -216,8 +194,8 @@ impl<R: Rank, A: Allocator> NodeStreams<R, A> {
             ≤ steps.old + 2 * bit_length (length (product_at self.old row child).frontier)
             + bit_length (length (product_at self.old row child).frontier + 1) }
     {
-        let products = &mut self.products[row as usize];
-        products[child].pass(down, across, steps);
+        let product = self.products.product_mut(row, child);
+        product.pass(down, across, steps);
     }
 
     /// Keeps one more solution of a product, in room that was made for it.
@@ -227,44 +205,73 @@ impl<R: Rank, A: Allocator> NodeStreams<R, A> {
         ensures changed { self.new
             ≡ with_product self.old row child (product_at self.new row child) }
         ensures found { (product_at self.new row child).found
-            ≡ (product_at self.old row child).found ++ sum ∷ [] }
+            ≡ (product_at self.old row child).found ++ sum.tag ∷ [] }
+        ensures ranks { (product_at self.new row child).ranks
+            ≡ with_rank (product_at self.old row child).ranks sum.rank }
         ensures frontier { (product_at self.new row child).frontier
             ≡ (product_at self.old row child).frontier }
     {
-        let products = &mut self.products[row as usize];
-        products[child].keep(sum);
+        let product = self.products.product_mut(row, child);
+        product.keep(sum);
     }
 
-    /// Passes the last solution of a group: the next one of its row replaces it in the queue, if
-    /// there is one.
+    /// Makes room in the queue of a group for what can follow its top. `NoMemory` if memory is
+    /// refused.
+    pub(crate) fn reserve_queue(&mut self, group: u32, members: u32) -> Result<(), NoMemory>
+        requires group { group < length self.old.streams }
+        requires few { length (stream_at self.old group).queue ≤ members }
+        ensures changed { self.new
+            ≡ with_queue self.old group (stream_at self.old group).queue
+            (stream_at self.new group).room }
+        ensures room { OnOk result (can_enter members ≤ (stream_at self.new group).room) }
+    {
+        self.streams[group as usize].reserve(members)
+    }
+
+    /// Passes the last solution of a group: the next one of its row and the first ones of the
+    /// members below, if there are any, enter the queue.
     pub(crate) fn pass<L: Ledger>(
         &mut self,
         group: u32,
         next: Option<Entry<R, Source>>,
+        left: Option<Entry<R, Source>>,
+        right: Option<Entry<R, Source>>,
         steps: &mut Steps<L>,
     )
         requires group { group < length self.old.streams }
         requires top { 0 < length (stream_at self.old group).queue }
-        ensures changed { self.new ≡ with_queue self.old group (stream_at self.new group).queue }
+        requires left_room { IsSome left → 0 < (stream_at self.old group).room }
+        requires right_room { IsSome right → 1 < (stream_at self.old group).room }
+        ensures changed { self.new
+            ≡ with_queue self.old group (stream_at self.new group).queue
+            (stream_at self.new group).room }
         ensures moved { (d : Entry R Source)
-            → IsPermutation (offers next None (stream_at self.old group).queue)
+            → IsPermutation
+            (offers right None (offers next left (stream_at self.old group).queue))
             (slice_index_or (stream_at self.old group).queue 0 d
             ∷ (stream_at self.new group).queue) }
         ensures least { (d : Entry R Source)
             → IsLeast R.KEYS R.key (slice_index_or (stream_at self.old group).queue 0 d)
             (stream_at self.old group).queue }
         ensures cost { steps.new
-            ≤ steps.old + 2 * bit_length (length (stream_at self.old group).queue) }
+            ≤ steps.old + 2 * bit_length (length (stream_at self.old group).queue)
+            + bit_length (length (stream_at self.old group).queue + 1)
+            + bit_length (length (stream_at self.new group).queue) }
     {
-        self.streams[group as usize].pass(next, steps);
+        self.streams[group as usize].pass(next, left, right, steps);
     }
 
-    /// Sets the products of a row.
-    pub(crate) fn set_products(&mut self, row: u32, products: Vec<Product<R, A>, A>)
+    /// Sets the products of a row. `NoMemory` if memory is refused, and the node stays as it is then.
+    pub(crate) fn set_products(
+        &mut self,
+        row: u32,
+        products: Vec<Product<R, A>, A>,
+    ) -> Result<(), NoMemory>
         requires { row < length self.old.products }
-        ensures { self.new ≡ record self.old
-            { products = slice_set self.old.products row products.items } }
+        ensures set { OnOk result (self.new ≡ record self.old
+            { products = slice_set self.old.products row products.items }) }
+        ensures refused { OnErr result (self.new ≡ self.old) }
     {
-        self.products[row as usize] = products;
+        self.products.open(row, products)
     }
 }

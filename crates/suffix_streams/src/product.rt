@@ -1,11 +1,12 @@
 //! The solutions of a row as sums of those of its children.
-ghost use Rattle.std.specs.Prelude.{◌≡◌, ℕ, ◌+◌, ◌*◌, ◌^◌, ◌<◌, ◌≤◌, ◌↔◌, [], ◌∷◌, ◌++◌, length, slice_index_or, IfOk, OnOk, OnErr, IsSome, IfSome};
+ghost use Rattle.std.specs.Prelude.{◌≡◌, ℕ, ◌+◌, ◌*◌, ◌^◌, ◌<◌, ◌≤◌, ◌↔◌, [], ◌∷◌, ◌++◌, cond, length, slice_index_or, IfOk, OnOk, OnErr, IsSome, IfSome, IsTrue};
 ghost use Rattle.std.specs.List.Sorted.{IsPermutation};
 ghost use Rattle.rank_key.specs.Bits.{bit_length};
 ghost use Rattle.take2_heap.specs.Order.{IsMinHeap, IsLeast};
 ghost use Rattle.take2_heap.specs.declared.entry.Entry.{Entry};
 ghost use Rattle.stream_model.specs.Offers.{offers};
 ghost use Rattle.stream_cells.specs.declared.cell.Cell.{Cell};
+ghost use Rattle.suffix_streams.specs.ProductData.{with_rank};
 
 use rank_key::Rank;
 use std::alloc::Allocator;
@@ -18,26 +19,31 @@ use stream_store::EntryId;
 use take2_heap::{Entry, HeapOf};
 
 /// The solutions of a row with its first children, as sums of those with one child less and of the
-/// solutions of the last child's group. It has the cell of each solution that was found, with its
-/// rank, and a frontier. The top of the frontier is the last solution found, until the one after it
-/// is asked for.
+/// solutions of the last child's group. It has the cell of each solution that was found, and a
+/// frontier. The top of the frontier is the last solution found, until the one after it is asked
+/// for. A product that is the left part of another one keeps the ranks of its solutions too.
 #[derive(Drop)]
 pub(crate) struct Product<R: Rank, A: Allocator> {
-    found: Vec<Entry<R, Cell>, A>,
+    found: Vec<Cell, A>,
+    /// The ranks of these solutions, or none if the product keeps no ranks.
+    ranks: Vec<R, A>,
     frontier: HeapOf<R, Cell, A>,
 }
 
 impl<R: Rank, A: Allocator> Model for Product<R, A> {
     ghost use Rattle.std.specs.Prelude.{◌-◌, ◌<◌, ◌^◌, min};
     ghost use Rattle.std.specs.Vec.{vec_len, vec_capacity};
-    ghost use Rattle.suffix_streams.specs.ProductData.{ProductData};
+    ghost use Rattle.suffix_streams.specs.ProductData.{ProductData, room_for};
 
     ghost Value = { ProductData R };
 
     ghost view = { λ p. record {
       found = p.found.items;
+      ranks = p.ranks.items;
       frontier = p.frontier.entries;
-      room = min (vec_capacity p.found - vec_len p.found) (2 ^ 32 - 1 - vec_len p.found);
+      room = room_for p.ranks.items
+          (min (vec_capacity p.found - vec_len p.found) (2 ^ 32 - 1 - vec_len p.found))
+          (vec_capacity p.ranks - vec_len p.ranks);
       frontier_room = p.frontier.spare;
     } };
 
@@ -47,23 +53,27 @@ impl<R: Rank, A: Allocator> Model for Product<R, A> {
 impl<R: Rank, A: Allocator + Clone> Product<R, A> {
     /// The product whose first solution has this rank and this right part. `NoMemory` if memory is
     /// refused.
-    pub(crate) fn new(alloc: &A, rank: R, right: EntryId) -> Result<Product<R, A>, NoMemory>
-        ensures found { IfOk result
-            (λ p. p.found ≡ record { rank = rank; tag = record { left = 0; right = right } } ∷ []) }
+    pub(crate) fn new(
+        alloc: &A,
+        rank: R,
+        right: EntryId,
+        keeps_ranks: bool,
+    ) -> Result<Product<R, A>, NoMemory>
+        ensures found { IfOk result (λ p. p.found ≡ record { left = 0; right = right } ∷ []) }
+        ensures ranks { IfOk result (λ p. p.ranks ≡ cond keeps_ranks (rank ∷ []) []) }
         ensures frontier { IfOk result
             (λ p. p.frontier ≡ record { rank = rank; tag = record { left = 0; right = right } }
             ∷ []) }
     {
-        let sum = Entry {
-            rank,
-            tag: Cell { left: 0, right },
-        };
+        let cell = Cell { left: 0, right };
         let mut found = Vec::with_capacity(alloc.clone()?, 1)?;
-        found.push(sum)?;
+        found.push(cell)?;
+        let ranks = first_rank(alloc, rank, keeps_ranks)?;
         let mut frontier = Vec::with_capacity(alloc.clone()?, 1)?;
-        frontier.push(sum)?;
+        frontier.push(Entry { rank, tag: cell })?;
         Ok(Product {
             found,
+            ranks,
             frontier: HeapOf::from_heap(frontier),
         })
     }
@@ -80,17 +90,17 @@ impl<R: Rank, A: Allocator> Product<R, A> {
     /// The cell of the solution at a place, from 0.
     pub(crate) fn cell(&self, place: u32) -> Cell
         requires { place < length self.now.found }
-        ensures { (d : Entry R Cell) → result ≡ (slice_index_or self.now.found place d).tag }
+        ensures { (d : Cell) → result ≡ slice_index_or self.now.found place d }
     {
-        self.found[place as usize].tag
+        self.found[place as usize]
     }
 
-    /// The rank of the solution at a place, from 0.
+    /// The rank of the solution at a place, from 0. The product must keep ranks.
     pub(crate) fn rank(&self, place: u32) -> R
-        requires { place < length self.now.found }
-        ensures { (d : Entry R Cell) → result ≡ (slice_index_or self.now.found place d).rank }
+        requires { place < length self.now.ranks }
+        ensures { (d : R) → result ≡ slice_index_or self.now.ranks place d }
     {
-        self.found[place as usize].rank
+        self.ranks[place as usize]
     }
 
     /// The last solution found, as a sum, or `None` if no further one follows.
@@ -105,19 +115,27 @@ impl<R: Rank, A: Allocator> Product<R, A> {
         Some(*top)
     }
 
-    /// Makes room for one more solution. `NoMemory` if memory is refused, or if there are as many
-    /// solutions as a place can name.
-    pub(crate) fn reserve(&mut self) -> Result<(), NoMemory>
+    /// Makes room for one more solution, and for one more sum in the frontier if `beside`: both the
+    /// sum below the last solution and the one beside it may follow. `NoMemory` if memory is
+    /// refused, or if there are as many solutions as a place can name.
+    pub(crate) fn reserve(&mut self, beside: bool) -> Result<(), NoMemory>
         ensures found { self.new.found ≡ self.old.found }
+        ensures ranks { self.new.ranks ≡ self.old.ranks }
         ensures frontier { self.new.frontier ≡ self.old.frontier }
         ensures room { OnOk result (0 < self.new.room) }
-        ensures frontier_room { OnOk result (0 < self.new.frontier_room) }
+        ensures frontier_room { OnOk result (IsTrue beside → 0 < self.new.frontier_room) }
     {
         if self.found.len() >= u32::MAX as usize {
             return Err(NoMemory);
         }
         self.found.reserve(1)?;
-        self.frontier.reserve(1)
+        if !self.ranks.is_empty() {
+            self.ranks.reserve(1)?;
+        }
+        if beside {
+            self.frontier.reserve(1)?;
+        }
+        Ok(())
     }
 
     /// Passes the last solution found: what follows it replaces it in the frontier.
@@ -128,8 +146,9 @@ impl<R: Rank, A: Allocator> Product<R, A> {
         steps: &mut Steps<L>,
     )
         requires top { 0 < length self.old.frontier }
-        requires room { 0 < self.old.frontier_room }
+        requires room { IsSome down → IsSome across → 0 < self.old.frontier_room }
         ensures found { self.new.found ≡ self.old.found }
+        ensures ranks { self.new.ranks ≡ self.old.ranks }
         ensures moved { (d : Entry R Cell)
             → IsPermutation (offers down across self.old.frontier)
             (slice_index_or self.old.frontier 0 d ∷ self.new.frontier) }
@@ -146,9 +165,29 @@ impl<R: Rank, A: Allocator> Product<R, A> {
     /// Keeps one more solution, in room that was made for it.
     pub(crate) fn keep(&mut self, sum: Entry<R, Cell>)
         requires { 0 < self.old.room }
-        ensures found { self.new.found ≡ self.old.found ++ sum ∷ [] }
+        ensures found { self.new.found ≡ self.old.found ++ sum.tag ∷ [] }
+        ensures ranks { self.new.ranks ≡ with_rank self.old.ranks sum.rank }
         ensures frontier { self.new.frontier ≡ self.old.frontier }
     {
-        self.found.push_reserved(sum);
+        self.found.push_reserved(sum.tag);
+        if !self.ranks.is_empty() {
+            self.ranks.push_reserved(sum.rank);
+        }
     }
+}
+
+/// The rank of a product's first solution, or none if the product keeps no ranks.
+fn first_rank<R: Rank, A: Allocator + Clone>(
+    alloc: &A,
+    rank: R,
+    keeps_ranks: bool,
+) -> Result<Vec<R, A>, NoMemory>
+    ensures { IfOk result (λ ranks. ranks.items ≡ cond keeps_ranks (rank ∷ []) []) }
+{
+    if !keeps_ranks {
+        return Ok(Vec::new(alloc.clone()?));
+    }
+    let mut ranks = Vec::with_capacity(alloc.clone()?, 1)?;
+    ranks.push(rank)?;
+    Ok(ranks)
 }

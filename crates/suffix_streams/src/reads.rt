@@ -1,11 +1,13 @@
 //! Reading entries and products, which changes nothing.
-ghost use Rattle.std.specs.Prelude.{◌≡◌, ℕ, ◌+◌, ◌*◌, ◌<◌, ◌≤◌, length, slice_index_or, IfOk, IfSome};
+ghost use Rattle.std.specs.Prelude.{◌≡◌, ℕ, ◌+◌, ◌*◌, ◌<◌, ◌≤◌, length, slice_index_or, IfOk, IfSome, IfNone};
 ghost use Rattle.tdp_core.specs.TreeData.{child_count, group_named, rows};
 ghost use Rattle.tdp_core.specs.WellFormed.{IsFormed, IsTieFreeTree};
 ghost use Rattle.tdp_model.specs.KeyTuple.{key_add, key_none};
 ghost use Rattle.tdp_model.specs.Product.{pair_key};
 ghost use Rattle.suffix_streams.specs.Rankings.{child as child_node, part_list, group_list};
-ghost use Rattle.suffix_streams.specs.StreamsData.{lists_of, products_of, stream_of, part_known, pair_of, IsHeaded, HasParts, IsCell, IsOffer, AreFreshTo, AreLefts};
+ghost use Rattle.stream_cells.specs.declared.source.Source.{Source};
+ghost use Rattle.suffix_streams.specs.Firsts.{HasFirstParts};
+ghost use Rattle.suffix_streams.specs.StreamsData.{lists_of, products_of, stream_of, part_known, row_known, pair_of, IsSumOf, IsStreams, IsHeaded, HasParts, IsCell, IsOffer, AreFreshTo, AreLefts};
 
 use crate::node::NodeStreams;
 use crate::product::Product;
@@ -14,7 +16,7 @@ use rank_key::Rank;
 use std::alloc::Allocator;
 use std::sync::ledger::Ledger;
 use step_counter::{NoMemory, Steps};
-use stream_cells::Cell;
+use stream_cells::{Cell, Source};
 use stream_store::{EntryId, Store};
 use take2_heap::Entry;
 use tdp_core::Tree;
@@ -45,6 +47,34 @@ pub(crate) fn child_head<R: Rank, A: Allocator + Clone, L: Ledger>(
     nodes[child_node as usize].head(group)
 }
 
+/// The parts of the first solution of a row: the first solution of the row with its children but
+/// the last, and that of the last child's group. They say nothing if the node has no children.
+pub(crate) fn first_cell<R: Rank, A: Allocator + Clone, L: Ledger>(
+    tree: &Tree<R>,
+    nodes: &[NodeStreams<R, A>],
+    entries: &Store<Found<R>, A>,
+    node: u32,
+    row: u32,
+    steps: &mut Steps<L>,
+) -> Cell
+    requires formed { IsFormed R.KEYS R.key tree.now }
+    requires node { node < length tree.now }
+    requires row { row < rows tree.now node }
+    requires headed { IsHeaded R.KEYS R.key tree.now entries.now.entries nodes.now node row }
+    ensures parts { HasFirstParts tree.now entries.now.entries node row result }
+    ensures cost { steps.new ≤ steps.old + 1 }
+{
+    let children = nodes[node as usize].child_count();
+    if children == 0 {
+        return Cell {
+            left: 0,
+            right: entries.next_id(),
+        };
+    }
+    let right = child_head(tree, nodes, entries, node, row, children - 1, steps);
+    Cell { left: 0, right }
+}
+
 /// The products of a row, each with its first solution. `NoMemory` if memory is refused.
 pub(crate) fn made_products<R: Rank, A: Allocator + Clone, L: Ledger>(
     alloc: &A,
@@ -71,7 +101,7 @@ pub(crate) fn made_products<R: Rank, A: Allocator + Clone, L: Ledger>(
     for child in 0..children {
         let head = child_head(tree, nodes, entries, node, row, child, steps);
         rank = R::join(rank, entries.get(head, steps).solution.rank, steps);
-        products.push(Product::new(alloc, rank, head)?)?;
+        products.push(Product::new(alloc, rank, head, child + 1 < children)?)?;
     }
     Ok(products)
 }
@@ -156,4 +186,50 @@ pub(crate) fn offered<R: Rank, A: Allocator + Clone, L: Ledger>(
     let cell = cell?;
     let rank = cell_rank(tree, nodes, entries, node, row, child, &cell, steps);
     Some(Entry { rank, tag: cell })
+}
+
+/// The solution of a row at a place, as the next one of the member of a group that the row is.
+/// `None` if it is not known.
+pub(crate) fn row_offer<R: Rank, A: Allocator + Clone, L: Ledger>(
+    tree: &Tree<R>,
+    nodes: &[NodeStreams<R, A>],
+    entries: &Store<Found<R>, A>,
+    node: u32,
+    row: u32,
+    member: u32,
+    place: u32,
+    steps: &mut Steps<L>,
+) -> Option<Entry<R, Source>>
+    requires formed { IsStreams R.KEYS R.key tree.now entries.now.entries nodes.now }
+    requires node { node < length tree.now }
+    requires row { row < rows tree.now node }
+    requires place { 0 < place }
+    ensures none { IfNone result (row_known nodes.now node row ≤ place) }
+    ensures source { IfSome result (λ e. (e.tag.member ≡ member) × (e.tag.place ≡ place)) }
+    ensures known { IfSome result (λ e. place < row_known nodes.now node row) }
+    ensures parts { IfSome result
+        (λ e. (c : ℕ) → child_count tree.now node ≡ c + 1
+        → IsSumOf R.KEYS R.key tree.now entries.now.entries nodes.now node row c place e.tag.cell) }
+    ensures key { IfSome result (λ e. R.key e.rank
+        ≡ slice_index_or
+        (part_list R.KEYS R.key tree.now node row (length (products_of nodes.now node row)))
+        place (key_none R.KEYS 16)) }
+    ensures cost { steps.new ≤ steps.old + 3 * child_count tree.now node }
+{
+    let lists = &nodes[node as usize];
+    let count = lists.product_count(row);
+    if count == 0 || lists.known(row, count) <= place {
+        return None;
+    }
+    let child = count - 1;
+    let cell = lists.cell(row, child, place);
+    let rank = cell_rank(tree, nodes, entries, node, row, child, &cell, steps);
+    Some(Entry {
+        rank,
+        tag: Source {
+            member,
+            place,
+            cell,
+        },
+    })
 }

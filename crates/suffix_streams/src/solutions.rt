@@ -1,7 +1,7 @@
 //! The next solution of a stream, and the steps at the nodes below it.
-ghost use Rattle.std.specs.Prelude.{◌≡◌, ◌≢◌, ℕ, ◌+◌, ◌*◌, ◌<◌, ◌≤◌, Option, None, cond, nat_eq, length, slice_index, slice_index_or, IfOk, OnOk, OnErr, IsOk, IsSome};
+ghost use Rattle.std.specs.Prelude.{◌≡◌, ◌≢◌, ℕ, ◌+◌, ◌*◌, ◌<◌, ◌≤◌, Option, None, cond, nat_eq, length, slice_set, slice_index, slice_index_or, IfOk, OnOk, OnErr, IsOk, IsSome};
 ghost use Rattle.take2_heap.specs.declared.entry.Entry.{Entry};
-ghost use Rattle.tdp_core.specs.TreeData.{parent, rows, child_count, group_named, members};
+ghost use Rattle.tdp_core.specs.TreeData.{parent, rows, child_count, group_count, group_named, members};
 ghost use Rattle.tdp_core.specs.WellFormed.{IsTieFreeTree};
 ghost use Rattle.tdp_model.specs.Below.{is_below};
 ghost use Rattle.rank_key.specs.Bits.{bit_length};
@@ -9,17 +9,20 @@ ghost use Rattle.suffix_streams.specs.Rankings.{child as child_node};
 ghost use Rattle.stream_cells.specs.declared.cell.Cell.{Cell};
 ghost use Rattle.stream_cells.specs.declared.source.Source.{Source};
 ghost use Rattle.suffix_streams.specs.StreamsData.{IsStreams, node_of, group_of, next_of, node_size, lists_of, stream_of, product_of, products_of, part_known};
+ghost use Rattle.suffix_streams.specs.NodeLists.{with_queue};
+ghost use Rattle.suffix_streams.specs.Firsts.{can_enter};
 ghost use Rattle.suffix_streams.specs.Refusals.{AreUnstepped};
 ghost use Rattle.suffix_streams.specs.Growing.{IsStoreGrown, IsGrown, IsExtended, IsReached, IsAnswered, HasOtherProduct, AreQueuesGrown, IsWithinSteps, below_kids, kids_size};
 
+use crate::members::firsts_below;
 use crate::node::NodeStreams;
-use crate::reads::{child_head, made_products, offered};
+use crate::reads::{child_head, made_products, offered, row_offer};
 use crate::stream::Found;
 use rank_key::Rank;
 use std::alloc::Allocator;
 use std::sync::ledger::Ledger;
 use step_counter::{NoMemory, Steps};
-use stream_cells::{Cell, Source, across_cell, down_cell, source_row};
+use stream_cells::{Cell, across_cell, down_cell, source_row};
 use stream_store::{EntryId, Store};
 use tdp_core::Tree;
 
@@ -60,7 +63,7 @@ impl<'t, R: Rank, A: Allocator + Clone> Solutions<'t, R, A> {
             (node_of self.old.entries.entries entry)) self.old.nodes.items self.new.nodes.items }
         ensures cost { IsWithinSteps self.old.tree.now self.old.nodes.items
             (is_below (parent self.old.tree.now) (node_of self.old.entries.entries entry))
-            (λ b. 8 + 2 * b + 20
+            (λ b. 12 + 4 * b + 20
             * kids_size self.old.tree.now (node_of self.old.entries.entries entry)
             (child_count self.old.tree.now (node_of self.old.entries.entries entry))
             * (1 + b)) steps.old steps.new }
@@ -74,11 +77,22 @@ impl<'t, R: Rank, A: Allocator + Clone> Solutions<'t, R, A> {
         };
         let source = top.tag;
         let row = source_row(self.tree, found.node, found.group, &source, steps);
-        self.open_row(found.node, row, steps)?;
+        self.open_row(found.node, found.group, row, steps)?;
         let count = self.nodes[found.node as usize].product_count(row);
-        let next = following(&source, self.nodes[found.node as usize].known(row, count));
-        self.extend(found.node, row, count, next.place, steps)?;
-        Ok(self.advance(entry, found.node, found.group, row, next, steps))
+        let place = next_place(
+            source.place,
+            self.nodes[found.node as usize].known(row, count),
+        );
+        self.extend(found.node, row, count, place, steps)?;
+        Ok(self.advance(
+            entry,
+            found.node,
+            found.group,
+            row,
+            source.member,
+            place,
+            steps,
+        ))
     }
 
     /// Finds the solution at `place` of a row with its first `count` children, unless it is known
@@ -146,10 +160,12 @@ impl<'t, R: Rank, A: Allocator + Clone> Solutions<'t, R, A> {
 }
 
 impl<'t, R: Rank, A: Allocator + Clone> Solutions<'t, R, A> {
-    /// Makes the products of a row, one for each child, unless they are there already.
+    /// Makes room in the queue of a group for what can follow its top, and the products of a row,
+    /// one for each child, unless they are there already. `NoMemory` if memory is refused.
     fn open_row<L: Ledger>(
         &mut self,
         node: u32,
+        group: u32,
         row: u32,
         steps: &mut Steps<L>,
     ) -> Result<(), NoMemory>
@@ -157,6 +173,7 @@ impl<'t, R: Rank, A: Allocator + Clone> Solutions<'t, R, A> {
             self.old.nodes.items }
         requires tie_free { IsTieFreeTree self.old.tree.now }
         requires node { node < length self.old.tree.now }
+        requires group { group < group_count self.old.tree.now node }
         requires row { row < rows self.old.tree.now node }
         ensures formed { IsStreams R.KEYS R.key self.new.tree.now self.new.entries.entries
             self.new.nodes.items }
@@ -165,13 +182,20 @@ impl<'t, R: Rank, A: Allocator + Clone> Solutions<'t, R, A> {
         ensures above { (v : ℕ) → v ≢ node
             → lists_of self.new.nodes.items v ≡ lists_of self.old.nodes.items v }
         ensures streams { (lists_of self.new.nodes.items node).streams
-            ≡ (lists_of self.old.nodes.items node).streams }
+            ≡ (with_queue (lists_of self.old.nodes.items node) group
+            (stream_of self.old.nodes.items node group).queue
+            (stream_of self.new.nodes.items node group).room).streams }
+        ensures room { OnOk result
+            (can_enter (length (members self.old.tree.now node group))
+            ≤ (stream_of self.new.nodes.items node group).room) }
         ensures count { OnOk result
             (length (products_of self.new.nodes.items node row)
             ≡ child_count self.old.tree.now node) }
         ensures queues { AreQueuesGrown (λ _. 0) self.old.nodes.items self.new.nodes.items }
         ensures cost { steps.new ≤ steps.old + 1 + 3 * child_count self.old.tree.now node }
     {
+        let members = self.tree.group_len(node, group);
+        make_queue_room(&mut self.nodes, node, group, members)?;
         let lists = &self.nodes[node as usize];
         if lists.product_count(row) < lists.child_count() {
             let products = made_products(
@@ -183,7 +207,7 @@ impl<'t, R: Rank, A: Allocator + Clone> Solutions<'t, R, A> {
                 row,
                 steps,
             )?;
-            self.nodes[node as usize].set_products(row, products);
+            self.nodes[node as usize].set_products(row, products)?;
         }
         Ok(())
     }
@@ -219,8 +243,8 @@ impl<'t, R: Rank, A: Allocator + Clone> Solutions<'t, R, A> {
             → IsReached R.KEYS R.key self.old.tree.now self.old.nodes.items node row child
             (cell.now.left + 1) }
         requires room { 0 < (product_of self.old.nodes.items node row child).room }
-        requires frontier_room { 0
-            < (product_of self.old.nodes.items node row child).frontier_room }
+        requires frontier_room { 0 < child
+            → 0 < (product_of self.old.nodes.items node row child).frontier_room }
         ensures formed { IsStreams R.KEYS R.key self.new.tree.now self.new.entries.entries
             self.new.nodes.items }
         ensures tree { self.new.tree.now ≡ self.old.tree.now }
@@ -265,19 +289,21 @@ impl<'t, R: Rank, A: Allocator + Clone> Solutions<'t, R, A> {
     }
 
     /// Passes the last solution of a group, which `last` stands for, and links the one that
-    /// follows, if there is one. `next` is the source of the next solution of the row that the last
-    /// one comes from.
+    /// follows, if there is one. The last solution comes from this member, whose row is `row`, and
+    /// `place` is the place of the row's next solution.
     fn advance<L: Ledger>(
         &mut self,
         last: EntryId,
         node: u32,
         group: u32,
         row: u32,
-        next: Source,
+        member: u32,
+        place: u32,
         steps: &mut Steps<L>,
     ) -> Option<EntryId>
         requires formed { IsStreams R.KEYS R.key self.old.tree.now self.old.entries.entries
             self.old.nodes.items }
+        requires tie_free { IsTieFreeTree self.old.tree.now }
         requires last { last < length self.old.entries.entries }
         requires node { node_of self.old.entries.entries last ≡ node }
         requires group { group_of self.old.entries.entries last ≡ group }
@@ -285,15 +311,17 @@ impl<'t, R: Rank, A: Allocator + Clone> Solutions<'t, R, A> {
         requires top { 0 < length (stream_of self.old.nodes.items node group).queue }
         requires member { (d : Entry R Source)
             → (slice_index_or (stream_of self.old.nodes.items node group).queue 0 d).tag.member
-            ≡ next.member }
+            ≡ member }
         requires after { (d : Entry R Source)
             → (slice_index_or (stream_of self.old.nodes.items node group).queue 0 d).tag.place + 1
-            ≡ next.place }
-        requires row { row ≡ slice_index (members self.old.tree.now node group) next.member }
+            ≡ place }
+        requires row { row ≡ slice_index (members self.old.tree.now node group) member }
         requires count { length (products_of self.old.nodes.items node row)
             ≡ child_count self.old.tree.now node }
         requires place { IsReached R.KEYS R.key self.old.tree.now self.old.nodes.items node row
-            (child_count self.old.tree.now node) next.place }
+            (child_count self.old.tree.now node) place }
+        requires queue_room { can_enter (length (members self.old.tree.now node group))
+            ≤ (stream_of self.old.nodes.items node group).room }
         requires room { 0 < self.old.entries.spare }
         ensures formed { IsStreams R.KEYS R.key self.new.tree.now self.new.entries.entries
             self.new.nodes.items }
@@ -309,11 +337,30 @@ impl<'t, R: Rank, A: Allocator + Clone> Solutions<'t, R, A> {
         ensures answer { IsAnswered R.KEYS R.key self.old.tree.now self.new.entries.entries last
             result }
         ensures cost { steps.new
-            ≤ steps.old + 4 + 3 * child_count self.old.tree.now node
-            + 2 * bit_length (length (members self.old.tree.now node group) + 1) }
+            ≤ steps.old + 8 + 3 * child_count self.old.tree.now node
+            + 4 * bit_length (length (members self.old.tree.now node group) + 1) }
     {
-        let offer = self.nodes[node as usize].offered(row, next);
-        self.nodes[node as usize].pass(group, offer, steps);
+        let offer = row_offer(
+            self.tree,
+            self.nodes.as_slice(),
+            &self.entries,
+            node,
+            row,
+            member,
+            place,
+            steps,
+        );
+        let (left, right) = firsts_below(
+            self.tree,
+            self.nodes.as_slice(),
+            &self.entries,
+            node,
+            group,
+            member,
+            place,
+            steps,
+        );
+        self.nodes[node as usize].pass(group, offer, left, right, steps);
         let top = self.nodes[node as usize].top(group)?;
         let next = self.entries.push_reserved(
             Found {
@@ -328,6 +375,26 @@ impl<'t, R: Rank, A: Allocator + Clone> Solutions<'t, R, A> {
     }
 }
 
+/// Makes room in the queue of a group for what can follow its top. `NoMemory` if memory is refused.
+fn make_queue_room<R: Rank, A: Allocator + Clone>(
+    nodes: &mut Vec<NodeStreams<R, A>, A>,
+    node: u32,
+    group: u32,
+    members: u32,
+) -> Result<(), NoMemory>
+    requires node { node < length nodes.old.items }
+    requires group { group < length (lists_of nodes.old.items node).streams }
+    requires few { length (stream_of nodes.old.items node group).queue ≤ members }
+    ensures changed { nodes.new.items
+        ≡ slice_set nodes.old.items node (with_queue (lists_of nodes.old.items node) group
+        (stream_of nodes.old.items node group).queue
+        (stream_of nodes.new.items node group).room) }
+    ensures room { OnOk result
+        (can_enter members ≤ (stream_of nodes.new.items node group).room) }
+{
+    nodes[node as usize].reserve_queue(group, members)
+}
+
 /// Makes room for one more solution in a product of a row. `NoMemory` if memory is refused.
 fn make_room<R: Rank, A: Allocator + Clone>(
     nodes: &mut Vec<NodeStreams<R, A>, A>,
@@ -340,11 +407,13 @@ fn make_room<R: Rank, A: Allocator + Clone>(
     ensures changed { HasOtherProduct nodes.old.items node row child nodes.new.items }
     ensures found { (product_of nodes.new.items node row child).found
         ≡ (product_of nodes.old.items node row child).found }
+    ensures ranks { (product_of nodes.new.items node row child).ranks
+        ≡ (product_of nodes.old.items node row child).ranks }
     ensures frontier { (product_of nodes.new.items node row child).frontier
         ≡ (product_of nodes.old.items node row child).frontier }
     ensures room { OnOk result (0 < (product_of nodes.new.items node row child).room) }
-    ensures frontier_room { OnOk result
-        (0 < (product_of nodes.new.items node row child).frontier_room) }
+    ensures frontier_room { OnOk result (0 < child
+        → 0 < (product_of nodes.new.items node row child).frontier_room) }
 {
     nodes[node as usize].reserve_product(row, child)
 }
@@ -361,18 +430,6 @@ fn left_search(cell: &Cell, head: EntryId, child: usize, known: u32) -> (usize, 
         (child, next_place(cell.left, known))
     } else {
         (0, 0)
-    }
-}
-
-/// The next solution of the row that `source` comes from. `known` is the number of known solutions
-/// of the row.
-fn following(source: &Source, known: u32) -> Source
-    requires { source.now.place < known }
-    ensures { result ≡ record { member = source.now.member; place = source.now.place + 1 } }
-{
-    Source {
-        member: source.member,
-        place: next_place(source.place, known),
     }
 }
 

@@ -1,18 +1,20 @@
 //! The ranking of one group, found one solution after another.
-ghost use Rattle.std.specs.Prelude.{◌≡◌, ℕ, ◌+◌, ◌*◌, ◌<◌, ◌≤◌, ◌↔◌, Option, None, ◌∷◌, length, slice_index_or, IsSome, IfSome};
+ghost use Rattle.std.specs.Prelude.{◌≡◌, ℕ, ◌+◌, ◌*◌, ◌<◌, ◌≤◌, ◌↔◌, Option, None, ◌∷◌, length, slice_index_or, IsSome, IfSome, OnOk};
 ghost use Rattle.std.specs.List.Sorted.{IsPermutation};
 ghost use Rattle.rank_key.specs.Bits.{bit_length};
 ghost use Rattle.take2_heap.specs.Order.{IsLeast};
 ghost use Rattle.take2_heap.specs.declared.entry.Entry.{Entry};
 ghost use Rattle.stream_model.specs.Offers.{offers};
 ghost use Rattle.stream_cells.specs.declared.source.Source.{Source};
+ghost use Rattle.suffix_streams.specs.Firsts.{can_enter};
 
 use rank_key::Rank;
 use std::alloc::Allocator;
 use std::marker::Model;
 use std::sync::ledger::Ledger;
-use step_counter::Steps;
+use step_counter::{NoMemory, Steps};
 use stream_cells::Source;
+use stream_model::{offer, pass_top};
 use stream_store::EntryId;
 use take2_heap::{Entry, HeapOf};
 
@@ -25,9 +27,11 @@ pub(crate) struct Found<R> {
     pub(crate) solution: Entry<R, Source>,
 }
 
-/// The stream of a group: its first entry, and, for each member that has solutions left, the next
-/// one of them. The queue's top is the last entry of the stream, until the entry after it is asked
-/// for.
+/// The stream of a group: its first entry, and a queue of what follows. The queue's top is the last
+/// entry of the stream, until the entry after it is asked for. The queue begins with the first
+/// solution of the group's first member. The first solution of each other member enters when the
+/// one of the member above it in the group's heap is passed, and a later solution when the one
+/// before it is passed.
 #[derive(Drop)]
 pub(crate) struct Stream<R: Rank, A: Allocator> {
     pub(crate) head: EntryId,
@@ -39,7 +43,11 @@ impl<R: Rank, A: Allocator> Model for Stream<R, A> {
 
     ghost Value = { StreamData R };
 
-    ghost view = { λ s. record { head = s.head; queue = s.queue.entries } };
+    ghost view = { λ s. record {
+      head = s.head;
+      queue = s.queue.entries;
+      room = s.queue.spare;
+    } };
 }
 
 impl<R: Rank, A: Allocator> Stream<R, A> {
@@ -54,25 +62,59 @@ impl<R: Rank, A: Allocator> Stream<R, A> {
         Some(*top)
     }
 
-    /// Passes the last solution found: the next one of its row replaces it in the queue, if there
-    /// is one.
-    pub(crate) fn pass<L: Ledger>(&mut self, next: Option<Entry<R, Source>>, steps: &mut Steps<L>)
-        requires { 0 < length self.old.queue }
+    /// Makes room in the queue for what can follow its top in a group of so many members.
+    /// `NoMemory` if memory is refused.
+    pub(crate) fn reserve(&mut self, members: u32) -> Result<(), NoMemory>
+        requires { length self.old.queue ≤ members }
+        ensures head { self.new.head ≡ self.old.head }
+        ensures queue { self.new.queue ≡ self.old.queue }
+        ensures room { OnOk result (can_enter members ≤ self.new.room) }
+    {
+        self.queue.reserve(queue_room(members, self.queue.len()))
+    }
+
+    /// Passes the last solution found: the next one of its row and the first ones of the members
+    /// below, if there are any, enter the queue.
+    pub(crate) fn pass<L: Ledger>(
+        &mut self,
+        next: Option<Entry<R, Source>>,
+        left: Option<Entry<R, Source>>,
+        right: Option<Entry<R, Source>>,
+        steps: &mut Steps<L>,
+    )
+        requires top { 0 < length self.old.queue }
+        requires left_room { IsSome left → 0 < self.old.room }
+        requires right_room { IsSome right → 1 < self.old.room }
         ensures head { self.new.head ≡ self.old.head }
         ensures moved { (d : Entry R Source)
-            → IsPermutation (offers next None self.old.queue)
+            → IsPermutation (offers right None (offers next left self.old.queue))
             (slice_index_or self.old.queue 0 d ∷ self.new.queue) }
         ensures least { (d : Entry R Source)
             → IsLeast R.KEYS R.key (slice_index_or self.old.queue 0 d) self.old.queue }
-        ensures cost { steps.new ≤ steps.old + 2 * bit_length (length self.old.queue) }
+        ensures cost { steps.new
+            ≤ steps.old + 2 * bit_length (length self.old.queue)
+            + bit_length (length self.old.queue + 1) + bit_length (length self.new.queue) }
     {
-        match next {
-            Some(next) => {
-                self.queue.replace_top(next.rank, next.tag, steps);
-            }
-            None => {
-                self.queue.pop(steps);
-            }
-        }
+        pass_top(&mut self.queue, next, left, steps);
+        offer(&mut self.queue, right, steps);
+    }
+}
+
+/// The greatest number of members of a group whose queue gets room for all of them at once.
+const SMALL_GROUP: u32 = 16;
+
+/// The number of entries that a queue of `len` entries gets room for. When its top is passed, one
+/// entry can replace the top, and two more can enter, or fewer in a group with fewer other members.
+/// A queue that grows in steps leaves its earlier places unused in an arena.
+fn queue_room(members: u32, len: usize) -> usize
+    requires { len ≤ members }
+    ensures { can_enter members ≤ result }
+{
+    let others = members.saturating_sub(1) as usize;
+    let more = if others < 2 { others } else { 2 };
+    if members <= SMALL_GROUP {
+        members as usize + more - len
+    } else {
+        more
     }
 }

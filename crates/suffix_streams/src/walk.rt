@@ -1,13 +1,13 @@
 //! Reading the rows of a solution, from entry to entry.
 ghost use Rattle.std.specs.Prelude.{◌≡◌, ℕ, ◌+◌, ◌*◌, ◌<◌, ◌≤◌, length, slice_index_or};
-ghost use Rattle.tdp_core.specs.TreeData.{child_count, rows};
+ghost use Rattle.tdp_core.specs.TreeData.{child_count, group_named, rows};
 ghost use Rattle.tdp_core.specs.Seen.{rows_of_key};
 ghost use Rattle.tdp_core.specs.WellFormed.{IsTieFreeTree};
-ghost use Rattle.tdp_model.specs.KeyTuple.{key_none};
-ghost use Rattle.suffix_streams.specs.Rankings.{part_list, group_list};
-ghost use Rattle.suffix_streams.specs.StreamsData.{IsStreams, node_of, group_of, place_of};
+ghost use Rattle.tdp_model.specs.KeyTuple.{key_add, key_none};
+ghost use Rattle.tdp_model.specs.Product.{pair_key};
+ghost use Rattle.suffix_streams.specs.Rankings.{child as child_node, part_list, group_list};
+ghost use Rattle.suffix_streams.specs.StreamsData.{IsKnownPart, IsSumOf, IsStreams, pair_of, node_of, group_of, place_of};
 ghost use Rattle.suffix_streams.specs.Growing.{subtree_size, kids_size};
-ghost use Rattle.suffix_streams.specs.Parts.{IsKnownPart, IsSumOf};
 
 use crate::answers::{joined_rows, own_rows};
 use crate::reads::child_head;
@@ -41,7 +41,10 @@ impl<'t, R: Rank, A: Allocator + Clone> Solutions<'t, R, A> {
         let source = found.solution.tag;
         let row = source_row(self.tree, found.node, found.group, &source, steps);
         let count = self.nodes[found.node as usize].child_count();
-        self.part_rows(found.node, row, count, source.place, steps)
+        if count == 0 {
+            return own_rows(self.tree, found.node, row, steps);
+        }
+        self.sum_rows(found.node, row, count - 1, &source.cell, steps)
     }
 
     /// The row numbers of a solution of a row with its first `count` children, at a known place.
@@ -71,7 +74,40 @@ impl<'t, R: Rank, A: Allocator + Clone> Solutions<'t, R, A> {
             return own_rows(self.tree, node, row, steps);
         }
         let cell = self.part_cell(node, row, count - 1, place, steps);
-        let left = self.part_rows(node, row, count - 1, cell.left, steps);
+        self.sum_rows(node, row, count - 1, &cell, steps)
+    }
+
+    /// The row numbers of the sum of a cell's parts: a known solution of a row with its first
+    /// `child` children, and an entry of the next child's group.
+    #[cycle(walk)]
+    fn sum_rows<L: Ledger>(
+        &self,
+        node: u32,
+        row: u32,
+        child: usize,
+        cell: &Cell,
+        steps: &mut Steps<L>,
+    ) -> [u32; 16]
+        requires formed { IsStreams R.KEYS R.key self.now.tree.now self.now.entries.entries
+            self.now.nodes.items }
+        requires tie_free { IsTieFreeTree self.now.tree.now }
+        requires node { node < length self.now.tree.now }
+        requires row { row < rows self.now.tree.now node }
+        requires child { child < child_count self.now.tree.now node }
+        requires parts { (place : ℕ)
+            × IsSumOf R.KEYS R.key self.now.tree.now self.now.entries.entries self.now.nodes.items
+            node row child place cell.now }
+        ensures rows { result
+            ≡ rows_of_key R.KEYS 16
+            (pair_key (key_add R.KEYS 16) (key_none R.KEYS 16)
+            (part_list R.KEYS R.key self.now.tree.now node row child)
+            (group_list R.KEYS R.key self.now.tree.now (child_node self.now.tree.now node child)
+            (group_named self.now.tree.now node row child))
+            (pair_of self.now.entries.entries cell.now)) }
+        ensures cost { steps.new
+            ≤ steps.old + 4 * kids_size self.now.tree.now node (child + 1) }
+    {
+        let left = self.part_rows(node, row, child, cell.left, steps);
         let right = self.entry_rows(cell.right, steps);
         joined_rows(&left, &right)
     }

@@ -3,7 +3,7 @@ use Rattle.std.specs.List.Sorted.{IsPermutation}
 use Rattle.std.proofs.lemmas.List.{get_or_default}
 use Rattle.rank_key.specs.Bits.{bit_length}
 use Rattle.take2_heap.specs.declared.entry.Entry.{Entry}
-use Rattle.stream_model.proofs.Moves.{replaced_and_put, same_length}
+use Rattle.stream_model.proofs.Moves.{left_and_put, same_length}
 use Rattle.stream_model.proofs.queue.pass_top.Goals as goal
 
 pub returns-in-Some-Some-clause-moved : goal.returns-in-Some-Some-clause-moved
@@ -15,7 +15,7 @@ returns-in-Some-Some-clause-moved g c d =
     let t = c.replace_top.result in
     let same : t ≡ get_or old 0 d = c.replace_top.ensures.top ∙ get_or_default old 0 t d c.requires.top in
     rw (c.in-Some-Some.is-0, c.in-Some-Some.is-1) (subst (λ z. IsPermutation (y ∷ (x ∷ old)) (z ∷ new)) same
-    (replaced_and_put x y t old c.replace_top.new.self.entries new c.replace_top.ensures.permutation c.push_reserved.ensures.permutation))
+    (left_and_put y t (x ∷ old) c.replace_top.new.self.entries new c.replace_top.ensures.permutation c.push_reserved.ensures.permutation))
 
 pub returns-in-Some-Some-clause-cost : goal.returns-in-Some-Some-clause-cost
 returns-in-Some-Some-clause-cost g c =

@@ -1,9 +1,13 @@
-use Rattle.std.proofs.Common.{◌+◌, ◌<◌, length, slice_set, refl, sym, subst, arith}
+use Rattle.std.proofs.Common.{◌+◌, ◌<◌, List, length, get_or, slice_set, refl, sym, subst, arith}
 use Rattle.stream_store.specs.declared.entry.Linked.{Linked}
-use Rattle.tdp_core.specs.TreeData.{group_count}
+use Rattle.tdp_core.specs.TreeData.{members, group_count}
+use Rattle.tdp_core.proofs.TreeFacts.{group_count_within, member_is_row}
 use Rattle.suffix_streams.specs.declared.stream.Found.{Found}
+use Rattle.suffix_streams.specs.NodeLists.{NodeLists}
+use Rattle.suffix_streams.specs.StreamsData.{IsHeaded}
 use Rattle.suffix_streams.specs.Beginnings.{IsBegunIn}
-use Rattle.suffix_streams.proofs.BeginNodes.{in_more, nodes_set, members_more, groups_steps}
+use Rattle.suffix_streams.proofs.BeginBegun.{headed_begun}
+use Rattle.suffix_streams.proofs.BeginNodes.{in_more, nodes_set}
 use Rattle.suffix_streams.proofs.beginning.begin_node.Goals as goal
 
 pub loop-group-preserved : goal.loop-group-preserved
@@ -20,8 +24,8 @@ loop-group-preserved g c =
     record {
       begun = subst (λ es. IsBegunIn d key t es (slice_set c.loop-group.nodes.items c.args.node c.add_stream.new.self) c.args.node (n + 1)) (sym entry.1)
           (in_more d key t c.loop-group.entries.entries c.loop-group.nodes.items (slice_set c.loop-group.nodes.items c.args.node c.add_stream.new.self) c.args.node n (n + 1) e c.in_ok-stream.stream
-          set.0 set.1 set.2 c.requires.node within refl entry.2 entry.3 entry.4 c.in_ok-stream.ensures.head entry.5 entry.6 c.in_ok-stream.ensures.heads c.loop-group.invariant.begun);
-      cost = omega (arith, c.loop-group.invariant.cost, c.first_stream.ensures.cost, members_more d key t c.args.node n within);
+          set.0 set.1 set.2 c.requires.node within refl entry.2 entry.3 entry.4 c.in_ok-stream.ensures.head entry.5 entry.6 c.in_ok-stream.ensures.only c.loop-group.invariant.begun);
+      cost = omega (arith, c.loop-group.invariant.cost, c.first_stream.ensures.cost);
     }
 
 pub returns-in_err-stream-clause-cost : goal.returns-in_err-stream-clause-cost
@@ -33,8 +37,8 @@ returns-in_err-stream-clause-cost g c =
       arith,
       c.loop-group.invariant.cost,
       c.first_stream.ensures.cost,
-      members_more g.R.Rank.KEYS g.R.Rank.key t c.args.node n within,
-      groups_steps g.R.Rank.KEYS g.R.Rank.key t c.requires.formed c.args.node (n + 1) c.requires.node (omega (arith, within)),
+      within,
+      group_count_within g.R.Rank.KEYS g.R.Rank.key t c.requires.formed c.args.node c.requires.node,
     )
 
 pub returns-in_err-add_stream-clause-cost : goal.returns-in_err-add_stream-clause-cost
@@ -46,16 +50,26 @@ returns-in_err-add_stream-clause-cost g c =
       arith,
       c.loop-group.invariant.cost,
       c.first_stream.ensures.cost,
-      members_more g.R.Rank.KEYS g.R.Rank.key t c.args.node n within,
-      groups_steps g.R.Rank.KEYS g.R.Rank.key t c.requires.formed c.args.node (n + 1) c.requires.node (omega (arith, within)),
+      within,
+      group_count_within g.R.Rank.KEYS g.R.Rank.key t c.requires.formed c.args.node c.requires.node,
     )
 
 pub returns-clause-cost : goal.returns-clause-cost
 returns-clause-cost g c =
-    let t = c.args.tree.now in
-    let n = c.loop-group.group in
     omega (
       arith,
       c.loop-group.invariant.cost,
-      groups_steps g.R.Rank.KEYS g.R.Rank.key t c.requires.formed c.args.node n c.requires.node (omega (arith, c.loop-group.auto.group-end, c.groups-group-end.ensures)),
+      c.loop-group.auto.group-end,
+      c.groups-group-end.ensures,
+      group_count_within g.R.Rank.KEYS g.R.Rank.key c.args.tree.now c.requires.formed c.args.node c.requires.node,
     )
+
+pub first_stream-requires-clause-headed : goal.first_stream-requires-clause-headed
+first_stream-requires-clause-headed g c =
+    let d = g.R.Rank.KEYS in
+    let key = g.R.Rank.key in
+    let t = c.args.tree.now in
+    let within : c.loop-group.group < group_count t c.args.node = omega (arith, c.loop-group-test.true, c.groups-group-end.ensures) in
+    let row = member_is_row d key t c.requires.formed c.args.node c.loop-group.group 0 c.requires.node (c.requires.formed.inhabited c.args.node c.loop-group.group c.requires.node within) in
+    subst (λ (z : List (NodeLists g.row.R.Denot)). IsHeaded d key t c.loop-group.entries.entries z c.args.node (get_or (members t c.args.node c.loop-group.group) 0 0)) (sym c.as_slice.ensures.value)
+    (headed_begun d key t c.requires.formed c.loop-group.entries.entries c.loop-group.nodes.items c.loop-group.invariant.begun.streams c.args.node (get_or (members t c.args.node c.loop-group.group) 0 0) c.requires.node row c.loop-group.invariant.begun.behind)

@@ -24,3 +24,8 @@ pub returns-clause-head : goal.returns-clause-head
 returns-clause-head g c =
     head_is g.R.Rank.KEYS g.R.Rank.key c.args.tree.now c.requires.formed c.args.entries.now.entries c.args.nodes.now c.args.node c.args.row c.args.child c.requires.headed c.requires.node c.requires.child
     c.index-nodes-node.result c.index-nodes-node.is c.child-child_node.result c.index-nodes-child_node.result c.group_of-group.result c.head.result c.child-child_node.ensures c.index-nodes-child_node.is c.group_of-group.ensures.named c.head.ensures
+
+pub offset_bounds-nodes-child_node : goal.offset_bounds-nodes-child_node
+offset_bounds-nodes-child_node g c =
+    let within = kid_within g.R.Rank.KEYS g.R.Rank.key c.args.tree.now c.requires.formed c.args.entries.now.entries c.args.nodes.now c.args.node c.args.row c.args.child c.requires.headed c.requires.node c.requires.child c.index-nodes-node.result c.index-nodes-node.is c.child-child_node.result c.child-child_node.ensures in
+    omega (arith, within)

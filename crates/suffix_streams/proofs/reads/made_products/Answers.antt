@@ -1,4 +1,5 @@
-use Rattle.std.proofs.Common.{◌≡◌, ◌<◌, length, sym, ap, ◌∙◌, subst, arith}
+use Rattle.std.proofs.Common.{◌≡◌, ◌+◌, ◌<◌, length, sym, ap, ◌∙◌, subst, arith}
+use Rattle.std.proofs.lemmas.Bool.{cond-true, lt-ltb}
 use Rattle.tdp_core.specs.TreeData.{child_count, group_named}
 use Rattle.suffix_streams.specs.Rankings.{child}
 use Rattle.suffix_streams.specs.StreamsData.{stream_of, AreFreshTo}
@@ -29,7 +30,7 @@ loop-child-preserved g c =
     let longer = first_longer g.R.Rank.KEYS g.R.Rank.key c.args.tree.now c.requires.formed c.requires.tie_free c.args.node c.args.row c.loop-child.child _ _ (g.R.Rank.key c.join-rank.result) c.requires.node c.requires.row kid_in c.loop-child.invariant.key k c.join-rank.ensures.sum in
     record {
       key = longer;
-      fresh = product_made g.R.Rank.KEYS g.R.Rank.key c.args.tree.now c.args.nodes.now c.args.node c.args.row c.loop-child.child c.child_head-head.result c.loop-child.products.items _ c.in_ok-new.field-0 c.join-rank.result c.loop-child.invariant.fresh c.in_ok-push.ensures.items c.in_ok-new.ensures.found c.in_ok-new.ensures.frontier c.child_head-head.ensures.head longer;
+      fresh = product_made g.R.Rank.KEYS g.R.Rank.key c.args.tree.now c.args.nodes.now c.args.node c.args.row c.loop-child.child c.child_head-head.result c.loop-child.products.items _ c.in_ok-new.field-0 c.join-rank.result c.loop-child.invariant.fresh c.in_ok-push.ensures.items c.in_ok-new.ensures.found c.in_ok-new.ensures.frontier c.child_head-head.ensures.head longer (λ few. c.in_ok-new.ensures.ranks ∙ cond-true _ _ _ (lt-ltb (c.loop-child.child + 1) c.child_count-children.result (omega (arith, few, kids, c.child_count-children.ensures))));
       steps = omega (arith, c.loop-child.invariant.steps, c.child_head-head.ensures.cost, c.get.ensures.cost, c.join-rank.ensures.counted);
     }
 
@@ -38,3 +39,9 @@ returns-clause-fresh g c =
     let kids : length c.index-nodes-node.result.children ≡ child_count c.args.tree.now c.args.node = children_count g.R.Rank.KEYS g.R.Rank.key c.args.tree.now c.args.entries.now.entries c.args.nodes.now c.args.node c.args.row c.index-nodes-node.result c.requires.headed c.requires.node c.index-nodes-node.is in
     let end : c.loop-child.child ≡ child_count c.args.tree.now c.args.node = omega (arith, kids, c.child_count-children.ensures, c.loop-child.auto.child-end) in
     subst (λ n. AreFreshTo g.R.Rank.KEYS g.R.Rank.key c.args.tree.now c.args.nodes.now c.args.node c.args.row n c.loop-child.products.items) end c.loop-child.invariant.fresh
+
+pub get-requires : goal.get-requires
+get-requires g c =
+    let kids : length c.index-nodes-node.result.children ≡ child_count c.args.tree.now c.args.node = children_count g.R.Rank.KEYS g.R.Rank.key c.args.tree.now c.args.entries.now.entries c.args.nodes.now c.args.node c.args.row c.index-nodes-node.result c.requires.headed c.requires.node c.index-nodes-node.is in
+    let kid_in : c.loop-child.child < child_count c.args.tree.now c.args.node = omega (arith, kids, c.child_count-children.ensures) in
+    omega (arith, c.child_head-head.ensures.head, c.requires.headed.heads c.loop-child.child kid_in)

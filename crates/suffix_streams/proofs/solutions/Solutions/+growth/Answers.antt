@@ -6,10 +6,10 @@ use Rattle.tdp_core.specs.TreeData.{NodeData, parent, rows, members, child_count
 use Rattle.tdp_core.specs.WellFormed.{IsTieFreeTree}
 use Rattle.tdp_core.proofs.Children.{kids_below-most}
 use Rattle.suffix_streams.specs.declared.stream.Found.{Found}
-use Rattle.stream_cells.specs.declared.source.Source.{Source}
 use Rattle.suffix_streams.specs.ProductData.{ProductData}
 use Rattle.suffix_streams.specs.StreamData.{StreamData}
 use Rattle.suffix_streams.specs.NodeLists.{NodeLists, product_at, stream_at, known_of}
+use Rattle.suffix_streams.specs.Firsts.{can_enter}
 use Rattle.suffix_streams.specs.Rankings.{child}
 use Rattle.suffix_streams.specs.StreamsData.{group_of, next_of, stream_of, part_known, IsStreams, IsHeaded}
 use Rattle.suffix_streams.specs.Growing.{IsGrown, IsExtended, IsReached, IsAnswered}
@@ -18,7 +18,7 @@ use Rattle.suffix_streams.proofs.Entries.{headed_of}
 use Rattle.suffix_streams.proofs.Stores.{any_default}
 use Rattle.suffix_streams.proofs.StepCells.{no_top}
 use Rattle.suffix_streams.proofs.Searching.{answered_stays, last_of_all, sums_done, reached_none}
-use Rattle.suffix_streams.proofs.NextCall.{IsOwned, IsTopRead, IsRowOpen, IsRowCounted, IsRowSearched, owned, top_read, row_within, row_open, row_counted, row_searched, only_opened, searched_grown, searched_queues, searched_steps, searched_stream, linked_grown, linked_queues}
+use Rattle.suffix_streams.proofs.NextCall.{IsOwned, IsTopRead, IsRowOpen, IsRowCounted, IsRowSearched, owned, top_read, row_within, row_open, row_counted, row_searched, only_opened, searched_grown, searched_queues, searched_steps, searched_stream, searched_queue, linked_grown, linked_queues}
 use Rattle.suffix_streams.proofs.RowSearch.{IsRoomMade, IsChildAsked, IsLeftSearched, room_made, made_none, made_queues, made_unstepped, child_asked, asked_extended, asked_queues, asked_within, asked_unstepped, left_searched, left_extended, left_queues, left_steps, one_more_extended, one_more_queues}
 use Rattle.suffix_streams.proofs.SearchCosts.{none_within}
 use Rattle.suffix_streams.proofs.SearchRoom.{unstepped_on}
@@ -52,7 +52,7 @@ module _ (g : Over) (t : ℕ) where
 
   room_of : (c : extend-After-make_room g t) → IsRoomMade g.R.Rank.KEYS g.R.Rank.key c.args.self.now.tree.now c.args.self.now.entries.entries c.args.self.now.nodes.items c.make_room.new.nodes.items c.args.node c.args.row c.args.count c.in-Some.top.tag
   room_of c =
-      room_made g.R.Rank.KEYS g.R.Rank.key c.args.self.now.tree.now c.args.self.now.entries.entries c.args.self.now.nodes.items c.make_room.new.nodes.items c.args.node c.args.row c.args.count c.index-2.result.now c.in-Some.top c.requires.formed c.requires.node c.requires.row (omega (arith, c.if-count-eq0.false)) c.requires.count c.make_room.ensures.changed c.make_room.ensures.found c.make_room.ensures.frontier c.index-2.ensures (c.product_top.ensures.variant.0 (ap is_some c.in-Some.is)) (c.in-Some.ensures.top c.in-Some.top)
+      room_made g.R.Rank.KEYS g.R.Rank.key c.args.self.now.tree.now c.args.self.now.entries.entries c.args.self.now.nodes.items c.make_room.new.nodes.items c.args.node c.args.row c.args.count c.index-2.result.now c.in-Some.top c.requires.formed c.requires.node c.requires.row (omega (arith, c.if-count-eq0.false)) c.requires.count c.make_room.ensures.changed c.make_room.ensures.found c.make_room.ensures.frontier c.make_room.ensures.ranks c.index-2.ensures (c.product_top.ensures.variant.0 (ap is_some c.in-Some.is)) (c.in-Some.ensures.top c.in-Some.top)
 
   child_of : (c : extend-After-after g t) → IsRoomMade g.R.Rank.KEYS g.R.Rank.key c.args.self.now.tree.now c.args.self.now.entries.entries c.args.self.now.nodes.items c.make_room.new.nodes.items c.args.node c.args.row c.args.count c.in-Some.top.tag → IsChildAsked g.R.Rank.KEYS g.R.Rank.key c.args.self.now.tree.now c.args.self.now.entries.entries c.after.new.self.entries.entries c.make_room.new.nodes.items c.after.new.self.nodes.items c.args.node c.args.row c.args.count c.in-Some.top.tag c.args.steps.now c.after.new.steps
   child_of c a = child_asked a c.after.new.self.tree.now c.after.new.self.entries.entries c.after.new.self.nodes.items c.args.steps.now c.after.new.steps c.after.ensures.tree c.after.ensures.formed c.after.ensures.grown c.after.ensures.queues c.after.ensures.cost
@@ -139,6 +139,12 @@ after-open_row-requires-clause-node g t c =
     let o = entry_owned g t at.After-get-found in
     o.node
 
+pub after-open_row-requires-clause-group : goal.after-open_row-requires-clause-group
+after-open_row-requires-clause-group g t c =
+    let at = goal.at.after-open_row-requires-clause-group g t c in
+    let o = entry_owned g t at.After-get-found in
+    o.group
+
 pub after-open_row-requires-clause-row : goal.after-open_row-requires-clause-row
 after-open_row-requires-clause-row g t c =
     let at = goal.at.after-open_row-requires-clause-row g t c in
@@ -189,9 +195,9 @@ after-known-requires g t c =
     let k = counted_of g t at.After-product_count-count a in
     omega (arith, k.within, ap (λ z. length (get_or z.products c.source_row-row.result [])) (lists_at c.open_row.new.self.nodes.items c.get-found.result.now.node c.index-3.result.now c.index-3.ensures a.in_nodes))
 
-pub after-following-next-requires : goal.after-following-next-requires
-after-following-next-requires g t c =
-    let at = goal.at.after-following-next-requires g t c in
+pub after-next_place-place-requires : goal.after-next_place-place-requires
+after-next_place-place-requires g t c =
+    let at = goal.at.after-next_place-place-requires g t c in
     let o = entry_owned g t at.After-get-found in
     let p = top_of g t at.In-Some-top o in
     let a = row_of g t at.After-open_row o p in
@@ -205,7 +211,7 @@ after-extend-requires g t c κs within =
     let p = top_of g t at.In-Some-top o in
     let a = row_of g t at.After-open_row o p in
     let k = counted_of g t at.After-product_count-count a in
-    (omega (arith, c.decreases, o.node_is, k.all, o.node, ap length c.open_row.ensures.tree, kids_below-most (parent c.args.self.now.tree.now) c.get-found.result.now.node (length c.args.self.now.tree.now), o.formed.tree.shaped.few_nodes), (within.0, (within.1.0, (within.1.1, (c.open_row.ensures.formed, (subst IsTieFreeTree (sym c.open_row.ensures.tree) c.requires.tie_free, (subst (λ z. c.get-found.result.now.node < length z) (sym c.open_row.ensures.tree) o.node, (subst (λ z. c.source_row-row.result < rows z c.get-found.result.now.node) (sym c.open_row.ensures.tree) a.row, (k.within, omega (arith, k.known, ap (λ (s : Source). s.place) c.following-next.ensures))))))))))
+    (omega (arith, c.decreases, o.node_is, k.all, o.node, ap length c.open_row.ensures.tree, kids_below-most (parent c.args.self.now.tree.now) c.get-found.result.now.node (length c.args.self.now.tree.now), o.formed.tree.shaped.few_nodes), (within.0, (within.1.0, (within.1.1, (c.open_row.ensures.formed, (subst IsTieFreeTree (sym c.open_row.ensures.tree) c.requires.tie_free, (subst (λ z. c.get-found.result.now.node < length z) (sym c.open_row.ensures.tree) o.node, (subst (λ z. c.source_row-row.result < rows z c.get-found.result.now.node) (sym c.open_row.ensures.tree) a.row, (k.within, omega (arith, k.known, c.next_place-place.ensures))))))))))
 
 pub after-returns-in_err-extend-clause-grown : goal.after-returns-in_err-extend-clause-grown
 after-returns-in_err-extend-clause-grown g t c =
@@ -272,7 +278,18 @@ after-advance-requires-clause-top g t c =
     let a = row_of g t at.After-open_row o p in
     let k = counted_of g t at.After-product_count-count a in
     let s = search_of g t at.After-extend in
-    subst (λ (z : StreamData g.row.R.Denot). 0 < length z.queue) (sym (searched_stream o a k s)) p.some
+    subst (λ z. 0 < length z) (sym (searched_queue o a k s)) p.some
+
+pub after-advance-requires-clause-queue_room : goal.after-advance-requires-clause-queue_room
+after-advance-requires-clause-queue_room g t c =
+    let at = goal.at.after-advance-requires-clause-queue_room g t c in
+    let o = entry_owned g t at.After-get-found in
+    let p = top_of g t at.In-Some-top o in
+    let a = row_of g t at.After-open_row o p in
+    let k = counted_of g t at.After-product_count-count a in
+    let s = search_of g t at.After-extend in
+    subst (λ (z : List (NodeData g.row.R.Denot)). can_enter (length (members z c.get-found.result.now.node c.get-found.result.now.group)) ≤ (stream_of c.extend.new.self.nodes.items c.get-found.result.now.node c.get-found.result.now.group).room) (sym (c.extend.ensures.tree ∙ c.open_row.ensures.tree))
+    (subst (λ (z : StreamData g.row.R.Denot). can_enter (length (members c.args.self.now.tree.now c.get-found.result.now.node c.get-found.result.now.group)) ≤ z.room) (sym (searched_stream o a k s)) c.in_ok-open_row.ensures.room)
 
 pub after-advance-requires-clause-member : goal.after-advance-requires-clause-member
 after-advance-requires-clause-member g t c =
@@ -282,8 +299,8 @@ after-advance-requires-clause-member g t c =
     let a = row_of g t at.After-open_row o p in
     let k = counted_of g t at.After-product_count-count a in
     let s = search_of g t at.After-extend in
-    λ x. ap (λ (z : StreamData g.row.R.Denot). (get_or z.queue 0 x).tag.member) (searched_stream o a k s)
-    ∙ ap (λ e. e.tag.member) (any_default (stream_of c.args.self.now.nodes.items c.get-found.result.now.node c.get-found.result.now.group).queue 0 x c.in-Some-top.top p.some ∙ sym p.first) ∙ sym (ap (λ (z : Source). z.member) c.following-next.ensures)
+    λ x. ap (λ z. (get_or z 0 x).tag.member) (searched_queue o a k s)
+    ∙ ap (λ e. e.tag.member) (any_default (stream_of c.args.self.now.nodes.items c.get-found.result.now.node c.get-found.result.now.group).queue 0 x c.in-Some-top.top p.some ∙ sym p.first)
 
 pub after-advance-requires-clause-after : goal.after-advance-requires-clause-after
 after-advance-requires-clause-after g t c =
@@ -293,8 +310,8 @@ after-advance-requires-clause-after g t c =
     let a = row_of g t at.After-open_row o p in
     let k = counted_of g t at.After-product_count-count a in
     let s = search_of g t at.After-extend in
-    λ x. ap (λ (z : StreamData g.row.R.Denot). (get_or z.queue 0 x).tag.place + 1) (searched_stream o a k s)
-    ∙ ap (λ e. e.tag.place + 1) (any_default (stream_of c.args.self.now.nodes.items c.get-found.result.now.node c.get-found.result.now.group).queue 0 x c.in-Some-top.top p.some ∙ sym p.first) ∙ sym (ap (λ (z : Source). z.place) c.following-next.ensures)
+    λ x. ap (λ z. (get_or z 0 x).tag.place + 1) (searched_queue o a k s)
+    ∙ ap (λ e. e.tag.place + 1) (any_default (stream_of c.args.self.now.nodes.items c.get-found.result.now.node c.get-found.result.now.group).queue 0 x c.in-Some-top.top p.some ∙ sym p.first) ∙ sym c.next_place-place.ensures
 
 pub after-advance-requires-clause-place : goal.after-advance-requires-clause-place
 after-advance-requires-clause-place g t c =
@@ -303,8 +320,8 @@ after-advance-requires-clause-place g t c =
     let p = top_of g t at.In-Some-top o in
     let a = row_of g t at.After-open_row o p in
     let k = counted_of g t at.After-product_count-count a in
-    subst (λ z. IsReached g.R.Rank.KEYS g.R.Rank.key c.extend.new.self.tree.now c.extend.new.self.nodes.items c.get-found.result.now.node c.source_row-row.result z c.following-next.result.place) (k.all ∙ ap (λ z. child_count z c.get-found.result.now.node) (sym (c.extend.ensures.tree ∙ c.open_row.ensures.tree)))
-    (subst (λ z. IsReached g.R.Rank.KEYS g.R.Rank.key z c.extend.new.self.nodes.items c.get-found.result.now.node c.source_row-row.result c.product_count-count.result c.following-next.result.place) (sym c.extend.ensures.tree) c.in_ok-extend.ensures.reached)
+    subst (λ z. IsReached g.R.Rank.KEYS g.R.Rank.key c.extend.new.self.tree.now c.extend.new.self.nodes.items c.get-found.result.now.node c.source_row-row.result z c.next_place-place.result) (k.all ∙ ap (λ z. child_count z c.get-found.result.now.node) (sym (c.extend.ensures.tree ∙ c.open_row.ensures.tree)))
+    (subst (λ z. IsReached g.R.Rank.KEYS g.R.Rank.key z c.extend.new.self.nodes.items c.get-found.result.now.node c.source_row-row.result c.product_count-count.result c.next_place-place.result) (sym c.extend.ensures.tree) c.in_ok-extend.ensures.reached)
 
 pub after-returns-clause-grown : goal.after-returns-clause-grown
 after-returns-clause-grown g t c =
@@ -339,8 +356,8 @@ after-returns-clause-cost g t c =
     let a = row_of g t at.After-open_row o p in
     let k = counted_of g t at.After-product_count-count a in
     let s = search_of g t at.After-extend in
-    let last : c.advance.new.steps ≤ c.extend.new.steps + 4 + 3 * child_count c.args.self.now.tree.now c.get-found.result.now.node + 2 * bit_length (length (members c.args.self.now.tree.now c.get-found.result.now.node c.get-found.result.now.group) + 1) =
-    subst (λ (z : List (NodeData g.row.R.Denot)). c.advance.new.steps ≤ c.extend.new.steps + 4 + 3 * child_count z c.get-found.result.now.node + 2 * bit_length (length (members z c.get-found.result.now.node c.get-found.result.now.group) + 1)) (c.extend.ensures.tree ∙ c.open_row.ensures.tree) c.advance.ensures.cost in
+    let last : c.advance.new.steps ≤ c.extend.new.steps + 8 + 3 * child_count c.args.self.now.tree.now c.get-found.result.now.node + 4 * bit_length (length (members c.args.self.now.tree.now c.get-found.result.now.node c.get-found.result.now.group) + 1) =
+    subst (λ (z : List (NodeData g.row.R.Denot)). c.advance.new.steps ≤ c.extend.new.steps + 8 + 3 * child_count z c.get-found.result.now.node + 4 * bit_length (length (members z c.get-found.result.now.node c.get-found.result.now.group) + 1)) (c.extend.ensures.tree ∙ c.open_row.ensures.tree) c.advance.ensures.cost in
     searched_steps o a k s c.advance.new.steps (λ b members. omega (arith, last, members c.get-found.result.now.node c.get-found.result.now.group))
 
 pub extend-after-requires : goal.extend-after-requires
@@ -414,11 +431,11 @@ extend-returns-in_err-make_room-clause-cost g t c =
 
 pub extend-returns-then-place-known-clause-refused : goal.extend-returns-then-place-known-clause-refused
 extend-returns-then-place-known-clause-refused g t c =
-    on_err c.reserve.result (λ s k. (refl, refl))
+    on_err c.reserve.result (λ s k. (refl, refl, refl))
 
 pub extend-returns-in_default-clause-refused : goal.extend-returns-in_default-clause-refused
 extend-returns-in_default-clause-refused g t c =
-    on_err c.reserve-in_default.result (λ s k. (refl, refl))
+    on_err c.reserve-in_default.result (λ s k. (refl, refl, refl))
 
 pub extend-returns-in_err-make_room-clause-refused : goal.extend-returns-in_err-make_room-clause-refused
 extend-returns-in_err-make_room-clause-refused g t c =
@@ -583,7 +600,7 @@ extend-step-requires-clause-frontier_room g t c =
     let a = room_of g t at.After-make_room in
     let b = child_of g t at.After-after a in
     let l = left_of g t at.After-extend a b in
-    subst (λ (z : ProductData g.row.R.Denot). 0 < z.frontier_room) (sym l.product) c.in_ok-make_room.ensures.frontier_room
+    subst (λ (z : ProductData g.row.R.Denot). 0 < c.args.count - 1 → 0 < z.frontier_room) (sym l.product) c.in_ok-make_room.ensures.frontier_room
 
 pub extend-returns-clause-tree : goal.extend-returns-clause-tree
 extend-returns-clause-tree g t c =

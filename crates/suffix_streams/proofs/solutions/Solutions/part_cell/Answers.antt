@@ -29,4 +29,4 @@ returns-else-product_count-eq0-clause-sum g c =
     let lists = lists_at n c.args.node c.index-lists.result.now c.index-lists.ensures inside in
     let some : 0 < length (products_of n c.args.node c.args.row) = omega (arith, c.product_count.ensures, ap (λ m. length (get_or m.products c.args.row [])) lists, c.if-product_count-eq0.false) in
     product_cell g.R.Rank.KEYS g.R.Rank.key c.args.self.now.tree.now c.args.self.now.entries.entries n c.requires.formed c.args.node c.args.row c.args.child c.args.place c.cell.result c.requires.node c.requires.row c.requires.child some c.requires.place
-    (λ x. c.cell.ensures x ∙ ap (λ m. (get_or (product_at m c.args.row c.args.child).found c.args.place x).tag) (sym lists))
+    (λ x. c.cell.ensures x ∙ ap (λ m. get_or (product_at m c.args.row c.args.child).found c.args.place x) (sym lists))

@@ -1,8 +1,8 @@
 use Rattle.std.proofs.Common.{◌≡◌, ◌+◌, ◌*◌, ◌<◌, ◌≤◌, ◌^◌, suc, inl, inr, refl, Option, IfSome, MatchOption, List, [], length, slice_set, get_or, sym, ap, ◌∙◌, subst, arith}
+use Rattle.std.proofs.lemmas.Bool.{cases_lt}
 use Rattle.std.proofs.lemmas.List.{get_or-set_same}
 use Rattle.std.specs.List.{All}
 use Rattle.rank_key.specs.Bits.{bit_length}
-use Rattle.take2_heap.specs.declared.entry.Entry.{Entry}
 use Rattle.take2_heap.specs.Order.{IsLeast}
 use Rattle.stream_cells.specs.declared.cell.Cell.{Cell}
 use Rattle.suffix_streams.specs.NodeLists.{NodeLists, product_at, known_of, with_product}
@@ -15,8 +15,8 @@ use Rattle.suffix_streams.specs.Growing.{IsReached}
 use Rattle.suffix_streams.proofs.State.{count_more}
 use Rattle.suffix_streams.proofs.Heads.{lists_at}
 use Rattle.suffix_streams.proofs.Entries.{parts_of}
-use Rattle.suffix_streams.proofs.Changes.{counts_kept}
-use Rattle.suffix_streams.proofs.StepCells.{cell_known, down_cell_known, beside_cell_known, one_change, no_top}
+use Rattle.suffix_streams.proofs.Changes.{counts_kept, lists_same}
+use Rattle.suffix_streams.proofs.StepCells.{cell_known, down_cell_known, beside_cell_known, none_beside, one_change, no_top}
 use Rattle.suffix_streams.proofs.ProductPass.{IsProductPassed, IsSumKept, product_passed, product_ends, sum_kept}
 use Rattle.suffix_streams.proofs.solutions.Solutions.step.Given.{Over}
 use Rattle.suffix_streams.proofs.solutions.Solutions.step.Goals.{After-keep, After-known-known, After-pass_product, After-product_top}
@@ -31,7 +31,7 @@ module _ (g : Over) where
   passed_of : (c : After-pass_product g) → IsProductPassed g.R.Rank.KEYS g.R.Rank.key c.args.self.now.tree.now c.args.self.now.entries.entries c.args.self.now.nodes.items c.args.node c.args.row c.args.child (product_at c.pass_product.new.self c.args.row c.args.child)
   passed_of c =
       product_passed g.R.Rank.KEYS g.R.Rank.key c.args.self.now.tree.now c.args.self.now.entries.entries c.args.self.now.nodes.items c.args.node c.args.row c.args.child (product_at c.pass_product.new.self c.args.row c.args.child) c.index.result.now c.index_mut.result.now c.known-known.result c.args.cell.now c.args.below c.args.head c.down_cell-down.result c.across_cell-across.result c.offered-down.result c.offered-across.result
-      c.requires.formed c.requires.node c.requires.row c.requires.child c.requires.top c.requires.cell c.requires.head c.requires.below c.requires.across c.index.ensures c.index_mut.ensures.value c.known-known.ensures c.down_cell-down.ensures c.across_cell-across.ensures c.offered-down.ensures.offer c.offered-across.ensures.offer c.pass_product.ensures.found c.pass_product.ensures.moved c.pass_product.ensures.least
+      c.requires.formed c.requires.node c.requires.row c.requires.child c.requires.top c.requires.cell c.requires.head c.requires.below c.requires.across c.index.ensures c.index_mut.ensures.value c.known-known.ensures c.down_cell-down.ensures c.across_cell-across.ensures c.offered-down.ensures.offer c.offered-across.ensures.offer c.pass_product.ensures.found c.pass_product.ensures.ranks c.pass_product.ensures.moved c.pass_product.ensures.least
 
   changed_of : (c : After-pass_product g) → IsProductPassed g.R.Rank.KEYS g.R.Rank.key c.args.self.now.tree.now c.args.self.now.entries.entries c.args.self.now.nodes.items c.args.node c.args.row c.args.child (product_at c.pass_product.new.self c.args.row c.args.child) → slice_set c.args.self.now.nodes.items c.args.node c.pass_product.new.self ≡ slice_set c.args.self.now.nodes.items c.args.node (with_product (lists_of c.args.self.now.nodes.items c.args.node) c.args.row c.args.child (product_at c.pass_product.new.self c.args.row c.args.child))
   changed_of c a = one_change c.args.self.now.nodes.items c.args.node c.args.row c.args.child c.index_mut.result.now c.pass_product.new.self a.in_nodes c.index_mut.ensures.value c.pass_product.ensures.changed
@@ -45,9 +45,15 @@ module _ (g : Over) where
   read_of : (c : After-product_top g) → IsProductPassed g.R.Rank.KEYS g.R.Rank.key c.args.self.now.tree.now c.args.self.now.entries.entries c.args.self.now.nodes.items c.args.node c.args.row c.args.child (product_at c.pass_product.new.self c.args.row c.args.child) → c.index-2.result.now ≡ c.pass_product.new.self
   read_of c a = c.index-2.ensures ∙ get_or-set_same c.args.self.now.nodes.items c.args.node c.pass_product.new.self c.index-2.result.now a.in_nodes
 
+  -- the product is there in what the node then is
+  child_of : (c : After-pass_product g) → IsProductPassed g.R.Rank.KEYS g.R.Rank.key c.args.self.now.tree.now c.args.self.now.entries.entries c.args.self.now.nodes.items c.args.node c.args.row c.args.child (product_at c.pass_product.new.self c.args.row c.args.child) → (n : NodeLists g.row.R.Denot) → n ≡ get_or (slice_set c.args.self.now.nodes.items c.args.node c.pass_product.new.self) c.args.node n → c.args.child < length (get_or n.products c.args.row [])
+  child_of c a n read =
+      let lists = read ∙ get_or-set_same c.args.self.now.nodes.items c.args.node c.pass_product.new.self n a.in_nodes ∙ c.pass_product.ensures.changed ∙ ap (λ n. with_product n c.args.row c.args.child (product_at c.pass_product.new.self c.args.row c.args.child)) (sym (lists_at c.args.self.now.nodes.items c.args.node c.index_mut.result.now c.index_mut.ensures.value a.in_nodes)) in
+      subst (λ n. c.args.child < length (get_or n.products c.args.row [])) (sym lists) (omega (arith, c.requires.child, counts_kept (lists_of c.args.self.now.nodes.items c.args.node) c.args.row c.args.child (product_at c.pass_product.new.self c.args.row c.args.child) a.in_rows c.requires.child c.args.row))
+
   kept_of : (c : After-keep g) → IsProductPassed g.R.Rank.KEYS g.R.Rank.key c.args.self.now.tree.now c.args.self.now.entries.entries c.args.self.now.nodes.items c.args.node c.args.row c.args.child (product_at c.pass_product.new.self c.args.row c.args.child) → IsSumKept c.args.self.now.nodes.items c.args.node c.args.row c.args.child c.in-Some.top c.pass_product.new.self c.keep.new.self
   kept_of c a =
-      sum_kept a c.in-Some.top c.index_mut.result.now c.index_mut-2.result.now c.pass_product.new.self c.keep.new.self refl c.requires.formed c.requires.node c.requires.row c.requires.child c.index_mut.ensures.value c.pass_product.ensures.changed c.index_mut-2.ensures.value c.keep.ensures.changed c.keep.ensures.found c.keep.ensures.frontier
+      sum_kept a c.in-Some.top c.index_mut.result.now c.index_mut-2.result.now c.pass_product.new.self c.keep.new.self refl c.requires.formed c.requires.node c.requires.row c.requires.child c.index_mut.ensures.value c.pass_product.ensures.changed c.index_mut-2.ensures.value c.keep.ensures.changed c.keep.ensures.found c.keep.ensures.ranks c.keep.ensures.frontier
 
 pub offered-down-requires-clause-parts : goal.offered-down-requires-clause-parts
 offered-down-requires-clause-parts g c = subst (λ (z : List (NodeLists g.row.R.Denot)). HasParts g.R.Rank.KEYS g.R.Rank.key c.args.self.now.tree.now c.args.self.now.entries.entries z c.args.node c.args.row c.args.child) (sym c.as_slice.ensures.value) (parts_of g.R.Rank.KEYS g.R.Rank.key c.args.self.now.tree.now c.args.self.now.entries.entries c.args.self.now.nodes.items c.requires.formed c.args.node c.args.row c.args.child c.requires.node c.requires.row c.requires.child)
@@ -73,6 +79,29 @@ offered-across-requires-clause-cell g c =
     let beside = subst (λ k. MatchOption c.across_cell-across.result (c.args.cell.now.right ≡ c.args.head → k ≤ c.args.cell.now.left + 1) (λ x. (c.args.cell.now.right ≡ c.args.head) × (c.args.cell.now.left + 1 < k) × (x ≡ record { left = c.args.cell.now.left + 1; right = c.args.head }))) known c.across_cell-across.ensures in
     subst (λ (z : List (NodeLists g.row.R.Denot)). IfSome c.across_cell-across.result (IsCell g.R.Rank.KEYS g.R.Rank.key c.args.self.now.tree.now c.args.self.now.entries.entries z c.args.node c.args.row c.args.child)) (sym c.as_slice-2.ensures.value)
     (beside_cell_known g.R.Rank.KEYS g.R.Rank.key c.args.self.now.tree.now c.args.self.now.entries.entries c.args.self.now.nodes.items c.requires.formed c.args.node c.args.row c.args.child c.requires.node c.requires.row c.requires.child c.args.cell.now c.requires.top c.requires.cell c.args.head c.requires.head c.across_cell-across.result beside)
+
+pub pass_product-requires-clause-room : goal.pass_product-requires-clause-room
+pass_product-requires-clause-room g c _ across =
+    let lists = lists_at c.args.self.now.nodes.items c.args.node c.index_mut.result.now c.index_mut.ensures.value (omega (arith, c.requires.formed.all_nodes, c.requires.node)) in
+    elim (cases_lt 0 c.args.child) [
+      | inl l ↦ subst (λ n. 0 < (product_at n c.args.row c.args.child).frontier_room) lists (c.requires.frontier_room l)
+      | inr l ↦
+          let first : c.args.child ≡ 0 = omega (arith, l) in
+          let one : c.known-known.result ≡ 1 = c.known-known.ensures ∙ ap (λ k. known_of c.index.result.now c.args.row k) first in
+          absurd (none_beside g.R.Rank.KEYS g.R.Rank.key c.args.self.now.tree.now c.args.self.now.entries.entries c.args.node c.args.row c.args.child c.args.cell.now c.args.head c.known-known.result (omega (arith, one)) c.across_cell-across.result c.offered-across.result c.across_cell-across.ensures c.offered-across.ensures.offer across)
+    ]
+
+pub product_top-requires : goal.product_top-requires
+product_top-requires g c =
+    let at = goal.at.product_top-requires g c in
+    let a = passed_of g at.After-pass_product in
+    record { child = child_of g at.After-pass_product a c.index-2.result.now c.index-2.ensures }
+
+pub returns-in_default-clause-queue : goal.returns-in_default-clause-queue
+returns-in_default-clause-queue g c =
+    let at = goal.at.returns-in_default-clause-queue g c in
+    let a = passed_of g at.After-pass_product in
+    omega (arith, a.longer, ap (λ n. length (product_at n c.args.row c.args.child).frontier) (lists_same c.args.self.now.nodes.items c.args.node c.pass_product.new.self a.in_nodes))
 
 pub returns-in_default-clause-formed : goal.returns-in_default-clause-formed
 returns-in_default-clause-formed g c =
@@ -102,8 +131,7 @@ pub keep-requires-clause-child : goal.keep-requires-clause-child
 keep-requires-clause-child g c =
     let at = goal.at.keep-requires-clause-child g c in
     let a = passed_of g at.After-pass_product in
-    let lists = c.index_mut-2.ensures.value ∙ get_or-set_same c.args.self.now.nodes.items c.args.node c.pass_product.new.self c.index_mut-2.result.now a.in_nodes ∙ c.pass_product.ensures.changed ∙ ap (λ n. with_product n c.args.row c.args.child (product_at c.pass_product.new.self c.args.row c.args.child)) (sym (lists_at c.args.self.now.nodes.items c.args.node c.index_mut.result.now c.index_mut.ensures.value a.in_nodes)) in
-    subst (λ n. c.args.child < length (get_or n.products c.args.row [])) (sym lists) (omega (arith, c.requires.child, counts_kept (lists_of c.args.self.now.nodes.items c.args.node) c.args.row c.args.child (product_at c.pass_product.new.self c.args.row c.args.child) a.in_rows c.requires.child c.args.row))
+    child_of g at.After-pass_product a c.index_mut-2.result.now c.index_mut-2.ensures.value
 
 pub returns-clause-formed : goal.returns-clause-formed
 returns-clause-formed g c =
@@ -113,10 +141,12 @@ returns-clause-formed g c =
     let k = kept_of g at.After-keep a in
     let some : 0 < length (product_at c.pass_product.new.self c.args.row c.args.child).frontier = subst (λ n. 0 < length (product_at n c.args.row c.args.child).frontier) read (c.in-Some.ensures.variant.0 refl) in
     let first : c.in-Some.top ≡ get_or (product_at c.pass_product.new.self c.args.row c.args.child).frontier 0 c.in-Some.top = c.in-Some.ensures.top c.in-Some.top ∙ ap (λ n. get_or (product_at n c.args.row c.args.child).frontier 0 c.in-Some.top) read in
+    let least : IsLeast g.R.Rank.KEYS g.R.Rank.key c.in-Some.top (product_at c.pass_product.new.self c.args.row c.args.child).frontier = subst (λ n. IsLeast g.R.Rank.KEYS g.R.Rank.key c.in-Some.top (product_at n c.args.row c.args.child).frontier) read c.in-Some.ensures.least in
     subst (λ (z : List (NodeLists g.row.R.Denot)). IsStreams g.R.Rank.KEYS g.R.Rank.key c.args.self.now.tree.now c.args.self.now.entries.entries z) (sym k.changed)
-    (a.holds (product_at c.keep.new.self c.args.row c.args.child) k.frontier (subst (λ n. length (product_at n c.args.row c.args.child).frontier < 2 ^ 64) read c.in-Some.ensures.limit) k.rises (subst (All (λ (e : Entry g.row.R.Denot Cell). (e.tag.left < part_known c.args.self.now.nodes.items c.args.node c.args.row c.args.child) × (e.tag.right < length c.args.self.now.entries.entries) × (node_of c.args.self.now.entries.entries e.tag.right ≡ child c.args.self.now.tree.now c.args.node c.args.child) × (group_of c.args.self.now.entries.entries e.tag.right ≡ group_named c.args.self.now.tree.now c.args.node c.args.row c.args.child))) (sym k.found) (a.next_known c.in-Some.top some first))
+    (a.holds (product_at c.keep.new.self c.args.row c.args.child) k.frontier (subst (λ n. length (product_at n c.args.row c.args.child).frontier < 2 ^ 64) read c.in-Some.ensures.limit) k.rises (subst (All (λ (x : Cell). (x.left < part_known c.args.self.now.nodes.items c.args.node c.args.row c.args.child) × (x.right < length c.args.self.now.entries.entries) × (node_of c.args.self.now.entries.entries x.right ≡ child c.args.self.now.tree.now c.args.node c.args.child) × (group_of c.args.self.now.entries.entries x.right ≡ group_named c.args.self.now.tree.now c.args.node c.args.row c.args.child))) (sym k.found) (a.next_known c.in-Some.top some first))
     (subst (λ f. IsFrontier g.R.Rank.KEYS g.R.Rank.key (pair_of c.args.self.now.entries.entries) (part_list g.R.Rank.KEYS g.R.Rank.key c.args.self.now.tree.now c.args.node c.args.row c.args.child) (group_list g.R.Rank.KEYS g.R.Rank.key c.args.self.now.tree.now (child c.args.self.now.tree.now c.args.node c.args.child) (group_named c.args.self.now.tree.now c.args.node c.args.row c.args.child)) (part_list g.R.Rank.KEYS g.R.Rank.key c.args.self.now.tree.now c.args.node c.args.row (suc c.args.child)) f (product_at c.pass_product.new.self c.args.row c.args.child).frontier) (sym k.found)
-    (a.grows c.in-Some.top some first (subst (λ n. IsLeast g.R.Rank.KEYS g.R.Rank.key c.in-Some.top (product_at n c.args.row c.args.child).frontier) read c.in-Some.ensures.least))))
+    (a.grows c.in-Some.top some first least))
+    (a.ranks_grow c.in-Some.top some first least (product_at c.keep.new.self c.args.row c.args.child) k.found k.ranks))
 
 pub returns-clause-changed : goal.returns-clause-changed
 returns-clause-changed g c =
@@ -132,7 +162,7 @@ returns-clause-reached g c =
     let k = kept_of g at.After-keep a in
     let next : suc c.args.child ≡ c.args.child + 1 = omega arith in
     subst (λ k. IsReached g.R.Rank.KEYS g.R.Rank.key c.args.self.now.tree.now (slice_set (slice_set c.args.self.now.nodes.items c.args.node c.pass_product.new.self) c.args.node c.keep.new.self) c.args.node c.args.row k (part_known c.args.self.now.nodes.items c.args.node c.args.row k)) next
-    (inl (omega (arith, ap (λ q. length q.found) k.product, ap length k.found, count_more (product_of c.args.self.now.nodes.items c.args.node c.args.row c.args.child).found c.in-Some.top)))
+    (inl (omega (arith, ap (λ q. length q.found) k.product, ap length k.found, count_more (product_of c.args.self.now.nodes.items c.args.node c.args.row c.args.child).found c.in-Some.top.tag)))
 
 pub returns-clause-queue : goal.returns-clause-queue
 returns-clause-queue g c =

@@ -2,9 +2,9 @@ use Rattle.std.proofs.Common.{◌-◌, List, [], sym, subst, arith}
 use Rattle.stream_store.specs.declared.entry.Linked.{Linked}
 use Rattle.suffix_streams.specs.declared.stream.Found.{Found}
 use Rattle.suffix_streams.specs.Beginnings.{IsBegunFrom}
-use Rattle.suffix_streams.proofs.BeginNodes.{from_none}
+use Rattle.suffix_streams.proofs.BeginNodes.{from_none, rows_more}
 use Rattle.suffix_streams.proofs.ViewPrefixes.{all_prefixes}
-use Rattle.suffix_streams.proofs.ViewStart.{start_view, start_steps, steps_more}
+use Rattle.suffix_streams.proofs.ViewStart.{start_view, start_steps}
 use Rattle.suffix_streams.proofs.streams.Streams.new.Goals as goal
 
 pub loop-node-init : goal.loop-node-init
@@ -23,7 +23,7 @@ loop-node-preserved g c =
     let t = c.args.tree.now in
     record {
       begun = c.in_ok-begin_node.ensures.begun;
-      cost = omega (arith, c.begin_node.ensures.cost, c.loop-node.invariant.cost, steps_more g.R.Rank.KEYS g.R.Rank.key t (c.loop-node.node - 1) c.loop-node.node (omega (arith, c.loop-node-test.true, c.loop-node.invariant.within)) (omega (arith, c.loop-node-test.true)));
+      cost = omega (arith, c.begin_node.ensures.cost, c.loop-node.invariant.cost, rows_more g.R.Rank.KEYS g.R.Rank.key t (c.loop-node.node - 1) c.loop-node.node (omega (arith, c.loop-node-test.true, c.loop-node.invariant.within)) (omega (arith, c.loop-node-test.true)));
       within = omega (arith, c.loop-node.invariant.within);
     }
 
@@ -34,8 +34,8 @@ returns-in_err-begin_node-clause-cost g c =
       arith,
       c.begin_node.ensures.cost,
       c.loop-node.invariant.cost,
-      steps_more g.R.Rank.KEYS g.R.Rank.key t (c.loop-node.node - 1) c.loop-node.node (omega (arith, c.loop-node-test.true, c.loop-node.invariant.within)) (omega (arith, c.loop-node-test.true)),
-      start_steps g.R.Rank.KEYS g.R.Rank.key t (c.loop-node.node - 1) (omega (arith, c.loop-node.invariant.within)),
+      rows_more g.R.Rank.KEYS g.R.Rank.key t (c.loop-node.node - 1) c.loop-node.node (omega (arith, c.loop-node-test.true, c.loop-node.invariant.within)) (omega (arith, c.loop-node-test.true)),
+      start_steps g.R.Rank.KEYS g.R.Rank.key t c.nodes-node.ensures.formed (c.loop-node.node - 1) (omega (arith, c.loop-node.invariant.within)),
     )
 
 pub invariant_of-result : goal.invariant_of-result
@@ -48,4 +48,4 @@ returns-clause-prefixes g c =
     all_prefixes g.R.Rank.KEYS g.R.Rank.key c.args.tree.now c.loop-node.entries.entries c.loop-node.nodes.items view.streams
 
 pub returns-clause-cost : goal.returns-clause-cost
-returns-clause-cost g c = omega (arith, c.loop-node.invariant.cost, start_steps g.R.Rank.KEYS g.R.Rank.key c.args.tree.now c.loop-node.node (omega (arith, c.loop-node.invariant.within)))
+returns-clause-cost g c = omega (arith, c.loop-node.invariant.cost, start_steps g.R.Rank.KEYS g.R.Rank.key c.args.tree.now c.nodes-node.ensures.formed c.loop-node.node (omega (arith, c.loop-node.invariant.within)))

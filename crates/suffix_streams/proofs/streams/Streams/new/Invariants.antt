@@ -7,6 +7,6 @@ use Rattle.suffix_streams.proofs.streams.Streams.new.Given as goal
 abbrev pub invariant-loop-node : goal.invariant-loop-node
 invariant-loop-node g l = record {
   begun : IsBegunFrom g.R.Rank.KEYS g.R.Rank.key l.tree l.entries.entries l.nodes.items l.node;
-  cost : l.steps ≤ l.initial.steps + 8 * length l.tree * rows_from g.R.Rank.KEYS g.R.Rank.key l.tree l.node;
+  cost : l.steps ≤ l.initial.steps + 4 * rows_from g.R.Rank.KEYS g.R.Rank.key l.tree l.node;
   within : l.node ≤ length l.tree;
 }

@@ -1,0 +1,12 @@
+use Rattle.std.proofs.Common.{◌<◌, length, get_or, arith}
+use Rattle.tdp_core.specs.TreeData.{members}
+use Rattle.tdp_core.proofs.TreeFacts.{member_is_row}
+use Rattle.suffix_streams.proofs.Entries.{headed_of}
+use Rattle.suffix_streams.proofs.members.first_below.Goals as goal
+
+pub first_solution-requires-clause-headed : goal.first_solution-requires-clause-headed
+first_solution-requires-clause-headed g c =
+    let t = c.args.tree.now in
+    let within : c.args.member < length (members t c.args.node c.args.group) = omega (arith, c.group_len.ensures, c.if-member-group_len.false) in
+    headed_of g.R.Rank.KEYS g.R.Rank.key t c.args.entries.now.entries c.args.nodes.now c.requires.formed c.args.node (get_or (members t c.args.node c.args.group) c.args.member 0) c.requires.node
+    (member_is_row g.R.Rank.KEYS g.R.Rank.key t c.requires.formed.tree c.args.node c.args.group c.args.member c.requires.node within)
