@@ -1,27 +1,22 @@
 -- The trees that the tests build: a root of item 1 with one row, and one child of item 0 with two rows.
-use Rattle.std.proofs.Common.{◌≡◌, ℕ, pos, ◌+ℤ◌, nat_eq, zero, suc, ◌+◌, ◌-◌, ◌/◌, ◌^◌, ◌<◌, ◌≤◌, cond, nat_lt, List, [], ◌∷◌, length, get_or, refl, sym, ap, subst, ◌∙◌, inl, inr, arith}
+use Rattle.std.proofs.Common.{◌≡◌, ℕ, zero, suc, ◌+◌, ◌-◌, ◌/◌, ◌^◌, ◌<◌, ◌≤◌, cond, nat_lt, List, [], ◌∷◌, length, get_or, refl, sym, ap, subst, ◌∙◌, inl, inr, arith}
 use Rattle.std.specs.List.{concat, range_with_len}
 use Rattle.std.specs.List.Sorted.{IsPermutation}
 use Rattle.std.proofs.lemmas.List.Sorted.{IsPermutation-refl, IsPermutation-swap}
 use Rattle.std.proofs.lemmas.Bool.Decides.{nat_tests}
 use Rattle.tdp_model.specs.Remains.{AtMost}
-use Rattle.tdp_model.specs.KeyTuple.{KeyOf, key_below, key_add, key_none, slot_of}
+use Rattle.tdp_model.specs.KeyTuple.{KeyOf, key_below, key_add, key_none}
 use Rattle.tdp_model.specs.TreeProblem.{sum_from, kid_part, best_by_kids}
-use Rattle.tdp_model.proofs.KeyTuples.{tuple_keys, slot_of_add}
-use Rattle.rank_key.specs.Keys.{KeyFits, row_key}
-use Rattle.std.specs.Int.{w128}
-use Rattle.std.proofs.lemmas.Int.{ints}
-use Rattle.std.specs.Prelude.{FitsSigned, replicate}
-use Rattle.std.proofs.Math.ListN.{set}
-use Rattle.tdp_model.specs.KeyNumbers.{sum_of}
-use Rattle.tdp_model.proofs.KeyNumbers.{sum_of_add, sum_of_lists}
+use Rattle.tdp_model.proofs.KeyTuples.{tuple_keys}
+use Rattle.rank_key.specs.Keys.{IsHeld, IsWithin, KeyFits, row_key}
 use Rattle.engine_tests.specs.SmallNodes.{small_caps, small_shape, root_node, leaf_node}
 use Rattle.tdp_core.specs.declared.parts.NodeShape.{NodeShape}
 use Rattle.tdp_core.specs.declared.parts.NodeParts.{NodeParts}
-use Rattle.tdp_core.specs.RawData.{AreShapes, shape_children}
+use Rattle.tdp_core.specs.RawData.{AreShapes, AreShapesHeld, shape_children}
 use Rattle.tdp_core.specs.TreeData.{NodeData, node_data, tree_data, kids_below, parent, item, cap, rows, number, child_count, child_place, group_count, group_named, members, group, rank, best, node_at}
-use Rattle.tdp_core.specs.WellFormed.{IsShaped, IsFormed, RowFits}
-use Rattle.tdp_core.proofs.RowKeys.{row_key-fits, row_key-slot}
+use Rattle.tdp_core.specs.WellFormed.{AreHeld, IsShaped, IsFormed, RowFits}
+use Rattle.tdp_core.proofs.RowKeys.{row_key-fits}
+use Rattle.engine_tests.proofs.Held.{two-nodes-held, two-rows-held}
 
 abbrev pub small_shapes : List NodeShape
 small_shapes = small_shape 1 ∷ small_shape 0 ∷ []
@@ -70,6 +65,13 @@ two_shaped parent item cap p0 p1 i0 i1 c0 c1 = record {
 pub small_shaped : AreShapes small_shapes
 small_shaped = two_shaped _ _ _ refl refl refl refl (λ i. capped i (get_or small_caps i 0) (ten i)) (λ i. capped i (get_or small_caps i 0) (ten i))
 
+module _ {R : Type 0} {d items limit rows : ℕ} (key : R → KeyOf d 16)
+    (holds : (k : KeyOf d 16) → IsWithin d items limit rows k → IsHeld d key k)
+    (roomy : 2 ^ 21 ≤ rows) (few : 2 ≤ items) (wide : 100 ≤ limit) where
+  pub small_held : AreShapesHeld d key small_shapes
+  small_held = two-nodes-held key holds roomy few wide _ _ refl refl
+      (λ i. capped i (get_or small_caps i 0) (ten i)) (λ i. capped i (get_or small_caps i 0) (ten i))
+
 pub root_children : shape_children small_shapes 0 ≡ 1
 unfolding kids_below
 root_children = refl
@@ -102,8 +104,9 @@ module _ {R : Type 0} (top later sooner whole : R) where
   lower zero = inl (omega arith)
   lower (suc d) = inr (refl, lower d)
 
-  module _ (d : ℕ) (key : R → KeyOf d 16) (is_top : key top ≡ row_key d [] 1 4) (is_later : key later ≡ row_key d [] 0 3) (is_sooner : key sooner ≡ row_key d [] 0 1) (is_whole : key whole ≡ key_add d 16 (key top) (key sooner)) where
-    fits : (cap : ℕ → ℕ) (item row : ℕ) (r : R) → item < 16 → row < 2 ^ 32 → key r ≡ row_key d [] item row → RowFits d item cap row (key r)
+  module _ (d : ℕ) (key : R → KeyOf d 16) (is_top : key top ≡ row_key d [] 1 4) (is_later : key later ≡ row_key d [] 0 3) (is_sooner : key sooner ≡ row_key d [] 0 1) (is_whole : key whole ≡ key_add d 16 (key top) (key sooner))
+      (held : AreHeld d key 2 (item small_nodes) (cap small_nodes)) where
+    fits : (cap : ℕ → ℕ) (item row : ℕ) (r : R) → item < 16 → row < 2 ^ 21 → key r ≡ row_key d [] item row → RowFits d item cap row (key r)
     fits cap item row r l h is = subst (RowFits d item cap row) (sym is) (row_key-fits d [] item row cap l h (λ i b. omega arith))
 
     rows_fit : (v r : ℕ) → v < 2 → r < rows small_nodes v → RowFits d (item small_nodes v) (cap small_nodes v) (number small_nodes v r) (rank small_nodes d key v r)
@@ -176,6 +179,7 @@ module _ {R : Type 0} (top later sooner whole : R) where
     pub small_formed : IsFormed d key small_nodes
     small_formed = record {
       laid_out = record {
+        held = held;
         shaped = two_shaped (parent small_nodes) (item small_nodes) (cap small_nodes) refl refl refl refl (λ i. capped i (get_or small_caps i 0) (ten i)) (λ i. capped i (get_or small_caps i 0) (ten i));
         few_rows = few;
         rows_fit = rows_fit;
@@ -196,16 +200,15 @@ pub small_data : {R : Type 0} {top later sooner whole : R} {root leaf : NodePart
     → node_data leaf ≡ leaf_node later sooner → tree_data parts ≡ small_nodes top later sooner whole
 small_data {top = top} {whole = whole} {leaf = leaf} e r l = ap tree_data e ∙ ap (λ n. n ∷ node_data leaf ∷ []) r ∙ ap (λ n. root_node top whole ∷ n ∷ []) l
 
--- what the join of the root's row and the lesser row below it asks
-pub small_fits : (d : ℕ) (a b : KeyOf d 16) → a ≡ row_key d [] 1 4 → b ≡ row_key d [] 0 1 → KeyFits d (key_add d 16 a b)
-small_fits d a b top sooner = subst (λ k. KeyFits d (key_add d 16 k b)) (sym top) (subst (λ k. KeyFits d (key_add d 16 (row_key d [] 1 4) k)) (sym sooner) (sums, slots))
-  where
-    sums : (i : ℕ) → i < d → FitsSigned w128 (sum_of d 16 i (key_add d 16 (row_key d [] 1 4) (row_key d [] 0 1)))
-    sums i l = subst (FitsSigned w128) (sym (sum_of_add d 16 i (row_key d [] 1 4) (row_key d [] 0 1)
-        ∙ ap (λ z. z +ℤ sum_of d 16 i (row_key d [] 0 1)) (sum_of_lists d 16 i [] (set (replicate 16 0) 1 4) l) ∙ ap (λ z. pos 0 +ℤ z) (sum_of_lists d 16 i [] (set (replicate 16 0) 0 1) l))) (omega (arith, ints))
+module _ {R : Type 0} {d items limit rows : ℕ} (key : R → KeyOf d 16)
+    (holds : (k : KeyOf d 16) → IsWithin d items limit rows k → IsHeld d key k)
+    (roomy : 2 ^ 21 ≤ rows) (few : 2 ≤ items) (wide : 100 ≤ limit) where
+  -- what the join of the root's row and the lesser row below it asks
+  pub small_fits : (a b : KeyOf d 16) → a ≡ row_key d [] 1 4 → b ≡ row_key d [] 0 1 → KeyFits d key (key_add d 16 a b)
+  small_fits a b top sooner = rw (top, sooner)
+      (two-rows-held key holds roomy few wide [] [] 1 4 0 1 tt tt (omega arith) (omega arith) (omega arith) (omega arith))
 
-    few : (i row item : ℕ) → row ≤ 4 → cond {A = ℕ} (nat_eq i item) row 0 ≤ 4
-    few i row item h = grind (arith, nat_tests)
-
-    slots : (i : ℕ) → i < 16 → slot_of d 16 i (key_add d 16 (row_key d [] 1 4) (row_key d [] 0 1)) < 2 ^ 32
-    slots i l = omega (arith, slot_of_add d 16 i (row_key d [] 1 4) (row_key d [] 0 1), row_key-slot d [] 1 4 i (omega arith) l, row_key-slot d [] 0 1 i (omega arith) l, few i 4 1 (omega arith), few i 1 0 (omega arith))
+  -- the nodes' shapes are the small ones
+  pub nodes_held : (top later sooner whole : R) → AreHeld d key 2 (item (small_nodes top later sooner whole)) (cap (small_nodes top later sooner whole))
+  nodes_held top later sooner whole = two-nodes-held key holds roomy few wide _ _ refl refl
+      (λ i. capped i (get_or small_caps i 0) (ten i)) (λ i. capped i (get_or small_caps i 0) (ten i))

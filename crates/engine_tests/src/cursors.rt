@@ -55,11 +55,11 @@ impl<R: Rank> Ranked for Listed<R> {
 }
 
 // The answers with the row numbers below `count`.
-fn answers_of<R: Rank>(alloc: Global, count: u32) -> Result<Vec<Answer<R>>, NoMemory>
-    requires slots { 16 ≤ R.ITEMS }
+fn answers_of<R: Rank>(alloc: Global, count: u16) -> Result<Vec<Answer<R>>, NoMemory>
+    requires slots { 1 ≤ R.ITEMS }
 {
     let mut answers = Vec::new(alloc);
-    for number in 0..count {
+    for number in 0..u32::from(count) {
         let rank = R::of_row(&[], 0, number);
         answers.push(Answer {
             rows: [number; 16],
@@ -72,10 +72,10 @@ fn answers_of<R: Rank>(alloc: Global, count: u32) -> Result<Vec<Answer<R>>, NoMe
 // No cursor yet over these answers.
 fn cursors_over<R: Rank>(
     alloc: Global,
-    count: u32,
+    count: u16,
     refusals: u64,
 ) -> Result<Cursors<Listed<R>>, NoMemory>
-    requires slots { 16 ≤ R.ITEMS }
+    requires slots { 1 ≤ R.ITEMS }
 {
     let engine = Listed {
         answers: answers_of(alloc, count)?,
@@ -170,7 +170,7 @@ fn cursors_move<R: Rank, L: Ledger>(
     alloc: Global,
     blank: Blank,
 ) -> Result<Result<bool, CursorFault>, NoMemory>
-    requires slots { 16 ≤ R.ITEMS }
+    requires slots { 1 ≤ R.ITEMS }
     requires name { blank.name ≡ L.name }
     requires parts { blank.parts ≡ L.parts }
     requires share { 0 < L.parts }
@@ -209,7 +209,7 @@ fn open_as_many_as_can_be<E: Ranked>(cursors: &mut Cursors<E>) -> Result<bool, C
 }
 
 fn cursors_open<R: Rank>(alloc: Global) -> Result<Result<bool, CursorFault>, NoMemory>
-    requires slots { 16 ≤ R.ITEMS }
+    requires slots { 1 ≤ R.ITEMS }
 {
     let mut cursors = cursors_over::<R>(alloc, 1, 0)?;
     Ok(open_as_many_as_can_be(&mut cursors))
@@ -252,7 +252,7 @@ fn are_driven<E: Ranked, L: Ledger>(cursors: &mut Cursors<E>, steps: &mut Steps<
 }
 
 fn cursors_are_driven<R: Rank, L: Ledger>(alloc: Global, blank: Blank) -> Result<bool, NoMemory>
-    requires slots { 16 ≤ R.ITEMS }
+    requires slots { 1 ≤ R.ITEMS }
     requires name { blank.name ≡ L.name }
     requires parts { blank.parts ≡ L.parts }
     requires share { 0 < L.parts }

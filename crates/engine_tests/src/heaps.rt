@@ -1,6 +1,7 @@
 //! Entries leave heaps in order of rank.
-ghost use Rattle.std.specs.Prelude.{◌≡◌, ◌≤◌, ◌<◌};
+ghost use Rattle.std.specs.Prelude.{◌≡◌, ◌^◌, ◌≤◌, ◌<◌};
 
+use packed_rank::PackedRank;
 use rank_key::{LexRank, Rank, SumRank};
 use std::alloc::Global;
 use std::marker::Brand;
@@ -9,9 +10,9 @@ use step_counter::{NoMemory, Steps};
 use take2_heap::{Entry, HeapOf, heapify};
 
 /// What an entry was made of: its first sum and its row number.
-type Made = (u32, u32);
+type Made = (u32, u16);
 
-const SIZES: &[u32] = &[0, 1, 2, 3, 1000];
+const SIZES: &[u16] = &[0, 1, 2, 3, 1000];
 
 // The number after `number` in a sequence without visible order, with many equal ones.
 fn scrambled(number: u32) -> u32 {
@@ -19,19 +20,21 @@ fn scrambled(number: u32) -> u32 {
 }
 
 fn entry<R: Rank>(made: Made) -> Entry<R, Made>
-    requires slots { 16 ≤ R.ITEMS }
+    requires slots { 1 ≤ R.ITEMS }
+    requires limit { 2 ^ 32 ≤ R.LIMIT }
     requires keys { 0 < R.KEYS }
 {
     let (sum, row) = made;
     Entry {
-        rank: R::of_row(&[i128::from(sum)], 0, row),
+        rank: R::of_row(&[i128::from(sum)], 0, u32::from(row)),
         tag: made,
     }
 }
 
 // This many entries, in no order.
-fn entries_of<R: Rank>(alloc: Global, count: u32) -> Result<Vec<Entry<R, Made>>, NoMemory>
-    requires slots { 16 ≤ R.ITEMS }
+fn entries_of<R: Rank>(alloc: Global, count: u16) -> Result<Vec<Entry<R, Made>>, NoMemory>
+    requires slots { 1 ≤ R.ITEMS }
+    requires limit { 2 ^ 32 ≤ R.LIMIT }
     requires keys { 0 < R.KEYS }
 {
     let mut entries = Vec::new(alloc);
@@ -76,16 +79,17 @@ fn drains<R: Rank, L: Ledger>(
 
 fn heapified<R: Rank, L: Ledger>(
     alloc: Global,
-    count: u32,
+    count: u16,
     steps: &mut Steps<L>,
 ) -> Result<bool, NoMemory>
-    requires slots { 16 ≤ R.ITEMS }
+    requires slots { 1 ≤ R.ITEMS }
+    requires limit { 2 ^ 32 ≤ R.LIMIT }
     requires keys { 0 < R.KEYS }
 {
     let mut entries = entries_of::<R>(alloc, count)?;
     heapify(entries.as_mut_slice(), steps);
     let mut heap = HeapOf::from_heap(entries);
-    Ok(drains(&mut heap, count as usize, steps))
+    Ok(drains(&mut heap, usize::from(count), steps))
 }
 
 // A heap of these entries, pushed one by one.
@@ -104,20 +108,22 @@ fn heap_of<R: Rank, L: Ledger>(
 
 fn pushed<R: Rank, L: Ledger>(
     alloc: Global,
-    count: u32,
+    count: u16,
     steps: &mut Steps<L>,
 ) -> Result<bool, NoMemory>
-    requires slots { 16 ≤ R.ITEMS }
+    requires slots { 1 ≤ R.ITEMS }
+    requires limit { 2 ^ 32 ≤ R.LIMIT }
     requires keys { 0 < R.KEYS }
 {
     let entries = entries_of::<R>(alloc, count)?;
     let mut heap = heap_of(alloc, &entries, steps)?;
-    Ok(drains(&mut heap, count as usize, steps))
+    Ok(drains(&mut heap, usize::from(count), steps))
 }
 
 // Whether entries of each size leave in order of rank, both if made into a heap at once and if pushed one by one.
 fn all_drain<R: Rank, L: Ledger>(alloc: Global, steps: &mut Steps<L>) -> Result<bool, NoMemory>
-    requires slots { 16 ≤ R.ITEMS }
+    requires slots { 1 ≤ R.ITEMS }
+    requires limit { 2 ^ 32 ≤ R.LIMIT }
     requires keys { 0 < R.KEYS }
 {
     for count in SIZES {
@@ -129,7 +135,8 @@ fn all_drain<R: Rank, L: Ledger>(alloc: Global, steps: &mut Steps<L>) -> Result<
 }
 
 fn leave_in_order<R: Rank, L: Ledger>(alloc: Global, blank: Blank) -> Result<bool, NoMemory>
-    requires slots { 16 ≤ R.ITEMS }
+    requires slots { 1 ≤ R.ITEMS }
+    requires limit { 2 ^ 32 ≤ R.LIMIT }
     requires name { blank.name ≡ L.name }
     requires parts { blank.parts ≡ L.parts }
     requires share { 0 < L.parts }
@@ -195,6 +202,8 @@ fn entries_leave_in_order_of_rank(rt: HostRuntime) {
     assert!(rt; by_sums == Ok(true));
     let by_lists = leave_in_order::<LexRank, Brand>(rt.alloc(), Blank::new(1));
     assert!(rt; by_lists == Ok(true));
+    let packed = leave_in_order::<PackedRank, Brand>(rt.alloc(), Blank::new(1));
+    assert!(rt; packed == Ok(true));
 }
 
 #[test]

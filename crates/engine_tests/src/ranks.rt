@@ -1,6 +1,7 @@
-//! Ranks with one sum and with eight.
+//! Ranks with one sum and with eight, and packed ones.
 ghost use Rattle.std.specs.Prelude.{◌≡◌, ◌≤◌, ◌<◌};
 
+use packed_rank::PackedRank;
 use rank_key::{LexRank, Rank, SumRank, bits};
 use std::marker::Brand;
 use std::process::Abort;
@@ -16,7 +17,8 @@ fn expect_before<R: Rank, L: Ledger>(rt: &impl Abort, a: R, b: R, steps: &mut St
 }
 
 fn adds_and_exchanges<R: Rank, L: Ledger>(rt: &impl Abort, blank: Blank)
-    requires slots { 16 ≤ R.ITEMS }
+    requires slots { 2 ≤ R.ITEMS }
+    requires limit { 100 ≤ R.LIMIT }
     requires name { blank.name ≡ L.name }
     requires parts { blank.parts ≡ L.parts }
     requires some_part { 0 < blank.parts }
@@ -47,10 +49,41 @@ fn orders_lists<L: Ledger>(rt: &impl Abort, blank: Blank)
     let mut steps = Steps::<L>::new(blank);
     let lesser = LexRank::of_row(&[1, 4], 3, 7);
     expect_before(rt, lesser, LexRank::of_row(&[1, 5], 0, 2), &mut steps);
-    let last = LexRank::of_row(&[1, 5, 0, 0, 0, 0, 0, i128::MIN], 15, 1);
+    let last = LexRank::of_row(&[1, 5, 0, 0, 0, 0, 0, i128::MIN + 1], 15, 1);
     expect_before(rt, last, LexRank::of_row(&[1, 5], 0, 2), &mut steps);
     let most = SumRank::of_row(&[i128::MAX], 0, u32::MAX);
     expect_before(rt, SumRank::of_row(&[], 15, 1), most, &mut steps);
+}
+
+// The least and the greatest sum, and the last row number of a packed rank.
+const LEAST: i128 = 1 - (1 << 43);
+
+const MOST: i128 = (1 << 43) - 1;
+
+const LAST: u32 = (1 << 21) - 1;
+
+// No slot of a packed rank reaches into the one before it, and the first of them not into the sum.
+fn orders_packed<L: Ledger>(rt: &impl Abort, blank: Blank)
+    requires name { blank.name ≡ L.name }
+    requires parts { blank.parts ≡ L.parts }
+    requires some_part { 0 < blank.parts }
+{
+    let mut steps = Steps::<L>::new(blank);
+    for slot in 0..3 {
+        let later = PackedRank::of_row(&[MOST], slot + 1, LAST);
+        expect_before(rt, later, PackedRank::of_row(&[MOST], slot, 1), &mut steps);
+    }
+    let least = PackedRank::of_row(&[LEAST], 3, 1);
+    expect_before(rt, least, PackedRank::of_row(&[LEAST], 0, LAST), &mut steps);
+    let second = PackedRank::of_row(&[LEAST + 1], 3, 1);
+    expect_before(
+        rt,
+        PackedRank::of_row(&[LEAST], 0, LAST),
+        second,
+        &mut steps,
+    );
+    let negative = PackedRank::of_row(&[-1], 0, LAST);
+    expect_before(rt, negative, PackedRank::zero(), &mut steps);
 }
 
 #[test]
@@ -62,6 +95,18 @@ fn a_rank_with_one_sum_adds_and_exchanges(rt: HostRuntime) -> Result<(), Fail> {
 #[test]
 fn a_rank_with_eight_sums_adds_and_exchanges(rt: HostRuntime) -> Result<(), Fail> {
     adds_and_exchanges::<LexRank, Brand>(&rt, Blank::new(1));
+    Ok(())
+}
+
+#[test]
+fn a_packed_rank_adds_and_exchanges(rt: HostRuntime) -> Result<(), Fail> {
+    adds_and_exchanges::<PackedRank, Brand>(&rt, Blank::new(1));
+    Ok(())
+}
+
+#[test]
+fn numbers_of_a_packed_rank_stay_apart(rt: HostRuntime) -> Result<(), Fail> {
+    orders_packed::<Brand>(&rt, Blank::new(1));
     Ok(())
 }
 

@@ -106,7 +106,8 @@ pub(crate) fn small_tree<R: Rank, L: Ledger>(
     alloc: Global,
     steps: &mut Steps<L>,
 ) -> Result<Tree<R>, NoMemory>
-    requires slots { 16 ≤ R.ITEMS }
+    requires slots { 2 ≤ R.ITEMS }
+    requires limit { 100 ≤ R.LIMIT }
     ensures tie_free { IfOk result IsTieFreeTree }
     ensures nodes { IfOk result (λ t. length t ≡ 2) }
     ensures child { IfOk result (λ t. child_count t 0 ≡ 1) }

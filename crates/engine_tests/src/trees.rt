@@ -1,9 +1,10 @@
 //! Raw trees, trees and groups, as they are read back.
-ghost use Rattle.std.specs.Prelude.{◌≡◌, ℕ, ◌+◌, ◌<◌, ◌≤◌, [], ◌∷◌, length, IfOk, OnOk};
+ghost use Rattle.std.specs.Prelude.{◌≡◌, ℕ, ◌+◌, ◌^◌, ◌<◌, ◌≤◌, [], ◌∷◌, length, IfOk, OnOk};
 ghost use Rattle.tdp_core.specs.RawData.{row_total, shape_children};
 ghost use Rattle.tdp_core.specs.TreeData.{node_data, child_count, group_count, rows};
 
 use crate::small_tree::small_tree;
+use packed_rank::PackedRank;
 use rank_key::{Rank, SumRank};
 use std::alloc::Global;
 use std::marker::Brand;
@@ -20,6 +21,7 @@ fn add<R: Rank>(
     children: &[u32],
 ) -> Result<(), NoMemory>
     requires slots { 16 ≤ R.ITEMS }
+    requires number { number < 2 ^ 21 }
     requires node { node < length tree.old.shapes }
     requires children { length children.now ≡ shape_children tree.old.shapes node }
     requires room { row_total tree.old < 100 }
@@ -34,7 +36,9 @@ fn add<R: Rank>(
 }
 
 // A root of item 1 with one row, above a child of item 0 with two.
-fn linked(alloc: Global) -> Result<RawTree<SumRank>, NoMemory>
+fn linked<R: Rank>(alloc: Global) -> Result<RawTree<R>, NoMemory>
+    requires slots { 16 ≤ R.ITEMS }
+    requires limit { 100 ≤ R.LIMIT }
     ensures nodes { IfOk result (λ t. length t.shapes ≡ 2) }
     ensures child { IfOk result (λ t. 0 < shape_children t.shapes 0) }
 {
@@ -103,7 +107,7 @@ fn is_linked<R: Rank>(tree: &RawTree<R>) -> bool
 }
 
 fn linked_is_read_back(alloc: Global) -> Result<bool, NoMemory> {
-    let tree = linked(alloc)?;
+    let tree = linked::<SumRank>(alloc)?;
     Ok(is_linked(&tree))
 }
 
@@ -220,7 +224,8 @@ fn is_small<R: Rank, L: Ledger>(tree: &Tree<R>, steps: &mut Steps<L>) -> bool
 }
 
 fn small_is_read<R: Rank, L: Ledger>(alloc: Global, blank: Blank) -> Result<bool, NoMemory>
-    requires slots { 16 ≤ R.ITEMS }
+    requires slots { 2 ≤ R.ITEMS }
+    requires limit { 100 ≤ R.LIMIT }
     requires name { blank.name ≡ L.name }
     requires parts { blank.parts ≡ L.parts }
     requires share { 0 < L.parts }
@@ -233,6 +238,7 @@ fn small_is_read<R: Rank, L: Ledger>(alloc: Global, blank: Blank) -> Result<bool
 #[test]
 fn a_tree_of_two_nodes_is_read(rt: HostRuntime) {
     assert!(rt; small_is_read::<SumRank, Brand>(rt.alloc(), Blank::new(1)) == Ok(true));
+    assert!(rt; small_is_read::<PackedRank, Brand>(rt.alloc(), Blank::new(1)) == Ok(true));
 }
 
 fn are_groups(groups: &Groups, members: &[&[u32]]) -> bool {

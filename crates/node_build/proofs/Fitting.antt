@@ -1,8 +1,11 @@
 -- A row of a node fits the node's shape.
-use Rattle.std.proofs.Common.{◌≡◌, ◌<◌, ◌≤◌, ◌^◌, ℕ, pos, unsigned_abs, nat_lt, false, List, [], length, get_or, sym, ap, subst, ◌∙◌, inl, inr, arith}
+use Rattle.std.proofs.Common.{◌≡◌, ◌<◌, ◌≤◌, ◌+◌, ◌^◌, ℕ, zero, suc, ℤ, pos, unsigned_abs, nat_lt, false, List, [], ◌∷◌, length, get_or, sym, ap, subst, ◌∙◌, inl, inr, arith}
+use Rattle.std.specs.List.{All}
 use Rattle.std.proofs.lemmas.Bool.{cases_lt, cond-true, lt-ltb}
 use Rattle.std.proofs.lemmas.List.{get_or-map, get_or_past, length-map}
+use Rattle.std.proofs.lemmas.List.Elements.{All-from_get_or}
 use Rattle.tdp_model.specs.KeyTuple.{KeyOf}
+use Rattle.tdp_model.specs.TreeProblem.{sum_from}
 use Rattle.rank_key.specs.Keys.{row_key}
 use Rattle.tdp_core.specs.declared.parts.NodeShape.{NodeShape}
 use Rattle.tdp_core.specs.RawData.{shape_cap, shape_children, shape_item, shape_parent}
@@ -14,19 +17,37 @@ use Rattle.anyk_model.specs.Table.{Table}
 use Rattle.query_bind.specs.Weighed.{BoundQuery}
 use Rattle.query_bind.specs.Weights.{cap_of, key_at, part_of}
 use Rattle.query_bind.proofs.Parts.{part-capped}
-use Rattle.node_build.specs.Nodes.{cap_at, item_of, parent_of, row_parts}
+use Rattle.step_bounds.proofs.NodeSums.{fewer-nodes, over}
+use Rattle.node_build.specs.Nodes.{CapsBelow, cap_at, item_of, parent_of, row_parts}
 use Rattle.node_build.specs.Shapes.{AreShapesOf}
 use Rattle.node_build.proofs.Naming.{kids-ap}
 
+one-term : (f : ℕ → ℕ) (item : ℕ) → sum_from ◌+◌ 0 (λ v. f item) 1 0 ≡ f item
+unfolding sum_from
+one-term f item = omega arith
+
+-- a term of a sum over all items
+one-of-all : (f : ℕ → ℕ) (n item : ℕ) → item < n → f item ≤ over f n
+one-of-all f n item known =
+    let fewer = fewer-nodes n (λ v. item) 1 f (record { within = λ v a b. known; differ = λ u v a b c. absurd (omega (arith, b, c)) }) in
+    let one = one-term f item in
+    omega (arith, fewer, one)
+
+pub one-below : (limit : ℕ) (z : ℤ) → unsigned_abs z < limit → All (λ y. unsigned_abs y < limit) (z ∷ [])
+one-below limit z small zero d l = small
+one-below limit z small (suc k) d l = absurd (omega arith)
+
 module _ (bound : BoundQuery) (tables : List Table) where
+  cap-there : (item key : ℕ) → key < length bound.query.order → cap_at bound tables item key ≡ cap_of tables bound.query.items item (key_at bound.query.order key)
+  cap-there item key l = cond-true (nat_lt key (length bound.query.order)) (cap_of tables bound.query.items item (key_at bound.query.order key)) 0 (lt-ltb key (length bound.query.order) l)
+
   part-small : (item row i : ℕ) → unsigned_abs (get_or (row_parts bound tables item row) i (pos 0)) ≤ cap_at bound tables item i
   part-small item row i = elim (cases_lt i (length bound.query.order)) [
     | inl l ↦
         let key = key_at bound.query.order i in
         let at : get_or (row_parts bound tables item row) i (pos 0) ≡ part_of tables bound.query.items item row key =
         get_or-map (part_of tables bound.query.items item row) bound.query.order i (record { terms = []; descending = false }) (pos 0) l in
-        let cap : cap_at bound tables item i ≡ cap_of tables bound.query.items item key =
-        cond-true (nat_lt i (length bound.query.order)) (cap_of tables bound.query.items item key) 0 (lt-ltb i (length bound.query.order) l) in
+        let cap = cap-there item i l in
         let small : unsigned_abs (part_of tables bound.query.items item row key) ≤ cap_of tables bound.query.items item key = part-capped tables bound.query.items row item key in
         let same : unsigned_abs (get_or (row_parts bound tables item row) i (pos 0)) ≡ unsigned_abs (part_of tables bound.query.items item row key) = ap unsigned_abs at in
         omega (arith, same, cap, small)
@@ -37,8 +58,28 @@ module _ (bound : BoundQuery) (tables : List Table) where
         omega (arith, zero_abs)
   ]
 
+  module _ (limit item row : ℕ) (below : CapsBelow limit bound tables) (known : item < length bound.query.items) where
+    at-below : (i z : ℕ) → z ≤ cap_at bound tables item i → z < limit
+    at-below i z small =
+        let one = one-of-all (λ k. cap_at bound tables k i) (length bound.query.items) item known in
+        let all = below i in
+        omega (arith, small, one, all)
+
+    -- the part of a row is below what the caps of all items are below
+    pub part-below : (key : ℕ) → key < length bound.query.order → unsigned_abs (part_of tables bound.query.items item row (key_at bound.query.order key)) < limit
+    part-below key there =
+        let cap = cap-there item key there in
+        let small : unsigned_abs (part_of tables bound.query.items item row (key_at bound.query.order key)) ≤ cap_of tables bound.query.items item (key_at bound.query.order key) =
+        part-capped tables bound.query.items row item (key_at bound.query.order key) in
+        at-below key (unsigned_abs (part_of tables bound.query.items item row (key_at bound.query.order key))) (omega (arith, cap, small))
+
+    -- so are all parts of a row
+    pub parts-below : All (λ z. unsigned_abs z < limit) (row_parts bound tables item row)
+    parts-below = All-from_get_or (λ z. unsigned_abs z < limit) (row_parts bound tables item row) (pos 0)
+        (λ i l. at-below i (unsigned_abs (get_or (row_parts bound tables item row) i (pos 0))) (part-small item row i))
+
   module _ (join : JoinTree) (shapes : List NodeShape) (of_join : AreShapesOf bound tables join join.count shapes) (v : ℕ) (l : v < join.count) where
-    pub row-fits : (d row : ℕ) (k : KeyOf d 16) → item_of join v < 16 → row < 2 ^ 32 → k ≡ row_key d (row_parts bound tables (item_of join v) row) (item_of join v) row
+    pub row-fits : (d row : ℕ) (k : KeyOf d 16) → item_of join v < 16 → row < 2 ^ 21 → k ≡ row_key d (row_parts bound tables (item_of join v) row) (item_of join v) row
         → RowFits d (shape_item shapes v) (shape_cap shapes v) row k
     row-fits d row k few low is =
         let item = of_join.items v l in

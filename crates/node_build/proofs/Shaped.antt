@@ -17,7 +17,7 @@ use Rattle.query_bind.specs.declared.fault.BindFault.TheVariants as fault
 use Rattle.query_bind.proofs.Parts.{caps-add}
 use Rattle.query_bind.proofs.Search.{all-at}
 use Rattle.step_bounds.proofs.NodeSums.{AreApart, fewer-nodes, over, sum-same}
-use Rattle.node_build.specs.Nodes.{IsJoinTreeOf, cap_at, item_of, parent_of}
+use Rattle.node_build.specs.Nodes.{CapsBelow, IsJoinTreeOf, cap_at, item_of, parent_of}
 use Rattle.node_build.specs.Shapes.{AreShapesOf}
 
 -- ---- join trees
@@ -89,7 +89,7 @@ no-fault : (p : Option ℕ) → option_map (λ n. fault.RankRange n) p ≡ None 
 no-fault None e = refl
 no-fault (Some n) e = cc
 
-over-none : (ns : List ℕ) → sum_of_all (map (λ (i : ℕ). 0) ns) ≡ 0
+pub over-none : (ns : List ℕ) → sum_of_all (map (λ (i : ℕ). 0) ns) ≡ 0
 over-none [] = refl
 over-none (n ∷ ns) = let h = over-none ns in omega (arith, h)
 
@@ -101,7 +101,7 @@ module _ (bound : BoundQuery) (tables : List Table) (fits : Fits bound tables) w
       (none-passes test 1 bound.query.order (no-fault (position_from test 1 bound.query.order) fits.range) key (record { terms = []; descending = false }) there)
 
   -- the caps of all items have a sum that fits
-  caps-small : (i : ℕ) → over (λ item. cap_at bound tables item i) (length bound.query.items) < 2 ^ 127
+  pub caps-small : CapsBelow (2 ^ 127) bound tables
   caps-small i = by (nat_lt i (length bound.query.order)) refl
     where
       by : (b : Bool) → nat_lt i (length bound.query.order) ≡ b

@@ -12,6 +12,7 @@ use Rattle.anyk_model.specs.Table.{Table}
 use Rattle.anyk_model.specs.Query.{Query, item_table}
 use Rattle.query_bind.specs.Classes.{HasVariable, Passes, row_field}
 use Rattle.query_bind.specs.Graph.{IsGraphOf}
+use Rattle.query_bind.specs.Parts.{numbers_of, sum_of_all}
 use Rattle.query_bind.specs.Weighed.{BoundQuery}
 use Rattle.query_bind.specs.Weights.{cap_of, key_at, part_of}
 use Rattle.node_build.specs.declared.built.BuildFault.{BuildFault}
@@ -107,3 +108,9 @@ module _ (bound : BoundQuery) (tables : List Table) where
   abbrev pub TellsFault : JoinTree → ℕ → BuildFault → Type 0
   TellsFault join budget answer = (answer ≡ fault.NoMemory)
       ⊎ ((answer ≡ fault.TooManyRows budget) × PassesBudget join budget)
+
+-- for each key, the caps of all items add up to less than `limit`
+abbrev pub CapsBelow : (limit : ℕ) → BoundQuery → List Table → Type 0
+CapsBelow limit bound tables =
+    (key : ℕ)
+    → sum_of_all (map (λ item. cap_at bound tables item key) (numbers_of bound.query.items)) < limit

@@ -5,7 +5,7 @@ ghost use Rattle.tdp_core.specs.Solutions.{IsTieFreeRaw};
 ghost use Rattle.anyk_model.specs.Query.{row_counts};
 ghost use Rattle.query_bind.specs.Parts.{sum_of_all};
 ghost use Rattle.query_bind.specs.Weighed.{Fits};
-ghost use Rattle.node_build.specs.Nodes.{IsBuilt, IsJoinTreeOf, TellsFault};
+ghost use Rattle.node_build.specs.Nodes.{CapsBelow, IsBuilt, IsJoinTreeOf, TellsFault};
 
 use crate::built::{BuildFault, Built};
 use crate::filling::filled_tree;
@@ -40,6 +40,7 @@ pub fn build<R: Rank, L: Ledger>(
     requires fits { Fits query.now tables.now }
     requires keys { length query.now.query.order ≤ R.KEYS }
     requires slots { length query.now.query.items ≤ R.ITEMS }
+    requires limit { CapsBelow R.LIMIT query.now tables.now }
     requires tree { IsJoinTreeOf query.now.query join.now }
     requires budget { budget ≤ 4194304 }
     ensures built { IfOk result

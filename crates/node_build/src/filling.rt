@@ -3,7 +3,7 @@ ghost use Rattle.std.specs.Prelude.{◌<◌, ◌≤◌, ◌+◌, ◌*◌, length
 ghost use Rattle.std.specs.List.{sum_by};
 ghost use Rattle.query_bind.specs.Weighed.{Fits};
 ghost use Rattle.node_build.specs.Filled.{IsFilledTree};
-ghost use Rattle.node_build.specs.Nodes.{IsJoinTreeOf};
+ghost use Rattle.node_build.specs.Nodes.{CapsBelow, IsJoinTreeOf};
 ghost use Rattle.node_build.specs.Rows.{HaveRows, lists_of};
 ghost use Rattle.node_build.specs.Shapes.{AreShapesOf};
 
@@ -32,6 +32,7 @@ pub(crate) fn filled_tree<R: Rank, L: Ledger>(
     requires fits { Fits query.now tables.now }
     requires keys { length query.now.query.order ≤ R.KEYS }
     requires slots { length query.now.query.items ≤ R.ITEMS }
+    requires limit { CapsBelow R.LIMIT query.now tables.now }
     requires tree { IsJoinTreeOf query.now.query join.now }
     requires rows { HaveRows query.now.query tables.now join.now join.now.count
         (lists_of rows.now) }

@@ -9,7 +9,7 @@ ghost use Rattle.node_build.specs.Columns.{HaveColumns};
 ghost use Rattle.node_build.specs.Filled.{HasOnlyMore};
 ghost use Rattle.counted_index.specs.Pairs.{AreMore};
 ghost use Rattle.node_build.specs.Links.{HasRowsOf, IsRowOf, NamesLinks};
-ghost use Rattle.node_build.specs.Nodes.{IsJoinTreeOf, item_of, parent_of};
+ghost use Rattle.node_build.specs.Nodes.{CapsBelow, IsJoinTreeOf, item_of, parent_of};
 ghost use Rattle.node_build.specs.Rows.{lists_of};
 ghost use Rattle.node_build.specs.Shapes.{AreShapesOf};
 
@@ -85,6 +85,7 @@ fn add_row<R: Rank, L: Ledger>(
     requires fits { Fits query.now tables.now }
     requires keys { length query.now.query.order ≤ R.KEYS }
     requires slots { length query.now.query.items ≤ R.ITEMS }
+    requires limit { CapsBelow R.LIMIT query.now tables.now }
     requires tree { IsJoinTreeOf query.now.query join.now }
     requires columns { HaveColumns query.now join.now join.now.count
         (lists_of columns.now.own.items) (lists_of columns.now.above.items) }
@@ -103,6 +104,8 @@ fn add_row<R: Rank, L: Ledger>(
 {
     let item = join.atom[node as usize];
     let table = query.table_of(item);
+    // a table has at most 1,048,576 rows
+    let _rows = tables.len(table);
     let own = columns.own[node as usize].as_slice();
     let own_link = link(tables, table, row, own, links, node as usize, steps)?;
     child_links(query, tables, join, columns, node, row, links, named, steps)?;
@@ -126,6 +129,7 @@ pub(crate) fn add_rows<R: Rank, L: Ledger>(
     requires fits { Fits query.now tables.now }
     requires keys { length query.now.query.order ≤ R.KEYS }
     requires slots { length query.now.query.items ≤ R.ITEMS }
+    requires limit { CapsBelow R.LIMIT query.now tables.now }
     requires tree { IsJoinTreeOf query.now.query join.now }
     requires columns { HaveColumns query.now join.now join.now.count
         (lists_of columns.now.own.items) (lists_of columns.now.above.items) }

@@ -4,7 +4,7 @@ ghost use Rattle.anyk_model.specs.Table.{Table};
 ghost use Rattle.rank_key.specs.Keys.{row_key};
 ghost use Rattle.query_bind.specs.Weighed.{Fits};
 ghost use Rattle.query_bind.specs.Weights.{table_in};
-ghost use Rattle.node_build.specs.Nodes.{IsJoinTreeOf, item_of, cap_at, row_parts};
+ghost use Rattle.node_build.specs.Nodes.{CapsBelow, IsJoinTreeOf, item_of, cap_at, row_parts};
 ghost use Rattle.node_build.specs.Shapes.{AreShapesOf};
 
 use csv_tables::Tables;
@@ -82,6 +82,7 @@ pub(crate) fn rank_of<R: Rank>(
     requires fits { Fits query.now tables.now }
     requires keys { length query.now.query.order ≤ R.KEYS }
     requires slots { length query.now.query.items ≤ R.ITEMS }
+    requires limit { CapsBelow R.LIMIT query.now tables.now }
     requires tree { IsJoinTreeOf query.now.query join.now }
     requires node { node < join.now.count }
     requires first { 1 ≤ row }
@@ -94,6 +95,8 @@ pub(crate) fn rank_of<R: Rank>(
     // there are at most 16 items
     let _items = query.items();
     let item = join.atom[node as usize];
+    // a table has at most 1,048,576 rows
+    let _rows = tables.len(query.table_of(item));
     if query.keys() == 1 {
         return R::of_row(&[query.part(tables, item, row, 0)], item, row);
     }

@@ -1,6 +1,8 @@
 pub mod TreeSolutions
 pub mod PlanOf
+pub mod Rooms
 pub mod Sizes
+pub mod SmallSums
 pub mod Kept
 pub mod Filled
 pub mod Reordered

@@ -7,7 +7,7 @@ use Rattle.anyk_model.specs.Query.{Query}
 use Rattle.query_bind.specs.Weighed.{BoundQuery}
 use Rattle.query_shape.specs.Shape.{Flaw, IsShape, Shape}
 use Rattle.query_shape.proofs.OneShape.{one_shape}
-use Rattle.step_bounds.specs.Bounded.{total_of}
+use Rattle.query_shape.specs.Report.{total_rows}
 use Rattle.plan_build.specs.Plan.{IsPlanFor, PlanData, shape_of}
 
 -- a query has one shape
@@ -24,7 +24,7 @@ module _ {R : Type 0} (d : ℕ) (key : R → KeyOf d 16) (bound : BoundQuery) (t
   plan-shape = subst (λ (s : Shape). IsShape bound.query tables (Ok s)) is.shown is.is_shape
 
   -- the rows of the tree are among the rows that are counted
-  pub rows-counted : (shape : Shape) → IsShape bound.query tables (Ok shape) → row_count plan.tree ≤ total_of bound.query tables shape
+  pub rows-counted : (shape : Shape) → IsShape bound.query tables (Ok shape) → row_count plan.tree ≤ total_rows bound.query tables shape
   rows-counted shape has =
       let same = shape-is bound.query tables is.shape shape is.is_shape has in
-      subst (λ s. row_count plan.tree ≤ total_of bound.query tables s) same (let few = is.fewer in omega (arith, few))
+      subst (λ s. row_count plan.tree ≤ total_rows bound.query tables s) same (let few = is.fewer in omega (arith, few))

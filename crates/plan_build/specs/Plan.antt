@@ -20,7 +20,7 @@ use Rattle.query_shape.specs.Shown.{HasItems}
 use Rattle.node_build.specs.Nodes.{IsJoinTreeOf, RowsAgree, RowsAlike}
 use Rattle.semi_join.specs.Reduced.{ShareGroup}
 use Rattle.hyper_graph.specs.Items.{items_of}
-use Rattle.step_bounds.specs.Bounded.{total_of}
+use Rattle.query_shape.specs.Report.{total_rows}
 use Rattle.witness_key.specs.WitnessKey.{witness_key}
 use Rattle.plan_build.specs.declared.fault.PlanFault.{PlanFault}
 use Rattle.plan_build.specs.declared.fault.PlanFault.TheVariants as fault
@@ -102,7 +102,7 @@ pub record IsPlanFor {R : Type 0} (d : ℕ) (key : R → KeyOf d 16) (bound : Bo
   pub shape : Shape
   pub is_shape : IsShape bound.query tables (Ok shape)
   pub shown : shape ≡ shape_of plan
-  pub total : plan.total ≡ total_of bound.query tables shape
+  pub total : plan.total ≡ total_rows bound.query tables shape
   -- the join tree is stored with parents first, each node an item of the query
   pub count : plan.join.count ≡ length bound.query.items
   pub ordered : IsTree plan.join.count plan.join.atom plan.join.parent

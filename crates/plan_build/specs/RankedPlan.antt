@@ -1,58 +1,71 @@
 -- The plan of a query, with the ranks that its order needs.
-use Rattle.std.specs.Prelude.{◌≤◌, ℕ, List, [], ◌∷◌, Option, length}
+use Rattle.std.specs.Prelude.{◌+◌, ◌*◌, ◌^◌, ◌≤◌, ℕ, List, [], ◌∷◌, Option, length}
 use Rattle.std.specs.List.{AllByRecursion}
 use Rattle.tdp_model.specs.KeyTuple.{KeyOf}
 use Rattle.tdp_model.specs.KeyNumbers.{key_of_lists}
 use Rattle.rank_key.specs.declared.fixed_rank.FixedRank.{FixedRank}
-use Rattle.anyk_model.specs.Query.{Query}
+use Rattle.packed_rank.specs.declared.packed.PackedRank.{PackedRank}
+use Rattle.packed_rank.specs.Packed.{packed_key}
 use Rattle.anyk_model.specs.Table.{Table}
 use Rattle.query_bind.specs.Weighed.{BoundQuery}
+use Rattle.node_build.specs.Nodes.{CapsBelow}
 use Rattle.plan_build.specs.Plan.{IsPlanOf}
 use Rattle.plan_build.specs.declared.ranked_plan.RankedPlan.{RankedPlan}
-use Rattle.plan_build.specs.declared.ranked_plan.RankedPlan.TheVariants.{Lex, MiddleSum, SmallLex, SmallSum, Sum}
+use Rattle.plan_build.specs.declared.ranked_plan.RankedPlan.TheVariants.{Lex, MiddleSum, Packed, SmallLex, Sum}
 
 -- the key of a rank with n sums and m slots
 abbrev pub fixed_key : (n m : ℕ) → FixedRank n m → KeyOf n 16
 fixed_key n m rank = key_of_lists n 16 rank.sums rank.slots
 
+-- the key of a rank of one number
+abbrev pub key_of_packed : PackedRank → KeyOf 1 16
+key_of_packed rank = packed_key rank.number
+
 -- the plan of the query over these tables, with this item at the root if one is given
 abbrev pub IsRankedPlan : BoundQuery → List Table → Option ℕ → RankedPlan → Type 0
-IsRankedPlan bound tables at (SmallSum plan) = IsPlanOf 1 (fixed_key 1 4) bound tables at plan
+IsRankedPlan bound tables at (Packed plan) = IsPlanOf 1 key_of_packed bound tables at plan
 IsRankedPlan bound tables at (MiddleSum plan) = IsPlanOf 1 (fixed_key 1 8) bound tables at plan
 IsRankedPlan bound tables at (Sum plan) = IsPlanOf 1 (fixed_key 1 16) bound tables at plan
 IsRankedPlan bound tables at (SmallLex plan) = IsPlanOf 2 (fixed_key 2 4) bound tables at plan
 IsRankedPlan bound tables at (Lex plan) = IsPlanOf 8 (fixed_key 8 16) bound tables at plan
 
--- the numbers of sums and of slots of ranks
+-- the numbers of sums and of slots of ranks, what a sum is below in absolute value, and the bytes
+-- that a rank takes
 pub record Room : Type 0 where
   pub sums : ℕ
   pub slots : ℕ
+  pub limit : ℕ
+  pub bytes : ℕ
 
--- those of the ranks of a plan
+-- ranks with 16 bytes for each sum and 4 for each slot
+abbrev pub fixed_room : ℕ → ℕ → Room
+fixed_room n m = record { sums = n; slots = m; limit = 2 ^ 127; bytes = 16 * n + 4 * m }
+
+-- those in one number
+abbrev pub packed_room : Room
+packed_room = record { sums = 1; slots = 4; limit = 2 ^ 43; bytes = 16 }
+
+-- those of a plan
 abbrev pub room_of : RankedPlan → Room
-room_of (SmallSum plan) = record { sums = 1; slots = 4 }
-room_of (MiddleSum plan) = record { sums = 1; slots = 8 }
-room_of (Sum plan) = record { sums = 1; slots = 16 }
-room_of (SmallLex plan) = record { sums = 2; slots = 4 }
-room_of (Lex plan) = record { sums = 8; slots = 16 }
+room_of (Packed plan) = packed_room
+room_of (MiddleSum plan) = fixed_room 1 8
+room_of (Sum plan) = fixed_room 1 16
+room_of (SmallLex plan) = fixed_room 2 4
+room_of (Lex plan) = fixed_room 8 16
 
 -- all that there are
 abbrev pub rooms : List Room
-rooms = record { sums = 1; slots = 4 } ∷ record { sums = 1; slots = 8 }
-    ∷ record { sums = 1; slots = 16 } ∷ record { sums = 2; slots = 4 }
-    ∷ record { sums = 8; slots = 16 } ∷ []
+rooms = packed_room ∷ fixed_room 1 8 ∷ fixed_room 1 16 ∷ fixed_room 2 4 ∷ fixed_room 8 16 ∷ []
 
--- there is a sum for each order key, and a slot for each item
-pub record HasRoom (query : Query) (room : Room) : Type 0 where
-  pub keys : length query.order ≤ room.sums
-  pub items : length query.items ≤ room.slots
+-- there is a sum for each order key and a slot for each item, and the sums are below the limit
+pub record HasRoom (bound : BoundQuery) (tables : List Table) (room : Room) : Type 0 where
+  pub keys : length bound.query.order ≤ room.sums
+  pub items : length bound.query.items ≤ room.slots
+  pub limit : CapsBelow room.limit bound tables
 
--- no larger than the other, in both numbers
-pub record IsNoLarger (room other : Room) : Type 0 where
-  pub sums : room.sums ≤ other.sums
-  pub slots : room.slots ≤ other.slots
-
--- the ranks of the plan have room for the query, and no ranks that have room for it have fewer sums or slots
-pub record HasLeastRoom (query : Query) (plan : RankedPlan) : Type 0 where
-  pub enough : HasRoom query (room_of plan)
-  pub least : AllByRecursion (λ other. HasRoom query other → IsNoLarger (room_of plan) other) rooms
+-- the ranks of the plan have room for the query, and no ranks that have room for it take fewer bytes
+pub record HasLeastRoom (bound : BoundQuery) (tables : List Table)
+    (plan : RankedPlan) : Type 0 where
+  pub enough : HasRoom bound tables (room_of plan)
+  pub least : AllByRecursion
+      (λ other. HasRoom bound tables other → (room_of plan).bytes ≤ other.bytes) rooms

@@ -9,7 +9,7 @@ ghost use Rattle.query_shape.specs.Shown.{HasItems, HasStoredTree};
 ghost use Rattle.tdp_core.specs.RawData.{IsRawFormed, row_total};
 ghost use Rattle.tdp_core.specs.Solutions.{IsTieFreeRaw};
 ghost use Rattle.tdp_core.specs.TreeData.{item, parent};
-ghost use Rattle.node_build.specs.Nodes.{IsBuilt, IsJoinTreeOf, item_of, parent_of};
+ghost use Rattle.node_build.specs.Nodes.{CapsBelow, IsBuilt, IsJoinTreeOf, item_of, parent_of};
 ghost use Rattle.step_bounds.specs.Bounded.{IsPrepared};
 ghost use Rattle.plan_build.specs.Plan.{IsPlan, IsPlanAt, IsPlanFor, TellsFlaw};
 
@@ -81,6 +81,7 @@ pub fn prepare<R: Rank, L: Ledger>(
     requires fits { Fits query.now tables.now }
     requires keys { length query.now.query.order ≤ R.KEYS }
     requires slots { length query.now.query.items ≤ R.ITEMS }
+    requires limit { CapsBelow R.LIMIT query.now tables.now }
     ensures plan { IfOk result (IsPlan R.KEYS R.key query.now tables.now) }
     ensures refusal { IfErr result (TellsFlaw query.now.query tables.now) }
     ensures cost { IsPrepared query.now.query tables.now steps.old steps.new }
@@ -101,6 +102,7 @@ pub fn prepare_at<R: Rank, L: Ledger>(
     requires fits { Fits query.now tables.now }
     requires keys { length query.now.query.order ≤ R.KEYS }
     requires slots { length query.now.query.items ≤ R.ITEMS }
+    requires limit { CapsBelow R.LIMIT query.now tables.now }
     requires item { item < length query.now.query.items }
     ensures plan { IfOk result (IsPlanAt R.KEYS R.key query.now tables.now item) }
     ensures refusal { IfErr result (TellsFlaw query.now.query tables.now) }
@@ -124,6 +126,7 @@ fn plan_over<R: Rank, L: Ledger>(
     requires fits { Fits query.now tables.now }
     requires keys { length query.now.query.order ≤ R.KEYS }
     requires slots { length query.now.query.items ≤ R.ITEMS }
+    requires limit { CapsBelow R.LIMIT query.now tables.now }
     requires stored { HasStoredTree query.now.query join.now }
     requires count { join.now.count ≡ length query.now.query.items }
     requires ordered { IsTree join.now.count join.now.atom join.now.parent }
@@ -184,6 +187,7 @@ fn nodes_of<R: Rank, L: Ledger>(
     requires fits { Fits query.now tables.now }
     requires keys { length query.now.query.order ≤ R.KEYS }
     requires slots { length query.now.query.items ≤ R.ITEMS }
+    requires limit { CapsBelow R.LIMIT query.now tables.now }
     requires tree { IsJoinTreeOf query.now.query join.now }
     requires acyclic { (other : JoinTree) × HasStoredTree query.now.query other
         × (other.count ≡ length query.now.query.items) }

@@ -1,24 +1,31 @@
 //! The plan of a query, with ranks that have room for its order keys.
-ghost use Rattle.std.specs.Prelude.{◌<◌, ◌≤◌, IfErr, IfOk, IfSome, length};
+ghost use Rattle.std.specs.Prelude.{◌↔◌, ◌^◌, ◌<◌, ◌≤◌, IfErr, IfOk, IfSome, IsTrue, List, length};
+ghost use Rattle.anyk_model.specs.Table.{Table};
 ghost use Rattle.query_bind.specs.Weighed.{Fits};
+ghost use Rattle.node_build.specs.Nodes.{CapsBelow};
 ghost use Rattle.step_bounds.specs.Bounded.{IsPrepared};
 ghost use Rattle.plan_build.specs.Plan.{IsPlanOf, TellsFlaw};
-ghost use Rattle.plan_build.specs.RankedPlan.{HasLeastRoom, IsRankedPlan};
+ghost use Rattle.plan_build.specs.RankedPlan.{HasLeastRoom, HasRoom, IsRankedPlan, packed_room};
 
 use crate::fault::PlanFault;
 use crate::plan::{Plan, prepare, prepare_at};
 use csv_tables::Tables;
+use packed_rank::PackedRank;
 use query_bind::Query;
-use rank_key::{LexRank, MiddleSumRank, Rank, SmallLexRank, SmallSumRank, SumRank};
+use rank_key::{LexRank, MiddleSumRank, Rank, SmallLexRank, SumRank};
 use std::alloc::Global;
 use std::sync::ledger::Ledger;
 use step_counter::Steps;
 
+// The sums of packed ranks are below this in absolute value.
+const PACKED_LIMIT: u128 = 1 << 43;
+
 /// A query's plan, with the smallest ranks that have room for its order keys and its items.
 #[derive(Drop)]
 pub enum RankedPlan {
-    /// Ranks of one sum, for an order of at most one key, and of at most four items.
-    SmallSum(Plan<SmallSumRank>),
+    /// Ranks of one sum below 2^43, for an order of at most one key, and of at most four items, in
+    /// one number.
+    Packed(Plan<PackedRank>),
     /// Ranks of one sum, for at most eight items.
     MiddleSum(Plan<MiddleSumRank>),
     /// Ranks of one sum, for up to 16 items.
@@ -42,69 +49,65 @@ pub fn prepare_ranked<L: Ledger>(
     requires fits { Fits query.now tables.now }
     requires item { IfSome item (λ i. i < length query.now.query.items) }
     ensures plan { IfOk result (IsRankedPlan query.now tables.now item) }
-    ensures smallest { IfOk result (HasLeastRoom query.now.query) }
+    ensures smallest { IfOk result (HasLeastRoom query.now tables.now) }
     ensures refusal { IfErr result (TellsFlaw query.now.query tables.now) }
     ensures cost { IsPrepared query.now.query tables.now steps.old steps.new }
 {
-    if query.keys() <= 1 {
-        prepare_sum(alloc, query, tables, item, steps)
-    } else {
-        prepare_lex(alloc, query, tables, item, steps)
+    // at most 8 and at most 16
+    let _keys = query.keys();
+    let _items = query.items();
+    if has_packed_room(query) {
+        let plan = prepare_of::<PackedRank, L>(alloc, query, tables, item, steps)?;
+        return Ok(RankedPlan::Packed(plan));
     }
-}
-
-// The plan with ranks of one sum.
-fn prepare_sum<L: Ledger>(
-    alloc: Global,
-    query: &Query,
-    tables: &Tables,
-    item: Option<u32>,
-    steps: &mut Steps<L>,
-) -> Result<RankedPlan, PlanFault>
-    requires fits { Fits query.now tables.now }
-    requires keys { length query.now.query.order ≤ 1 }
-    requires item { IfSome item (λ i. i < length query.now.query.items) }
-    ensures plan { IfOk result (IsRankedPlan query.now tables.now item) }
-    ensures smallest { IfOk result (HasLeastRoom query.now.query) }
-    ensures refusal { IfErr result (TellsFlaw query.now.query tables.now) }
-    ensures cost { IsPrepared query.now.query tables.now steps.old steps.new }
-{
-    let items = query.items();
-    if items <= 4 {
-        let plan = prepare_of::<SmallSumRank, L>(alloc, query, tables, item, steps)?;
-        return Ok(RankedPlan::SmallSum(plan));
-    }
-    if items <= 8 {
+    if has_places(query, 1, 8) {
         let plan = prepare_of::<MiddleSumRank, L>(alloc, query, tables, item, steps)?;
         return Ok(RankedPlan::MiddleSum(plan));
     }
-    let plan = prepare_of::<SumRank, L>(alloc, query, tables, item, steps)?;
-    Ok(RankedPlan::Sum(plan))
-}
-
-// The plan with ranks of several sums.
-fn prepare_lex<L: Ledger>(
-    alloc: Global,
-    query: &Query,
-    tables: &Tables,
-    item: Option<u32>,
-    steps: &mut Steps<L>,
-) -> Result<RankedPlan, PlanFault>
-    requires fits { Fits query.now tables.now }
-    requires several { 1 < length query.now.query.order }
-    requires item { IfSome item (λ i. i < length query.now.query.items) }
-    ensures plan { IfOk result (IsRankedPlan query.now tables.now item) }
-    ensures smallest { IfOk result (HasLeastRoom query.now.query) }
-    ensures refusal { IfErr result (TellsFlaw query.now.query tables.now) }
-    ensures cost { IsPrepared query.now.query tables.now steps.old steps.new }
-{
-    let items = query.items();
-    if query.keys() <= 2 && items <= 4 {
+    if has_places(query, 2, 4) {
         let plan = prepare_of::<SmallLexRank, L>(alloc, query, tables, item, steps)?;
         return Ok(RankedPlan::SmallLex(plan));
     }
+    if has_places(query, 1, 16) {
+        let plan = prepare_of::<SumRank, L>(alloc, query, tables, item, steps)?;
+        return Ok(RankedPlan::Sum(plan));
+    }
     let plan = prepare_of::<LexRank, L>(alloc, query, tables, item, steps)?;
     Ok(RankedPlan::Lex(plan))
+}
+
+// Whether packed ranks have room for the query.
+fn has_packed_room(query: &Query) -> bool
+    requires { (tables : List Table) × Fits query.now tables }
+    ensures { (tables : List Table) → Fits query.now tables
+        → IsTrue result ↔ HasRoom query.now tables packed_room }
+{
+    has_places(query, 1, 4) && has_small_sums(query)
+}
+
+// Whether there are as many sums as order keys, and as many slots as items.
+fn has_places(query: &Query, sums: u32, slots: u32) -> bool
+    ensures { IsTrue result
+        ↔ ((length query.now.query.order ≤ sums) × (length query.now.query.items ≤ slots)) }
+{
+    query.keys() <= sums && query.items() <= slots
+}
+
+// Whether the caps of all items add up to less than 2^43, for an order of at most one key.
+fn has_small_sums(query: &Query) -> bool
+    requires fits { (tables : List Table) × Fits query.now tables }
+    requires keys { length query.now.query.order ≤ 1 }
+    ensures { (tables : List Table) → Fits query.now tables
+        → IsTrue result ↔ CapsBelow (2 ^ 43) query.now tables }
+{
+    if query.keys() == 0 {
+        return true;
+    }
+    let mut sum = 0;
+    for item in 0..query.items() {
+        sum += query.cap(item, 0);
+    }
+    sum < PACKED_LIMIT
 }
 
 // The plan with this item at the root if one is given.
@@ -118,6 +121,7 @@ fn prepare_of<R: Rank, L: Ledger>(
     requires fits { Fits query.now tables.now }
     requires keys { length query.now.query.order ≤ R.KEYS }
     requires slots { length query.now.query.items ≤ R.ITEMS }
+    requires limit { CapsBelow R.LIMIT query.now tables.now }
     requires item { IfSome item (λ i. i < length query.now.query.items) }
     ensures plan { IfOk result (IsPlanOf R.KEYS R.key query.now tables.now item) }
     ensures refusal { IfErr result (TellsFlaw query.now.query tables.now) }

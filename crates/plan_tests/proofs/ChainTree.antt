@@ -1,11 +1,14 @@
 -- The tree that the tests build: three nodes, each below the one before.
-use Rattle.std.proofs.Common.{◌≡◌, ℕ, zero, suc, ◌+◌, ◌^◌, ◌<◌, cond, nat_lt, List, [], ◌∷◌, get_or, refl, sym, ◌∙◌, arith}
+use Rattle.std.proofs.Common.{◌≡◌, ℕ, zero, suc, ◌+◌, ◌^◌, ◌<◌, ◌≤◌, cond, nat_lt, List, [], ◌∷◌, get_or, refl, sym, ◌∙◌, arith}
 use Rattle.std.proofs.lemmas.Bool.Decides.{nat_tests}
+use Rattle.tdp_model.specs.KeyTuple.{KeyOf}
 use Rattle.tdp_model.specs.TreeProblem.{sum_from}
+use Rattle.rank_key.specs.Keys.{IsHeld, IsWithin}
 use Rattle.tdp_core.specs.declared.parts.NodeShape.{NodeShape}
-use Rattle.tdp_core.specs.RawData.{AreShapes, shape_item, shape_parent, shape_cap, shape_children}
+use Rattle.tdp_core.specs.RawData.{AreShapes, AreShapesHeld, shape_item, shape_parent, shape_cap, shape_children}
 use Rattle.tdp_core.specs.TreeData.{kids_below}
 use Rattle.plan_tests.specs.ChainTrees.{IsChain, chain_children}
+use Rattle.plan_tests.proofs.Held.{three-nodes-held}
 
 abbrev pub no_caps : List ℕ
 no_caps = 0 ∷ 0 ∷ 0 ∷ 0 ∷ 0 ∷ 0 ∷ 0 ∷ 0 ∷ []
@@ -53,6 +56,15 @@ chain-shaped = record {
   items_apart = λ u v hu hv e. sym (item-is u hu) ∙ e ∙ item-is v hv;
   caps_fit = caps-few;
 }
+
+module _ {R : Type 0} {d items limit rows : ℕ} (key : R → KeyOf d 16)
+    (holds : (k : KeyOf d 16) → IsWithin d items limit rows k → IsHeld d key k)
+    (roomy : 2 ^ 21 ≤ rows) (few : 16 ≤ items) (wide : 2 ^ 127 ≤ limit) where
+  pub chain-held : AreShapesHeld d key chain_shapes
+  chain-held = three-nodes-held key holds roomy few wide _ _ refl refl refl cap-few cap-few cap-few
+    where
+      cap-few : (i : ℕ) → cond {A = ℕ} (nat_lt i 8) (get_or no_caps i 0) 0 ≤ 100
+      cap-few i = omega (arith, capped i (get_or no_caps i 0) (no-cap i))
 
 children-are : (v : ℕ) → v < 3 → shape_children chain_shapes v ≡ chain_children v
 unfolding kids_below

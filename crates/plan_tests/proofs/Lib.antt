@@ -1,2 +1,3 @@
 pub mod ChainTree
+pub mod Held
 pub mod SampleFacts

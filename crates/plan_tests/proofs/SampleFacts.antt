@@ -4,11 +4,14 @@ use Rattle.std.proofs.Math.ListN.{set}
 use Rattle.std.proofs.lemmas.Bool.{cases_eq}
 use Rattle.std.proofs.lemmas.Bool.Decides.{nat_tests}
 use Rattle.std.proofs.lemmas.List.{map-append, get_or_append_left, get_or_push, get_or-set_same, get_or-set_other, length-map, length-set}
+use Rattle.tdp_model.specs.KeyTuple.{KeyOf}
 use Rattle.tdp_model.specs.TreeProblem.{sum_from}
-use Rattle.tdp_core.specs.RawData.{RawData, RawRowData, AreShapes, raw_len, rows_at, with_row, shape_item, shape_parent, shape_cap, shape_children}
+use Rattle.rank_key.specs.Keys.{IsHeld, IsWithin}
+use Rattle.tdp_core.specs.RawData.{RawData, RawRowData, AreShapes, AreShapesHeld, raw_len, rows_at, with_row, shape_item, shape_parent, shape_cap, shape_children}
 use Rattle.tdp_core.specs.TreeData.{kids_below}
 use Rattle.tdp_core.specs.Solutions.{IsTieFreeRaw}
 use Rattle.plan_tests.specs.SampleTrees.{IsSample, hundreds, sample_shapes, sample_children}
+use Rattle.plan_tests.proofs.Held.{three-nodes-held}
 
 hundred : (i : ℕ) → get_or hundreds i 0 ≤ 100
 hundred zero = omega arith
@@ -50,6 +53,13 @@ sample-shaped = record {
   items_apart = λ u v hu hv e. sym (item-is u hu) ∙ e ∙ item-is v hv;
   caps_fit = caps-few;
 }
+
+module _ {R : Type 0} {d items limit rows : ℕ} (key : R → KeyOf d 16)
+    (holds : (k : KeyOf d 16) → IsWithin d items limit rows k → IsHeld d key k)
+    (roomy : 2 ^ 21 ≤ rows) (few : 16 ≤ items) (wide : 2 ^ 127 ≤ limit) where
+  pub sample-held : AreShapesHeld d key sample_shapes
+  sample-held = three-nodes-held key holds roomy few wide _ _ refl refl refl
+      (λ i. capped i (get_or hundreds i 0) (hundred i)) (λ i. capped i (get_or hundreds i 0) (hundred i)) (λ i. capped i (get_or hundreds i 0) (hundred i))
 
 pub children-are : (v : ℕ) → v < 3 → shape_children sample_shapes v ≡ sample_children v
 unfolding kids_below

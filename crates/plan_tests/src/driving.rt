@@ -1,5 +1,5 @@
 //! A cursor driven over each engine, on the plan of two tables.
-ghost use Rattle.std.specs.Prelude.{◌≡◌, ◌≤◌, ◌<◌};
+ghost use Rattle.std.specs.Prelude.{◌≡◌, ◌≤◌, ◌^◌, ◌<◌};
 ghost use Rattle.tdp_core.specs.WellFormed.{IsTieFreeTree};
 
 use crate::fixtures::{TWO, plan_of};
@@ -84,6 +84,7 @@ fn both_drive<R: Rank, L: Ledger>(
 // Both engines over the plan of R and S.
 fn both_drive_over_two_tables<R: Rank, L: Ledger>(alloc: Global, blank: Blank) -> bool
     requires slots { 16 ≤ R.ITEMS }
+    requires limit { 2 ^ 127 ≤ R.LIMIT }
     requires name { blank.name ≡ L.name }
     requires parts { blank.parts ≡ L.parts }
     requires some_part { 0 < blank.parts }

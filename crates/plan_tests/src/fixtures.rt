@@ -1,5 +1,5 @@
 //! Small tables, small queries over them, and their plans.
-ghost use Rattle.std.specs.Prelude.{◌≡◌, ◌<◌, ◌≤◌, [], IfSome, OnOk, length};
+ghost use Rattle.std.specs.Prelude.{◌≡◌, ◌^◌, ◌<◌, ◌≤◌, [], IfSome, OnOk, length};
 ghost use Rattle.std.specs.List.{AllByRecursion};
 ghost use Rattle.query_bind.specs.Weighed.{Fits};
 ghost use Rattle.tdp_core.specs.WellFormed.{IsTieFreeTree};
@@ -92,12 +92,16 @@ fn plan_over<R: Rank, L: Ledger>(
     steps: &mut Steps<L>,
 ) -> Option<Plan<R>>
     requires slots { 16 ≤ R.ITEMS }
+    requires limit { 2 ^ 127 ≤ R.LIMIT }
     requires few { length which.now ≤ 16 }
     requires known { AllByRecursion (λ t. t < length tables.now) which.now }
     ensures tie_free { IfSome result (λ plan. IsTieFreeTree plan.tree) }
 {
     let query = query_of(alloc, tables, text, which, R::KEYS)?;
-    prepare(alloc, &query, tables, steps).ok()
+    match prepare(alloc, &query, tables, steps) {
+        Ok(plan) => Some(plan),
+        Err(_) => None,
+    }
 }
 
 /// The plan of the query of this text over the tables of two files.
@@ -109,6 +113,7 @@ pub(crate) fn plan_of<R: Rank, L: Ledger>(
     steps: &mut Steps<L>,
 ) -> Option<Plan<R>>
     requires slots { 16 ≤ R.ITEMS }
+    requires limit { 2 ^ 127 ≤ R.LIMIT }
     requires few { length which.now ≤ 16 }
     requires known { AllByRecursion (λ t. t < 2) which.now }
     ensures tie_free { IfSome result (λ plan. IsTieFreeTree plan.tree) }
@@ -128,6 +133,7 @@ fn plan_over_at<R: Rank, L: Ledger>(
     steps: &mut Steps<L>,
 ) -> Option<Plan<R>>
     requires slots { 16 ≤ R.ITEMS }
+    requires limit { 2 ^ 127 ≤ R.LIMIT }
     requires few { length which.now ≤ 16 }
     requires known { AllByRecursion (λ t. t < length tables.now) which.now }
     ensures tie_free { IfSome result (λ plan. IsTieFreeTree plan.tree) }
@@ -152,6 +158,7 @@ pub(crate) fn plan_at<R: Rank, L: Ledger>(
     steps: &mut Steps<L>,
 ) -> Option<Plan<R>>
     requires slots { 16 ≤ R.ITEMS }
+    requires limit { 2 ^ 127 ≤ R.LIMIT }
     requires few { length which.now ≤ 16 }
     requires known { AllByRecursion (λ t. t < 2) which.now }
     ensures tie_free { IfSome result (λ plan. IsTieFreeTree plan.tree) }

@@ -1,5 +1,5 @@
 //! The raw trees of two tables, by the columns in which rows must agree.
-ghost use Rattle.std.specs.Prelude.{◌≡◌, ◌<◌, ◌≤◌, IfSome, List, length};
+ghost use Rattle.std.specs.Prelude.{◌≡◌, ◌^◌, ◌<◌, ◌≤◌, IfSome, List, length};
 ghost use Rattle.anyk_model.specs.Table.{Table};
 ghost use Rattle.query_bind.specs.Weighed.{Fits};
 ghost use Rattle.node_build.specs.Nodes.{IsJoinTreeOf};
@@ -53,6 +53,7 @@ fn counts_of<R: Rank, L: Ledger>(
     steps: &mut Steps<L>,
 ) -> Result<Option<Counts>, BuildFault>
     requires slots { 16 ≤ R.ITEMS }
+    requires limit { 2 ^ 127 ≤ R.LIMIT }
     requires fits { Fits query.now tables.now }
     requires keys { length query.now.query.order ≤ R.KEYS }
     requires budget { budget < 100 }
@@ -73,6 +74,7 @@ fn counts_of_text<R: Rank, L: Ledger>(
     steps: &mut Steps<L>,
 ) -> Result<Option<Counts>, BuildFault>
     requires slots { 16 ≤ R.ITEMS }
+    requires limit { 2 ^ 127 ≤ R.LIMIT }
     requires two { length tables.now ≡ 2 }
     requires budget { budget < 100 }
 {
@@ -89,6 +91,7 @@ fn built<R: Rank, L: Ledger>(
     blank: Blank,
 ) -> Result<Option<Counts>, BuildFault>
     requires slots { 16 ≤ R.ITEMS }
+    requires limit { 2 ^ 127 ≤ R.LIMIT }
     requires budget { budget < 100 }
     requires name { blank.name ≡ L.name }
     requires parts { blank.parts ≡ L.parts }

@@ -1,5 +1,5 @@
 //! The plan of two tables that share a column, and a triangle.
-ghost use Rattle.std.specs.Prelude.{◌≡◌, ◌<◌, ◌≤◌, length};
+ghost use Rattle.std.specs.Prelude.{◌≡◌, ◌^◌, ◌<◌, ◌≤◌, length};
 ghost use Rattle.query_bind.specs.Weighed.{Fits};
 ghost use Rattle.tdp_core.specs.WellFormed.{IsTieFreeTree};
 
@@ -19,6 +19,7 @@ use tree_dp::first;
 // greater.
 fn is_three<R: Rank, L: Ledger>(rank: &R, steps: &mut Steps<L>) -> bool
     requires slots { 16 ≤ R.ITEMS }
+    requires limit { 2 ^ 127 ≤ R.LIMIT }
     requires keys { 1 ≤ R.KEYS }
 {
     let least = R::of_row(&[3], 0, 0);
@@ -29,6 +30,7 @@ fn is_three<R: Rank, L: Ledger>(rank: &R, steps: &mut Steps<L>) -> bool
 // Whether the first two items have these rows in the first answer, and its sum is 3.
 fn has_first<R: Rank, L: Ledger>(tree: &Tree<R>, rows: [u32; 2], steps: &mut Steps<L>) -> bool
     requires slots { 16 ≤ R.ITEMS }
+    requires limit { 2 ^ 127 ≤ R.LIMIT }
     requires keys { 1 ≤ R.KEYS }
     requires tree { IsTieFreeTree tree.now }
 {
@@ -41,6 +43,7 @@ fn has_first<R: Rank, L: Ledger>(tree: &Tree<R>, rows: [u32; 2], steps: &mut Ste
 // Whether the plan of R and S has 12 rows and this first answer.
 fn is_planned<R: Rank, L: Ledger>(alloc: Global, blank: Blank) -> bool
     requires slots { 16 ≤ R.ITEMS }
+    requires limit { 2 ^ 127 ≤ R.LIMIT }
     requires keys { 1 ≤ R.KEYS }
     requires name { blank.name ≡ L.name }
     requires parts { blank.parts ≡ L.parts }
@@ -76,6 +79,7 @@ fn is_cyclic<R: Rank, L: Ledger>(
     steps: &mut Steps<L>,
 ) -> bool
     requires slots { 16 ≤ R.ITEMS }
+    requires limit { 2 ^ 127 ≤ R.LIMIT }
     requires fits { Fits query.now tables.now }
     requires order { length query.now.query.order ≤ R.KEYS }
 {
@@ -94,6 +98,7 @@ fn is_triangle_cyclic<R: Rank, L: Ledger>(
     steps: &mut Steps<L>,
 ) -> bool
     requires slots { 16 ≤ R.ITEMS }
+    requires limit { 2 ^ 127 ≤ R.LIMIT }
     requires two { length tables.now ≡ 2 }
 {
     let text = b"select A.a from R A, R B, R C where A.a = B.b and B.a = C.b and C.a = A.b";
@@ -105,6 +110,7 @@ fn is_triangle_cyclic<R: Rank, L: Ledger>(
 
 fn triangle_is_told<R: Rank, L: Ledger>(alloc: Global, blank: Blank) -> bool
     requires slots { 16 ≤ R.ITEMS }
+    requires limit { 2 ^ 127 ≤ R.LIMIT }
     requires name { blank.name ≡ L.name }
     requires parts { blank.parts ≡ L.parts }
     requires some_part { 0 < blank.parts }

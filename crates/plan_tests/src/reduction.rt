@@ -1,5 +1,5 @@
 //! What the reduction leaves of raw trees.
-ghost use Rattle.std.specs.Prelude.{◌≡◌, ℕ, ◌+◌, ◌<◌, ◌≤◌, length, IfOk, OnOk};
+ghost use Rattle.std.specs.Prelude.{◌≡◌, ℕ, ◌+◌, ◌^◌, ◌<◌, ◌≤◌, length, IfOk, OnOk};
 ghost use Rattle.plan_tests.specs.ChainTrees.{IsChain, chain_children};
 ghost use Rattle.tdp_core.specs.RawData.{row_total};
 
@@ -13,6 +13,8 @@ use tdp_core::{NodeParts, NodeRow, NodeShape, RawTree};
 
 /// A tree without rows: three nodes, each below the one before.
 fn chain<R: Rank>(alloc: Global) -> Result<RawTree<R>, NoMemory>
+    requires slots { 16 ≤ R.ITEMS }
+    requires limit { 2 ^ 127 ≤ R.LIMIT }
     ensures chain { IfOk result (λ t. IsChain t.shapes) }
     ensures empty { IfOk result (λ t. row_total t ≡ 0) }
 {
@@ -45,8 +47,10 @@ fn add<R: Rank>(
     children: &[u32],
 ) -> Result<(), NoMemory>
     requires slots { 16 ≤ R.ITEMS }
+    requires limit { 2 ^ 127 ≤ R.LIMIT }
     requires chain { IsChain tree.old.shapes }
     requires node { node < 3 }
+    requires number { number < 100 }
     requires children { length children.now ≡ chain_children node }
     requires room { row_total tree.old < 100 }
     ensures chain { OnOk result (IsChain tree.new.shapes) }
@@ -115,6 +119,7 @@ fn has_named<R: Rank>(parts: &NodeParts<R>, named: &[u32]) -> bool {
 // Row 2 of the second node has no partner, and so row 6 of the root has none either.
 fn link_partly<R: Rank>(tree: &mut RawTree<R>) -> Result<(), NoMemory>
     requires slots { 16 ≤ R.ITEMS }
+    requires limit { 2 ^ 127 ≤ R.LIMIT }
     requires chain { IsChain tree.old.shapes }
     requires empty { row_total tree.old ≡ 0 }
 {
@@ -147,6 +152,7 @@ fn partly_linked_is_reduced<R: Rank, L: Ledger>(
     blank: Blank,
 ) -> Result<bool, NoMemory>
     requires slots { 16 ≤ R.ITEMS }
+    requires limit { 2 ^ 127 ≤ R.LIMIT }
     requires name { blank.name ≡ L.name }
     requires parts { blank.parts ≡ L.parts }
     requires share { 0 < L.parts }
@@ -166,6 +172,7 @@ fn rows_without_partner_go(rt: HostRuntime) {
 // No row of the second node has a partner.
 fn link_none<R: Rank>(tree: &mut RawTree<R>) -> Result<(), NoMemory>
     requires slots { 16 ≤ R.ITEMS }
+    requires limit { 2 ^ 127 ≤ R.LIMIT }
     requires chain { IsChain tree.old.shapes }
     requires empty { row_total tree.old ≡ 0 }
 {
@@ -184,6 +191,7 @@ fn is_emptied<R: Rank>(nodes: &[NodeParts<R>]) -> bool {
 
 fn unlinked_is_reduced<R: Rank, L: Ledger>(alloc: Global, blank: Blank) -> Result<bool, NoMemory>
     requires slots { 16 ≤ R.ITEMS }
+    requires limit { 2 ^ 127 ≤ R.LIMIT }
     requires name { blank.name ≡ L.name }
     requires parts { blank.parts ≡ L.parts }
     requires share { 0 < L.parts }

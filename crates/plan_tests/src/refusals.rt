@@ -1,5 +1,5 @@
 //! The engine by recursion over an arena that refuses each allocation in turn.
-ghost use Rattle.std.specs.Prelude.{◌≡◌, ◌<◌, ◌≤◌, length};
+ghost use Rattle.std.specs.Prelude.{◌≡◌, ◌^◌, ◌<◌, ◌≤◌, length};
 ghost use Rattle.std.specs.List.{AllByRecursion};
 ghost use Rattle.tdp_core.specs.WellFormed.{IsTieFreeTree};
 
@@ -140,6 +140,7 @@ fn comes_back<R: Rank, L: Ledger>(
     blank: Blank,
 ) -> bool
     requires slots { 16 ≤ R.ITEMS }
+    requires limit { 2 ^ 127 ≤ R.LIMIT }
     requires few { length which.now ≤ 16 }
     requires known { AllByRecursion (λ t. t < 2) which.now }
     requires name { blank.name ≡ L.name }

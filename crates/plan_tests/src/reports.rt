@@ -42,7 +42,7 @@ fn is_reported(
     requires plan { (item : Option ℕ) × IsRankedPlan query.now tables.now item plan.now }
 {
     match plan {
-        RankedPlan::SmallSum(plan) => has_report(alloc, plan, query, tables, expected),
+        RankedPlan::Packed(plan) => has_report(alloc, plan, query, tables, expected),
         RankedPlan::MiddleSum(plan) => has_report(alloc, plan, query, tables, expected),
         RankedPlan::Sum(plan) => has_report(alloc, plan, query, tables, expected),
         RankedPlan::SmallLex(plan) => has_report(alloc, plan, query, tables, expected),

@@ -1,5 +1,5 @@
 //! The best answer of each row of a tree's root.
-ghost use Rattle.std.specs.Prelude.{◌≡◌, ◌+◌, ◌<◌, ◌≤◌, IfOk, OnOk, length};
+ghost use Rattle.std.specs.Prelude.{◌≡◌, ◌+◌, ◌^◌, ◌<◌, ◌≤◌, IfOk, OnOk, length};
 ghost use Rattle.std.specs.List.{AllByRecursion};
 ghost use Rattle.tdp_core.specs.RawData.{row_total};
 ghost use Rattle.tdp_core.specs.WellFormed.{IsTieFreeTree};
@@ -33,6 +33,7 @@ fn gives<R: Rank, L: Ledger>(
 // The rows of the root, of which the last names a group that the first child has not.
 fn add_root_rows<R: Rank>(tree: &mut RawTree<R>) -> Result<(), NoMemory>
     requires slots { 16 ≤ R.ITEMS }
+    requires limit { 2 ^ 127 ≤ R.LIMIT }
     requires keys { 1 ≤ R.KEYS }
     requires sample { IsSample tree.old }
     requires room { row_total tree.old ≡ 0 }
@@ -51,6 +52,7 @@ fn add_root_rows<R: Rank>(tree: &mut RawTree<R>) -> Result<(), NoMemory>
 // The rows of both children.
 fn add_leaf_rows<R: Rank>(tree: &mut RawTree<R>) -> Result<(), NoMemory>
     requires slots { 16 ≤ R.ITEMS }
+    requires limit { 2 ^ 127 ≤ R.LIMIT }
     requires keys { 1 ≤ R.KEYS }
     requires sample { IsSample tree.old }
     requires room { row_total tree.old ≤ 7 }
@@ -65,6 +67,7 @@ fn add_leaf_rows<R: Rank>(tree: &mut RawTree<R>) -> Result<(), NoMemory>
 
 fn six_rows<R: Rank>(alloc: Global) -> Result<RawTree<R>, NoMemory>
     requires slots { 16 ≤ R.ITEMS }
+    requires limit { 2 ^ 127 ≤ R.LIMIT }
     requires keys { 1 ≤ R.KEYS }
     ensures { IfOk result IsSample }
 {
@@ -76,6 +79,7 @@ fn six_rows<R: Rank>(alloc: Global) -> Result<RawTree<R>, NoMemory>
 
 fn six_are_given<R: Rank, L: Ledger>(alloc: Global, blank: Blank) -> Result<bool, NoMemory>
     requires slots { 16 ≤ R.ITEMS }
+    requires limit { 2 ^ 127 ≤ R.LIMIT }
     requires keys { 1 ≤ R.KEYS }
     requires name { blank.name ≡ L.name }
     requires parts { blank.parts ≡ L.parts }
@@ -117,6 +121,7 @@ fn gives_at<R: Rank, L: Ledger>(
     blank: Blank,
 ) -> bool
     requires slots { 16 ≤ R.ITEMS }
+    requires limit { 2 ^ 127 ≤ R.LIMIT }
     requires few { length which.now ≤ 16 }
     requires known { AllByRecursion (λ t. t < 2) which.now }
     requires name { blank.name ≡ L.name }
@@ -183,6 +188,7 @@ fn each_item_of_four_can_be_the_root(rt: HostRuntime) {
 // Whether the plan of a query without answers gives none.
 fn none_are_planned<R: Rank, L: Ledger>(alloc: Global, blank: Blank) -> bool
     requires slots { 16 ≤ R.ITEMS }
+    requires limit { 2 ^ 127 ≤ R.LIMIT }
     requires name { blank.name ≡ L.name }
     requires parts { blank.parts ≡ L.parts }
     requires share { 0 < L.parts }

@@ -1,5 +1,5 @@
 //! Raw trees that are reduced and solved, and their first answers.
-ghost use Rattle.std.specs.Prelude.{◌≡◌, ℕ, ◌+◌, ◌<◌, ◌≤◌, length, unsigned_abs, IfOk, OnOk};
+ghost use Rattle.std.specs.Prelude.{◌≡◌, ℕ, ◌+◌, ◌^◌, ◌<◌, ◌≤◌, length, unsigned_abs, IfOk, OnOk};
 ghost use Rattle.tdp_core.specs.RawData.{row_total};
 ghost use Rattle.tdp_core.specs.WellFormed.{IsTieFreeTree};
 ghost use Rattle.plan_tests.specs.SampleTrees.{IsSample, sample_children};
@@ -15,6 +15,8 @@ use tree_dp::{first, solve};
 
 /// A root with two children, without rows.
 pub(crate) fn branching<R: Rank>(alloc: Global) -> Result<RawTree<R>, NoMemory>
+    requires slots { 16 ≤ R.ITEMS }
+    requires limit { 2 ^ 127 ≤ R.LIMIT }
     ensures sample { IfOk result IsSample }
     ensures empty { IfOk result (λ t. row_total t ≡ 0) }
 {
@@ -46,6 +48,7 @@ pub(crate) fn add<R: Rank>(
     children: &[u32],
 ) -> Result<(), NoMemory>
     requires slots { 16 ≤ R.ITEMS }
+    requires limit { 2 ^ 127 ≤ R.LIMIT }
     requires keys { 1 ≤ R.KEYS }
     requires sample { IsSample tree.old }
     requires node { node < 3 }
@@ -63,6 +66,7 @@ pub(crate) fn add<R: Rank>(
 // The solutions have the sums 5 + 4 + 3, 5 + 2 + 3 and 1 + 9 + 3, each twice.
 fn add_six_solutions<R: Rank>(tree: &mut RawTree<R>) -> Result<(), NoMemory>
     requires slots { 16 ≤ R.ITEMS }
+    requires limit { 2 ^ 127 ≤ R.LIMIT }
     requires keys { 1 ≤ R.KEYS }
     requires sample { IsSample tree.old }
     requires empty { row_total tree.old ≡ 0 }
@@ -79,6 +83,7 @@ fn add_six_solutions<R: Rank>(tree: &mut RawTree<R>) -> Result<(), NoMemory>
 
 fn six_solutions<R: Rank>(alloc: Global) -> Result<RawTree<R>, NoMemory>
     requires slots { 16 ≤ R.ITEMS }
+    requires limit { 2 ^ 127 ≤ R.LIMIT }
     requires keys { 1 ≤ R.KEYS }
     ensures { IfOk result IsSample }
 {
@@ -90,6 +95,7 @@ fn six_solutions<R: Rank>(alloc: Global) -> Result<RawTree<R>, NoMemory>
 // The root's row names a link that no row of the right child has.
 fn add_no_solution<R: Rank>(tree: &mut RawTree<R>) -> Result<(), NoMemory>
     requires slots { 16 ≤ R.ITEMS }
+    requires limit { 2 ^ 127 ≤ R.LIMIT }
     requires keys { 1 ≤ R.KEYS }
     requires sample { IsSample tree.old }
     requires empty { row_total tree.old ≡ 0 }
@@ -102,6 +108,7 @@ fn add_no_solution<R: Rank>(tree: &mut RawTree<R>) -> Result<(), NoMemory>
 
 fn no_solution<R: Rank>(alloc: Global) -> Result<RawTree<R>, NoMemory>
     requires slots { 16 ≤ R.ITEMS }
+    requires limit { 2 ^ 127 ≤ R.LIMIT }
     requires keys { 1 ≤ R.KEYS }
     ensures { IfOk result IsSample }
 {
@@ -132,6 +139,7 @@ fn same<R: Rank, L: Ledger>(a: &R, b: &R, steps: &mut Steps<L>) -> bool {
 /// Whether the least solutions of the root's two rows have the sums 10 and 13.
 fn has_bests<R: Rank, L: Ledger>(tree: &Tree<R>, steps: &mut Steps<L>) -> bool
     requires slots { 16 ≤ R.ITEMS }
+    requires limit { 2 ^ 127 ≤ R.LIMIT }
     requires keys { 1 ≤ R.KEYS }
     requires nodes { length tree.now ≡ 3 }
 {
@@ -148,6 +156,7 @@ fn has_bests<R: Rank, L: Ledger>(tree: &Tree<R>, steps: &mut Steps<L>) -> bool
 /// Whether the first answer has the sum 10, with row 2 of item 1.
 fn has_first<R: Rank, L: Ledger>(tree: &Tree<R>, steps: &mut Steps<L>) -> bool
     requires slots { 16 ≤ R.ITEMS }
+    requires limit { 2 ^ 127 ≤ R.LIMIT }
     requires keys { 1 ≤ R.KEYS }
     requires tree { IsTieFreeTree tree.now }
 {
@@ -161,6 +170,7 @@ fn has_first<R: Rank, L: Ledger>(tree: &Tree<R>, steps: &mut Steps<L>) -> bool
 
 fn six_are_solved<R: Rank, L: Ledger>(alloc: Global, blank: Blank) -> Result<(bool, bool), NoMemory>
     requires slots { 16 ≤ R.ITEMS }
+    requires limit { 2 ^ 127 ≤ R.LIMIT }
     requires keys { 1 ≤ R.KEYS }
     requires name { blank.name ≡ L.name }
     requires parts { blank.parts ≡ L.parts }
@@ -187,6 +197,7 @@ fn has_none<R: Rank, L: Ledger>(tree: &Tree<R>, steps: &mut Steps<L>) -> bool
 
 fn none_is_solved<R: Rank, L: Ledger>(alloc: Global, blank: Blank) -> Result<bool, NoMemory>
     requires slots { 16 ≤ R.ITEMS }
+    requires limit { 2 ^ 127 ≤ R.LIMIT }
     requires keys { 1 ≤ R.KEYS }
     requires name { blank.name ≡ L.name }
     requires parts { blank.parts ≡ L.parts }

@@ -1,5 +1,5 @@
 //! Answers of small queries, in their order, by both engines.
-ghost use Rattle.std.specs.Prelude.{◌≡◌, ◌<◌, ◌≤◌, length};
+ghost use Rattle.std.specs.Prelude.{◌≡◌, ◌^◌, ◌<◌, ◌≤◌, length};
 ghost use Rattle.std.specs.List.{AllByRecursion};
 ghost use Rattle.tdp_core.specs.WellFormed.{IsTieFreeTree};
 
@@ -94,6 +94,7 @@ fn gives<R: Rank, L: Ledger>(
     blank: Blank,
 ) -> bool
     requires slots { 16 ≤ R.ITEMS }
+    requires limit { 2 ^ 127 ≤ R.LIMIT }
     requires few { length which.now ≤ 16 }
     requires known { AllByRecursion (λ t. t < 2) which.now }
     requires name { blank.name ≡ L.name }

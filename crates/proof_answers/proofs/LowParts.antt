@@ -234,7 +234,7 @@ module _ {R : Type 0} (query : Query) (tables : List Table) (join : JoinTree) (d
         ]
       ]
 
-      pub low-fits : KeyFits d (low_part d key tree t.parent v i n)
+      pub low-fits : KeyFits d key (low_part d key tree t.parent v i n)
       unfolding sum_from kid_key
       low-fits =
           let all-rows : t.nodes ≡ length tree.raw.shapes = sym bounded.rows.nodes in
@@ -250,8 +250,8 @@ module _ {R : Type 0} (query : Query) (tables : List Table) (join : JoinTree) (d
             | inr x ↦ other-total q (omega arith) x
                 ∙ sym (kid_no (key_none d 16) t.parent v (named_key d key tree t.parent v i) q x)
           ])) in
-          subst (KeyFits d) whole
-          (subst (λ m. KeyFits d (sum_from (key_add d 16) (key_none d 16)
+          subst (KeyFits d key) whole
+          (subst (λ m. KeyFits d key (sum_from (key_add d 16) (key_none d 16)
           (λ q. sum_from (key_add d 16) (key_none d 16) (given q) m 0) (suc n) v)) (sym all-rows)
           (double_sums_fit d key tree.raw formed IsGiven given (suc n) v given-once
           (λ q u a b l. given-part q u a b (omega (arith, l, all-rows)))))

@@ -16,10 +16,10 @@ module _ {R : Type 0} (d : ℕ) (key : R → KeyOf d 16) (raw : RawData R) (form
   pub double_sums_fit : (Is : ℕ → ℕ → Type 0) (f : ℕ → ℕ → KeyOf d 16) (n s : ℕ)
       → ((q i j : ℕ) → Is q i → Is q j → i ≡ j)
       → ((i q : ℕ) → s ≤ i → i < s + n → q < m → (f i q ≡ key_none d 16) ⊎ (Is q i × IsRawPart d key raw q (f i q)))
-      → KeyFits d (sum_from (key_add d 16) (key_none d 16) (λ i. sum_from (key_add d 16) (key_none d 16) (f i) m 0) n s)
+      → KeyFits d key (sum_from (key_add d 16) (key_none d 16) (λ i. sum_from (key_add d 16) (key_none d 16) (f i) m 0) n s)
   double_sums_fit Is f n s one each =
       let keys = tuple_keys d 16 in
-      subst (KeyFits d) (sym (sum_swap (key_below d 16) (key_add d 16) (key_none d 16) keys f n s m 0))
+      subst (KeyFits d key) (sym (sum_swap (key_below d 16) (key_add d 16) (key_none d 16) keys f n s m 0))
       (parts-fit d key raw formed (λ q. sum_from (key_add d 16) (key_none d 16) (λ i. f i q) n s) (λ q l.
       elim (sum_choice (key_below d 16) (key_add d 16) (key_none d 16) keys (IsRawPart d key raw q) (Is q)
       (λ i. f i q) n s (one q)

@@ -54,9 +54,9 @@ module _ {R : Type 0} (d : ℕ) (key : R → KeyOf d 16) where
 
   -- the greatest number in slot i of a row of an item
   abbrev slot_cap : ℕ → ℕ → ℕ
-  slot_cap i item = cond (nat_eq i item) (2 ^ 32 - 1) 0
+  slot_cap i item = cond (nat_eq i item) (2 ^ 21 - 1) 0
 
-  in-cap : (row s : ℕ) (b : Bool) → row < 2 ^ 32 → s ≡ cond b row 0 → s ≤ cond b (2 ^ 32 - 1) 0
+  in-cap : (row s : ℕ) (b : Bool) → row < 2 ^ 21 → s ≡ cond b row 0 → s ≤ cond b (2 ^ 21 - 1) 0
   in-cap row s true l e = omega (arith, e)
   in-cap row s false l e = omega (arith, e)
 
@@ -100,12 +100,12 @@ module _ {R : Type 0} (d : ℕ) (key : R → KeyOf d 16) where
       no-slot false = refl
 
       -- the sum of what the first n nodes give fits
-      pub parts-fit : (n : ℕ) → n ≤ length raw.shapes → KeyFits d (sum_from (key_add d 16) (key_none d 16) part n 0)
+      pub parts-fit : (n : ℕ) → n ≤ length raw.shapes → KeyFits d key (sum_from (key_add d 16) (key_none d 16) part n 0)
       parts-fit n few =
           let m : ℕ = length raw.shapes in
           let rest : n + (m - n) ≡ m = omega arith in
-          within_fits d (length raw.shapes) (shape_parent raw.shapes) (shape_item raw.shapes) (shape_cap raw.shapes)
-          (λ v r. 0) (λ v r. key_none d 16) formed.shaped
+          within_fits d key (length raw.shapes) (shape_parent raw.shapes) (shape_item raw.shapes) (shape_cap raw.shapes)
+          (λ v r. 0) (λ v r. key_none d 16) formed.shaped formed.held
           (λ v r l. (
             omega arith,
             λ i h. omega (arith, weight-none i),
@@ -163,7 +163,7 @@ module _ {R : Type 0} (d : ℕ) (key : R → KeyOf d 16) where
 
     pub sums-fit : (formed : IsRawFormed d key raw)
         → ((q : ℕ) → q < length raw.shapes → nat_eq (raw_below raw v q) 1 ≡ true → get_or places q 0 < raw_len raw q)
-        → (n : ℕ) → n ≤ length raw.shapes → KeyFits d (rank_sum n)
+        → (n : ℕ) → n ≤ length raw.shapes → KeyFits d key (rank_sum n)
     sums-fit formed within n few =
         parts-fit raw formed placed_rank (λ q l. placed-part q (nat_eq (raw_below raw v q) 1) refl (λ e. within q l e)) n few
 

@@ -4,6 +4,7 @@ ghost use Rattle.query_bind.specs.Weighed.{Fits};
 ghost use Rattle.query_shape.specs.Shape.{IsShape, Shape};
 ghost use Rattle.query_shape.specs.Shown.{HasItems, HasStoredTree};
 ghost use Rattle.join_tree.specs.Rerooting.{IsTree};
+ghost use Rattle.node_build.specs.Nodes.{CapsBelow};
 ghost use Rattle.proof_text.specs.Seen.{seen_proof};
 ghost use Rattle.proof_model.specs.Faults.{TellsFlaw};
 ghost use Rattle.proof_model.specs.QueryProblem.{problem_in};
@@ -38,6 +39,7 @@ pub fn verify<R: Rank, L: Ledger>(
     requires fits { Fits query.now tables.now }
     requires keys { length query.now.query.order ≤ R.KEYS }
     requires slots { length query.now.query.items ≤ R.ITEMS }
+    requires limit { CapsBelow R.LIMIT query.now tables.now }
     requires tree { HasStoredTree query.now.query join.now }
     requires ordered { IsTree join.now.count join.now.atom join.now.parent }
     requires items { HasItems join.now.count join.now.atom (length query.now.query.items) }

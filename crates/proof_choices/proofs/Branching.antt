@@ -64,4 +64,4 @@ module _ {R : Type 0} (join : JoinTree) (tree : BoundedData R) (d : ℕ) (key : 
       ∙ ap (λ z. key_add d 16 (sum_from (key_add d 16) (key_none d 16) is.base.0 (problem_in known.query known.tables join).nodes 0) z)
       (l.1 l.0.0 l.0.1)
       ∙ whole in
-      subst (KeyFits d) (sym same) fits
+      subst (KeyFits d key) (sym same) fits

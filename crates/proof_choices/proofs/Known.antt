@@ -61,10 +61,10 @@ module _ {R : Type 0} (query : Query) (tables : List Table) (join : JoinTree) (d
 
   -- a sum of rows' keys fits
   pub over-fits : (some : 0 < t.nodes) (Has : ℕ → Type 0) (k : KeyOf (length query.order) 16) → IsRawFormed d key tree.raw
-      → IsSumOver t (laws some) Has k → KeyFits d (W k)
+      → IsSumOver t (laws some) Has k → KeyFits d key (W k)
   over-fits some Has k formed s =
-      subst (KeyFits d) (sym (wide-sum (length query.order) d few s.part t.nodes 0) ∙ ap W s.whole)
-      (subst (λ n. KeyFits d (sum_from (key_add d 16) (key_none d 16) (λ q. W (s.part q)) n 0)) bounded.rows.nodes
+      subst (KeyFits d key) (sym (wide-sum (length query.order) d few s.part t.nodes 0) ∙ ap W s.whole)
+      (subst (λ n. KeyFits d key (sum_from (key_add d 16) (key_none d 16) (λ q. W (s.part q)) n 0)) bounded.rows.nodes
       (parts-fit d key tree.raw formed (λ q. W (s.part q)) (λ q h.
       let l : q < t.nodes = let e = bounded.rows.nodes in omega (arith, e, h) in
       elim (s.each q l) [
@@ -171,9 +171,9 @@ module _ {R : Type 0} (query : Query) (tables : List Table) (join : JoinTree) (d
           ∙ sym (wide-sum (length query.order) d few (base_term t c p rows below) n 0)
 
       -- it fits
-      pub sum-fits : IsRawFormed d key tree.raw → KeyFits d (sum_from (key_add d 16) (key_none d 16) f n 0)
+      pub sum-fits : IsRawFormed d key tree.raw → KeyFits d key (sum_from (key_add d 16) (key_none d 16) f n 0)
       sum-fits formed =
-          subst (KeyFits d) (sym sum-is)
+          subst (KeyFits d key) (sym sum-is)
           (over-fits some-nodes (λ w. holder t (laws some-nodes) c p rows below w < n) _ formed
           (base-over t (laws some-nodes) c p rows below solved n less
           (λ q h l. bounded.rows.is_row q (slice_index start q) l (within q h))
@@ -275,7 +275,7 @@ module _ {R : Type 0} (query : Query) (tables : List Table) (join : JoinTree) (d
           ∙ ap W (base-and-low t (laws some-nodes) c p all_rows all_below node)
 
       pub choice-fits : IsRawFormed d key tree.raw
-          → KeyFits d (W (sum_from t.add t.none (choice_term t c p all_rows all_below) t.nodes 0))
+          → KeyFits d key (W (sum_from t.add t.none (choice_term t c p all_rows all_below) t.nodes 0))
       choice-fits formed =
           over-fits some-nodes (λ w. holder t (laws some-nodes) c p all_rows all_below w < t.nodes) _ formed
           (choice-over t (laws some-nodes) c p all_rows all_below solved node choice-row

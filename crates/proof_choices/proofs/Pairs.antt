@@ -3,7 +3,7 @@ use Rattle.std.proofs.Common.{◌≡◌, ℕ, zero, suc, Bool, true, false, not,
 use Rattle.std.proofs.Common.{if◌then◌else◌, List, [], ◌∷◌, ◌++◌, slice_get, Some, refl, sym, ap, ◌∙◌}
 use Rattle.std.proofs.Common.{arith, eqb-true, eq-eqb}
 use Rattle.std.specs.List.{list_any}
-use Rattle.std.proofs.lemmas.Bool.{false≢true}
+use Rattle.std.proofs.lemmas.Bool.{false≢true, and_parts}
 use Rattle.std.proofs.lemmas.Option.{get_or_from_slice_get, slice_get_within}
 use Rattle.indexmap.specs.IndexSet.{insert_key}
 use Rattle.proof_choices.specs.Levels.{IsPairAt}
@@ -15,13 +15,9 @@ Pair = ℕ × ℕ
 abbrev pub same : Pair → Pair → Bool
 same a b = nat_eq a.0 b.0 && nat_eq a.1 b.1
 
-both-true : (a b : Bool) → (a && b) ≡ true → (a ≡ true) × (b ≡ true)
-both-true true b e = (refl, e)
-both-true false b e = absurd (false≢true e)
-
 same-is : (a b : Pair) → same a b ≡ true → a ≡ b
 same-is a b e =
-    let h = both-true (nat_eq a.0 b.0) (nat_eq a.1 b.1) e in
+    let h = and_parts (nat_eq a.0 b.0) (nat_eq a.1 b.1) e in
     let x : a.0 ≡ b.0 = eqb-true a.0 b.0 h.0 in
     let y : a.1 ≡ b.1 = eqb-true a.1 b.1 h.1 in
     λ i. (x i, y i)

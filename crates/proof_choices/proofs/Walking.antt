@@ -44,9 +44,9 @@ module _ {R : Type 0} (join : JoinTree) (tree : BoundedData R) (d : ℕ) (key : 
 
     pub row-fits : (g : ℕ) (k : KeyOf d 16) → g < bounds
         → ((i : ℕ) (low : KeyOf d 16) → IsInGroup join tree d key p g i → HasLow join tree d key p i (Some low)
-        → KeyFits d (key_add d 16 k low))
+        → KeyFits d key (key_add d 16 k low))
         → (m : ℕ) (low : KeyOf d 16) → m < length (list_at groups g)
-        → HasLow join tree d key p (slice_index (list_at groups g) m) (Some low) → KeyFits d (key_add d 16 k low)
+        → HasLow join tree d key p (slice_index (list_at groups g) m) (Some low) → KeyFits d key (key_add d 16 k low)
     row-fits g k l fits m low h has = fits (slice_index (list_at groups g) m) low (row-in g m l h) has
 
   module _ (last : Option (KeyOf d 16)) (groups : List (List ℕ)) (least : List (Option R)) where

@@ -139,7 +139,7 @@ module _ {R : Type 0} (join : JoinTree) (tree : BoundedData R) (d : ℕ) (key : 
   abbrev pub FitsGroup : ℕ → ℕ → KeyOf d 16 → Type 0
   FitsGroup p g k =
       (i : ℕ) (low : KeyOf d 16) → IsInGroup p g i → HasLow p i (Some low)
-      → KeyFits d (key_add d 16 k low)
+      → KeyFits d key (key_add d 16 k low)
 
   -- each row of the branch's group that no answer has after the beginning comes after the last answer
   abbrev pub IsLeftAfter : ℕ → List (ℕ × ℕ) → ℕ → Option (KeyOf d 16) → Branch R → Type 0

@@ -224,7 +224,7 @@ fn fill<R: Rank, L: Ledger>(
     requires fits { (m : ℕ) (low : KeyOf R.KEYS 16) → m < length (list_at groups.now group)
         → HasLow join.now tree.now R.KEYS R.key node (slice_index (list_at groups.now group) m)
         (Some low)
-        → KeyFits R.KEYS (key_add R.KEYS 16 (R.key known) low) }
+        → KeyFits R.KEYS R.key (key_add R.KEYS 16 (R.key known) low) }
     requires list { (slice_index_or (map (λ l. l.items) lists.old.items) group [] ≡ [])
         ⊎ AreOffers join.now tree.now R.KEYS R.key node (list_at groups.now group) (R.key known)
         (option_map R.key last.now)

@@ -1,4 +1,4 @@
--- Sums of keys of rows, at most one of each node, fit a rank.
+-- Sums of keys of rows, at most one of each node, are in the range of keys.
 use Rattle.std.proofs.Common.{◌≡◌, ◌<◌, ◌≤◌, ◌+◌, ◌-◌, ◌^◌, ◌==◌, ℕ, zero, suc, Bool, true, false, cond}
 use Rattle.std.proofs.Common.{ℤ, pos, unsigned_abs, List, [], ◌∷◌, map, length, get_or, slice_index}
 use Rattle.std.proofs.Common.{replicate, refl, sym, ap, subst, ◌∙◌, inl, inr, arith}
@@ -16,7 +16,7 @@ use Rattle.tdp_model.specs.TreeProblem.{sum_from}
 use Rattle.tdp_model.proofs.KeyNumbers.{sum_of_add, sum_of_lists, sum_of_none, slot_of_lists}
 use Rattle.tdp_model.proofs.KeyTuples.{slot_of_add, slot_of_none}
 use Rattle.tdp_model.proofs.Ranges as ranges
-use Rattle.rank_key.specs.Keys.{KeyFits}
+use Rattle.rank_key.specs.Keys.{IsInRange}
 use Rattle.anyk_model.specs.Table.{Table, most_rows, table_at}
 use Rattle.anyk_model.specs.Query.{OrderKey}
 use Rattle.csv_tables.specs.Tables.{IsSound}
@@ -35,11 +35,11 @@ use Rattle.proof_model.specs.Wide.{wide}
 
 -- ---- wide keys
 
--- a wide key fits if its sums and its slots do
+-- a wide key is in range if its sums and its slots are
 pub wide-fits : (few d : ℕ) (k : KeyOf few 16) → few ≤ d
     → ((i : ℕ) → i < few → unsigned_abs (sum_of few 16 i k) < 2 ^ 127)
     → ((i : ℕ) → i < 16 → slot_of few 16 i k < 2 ^ 32)
-    → KeyFits d (wide few d 16 k)
+    → IsInRange d (wide few d 16 k)
 wide-fits few d k less sums slots = (
   λ i l. fits_signed_from_abs w128 (sum_of d 16 i (wide few d 16 k)) (at few d k i less sums l),
   λ i l. subst (λ (n : ℕ). n < 2 ^ 32) (sym (slot few d k i less)) (slots i l),
@@ -222,5 +222,5 @@ module _ (bound : BoundQuery) (tables : List Table) (atoms parents : List ℕ) (
         omega (arith, a, b, c, e)
 
     pub sums-fit : (more : ℕ) → length bound.query.order ≤ more
-        → KeyFits more (wide (length bound.query.order) more 16 whole)
+        → IsInRange more (wide (length bound.query.order) more 16 whole)
     sums-fit more less = wide-fits (length bound.query.order) more whole less sums-small slots-small

@@ -6,7 +6,7 @@ use Rattle.anyk_model.specs.Output.{cut}
 use Rattle.rankings.specs.Order.{IsRanking}
 use Rattle.tdp_model.specs.KeyTuple.{KeyOf, key_add, key_below, key_none}
 use Rattle.tdp_model.specs.TreeProblem.{sum_from}
-use Rattle.rank_key.specs.Keys.{KeyFits}
+use Rattle.rank_key.specs.Keys.{IsInRange}
 use Rattle.query_bind.specs.Weighed.{BoundQuery, Fits}
 use Rattle.query_shape.specs.Shape.{HasTree}
 use Rattle.proof_text.specs.Certificate.{Certificate}
@@ -77,7 +77,8 @@ WideKeysAgree =
     → (wide few more e (key_add few e a b) ≡ key_add more e (wide few more e a) (wide few more e b))
     × (key_below more e (wide few more e a) (wide few more e b) ↔ key_below few e a b)
 
--- a sum of keys of rows, at most one of each node, fits the ranks that have room for the query's order keys
+-- in a sum of keys of rows, at most one of each node, each sum fits 128 bits with a sign, and each slot
+-- 32 bits without one
 abbrev pub SumsFit : Type 0
 SumsFit =
     (bound : BoundQuery) (tables : List Table) (atoms parents : List ℕ) (d : ℕ)
@@ -85,7 +86,7 @@ SumsFit =
     → length bound.query.order ≤ d
     → (part : ℕ → KeyOf (length bound.query.order) 16)
     → ((q : ℕ) → q < length atoms → IsPart (problem_of bound.query tables atoms parents) q (part q))
-    → KeyFits d (wide (length bound.query.order) d 16
+    → IsInRange d (wide (length bound.query.order) d 16
     (sum_from (key_add (length bound.query.order) 16) (key_none (length bound.query.order) 16) part
     (length atoms) 0))
 

@@ -40,7 +40,8 @@ pub fn wide_keys_agree()
     ensures { WideKeysAgree }
 {}
 
-/// A sum of keys of rows, at most one of each node, fits the ranks that have room for the query's order keys.
+/// In a sum of keys of rows, at most one of each node, each sum fits 128 bits with a sign, and each slot 32 bits
+/// without one.
 pub fn sums_fit()
     ensures { SumsFit }
 {}

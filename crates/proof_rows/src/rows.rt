@@ -3,6 +3,7 @@ ghost use Rattle.std.specs.Prelude.{◌≡◌, ◌≤◌, length, IfErr, IfOk, O
 ghost use Rattle.query_bind.specs.Weighed.{Fits};
 ghost use Rattle.query_shape.specs.Shape.{IsShape, Shape};
 ghost use Rattle.query_shape.specs.Shown.{HasStoredTree};
+ghost use Rattle.node_build.specs.Nodes.{CapsBelow};
 ghost use Rattle.proof_text.specs.Certificate.{Certificate};
 ghost use Rattle.proof_model.specs.Faults.{TellsFlaw};
 ghost use Rattle.proof_bounds.specs.Bounded.{HasProblemRows};
@@ -33,6 +34,7 @@ pub(crate) fn query_rows<R: Rank, L: Ledger>(
     requires fits { Fits query.now tables.now }
     requires keys { length query.now.query.order ≤ R.KEYS }
     requires slots { length query.now.query.items ≤ R.ITEMS }
+    requires limit { CapsBelow R.LIMIT query.now tables.now }
     requires tree { HasStoredTree query.now.query join.now }
     requires count { join.now.count ≡ length query.now.query.items }
     ensures rows { IfOk result (HasProblemRows query.now.query tables.now join.now R.KEYS R.key) }

@@ -11,7 +11,7 @@ use Rattle.tdp_model.specs.KeyTuple.{key_add}
 use Rattle.tdp_model.proofs.Subtrees.{cases_eq}
 use Rattle.tdp_model.proofs.KeyNumbers.{sum_of_add, sum_of_lists, slot_of_lists}
 use Rattle.tdp_model.proofs.KeyTuples.{slot_of_add}
-use Rattle.rank_key.specs.Keys.{KeyFits, row_key}
+use Rattle.rank_key.specs.Keys.{IsInRange, row_key}
 
 small_at : (xs : List ℤ) (i : ℕ) → AllByRecursion (FitsSigned w64) xs → FitsSigned w64 (get_or xs i (pos 0))
 small_at [] i all = search rules
@@ -34,7 +34,7 @@ slot_at_most slot row i = elim (cases_lt i 16) [
 ]
 
 -- a row with small sums fits
-pub row_fits : (d : ℕ) (xs : List ℤ) (slot row : ℕ) → AllByRecursion (FitsSigned w64) xs → row < 2 ^ 31 → KeyFits d (row_key d xs slot row)
+pub row_fits : (d : ℕ) (xs : List ℤ) (slot row : ℕ) → AllByRecursion (FitsSigned w64) xs → row < 2 ^ 31 → IsInRange d (row_key d xs slot row)
 row_fits d xs slot row all few = (
   λ i h. rw (sum_of_lists d 16 i xs (set (replicate 16 0) slot row) h) (small_fits _ (small_at xs i all)),
   λ i h. rw (slot_of_lists d 16 i xs (set (replicate 16 0) slot row) h) (omega (arith, slot_at_most slot row i)),
@@ -42,7 +42,7 @@ row_fits d xs slot row all few = (
 
 -- the sum of two of them fits
 pub two_rows_fit : (d : ℕ) (xs ys : List ℤ) (slot row other number : ℕ) → AllByRecursion (FitsSigned w64) xs → AllByRecursion (FitsSigned w64) ys
-    → row < 2 ^ 31 → number < 2 ^ 31 → KeyFits d (key_add d 16 (row_key d xs slot row) (row_key d ys other number))
+    → row < 2 ^ 31 → number < 2 ^ 31 → IsInRange d (key_add d 16 (row_key d xs slot row) (row_key d ys other number))
 two_rows_fit d xs ys slot row other number all each few less = (
   λ i h. rw (sum_of_add d 16 i (row_key d xs slot row) (row_key d ys other number), sum_of_lists d 16 i xs (set (replicate 16 0) slot row) h, sum_of_lists d 16 i ys (set (replicate 16 0) other number) h)
       (sum_fits _ _ (small_at xs i all) (small_at ys i each)),

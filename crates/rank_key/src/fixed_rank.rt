@@ -4,6 +4,8 @@ ghost use Rattle.std.specs.Int.{FitsUnsigned, w32, w128};
 ghost use Rattle.std.specs.Ordering.{int_cmp};
 ghost use Rattle.std.specs.Cmp.Lexicographic.{slice_cmp};
 ghost use Rattle.tdp_model.specs.KeyNumbers.{plus, key_of_lists};
+ghost use Rattle.std.proofs.Common.{rules};
+ghost use Rattle.rank_key.specs.KeyLists.{sums_of, slots_of, length-sums, length-slots, slots-end, key-of_lists};
 ghost use Rattle.rank_key.specs.Keys.{NoneAfter, minus};
 
 use crate::rank::Rank;
@@ -25,9 +27,6 @@ pub struct FixedRank<const N: usize, const M: usize> {
 
 /// A rank with one sum, for an order by one key or by none.
 pub type SumRank = FixedRank<1, 16>;
-
-/// A rank with one sum and four slots, for a query of at most four items.
-pub type SmallSumRank = FixedRank<1, 4>;
 
 /// A rank with one sum and eight slots, for a query of at most eight items.
 pub type MiddleSumRank = FixedRank<1, 8>;
@@ -137,6 +136,10 @@ impl<const N: usize, const M: usize> Rank for FixedRank<N, M> {
 
     ghost ITEMS = { M };
 
+    ghost LIMIT = { 2 ^ 127 };
+
+    ghost ROWS = { 2 ^ 32 };
+
     ghost key = { λ r. key_of_lists N 16 r.sums r.slots };
 
     const KEYS: usize = N;
@@ -176,4 +179,17 @@ impl<const N: usize, const M: usize> Rank for FixedRank<N, M> {
             Ordering::Greater => false,
         }
     }
+
+    ghost holds = { λ k within. (
+      record {
+        sums = sums_of N M k;
+        slots = slots_of N M k;
+        sums_len = length-sums N M k;
+        slots_len = length-slots N M k;
+        none_after = slots-end N M (2 ^ 127) (2 ^ 32) k within;
+      },
+      key-of_lists N M (2 ^ 127) (2 ^ 32) k within,
+    ) };
+
+    ghost rows_held = { Prim.search rules };
 }

@@ -14,5 +14,6 @@ mod rank;
 mod sum;
 
 pub use binary_digits::bits;
-pub use fixed_rank::{FixedRank, LexRank, MiddleSumRank, SmallLexRank, SmallSumRank, SumRank};
+pub use fixed_rank::{FixedRank, LexRank, MiddleSumRank, SmallLexRank, SumRank};
 pub use rank::{Rank, SLOTS};
+pub use sum::Sum;

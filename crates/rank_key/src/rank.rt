@@ -1,8 +1,8 @@
 //! What a rank can do: joining, exchanging a part and comparing, one counted step each.
-ghost use Rattle.std.specs.Prelude.{◌≡◌, ℕ, ◌+◌, ◌<◌, ◌≤◌, ℤ, List, length};
+ghost use Rattle.std.specs.Prelude.{◌≡◌, ℕ, ◌+◌, ◌^◌, ◌<◌, ◌≤◌, ℤ, List, length, All, unsigned_abs};
 ghost use Rattle.tdp_model.specs.KeyTuple.{KeyOf, key_add, key_none};
 ghost use Rattle.tdp_model.specs.KeyNumbers.{key_less};
-ghost use Rattle.rank_key.specs.Keys.{KeyFits, CanSwap, row_key};
+ghost use Rattle.rank_key.specs.Keys.{KeyFits, CanSwap, IsHeld, IsWithin, row_key};
 
 use std::sync::ledger::Ledger;
 use step_counter::Steps;
@@ -11,11 +11,16 @@ use step_counter::Steps;
 pub const SLOTS: usize = 16;
 
 /// A rank. Contracts see its key: `KEYS` sums and then 16 row slots, of which the rank holds the first `ITEMS`: the
-/// others are 0. Ranks are used through the calls of this trait alone, and none of them takes memory.
+/// others are 0. Each key whose sums are below `LIMIT` in absolute value and whose slots are below `ROWS` is that of a
+/// rank. Ranks are used through the calls of this trait alone, and none of them takes memory.
 pub trait Rank: Copy {
     ghost KEYS: { ℕ };
 
     ghost ITEMS: { ℕ };
+
+    ghost LIMIT: { ℕ };
+
+    ghost ROWS: { ℕ };
 
     ghost key: { Self → KeyOf KEYS 16 };
 
@@ -30,20 +35,22 @@ pub trait Rank: Copy {
     /// the other slots are 0.
     fn of_row(sums: &[i128], slot: u32, row: u32) -> Self
         requires sums { length sums.now ≤ KEYS }
+        requires small { All (λ z. unsigned_abs z < LIMIT) sums.now }
         requires slot { slot < 16 }
         requires item { slot < ITEMS }
+        requires number { row < ROWS }
         ensures { key result ≡ row_key KEYS sums.now slot row };
 
     /// The sum of two ranks, number by number. It takes one step. The result must fit.
     fn join<L: Ledger>(a: Self, b: Self, steps: &mut Steps<L>) -> Self
-        requires { KeyFits KEYS (key_add KEYS 16 (key a) (key b)) }
+        requires { KeyFits KEYS key (key_add KEYS 16 (key a) (key b)) }
         ensures sum { key result ≡ key_add KEYS 16 (key a) (key b) }
         ensures counted { steps.new ≡ steps.old + 1 };
 
     /// `total` with `new` in place of its part `old`, that is total - old + new. It takes one step. Both what is left
     /// without `old` and the result must fit.
     fn swap<L: Ledger>(total: Self, old: Self, new: Self, steps: &mut Steps<L>) -> Self
-        requires { CanSwap KEYS (key total) (key old) (key new) }
+        requires { CanSwap KEYS key (key total) (key old) (key new) }
         ensures swapped { (rest : KeyOf KEYS 16) → key total ≡ key_add KEYS 16 rest (key old)
             → key result ≡ key_add KEYS 16 rest (key new) }
         ensures counted { steps.new ≡ steps.old + 1 };
@@ -52,4 +59,9 @@ pub trait Rank: Copy {
     fn less<L: Ledger>(a: &Self, b: &Self, steps: &mut Steps<L>) -> bool
         ensures order { result ≡ key_less KEYS 16 (key a.now) (key b.now) }
         ensures counted { steps.new ≡ steps.old + 1 };
+
+    ghost holds: { (k : KeyOf KEYS 16) → IsWithin KEYS ITEMS LIMIT ROWS k → IsHeld KEYS key k };
+
+    // row numbers are below 2 ^ 21
+    ghost rows_held: { 2 ^ 21 ≤ ROWS };
 }

@@ -8,7 +8,7 @@ use std::marker::Model;
 /// A whole number of 128 bits with a sign. It is kept in two halves, so that a rank needs no more room than its numbers
 /// take, at any place that is a multiple of 8.
 #[derive(Clone, Copy)]
-pub(crate) struct Sum {
+pub struct Sum {
     high: u64,
     low: u64,
 }
@@ -30,7 +30,7 @@ impl Model for Sum {
 
 impl Sum {
     /// The halves of a number.
-    pub(crate) fn new(number: i128) -> Sum
+    pub fn new(number: i128) -> Sum
         ensures { result ≡ number }
     {
         let bits = number.cast_unsigned();
@@ -41,14 +41,14 @@ impl Sum {
     }
 
     /// The number.
-    pub(crate) fn get(self) -> i128
+    pub fn get(self) -> i128
         ensures { result ≡ self }
     {
         (((self.high as u128) << 64) + self.low as u128).cast_signed()
     }
 
     /// The order of two numbers: that of the high halves with their sign, and then that of the low ones.
-    pub(crate) fn compare(&self, other: &Sum) -> Ordering
+    pub fn compare(&self, other: &Sum) -> Ordering
         ensures { result ≡ int_cmp self.now other.now }
     {
         if self.high == other.high {

@@ -13,7 +13,7 @@ use step_counter::Steps;
 
 /// A rank joined with `zero`, on either side: the rank again.
 pub fn joined_with_zero<R: Rank, L: Ledger>(rank: R, steps: &mut Steps<L>) -> (R, R)
-    requires { KeyFits R.KEYS (R.key rank) }
+    requires { KeyFits R.KEYS R.key (R.key rank) }
     ensures neutral_right { R.key result.0 ≡ R.key rank }
     ensures neutral_left { R.key result.1 ≡ R.key rank }
     ensures counted { steps.new ≡ steps.old + 2 }
@@ -25,7 +25,7 @@ pub fn joined_with_zero<R: Rank, L: Ledger>(rank: R, steps: &mut Steps<L>) -> (R
 
 /// Two ranks joined in both orders: one key.
 pub fn joined_both_ways<R: Rank, L: Ledger>(a: R, b: R, steps: &mut Steps<L>) -> (R, R)
-    requires { KeyFits R.KEYS (key_add R.KEYS 16 (R.key a) (R.key b)) }
+    requires { KeyFits R.KEYS R.key (key_add R.KEYS 16 (R.key a) (R.key b)) }
     ensures commutative { R.key result.0 ≡ R.key result.1 }
     ensures counted { steps.new ≡ steps.old + 2 }
 {
@@ -36,9 +36,9 @@ pub fn joined_both_ways<R: Rank, L: Ledger>(a: R, b: R, steps: &mut Steps<L>) ->
 
 /// Three ranks joined from the left and from the right: one key.
 pub fn grouped_both_ways<R: Rank, L: Ledger>(a: R, b: R, c: R, steps: &mut Steps<L>) -> (R, R)
-    requires left { KeyFits R.KEYS (key_add R.KEYS 16 (R.key a) (R.key b)) }
-    requires right { KeyFits R.KEYS (key_add R.KEYS 16 (R.key b) (R.key c)) }
-    requires whole { KeyFits R.KEYS
+    requires left { KeyFits R.KEYS R.key (key_add R.KEYS 16 (R.key a) (R.key b)) }
+    requires right { KeyFits R.KEYS R.key (key_add R.KEYS 16 (R.key b) (R.key c)) }
+    requires whole { KeyFits R.KEYS R.key
         (key_add R.KEYS 16 (R.key a) (key_add R.KEYS 16 (R.key b) (R.key c))) }
     ensures associative { R.key result.0 ≡ R.key result.1 }
     ensures counted { steps.new ≡ steps.old + 4 }
@@ -52,8 +52,8 @@ pub fn grouped_both_ways<R: Rank, L: Ledger>(a: R, b: R, c: R, steps: &mut Steps
 
 /// Whether one rank is before another after the same rank is joined to both: exactly if it was before.
 pub fn less_joined<R: Rank, L: Ledger>(a: R, b: R, part: R, steps: &mut Steps<L>) -> bool
-    requires first { KeyFits R.KEYS (key_add R.KEYS 16 (R.key a) (R.key part)) }
-    requires second { KeyFits R.KEYS (key_add R.KEYS 16 (R.key b) (R.key part)) }
+    requires first { KeyFits R.KEYS R.key (key_add R.KEYS 16 (R.key a) (R.key part)) }
+    requires second { KeyFits R.KEYS R.key (key_add R.KEYS 16 (R.key b) (R.key part)) }
     ensures monotone { result ≡ key_less R.KEYS 16 (R.key a) (R.key b) }
     ensures counted { steps.new ≡ steps.old + 3 }
 {
@@ -64,8 +64,8 @@ pub fn less_joined<R: Rank, L: Ledger>(a: R, b: R, part: R, steps: &mut Steps<L>
 
 /// How two ranks compare after the same rank is joined to both. The result holds without that rank too.
 pub fn compare_joined<R: Rank, L: Ledger>(a: R, b: R, part: R, steps: &mut Steps<L>) -> Ordering
-    requires first { KeyFits R.KEYS (key_add R.KEYS 16 (R.key a) (R.key part)) }
-    requires second { KeyFits R.KEYS (key_add R.KEYS 16 (R.key b) (R.key part)) }
+    requires first { KeyFits R.KEYS R.key (key_add R.KEYS 16 (R.key a) (R.key part)) }
+    requires second { KeyFits R.KEYS R.key (key_add R.KEYS 16 (R.key b) (R.key part)) }
     ensures cancels_less { result ≡ Less → key_below R.KEYS 16 (R.key a) (R.key b) }
     ensures cancels_equal { result ≡ Equal → R.key a ≡ R.key b }
     ensures cancels_greater { result ≡ Greater → key_below R.KEYS 16 (R.key b) (R.key a) }
@@ -78,9 +78,9 @@ pub fn compare_joined<R: Rank, L: Ledger>(a: R, b: R, part: R, steps: &mut Steps
 
 /// A rest joined with an old part, and then the new part in place of the old one: the rest joined with the new part.
 pub fn swapped<R: Rank, L: Ledger>(rest: R, old: R, new: R, steps: &mut Steps<L>) -> R
-    requires rest { KeyFits R.KEYS (R.key rest) }
-    requires before { KeyFits R.KEYS (key_add R.KEYS 16 (R.key rest) (R.key old)) }
-    requires after { KeyFits R.KEYS (key_add R.KEYS 16 (R.key rest) (R.key new)) }
+    requires rest { KeyFits R.KEYS R.key (R.key rest) }
+    requires before { KeyFits R.KEYS R.key (key_add R.KEYS 16 (R.key rest) (R.key old)) }
+    requires after { KeyFits R.KEYS R.key (key_add R.KEYS 16 (R.key rest) (R.key new)) }
     ensures exchanged { R.key result ≡ key_add R.KEYS 16 (R.key rest) (R.key new) }
     ensures counted { steps.new ≡ steps.old + 2 }
 {
@@ -90,8 +90,8 @@ pub fn swapped<R: Rank, L: Ledger>(rest: R, old: R, new: R, steps: &mut Steps<L>
 
 /// A total with one part replaced by another, and that undone: the total again.
 pub fn swapped_back<R: Rank, L: Ledger>(total: R, old: R, new: R, steps: &mut Steps<L>) -> R
-    requires swaps { CanSwap R.KEYS (R.key total) (R.key old) (R.key new) }
-    requires total { KeyFits R.KEYS (R.key total) }
+    requires swaps { CanSwap R.KEYS R.key (R.key total) (R.key old) (R.key new) }
+    requires total { KeyFits R.KEYS R.key (R.key total) }
     ensures undone { R.key result ≡ R.key total }
     ensures counted { steps.new ≡ steps.old + 2 }
 {

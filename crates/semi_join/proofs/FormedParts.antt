@@ -19,7 +19,7 @@ use Rattle.semi_join.proofs.FirstOnes.{kept_first, kept-more}
 use Rattle.semi_join.proofs.Kids.{few-cond, children-count}
 use Rattle.semi_join.proofs.Descends.{later_of}
 use Rattle.semi_join.proofs.NodeRows.{row-fact}
-use Rattle.semi_join.proofs.SameShapes.{shape-same, children-same, shaped-same}
+use Rattle.semi_join.proofs.SameShapes.{shape-same, children-same, held-same, shaped-same}
 use Rattle.semi_join.proofs.Totals.{sum-most, sum-rows}
 use Rattle.semi_join.proofs.KeptParts.{kept_at, owns-count, node-of, all-shapes, row-count, group-total, one-root}
 use Rattle.semi_join.proofs.NamedGroups.{named-count, named-group}
@@ -76,6 +76,7 @@ module _ {R : Type 0} (d : ℕ) (key : R → KeyOf d 16) (raw : RawData R) (form
   formed-parts = record {
     laid_out = record {
       shaped = shaped-same raw.shapes parts (all-shapes raw parts last) formed.shaped;
+      held = held-same raw.shapes parts (all-shapes raw parts last) d key formed.held;
       few_rows = few-rows;
       rows_fit = fits;
       all_name = λ v h.

@@ -1,6 +1,6 @@
 -- The rows that stay are those with partners.
 use Rattle.std.proofs.Common.{◌≡◌, ℕ, zero, suc, ◌<◌, ◌⊎◌, inl, inr, Bool, true, false, cond, nat_eq, ◌&&◌, ◌||◌, List, [], ◌∷◌, ◌++◌, length, get_or, refl, sym, ap, subst, ◌∙◌, arith, eq-eqb, eqb-true, length-append}
-use Rattle.std.proofs.lemmas.Bool.{eqb-false, cases_eq}
+use Rattle.std.proofs.lemmas.Bool.{eqb-false, cases_eq, and_parts}
 use Rattle.std.proofs.lemmas.List.{get_or_append_left}
 use Rattle.std.specs.List.{list_any}
 use Rattle.tdp_core.specs.RawData.{RawData, child_link}
@@ -12,10 +12,6 @@ use Rattle.semi_join.proofs.Numbering.{get_or-last}
 -- x stands in the list
 abbrev pub Stands : ℕ → List ℕ → Type 0
 Stands x xs = (i : ℕ) × (i < length xs) × (get_or xs i 0 ≡ x)
-
-and-parts : (a b : Bool) → (a && b) ≡ true → (a ≡ true) × (b ≡ true)
-and-parts true b h = (refl, h)
-and-parts false b h = cc
 
 -- a test that finds a number, and one that stands there
 pub any-stands : (x : ℕ) (xs : List ℕ) → list_any (nat_eq x) xs ≡ true → Stands x xs
@@ -55,7 +51,7 @@ module _ {R : Type 0} (raw : RawData R) (v : ℕ) (later : List (List ℕ)) wher
   pub met-each : (n i : ℕ) → has_first raw v later n i ≡ true → (c : ℕ) → c < n → Stands (child_link raw v i c) (child_links raw v later c)
   met-each zero i h c l = absurd (omega arith)
   met-each (suc n) i h c l =
-      let parts = and-parts (has_first raw v later n i) (list_any (nat_eq (child_link raw v i n)) (child_links raw v later n)) (sym (has-more raw v later n i) ∙ h) in
+      let parts = and_parts (has_first raw v later n i) (list_any (nat_eq (child_link raw v i n)) (child_links raw v later n)) (sym (has-more raw v later n i) ∙ h) in
       by (nat_eq c n) refl (met-each n i parts.0 c) (any-stands (child_link raw v i n) (child_links raw v later n) parts.1)
     where
       by : (b : Bool) → nat_eq c n ≡ b → (c < n → Stands (child_link raw v i c) (child_links raw v later c)) → Stands (child_link raw v i n) (child_links raw v later n) → Stands (child_link raw v i c) (child_links raw v later c)

@@ -1,7 +1,7 @@
 -- The rows that stay, one after the other.
 use Rattle.std.proofs.Common.{◌≡◌, ℕ, zero, suc, ◌+◌, ◌-◌, ◌<◌, ◌≤◌, Bool, true, false, cond, nat_eq, ◌&&◌, List, [], ◌∷◌, ◌++◌, map, length, get_or, refl, sym, ap, subst, ◌∙◌, arith, add-one, inl, inr, Some, None, position, nat_lt}
 use Rattle.std.specs.List.{list_any, position_or_len}
-use Rattle.std.proofs.lemmas.Bool.{cases_lt, lt-ltb}
+use Rattle.std.proofs.lemmas.Bool.{cases_lt, lt-ltb, and_from, and_right}
 use Rattle.std.proofs.lemmas.List.Elements.{All-from_get_or}
 use Rattle.std.proofs.lemmas.List.Folds.{list_any_at, list_any_none}
 use Rattle.std.proofs.lemmas.List.Quantifiers.{position-Some}
@@ -33,13 +33,6 @@ pub length-map : {X Y : Type 0} (f : X → Y) (xs : List X) → length (map f xs
 length-map f [] = refl
 length-map f (x ∷ xs) = ap suc (length-map f xs)
 
-both : (a b : Bool) → a ≡ true → b ≡ true → (a && b) ≡ true
-both a b p q = ap (λ x. x && b) p ∙ q
-
-neither : (a b : Bool) → b ≡ false → (a && b) ≡ false
-neither true b q = q
-neither false b q = refl
-
 falls : (a b : Bool) → a ≡ false → (a && b) ≡ false
 falls a b p = ap (λ x. x && b) p
 
@@ -58,7 +51,7 @@ module _ {R : Type 0} (raw : RawData R) (v : ℕ) (later : List (List ℕ)) wher
       ap (λ ks. get_or later (get_or ks c 0 - v - 1) []) (sym e) ∙ ap (λ xs. get_or xs (get_or children c 0 - v - 1) []) l ∙ links-read ls (get_or children c 0 - v - 1) s within read
 
   pub met-more : (n i : ℕ) (keys : List ℕ) → child_links raw v later n ≡ keys → has_first raw v later n i ≡ true → list_any (nat_eq (child_link raw v i n)) keys ≡ true → has_first raw v later (n + 1) i ≡ true
-  met-more n i keys e m h = ap (λ j. has_first raw v later j i) (add-one n) ∙ has-more raw v later n i ∙ both _ _ m (ap (list_any (nat_eq (child_link raw v i n))) e ∙ h)
+  met-more n i keys e m h = ap (λ j. has_first raw v later j i) (add-one n) ∙ has-more raw v later n i ∙ and_from _ _ m (ap (list_any (nat_eq (child_link raw v i n))) e ∙ h)
 
   pub named-more : (n i number : ℕ) (keys numbers : List ℕ) → child_links raw v later n ≡ keys → numbers ≡ named_first raw v later n i → Some number ≡ position (nat_eq (child_link raw v i n)) keys
       → numbers ++ (number ∷ []) ≡ named_first raw v later (n + 1) i
@@ -75,4 +68,4 @@ module _ {R : Type 0} (raw : RawData R) (v : ℕ) (later : List (List ℕ)) wher
   pub missed : (n all i : ℕ) (keys : List ℕ) → n < all → child_links raw v later n ≡ keys → list_any (nat_eq (child_link raw v i n)) keys ≡ false → has_first raw v later all i ≡ false
   missed n all i keys less e h =
       let whole : (all - (n + 1)) + (n + 1) ≡ all = omega arith in
-      subst (λ j. has_first raw v later j i ≡ false) whole (not-met (all - (n + 1)) n i (ap (λ j. has_first raw v later j i) (add-one n) ∙ has-more raw v later n i ∙ neither _ _ (ap (list_any (nat_eq (child_link raw v i n))) e ∙ h)))
+      subst (λ j. has_first raw v later j i ≡ false) whole (not-met (all - (n + 1)) n i (ap (λ j. has_first raw v later j i) (add-one n) ∙ has-more raw v later n i ∙ and_right _ _ (ap (list_any (nat_eq (child_link raw v i n))) e ∙ h)))

@@ -1,10 +1,11 @@
 -- Parts with the shapes of a raw tree.
 use Rattle.std.proofs.Common.{◌≡◌, ℕ, zero, suc, ◌<◌, List, [], ◌∷◌, map, length, get_or, refl, sym, ap, subst, ◌∙◌, arith}
 use Rattle.std.proofs.lemmas.List.{length-map}
+use Rattle.tdp_model.specs.KeyTuple.{KeyOf}
 use Rattle.tdp_core.specs.declared.parts.NodeShape.{NodeShape}
-use Rattle.tdp_core.specs.RawData.{AreShapes, shape_at, shape_parent, shape_item, shape_cap, shape_children, shape_child_place}
+use Rattle.tdp_core.specs.RawData.{AreShapes, AreShapesHeld, shape_at, shape_parent, shape_item, shape_cap, shape_children, shape_child_place}
 use Rattle.tdp_core.specs.TreeData.{NodeData, kids_below, cap_of, node_at, parent, item, cap, child_count, child_place}
-use Rattle.tdp_core.specs.WellFormed.{IsShaped}
+use Rattle.tdp_core.specs.WellFormed.{AreHeld, IsShaped}
 
 -- lists of one length with the same elements
 pub same-lists : {X : Type 0} (xs ys : List X) → length xs ≡ length ys → ((k : ℕ) (d : X) → k < length xs → get_or xs k d ≡ get_or ys k d) → xs ≡ ys
@@ -42,3 +43,9 @@ module _ {R : Type 0} (shapes : List NodeShape) (t : List (NodeData R)) (same : 
       let each : shape_at shapes ≡ (λ v. (node_at t v).shape) = λ i v. sym (shape-same v) i in
       let F : (ℕ → NodeShape) → Type 0 = λ f. IsShaped (length t) (λ q. (f q).parent) (λ v. (f v).item) (λ v i. cap_of (f v) i) in
       subst F each (subst (λ n. IsShaped n (shape_parent shapes) (shape_item shapes) (shape_cap shapes)) (sym count-same) s)
+
+  pub held-same : (d : ℕ) (key : R → KeyOf d 16) → AreShapesHeld d key shapes → AreHeld d key (length t) (item t) (cap t)
+  held-same d key s =
+      let each : shape_at shapes ≡ (λ v. (node_at t v).shape) = λ i v. sym (shape-same v) i in
+      let F : (ℕ → NodeShape) → Type 0 = λ f. AreHeld d key (length t) (λ v. (f v).item) (λ v i. cap_of (f v) i) in
+      subst F each (subst (λ n. AreHeld d key n (shape_item shapes) (shape_cap shapes)) (sym count-same) s)

@@ -126,16 +126,16 @@ module _ {R : Type 0} (d : ℕ) (key : R → KeyOf d 16) (t : List (NodeData R))
   }
 
   -- what joins and swaps of keys ask
-  pub subtree_key_fits : (depth v r : ℕ) (k : KeyOf d 16) → v < length t → RowHas (key_add d 16) (key_none d 16) (length t) (parent t) (rank t d key) (group t) depth v r k → KeyFits d k
-  subtree_key_fits = subtree_fits d (length t) (parent t) (item t) (cap t) (number t) (rank t d key) formed.shaped ranked_of (group t)
+  pub subtree_key_fits : (depth v r : ℕ) (k : KeyOf d 16) → v < length t → RowHas (key_add d 16) (key_none d 16) (length t) (parent t) (rank t d key) (group t) depth v r k → KeyFits d key k
+  subtree_key_fits = subtree_fits d key (length t) (parent t) (item t) (cap t) (number t) (rank t d key) formed.shaped formed.held ranked_of (group t)
 
-  pub part_key_fits : (depth v r n : ℕ) (k : KeyOf d 16) → v < length t → n ≤ length t - suc v → PartHas (key_add d 16) (key_none d 16) (length t) (parent t) (rank t d key) (group t) depth v r n k → KeyFits d k
-  part_key_fits = part_fits d (length t) (parent t) (item t) (cap t) (number t) (rank t d key) formed.shaped ranked_of (group t)
+  pub part_key_fits : (depth v r n : ℕ) (k : KeyOf d 16) → v < length t → n ≤ length t - suc v → PartHas (key_add d 16) (key_none d 16) (length t) (parent t) (rank t d key) (group t) depth v r n k → KeyFits d key k
+  part_key_fits = part_fits d key (length t) (parent t) (item t) (cap t) (number t) (rank t d key) formed.shaped formed.held ranked_of (group t)
 
   pub can_swap : 0 < group_count t 0 → (n : ℕ) (pre : List ℕ) (x y : ℕ) → IsReached (length t) (λ v r. r < rows t v) (suc n) pre → x < rows t (length pre) → y < rows t (length pre)
-      → CanSwap d (bound_of (key_add d 16) (key_none d 16) (length t) (parent t) (rank t d key) (group t) (best t d key) (pre ++ (x ∷ []))) (best t d key (length pre) x) (best t d key (length pre) y)
+      → CanSwap d key (bound_of (key_add d 16) (key_none d 16) (length t) (parent t) (rank t d key) (group t) (best t d key) (pre ++ (x ∷ []))) (best t d key (length pre) x) (best t d key (length pre) y)
   can_swap live =
-      swap_fits d (length t) (parent t) (item t) (cap t) (number t) (rank t d key) formed.shaped ranked_of (group t) (best t d key) (λ v r. r < rows t v) (tree_of live)
+      swap_fits d key (length t) (parent t) (item t) (cap t) (number t) (rank t d key) formed.shaped formed.held ranked_of (group t) (best t d key) (λ v r. r < rows t v) (tree_of live)
 
   -- the tree as the laws of ranked enumeration see it
   abbrev pub tree_view : 0 < group_count t 0 → IsTieFreeTree t → TreeView d 16

@@ -6,7 +6,7 @@ use Rattle.tdp_core.specs.declared.parts.NodeShape.{NodeShape}
 use Rattle.tdp_core.specs.declared.parts.NodeRow.{NodeRow}
 pub use Rattle.tdp_core.specs.RawRows.{RawRowData}
 use Rattle.tdp_core.specs.TreeData.{kids_below, cap_of}
-use Rattle.tdp_core.specs.WellFormed.{IsShaped, RowFits}
+use Rattle.tdp_core.specs.WellFormed.{AreHeld, IsShaped, RowFits}
 
 -- the nodes' shapes, and the rows of each node
 pub record RawData (R : Type 0) : Type 0 where
@@ -30,6 +30,10 @@ shape_cap shapes v i = cap_of (shape_at shapes v) i
 abbrev pub AreShapes : List NodeShape → Type 0
 AreShapes shapes = IsShaped (length shapes) (shape_parent shapes) (shape_item shapes)
     (shape_cap shapes)
+
+-- each key that rows of nodes with these shapes can add up to is that of a rank
+abbrev pub AreShapesHeld : {R : Type 0} (d : ℕ) → (R → KeyOf d 16) → List NodeShape → Type 0
+AreShapesHeld d key shapes = AreHeld d key (length shapes) (shape_item shapes) (shape_cap shapes)
 
 -- how many children node v has
 abbrev pub shape_children : List NodeShape → ℕ → ℕ
@@ -92,6 +96,7 @@ RawRowFits d key shapes v x =
 
 pub record IsRawFormed {R : Type 0} (d : ℕ) (key : R → KeyOf d 16) (t : RawData R) : Type 0 where
   pub shaped : AreShapes t.shapes
+  pub held : AreShapesHeld d key t.shapes
   pub each_node : length t.rows ≡ length t.shapes
   pub few_rows : row_total t ≤ 4194304
   pub rows_fit : (v : ℕ) → v < length t.shapes → All (RawRowFits d key t.shapes v) (rows_at t v)

@@ -1,6 +1,6 @@
 //! Trees whose rows are not in groups yet.
 ghost use Rattle.std.specs.Prelude.{◌≡◌, ℕ, ◌+◌, ◌<◌, Some, [], length, replicate, IfOk, OnOk, OnErr};
-ghost use Rattle.tdp_core.specs.RawData.{AreShapes, IsRawFormed, RawRowFits, row_total, with_row, without_rows, shape_at, shape_children, raw_len, raw_row_at, raw_rank, raw_number, own_link, child_link};
+ghost use Rattle.tdp_core.specs.RawData.{AreShapes, AreShapesHeld, IsRawFormed, RawRowFits, row_total, with_row, without_rows, shape_at, shape_children, raw_len, raw_row_at, raw_rank, raw_number, own_link, child_link};
 
 use crate::parts::{NodeRow, NodeShape};
 use crate::raw_rows::RawRows;
@@ -31,24 +31,26 @@ impl<R: Rank> Model for RawTree<R> {
 }
 
 impl<R: Rank> RawTree<R> {
-    /// A tree without rows, whose links are hashed with known keys. Its nodes must be in order, parents first.
-    /// `NoMemory` if memory is refused.
+    /// A tree without rows, whose links are hashed with known keys. Its nodes must be in order, parents first, and their
+    /// caps must be within what ranks hold. `NoMemory` if memory is refused.
     pub fn new(alloc: Global, shapes: &[NodeShape]) -> Result<RawTree<R>, NoMemory>
-        requires { AreShapes shapes.now }
+        requires shapes { AreShapes shapes.now }
+        requires held { AreShapesHeld R.KEYS R.key shapes.now }
         ensures { IfOk result
             (λ t. t ≡ record { shapes = shapes.now; rows = replicate (length shapes.now) [] }) }
     {
         RawTree::with_keys(alloc, shapes, Keys::Known)
     }
 
-    /// A tree without rows, whose links are hashed with these keys. Its nodes must be in order, parents first.
-    /// `NoMemory` if memory is refused.
+    /// A tree without rows, whose links are hashed with these keys. Its nodes must be in order, parents first, and their
+    /// caps must be within what ranks hold. `NoMemory` if memory is refused.
     pub fn with_keys(
         alloc: Global,
         shapes: &[NodeShape],
         keys: Keys,
     ) -> Result<RawTree<R>, NoMemory>
-        requires { AreShapes shapes.now }
+        requires shapes { AreShapes shapes.now }
+        requires held { AreShapesHeld R.KEYS R.key shapes.now }
         ensures { IfOk result
             (λ t. t ≡ record { shapes = shapes.now; rows = replicate (length shapes.now) [] }) }
     {

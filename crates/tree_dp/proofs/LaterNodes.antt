@@ -91,10 +91,10 @@ module _ {R : Type 0} (d : ℕ) (key : R → KeyOf d 16) (t : List (NodeData R))
 
     -- a row with the least keys of its first children is the key of a part of a subtree solution, so it fits
     pub first_part-fits : (r n : ℕ) → v < length t → n ≤ length t - suc v → r < rows t v
-        → KeyFits d (first_part (key_below d 16) (key_add d 16) (key_none d 16) (tuple_keys d 16) (length t) (parent t) (rank t d key) (group t) (best t d key) v r n)
+        → KeyFits d key (first_part (key_below d 16) (key_add d 16) (key_none d 16) (tuple_keys d 16) (length t) (parent t) (rank t d key) (group t) (best t d key) v r n)
     unfolding kid_part kid_key
     first_part-fits r n l few row =
-        part_fits d (length t) (parent t) (item t) (cap t) (number t) (rank t d key) laid.shaped row_fits (group t) (length t) v r n
+        part_fits d key (length t) (parent t) (item t) (cap t) (number t) (rank t d key) laid.shaped laid.held row_fits (group t) (length t) v r n
         (first_part (key_below d 16) (key_add d 16) (key_none d 16) (tuple_keys d 16) (length t) (parent t) (rank t d key) (group t) (best t d key) v r n)
         l few (
           (λ q. least_of (key_add d 16) (key_none d 16) (length t) (parent t) (rank t d key) (group t) (best t d key) q r),

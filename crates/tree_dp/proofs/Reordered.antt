@@ -9,7 +9,7 @@ use Rattle.std.proofs.lemmas.List.Sorted.{IsPermutation-refl, IsPermutation-sym,
 use Rattle.tdp_model.specs.KeyTuple.{KeyOf, key_add, key_none}
 use Rattle.tdp_model.specs.TreeProblem.{sum_from}
 use Rattle.tdp_core.specs.TreeData.{NodeData, node_at, parent, item, cap, cap_of, rows, number, kids_below, child_place, group_count, members, group_named, group_number, group, rank}
-use Rattle.tdp_core.specs.WellFormed.{IsShaped, RowFits, IsLaidOut, IsTieFreeTree}
+use Rattle.tdp_core.specs.WellFormed.{AreHeld, IsShaped, RowFits, IsLaidOut, IsTieFreeTree}
 use Rattle.tdp_core.specs.Solutions.{IsTreeSolution}
 use Rattle.tree_dp.specs.Solved.{IsReordered, IsSolved}
 
@@ -96,6 +96,12 @@ module _ {R : Type 0} (before after : List (NodeData R)) (nodes : (v : ℕ) → 
         (subst (λ i. IsShaped (length before) (parent before) i (cap after)) (sym item-same)
         (subst (λ c. IsShaped (length before) (parent before) (item before) c) (sym cap-same) laid.shaped)))
 
+    held : AreHeld d key (length after) (item after) (cap after)
+    held =
+        subst (λ m. AreHeld d key m (item after) (cap after)) (sym count)
+        (subst (λ i. AreHeld d key (length before) i (cap after)) (sym item-same)
+        (subst (λ c. AreHeld d key (length before) (item before) c) (sym cap-same) laid.held))
+
     total-same : sum_from ◌+◌ 0 (rows after) (length after) 0 ≡ sum_from ◌+◌ 0 (rows before) (length before) 0
     total-same = ap (λ f. sum_from ◌+◌ 0 f (length after) 0) rows-same ∙ ap (λ m. sum_from ◌+◌ 0 (rows before) m 0) count
 
@@ -121,6 +127,7 @@ module _ {R : Type 0} (before after : List (NodeData R)) (nodes : (v : ℕ) → 
     pub layout-kept : IsLaidOut d key after
     layout-kept = record {
       shaped = shaped;
+      held = held;
       few_rows = omega (arith, total-same, laid.few_rows);
       rows_fit = rows_fit;
       all_name = λ v l. ap length (nodes v).to_child ∙ laid.all_name v (omega (arith, count)) ∙ ap (λ f. f v) (sym rows-same);

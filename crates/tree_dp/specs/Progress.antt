@@ -1,8 +1,8 @@
 -- What holds of the parts of a tree while their least keys are found, from the last node to the root.
-use Rattle.std.specs.Prelude.{◌≡◌, ℕ, ◌+◌, ◌-◌, ◌/◌, ◌<◌, ◌≤◌, List, [], length, slice_index, slice_index_or}
-use Rattle.tdp_model.specs.Remains.{AtMost}
+use Rattle.std.specs.Prelude.{◌≡◌, ℕ, ◌+◌, ◌-◌, ◌<◌, ◌≤◌, List, [], length, slice_index, slice_index_or}
 use Rattle.tdp_model.specs.KeyTuple.{KeyOf, key_below, key_add, key_none}
 use Rattle.tdp_model.specs.TreeProblem.{best_by_kids}
+use Rattle.tdp_model.specs.Heap.{FollowsParent}
 use Rattle.tdp_core.specs.TreeData.{NodeData, node_at, parent, rows, group_count, members, group, rank, best}
 use Rattle.tree_dp.specs.Orders.{key_at}
 
@@ -18,9 +18,9 @@ pub record IsSolvedFrom {R : Type 0} (d : ℕ) (key : R → KeyOf d 16) (t : Lis
   pub all_best : (v : ℕ) → from_node ≤ v → v < length t → length (node_at t v).best ≡ rows t v
   pub bests : (v r : ℕ) → from_node ≤ v → v < length t → r < rows t v
       → best t d key v r ≡ by_children d key t v r
-  pub heaps : (v g i : ℕ) → from_node ≤ v → v < length t → 0 < i → i < length (members t v g)
-      → AtMost (key_below d 16) (best t d key v (slice_index (members t v g) ((i - 1) / 2)))
-      (best t d key v (slice_index (members t v g) i))
+  pub heaps : (v g i : ℕ) → from_node ≤ v → v < length t
+      → FollowsParent (key_below d 16) (λ j. best t d key v (slice_index (members t v g) j))
+      (length (members t v g)) i
 
 -- the least rank of each group of each node from `from_node` on, in the order of the nodes and of their groups
 pub record AreLeastsFrom {R : Type 0} (d : ℕ) (key : R → KeyOf d 16) (t : List (NodeData R))

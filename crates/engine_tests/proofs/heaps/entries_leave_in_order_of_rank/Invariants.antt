@@ -5,3 +5,6 @@ ghosts-leave_in_order g a = record { name = a.blank.name; parts = a.blank.parts 
 
 abbrev pub ghosts-leave_in_order-2 : goal.ghosts-leave_in_order-2
 ghosts-leave_in_order-2 g a = record { name = a.blank.name; parts = a.blank.parts }
+
+abbrev pub ghosts-leave_in_order-3 : goal.ghosts-leave_in_order-3
+ghosts-leave_in_order-3 g a = record { name = a.blank.name; parts = a.blank.parts }

@@ -16,6 +16,6 @@ add_row-requires-clause-fits g c =
     let below : shape_item shapes v < 16 = c.nodes-count.ensures.formed.shaped.items v c.requires.node in
     let fits : RowFits d (shape_item shapes v) (shape_cap shapes v) c.args.number (key c.of_row-rank.result) =
     subst (RowFits d (shape_item shapes v) (shape_cap shapes v) c.args.number) (sym (c.of_row-rank.ensures ∙ ap (λ i. row_key d [] i c.args.number) item))
-    (row_key-fits d [] (shape_item shapes v) c.args.number (shape_cap shapes v) below (omega arith) (λ i h. omega arith))
+    (row_key-fits d [] (shape_item shapes v) c.args.number (shape_cap shapes v) below c.requires.number (λ i h. omega arith))
     in
     (fits, c.requires.children)

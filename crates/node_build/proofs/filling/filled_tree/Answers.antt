@@ -2,21 +2,28 @@ use Rattle.std.proofs.Common.{◌≡◌, ◌<◌, ◌*◌, ◌∙◌, ℕ, List,
 use Rattle.std.proofs.Math.Nat.{mul-le-mul_right}
 use Rattle.std.proofs.lemmas.List.Sums.{sum_by_more, sum_by_more_le}
 use Rattle.tdp_core.specs.declared.parts.NodeShape.{NodeShape}
-use Rattle.tdp_core.specs.RawData.{AreShapes, rows_at}
+use Rattle.tdp_core.specs.RawData.{AreShapes, AreShapesHeld, rows_at}
 use Rattle.rankings.specs.Order.{IsMember}
 use Rattle.node_build.specs.Filled.{AreFilled, HasOnlyMore}
 use Rattle.node_build.specs.Links.{HasRowsOf}
 use Rattle.node_build.specs.Rows.{lists_of}
 use Rattle.node_build.proofs.Begun.{names-count, no-numbers, no-rows-yet}
 use Rattle.node_build.proofs.Growing.{filled-more}
+use Rattle.node_build.proofs.Held.{shapes-held}
 use Rattle.node_build.proofs.Naming.{list-at, lists-length}
 use Rattle.node_build.proofs.Shaped.{shapes-are}
 use Rattle.node_build.proofs.filling.filled_tree.Goals as goal
 
-pub with_keys-requires : goal.with_keys-requires
-with_keys-requires g c =
+pub with_keys-requires-clause-shapes : goal.with_keys-requires-clause-shapes
+with_keys-requires-clause-shapes g c =
     subst AreShapes (sym c.as_slice.ensures.value)
     (shapes-are c.args.query.now c.args.tables.now c.requires.fits c.args.join.now c.in_ok-shapes.shapes.items c.requires.tree (c.in_ok-shapes.ensures c.args.tables.now c.requires.fits))
+
+pub with_keys-requires-clause-held : goal.with_keys-requires-clause-held
+with_keys-requires-clause-held g c =
+    subst (AreShapesHeld g.R.Rank.KEYS g.R.Rank.key) (sym c.as_slice.ensures.value)
+    (shapes-held c.args.query.now c.args.tables.now c.args.join.now c.requires.tree c.in_ok-shapes.shapes.items (c.in_ok-shapes.ensures c.args.tables.now c.requires.fits)
+    g.R.Rank.KEYS g.R.Rank.key g.R.Rank.ITEMS g.R.Rank.LIMIT g.R.Rank.ROWS g.met.R.Rank.holds g.met.R.Rank.rows_held c.requires.slots c.requires.limit)
 
 pub loop-node-init : goal.loop-node-init
 loop-node-init g c =

@@ -30,9 +30,10 @@ add_row-requires-clause-fits g c =
     let query = c.args.query.now in
     let join = c.args.join.now in
     let few = few-nodes query.query join c.requires.tree in
-    let known = item-known query.query join c.requires.tree c.args.node c.requires.node in (
+    let known = item-known query.query join c.requires.tree c.args.node c.requires.node in
+    let table = ap (λ (t : ℕ). length (table_at c.args.tables.now t).rows) c.table_of-table.ensures in (
       row-fits query c.args.tables.now join c.args.tree.now.shapes c.requires.shapes c.args.node c.requires.node g.R.Rank.KEYS c.args.row (g.R.Rank.key c.rank_of-rank.result)
-          (omega (arith, known, few, c.requires.tree.count)) (omega arith) c.rank_of-rank.ensures,
+          (omega (arith, known, few, c.requires.tree.count)) (omega (arith, table, c.len-rows.ensures, c.requires.row)) c.rank_of-rank.ensures,
       ap length c.as_slice.ensures.value ∙ c.in_ok-child_links.ensures.count ∙ children-are query c.args.tables.now join c.args.tree.now.shapes c.requires.shapes c.args.node c.requires.node,
     )
 

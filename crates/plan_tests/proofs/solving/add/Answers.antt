@@ -1,14 +1,18 @@
-use Rattle.std.proofs.Common.{◌≡◌, ◌<◌, ◌≤◌, [], ◌∷◌, get_or, pos, unsigned_abs, ap, sym, subst, ◌∙◌, arith}
+use Rattle.std.proofs.Common.{◌≡◌, ℕ, ◌^◌, ◌<◌, ◌≤◌, [], ◌∷◌, get_or, pos, unsigned_abs, ap, sym, subst, ◌∙◌, arith}
 use Rattle.std.specs.Int.{w128}
 use Rattle.std.proofs.lemmas.Int.{to_z-of_z, fits_signed_from_abs}
 use Rattle.rank_key.specs.Keys.{row_key}
 use Rattle.tdp_core.specs.declared.parts.NodeShape.{NodeShape}
-use Rattle.tdp_core.specs.RawData.{shape_item, shape_cap, shape_children}
+use Rattle.tdp_core.specs.RawData.{RawData, raw_len, row_total, shape_item, shape_cap, shape_children}
 use Rattle.tdp_core.specs.WellFormed.{RowFits}
+use Rattle.tdp_core.proofs.RawReads.{length_within}
 use Rattle.tdp_core.proofs.RowKeys.{row_key-fits}
 use Rattle.plan_tests.specs.SampleTrees.{IsSample}
 use Rattle.plan_tests.proofs.SampleFacts.{item-is, children-are, sum-capped, sample-more, on_ok_by}
 use Rattle.plan_tests.proofs.solving.add.Goals as goal
+
+low : {R : Type 0} (t : RawData R) (v number : ℕ) → number ≡ raw_len t v → row_total t < 100 → number < 2 ^ 21
+low t v number is few = omega (arith, length_within t.rows v, is, few)
 
 pub add_row-requires-clause-fits : goal.add_row-requires-clause-fits
 add_row-requires-clause-fits g c =
@@ -21,7 +25,7 @@ add_row-requires-clause-fits g c =
     let below : shape_item shapes v < 16 = subst (λ ss. shape_item ss v < 16) (sym c.requires.sample.shapes) (omega (arith, item-is v c.requires.node, c.requires.node)) in
     let fits : RowFits d (shape_item shapes v) (shape_cap shapes v) number (key c.of_row-rank.result) =
     subst (RowFits d (shape_item shapes v) (shape_cap shapes v) number) (sym (c.of_row-rank.ensures ∙ ap (λ s. row_key d (s ∷ []) c.shape.result.now.item number) (to_z-of_z w128 c.args.sum (fits_signed_from_abs w128 c.args.sum (omega (arith, c.requires.sum)))) ∙ ap (λ i. row_key d (c.args.sum ∷ []) i number) item))
-    (row_key-fits d (c.args.sum ∷ []) (shape_item shapes v) number (shape_cap shapes v) below (omega arith)
+    (row_key-fits d (c.args.sum ∷ []) (shape_item shapes v) number (shape_cap shapes v) below (low c.args.tree.now v number c.len-number.ensures c.requires.room)
     (λ i h. subst (λ ss. unsigned_abs (get_or (c.args.sum ∷ []) i (pos 0)) ≤ shape_cap ss v i) (sym c.requires.sample.shapes) (sum-capped v i c.args.sum c.requires.node c.requires.sum)))
     in
     (fits, c.requires.children ∙ sym (children-are v c.requires.node) ∙ ap (λ ss. shape_children ss v) (sym c.requires.sample.shapes))

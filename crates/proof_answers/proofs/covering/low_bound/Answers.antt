@@ -130,9 +130,9 @@ join-low-requires g c =
     let fits = low-fits b.query b.tables join d key b.c tree b.few b.bounded
     (parents-first b.query b.tables join c.requires.ordered long) formed v i (suc n) node c.requires.row all
     (omega (arith, at, l)) in
-    subst (λ k. KeyFits d (key_add d 16 k (key c.in_ok-bound.bound))) (sym c.loop-child.invariant.sum)
-    (subst (λ k. KeyFits d (key_add d 16 (low_part d key tree up v i n) k)) (sym named)
-    (subst (KeyFits d) (part-child d key tree up v i n q at is) fits))
+    subst (λ k. KeyFits d key (key_add d 16 k (key c.in_ok-bound.bound))) (sym c.loop-child.invariant.sum)
+    (subst (λ k. KeyFits d key (key_add d 16 (low_part d key tree up v i n) k)) (sym named)
+    (subst (KeyFits d key) (part-child d key tree up v i n q at is) fits))
 
 pub loop-child-preserved : goal.loop-child-preserved
 loop-child-preserved g c =

@@ -32,10 +32,10 @@ join-rank-requires g c =
     (solution-within g.R.Rank.KEYS g.R.Rank.key c.args.raw.now c.nodes-nodes.ensures.formed.shaped c.args.node c.args.places.now
     c.requires.solution)
     (c.loop-at.at + 1) (omega (arith, inside)) in
-    subst (λ k. KeyFits g.R.Rank.KEYS (key_add g.R.Rank.KEYS 16 k (g.R.Rank.key c.row-row.result.rank))) (sym c.loop-at.invariant)
-    (subst (λ k. KeyFits g.R.Rank.KEYS (key_add g.R.Rank.KEYS 16
+    subst (λ k. KeyFits g.R.Rank.KEYS g.R.Rank.key (key_add g.R.Rank.KEYS 16 k (g.R.Rank.key c.row-row.result.rank))) (sym c.loop-at.invariant)
+    (subst (λ k. KeyFits g.R.Rank.KEYS g.R.Rank.key (key_add g.R.Rank.KEYS 16
     (rank_sum g.R.Rank.KEYS g.R.Rank.key c.args.raw.now c.args.node c.args.places.now c.loop-at.at) k)) (sym c.row-row.ensures.rank)
-    (subst (KeyFits g.R.Rank.KEYS) sum fits))
+    (subst (KeyFits g.R.Rank.KEYS g.R.Rank.key) sum fits))
 
 pub loop-at-preserved : goal.loop-at-preserved
 loop-at-preserved g c =

@@ -74,7 +74,7 @@ join-base-requires g c =
     sum_last (key_below d 16) (key_add d 16) (key_none d 16) (tuple_keys d 16) part at 0 at (omega arith)
     ∙ ap (λ z. key_add d 16 z (part at)) (sym c.loop-at.invariant.sum)
     ∙ ap (λ z. key_add d 16 (key c.loop-at.base) z) (sym is) in
-    subst (KeyFits d) whole fits
+    subst (KeyFits d key) whole fits
 
 pub returns : goal.returns
 returns g c =

@@ -8,12 +8,12 @@ pub join-from_left-requires : goal.join-from_left-requires
 join-from_left-requires g c =
     let keys = g.R.Rank.KEYS in let key = g.R.Rank.key in
     let from = ap (λ z. key_add keys 16 z (key c.args.c)) c.join-left.ensures.sum in
-    subst (KeyFits keys) (sym (add_assoc keys 16 (key c.args.a) (key c.args.b) (key c.args.c)) ∙ sym from) c.requires.whole
+    subst (KeyFits keys key) (sym (add_assoc keys 16 (key c.args.a) (key c.args.b) (key c.args.c)) ∙ sym from) c.requires.whole
 
 pub join-from_right-requires : goal.join-from_right-requires
 join-from_right-requires g c =
     let keys = g.R.Rank.KEYS in let key = g.R.Rank.key in
-    subst (KeyFits keys) (ap (λ z. key_add keys 16 (key c.args.a) z) (sym c.join-right.ensures.sum)) c.requires.whole
+    subst (KeyFits keys key) (ap (λ z. key_add keys 16 (key c.args.a) z) (sym c.join-right.ensures.sum)) c.requires.whole
 
 pub returns-clause-associative : goal.returns-clause-associative
 returns-clause-associative g c =

@@ -112,9 +112,9 @@ join-best-requires g c =
     first_part-child (key_below d 16) (key_add d 16) (key_none d 16) (tuple_keys d 16) (length t) (parent t) (rank t d key) (group t) (best t d key) v r n q (omega arith) is
     in
     let solved = subst (IsSolvedFrom d key t) (let e : v + 1 ≡ suc v = omega arith in e) c.requires.solved in
-    subst (λ k. KeyFits d (key_add d 16 k (key c.index-then-nodes-child.result.now))) (sym c.loop-child.invariant.added)
-    (subst (λ k. KeyFits d (key_add d 16 (so_far n) k)) (sym least)
-    (subst (KeyFits d) next (first_part-fits d key t c.requires.laid_out v solved r (suc n) up (omega arith) c.requires.row)))
+    subst (λ k. KeyFits d key (key_add d 16 k (key c.index-then-nodes-child.result.now))) (sym c.loop-child.invariant.added)
+    (subst (λ k. KeyFits d key (key_add d 16 (so_far n) k)) (sym least)
+    (subst (KeyFits d key) next (first_part-fits d key t c.requires.laid_out v solved r (suc n) up (omega arith) c.requires.row)))
 
 pub overflow_add-place : goal.overflow_add-place
 overflow_add-place g c =

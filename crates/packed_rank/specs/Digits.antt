@@ -1,0 +1,107 @@
+-- The number of a key's digits is a number of 128 bits with a sign, and has these digits.
+use Rattle.std.proofs.Common.{◌≡◌, ℕ, zero, suc, ◌/◌, ◌%◌, ◌^◌, ◌<◌, ℤ, pos, negsuc, ◌+ℤ◌, ◌-ℤ◌, ◌*ℤ◌, List, [], ◌∷◌, get_or, refl, sym, ap, ◌∙◌, arith}
+use Rattle.std.specs.Prelude.{FitsSigned, unsigned_abs}
+use Rattle.std.specs.Int.{w128}
+use Rattle.std.proofs.lemmas.Int.{ints}
+use Rattle.tdp_model.specs.KeyTuple.{KeyOf, slot_of}
+use Rattle.tdp_model.specs.KeyNumbers.{key_of_lists, sum_of}
+use Rattle.tdp_model.proofs.KeyNumbers.{key_same, slot_of_lists}
+use Rattle.rank_key.specs.Keys.{IsWithin}
+use Rattle.packed_rank.specs.Packed.{lifted, digits, packed_key, from_digits, number_of}
+
+-- a number of 128 bits with a sign, lifted
+pub lifted-is : (z : ℤ) → FitsSigned w128 z → pos (lifted z) ≡ z +ℤ pos (2 ^ 127)
+lifted-is (pos n) fits = omega (arith, ints)
+lifted-is (negsuc n) fits = omega (arith, ints)
+
+-- the digits of such a number
+module _ (a b c d : ℕ)
+    (p : a < 2 ^ 21) (q : b < 2 ^ 21) (r : c < 2 ^ 21) (s : d < 2 ^ 21) where
+  pub digits-below : from_digits a b c d < 2 ^ 84
+  digits-below = omega (arith, p, q, r, s)
+
+  first-digit : from_digits a b c d / 2 ^ 63 ≡ a
+  first-digit = omega (arith, p, q, r, s)
+
+  second-digit : from_digits a b c d / 2 ^ 42 % 2 ^ 21 ≡ b
+  second-digit = omega (arith, p, q, r, s)
+
+  third-digit : from_digits a b c d / 2 ^ 21 % 2 ^ 21 ≡ c
+  third-digit = omega (arith, p, q, r, s)
+
+  last-digit : from_digits a b c d % 2 ^ 21 ≡ d
+  last-digit = omega (arith, p, q, r, s)
+
+-- a sum below 2 ^ 43 in absolute value and a number below 2 ^ 84 make a number of 128 bits with a
+-- sign, and are had from it
+module _ (sum : ℤ) (rest : ℕ) (small : unsigned_abs sum < 2 ^ 43) (low : rest < 2 ^ 84) where
+  abbrev made : ℤ
+  made = sum *ℤ pos (2 ^ 84) +ℤ pos rest
+
+  pub made-fits : FitsSigned w128 made
+  made-fits = omega (arith, ints, small, low)
+
+  pub made-sum : pos (lifted made / 2 ^ 84) -ℤ pos (2 ^ 43) ≡ sum
+  made-sum = let is = lifted-is made made-fits in omega (arith, ints, small, low, is)
+
+  pub made-rest : lifted made % 2 ^ 84 ≡ rest
+  made-rest = let is = lifted-is made made-fits in omega (arith, ints, small, low, is)
+
+module _ (k : KeyOf 1 16) (within : IsWithin 1 4 (2 ^ 43) (2 ^ 21) k) where
+  abbrev sum : ℤ
+  sum = sum_of 1 16 0 k
+
+  abbrev slot : ℕ → ℕ
+  slot i = slot_of 1 16 i k
+
+  abbrev four : List ℕ
+  four = slot 0 ∷ slot 1 ∷ slot 2 ∷ slot 3 ∷ []
+
+  abbrev rest : ℕ
+  rest = from_digits (slot 0) (slot 1) (slot 2) (slot 3)
+
+  small : (i : ℕ) → i < 4 → slot i < 2 ^ 21
+  small i l = within.slots i (omega arith)
+
+  sum-small : unsigned_abs sum < 2 ^ 43
+  sum-small = within.sums 0 (omega arith)
+
+  rest-below : rest < 2 ^ 84
+  rest-below = digits-below (slot 0) (slot 1) (slot 2) (slot 3) (small 0 (omega arith))
+      (small 1 (omega arith)) (small 2 (omega arith)) (small 3 (omega arith))
+
+  pub number-fits : FitsSigned w128 (number_of k)
+  number-fits = made-fits sum rest sum-small rest-below
+
+  digits-are : digits (lifted (number_of k) % 2 ^ 84) ≡ four
+  digits-are =
+      let p = small 0 (omega arith) in let q = small 1 (omega arith) in
+      let r = small 2 (omega arith) in let s = small 3 (omega arith) in
+      ap digits (made-rest sum rest sum-small rest-below)
+      ∙ (λ i. first-digit (slot 0) (slot 1) (slot 2) (slot 3) p q r s i
+      ∷ second-digit (slot 0) (slot 1) (slot 2) (slot 3) p q r s i
+      ∷ third-digit (slot 0) (slot 1) (slot 2) (slot 3) p q r s i
+      ∷ last-digit (slot 0) (slot 1) (slot 2) (slot 3) p q r s i ∷ [])
+
+  -- the digits of a key's number make the key
+  pub key-of_number : packed_key (number_of k) ≡ k
+  key-of_number =
+      ap (λ s. key_of_lists 1 16 (s ∷ []) (digits (lifted (number_of k) % 2 ^ 84)))
+      (made-sum sum rest sum-small rest-below)
+      ∙ ap (key_of_lists 1 16 (sum ∷ [])) digits-are
+      ∙ key_same 1 16 (key_of_lists 1 16 (sum ∷ []) four) k sums slots
+    where
+      sums : (i : ℕ) → i < 1 → sum_of 1 16 i (key_of_lists 1 16 (sum ∷ []) four) ≡ sum_of 1 16 i k
+      sums zero l = refl
+      sums (suc i) l = absurd (omega arith)
+
+      at : (i : ℕ) → i < 16 → get_or four i 0 ≡ slot i
+      at zero l = refl
+      at (suc zero) l = refl
+      at (suc (suc zero)) l = refl
+      at (suc (suc (suc zero))) l = refl
+      at (suc (suc (suc (suc i)))) l =
+          sym (within.none (suc (suc (suc (suc i)))) (omega arith) l)
+
+      slots : (i : ℕ) → i < 16 → slot_of 1 16 i (key_of_lists 1 16 (sum ∷ []) four) ≡ slot i
+      slots i l = slot_of_lists 1 16 i (sum ∷ []) four l ∙ at i l

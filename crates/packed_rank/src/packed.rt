@@ -1,0 +1,100 @@
+//! The rank: a number whose digits are a sum and four row numbers.
+ghost use Rattle.std.specs.Prelude.{◌≡◌, ◌^◌, ◌<◌, pos, slice_index_or, FitsSigned};
+ghost use Rattle.std.specs.Int.{w128};
+ghost use Rattle.std.proofs.Common.{rules};
+ghost use Rattle.packed_rank.specs.Packed.{packed_key, number_of, unit_of};
+ghost use Rattle.packed_rank.specs.Digits.{number-fits, key-of_number};
+
+use rank_key::{Rank, Sum};
+use std::sync::ledger::Ledger;
+use step_counter::Steps;
+
+/// The unit of the sum.
+const SUM_UNIT: i128 = 1 << 84;
+
+/// A rank with one sum, of 44 bits with a sign, and with the first four slots, of 21 bits each, for a query of at most
+/// four items. All of them are in one number, and the sum has the greatest unit.
+#[derive(Clone, Copy)]
+pub struct PackedRank {
+    number: Sum,
+    ghost fits: { FitsSigned w128 number },
+}
+
+/// The first sum, or 0 if there is none.
+fn first_sum(sums: &[i128]) -> i128
+    ensures { result ≡ slice_index_or sums.now 0 (pos 0) }
+{
+    match sums.first() {
+        Some(sum) => *sum,
+        None => 0,
+    }
+}
+
+/// The unit of a slot, of which there are four.
+fn slot_unit(slot: u32) -> i128
+    requires { slot < 4 }
+    ensures { result ≡ unit_of slot }
+{
+    match slot {
+        0 => 1 << 63,
+        1 => 1 << 42,
+        2 => 1 << 21,
+        _ => 1,
+    }
+}
+
+impl Rank for PackedRank {
+    ghost KEYS = { 1 };
+
+    ghost ITEMS = { 4 };
+
+    ghost LIMIT = { 2 ^ 43 };
+
+    ghost ROWS = { 2 ^ 21 };
+
+    ghost key = { λ r. packed_key r.number };
+
+    const KEYS: usize = 1;
+
+    fn zero() -> Self {
+        PackedRank {
+            number: Sum::new(0),
+        }
+    }
+
+    fn of_row(sums: &[i128], slot: u32, row: u32) -> Self {
+        let number = first_sum(sums) * SUM_UNIT + i128::from(row) * slot_unit(slot);
+        PackedRank {
+            number: Sum::new(number),
+        }
+    }
+
+    fn join<L: Ledger>(a: Self, b: Self, steps: &mut Steps<L>) -> Self {
+        steps.tick();
+        PackedRank {
+            number: Sum::new(a.number.get() + b.number.get()),
+        }
+    }
+
+    fn swap<L: Ledger>(total: Self, old: Self, new: Self, steps: &mut Steps<L>) -> Self {
+        steps.tick();
+        PackedRank {
+            number: Sum::new(total.number.get() - old.number.get() + new.number.get()),
+        }
+    }
+
+    fn less<L: Ledger>(a: &Self, b: &Self, steps: &mut Steps<L>) -> bool {
+        steps.tick();
+        a.number.get() < b.number.get()
+    }
+
+    ghost holds = { λ k within. (
+      record {
+        number = number_of k;
+        fits = number-fits k within;
+      },
+      key-of_number k within,
+    ) };
+
+    ghost rows_held = { Prim.search rules };
+}
