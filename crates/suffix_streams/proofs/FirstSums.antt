@@ -1,6 +1,5 @@
 -- The first solution of a row, as the sum of first solutions.
 use Rattle.std.proofs.Common.{◌≡◌, ℕ, zero, suc, ◌+◌, ◌<◌, ◌≤◌, List, length, get_or, refl, sym, ap, ◌∙◌, subst, arith}
-use Rattle.rank_key.specs.Keys.{KeyFits}
 use Rattle.stream_store.specs.declared.entry.Linked.{Linked}
 use Rattle.tdp_core.specs.TreeData.{NodeData, rows, members, child_count, group_named}
 use Rattle.tdp_core.specs.WellFormed.{IsFormed, IsTieFreeTree}
@@ -12,9 +11,9 @@ use Rattle.stream_cells.specs.declared.source.Source.{Source}
 use Rattle.suffix_streams.specs.declared.stream.Found.{Found}
 use Rattle.suffix_streams.specs.NodeLists.{NodeLists}
 use Rattle.suffix_streams.specs.Rankings.{child, part_list, group_list}
-use Rattle.suffix_streams.specs.StreamsData.{place_of, stream_of, run_of, IsKnownPart, IsSumOf, HasOwnParts, IsStreams}
+use Rattle.suffix_streams.specs.StreamsData.{stream_of, run_of, IsKnownPart, IsSumOf, HasOwnParts, IsStreams}
 use Rattle.suffix_streams.specs.Firsts.{IsFirstCell, HasFirstParts}
-use Rattle.suffix_streams.proofs.Rankings.{kid, named_in, group_some, sum_fits}
+use Rattle.suffix_streams.proofs.Rankings.{kid, named_in}
 use Rattle.suffix_streams.proofs.Firsts.{first_sum, part_some}
 use Rattle.suffix_streams.proofs.Entries.{named_stream}
 
@@ -33,9 +32,6 @@ module _ {R : Type 0} (d : ℕ) (key : R → KeyOf d 16) (t : List (NodeData R))
         sum = ap (λ z. get_or (part_list d key t v r z) 0 (key_none d 16)) (sym more) ∙ (first_sum d key t formed apart v r c l row in_kids some).1
             ∙ ap (λ p. key_add d 16 (get_or (part_list d key t v r c) p (key_none d 16)) (get_or (group_list d key t (child t v c) (group_named t v r c)) 0 (key_none d 16))) (sym x.left)
             ∙ ap (λ p. key_add d 16 (get_or (part_list d key t v r c) cell.left (key_none d 16)) (get_or (group_list d key t (child t v c) (group_named t v r c)) p (key_none d 16))) (sym x.place);
-        fits = subst (λ p. KeyFits d (key_add d 16 (get_or (part_list d key t v r c) p (key_none d 16)) (get_or (group_list d key t (child t v c) (group_named t v r c)) (place_of es cell.right) (key_none d 16)))) (sym x.left)
-            (subst (λ p. KeyFits d (key_add d 16 (get_or (part_list d key t v r c) 0 (key_none d 16)) (get_or (group_list d key t (child t v c) (group_named t v r c)) p (key_none d 16)))) (sym x.place)
-            (sum_fits d key t formed v r c 0 0 l in_kids some (group_some d key t formed (child t v c) (group_named t v r c) inside named)));
       }
 
   -- the source of the first solution of member j has its parts

@@ -71,9 +71,9 @@ module _ {R : Type 0} (d : ℕ) (key : R → KeyOf d 16) (t : List (NodeData R))
       ex ∙ ap (λ z. key_add d 16 z b) ea ∙ ap (λ z. key_add d 16 (get_or (part_list d key t v r c) 0 (key_none d 16)) z) eb ∙ sym (first_sum v r c l row h (part_some v r c l row (omega arith))).1 ∙ ap (λ m. get_or (part_list d key t v r m) 0 (key_none d 16)) n
 
   pub firsts_fit : (v r c : ℕ) (a b : KeyOf d 16) → v < length t → r < rows t v → c < child_count t v → a ≡ get_or (part_list d key t v r c) 0 (key_none d 16)
-      → b ≡ get_or (group_list d key t (child t v c) (group_named t v r c)) 0 (key_none d 16) → KeyFits d (key_add d 16 a b)
+      → b ≡ get_or (group_list d key t (child t v c) (group_named t v r c)) 0 (key_none d 16) → KeyFits d key (key_add d 16 a b)
   firsts_fit v r c a b l row h ea eb =
-      subst (λ z. KeyFits d (key_add d 16 z b)) (sym ea) (subst (λ z. KeyFits d (key_add d 16 (get_or (part_list d key t v r c) 0 (key_none d 16)) z)) (sym eb)
+      subst (λ z. KeyFits d key (key_add d 16 z b)) (sym ea) (subst (λ z. KeyFits d key (key_add d 16 (get_or (part_list d key t v r c) 0 (key_none d 16)) z)) (sym eb)
       (sum_fits d key t formed v r c 0 0 l h (part_some v r c l row (omega arith)) (group_some d key t formed (child t v c) (group_named t v r c) (kid d key t formed v c h).within (named_in d key t formed v r c row h))))
 
 module _ {R : Type 0} (d : ℕ) (key : R → KeyOf d 16) (t : List (NodeData R)) (formed : IsFormed d key t) where
@@ -92,9 +92,9 @@ module _ {R : Type 0} (d : ℕ) (key : R → KeyOf d 16) (t : List (NodeData R))
 -- the sum of a cell fits, if x and y are the keys of its parts
 pub cell_fits : {R : Type 0} (d : ℕ) (key : R → KeyOf d 16) (t : List (NodeData R)) → IsFormed d key t → (es : List (Linked (Found R))) (nodes : List (NodeLists R)) (v r c : ℕ) (cell : Cell) → v < length t → HasParts d key t es nodes v r c
     → IsCell d key t es nodes v r c cell → (x y : KeyOf d 16) → x ≡ get_or (part_list d key t v r c) cell.left (key_none d 16)
-    → y ≡ get_or (group_list d key t (child t v c) (group_named t v r c)) (place_of es cell.right) (key_none d 16) → KeyFits d (key_add d 16 x y)
+    → y ≡ get_or (group_list d key t (child t v c) (group_named t v r c)) (place_of es cell.right) (key_none d 16) → KeyFits d key (key_add d 16 x y)
 cell_fits {R} d key t formed es nodes v r c cell l parts known x y x_is y_is =
     let right = parts.rights cell.right known.right known.node known.group in
-    subst (λ (z : KeyOf d 16). KeyFits d (key_add d 16 z y)) (sym x_is)
-    (subst (λ (z : KeyOf d 16). KeyFits d (key_add d 16 (get_or (part_list d key t v r c) cell.left (key_none d 16)) z)) (sym y_is)
+    subst (λ (z : KeyOf d 16). KeyFits d key (key_add d 16 z y)) (sym x_is)
+    (subst (λ (z : KeyOf d 16). KeyFits d key (key_add d 16 (get_or (part_list d key t v r c) cell.left (key_none d 16)) z)) (sym y_is)
     (parts.fits cell.left (place_of es cell.right) (known_within d key t formed nodes v r c cell.left l parts.lefts known.left) right.0))

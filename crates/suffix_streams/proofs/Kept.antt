@@ -4,7 +4,6 @@ use Rattle.std.specs.List.{All}
 use Rattle.std.proofs.lemmas.List.Elements.{All-weaker}
 use Rattle.take2_heap.specs.declared.entry.Entry.{Entry}
 use Rattle.stream_store.specs.declared.entry.Linked.{Linked}
-use Rattle.rank_key.specs.Keys.{KeyFits}
 use Rattle.tdp_core.specs.TreeData.{NodeData, members, group_named, child_count}
 use Rattle.tdp_model.specs.KeyTuple.{KeyOf, key_below, key_add, key_none}
 use Rattle.tdp_model.specs.Product.{Pair, pair_key, stands_for}
@@ -50,7 +49,6 @@ module _ {R : Type 0} (d : ℕ) (key : R → KeyOf d 16) (t : List (NodeData R))
         node = held.nodes cell.right s.right ∙ s.node;
         group = held.groups cell.right s.right ∙ s.group;
         sum = subst (λ p. get_or (part_list d key t v r (c + 1)) place (key_none d 16) ≡ key_add d 16 (get_or (part_list d key t v r c) cell.left (key_none d 16)) (get_or (group_list d key t (child t v c) (group_named t v r c)) p (key_none d 16))) same s.sum;
-        fits = subst (λ p. KeyFits d (key_add d 16 (get_or (part_list d key t v r c) cell.left (key_none d 16)) (get_or (group_list d key t (child t v c) (group_named t v r c)) p (key_none d 16)))) same s.fits;
       }
 
   pub parts_stay : (q g : ℕ) → ((r k p : ℕ) → k < child_count t q → IsKnownPart nodes q r k p → IsKnownPart nodes' q r k p) → (xs : List (Entry R Source)) → All (λ (e : Entry R Source). HasOwnParts d key t es nodes q g e.tag) xs

@@ -41,6 +41,7 @@ pub record IsTopRead {R : Type 0} (t : List (NodeData R)) (n : List (NodeLists R
   pub some : 0 < length (stream_of n f.node f.group).queue
   pub first : top ≡ get_or (stream_of n f.node f.group).queue 0 top
   pub member : top.tag.member < length (members t f.node f.group)
+  pub known : top.tag.place < row_known n f.node (get_or (members t f.node f.group) top.tag.member 0)
 
 -- x are the lists of the node that were read
 pub top_read : {R : Type 0} {d : ℕ} {key : R → KeyOf d 16} {t : List (NodeData R)} {es : List (Linked (Found R))} {n : List (NodeLists R)} {entry : ℕ} {f : Found R} (o : IsOwned d key t es n entry f) (x : NodeLists R) (top : Entry R Source)
@@ -49,7 +50,8 @@ top_read {R} {d} {key} {t} {es} {n} {entry} {f} o x top read there is =
     let lists : lists_of n f.node ≡ x = lists_at n f.node x read o.in_nodes in
     let some0 : 0 < length (stream_of n f.node f.group).queue = subst (λ z. 0 < length (stream_at z f.group).queue) (sym lists) there in
     let first0 : top ≡ get_or (stream_of n f.node f.group).queue 0 top = is ∙ ap (λ z. get_or (stream_at z f.group).queue 0 top) (sym lists) in
-    record { some = some0; first = first0; member = (top_known d key t es n o.formed f.node f.group top o.node o.group some0 first0).1 }
+    let known0 = top_known d key t es n o.formed f.node f.group top o.node o.group some0 first0 in
+    record { some = some0; first = first0; member = known0.1; known = known0.0 }
 
 pub row_within : {R : Type 0} {d : ℕ} {key : R → KeyOf d 16} {t : List (NodeData R)} {es : List (Linked (Found R))} {n : List (NodeLists R)} {entry : ℕ} {f : Found R} {top : Entry R Source} (o : IsOwned d key t es n entry f) (p : IsTopRead t n f top)
     (row : ℕ) → row ≡ get_or (members t f.node f.group) top.tag.member 0 → row < rows t f.node
@@ -95,14 +97,16 @@ pub record IsRowCounted {R : Type 0} (t : List (NodeData R)) (m : List (NodeList
   pub within : count ≤ length (products_of m f.node row)
   pub known : top.tag.place < part_known m f.node row count
 
-pub row_counted : {R : Type 0} {d : ℕ} {key : R → KeyOf d 16} {t : List (NodeData R)} {es : List (Linked (Found R))} {n m : List (NodeLists R)} {f : Found R} {top : Entry R Source} {row s0 s1 : ℕ} (a : IsRowOpen d key t es n m f top row s0 s1)
-    (x : NodeLists R) (count : ℕ) → x ≡ get_or m f.node x → count ≡ length (get_or x.products row []) → length (products_of m f.node row) ≡ child_count t f.node → IsRowCounted t m f top row count
-row_counted {R} {d} {key} {t} {es} {n} {m} {f} {top} {row} a x count read is all0 =
+-- x are the lists of the node that were read
+pub row_counted : {R : Type 0} {d : ℕ} {key : R → KeyOf d 16} {t : List (NodeData R)} {es : List (Linked (Found R))} {n m : List (NodeLists R)} {entry : ℕ} {f : Found R} {top : Entry R Source} {row s0 s1 : ℕ} (o : IsOwned d key t es n entry f) (a : IsRowOpen d key t es n m f top row s0 s1)
+    (x : NodeLists R) (count : ℕ) → x ≡ get_or m f.node x → count ≡ length x.children → length (products_of m f.node row) ≡ child_count t f.node → IsRowCounted t m f top row count
+row_counted {R} {d} {key} {t} {es} {n} {m} {entry} {f} {top} {row} o a x count read is whole =
     let lists : lists_of m f.node ≡ x = lists_at m f.node x read a.in_nodes in
-    let counted : count ≡ length (products_of m f.node row) = is ∙ ap (λ (z : NodeLists R). length (get_or z.products row [])) (sym lists) in
+    let all0 : count ≡ child_count t f.node = is ∙ ap (λ (z : NodeLists R). length z.children) (sym lists) ∙ a.formed.all_children f.node o.node in
+    let counted : count ≡ length (products_of m f.node row) = all0 ∙ sym whole in
     record {
-      all = counted ∙ all0;
-      few = omega (arith, counted, all0);
+      all = all0;
+      few = omega (arith, all0);
       within = omega (arith, counted);
       known = subst (λ z. top.tag.place < part_known m f.node row z) (sym counted) a.known;
     }

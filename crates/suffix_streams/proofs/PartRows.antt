@@ -18,7 +18,6 @@ use Rattle.suffix_streams.specs.Rankings.{child, part_list, group_list}
 use Rattle.suffix_streams.specs.StreamsData.{IsKnownPart, IsSumOf, HasOwnParts, node_of, group_of, place_of, stream, products_of, product_of, stream_of, part_known, row_known, pair_of, run_of, IsStreams}
 use Rattle.suffix_streams.proofs.Stores.{node_value, group_value}
 use Rattle.suffix_streams.proofs.Firsts.{first_by_at}
-use Rattle.suffix_streams.proofs.Entries.{parts_of}
 use Rattle.suffix_streams.proofs.FirstSums.{first_known, head_first, first_sum_of}
 use Rattle.suffix_streams.proofs.ViewEntries.{entry-at}
 use Rattle.suffix_streams.proofs.ViewPrefixes.{place_in_stream, entry_solution}
@@ -122,5 +121,4 @@ module _ {R : Type 0} (d : ℕ) (key : R → KeyOf d 16) (t : List (NodeData R))
             node = found.2;
             group = found.3;
             sum = ap (λ z. get_or (part_list d key t v r z) place (key_none d 16)) more ∙ sym whole;
-            fits = (parts_of d key t es nodes h v r c l row in_row).fits x.left (place_of es x.right) inside.0 inside.1;
           })

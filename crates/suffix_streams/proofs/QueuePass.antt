@@ -15,13 +15,12 @@ use Rattle.stream_model.specs.Held.{IsHeld, InRuns}
 use Rattle.stream_model.specs.Links.{IsLinked}
 use Rattle.stream_cells.specs.declared.source.Source.{Source}
 use Rattle.suffix_streams.specs.declared.stream.Found.{Found}
-use Rattle.suffix_streams.specs.NodeLists.{NodeLists, stream_at, with_queue}
+use Rattle.suffix_streams.specs.NodeLists.{NodeLists, with_queue}
 use Rattle.suffix_streams.specs.Rankings.{part_list, group_list}
 use Rattle.suffix_streams.specs.Frontiers.{IsMerge}
-use Rattle.suffix_streams.specs.Firsts.{IsFirstBelow}
+use Rattle.suffix_streams.specs.Firsts.{IsFirstBelow, AreFirstsMoved}
 use Rattle.suffix_streams.specs.StreamsData.{IsSumOf, HasOwnParts, node_of, group_of, next_of, node_size, node_list, group_list_of, next_list, stream, lists_of, products_of, stream_of, row_known, run_of, IsStreams}
 use Rattle.suffix_streams.specs.Growing.{IsReached, IsStoreGrown}
-use Rattle.suffix_streams.proofs.Heads.{lists_at}
 use Rattle.suffix_streams.proofs.Kept.{AreHeld, held_itself}
 use Rattle.suffix_streams.proofs.StepCells.{first_of}
 use Rattle.suffix_streams.proofs.State.{all_more}
@@ -97,15 +96,14 @@ pub record IsQueuePassed {R : Type 0} (d : ℕ) (key : R → KeyOf d 16) (t : Li
   pub grows : (after : Entry R Source) → 0 < length q → after ≡ get_or q 0 after → IsLeast d key after q
       → IsMerge d key run_of (length (members t v g)) (lists_of_member d key t v g) (group_list d key t v g) (stream es v g ++ (after ∷ [])) q
 
--- b are the lists of node v that were read for the queue
-pub queue_passed : {R : Type 0} {d : ℕ} {key : R → KeyOf d 16} {t : List (NodeData R)} {es : List (Linked (Found R))} {n : List (NodeLists R)} {last v g r : ℕ} → IsGroupTop d key t es n last v g r → (apart : IsTieFreeTree t) (m p : ℕ) (offer left right : Option (Entry R Source))
-    (q : List (Entry R Source)) (b : NodeLists R) → IsStreams d key t es n → IsFirstBelow d key t es v g p (2 * m + 1) left → IsFirstBelow d key t es v g p (2 * m + 2) right
+pub queue_passed : {R : Type 0} {d : ℕ} {key : R → KeyOf d 16} {t : List (NodeData R)} {es : List (Linked (Found R))} {n : List (NodeLists R)} {last v g r : ℕ} → IsGroupTop d key t es n last v g r → (apart : IsTieFreeTree t) (m p : ℕ) (offer : Option (Entry R Source))
+    (q : List (Entry R Source)) → IsStreams d key t es n → AreFirstsMoved d key t es v g m p offer (stream_of n v g).queue q
     → 0 < length (stream_of n v g).queue → ((x : Entry R Source) → (get_or (stream_of n v g).queue 0 x).tag.member ≡ m)
     → ((x : Entry R Source) → (get_or (stream_of n v g).queue 0 x).tag.place + 1 ≡ p) → r ≡ get_or (members t v g) m 0 → length (products_of n v r) ≡ child_count t v → IsReached d key t n v r (child_count t v) p
-    → b ≡ get_or n v b → IfNone offer (row_known n v r ≤ p) → IfSome offer (λ e. (e.tag.member ≡ m) × (e.tag.place ≡ p)) → IfSome offer (λ e. p < row_known n v r)
+    → IfNone offer (row_known n v r ≤ p) → IfSome offer (λ e. (e.tag.member ≡ m) × (e.tag.place ≡ p)) → IfSome offer (λ e. p < row_known n v r)
     → IfSome offer (λ e. (c : ℕ) → child_count t v ≡ c + 1 → IsSumOf d key t es n v r c p e.tag.cell) → IfSome offer (λ e. key e.rank ≡ get_or (part_list d key t v r (length (products_of n v r))) p (key_none d 16))
-    → ((x : Entry R Source) → IsPermutation (offers right None (offers offer left (stream_at b g).queue)) (get_or (stream_at b g).queue 0 x ∷ q)) → ((x : Entry R Source) → IsLeast d key (get_or (stream_at b g).queue 0 x) (stream_at b g).queue) → IsQueuePassed d key t es n v g q
-queue_passed {R} {d} {key} {t} {es} {n} {last} {v} {g} {r} top apart m p offer left right q b h on_left on_right some member place row whole reached read_b none source known parts rank moved least =
+    → ((x : Entry R Source) → IsLeast d key (get_or (stream_of n v g).queue 0 x) (stream_of n v g).queue) → IsQueuePassed d key t es n v g q
+queue_passed {R} {d} {key} {t} {es} {n} {last} {v} {g} {r} top apart m p offer q h moved some member place row whole reached none source known parts rank least =
     let l : v < length t = top.node in
     let in_group : g < group_count t v = top.group in
     let x : (x : Entry R Source) × (x ≡ get_or (stream_of n v g).queue 0 x) = first_of (stream_of n v g).queue some in
@@ -115,14 +113,13 @@ queue_passed {R} {d} {key} {t} {es} {n} {last} {v} {g} {r} top apart m p offer l
     let place0 : e.tag.place + 1 ≡ p = ap (λ (z : Entry R Source). z.tag.place + 1) first ∙ place e in
     let row_is : r ≡ get_or (members t v g) e.tag.member 0 = row ∙ ap (λ z. get_or (members t v g) z 0) (sym member0) in
     let reached0 : IsReached d key t n v r (child_count t v) (e.tag.place + 1) = subst (λ z. IsReached d key t n v r (child_count t v) z) (sym place0) reached in
-    let lists_b : lists_of n v ≡ b = lists_at n v b read_b top.in_nodes in
+    let left = moved.0 in
+    let right = moved.1 in
     let offered = next_offer d key t es n v r e.tag.member (e.tag.place + 1) m p offer (sym member0) (sym place0) none source known parts rank in
-    let left0 : IsFirstBelow d key t es v g (e.tag.place + 1) (2 * e.tag.member + 1) left = subst (λ i. IsFirstBelow d key t es v g (e.tag.place + 1) (2 * i + 1) left) (sym member0) (subst (λ j. IsFirstBelow d key t es v g j (2 * m + 1) left) (sym place0) on_left) in
-    let right0 : IsFirstBelow d key t es v g (e.tag.place + 1) (2 * e.tag.member + 2) right = subst (λ i. IsFirstBelow d key t es v g (e.tag.place + 1) (2 * i + 2) right) (sym member0) (subst (λ j. IsFirstBelow d key t es v g j (2 * m + 2) right) (sym place0) on_right) in
-    let moved0 : IsPermutation (offers right None (offers offer left (stream_of n v g).queue)) (e ∷ q) =
-    subst (λ z. IsPermutation (offers right None (offers offer left (stream_of n v g).queue)) (z ∷ q)) (sym first) (subst (λ (z : NodeLists R). IsPermutation (offers right None (offers offer left (stream_at z g).queue)) (get_or (stream_at z g).queue 0 e ∷ q)) (sym lists_b) (moved e)) in
-    let least0 : IsLeast d key e (stream_of n v g).queue =
-    subst (λ z. IsLeast d key z (stream_of n v g).queue) (sym first) (subst (λ (z : NodeLists R). IsLeast d key (get_or (stream_at z g).queue 0 e) (stream_at z g).queue) (sym lists_b) (least e)) in
+    let left0 : IsFirstBelow d key t es v g (e.tag.place + 1) (2 * e.tag.member + 1) left = subst (λ i. IsFirstBelow d key t es v g (e.tag.place + 1) (2 * i + 1) left) (sym member0) (subst (λ j. IsFirstBelow d key t es v g j (2 * m + 1) left) (sym place0) moved.2) in
+    let right0 : IsFirstBelow d key t es v g (e.tag.place + 1) (2 * e.tag.member + 2) right = subst (λ i. IsFirstBelow d key t es v g (e.tag.place + 1) (2 * i + 2) right) (sym member0) (subst (λ j. IsFirstBelow d key t es v g j (2 * m + 2) right) (sym place0) moved.3) in
+    let moved0 : IsPermutation (offers right None (offers offer left (stream_of n v g).queue)) (e ∷ q) = subst (λ z. IsPermutation (offers right None (offers offer left (stream_of n v g).queue)) (z ∷ q)) (sym first) (moved.4 e) in
+    let least0 : IsLeast d key e (stream_of n v g).queue = subst (λ z. IsLeast d key z (stream_of n v g).queue) (sym first) (least e) in
     record {
       before = h;
       node = l;

@@ -17,7 +17,7 @@ use Rattle.tdp_model.proofs.Parts.{part_first, part_first_only, part_skip, part_
 use Rattle.tdp_model.proofs.RowStreams.{product_begins}
 use Rattle.tdp_core.specs.TreeData.{NodeData, kids_below, parent, item, number, rows, members, group, group_count, group_named, group_number, child_count, rank, best}
 use Rattle.tdp_core.specs.WellFormed.{IsFormed, IsTieFreeTree}
-use Rattle.tdp_core.proofs.TreeFacts.{tie_free_of, part_key_fits, best_had, member_is_row}
+use Rattle.tdp_core.proofs.TreeFacts.{tie_free_of, part_key_fits, subtree_key_fits, best_had, member_is_row}
 use Rattle.suffix_streams.specs.Rankings.{child, part_end, RowSolution, PartSolution, GroupSolution, solution_keys, part_list, group_list}
 use Rattle.suffix_streams.proofs.Children.{IsChild, child_is, none_between, none_between_two, none_after, none_at_all, later_child}
 
@@ -174,12 +174,18 @@ module _ {R : Type 0} (d : ℕ) (key : R → KeyOf d 16) (t : List (NodeData R))
 
     -- what `join` requires of the sums
     pub sum_fits : (v r c i j : ℕ) → v < length t → c < child_count t v → i < length (part_list d key t v r c) → j < length (group_list d key t (child t v c) (group_named t v r c))
-        → KeyFits d (key_add d 16 (get_or (part_list d key t v r c) i (key_none d 16)) (get_or (group_list d key t (child t v c) (group_named t v r c)) j (key_none d 16)))
+        → KeyFits d key (key_add d 16 (get_or (part_list d key t v r c) i (key_none d 16)) (get_or (group_list d key t (child t v c) (group_named t v r c)) j (key_none d 16)))
     sum_fits v r c i j l h a b =
         part_key_fits d key t formed (length t) v r (suc (child t v c - suc v)) _ l (omega (arith, kid_below v c h, (kid v c h).within))
         (part_join (key_below d 16) (key_add d 16) (key_none d 16) (tuple_keys d 16) (length t) (parent t) (rank t d key) (group t) (length t) v r (child t v c - suc v) (child t v c) _ _ (omega (arith, kid_below v c h)) (kid v c h).parent_is
         ((left_ranking v r c l h).sound _ (get_member (part_list d key t v r c) i (key_none d 16) a))
         ((right_ranking v r c h).sound _ (get_member (group_list d key t (child t v c) (group_named t v r c)) j (key_none d 16) b)))
+
+    -- a subtree solution of a group
+    pub solution_fits : (q g i : ℕ) → q < length t → i < length (group_list d key t q g) → KeyFits d key (get_or (group_list d key t q g) i (key_none d 16))
+    solution_fits q g i l h =
+        let some = (group_is_ranking q g l).sound _ (get_member (group_list d key t q g) i (key_none d 16) h) in
+        subtree_key_fits d key t formed (length t) q (get_or (members t q g) some.0 0) _ l some.2
 
     -- a product begins with the sum of the two heads
     pub sums_begin : IsTieFreeTree t → (v r c : ℕ) → v < length t → c < child_count t v

@@ -14,7 +14,7 @@ use Rattle.tdp_model.specs.Product.{Pair, pair_key}
 use Rattle.stream_model.specs.Offers.{offers}
 use Rattle.stream_model.specs.Held.{IsHeld, InProduct}
 use Rattle.stream_model.specs.Links.{IsLinkedAt}
-use Rattle.stream_model.proofs.Held.{MaybeHolds, held_moved}
+use Rattle.stream_model.proofs.Held.{MaybeHolds, all_offers, held_moved}
 use Rattle.stream_model.proofs.Linking.{place_once}
 use Rattle.stream_model.proofs.Steps.{IsDown, IsAcross}
 use Rattle.stream_cells.specs.declared.cell.Cell.{Cell}
@@ -33,12 +33,6 @@ use Rattle.suffix_streams.proofs.Growth.{frontier_grows, frontier_ends}
 use Rattle.suffix_streams.proofs.Ranks.{ranks_more}
 use Rattle.suffix_streams.proofs.Entries.{entry_key, child_in, known_inside, named_stream}
 use Rattle.suffix_streams.proofs.Changes.{changed_product, changed_known, product_set}
-
-offers_hold : {E : Type 0} (P : E → Type 0) (a b : Option E) (es : List E) → MaybeHolds P a → MaybeHolds P b → All P es → All P (offers a b es)
-offers_hold P (Some x) (Some y) es p q r = All-cons P y (x ∷ es) q (All-cons P x es p r)
-offers_hold P (Some x) None es p q r = All-cons P x es p r
-offers_hold P None (Some y) es p q r = All-cons P y es q r
-offers_hold P None None es p q r = r
 
 module _ {R : Type 0} (d : ℕ) (key : R → KeyOf d 16) (t : List (NodeData R)) (es : List (Linked (Found R))) (nodes : List (NodeLists R)) (h : IsStreams d key t es nodes) (v r c : ℕ)
     (l : v < length t) (row : r < rows t v) (in_row : c < length (products_of nodes v r))
@@ -168,7 +162,7 @@ module _ {R : Type 0} (d : ℕ) (key : R → KeyOf d 16) (t : List (NodeData R))
   across_all = across_facts beside across beside_is across_is
 
   pub new_known : All Known new
-  new_known = All-tail Known top new (All-permutation Known (offers down across old.frontier) (top ∷ new) moved (offers_hold Known down across old.frontier down_all.1 across_all.1 own.known))
+  new_known = All-tail Known top new (All-permutation Known (offers down across old.frontier) (top ∷ new) moved (all_offers Known down across old.frontier down_all.1 across_all.1 own.known))
 
   pub new_held : All Held new
   new_held = held_moved d key (pair_key (key_add d 16) (key_none d 16) xs ys) (InProduct d xs ys) (pair_of es) down across None top old.frontier new moved down_all.0 across_all.0 tt own.sums.held

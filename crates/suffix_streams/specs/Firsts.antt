@@ -1,9 +1,11 @@
 -- The first solutions of the members of a group, and when they enter its queue.
-use Rattle.std.specs.Prelude.{◌≡◌, ◌≢◌, ℕ, suc, ◌-◌, ◌<◌, ◌≤◌, ◌⊎◌, Option, Some, None, min, List, length, slice_index}
+use Rattle.std.specs.Prelude.{◌≡◌, ◌≢◌, ℕ, suc, ◌+◌, ◌-◌, ◌*◌, ◌<◌, ◌≤◌, ◌⊎◌, Option, Some, None, min, List, ◌∷◌, length, slice_index, slice_index_or}
+use Rattle.std.specs.List.Sorted.{IsPermutation}
 use Rattle.take2_heap.specs.declared.entry.Entry.{Entry}
 use Rattle.stream_store.specs.declared.entry.Linked.{Linked}
 use Rattle.tdp_core.specs.TreeData.{NodeData, members, best, child_count, group_named}
 use Rattle.tdp_model.specs.KeyTuple.{KeyOf}
+use Rattle.stream_model.specs.Offers.{offers}
 use Rattle.stream_cells.specs.declared.cell.Cell.{Cell}
 use Rattle.stream_cells.specs.declared.source.Source.{Source}
 use Rattle.suffix_streams.specs.declared.stream.Found.{Found}
@@ -42,3 +44,12 @@ module _ {R : Type 0} (d : ℕ) (key : R → KeyOf d 16) (t : List (NodeData R))
   abbrev pub IsFirstBelow : ℕ → ℕ → Option (Entry R Source) → Type 0
   IsFirstBelow place j (Some e) = (place ≡ 1) × (j < length (members t q g)) × IsFirstOf j e
   IsFirstBelow place j None = (place ≢ 1) ⊎ (length (members t q g) ≤ j)
+
+  -- The first of the queue was passed, and member j's solution before `place`. The solution `next`
+  -- entered, if there is one, and the first solutions of the members below, if that one was j's first.
+  abbrev pub AreFirstsMoved : ℕ → ℕ → Option (Entry R Source) → List (Entry R Source)
+      → List (Entry R Source) → Type 0
+  AreFirstsMoved j place next old new = (left : Option (Entry R Source)) × (right : Option (Entry R Source))
+      × IsFirstBelow place (2 * j + 1) left × IsFirstBelow place (2 * j + 2) right
+      × ((e : Entry R Source) → IsPermutation (offers right None (offers next left old))
+      (slice_index_or old 0 e ∷ new))

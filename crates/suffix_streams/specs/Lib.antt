@@ -10,3 +10,4 @@ pub mod StreamsView
 pub mod Firsts
 pub mod Beginnings
 pub mod Refusals
+pub mod RowNumbers

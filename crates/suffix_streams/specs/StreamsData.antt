@@ -133,10 +133,6 @@ pub record IsSumOf {R : Type 0} (d : ℕ) (key : R → KeyOf d 16) (t : List (No
       ≡ key_add d 16 (slice_index_or (part_list d key t v r c) cell.left (key_none d 16))
       (slice_index_or (group_list d key t (child t v c) (group_named t v r c))
       (place_of es cell.right) (key_none d 16))
-  pub fits : KeyFits d
-      (key_add d 16 (slice_index_or (part_list d key t v r c) cell.left (key_none d 16))
-      (slice_index_or (group_list d key t (child t v c) (group_named t v r c))
-      (place_of es cell.right) (key_none d 16)))
 
 -- the cell of the source has the parts of its solution, which is one of group g of node q, if the
 -- node has children
@@ -236,7 +232,7 @@ module _ {R : Type 0} (d : ℕ) (key : R → KeyOf d 16) (t : List (NodeData R))
         (key_none d 16))
     pub fits : (i j : ℕ) → i < length (part_list d key t v r c)
         → j < length (group_list d key t (child t v c) (group_named t v r c))
-        → KeyFits d (key_add d 16 (slice_index_or (part_list d key t v r c) i (key_none d 16))
+        → KeyFits d key (key_add d 16 (slice_index_or (part_list d key t v r c) i (key_none d 16))
         (slice_index_or (group_list d key t (child t v c) (group_named t v r c)) j (key_none d 16)))
 
   -- the cell has a known solution and an entry of the child's stream

@@ -8,7 +8,6 @@
 //! Queries", PVLDB 2020.
 #![tactic(auto)]
 
-mod answers;
 mod beginning;
 mod members;
 mod node;

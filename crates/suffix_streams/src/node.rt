@@ -81,7 +81,7 @@ impl<R: Rank, A: Allocator> NodeStreams<R, A> {
         requires child { child < length (slice_index_or self.now.products row []) }
         ensures { result.now ≡ product_at self.now row child }
     {
-        &self.products.of_row(row)[child]
+        self.products.product(row, child)
     }
 
     /// The number of known solutions of a row with its first `count` children.

@@ -57,6 +57,16 @@ impl<R: Rank, A: Allocator> RowProducts<R, A> {
         }
     }
 
+    /// A product of a row. Products count from 0.
+    pub(crate) fn product(&self, row: u32, child: usize) -> &Product<R, A>
+        requires { child < length (slice_index_or self.now row []) }
+        ensures { (d : ProductData R)
+            → result.now ≡ slice_index_or (slice_index_or self.now row []) child d }
+    {
+        let list = self.opened[row as usize] as usize - 1;
+        &self.lists[list][child]
+    }
+
     /// A product of a row, to change. Products count from 0.
     pub(crate) fn product_mut(&mut self, row: u32, child: usize) -> &mut Product<R, A>
         requires { child < length (slice_index_or self.old row []) }

@@ -188,8 +188,8 @@ pub(crate) fn offered<R: Rank, A: Allocator + Clone, L: Ledger>(
     Some(Entry { rank, tag: cell })
 }
 
-/// The solution of a row at a place, as the next one of the member of a group that the row is.
-/// `None` if it is not known.
+/// The solution of an opened row at a place, as the next one of the member of a group that the row
+/// is. `None` if it is not known.
 pub(crate) fn row_offer<R: Rank, A: Allocator + Clone, L: Ledger>(
     tree: &Tree<R>,
     nodes: &[NodeStreams<R, A>],
@@ -203,6 +203,7 @@ pub(crate) fn row_offer<R: Rank, A: Allocator + Clone, L: Ledger>(
     requires formed { IsStreams R.KEYS R.key tree.now entries.now.entries nodes.now }
     requires node { node < length tree.now }
     requires row { row < rows tree.now node }
+    requires opened { length (products_of nodes.now node row) ≡ child_count tree.now node }
     requires place { 0 < place }
     ensures none { IfNone result (row_known nodes.now node row ≤ place) }
     ensures source { IfSome result (λ e. (e.tag.member ≡ member) × (e.tag.place ≡ place)) }
@@ -217,7 +218,7 @@ pub(crate) fn row_offer<R: Rank, A: Allocator + Clone, L: Ledger>(
     ensures cost { steps.new ≤ steps.old + 3 * child_count tree.now node }
 {
     let lists = &nodes[node as usize];
-    let count = lists.product_count(row);
+    let count = lists.child_count();
     if count == 0 || lists.known(row, count) <= place {
         return None;
     }

@@ -8,13 +8,13 @@ ghost use Rattle.rank_key.specs.Bits.{bit_length};
 ghost use Rattle.suffix_streams.specs.Rankings.{child as child_node};
 ghost use Rattle.stream_cells.specs.declared.cell.Cell.{Cell};
 ghost use Rattle.stream_cells.specs.declared.source.Source.{Source};
-ghost use Rattle.suffix_streams.specs.StreamsData.{IsStreams, node_of, group_of, next_of, node_size, lists_of, stream_of, product_of, products_of, part_known};
+ghost use Rattle.suffix_streams.specs.StreamsData.{IsStreams, node_of, group_of, next_of, node_size, lists_of, stream_of, product_of, products_of, part_known, row_known};
 ghost use Rattle.suffix_streams.specs.NodeLists.{with_queue};
 ghost use Rattle.suffix_streams.specs.Firsts.{can_enter};
 ghost use Rattle.suffix_streams.specs.Refusals.{AreUnstepped};
 ghost use Rattle.suffix_streams.specs.Growing.{IsStoreGrown, IsGrown, IsExtended, IsReached, IsAnswered, HasOtherProduct, AreQueuesGrown, IsWithinSteps, below_kids, kids_size};
 
-use crate::members::firsts_below;
+use crate::members::pass_last;
 use crate::node::NodeStreams;
 use crate::reads::{child_head, made_products, offered, row_offer};
 use crate::stream::Found;
@@ -77,8 +77,8 @@ impl<'t, R: Rank, A: Allocator + Clone> Solutions<'t, R, A> {
         };
         let source = top.tag;
         let row = source_row(self.tree, found.node, found.group, &source, steps);
-        self.open_row(found.node, found.group, row, steps)?;
-        let count = self.nodes[found.node as usize].product_count(row);
+        self.open_row(found.node, found.group, row, source.place, steps)?;
+        let count = self.nodes[found.node as usize].child_count();
         let place = next_place(
             source.place,
             self.nodes[found.node as usize].known(row, count),
@@ -135,6 +135,46 @@ impl<'t, R: Rank, A: Allocator + Clone> Solutions<'t, R, A> {
         if place < self.nodes[node as usize].known(row, count) || count == 0 {
             return self.entries.reserve(1);
         }
+        self.search(node, row, count, steps)
+    }
+
+    /// Finds one more solution of a row with its first `count` children, unless there is none, and
+    /// makes room for one more entry. `NoMemory` is returned only before the first change of a
+    /// product of the node.
+    #[cycle(growth)]
+    fn search<L: Ledger>(
+        &mut self,
+        node: u32,
+        row: u32,
+        count: usize,
+        steps: &mut Steps<L>,
+    ) -> Result<(), NoMemory>
+        requires formed { IsStreams R.KEYS R.key self.old.tree.now self.old.entries.entries
+            self.old.nodes.items }
+        requires tie_free { IsTieFreeTree self.old.tree.now }
+        requires node { node < length self.old.tree.now }
+        requires row { row < rows self.old.tree.now node }
+        requires some { 0 < count }
+        requires count { count ≤ length (products_of self.old.nodes.items node row) }
+        ensures formed { IsStreams R.KEYS R.key self.new.tree.now self.new.entries.entries
+            self.new.nodes.items }
+        ensures tree { self.new.tree.now ≡ self.old.tree.now }
+        ensures extended { IsExtended self.old.tree.now node row count self.old.entries.entries
+            self.old.nodes.items self.new.entries.entries self.new.nodes.items }
+        ensures reached { OnOk result
+            (IsReached R.KEYS R.key self.old.tree.now self.new.nodes.items node row count
+            (part_known self.old.nodes.items node row count)) }
+        ensures room { OnOk result (0 < self.new.entries.spare) }
+        ensures refused { OnErr result
+            (AreUnstepped node self.old.nodes.items self.new.nodes.items) }
+        ensures queues { AreQueuesGrown
+            (λ v. below_kids self.old.tree.now node count v
+            + cond (nat_eq v node) 1 0) self.old.nodes.items self.new.nodes.items }
+        ensures cost { IsWithinSteps self.old.tree.now self.old.nodes.items
+            (λ v. below_kids self.old.tree.now node count v + cond (nat_eq v node) 1 0)
+            (λ b. 20 * kids_size self.old.tree.now node count * (1 + b)) steps.old
+            (steps.new + 6 * count) }
+    {
         let child = count - 1;
         let Some(top) = self.nodes[node as usize].product_top(row, child) else {
             return self.entries.reserve(1);
@@ -160,13 +200,16 @@ impl<'t, R: Rank, A: Allocator + Clone> Solutions<'t, R, A> {
 }
 
 impl<'t, R: Rank, A: Allocator + Clone> Solutions<'t, R, A> {
-    /// Makes room in the queue of a group for what can follow its top, and the products of a row,
-    /// one for each child, unless they are there already. `NoMemory` if memory is refused.
+    /// Before a known solution of a row is passed, of which this is the place. If it is the first
+    /// one, what follows needs room in the queue of the group, and the products of the row, one for
+    /// each child. Both are made then, unless they are there already. `NoMemory` if memory is
+    /// refused.
     fn open_row<L: Ledger>(
         &mut self,
         node: u32,
         group: u32,
         row: u32,
+        place: u32,
         steps: &mut Steps<L>,
     ) -> Result<(), NoMemory>
         requires formed { IsStreams R.KEYS R.key self.old.tree.now self.old.entries.entries
@@ -175,6 +218,7 @@ impl<'t, R: Rank, A: Allocator + Clone> Solutions<'t, R, A> {
         requires node { node < length self.old.tree.now }
         requires group { group < group_count self.old.tree.now node }
         requires row { row < rows self.old.tree.now node }
+        requires place { place < row_known self.old.nodes.items node row }
         ensures formed { IsStreams R.KEYS R.key self.new.tree.now self.new.entries.entries
             self.new.nodes.items }
         ensures tree { self.new.tree.now ≡ self.old.tree.now }
@@ -186,7 +230,7 @@ impl<'t, R: Rank, A: Allocator + Clone> Solutions<'t, R, A> {
             (stream_of self.old.nodes.items node group).queue
             (stream_of self.new.nodes.items node group).room).streams }
         ensures room { OnOk result
-            (can_enter (length (members self.old.tree.now node group))
+            (place ≡ 0 → can_enter (length (members self.old.tree.now node group))
             ≤ (stream_of self.new.nodes.items node group).room) }
         ensures count { OnOk result
             (length (products_of self.new.nodes.items node row)
@@ -194,6 +238,9 @@ impl<'t, R: Rank, A: Allocator + Clone> Solutions<'t, R, A> {
         ensures queues { AreQueuesGrown (λ _. 0) self.old.nodes.items self.new.nodes.items }
         ensures cost { steps.new ≤ steps.old + 1 + 3 * child_count self.old.tree.now node }
     {
+        if place > 0 {
+            return Ok(());
+        }
         let members = self.tree.group_len(node, group);
         make_queue_room(&mut self.nodes, node, group, members)?;
         let lists = &self.nodes[node as usize];
@@ -320,7 +367,7 @@ impl<'t, R: Rank, A: Allocator + Clone> Solutions<'t, R, A> {
             ≡ child_count self.old.tree.now node }
         requires place { IsReached R.KEYS R.key self.old.tree.now self.old.nodes.items node row
             (child_count self.old.tree.now node) place }
-        requires queue_room { can_enter (length (members self.old.tree.now node group))
+        requires queue_room { place ≡ 1 → can_enter (length (members self.old.tree.now node group))
             ≤ (stream_of self.old.nodes.items node group).room }
         requires room { 0 < self.old.entries.spare }
         ensures formed { IsStreams R.KEYS R.key self.new.tree.now self.new.entries.entries
@@ -350,17 +397,17 @@ impl<'t, R: Rank, A: Allocator + Clone> Solutions<'t, R, A> {
             place,
             steps,
         );
-        let (left, right) = firsts_below(
+        pass_last(
             self.tree,
-            self.nodes.as_slice(),
+            &mut self.nodes,
             &self.entries,
             node,
             group,
             member,
             place,
+            offer,
             steps,
         );
-        self.nodes[node as usize].pass(group, offer, left, right, steps);
         let top = self.nodes[node as usize].top(group)?;
         let next = self.entries.push_reserved(
             Found {

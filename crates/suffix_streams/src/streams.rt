@@ -127,7 +127,9 @@ impl<'t, R: Rank, A: Allocator + Clone> Streams<'t, R, A> {
         ensures rows { result ≡ rows_of_key R.KEYS 16 (entry_key R.KEYS R.key self.now entry) }
         ensures cost { steps.new ≤ steps.old + 4 * length self.now.tree }
     {
-        self.solutions.entry_rows(entry, steps)
+        let mut numbers = [0; 16];
+        self.solutions.add_entry_rows(entry, &mut numbers, steps);
+        numbers
     }
 
     /// The rank of the entry's subtree solution. It takes one step.

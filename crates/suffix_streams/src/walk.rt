@@ -1,15 +1,15 @@
-//! Reading the rows of a solution, from entry to entry.
+//! Reading the rows of a solution, from entry to entry. Each row number is added at its item to the numbers that were read
+//! before.
 ghost use Rattle.std.specs.Prelude.{◌≡◌, ℕ, ◌+◌, ◌*◌, ◌<◌, ◌≤◌, length, slice_index_or};
-ghost use Rattle.tdp_core.specs.TreeData.{child_count, group_named, rows};
-ghost use Rattle.tdp_core.specs.Seen.{rows_of_key};
-ghost use Rattle.tdp_core.specs.WellFormed.{IsTieFreeTree};
+ghost use Rattle.tdp_core.specs.TreeData.{child_count, group_named, rank, rows};
+ghost use Rattle.tdp_core.specs.WellFormed.{IsFormed, IsTieFreeTree};
 ghost use Rattle.tdp_model.specs.KeyTuple.{key_add, key_none};
 ghost use Rattle.tdp_model.specs.Product.{pair_key};
 ghost use Rattle.suffix_streams.specs.Rankings.{child as child_node, part_list, group_list};
 ghost use Rattle.suffix_streams.specs.StreamsData.{IsKnownPart, IsSumOf, IsStreams, pair_of, node_of, group_of, place_of};
 ghost use Rattle.suffix_streams.specs.Growing.{subtree_size, kids_size};
+ghost use Rattle.suffix_streams.specs.RowNumbers.{AreAddable, AreAdded};
 
-use crate::answers::{joined_rows, own_rows};
 use crate::reads::child_head;
 use crate::solutions::Solutions;
 use rank_key::Rank;
@@ -18,21 +18,30 @@ use std::sync::ledger::Ledger;
 use step_counter::Steps;
 use stream_cells::{Cell, source_row};
 use stream_store::EntryId;
+use tdp_core::Tree;
 
 impl<'t, R: Rank, A: Allocator + Clone> Solutions<'t, R, A> {
-    /// The row numbers of the subtree solution that an entry stands for. It takes at most 4 steps
-    /// for each node of the subtree.
+    /// Adds the row numbers of the subtree solution that an entry stands for. It takes at most 4
+    /// steps for each node of the subtree.
     #[cycle(walk)]
-    pub(crate) fn entry_rows<L: Ledger>(&self, entry: EntryId, steps: &mut Steps<L>) -> [u32; 16]
+    pub(crate) fn add_entry_rows<L: Ledger>(
+        &self,
+        entry: EntryId,
+        numbers: &mut [u32; 16],
+        steps: &mut Steps<L>,
+    )
         requires formed { IsStreams R.KEYS R.key self.now.tree.now self.now.entries.entries
             self.now.nodes.items }
         requires tie_free { IsTieFreeTree self.now.tree.now }
         requires entry { entry < length self.now.entries.entries }
-        ensures rows { result
-            ≡ rows_of_key R.KEYS 16
+        requires fits { AreAddable R.KEYS numbers.old
             (slice_index_or (group_list R.KEYS R.key self.now.tree.now
             (node_of self.now.entries.entries entry) (group_of self.now.entries.entries entry))
             (place_of self.now.entries.entries entry) (key_none R.KEYS 16)) }
+        ensures added { AreAdded R.KEYS numbers.old
+            (slice_index_or (group_list R.KEYS R.key self.now.tree.now
+            (node_of self.now.entries.entries entry) (group_of self.now.entries.entries entry))
+            (place_of self.now.entries.entries entry) (key_none R.KEYS 16)) numbers.new }
         ensures cost { steps.new + 1
             ≤ steps.old + 4
             * subtree_size self.now.tree.now (node_of self.now.entries.entries entry) }
@@ -42,21 +51,24 @@ impl<'t, R: Rank, A: Allocator + Clone> Solutions<'t, R, A> {
         let row = source_row(self.tree, found.node, found.group, &source, steps);
         let count = self.nodes[found.node as usize].child_count();
         if count == 0 {
-            return own_rows(self.tree, found.node, row, steps);
+            add_own_row(self.tree, found.node, row, numbers, steps);
+        } else {
+            self.add_sum_rows(found.node, row, count - 1, &source.cell, numbers, steps);
         }
-        self.sum_rows(found.node, row, count - 1, &source.cell, steps)
     }
 
-    /// The row numbers of a solution of a row with its first `count` children, at a known place.
+    /// Adds the row numbers of a solution of a row with its first `count` children, at a known
+    /// place.
     #[cycle(walk)]
-    fn part_rows<L: Ledger>(
+    fn add_part_rows<L: Ledger>(
         &self,
         node: u32,
         row: u32,
         count: usize,
         place: u32,
+        numbers: &mut [u32; 16],
         steps: &mut Steps<L>,
-    ) -> [u32; 16]
+    )
         requires formed { IsStreams R.KEYS R.key self.now.tree.now self.now.entries.entries
             self.now.nodes.items }
         requires tie_free { IsTieFreeTree self.now.tree.now }
@@ -64,30 +76,34 @@ impl<'t, R: Rank, A: Allocator + Clone> Solutions<'t, R, A> {
         requires row { row < rows self.now.tree.now node }
         requires count { count ≤ child_count self.now.tree.now node }
         requires place { IsKnownPart self.now.nodes.items node row count place }
-        ensures rows { result
-            ≡ rows_of_key R.KEYS 16
+        requires fits { AreAddable R.KEYS numbers.old
             (slice_index_or (part_list R.KEYS R.key self.now.tree.now node row count) place
             (key_none R.KEYS 16)) }
+        ensures added { AreAdded R.KEYS numbers.old
+            (slice_index_or (part_list R.KEYS R.key self.now.tree.now node row count) place
+            (key_none R.KEYS 16)) numbers.new }
         ensures cost { steps.new ≤ steps.old + 1 + 4 * kids_size self.now.tree.now node count }
     {
         if count == 0 {
-            return own_rows(self.tree, node, row, steps);
+            add_own_row(self.tree, node, row, numbers, steps);
+        } else {
+            let cell = self.part_cell(node, row, count - 1, place, steps);
+            self.add_sum_rows(node, row, count - 1, &cell, numbers, steps);
         }
-        let cell = self.part_cell(node, row, count - 1, place, steps);
-        self.sum_rows(node, row, count - 1, &cell, steps)
     }
 
-    /// The row numbers of the sum of a cell's parts: a known solution of a row with its first
+    /// Adds the row numbers of the sum of a cell's parts: a known solution of a row with its first
     /// `child` children, and an entry of the next child's group.
     #[cycle(walk)]
-    fn sum_rows<L: Ledger>(
+    fn add_sum_rows<L: Ledger>(
         &self,
         node: u32,
         row: u32,
         child: usize,
         cell: &Cell,
+        numbers: &mut [u32; 16],
         steps: &mut Steps<L>,
-    ) -> [u32; 16]
+    )
         requires formed { IsStreams R.KEYS R.key self.now.tree.now self.now.entries.entries
             self.now.nodes.items }
         requires tie_free { IsTieFreeTree self.now.tree.now }
@@ -97,19 +113,23 @@ impl<'t, R: Rank, A: Allocator + Clone> Solutions<'t, R, A> {
         requires parts { (place : ℕ)
             × IsSumOf R.KEYS R.key self.now.tree.now self.now.entries.entries self.now.nodes.items
             node row child place cell.now }
-        ensures rows { result
-            ≡ rows_of_key R.KEYS 16
+        requires fits { AreAddable R.KEYS numbers.old
             (pair_key (key_add R.KEYS 16) (key_none R.KEYS 16)
             (part_list R.KEYS R.key self.now.tree.now node row child)
             (group_list R.KEYS R.key self.now.tree.now (child_node self.now.tree.now node child)
             (group_named self.now.tree.now node row child))
             (pair_of self.now.entries.entries cell.now)) }
+        ensures added { AreAdded R.KEYS numbers.old
+            (pair_key (key_add R.KEYS 16) (key_none R.KEYS 16)
+            (part_list R.KEYS R.key self.now.tree.now node row child)
+            (group_list R.KEYS R.key self.now.tree.now (child_node self.now.tree.now node child)
+            (group_named self.now.tree.now node row child))
+            (pair_of self.now.entries.entries cell.now)) numbers.new }
         ensures cost { steps.new
             ≤ steps.old + 4 * kids_size self.now.tree.now node (child + 1) }
     {
-        let left = self.part_rows(node, row, child, cell.left, steps);
-        let right = self.entry_rows(cell.right, steps);
-        joined_rows(&left, &right)
+        self.add_part_rows(node, row, child, cell.left, numbers, steps);
+        self.add_entry_rows(cell.right, numbers, steps);
     }
 
     /// The parts of a known solution of a row with its first `child + 1` children. If the row has
@@ -149,4 +169,23 @@ impl<'t, R: Rank, A: Allocator + Clone> Solutions<'t, R, A> {
             lists.cell(row, child, place)
         }
     }
+}
+
+/// Adds the row number of a row at the item of its node.
+fn add_own_row<R: Rank, L: Ledger>(
+    tree: &Tree<R>,
+    node: u32,
+    row: u32,
+    numbers: &mut [u32; 16],
+    steps: &mut Steps<L>,
+)
+    requires formed { IsFormed R.KEYS R.key tree.now }
+    requires node { node < length tree.now }
+    requires row { row < rows tree.now node }
+    requires fits { AreAddable R.KEYS numbers.old (rank tree.now R.KEYS R.key node row) }
+    ensures added { AreAdded R.KEYS numbers.old (rank tree.now R.KEYS R.key node row) numbers.new }
+    ensures cost { steps.new ≡ steps.old + 1 }
+{
+    let own = tree.row_at(node, row, steps);
+    numbers[tree.shape(node).item as usize] += own.row;
 }

@@ -45,3 +45,54 @@ get-requires g c =
     let kids : length c.index-nodes-node.result.children ≡ child_count c.args.tree.now c.args.node = children_count g.R.Rank.KEYS g.R.Rank.key c.args.tree.now c.args.entries.now.entries c.args.nodes.now c.args.node c.args.row c.index-nodes-node.result c.requires.headed c.requires.node c.index-nodes-node.is in
     let kid_in : c.loop-child.child < child_count c.args.tree.now c.args.node = omega (arith, kids, c.child_count-children.ensures) in
     omega (arith, c.child_head-head.ensures.head, c.requires.headed.heads c.loop-child.child kid_in)
+
+pub bounds-nodes-node : goal.bounds-nodes-node
+bounds-nodes-node g c =
+    omega (arith, c.requires.node, c.requires.headed.all_nodes)
+
+pub row_at-rank-requires-clause-node : goal.row_at-rank-requires-clause-node
+row_at-rank-requires-clause-node g c =
+    c.requires.node
+
+pub row_at-rank-requires-clause-row : goal.row_at-rank-requires-clause-row
+row_at-rank-requires-clause-row g c =
+    c.requires.row
+
+pub child_head-head-requires-clause-formed : goal.child_head-head-requires-clause-formed
+child_head-head-requires-clause-formed g c =
+    c.requires.formed
+
+pub child_head-head-requires-clause-node : goal.child_head-head-requires-clause-node
+child_head-head-requires-clause-node g c =
+    c.requires.node
+
+pub child_head-head-requires-clause-row : goal.child_head-head-requires-clause-row
+child_head-head-requires-clause-row g c =
+    c.requires.row
+
+pub child_head-head-requires-clause-child : goal.child_head-head-requires-clause-child
+child_head-head-requires-clause-child g c =
+    let kids : length c.index-nodes-node.result.children ≡ child_count c.args.tree.now c.args.node = children_count g.R.Rank.KEYS g.R.Rank.key c.args.tree.now c.args.entries.now.entries c.args.nodes.now c.args.node c.args.row c.index-nodes-node.result c.requires.headed c.requires.node c.index-nodes-node.is in
+    omega (arith, kids, c.child_count-children.ensures)
+
+pub child_head-head-requires-clause-headed : goal.child_head-head-requires-clause-headed
+child_head-head-requires-clause-headed g c =
+    c.requires.headed
+
+pub returns-in_err-new-clause-cost : goal.returns-in_err-new-clause-cost
+returns-in_err-new-clause-cost g c =
+    let kids : length c.index-nodes-node.result.children ≡ child_count c.args.tree.now c.args.node = children_count g.R.Rank.KEYS g.R.Rank.key c.args.tree.now c.args.entries.now.entries c.args.nodes.now c.args.node c.args.row c.index-nodes-node.result c.requires.headed c.requires.node c.index-nodes-node.is in
+    let kid_in : c.loop-child.child < child_count c.args.tree.now c.args.node = omega (arith, kids, c.child_count-children.ensures) in
+    omega (arith, kid_in, c.loop-child.invariant.steps, c.child_head-head.ensures.cost, c.get.ensures.cost, c.join-rank.ensures.counted)
+
+pub returns-in_err-push-clause-cost : goal.returns-in_err-push-clause-cost
+returns-in_err-push-clause-cost g c =
+    let kids : length c.index-nodes-node.result.children ≡ child_count c.args.tree.now c.args.node = children_count g.R.Rank.KEYS g.R.Rank.key c.args.tree.now c.args.entries.now.entries c.args.nodes.now c.args.node c.args.row c.index-nodes-node.result c.requires.headed c.requires.node c.index-nodes-node.is in
+    let kid_in : c.loop-child.child < child_count c.args.tree.now c.args.node = omega (arith, kids, c.child_count-children.ensures) in
+    omega (arith, kid_in, c.loop-child.invariant.steps, c.child_head-head.ensures.cost, c.get.ensures.cost, c.join-rank.ensures.counted)
+
+pub returns-clause-cost : goal.returns-clause-cost
+returns-clause-cost g c =
+    let kids : length c.index-nodes-node.result.children ≡ child_count c.args.tree.now c.args.node = children_count g.R.Rank.KEYS g.R.Rank.key c.args.tree.now c.args.entries.now.entries c.args.nodes.now c.args.node c.args.row c.index-nodes-node.result c.requires.headed c.requires.node c.index-nodes-node.is in
+    let end : c.loop-child.child ≡ child_count c.args.tree.now c.args.node = omega (arith, kids, c.child_count-children.ensures, c.loop-child.auto.child-end) in
+    omega (arith, end, c.loop-child.invariant.steps)

@@ -1,4 +1,4 @@
-use Rattle.std.proofs.Common.{◌≡◌, suc, ◌+◌, ◌-◌, ◌<◌, [], length, get_or, sym, ap, ◌∙◌, subst, arith}
+use Rattle.std.proofs.Common.{◌≡◌, suc, ◌+◌, ◌-◌, ◌<◌, length, get_or, sym, ap, ◌∙◌, subst, arith}
 use Rattle.suffix_streams.specs.NodeLists.{product_at, known_of}
 use Rattle.suffix_streams.specs.StreamsData.{IsSumOf, lists_of, products_of, product_of, part_known}
 use Rattle.suffix_streams.proofs.Heads.{lists_at}
@@ -15,32 +15,32 @@ module _ (g : Over) where
   lists : (c : After-cell-cell g) → lists_of c.args.nodes.now c.args.node ≡ c.index-nodes-node.result
   lists c = lists_at c.args.nodes.now c.args.node c.index-nodes-node.result c.index-nodes-node.is (omega (arith, c.requires.formed.all_nodes, c.requires.node))
 
-  last : (c : After-cell-cell g) → length (products_of c.args.nodes.now c.args.node c.args.row) ≡ suc (c.product_count-count.result - 1)
-  last c = omega (arith, ap (λ n. length (get_or n.products c.args.row [])) (lists c), c.product_count-count.ensures, c.if-count-eq0.false)
+  last : (c : After-cell-cell g) → length (products_of c.args.nodes.now c.args.node c.args.row) ≡ suc (c.child_count-count.result - 1)
+  last c = omega (arith, c.requires.opened, c.requires.formed.all_children c.args.node c.requires.node, ap (λ n. length n.children) (lists c), c.child_count-count.ensures, c.if-count-eq0.false)
 
-  known : (c : After-cell-cell g) → c.args.place < part_known c.args.nodes.now c.args.node c.args.row (suc (c.product_count-count.result - 1))
+  known : (c : After-cell-cell g) → c.args.place < part_known c.args.nodes.now c.args.node c.args.row (suc (c.child_count-count.result - 1))
   known c =
-      let more : suc (c.product_count-count.result - 1) ≡ c.product_count-count.result = omega (arith, c.if-count-eq0.false) in
-      omega (arith, ap (λ k. part_known c.args.nodes.now c.args.node c.args.row k) more, ap (λ n. known_of n c.args.row c.product_count-count.result) (lists c), c.known.ensures, c.if-known-place.false)
+      let more : suc (c.child_count-count.result - 1) ≡ c.child_count-count.result = omega (arith, c.if-count-eq0.false) in
+      omega (arith, ap (λ k. part_known c.args.nodes.now c.args.node c.args.row k) more, ap (λ n. known_of n c.args.row c.child_count-count.result) (lists c), c.known.ensures, c.if-known-place.false)
 
-  cell_is : (c : After-cell-cell g) → c.cell-cell.result ≡ get_or (product_of c.args.nodes.now c.args.node c.args.row (c.product_count-count.result - 1)).found c.args.place c.cell-cell.result
-  cell_is c = c.cell-cell.ensures c.cell-cell.result ∙ ap (λ n. get_or (product_at n c.args.row (c.product_count-count.result - 1)).found c.args.place c.cell-cell.result) (sym (lists c))
+  cell_is : (c : After-cell-cell g) → c.cell-cell.result ≡ get_or (product_of c.args.nodes.now c.args.node c.args.row (c.child_count-count.result - 1)).found c.args.place c.cell-cell.result
+  cell_is c = c.cell-cell.ensures c.cell-cell.result ∙ ap (λ n. get_or (product_at n c.args.row (c.child_count-count.result - 1)).found c.args.place c.cell-cell.result) (sym (lists c))
 
 pub cell_rank-rank-requires-clause-parts : goal.cell_rank-rank-requires-clause-parts
 cell_rank-rank-requires-clause-parts g c =
     let at = goal.at.cell_rank-rank-requires-clause-parts g c in
-    parts_of g.R.Rank.KEYS g.R.Rank.key c.args.tree.now c.args.entries.now.entries c.args.nodes.now c.requires.formed c.args.node c.args.row (c.product_count-count.result - 1) c.requires.node c.requires.row (omega (arith, last g at.After-cell-cell))
+    parts_of g.R.Rank.KEYS g.R.Rank.key c.args.tree.now c.args.entries.now.entries c.args.nodes.now c.requires.formed c.args.node c.args.row (c.child_count-count.result - 1) c.requires.node c.requires.row (omega (arith, last g at.After-cell-cell))
 
 pub cell_rank-rank-requires-clause-cell : goal.cell_rank-rank-requires-clause-cell
 cell_rank-rank-requires-clause-cell g c =
     let at = goal.at.cell_rank-rank-requires-clause-cell g c in
-    offered_cell g.R.Rank.KEYS g.R.Rank.key c.args.tree.now c.args.entries.now.entries c.args.nodes.now c.requires.formed c.args.node c.args.row (c.product_count-count.result - 1) c.args.place c.cell-cell.result c.requires.node c.requires.row (last g at.After-cell-cell) (known g at.After-cell-cell) (cell_is g at.After-cell-cell)
+    offered_cell g.R.Rank.KEYS g.R.Rank.key c.args.tree.now c.args.entries.now.entries c.args.nodes.now c.requires.formed c.args.node c.args.row (c.child_count-count.result - 1) c.args.place c.cell-cell.result c.requires.node c.requires.row (last g at.After-cell-cell) (known g at.After-cell-cell) (cell_is g at.After-cell-cell)
 
 pub returns-clause-key : goal.returns-clause-key
 returns-clause-key g c =
     let at = goal.at.returns-clause-key g c in
     c.cell_rank-rank.ensures.key
-    ∙ offered_key g.R.Rank.KEYS g.R.Rank.key c.args.tree.now c.args.entries.now.entries c.args.nodes.now c.requires.formed c.args.node c.args.row (c.product_count-count.result - 1) c.args.place c.cell-cell.result c.requires.node c.requires.row (last g at.After-cell-cell) (known g at.After-cell-cell) (cell_is g at.After-cell-cell)
+    ∙ offered_key g.R.Rank.KEYS g.R.Rank.key c.args.tree.now c.args.entries.now.entries c.args.nodes.now c.requires.formed c.args.node c.args.row (c.child_count-count.result - 1) c.args.place c.cell-cell.result c.requires.node c.requires.row (last g at.After-cell-cell) (known g at.After-cell-cell) (cell_is g at.After-cell-cell)
 
 pub returns-clause-cost : goal.returns-clause-cost
 returns-clause-cost g c =
@@ -53,9 +53,9 @@ returns-clause-parts g c i kids =
     let at = goal.at.returns-clause-parts g c in
     let n = c.args.nodes.now in
     let whole = c.requires.formed.whole_rows c.args.node c.args.row c.requires.node c.requires.row (omega (arith, last g at.After-cell-cell)) in
-    let same : c.product_count-count.result - 1 ≡ i = omega (arith, kids, whole, last g at.After-cell-cell) in
-    let more : suc (c.product_count-count.result - 1) ≡ c.product_count-count.result - 1 + 1 = omega arith in
+    let same : c.child_count-count.result - 1 ≡ i = omega (arith, kids, whole, last g at.After-cell-cell) in
+    let more : suc (c.child_count-count.result - 1) ≡ c.child_count-count.result - 1 + 1 = omega arith in
     subst (λ z. IsSumOf g.R.Rank.KEYS g.R.Rank.key c.args.tree.now c.args.entries.now.entries n c.args.node c.args.row z c.args.place c.cell-cell.result) same
-    (product_cell g.R.Rank.KEYS g.R.Rank.key c.args.tree.now c.args.entries.now.entries n c.requires.formed c.args.node c.args.row (c.product_count-count.result - 1) c.args.place c.cell-cell.result c.requires.node c.requires.row (omega (arith, whole, last g at.After-cell-cell)) (omega (arith, last g at.After-cell-cell))
+    (product_cell g.R.Rank.KEYS g.R.Rank.key c.args.tree.now c.args.entries.now.entries n c.requires.formed c.args.node c.args.row (c.child_count-count.result - 1) c.args.place c.cell-cell.result c.requires.node c.requires.row (omega (arith, whole, last g at.After-cell-cell)) (omega (arith, last g at.After-cell-cell))
     (record { found = λ some. omega (arith, known g at.After-cell-cell, ap (λ k. part_known n c.args.node c.args.row k) more); first = λ none. absurd (omega (arith, none, last g at.After-cell-cell)) })
-    (λ x. c.cell-cell.ensures x ∙ ap (λ m. get_or (product_at m c.args.row (c.product_count-count.result - 1)).found c.args.place x) (sym (lists g at.After-cell-cell))))
+    (λ x. c.cell-cell.ensures x ∙ ap (λ m. get_or (product_at m c.args.row (c.child_count-count.result - 1)).found c.args.place x) (sym (lists g at.After-cell-cell))))

@@ -1,4 +1,4 @@
-use Rattle.std.proofs.Common.{◌≡◌, ℕ, suc, ◌+◌, ◌-◌, ◌*◌, ◌<◌, ◌≤◌, Some, None, is_some, List, [], length, get_or, refl, sym, ap, ◌∙◌, subst, inl, inr, arith}
+use Rattle.std.proofs.Common.{◌≡◌, ℕ, suc, ◌+◌, ◌-◌, ◌*◌, ◌<◌, ◌≤◌, Some, None, is_some, OnOk, List, [], length, get_or, refl, sym, ap, ◌∙◌, subst, inl, inr, arith}
 use Rattle.std.proofs.lemmas.Bool.{cases_eq}
 use Rattle.stream_store.specs.declared.entry.Linked.{Linked}
 use Rattle.rank_key.specs.Bits.{bit_length}
@@ -11,7 +11,7 @@ use Rattle.suffix_streams.specs.StreamData.{StreamData}
 use Rattle.suffix_streams.specs.NodeLists.{NodeLists, product_at, stream_at, known_of}
 use Rattle.suffix_streams.specs.Firsts.{can_enter}
 use Rattle.suffix_streams.specs.Rankings.{child}
-use Rattle.suffix_streams.specs.StreamsData.{group_of, next_of, stream_of, part_known, IsStreams, IsHeaded}
+use Rattle.suffix_streams.specs.StreamsData.{group_of, next_of, stream_of, part_known, row_known, IsStreams, IsHeaded}
 use Rattle.suffix_streams.specs.Growing.{IsGrown, IsExtended, IsReached, IsAnswered}
 use Rattle.suffix_streams.proofs.Heads.{lists_at}
 use Rattle.suffix_streams.proofs.Entries.{headed_of}
@@ -25,7 +25,7 @@ use Rattle.suffix_streams.proofs.SearchRoom.{unstepped_on}
 use Rattle.suffix_streams.proofs.SearchSteps.{searched, all_or_none, left_reached, left_within, none_within_known, count_few}
 use Rattle.suffix_streams.proofs.SearchCalls.{on_ok, on_err, not_some, next_is, opened_grown}
 use Rattle.suffix_streams.proofs.solutions.Solutions.+growth.Given.{Over}
-use Rattle.suffix_streams.proofs.solutions.Solutions.+growth.Goals.{after-After-extend, after-After-get-found, after-After-open_row, after-After-product_count-count, after-In-Some-top, extend-After-after, extend-After-extend, extend-After-make_room, extend-then-place-known-via-then-place-known, extend-then-place-known-via-else-place-known+then-count-eq0}
+use Rattle.suffix_streams.proofs.solutions.Solutions.+growth.Goals.{after-After-extend, after-After-get-found, after-After-open_row, after-After-child_count-count, after-In-Some-top, search-After-after, search-After-extend, search-After-make_room, extend-then-place-known-via-then-place-known, extend-then-place-known-via-else-place-known+then-count-eq0}
 use Rattle.suffix_streams.proofs.solutions.Solutions.+growth.Goals as goal
 
 -- # What the proofs share about a call for the next entry
@@ -41,23 +41,23 @@ module _ (g : Over) (t : ℕ) where
   row_of c o p =
       row_open o p c.open_row.new.self.tree.now c.open_row.new.self.entries.entries c.open_row.new.self.nodes.items c.source_row-row.result c.args.steps.now c.open_row.new.steps c.source_row-row.ensures.member c.open_row.ensures.tree (ap (λ z. z.entries) c.open_row.ensures.entries) c.open_row.ensures.formed c.open_row.ensures.above c.open_row.ensures.streams c.open_row.ensures.queues (omega (arith, c.next_of.ensures.cost, c.get-found.ensures.cost, c.source_row-row.ensures.counted, c.open_row.ensures.cost))
 
-  counted_of : (c : after-After-product_count-count g t) → IsRowOpen g.R.Rank.KEYS g.R.Rank.key c.args.self.now.tree.now c.args.self.now.entries.entries c.args.self.now.nodes.items c.open_row.new.self.nodes.items c.get-found.result.now c.in-Some-top.top c.source_row-row.result c.args.steps.now c.open_row.new.steps → IsRowCounted c.args.self.now.tree.now c.open_row.new.self.nodes.items c.get-found.result.now c.in-Some-top.top c.source_row-row.result c.product_count-count.result
-  counted_of c a = row_counted a c.index-2.result.now c.product_count-count.result c.index-2.ensures c.product_count-count.ensures c.in_ok-open_row.ensures.count
+  counted_of : (c : after-After-child_count-count g t) → IsOwned g.R.Rank.KEYS g.R.Rank.key c.args.self.now.tree.now c.args.self.now.entries.entries c.args.self.now.nodes.items c.args.entry c.get-found.result.now → IsRowOpen g.R.Rank.KEYS g.R.Rank.key c.args.self.now.tree.now c.args.self.now.entries.entries c.args.self.now.nodes.items c.open_row.new.self.nodes.items c.get-found.result.now c.in-Some-top.top c.source_row-row.result c.args.steps.now c.open_row.new.steps → IsRowCounted c.args.self.now.tree.now c.open_row.new.self.nodes.items c.get-found.result.now c.in-Some-top.top c.source_row-row.result c.child_count-count.result
+  counted_of c o a = row_counted o a c.index-2.result.now c.child_count-count.result c.index-2.ensures c.child_count-count.ensures c.in_ok-open_row.ensures.count
 
-  search_of : (c : after-After-extend g t) → IsRowSearched g.R.Rank.KEYS g.R.Rank.key c.args.self.now.tree.now c.args.self.now.entries.entries c.extend.new.self.entries.entries c.open_row.new.self.nodes.items c.extend.new.self.nodes.items c.get-found.result.now.node c.source_row-row.result c.product_count-count.result c.open_row.new.steps c.extend.new.steps
+  search_of : (c : after-After-extend g t) → IsRowSearched g.R.Rank.KEYS g.R.Rank.key c.args.self.now.tree.now c.args.self.now.entries.entries c.extend.new.self.entries.entries c.open_row.new.self.nodes.items c.extend.new.self.nodes.items c.get-found.result.now.node c.source_row-row.result c.child_count-count.result c.open_row.new.steps c.extend.new.steps
   search_of c =
-      row_searched g.R.Rank.KEYS g.R.Rank.key c.args.self.now.tree.now c.open_row.new.self.tree.now c.extend.new.self.tree.now c.args.self.now.entries.entries c.open_row.new.self.entries.entries c.extend.new.self.entries.entries c.open_row.new.self.nodes.items c.extend.new.self.nodes.items c.get-found.result.now.node c.source_row-row.result c.product_count-count.result c.open_row.new.steps c.extend.new.steps c.open_row.ensures.tree (ap (λ z. z.entries) c.open_row.ensures.entries) c.extend.ensures.tree c.extend.ensures.formed c.extend.ensures.extended c.extend.ensures.queues c.extend.ensures.cost
+      row_searched g.R.Rank.KEYS g.R.Rank.key c.args.self.now.tree.now c.open_row.new.self.tree.now c.extend.new.self.tree.now c.args.self.now.entries.entries c.open_row.new.self.entries.entries c.extend.new.self.entries.entries c.open_row.new.self.nodes.items c.extend.new.self.nodes.items c.get-found.result.now.node c.source_row-row.result c.child_count-count.result c.open_row.new.steps c.extend.new.steps c.open_row.ensures.tree (ap (λ z. z.entries) c.open_row.ensures.entries) c.extend.ensures.tree c.extend.ensures.formed c.extend.ensures.extended c.extend.ensures.queues c.extend.ensures.cost
 
   -- # What they share about a search in a row
 
-  room_of : (c : extend-After-make_room g t) → IsRoomMade g.R.Rank.KEYS g.R.Rank.key c.args.self.now.tree.now c.args.self.now.entries.entries c.args.self.now.nodes.items c.make_room.new.nodes.items c.args.node c.args.row c.args.count c.in-Some.top.tag
+  room_of : (c : search-After-make_room g t) → IsRoomMade g.R.Rank.KEYS g.R.Rank.key c.args.self.now.tree.now c.args.self.now.entries.entries c.args.self.now.nodes.items c.make_room.new.nodes.items c.args.node c.args.row c.args.count c.in-Some.top.tag
   room_of c =
-      room_made g.R.Rank.KEYS g.R.Rank.key c.args.self.now.tree.now c.args.self.now.entries.entries c.args.self.now.nodes.items c.make_room.new.nodes.items c.args.node c.args.row c.args.count c.index-2.result.now c.in-Some.top c.requires.formed c.requires.node c.requires.row (omega (arith, c.if-count-eq0.false)) c.requires.count c.make_room.ensures.changed c.make_room.ensures.found c.make_room.ensures.frontier c.make_room.ensures.ranks c.index-2.ensures (c.product_top.ensures.variant.0 (ap is_some c.in-Some.is)) (c.in-Some.ensures.top c.in-Some.top)
+      room_made g.R.Rank.KEYS g.R.Rank.key c.args.self.now.tree.now c.args.self.now.entries.entries c.args.self.now.nodes.items c.make_room.new.nodes.items c.args.node c.args.row c.args.count c.index.result.now c.in-Some.top c.requires.formed c.requires.node c.requires.row c.requires.some c.requires.count c.make_room.ensures.changed c.make_room.ensures.found c.make_room.ensures.frontier c.make_room.ensures.ranks c.index.ensures (c.product_top.ensures.variant.0 (ap is_some c.in-Some.is)) (c.in-Some.ensures.top c.in-Some.top)
 
-  child_of : (c : extend-After-after g t) → IsRoomMade g.R.Rank.KEYS g.R.Rank.key c.args.self.now.tree.now c.args.self.now.entries.entries c.args.self.now.nodes.items c.make_room.new.nodes.items c.args.node c.args.row c.args.count c.in-Some.top.tag → IsChildAsked g.R.Rank.KEYS g.R.Rank.key c.args.self.now.tree.now c.args.self.now.entries.entries c.after.new.self.entries.entries c.make_room.new.nodes.items c.after.new.self.nodes.items c.args.node c.args.row c.args.count c.in-Some.top.tag c.args.steps.now c.after.new.steps
+  child_of : (c : search-After-after g t) → IsRoomMade g.R.Rank.KEYS g.R.Rank.key c.args.self.now.tree.now c.args.self.now.entries.entries c.args.self.now.nodes.items c.make_room.new.nodes.items c.args.node c.args.row c.args.count c.in-Some.top.tag → IsChildAsked g.R.Rank.KEYS g.R.Rank.key c.args.self.now.tree.now c.args.self.now.entries.entries c.after.new.self.entries.entries c.make_room.new.nodes.items c.after.new.self.nodes.items c.args.node c.args.row c.args.count c.in-Some.top.tag c.args.steps.now c.after.new.steps
   child_of c a = child_asked a c.after.new.self.tree.now c.after.new.self.entries.entries c.after.new.self.nodes.items c.args.steps.now c.after.new.steps c.after.ensures.tree c.after.ensures.formed c.after.ensures.grown c.after.ensures.queues c.after.ensures.cost
 
-  left_of : (c : extend-After-extend g t) → IsRoomMade g.R.Rank.KEYS g.R.Rank.key c.args.self.now.tree.now c.args.self.now.entries.entries c.args.self.now.nodes.items c.make_room.new.nodes.items c.args.node c.args.row c.args.count c.in-Some.top.tag → IsChildAsked g.R.Rank.KEYS g.R.Rank.key c.args.self.now.tree.now c.args.self.now.entries.entries c.after.new.self.entries.entries c.make_room.new.nodes.items c.after.new.self.nodes.items c.args.node c.args.row c.args.count c.in-Some.top.tag c.args.steps.now c.after.new.steps → IsLeftSearched g.R.Rank.KEYS g.R.Rank.key c.args.self.now.tree.now c.extend.new.self.tree.now c.after.new.self.entries.entries c.extend.new.self.entries.entries c.make_room.new.nodes.items c.after.new.self.nodes.items c.extend.new.self.nodes.items c.args.node c.args.row c.args.count c.child_head-head.new.steps c.extend.new.steps
+  left_of : (c : search-After-extend g t) → IsRoomMade g.R.Rank.KEYS g.R.Rank.key c.args.self.now.tree.now c.args.self.now.entries.entries c.args.self.now.nodes.items c.make_room.new.nodes.items c.args.node c.args.row c.args.count c.in-Some.top.tag → IsChildAsked g.R.Rank.KEYS g.R.Rank.key c.args.self.now.tree.now c.args.self.now.entries.entries c.after.new.self.entries.entries c.make_room.new.nodes.items c.after.new.self.nodes.items c.args.node c.args.row c.args.count c.in-Some.top.tag c.args.steps.now c.after.new.steps → IsLeftSearched g.R.Rank.KEYS g.R.Rank.key c.args.self.now.tree.now c.extend.new.self.tree.now c.after.new.self.entries.entries c.extend.new.self.entries.entries c.make_room.new.nodes.items c.after.new.self.nodes.items c.extend.new.self.nodes.items c.args.node c.args.row c.args.count c.child_head-head.new.steps c.extend.new.steps
   left_of c a b =
       let kids : c.args.count ≤ child_count c.args.self.now.tree.now c.args.node = count_few g.R.Rank.KEYS g.R.Rank.key c.args.self.now.tree.now c.args.self.now.entries.entries c.args.self.now.nodes.items c.requires.formed c.args.node c.args.row c.args.count c.requires.node c.requires.row c.requires.count in
       left_searched a b (searched g.R.Rank.KEYS g.R.Rank.key c.args.self.now.tree.now c.after.new.self.tree.now c.args.node c.args.row (c.args.count - 1) c.after.new.self.entries.entries c.after.new.self.nodes.items c.extend.new.self.tree.now c.extend.new.self.entries.entries c.extend.new.self.nodes.items c.left_search-earlier.result.0 c.child_head-head.new.steps c.extend.new.steps c.after.ensures.tree c.extend.ensures.tree (omega (arith, kids)) (all_or_none c.in-Some.top.tag.right c.child_head-head.result c.left_search-earlier.result.0 (c.args.count - 1) c.left_search-earlier.result.1 (c.in-Some.top.tag.left + 1) c.left_search-earlier.ensures.beside c.left_search-earlier.ensures.apart) c.extend.ensures.formed c.extend.ensures.extended c.extend.ensures.queues c.extend.ensures.cost)
@@ -152,6 +152,13 @@ after-open_row-requires-clause-row g t c =
     let p = top_of g t at.In-Some-top o in
     row_within o p c.source_row-row.result c.source_row-row.ensures.member
 
+pub after-open_row-requires-clause-place : goal.after-open_row-requires-clause-place
+after-open_row-requires-clause-place g t c =
+    let at = goal.at.after-open_row-requires-clause-place g t c in
+    let o = entry_owned g t at.After-get-found in
+    let p = top_of g t at.In-Some-top o in
+    subst (λ r. c.in-Some-top.top.tag.place < row_known c.args.self.now.nodes.items c.get-found.result.now.node r) (sym c.source_row-row.ensures.member) p.known
+
 pub after-returns-in_err-open_row-clause-grown : goal.after-returns-in_err-open_row-clause-grown
 after-returns-in_err-open_row-clause-grown g t c =
     let at = goal.at.after-returns-in_err-open_row-clause-grown g t c in
@@ -192,7 +199,7 @@ after-known-requires g t c =
     let o = entry_owned g t at.After-get-found in
     let p = top_of g t at.In-Some-top o in
     let a = row_of g t at.After-open_row o p in
-    let k = counted_of g t at.After-product_count-count a in
+    let k = counted_of g t at.After-child_count-count o a in
     omega (arith, k.within, ap (λ z. length (get_or z.products c.source_row-row.result [])) (lists_at c.open_row.new.self.nodes.items c.get-found.result.now.node c.index-3.result.now c.index-3.ensures a.in_nodes))
 
 pub after-next_place-place-requires : goal.after-next_place-place-requires
@@ -201,8 +208,8 @@ after-next_place-place-requires g t c =
     let o = entry_owned g t at.After-get-found in
     let p = top_of g t at.In-Some-top o in
     let a = row_of g t at.After-open_row o p in
-    let k = counted_of g t at.After-product_count-count a in
-    omega (arith, k.known, c.known.ensures, ap (λ z. known_of z c.source_row-row.result c.product_count-count.result) (lists_at c.open_row.new.self.nodes.items c.get-found.result.now.node c.index-3.result.now c.index-3.ensures a.in_nodes))
+    let k = counted_of g t at.After-child_count-count o a in
+    omega (arith, k.known, c.known.ensures, ap (λ z. known_of z c.source_row-row.result c.child_count-count.result) (lists_at c.open_row.new.self.nodes.items c.get-found.result.now.node c.index-3.result.now c.index-3.ensures a.in_nodes))
 
 pub after-extend-requires : goal.after-extend-requires
 after-extend-requires g t c κs within =
@@ -210,7 +217,7 @@ after-extend-requires g t c κs within =
     let o = entry_owned g t at.After-get-found in
     let p = top_of g t at.In-Some-top o in
     let a = row_of g t at.After-open_row o p in
-    let k = counted_of g t at.After-product_count-count a in
+    let k = counted_of g t at.After-child_count-count o a in
     (omega (arith, c.decreases, o.node_is, k.all, o.node, ap length c.open_row.ensures.tree, kids_below-most (parent c.args.self.now.tree.now) c.get-found.result.now.node (length c.args.self.now.tree.now), o.formed.tree.shaped.few_nodes), (within.0, (within.1.0, (within.1.1, (c.open_row.ensures.formed, (subst IsTieFreeTree (sym c.open_row.ensures.tree) c.requires.tie_free, (subst (λ z. c.get-found.result.now.node < length z) (sym c.open_row.ensures.tree) o.node, (subst (λ z. c.source_row-row.result < rows z c.get-found.result.now.node) (sym c.open_row.ensures.tree) a.row, (k.within, omega (arith, k.known, c.next_place-place.ensures))))))))))
 
 pub after-returns-in_err-extend-clause-grown : goal.after-returns-in_err-extend-clause-grown
@@ -219,7 +226,7 @@ after-returns-in_err-extend-clause-grown g t c =
     let o = entry_owned g t at.After-get-found in
     let p = top_of g t at.In-Some-top o in
     let a = row_of g t at.After-open_row o p in
-    let k = counted_of g t at.After-product_count-count a in
+    let k = counted_of g t at.After-child_count-count o a in
     let s = search_of g t at.After-extend in
     searched_grown o a k s
 
@@ -234,7 +241,7 @@ after-returns-in_err-extend-clause-queues g t c =
     let o = entry_owned g t at.After-get-found in
     let p = top_of g t at.In-Some-top o in
     let a = row_of g t at.After-open_row o p in
-    let k = counted_of g t at.After-product_count-count a in
+    let k = counted_of g t at.After-child_count-count o a in
     let s = search_of g t at.After-extend in
     searched_queues o a k s
 
@@ -244,7 +251,7 @@ after-returns-in_err-extend-clause-cost g t c =
     let o = entry_owned g t at.After-get-found in
     let p = top_of g t at.In-Some-top o in
     let a = row_of g t at.After-open_row o p in
-    let k = counted_of g t at.After-product_count-count a in
+    let k = counted_of g t at.After-child_count-count o a in
     let s = search_of g t at.After-extend in
     searched_steps o a k s c.extend.new.steps (λ b members. omega arith)
 
@@ -276,20 +283,20 @@ after-advance-requires-clause-top g t c =
     let o = entry_owned g t at.After-get-found in
     let p = top_of g t at.In-Some-top o in
     let a = row_of g t at.After-open_row o p in
-    let k = counted_of g t at.After-product_count-count a in
+    let k = counted_of g t at.After-child_count-count o a in
     let s = search_of g t at.After-extend in
     subst (λ z. 0 < length z) (sym (searched_queue o a k s)) p.some
 
 pub after-advance-requires-clause-queue_room : goal.after-advance-requires-clause-queue_room
-after-advance-requires-clause-queue_room g t c =
+after-advance-requires-clause-queue_room g t c one =
     let at = goal.at.after-advance-requires-clause-queue_room g t c in
     let o = entry_owned g t at.After-get-found in
     let p = top_of g t at.In-Some-top o in
     let a = row_of g t at.After-open_row o p in
-    let k = counted_of g t at.After-product_count-count a in
+    let k = counted_of g t at.After-child_count-count o a in
     let s = search_of g t at.After-extend in
     subst (λ (z : List (NodeData g.row.R.Denot)). can_enter (length (members z c.get-found.result.now.node c.get-found.result.now.group)) ≤ (stream_of c.extend.new.self.nodes.items c.get-found.result.now.node c.get-found.result.now.group).room) (sym (c.extend.ensures.tree ∙ c.open_row.ensures.tree))
-    (subst (λ (z : StreamData g.row.R.Denot). can_enter (length (members c.args.self.now.tree.now c.get-found.result.now.node c.get-found.result.now.group)) ≤ z.room) (sym (searched_stream o a k s)) c.in_ok-open_row.ensures.room)
+    (subst (λ (z : StreamData g.row.R.Denot). can_enter (length (members c.args.self.now.tree.now c.get-found.result.now.node c.get-found.result.now.group)) ≤ z.room) (sym (searched_stream o a k s)) (c.in_ok-open_row.ensures.room (omega (arith, one, c.next_place-place.ensures))))
 
 pub after-advance-requires-clause-member : goal.after-advance-requires-clause-member
 after-advance-requires-clause-member g t c =
@@ -297,7 +304,7 @@ after-advance-requires-clause-member g t c =
     let o = entry_owned g t at.After-get-found in
     let p = top_of g t at.In-Some-top o in
     let a = row_of g t at.After-open_row o p in
-    let k = counted_of g t at.After-product_count-count a in
+    let k = counted_of g t at.After-child_count-count o a in
     let s = search_of g t at.After-extend in
     λ x. ap (λ z. (get_or z 0 x).tag.member) (searched_queue o a k s)
     ∙ ap (λ e. e.tag.member) (any_default (stream_of c.args.self.now.nodes.items c.get-found.result.now.node c.get-found.result.now.group).queue 0 x c.in-Some-top.top p.some ∙ sym p.first)
@@ -308,7 +315,7 @@ after-advance-requires-clause-after g t c =
     let o = entry_owned g t at.After-get-found in
     let p = top_of g t at.In-Some-top o in
     let a = row_of g t at.After-open_row o p in
-    let k = counted_of g t at.After-product_count-count a in
+    let k = counted_of g t at.After-child_count-count o a in
     let s = search_of g t at.After-extend in
     λ x. ap (λ z. (get_or z 0 x).tag.place + 1) (searched_queue o a k s)
     ∙ ap (λ e. e.tag.place + 1) (any_default (stream_of c.args.self.now.nodes.items c.get-found.result.now.node c.get-found.result.now.group).queue 0 x c.in-Some-top.top p.some ∙ sym p.first) ∙ sym c.next_place-place.ensures
@@ -319,9 +326,9 @@ after-advance-requires-clause-place g t c =
     let o = entry_owned g t at.After-get-found in
     let p = top_of g t at.In-Some-top o in
     let a = row_of g t at.After-open_row o p in
-    let k = counted_of g t at.After-product_count-count a in
+    let k = counted_of g t at.After-child_count-count o a in
     subst (λ z. IsReached g.R.Rank.KEYS g.R.Rank.key c.extend.new.self.tree.now c.extend.new.self.nodes.items c.get-found.result.now.node c.source_row-row.result z c.next_place-place.result) (k.all ∙ ap (λ z. child_count z c.get-found.result.now.node) (sym (c.extend.ensures.tree ∙ c.open_row.ensures.tree)))
-    (subst (λ z. IsReached g.R.Rank.KEYS g.R.Rank.key z c.extend.new.self.nodes.items c.get-found.result.now.node c.source_row-row.result c.product_count-count.result c.next_place-place.result) (sym c.extend.ensures.tree) c.in_ok-extend.ensures.reached)
+    (subst (λ z. IsReached g.R.Rank.KEYS g.R.Rank.key z c.extend.new.self.nodes.items c.get-found.result.now.node c.source_row-row.result c.child_count-count.result c.next_place-place.result) (sym c.extend.ensures.tree) c.in_ok-extend.ensures.reached)
 
 pub after-returns-clause-grown : goal.after-returns-clause-grown
 after-returns-clause-grown g t c =
@@ -329,7 +336,7 @@ after-returns-clause-grown g t c =
     let o = entry_owned g t at.After-get-found in
     let p = top_of g t at.In-Some-top o in
     let a = row_of g t at.After-open_row o p in
-    let k = counted_of g t at.After-product_count-count a in
+    let k = counted_of g t at.After-child_count-count o a in
     let s = search_of g t at.After-extend in
     linked_grown o a k s c.advance.new.self.entries.entries c.advance.new.self.nodes.items (subst (λ z. IsStreams g.R.Rank.KEYS g.R.Rank.key z c.advance.new.self.entries.entries c.advance.new.self.nodes.items) (c.advance.ensures.tree ∙ c.extend.ensures.tree ∙ c.open_row.ensures.tree) c.advance.ensures.formed) c.advance.ensures.store c.advance.ensures.above c.advance.ensures.products c.advance.ensures.growth
 
@@ -344,7 +351,7 @@ after-returns-clause-queues g t c =
     let o = entry_owned g t at.After-get-found in
     let p = top_of g t at.In-Some-top o in
     let a = row_of g t at.After-open_row o p in
-    let k = counted_of g t at.After-product_count-count a in
+    let k = counted_of g t at.After-child_count-count o a in
     let s = search_of g t at.After-extend in
     linked_queues o a k s c.advance.new.self.entries.entries c.advance.new.self.nodes.items (subst (λ z. IsStreams g.R.Rank.KEYS g.R.Rank.key z c.advance.new.self.entries.entries c.advance.new.self.nodes.items) (c.advance.ensures.tree ∙ c.extend.ensures.tree ∙ c.open_row.ensures.tree) c.advance.ensures.formed) c.advance.ensures.store c.advance.ensures.above c.advance.ensures.products c.advance.ensures.growth
 
@@ -354,21 +361,21 @@ after-returns-clause-cost g t c =
     let o = entry_owned g t at.After-get-found in
     let p = top_of g t at.In-Some-top o in
     let a = row_of g t at.After-open_row o p in
-    let k = counted_of g t at.After-product_count-count a in
+    let k = counted_of g t at.After-child_count-count o a in
     let s = search_of g t at.After-extend in
     let last : c.advance.new.steps ≤ c.extend.new.steps + 8 + 3 * child_count c.args.self.now.tree.now c.get-found.result.now.node + 4 * bit_length (length (members c.args.self.now.tree.now c.get-found.result.now.node c.get-found.result.now.group) + 1) =
     subst (λ (z : List (NodeData g.row.R.Denot)). c.advance.new.steps ≤ c.extend.new.steps + 8 + 3 * child_count z c.get-found.result.now.node + 4 * bit_length (length (members z c.get-found.result.now.node c.get-found.result.now.group) + 1)) (c.extend.ensures.tree ∙ c.open_row.ensures.tree) c.advance.ensures.cost in
     searched_steps o a k s c.advance.new.steps (λ b members. omega (arith, last, members c.get-found.result.now.node c.get-found.result.now.group))
 
-pub extend-after-requires : goal.extend-after-requires
-extend-after-requires g t c κs within =
-    let at = goal.at.extend-after-requires g t c in
+pub search-after-requires : goal.search-after-requires
+search-after-requires g t c κs within =
+    let at = goal.at.search-after-requires g t c in
     let a = room_of g t at.After-make_room in
     (omega (arith, c.decreases, a.known.node, a.below, a.child_within, a.node), (within.0, (within.1.0, (within.1.1, (a.formed, (c.requires.tie_free, a.known.right))))))
 
-pub extend-extend-requires : goal.extend-extend-requires
-extend-extend-requires g t c κs within =
-    let at = goal.at.extend-extend-requires g t c in
+pub search-extend-requires : goal.search-extend-requires
+search-extend-requires g t c κs within =
+    let at = goal.at.search-extend-requires g t c in
     let a = room_of g t at.After-make_room in
     let b = child_of g t at.After-after a in
     let in_tree = subst (λ (z : List (NodeData g.row.R.Denot)). c.args.node < length z) (sym c.after.ensures.tree) c.requires.node in
@@ -377,6 +384,16 @@ extend-extend-requires g t c κs within =
       | inl e ↦ (omega (arith, c.decreases, a.last, ap length c.after.ensures.tree, (c.left_search-earlier.ensures.beside e).0), (within.0, (within.1.0, (within.1.1, (c.after.ensures.formed, (subst IsTieFreeTree (sym c.after.ensures.tree) c.requires.tie_free, (in_tree, (in_node, (omega (arith, b.in_row, (c.left_search-earlier.ensures.beside e).0), left_within c.after.new.self.nodes.items c.args.node c.args.row (c.args.count - 1) c.left_search-earlier.result.0 c.left_search-earlier.result.1 c.in-Some.top.tag.left b.left (c.left_search-earlier.ensures.beside e).0 (c.left_search-earlier.ensures.beside e).1)))))))))
       | inr n ↦ (omega (arith, c.decreases, a.last, ap length c.after.ensures.tree, (c.left_search-earlier.ensures.apart n).0), (within.0, (within.1.0, (within.1.1, (c.after.ensures.formed, (subst IsTieFreeTree (sym c.after.ensures.tree) c.requires.tie_free, (in_tree, (in_node, (omega (arith, (c.left_search-earlier.ensures.apart n).0), none_within_known c.after.new.self.nodes.items c.args.node c.args.row c.left_search-earlier.result.0 c.left_search-earlier.result.1 (c.left_search-earlier.ensures.apart n).1)))))))))
     ]
+
+pub extend-search-requires : goal.extend-search-requires
+extend-search-requires g t c κs within =
+    (omega (arith, c.decreases), (within.0, (within.1.0, (within.1.1, (c.requires.formed, (c.requires.tie_free, (c.requires.node, (c.requires.row, (omega (arith, c.if-count-eq0.false), c.requires.count)))))))))
+
+pub extend-returns-clause-reached : goal.extend-returns-clause-reached
+extend-returns-clause-reached g t c =
+    let known : c.known.result ≡ part_known c.args.self.now.nodes.items c.args.node c.args.row c.args.count = c.known.ensures ∙ ap (λ z. known_of z c.args.row c.args.count) (sym (lists_at c.args.self.now.nodes.items c.args.node c.index.result.now c.index.ensures (omega (arith, c.requires.node, c.requires.formed.all_nodes)))) in
+    let same : part_known c.args.self.now.nodes.items c.args.node c.args.row c.args.count ≡ c.args.place = omega (arith, known, c.if-place-known.false, c.requires.place) in
+    subst (λ z. OnOk c.search.result (IsReached g.R.Rank.KEYS g.R.Rank.key c.args.self.now.tree.now c.search.new.self.nodes.items c.args.node c.args.row c.args.count z)) same c.search.ensures.reached
 
 pub extend-returns-then-place-known-clause-reached : goal.extend-returns-then-place-known-clause-reached
 extend-returns-then-place-known-clause-reached g t c =
@@ -393,39 +410,38 @@ extend-returns-then-place-known-clause-cost g t c =
     let kids = count_few g.R.Rank.KEYS g.R.Rank.key c.args.self.now.tree.now c.args.self.now.entries.entries c.args.self.now.nodes.items c.requires.formed c.args.node c.args.row c.args.count c.requires.node c.requires.row c.requires.count in
     λ k b one bits members queues. none_within g.R.Rank.KEYS g.R.Rank.key c.args.self.now.tree.now c.requires.formed.tree c.args.node c.args.count b c.args.steps.now kids
 
-pub extend-returns-in_default-clause-cost : goal.extend-returns-in_default-clause-cost
-extend-returns-in_default-clause-cost g t c =
+pub search-returns-in_default-clause-cost : goal.search-returns-in_default-clause-cost
+search-returns-in_default-clause-cost g t c =
     let kids = count_few g.R.Rank.KEYS g.R.Rank.key c.args.self.now.tree.now c.args.self.now.entries.entries c.args.self.now.nodes.items c.requires.formed c.args.node c.args.row c.args.count c.requires.node c.requires.row c.requires.count in
     λ k b one bits members queues. none_within g.R.Rank.KEYS g.R.Rank.key c.args.self.now.tree.now c.requires.formed.tree c.args.node c.args.count b c.args.steps.now kids
 
-pub extend-returns-in_default-clause-reached : goal.extend-returns-in_default-clause-reached
-extend-returns-in_default-clause-reached g t c =
-    let known : c.known.result ≡ part_known c.args.self.now.nodes.items c.args.node c.args.row c.args.count = c.known.ensures ∙ ap (λ z. known_of z c.args.row c.args.count) (sym (lists_at c.args.self.now.nodes.items c.args.node c.index.result.now c.index.ensures (omega (arith, c.requires.node, c.requires.formed.all_nodes)))) in
-    let last : suc (c.args.count - 1) ≡ c.args.count = omega (arith, c.if-count-eq0.false) in
-    let empty = ap (λ n. (product_at n c.args.row (c.args.count - 1)).frontier) (lists_at c.args.self.now.nodes.items c.args.node c.index-2.result.now c.index-2.ensures (omega (arith, c.requires.node, c.requires.formed.all_nodes))) ∙ no_top c.product_top.result (product_at c.index-2.result.now c.args.row (c.args.count - 1)).frontier c.in_default.is c.product_top.ensures.variant in
+pub search-returns-in_default-clause-reached : goal.search-returns-in_default-clause-reached
+search-returns-in_default-clause-reached g t c =
+    let last : suc (c.args.count - 1) ≡ c.args.count = omega (arith, c.requires.some) in
+    let empty = ap (λ n. (product_at n c.args.row (c.args.count - 1)).frontier) (lists_at c.args.self.now.nodes.items c.args.node c.index.result.now c.index.ensures (omega (arith, c.requires.node, c.requires.formed.all_nodes))) ∙ no_top c.product_top.result (product_at c.index.result.now c.args.row (c.args.count - 1)).frontier c.in_default.is c.product_top.ensures.variant in
     let done = sums_done g.R.Rank.KEYS g.R.Rank.key c.args.self.now.tree.now c.args.self.now.entries.entries c.args.self.now.nodes.items c.requires.formed c.args.node c.args.row (c.args.count - 1) c.requires.node c.requires.row (omega (arith, c.requires.count, last)) empty in
-    on_ok c.reserve-in_default.result (subst (λ z. IsReached g.R.Rank.KEYS g.R.Rank.key c.args.self.now.tree.now c.args.self.now.nodes.items c.args.node c.args.row z c.args.place) last (inr (omega (arith, done, ap (λ z. part_known c.args.self.now.nodes.items c.args.node c.args.row z) last, known, c.if-place-known.false))))
+    on_ok c.reserve.result (subst (λ z. IsReached g.R.Rank.KEYS g.R.Rank.key c.args.self.now.tree.now c.args.self.now.nodes.items c.args.node c.args.row z (part_known c.args.self.now.nodes.items c.args.node c.args.row c.args.count)) last (inr (omega (arith, done, ap (λ z. part_known c.args.self.now.nodes.items c.args.node c.args.row z) last))))
 
-pub extend-returns-in_err-make_room-clause-formed : goal.extend-returns-in_err-make_room-clause-formed
-extend-returns-in_err-make_room-clause-formed g t c =
-    let at = goal.at.extend-returns-in_err-make_room-clause-formed g t c in
+pub search-returns-in_err-make_room-clause-formed : goal.search-returns-in_err-make_room-clause-formed
+search-returns-in_err-make_room-clause-formed g t c =
+    let at = goal.at.search-returns-in_err-make_room-clause-formed g t c in
     let a = room_of g t at.After-make_room in
     a.formed
 
-pub extend-returns-in_err-make_room-clause-extended : goal.extend-returns-in_err-make_room-clause-extended
-extend-returns-in_err-make_room-clause-extended g t c =
-    let at = goal.at.extend-returns-in_err-make_room-clause-extended g t c in
+pub search-returns-in_err-make_room-clause-extended : goal.search-returns-in_err-make_room-clause-extended
+search-returns-in_err-make_room-clause-extended g t c =
+    let at = goal.at.search-returns-in_err-make_room-clause-extended g t c in
     let a = room_of g t at.After-make_room in
     made_none a
 
-pub extend-returns-in_err-make_room-clause-queues : goal.extend-returns-in_err-make_room-clause-queues
-extend-returns-in_err-make_room-clause-queues g t c =
-    let at = goal.at.extend-returns-in_err-make_room-clause-queues g t c in
+pub search-returns-in_err-make_room-clause-queues : goal.search-returns-in_err-make_room-clause-queues
+search-returns-in_err-make_room-clause-queues g t c =
+    let at = goal.at.search-returns-in_err-make_room-clause-queues g t c in
     let a = room_of g t at.After-make_room in
     made_queues a c.make_room.new.nodes.items (λ w s k. omega arith)
 
-pub extend-returns-in_err-make_room-clause-cost : goal.extend-returns-in_err-make_room-clause-cost
-extend-returns-in_err-make_room-clause-cost g t c =
+pub search-returns-in_err-make_room-clause-cost : goal.search-returns-in_err-make_room-clause-cost
+search-returns-in_err-make_room-clause-cost g t c =
     let kids = count_few g.R.Rank.KEYS g.R.Rank.key c.args.self.now.tree.now c.args.self.now.entries.entries c.args.self.now.nodes.items c.requires.formed c.args.node c.args.row c.args.count c.requires.node c.requires.row c.requires.count in
     λ k b one bits members queues. none_within g.R.Rank.KEYS g.R.Rank.key c.args.self.now.tree.now c.requires.formed.tree c.args.node c.args.count b c.args.steps.now kids
 
@@ -433,139 +449,139 @@ pub extend-returns-then-place-known-clause-refused : goal.extend-returns-then-pl
 extend-returns-then-place-known-clause-refused g t c =
     on_err c.reserve.result (λ s k. (refl, refl, refl))
 
-pub extend-returns-in_default-clause-refused : goal.extend-returns-in_default-clause-refused
-extend-returns-in_default-clause-refused g t c =
-    on_err c.reserve-in_default.result (λ s k. (refl, refl, refl))
+pub search-returns-in_default-clause-refused : goal.search-returns-in_default-clause-refused
+search-returns-in_default-clause-refused g t c =
+    on_err c.reserve.result (λ s k. (refl, refl, refl))
 
-pub extend-returns-in_err-make_room-clause-refused : goal.extend-returns-in_err-make_room-clause-refused
-extend-returns-in_err-make_room-clause-refused g t c =
-    let at = goal.at.extend-returns-in_err-make_room-clause-refused g t c in
+pub search-returns-in_err-make_room-clause-refused : goal.search-returns-in_err-make_room-clause-refused
+search-returns-in_err-make_room-clause-refused g t c =
+    let at = goal.at.search-returns-in_err-make_room-clause-refused g t c in
     let a = room_of g t at.After-make_room in
     on_err c.from_residual.result (made_unstepped a)
 
-pub extend-returns-in_err-below-clause-refused : goal.extend-returns-in_err-below-clause-refused
-extend-returns-in_err-below-clause-refused g t c =
-    let at = goal.at.extend-returns-in_err-below-clause-refused g t c in
+pub search-returns-in_err-below-clause-refused : goal.search-returns-in_err-below-clause-refused
+search-returns-in_err-below-clause-refused g t c =
+    let at = goal.at.search-returns-in_err-below-clause-refused g t c in
     let a = room_of g t at.After-make_room in
     let b = child_of g t at.After-after a in
     on_err c.from_residual-in_err-below.result (asked_unstepped a b)
 
-pub extend-returns-in_err-extend-clause-refused : goal.extend-returns-in_err-extend-clause-refused
-extend-returns-in_err-extend-clause-refused g t c =
-    let at = goal.at.extend-returns-in_err-extend-clause-refused g t c in
+pub search-returns-in_err-extend-clause-refused : goal.search-returns-in_err-extend-clause-refused
+search-returns-in_err-extend-clause-refused g t c =
+    let at = goal.at.search-returns-in_err-extend-clause-refused g t c in
     let a = room_of g t at.After-make_room in
     let b = child_of g t at.After-after a in
     on_err c.from_residual-in_err-extend.result (unstepped_on c.args.node c.args.self.now.nodes.items c.after.new.self.nodes.items c.extend.new.self.nodes.items (asked_unstepped a b) c.in_err-extend.ensures.refused)
 
-pub extend-returns-in_err-below-clause-extended : goal.extend-returns-in_err-below-clause-extended
-extend-returns-in_err-below-clause-extended g t c =
-    let at = goal.at.extend-returns-in_err-below-clause-extended g t c in
+pub search-returns-in_err-below-clause-extended : goal.search-returns-in_err-below-clause-extended
+search-returns-in_err-below-clause-extended g t c =
+    let at = goal.at.search-returns-in_err-below-clause-extended g t c in
     let a = room_of g t at.After-make_room in
     let b = child_of g t at.After-after a in
     asked_extended a b
 
-pub extend-returns-in_err-below-clause-queues : goal.extend-returns-in_err-below-clause-queues
-extend-returns-in_err-below-clause-queues g t c =
-    let at = goal.at.extend-returns-in_err-below-clause-queues g t c in
+pub search-returns-in_err-below-clause-queues : goal.search-returns-in_err-below-clause-queues
+search-returns-in_err-below-clause-queues g t c =
+    let at = goal.at.search-returns-in_err-below-clause-queues g t c in
     let a = room_of g t at.After-make_room in
     let b = child_of g t at.After-after a in
     asked_queues a b
 
-pub extend-returns-in_err-below-clause-cost : goal.extend-returns-in_err-below-clause-cost
-extend-returns-in_err-below-clause-cost g t c =
-    let at = goal.at.extend-returns-in_err-below-clause-cost g t c in
+pub search-returns-in_err-below-clause-cost : goal.search-returns-in_err-below-clause-cost
+search-returns-in_err-below-clause-cost g t c =
+    let at = goal.at.search-returns-in_err-below-clause-cost g t c in
     let a = room_of g t at.After-make_room in
     let b = child_of g t at.After-after a in
     asked_within a b
 
-pub extend-child_head-head-requires-clause-headed : goal.extend-child_head-head-requires-clause-headed
-extend-child_head-head-requires-clause-headed g t c =
+pub search-child_head-head-requires-clause-headed : goal.search-child_head-head-requires-clause-headed
+search-child_head-head-requires-clause-headed g t c =
     let in_tree = subst (λ (z : List (NodeData g.row.R.Denot)). c.args.node < length z) (sym c.after.ensures.tree) c.requires.node in
     let in_node = subst (λ (z : List (NodeData g.row.R.Denot)). c.args.row < rows z c.args.node) (sym c.after.ensures.tree) c.requires.row in
     subst (λ (z : List (NodeLists g.row.R.Denot)). IsHeaded g.R.Rank.KEYS g.R.Rank.key c.after.new.self.tree.now c.after.new.self.entries.entries z c.args.node c.args.row) (sym c.as_slice.ensures.value)
     (headed_of g.R.Rank.KEYS g.R.Rank.key c.after.new.self.tree.now c.after.new.self.entries.entries c.after.new.self.nodes.items c.after.ensures.formed c.args.node c.args.row in_tree in_node)
 
-pub extend-child_head-head-requires-clause-child : goal.extend-child_head-head-requires-clause-child
-extend-child_head-head-requires-clause-child g t c =
-    let at = goal.at.extend-child_head-head-requires-clause-child g t c in
+pub search-child_head-head-requires-clause-child : goal.search-child_head-head-requires-clause-child
+search-child_head-head-requires-clause-child g t c =
+    let at = goal.at.search-child_head-head-requires-clause-child g t c in
     let a = room_of g t at.After-make_room in
     subst (λ (z : List (NodeData g.row.R.Denot)). c.args.count - 1 < child_count z c.args.node) (sym c.after.ensures.tree) a.in_kids
 
-pub extend-returns-in_err-extend-clause-extended : goal.extend-returns-in_err-extend-clause-extended
-extend-returns-in_err-extend-clause-extended g t c =
-    let at = goal.at.extend-returns-in_err-extend-clause-extended g t c in
+pub search-returns-in_err-extend-clause-extended : goal.search-returns-in_err-extend-clause-extended
+search-returns-in_err-extend-clause-extended g t c =
+    let at = goal.at.search-returns-in_err-extend-clause-extended g t c in
     let a = room_of g t at.After-make_room in
     let b = child_of g t at.After-after a in
     let l = left_of g t at.After-extend a b in
     left_extended a b l
 
-pub extend-returns-in_err-extend-clause-queues : goal.extend-returns-in_err-extend-clause-queues
-extend-returns-in_err-extend-clause-queues g t c =
-    let at = goal.at.extend-returns-in_err-extend-clause-queues g t c in
+pub search-returns-in_err-extend-clause-queues : goal.search-returns-in_err-extend-clause-queues
+search-returns-in_err-extend-clause-queues g t c =
+    let at = goal.at.search-returns-in_err-extend-clause-queues g t c in
     let a = room_of g t at.After-make_room in
     let b = child_of g t at.After-after a in
     let l = left_of g t at.After-extend a b in
     left_queues a b l
 
-pub extend-returns-in_err-extend-clause-cost : goal.extend-returns-in_err-extend-clause-cost
-extend-returns-in_err-extend-clause-cost g t c =
-    let at = goal.at.extend-returns-in_err-extend-clause-cost g t c in
+pub search-returns-in_err-extend-clause-cost : goal.search-returns-in_err-extend-clause-cost
+search-returns-in_err-extend-clause-cost g t c =
+    let at = goal.at.search-returns-in_err-extend-clause-cost g t c in
     let a = room_of g t at.After-make_room in
     let b = child_of g t at.After-after a in
     let l = left_of g t at.After-extend a b in
     left_steps a b l c.extend.new.steps (omega (arith, c.child_head-head.ensures.cost)) (omega arith)
 
-pub extend-step-requires-clause-tie_free : goal.extend-step-requires-clause-tie_free
-extend-step-requires-clause-tie_free g t c =
-    let at = goal.at.extend-step-requires-clause-tie_free g t c in
+pub search-step-requires-clause-tie_free : goal.search-step-requires-clause-tie_free
+search-step-requires-clause-tie_free g t c =
+    let at = goal.at.search-step-requires-clause-tie_free g t c in
     let a = room_of g t at.After-make_room in
     let b = child_of g t at.After-after a in
     let l = left_of g t at.After-extend a b in
     subst IsTieFreeTree (sym l.searched.tree) c.requires.tie_free
 
-pub extend-step-requires-clause-node : goal.extend-step-requires-clause-node
-extend-step-requires-clause-node g t c =
-    let at = goal.at.extend-step-requires-clause-node g t c in
+pub search-step-requires-clause-node : goal.search-step-requires-clause-node
+search-step-requires-clause-node g t c =
+    let at = goal.at.search-step-requires-clause-node g t c in
     let a = room_of g t at.After-make_room in
     let b = child_of g t at.After-after a in
     let l = left_of g t at.After-extend a b in
     subst (λ (z : List (NodeData g.row.R.Denot)). c.args.node < length z) (sym l.searched.tree) c.requires.node
 
-pub extend-step-requires-clause-row : goal.extend-step-requires-clause-row
-extend-step-requires-clause-row g t c =
-    let at = goal.at.extend-step-requires-clause-row g t c in
+pub search-step-requires-clause-row : goal.search-step-requires-clause-row
+search-step-requires-clause-row g t c =
+    let at = goal.at.search-step-requires-clause-row g t c in
     let a = room_of g t at.After-make_room in
     let b = child_of g t at.After-after a in
     let l = left_of g t at.After-extend a b in
     subst (λ (z : List (NodeData g.row.R.Denot)). c.args.row < rows z c.args.node) (sym l.searched.tree) c.requires.row
 
-pub extend-step-requires-clause-child : goal.extend-step-requires-clause-child
-extend-step-requires-clause-child g t c =
-    let at = goal.at.extend-step-requires-clause-child g t c in
+pub search-step-requires-clause-child : goal.search-step-requires-clause-child
+search-step-requires-clause-child g t c =
+    let at = goal.at.search-step-requires-clause-child g t c in
     let a = room_of g t at.After-make_room in
     let b = child_of g t at.After-after a in
     let l = left_of g t at.After-extend a b in
     l.in_row
 
-pub extend-step-requires-clause-top : goal.extend-step-requires-clause-top
-extend-step-requires-clause-top g t c =
-    let at = goal.at.extend-step-requires-clause-top g t c in
+pub search-step-requires-clause-top : goal.search-step-requires-clause-top
+search-step-requires-clause-top g t c =
+    let at = goal.at.search-step-requires-clause-top g t c in
     let a = room_of g t at.After-make_room in
     let b = child_of g t at.After-after a in
     let l = left_of g t at.After-extend a b in
     subst (λ (z : ProductData g.row.R.Denot). 0 < length z.frontier) (sym l.product) a.some
 
-pub extend-step-requires-clause-cell : goal.extend-step-requires-clause-cell
-extend-step-requires-clause-cell g t c =
-    let at = goal.at.extend-step-requires-clause-cell g t c in
+pub search-step-requires-clause-cell : goal.search-step-requires-clause-cell
+search-step-requires-clause-cell g t c =
+    let at = goal.at.search-step-requires-clause-cell g t c in
     let a = room_of g t at.After-make_room in
     let b = child_of g t at.After-after a in
     let l = left_of g t at.After-extend a b in
     λ x. ap (λ (z : ProductData g.row.R.Denot). (get_or z.frontier 0 x).tag) l.product ∙ a.first x
 
-pub extend-step-requires-clause-head : goal.extend-step-requires-clause-head
-extend-step-requires-clause-head g t c =
-    let at = goal.at.extend-step-requires-clause-head g t c in
+pub search-step-requires-clause-head : goal.search-step-requires-clause-head
+search-step-requires-clause-head g t c =
+    let at = goal.at.search-step-requires-clause-head g t c in
     let a = room_of g t at.After-make_room in
     let b = child_of g t at.After-after a in
     let l = left_of g t at.After-extend a b in
@@ -573,96 +589,194 @@ extend-step-requires-clause-head g t c =
     (subst (λ (n : List (NodeLists g.row.R.Denot)). c.child_head-head.result ≡ (stream_of n (child c.after.new.self.tree.now c.args.node (c.args.count - 1)) (group_named c.after.new.self.tree.now c.args.node c.args.row (c.args.count - 1))).head) c.as_slice.ensures.value c.child_head-head.ensures.head) in
     subst (λ (y : List (NodeData g.row.R.Denot)). c.child_head-head.result ≡ (stream_of c.extend.new.self.nodes.items (child y c.args.node (c.args.count - 1)) (group_named y c.args.node c.args.row (c.args.count - 1))).head) (sym l.searched.tree) (head ∙ sym l.head)
 
-pub extend-step-requires-clause-below : goal.extend-step-requires-clause-below
-extend-step-requires-clause-below g t c =
-    let at = goal.at.extend-step-requires-clause-below g t c in
+pub search-step-requires-clause-below : goal.search-step-requires-clause-below
+search-step-requires-clause-below g t c =
+    let at = goal.at.search-step-requires-clause-below g t c in
     let a = room_of g t at.After-make_room in
     let b = child_of g t at.After-after a in
     let l = left_of g t at.After-extend a b in
     subst (λ (y : List (NodeData g.row.R.Denot)). IsAnswered g.R.Rank.KEYS g.R.Rank.key y c.extend.new.self.entries.entries c.in-Some.top.tag.right c.in_ok-below.below) (sym l.searched.tree)
     (answered_stays g.R.Rank.KEYS g.R.Rank.key c.args.self.now.tree.now (suc c.args.node) c.after.new.self.entries.entries c.extend.new.self.entries.entries c.in-Some.top.tag.right c.in_ok-below.below (omega (arith, a.known.right, b.grown.store.longer)) l.searched.extended.store c.in_ok-below.ensures.answer)
 
-pub extend-step-requires-clause-across : goal.extend-step-requires-clause-across
-extend-step-requires-clause-across g t c =
+pub search-step-requires-clause-across : goal.search-step-requires-clause-across
+search-step-requires-clause-across g t c =
     λ e. left_reached g.R.Rank.KEYS g.R.Rank.key c.extend.new.self.tree.now c.after.new.self.tree.now c.extend.new.self.nodes.items c.args.node c.args.row (c.args.count - 1) c.left_search-earlier.result.0 c.left_search-earlier.result.1 (c.in-Some.top.tag.left + 1) (sym c.extend.ensures.tree) (c.left_search-earlier.ensures.beside e).0 (c.left_search-earlier.ensures.beside e).1 c.in_ok-extend.ensures.reached
 
-pub extend-step-requires-clause-room : goal.extend-step-requires-clause-room
-extend-step-requires-clause-room g t c =
-    let at = goal.at.extend-step-requires-clause-room g t c in
+pub search-step-requires-clause-room : goal.search-step-requires-clause-room
+search-step-requires-clause-room g t c =
+    let at = goal.at.search-step-requires-clause-room g t c in
     let a = room_of g t at.After-make_room in
     let b = child_of g t at.After-after a in
     let l = left_of g t at.After-extend a b in
     subst (λ (z : ProductData g.row.R.Denot). 0 < z.room) (sym l.product) c.in_ok-make_room.ensures.room
 
-pub extend-step-requires-clause-frontier_room : goal.extend-step-requires-clause-frontier_room
-extend-step-requires-clause-frontier_room g t c =
-    let at = goal.at.extend-step-requires-clause-frontier_room g t c in
+pub search-step-requires-clause-frontier_room : goal.search-step-requires-clause-frontier_room
+search-step-requires-clause-frontier_room g t c =
+    let at = goal.at.search-step-requires-clause-frontier_room g t c in
     let a = room_of g t at.After-make_room in
     let b = child_of g t at.After-after a in
     let l = left_of g t at.After-extend a b in
     subst (λ (z : ProductData g.row.R.Denot). 0 < c.args.count - 1 → 0 < z.frontier_room) (sym l.product) c.in_ok-make_room.ensures.frontier_room
 
-pub extend-returns-clause-tree : goal.extend-returns-clause-tree
-extend-returns-clause-tree g t c =
-    let at = goal.at.extend-returns-clause-tree g t c in
+pub search-returns-clause-tree : goal.search-returns-clause-tree
+search-returns-clause-tree g t c =
+    let at = goal.at.search-returns-clause-tree g t c in
     let a = room_of g t at.After-make_room in
     let b = child_of g t at.After-after a in
     let l = left_of g t at.After-extend a b in
     c.step.ensures.tree ∙ l.searched.tree
 
-pub extend-returns-clause-extended : goal.extend-returns-clause-extended
-extend-returns-clause-extended g t c =
-    let at = goal.at.extend-returns-clause-extended g t c in
+pub search-returns-clause-extended : goal.search-returns-clause-extended
+search-returns-clause-extended g t c =
+    let at = goal.at.search-returns-clause-extended g t c in
     let a = room_of g t at.After-make_room in
     let b = child_of g t at.After-after a in
     let l = left_of g t at.After-extend a b in
     subst (λ (y : List (Linked (Found g.row.R.Denot))). IsExtended c.args.self.now.tree.now c.args.node c.args.row c.args.count c.args.self.now.entries.entries c.args.self.now.nodes.items y c.step.new.self.nodes.items) (sym (ap (λ z. z.entries) c.step.ensures.entries)) (one_more_extended a b l c.step.new.self.nodes.items c.step.ensures.changed)
 
-pub extend-returns-clause-reached : goal.extend-returns-clause-reached
-extend-returns-clause-reached g t c =
-    let at = goal.at.extend-returns-clause-reached g t c in
+pub search-returns-clause-reached : goal.search-returns-clause-reached
+search-returns-clause-reached g t c =
+    let at = goal.at.search-returns-clause-reached g t c in
     let a = room_of g t at.After-make_room in
     let b = child_of g t at.After-after a in
     let l = left_of g t at.After-extend a b in
-    let known : c.known.result ≡ part_known c.args.self.now.nodes.items c.args.node c.args.row c.args.count = c.known.ensures ∙ ap (λ z. known_of z c.args.row c.args.count) (sym (lists_at c.args.self.now.nodes.items c.args.node c.index.result.now c.index.ensures (omega (arith, c.requires.node, c.requires.formed.all_nodes)))) in
-    let same : part_known c.args.self.now.nodes.items c.args.node c.args.row c.args.count ≡ c.args.place = omega (arith, known, c.if-place-known.false, c.requires.place) in
-    let at : part_known c.extend.new.self.nodes.items c.args.node c.args.row c.args.count ≡ c.args.place =
-    ap (λ z. part_known c.extend.new.self.nodes.items c.args.node c.args.row z) (sym a.last) ∙ ap (λ (z : ProductData g.row.R.Denot). length z.found) l.product ∙ ap length a.found ∙ ap (λ z. part_known c.args.self.now.nodes.items c.args.node c.args.row z) a.last ∙ same in
+    let at : part_known c.extend.new.self.nodes.items c.args.node c.args.row c.args.count ≡ part_known c.args.self.now.nodes.items c.args.node c.args.row c.args.count =
+    ap (λ z. part_known c.extend.new.self.nodes.items c.args.node c.args.row z) (sym a.last) ∙ ap (λ (z : ProductData g.row.R.Denot). length z.found) l.product ∙ ap length a.found ∙ ap (λ z. part_known c.args.self.now.nodes.items c.args.node c.args.row z) a.last in
     let more : (c.args.count - 1) + 1 ≡ c.args.count = omega (arith, a.last) in
     subst (λ z. IsReached g.R.Rank.KEYS g.R.Rank.key c.args.self.now.tree.now c.step.new.self.nodes.items c.args.node c.args.row c.args.count z) at
     (subst (λ z. IsReached g.R.Rank.KEYS g.R.Rank.key c.args.self.now.tree.now c.step.new.self.nodes.items c.args.node c.args.row z (part_known c.extend.new.self.nodes.items c.args.node c.args.row z)) more
     (subst (λ (y : List (NodeData g.row.R.Denot)). IsReached g.R.Rank.KEYS g.R.Rank.key y c.step.new.self.nodes.items c.args.node c.args.row ((c.args.count - 1) + 1) (part_known c.extend.new.self.nodes.items c.args.node c.args.row ((c.args.count - 1) + 1))) l.searched.tree c.step.ensures.reached))
 
-pub extend-returns-clause-room : goal.extend-returns-clause-room
-extend-returns-clause-room g t c =
+pub search-returns-clause-room : goal.search-returns-clause-room
+search-returns-clause-room g t c =
     omega (arith, c.in_ok-extend.ensures.room, ap (λ z. z.spare) c.step.ensures.entries)
 
-pub extend-returns-clause-queues : goal.extend-returns-clause-queues
-extend-returns-clause-queues g t c =
-    let at = goal.at.extend-returns-clause-queues g t c in
+pub search-returns-clause-queues : goal.search-returns-clause-queues
+search-returns-clause-queues g t c =
+    let at = goal.at.search-returns-clause-queues g t c in
     let a = room_of g t at.After-make_room in
     let b = child_of g t at.After-after a in
     let l = left_of g t at.After-extend a b in
     one_more_queues a b l c.step.new.self.nodes.items c.step.ensures.changed c.step.ensures.queue
 
-pub extend-returns-clause-cost : goal.extend-returns-clause-cost
-extend-returns-clause-cost g t c =
-    let at = goal.at.extend-returns-clause-cost g t c in
+pub search-returns-clause-cost : goal.search-returns-clause-cost
+search-returns-clause-cost g t c =
+    let at = goal.at.search-returns-clause-cost g t c in
     let a = room_of g t at.After-make_room in
     let b = child_of g t at.After-after a in
     let l = left_of g t at.After-extend a b in
     left_steps a b l c.step.new.steps (omega (arith, c.child_head-head.ensures.cost)) c.step.ensures.cost
 
-pub extend-left_search-earlier-requires : goal.extend-left_search-earlier-requires
-extend-left_search-earlier-requires g t c =
-    let at = goal.at.extend-left_search-earlier-requires g t c in
+pub search-left_search-earlier-requires : goal.search-left_search-earlier-requires
+search-left_search-earlier-requires g t c =
+    let at = goal.at.search-left_search-earlier-requires g t c in
     let a = room_of g t at.After-make_room in
     let b = child_of g t at.After-after a in
-    omega (arith, b.left, c.known-known.ensures, ap (λ z. known_of z c.args.row (c.args.count - 1)) (lists_at c.after.new.self.nodes.items c.args.node c.index-3.result.now c.index-3.ensures (omega (arith, c.requires.node, b.formed.all_nodes))))
+    omega (arith, b.left, c.known-known.ensures, ap (λ z. known_of z c.args.row (c.args.count - 1)) (lists_at c.after.new.self.nodes.items c.args.node c.index-2.result.now c.index-2.ensures (omega (arith, c.requires.node, b.formed.all_nodes))))
 
-pub extend-known-known-requires : goal.extend-known-known-requires
-extend-known-known-requires g t c =
-    let at = goal.at.extend-known-known-requires g t c in
+pub search-known-known-requires : goal.search-known-known-requires
+search-known-known-requires g t c =
+    let at = goal.at.search-known-known-requires g t c in
     let a = room_of g t at.After-make_room in
     let b = child_of g t at.After-after a in
-    omega (arith, b.in_row, ap (λ z. length (get_or z.products c.args.row [])) (lists_at c.after.new.self.nodes.items c.args.node c.index-3.result.now c.index-3.ensures (omega (arith, c.requires.node, b.formed.all_nodes))))
+    omega (arith, b.in_row, ap (λ z. length (get_or z.products c.args.row [])) (lists_at c.after.new.self.nodes.items c.args.node c.index-2.result.now c.index-2.ensures (omega (arith, c.requires.node, b.formed.all_nodes))))
+
+pub extend-index-requires : goal.extend-index-requires
+extend-index-requires g t c =
+    omega (arith, c.requires.formed.all_nodes, c.requires.node)
+
+pub extend-known-requires : goal.extend-known-requires
+extend-known-requires g t c =
+    omega (arith, c.requires.count, ap (λ z. length (get_or z.products c.args.row [])) (lists_at c.args.self.now.nodes.items c.args.node c.index.result.now c.index.ensures (omega (arith, c.requires.node, c.requires.formed.all_nodes))))
+
+pub search-index-requires : goal.search-index-requires
+search-index-requires g t c =
+    omega (arith, c.requires.formed.all_nodes, c.requires.node)
+
+pub search-product_top-requires : goal.search-product_top-requires
+search-product_top-requires g t c =
+    record { child = omega (arith, c.requires.count, c.requires.some, ap (λ z. length (get_or z.products c.args.row [])) (lists_at c.args.self.now.nodes.items c.args.node c.index.result.now c.index.ensures (omega (arith, c.requires.node, c.requires.formed.all_nodes)))) }
+
+pub search-make_room-requires-clause-node : goal.search-make_room-requires-clause-node
+search-make_room-requires-clause-node g t c =
+    omega (arith, c.requires.formed.all_nodes, c.requires.node)
+
+pub search-make_room-requires-clause-child : goal.search-make_room-requires-clause-child
+search-make_room-requires-clause-child g t c =
+    omega (arith, c.requires.count, c.requires.some)
+
+pub extend-returns-clause-formed : goal.extend-returns-clause-formed
+extend-returns-clause-formed g t c =
+    c.search.ensures.formed
+
+pub extend-returns-clause-tree : goal.extend-returns-clause-tree
+extend-returns-clause-tree g t c =
+    c.search.ensures.tree
+
+pub extend-returns-clause-extended : goal.extend-returns-clause-extended
+extend-returns-clause-extended g t c =
+    c.search.ensures.extended
+
+pub extend-returns-clause-room : goal.extend-returns-clause-room
+extend-returns-clause-room g t c =
+    c.search.ensures.room
+
+pub extend-returns-clause-refused : goal.extend-returns-clause-refused
+extend-returns-clause-refused g t c =
+    c.search.ensures.refused
+
+pub extend-returns-clause-queues : goal.extend-returns-clause-queues
+extend-returns-clause-queues g t c =
+    c.search.ensures.queues
+
+pub extend-returns-clause-cost : goal.extend-returns-clause-cost
+extend-returns-clause-cost g t c =
+    c.search.ensures.cost
+
+pub search-returns-clause-formed : goal.search-returns-clause-formed
+search-returns-clause-formed g t c =
+    c.step.ensures.formed
+
+pub search-step-requires-clause-formed : goal.search-step-requires-clause-formed
+search-step-requires-clause-formed g t c =
+    c.extend.ensures.formed
+
+pub after-returns-clause-formed : goal.after-returns-clause-formed
+after-returns-clause-formed g t c =
+    c.advance.ensures.formed
+
+pub after-open_row-requires-clause-formed : goal.after-open_row-requires-clause-formed
+after-open_row-requires-clause-formed g t c =
+    c.requires.formed
+
+pub after-open_row-requires-clause-tie_free : goal.after-open_row-requires-clause-tie_free
+after-open_row-requires-clause-tie_free g t c =
+    c.requires.tie_free
+
+pub after-returns-in_err-open_row-clause-formed : goal.after-returns-in_err-open_row-clause-formed
+after-returns-in_err-open_row-clause-formed g t c =
+    c.open_row.ensures.formed
+
+pub after-returns-in_err-open_row-clause-queues : goal.after-returns-in_err-open_row-clause-queues
+after-returns-in_err-open_row-clause-queues g t c =
+    λ v r k. omega (arith, c.open_row.ensures.queues v r k)
+
+pub after-returns-in_err-extend-clause-formed : goal.after-returns-in_err-extend-clause-formed
+after-returns-in_err-extend-clause-formed g t c =
+    c.extend.ensures.formed
+
+pub after-advance-requires-clause-formed : goal.after-advance-requires-clause-formed
+after-advance-requires-clause-formed g t c =
+    c.extend.ensures.formed
+
+pub search-returns-in_err-below-clause-formed : goal.search-returns-in_err-below-clause-formed
+search-returns-in_err-below-clause-formed g t c =
+    c.after.ensures.formed
+
+pub search-returns-in_err-extend-clause-formed : goal.search-returns-in_err-extend-clause-formed
+search-returns-in_err-extend-clause-formed g t c =
+    c.extend.ensures.formed
+
+pub search-child_head-head-requires-clause-formed : goal.search-child_head-head-requires-clause-formed
+search-child_head-head-requires-clause-formed g t c =
+    c.after.ensures.formed.tree

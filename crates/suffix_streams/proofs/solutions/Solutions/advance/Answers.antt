@@ -1,10 +1,11 @@
-use Rattle.std.proofs.Common.{◌≡◌, ℕ, ◌+◌, ◌*◌, ◌<◌, ◌≤◌, Some, IfSome, IfNone, is_some, List, [], length, slice_set, get_or, sym, ap, ◌∙◌, subst, arith}
+use Rattle.std.proofs.Common.{◌≡◌, ℕ, ◌+◌, ◌*◌, ◌<◌, ◌≤◌, Some, IfSome, IfNone, is_some, List, [], length, get_or, sym, ap, ◌∙◌, subst, arith}
 use Rattle.take2_heap.specs.Order.{IsLeast}
 use Rattle.tdp_core.specs.TreeData.{members, child_count}
 use Rattle.tdp_model.specs.KeyTuple.{key_none}
 use Rattle.suffix_streams.specs.NodeLists.{NodeLists, stream_at, with_queue}
 use Rattle.suffix_streams.specs.StreamsData.{IsSumOf, row_known, products_of, IsStreams, node_list, group_list_of, node_of, group_of, lists_of, stream_of}
 use Rattle.suffix_streams.specs.Growing.{IsAnswered}
+use Rattle.suffix_streams.proofs.Changes.{lists_same}
 use Rattle.suffix_streams.proofs.Heads.{lists_at}
 use Rattle.suffix_streams.proofs.Kept.{held_itself}
 use Rattle.suffix_streams.proofs.StepCells.{first_of, no_top}
@@ -14,12 +15,11 @@ use Rattle.suffix_streams.proofs.Stores.{node_length, set_length}
 use Rattle.suffix_streams.proofs.Linked.{entry_held}
 use Rattle.rank_key.specs.Bits.{bit_length}
 use Rattle.rank_key.proofs.BitLemmas.{bit_length-rises}
-use Rattle.std.proofs.lemmas.List.{get_or-set_same}
 use Rattle.stream_model.specs.Links.{owned, IsLinkedAt}
 use Rattle.suffix_streams.specs.Rankings.{part_list, group_list}
-use Rattle.suffix_streams.proofs.QueuePass.{below_within, IsGroupTop, IsQueuePassed, IsEntryLinked, group_top, queue_passed, passed_ends, passed_grows, entry_linked}
+use Rattle.suffix_streams.proofs.QueuePass.{IsGroupTop, IsQueuePassed, IsEntryLinked, group_top, queue_passed, passed_ends, passed_grows, entry_linked}
 use Rattle.suffix_streams.proofs.solutions.Solutions.advance.Given.{Over}
-use Rattle.suffix_streams.proofs.solutions.Solutions.advance.Goals.{After-as_slice, After-pass, After-set_next, After-top, In_ok-top}
+use Rattle.suffix_streams.proofs.solutions.Solutions.advance.Goals.{After-as_slice, After-index, After-pass_last, After-set_next, In_ok-top}
 use Rattle.suffix_streams.proofs.solutions.Solutions.advance.Goals as goal
 
 -- # What the proofs share
@@ -30,50 +30,47 @@ module _ (g : Over) where
       group_top g.R.Rank.KEYS g.R.Rank.key c.args.self.now.tree.now c.args.self.now.entries.entries c.args.self.now.nodes.items c.args.last c.args.node c.args.group c.args.row c.args.member c.requires.formed c.requires.last c.requires.node c.requires.group c.requires.top c.requires.member c.requires.row
 
   -- the offer, in terms of the nodes
-  offer_of : (c : After-pass g) → IfNone c.row_offer-offer.result (row_known c.args.self.now.nodes.items c.args.node c.args.row ≤ c.args.place) × IfSome c.row_offer-offer.result (λ e. (e.tag.member ≡ c.args.member) × (e.tag.place ≡ c.args.place)) × IfSome c.row_offer-offer.result (λ e. c.args.place < row_known c.args.self.now.nodes.items c.args.node c.args.row) × IfSome c.row_offer-offer.result (λ e. (i : ℕ) → child_count c.args.self.now.tree.now c.args.node ≡ i + 1 → IsSumOf g.R.Rank.KEYS g.R.Rank.key c.args.self.now.tree.now c.args.self.now.entries.entries c.args.self.now.nodes.items c.args.node c.args.row i c.args.place e.tag.cell)
+  offer_of : (c : After-pass_last g) → IfNone c.row_offer-offer.result (row_known c.args.self.now.nodes.items c.args.node c.args.row ≤ c.args.place) × IfSome c.row_offer-offer.result (λ e. (e.tag.member ≡ c.args.member) × (e.tag.place ≡ c.args.place)) × IfSome c.row_offer-offer.result (λ e. c.args.place < row_known c.args.self.now.nodes.items c.args.node c.args.row) × IfSome c.row_offer-offer.result (λ e. (i : ℕ) → child_count c.args.self.now.tree.now c.args.node ≡ i + 1 → IsSumOf g.R.Rank.KEYS g.R.Rank.key c.args.self.now.tree.now c.args.self.now.entries.entries c.args.self.now.nodes.items c.args.node c.args.row i c.args.place e.tag.cell)
       × IfSome c.row_offer-offer.result (λ e. g.R.Rank.key e.rank ≡ get_or (part_list g.R.Rank.KEYS g.R.Rank.key c.args.self.now.tree.now c.args.node c.args.row (length (products_of c.args.self.now.nodes.items c.args.node c.args.row))) c.args.place (key_none g.R.Rank.KEYS 16))
   offer_of c =
       subst (λ (z : List (NodeLists g.row.R.Denot)). IfNone c.row_offer-offer.result (row_known z c.args.node c.args.row ≤ c.args.place) × IfSome c.row_offer-offer.result (λ e. (e.tag.member ≡ c.args.member) × (e.tag.place ≡ c.args.place)) × IfSome c.row_offer-offer.result (λ e. c.args.place < row_known z c.args.node c.args.row) × IfSome c.row_offer-offer.result (λ e. (i : ℕ) → child_count c.args.self.now.tree.now c.args.node ≡ i + 1 → IsSumOf g.R.Rank.KEYS g.R.Rank.key c.args.self.now.tree.now c.args.self.now.entries.entries z c.args.node c.args.row i c.args.place e.tag.cell)
       × IfSome c.row_offer-offer.result (λ e. g.R.Rank.key e.rank ≡ get_or (part_list g.R.Rank.KEYS g.R.Rank.key c.args.self.now.tree.now c.args.node c.args.row (length (products_of z c.args.node c.args.row))) c.args.place (key_none g.R.Rank.KEYS 16))) c.as_slice.ensures.value
       (c.row_offer-offer.ensures.none, c.row_offer-offer.ensures.source, c.row_offer-offer.ensures.known, c.row_offer-offer.ensures.parts, c.row_offer-offer.ensures.key)
 
-  passed_of : (c : After-pass g) → IsGroupTop g.R.Rank.KEYS g.R.Rank.key c.args.self.now.tree.now c.args.self.now.entries.entries c.args.self.now.nodes.items c.args.last c.args.node c.args.group c.args.row → IsQueuePassed g.R.Rank.KEYS g.R.Rank.key c.args.self.now.tree.now c.args.self.now.entries.entries c.args.self.now.nodes.items c.args.node c.args.group (stream_at c.pass.new.self c.args.group).queue
+  passed_of : (c : After-pass_last g) → IsGroupTop g.R.Rank.KEYS g.R.Rank.key c.args.self.now.tree.now c.args.self.now.entries.entries c.args.self.now.nodes.items c.args.last c.args.node c.args.group c.args.row → IsQueuePassed g.R.Rank.KEYS g.R.Rank.key c.args.self.now.tree.now c.args.self.now.entries.entries c.args.self.now.nodes.items c.args.node c.args.group (stream_of c.pass_last.new.nodes.items c.args.node c.args.group).queue
   passed_of c o =
       let f = offer_of c in
-      queue_passed o c.requires.tie_free c.args.member c.args.place c.row_offer-offer.result c.firsts_below-left.result.0 c.firsts_below-left.result.1 (stream_at c.pass.new.self c.args.group).queue c.index_mut.result.now c.requires.formed c.firsts_below-left.ensures.left c.firsts_below-left.ensures.right c.requires.top c.requires.member c.requires.after c.requires.row c.requires.count c.requires.place c.index_mut.ensures.value f.0 f.1 f.2 f.3 f.4 c.pass.ensures.moved c.pass.ensures.least
+      queue_passed o c.requires.tie_free c.args.member c.args.place c.row_offer-offer.result (stream_of c.pass_last.new.nodes.items c.args.node c.args.group).queue c.requires.formed c.pass_last.ensures.moved c.requires.top c.requires.member c.requires.after c.requires.row c.requires.count c.requires.place f.0 f.1 f.2 f.3 f.4 c.pass_last.ensures.least
 
-  changed_of : (c : After-pass g) → IsGroupTop g.R.Rank.KEYS g.R.Rank.key c.args.self.now.tree.now c.args.self.now.entries.entries c.args.self.now.nodes.items c.args.last c.args.node c.args.group c.args.row → slice_set c.args.self.now.nodes.items c.args.node c.pass.new.self ≡ slice_set c.args.self.now.nodes.items c.args.node (with_queue (lists_of c.args.self.now.nodes.items c.args.node) c.args.group (stream_at c.pass.new.self c.args.group).queue (stream_at c.pass.new.self c.args.group).room)
-  changed_of c o =
-      ap (λ z. slice_set c.args.self.now.nodes.items c.args.node z) (c.pass.ensures.changed ∙ ap (λ n. with_queue n c.args.group (stream_at c.pass.new.self c.args.group).queue (stream_at c.pass.new.self c.args.group).room) (sym (lists_at c.args.self.now.nodes.items c.args.node c.index_mut.result.now c.index_mut.ensures.value o.in_nodes)))
-
-  old_queue : (c : After-pass g) → IsGroupTop g.R.Rank.KEYS g.R.Rank.key c.args.self.now.tree.now c.args.self.now.entries.entries c.args.self.now.nodes.items c.args.last c.args.node c.args.group c.args.row → length (stream_at c.index_mut.result.now c.args.group).queue ≤ length (members c.args.self.now.tree.now c.args.node c.args.group)
-  old_queue c o =
-      omega (arith, (c.requires.formed.streams c.args.node c.args.group o.node o.group).few, ap (λ n. length (stream_at n c.args.group).queue) (lists_at c.args.self.now.nodes.items c.args.node c.index_mut.result.now c.index_mut.ensures.value o.in_nodes))
+  old_queue : (c : After-pass_last g) → IsGroupTop g.R.Rank.KEYS g.R.Rank.key c.args.self.now.tree.now c.args.self.now.entries.entries c.args.self.now.nodes.items c.args.last c.args.node c.args.group c.args.row → length (stream_of c.args.self.now.nodes.items c.args.node c.args.group).queue ≤ length (members c.args.self.now.tree.now c.args.node c.args.group)
+  old_queue c o = (c.requires.formed.streams c.args.node c.args.group o.node o.group).few
 
   -- the steps of passing, in digits of the number of members
-  digits_of : (c : After-pass g) → (o : IsGroupTop g.R.Rank.KEYS g.R.Rank.key c.args.self.now.tree.now c.args.self.now.entries.entries c.args.self.now.nodes.items c.args.last c.args.node c.args.group c.args.row) → c.pass.new.steps ≤ c.args.steps.now + 6 + 3 * child_count c.args.self.now.tree.now c.args.node + 4 * bit_length (length (members c.args.self.now.tree.now c.args.node c.args.group) + 1)
+  digits_of : (c : After-pass_last g) → (o : IsGroupTop g.R.Rank.KEYS g.R.Rank.key c.args.self.now.tree.now c.args.self.now.entries.entries c.args.self.now.nodes.items c.args.last c.args.node c.args.group c.args.row) → c.pass_last.new.steps ≤ c.args.steps.now + 6 + 3 * child_count c.args.self.now.tree.now c.args.node + 4 * bit_length (length (members c.args.self.now.tree.now c.args.node c.args.group) + 1)
   digits_of c o =
       let n : ℕ = length (members c.args.self.now.tree.now c.args.node c.args.group) in
-      let old : length (stream_at c.index_mut.result.now c.args.group).queue ≤ n = old_queue c o in
-      let new : length (stream_at c.pass.new.self c.args.group).queue ≤ n = (passed_of c o).few in
+      let old : length (stream_of c.args.self.now.nodes.items c.args.node c.args.group).queue ≤ n = old_queue c o in
+      let new : length (stream_of c.pass_last.new.nodes.items c.args.node c.args.group).queue ≤ n = (passed_of c o).few in
       omega (
         arith,
         c.row_offer-offer.ensures.cost,
-        c.firsts_below-left.ensures.cost,
-        c.pass.ensures.cost,
-        bit_length-rises (length (stream_at c.index_mut.result.now c.args.group).queue) (n + 1) (omega (arith, old)),
-        bit_length-rises (length (stream_at c.index_mut.result.now c.args.group).queue + 1) (n + 1) (omega (arith, old)),
-        bit_length-rises (length (stream_at c.pass.new.self c.args.group).queue) (n + 1) (omega (arith, new)),
+        c.pass_last.ensures.cost,
+        bit_length-rises (length (stream_of c.args.self.now.nodes.items c.args.node c.args.group).queue) (n + 1) (omega (arith, old)),
+        bit_length-rises (length (stream_of c.args.self.now.nodes.items c.args.node c.args.group).queue + 1) (n + 1) (omega (arith, old)),
+        bit_length-rises (length (stream_of c.pass_last.new.nodes.items c.args.node c.args.group).queue) (n + 1) (omega (arith, new)),
       )
 
-  read_of : (c : After-top g) → IsGroupTop g.R.Rank.KEYS g.R.Rank.key c.args.self.now.tree.now c.args.self.now.entries.entries c.args.self.now.nodes.items c.args.last c.args.node c.args.group c.args.row → c.index.result.now ≡ c.pass.new.self
-  read_of c o = c.index.ensures ∙ get_or-set_same c.args.self.now.nodes.items c.args.node c.pass.new.self c.index.result.now o.in_nodes
+  -- the lists of the node that are read then
+  read_of : (c : After-index g) → IsGroupTop g.R.Rank.KEYS g.R.Rank.key c.args.self.now.tree.now c.args.self.now.entries.entries c.args.self.now.nodes.items c.args.last c.args.node c.args.group c.args.row → lists_of c.pass_last.new.nodes.items c.args.node ≡ c.index.result.now
+  read_of c o =
+      let long = set_length c.args.self.now.nodes.items c.args.node (with_queue (lists_of c.args.self.now.nodes.items c.args.node) c.args.group (stream_of c.pass_last.new.nodes.items c.args.node c.args.group).queue (stream_of c.pass_last.new.nodes.items c.args.node c.args.group).room) in
+      lists_at c.pass_last.new.nodes.items c.args.node c.index.result.now c.index.ensures (omega (arith, o.in_nodes, ap length c.pass_last.ensures.changed, long))
 
-  some_of : (c : In_ok-top g) → IsGroupTop g.R.Rank.KEYS g.R.Rank.key c.args.self.now.tree.now c.args.self.now.entries.entries c.args.self.now.nodes.items c.args.last c.args.node c.args.group c.args.row → 0 < length (stream_at c.pass.new.self c.args.group).queue
-  some_of c o = subst (λ n. 0 < length (stream_at n c.args.group).queue) (c.index.ensures ∙ get_or-set_same c.args.self.now.nodes.items c.args.node c.pass.new.self c.index.result.now o.in_nodes) (c.top.ensures.variant.0 (ap is_some c.in_ok-top.was))
+  some_of : (c : In_ok-top g) → lists_of c.pass_last.new.nodes.items c.args.node ≡ c.index.result.now → 0 < length (stream_of c.pass_last.new.nodes.items c.args.node c.args.group).queue
+  some_of c read = subst (λ n. 0 < length (stream_at n c.args.group).queue) (sym read) (c.top.ensures.variant.0 (ap is_some c.in_ok-top.was))
 
-  first_is : (c : In_ok-top g) → IsGroupTop g.R.Rank.KEYS g.R.Rank.key c.args.self.now.tree.now c.args.self.now.entries.entries c.args.self.now.nodes.items c.args.last c.args.node c.args.group c.args.row → c.in_ok-top.top ≡ get_or (stream_at c.pass.new.self c.args.group).queue 0 c.in_ok-top.top
-  first_is c o = c.in_ok-top.ensures.top c.in_ok-top.top ∙ ap (λ n. get_or (stream_at n c.args.group).queue 0 c.in_ok-top.top) (c.index.ensures ∙ get_or-set_same c.args.self.now.nodes.items c.args.node c.pass.new.self c.index.result.now o.in_nodes)
+  first_is : (c : In_ok-top g) → lists_of c.pass_last.new.nodes.items c.args.node ≡ c.index.result.now → c.in_ok-top.top ≡ get_or (stream_of c.pass_last.new.nodes.items c.args.node c.args.group).queue 0 c.in_ok-top.top
+  first_is c read = c.in_ok-top.ensures.top c.in_ok-top.top ∙ ap (λ n. get_or (stream_at n c.args.group).queue 0 c.in_ok-top.top) (sym read)
 
   linked_of : (c : After-set_next g) → IsGroupTop g.R.Rank.KEYS g.R.Rank.key c.args.self.now.tree.now c.args.self.now.entries.entries c.args.self.now.nodes.items c.args.last c.args.node c.args.group c.args.row → IsEntryLinked c.args.self.now.tree.now c.args.self.now.entries.entries c.set_next.new.self.entries c.args.last (record { node = c.args.node; group = c.args.group; solution = c.in_ok-top.top })
   linked_of c o = entry_linked o c.in_ok-top.top c.push_reserved-next.new.self.entries c.set_next.new.self.entries c.push_reserved-next.result c.requires.formed c.requires.last c.requires.node c.requires.group c.requires.none c.push_reserved-next.ensures.id c.push_reserved-next.ensures.entries c.set_next.ensures.entries
@@ -82,19 +79,19 @@ pub returns-in_err-top-clause-formed : goal.returns-in_err-top-clause-formed
 returns-in_err-top-clause-formed g c =
     let at = goal.at.returns-in_err-top-clause-formed g c in
     let o = top_of g at.After-as_slice in
-    let p = passed_of g at.After-pass o in
-    let changed = changed_of g at.After-pass o in
-    let read = read_of g at.After-top o in
-    let empty : (stream_at c.pass.new.self c.args.group).queue ≡ [] = ap (λ n. (stream_at n c.args.group).queue) (sym read) ∙ no_top c.top.result (stream_at c.index.result.now c.args.group).queue c.in_err-top.was c.top.ensures.variant in
-    subst (λ (z : List (NodeLists g.row.R.Denot)). IsStreams g.R.Rank.KEYS g.R.Rank.key c.args.self.now.tree.now c.args.self.now.entries.entries z) (sym changed) (passed_ends p (stream_at c.pass.new.self c.args.group).room empty)
+    let p = passed_of g at.After-pass_last o in
+    let changed = c.pass_last.ensures.changed in
+    let read = read_of g at.After-index o in
+    let empty : (stream_of c.pass_last.new.nodes.items c.args.node c.args.group).queue ≡ [] = ap (λ n. (stream_at n c.args.group).queue) read ∙ no_top c.top.result (stream_at c.index.result.now c.args.group).queue c.in_err-top.was c.top.ensures.variant in
+    subst (λ (z : List (NodeLists g.row.R.Denot)). IsStreams g.R.Rank.KEYS g.R.Rank.key c.args.self.now.tree.now c.args.self.now.entries.entries z) (sym changed) (passed_ends p (stream_of c.pass_last.new.nodes.items c.args.node c.args.group).room empty)
 
 pub returns-in_err-top-clause-answer : goal.returns-in_err-top-clause-answer
 returns-in_err-top-clause-answer g c =
     let at = goal.at.returns-in_err-top-clause-answer g c in
     let o = top_of g at.After-as_slice in
-    let p = passed_of g at.After-pass o in
-    let read = read_of g at.After-top o in
-    let empty : (stream_at c.pass.new.self c.args.group).queue ≡ [] = ap (λ n. (stream_at n c.args.group).queue) (sym read) ∙ no_top c.top.result (stream_at c.index.result.now c.args.group).queue c.in_err-top.was c.top.ensures.variant in
+    let p = passed_of g at.After-pass_last o in
+    let read = read_of g at.After-index o in
+    let empty : (stream_of c.pass_last.new.nodes.items c.args.node c.args.group).queue ≡ [] = ap (λ n. (stream_at n c.args.group).queue) read ∙ no_top c.top.result (stream_at c.index.result.now c.args.group).queue c.in_err-top.was c.top.ensures.variant in
     let link = subst (λ o. IsLinkedAt (node_list c.args.self.now.entries.entries) (group_list_of c.args.self.now.entries.entries) c.args.last o) c.requires.none (c.requires.formed.linked c.args.last (omega (arith, c.requires.last, node_length c.args.self.now.entries.entries))) in
     subst (λ o. IsAnswered g.R.Rank.KEYS g.R.Rank.key c.args.self.now.tree.now c.args.self.now.entries.entries c.args.last o) (sym c.from_residual.ensures)
     (ap (λ z. length (group_list g.R.Rank.KEYS g.R.Rank.key c.args.self.now.tree.now z (group_of c.args.self.now.entries.entries c.args.last))) c.requires.node ∙ ap (λ z. length (group_list g.R.Rank.KEYS g.R.Rank.key c.args.self.now.tree.now c.args.node z)) c.requires.group ∙ sym (p.ends empty).0 ∙ stream_owned c.args.self.now.entries.entries c.args.node c.args.group
@@ -104,15 +101,15 @@ pub returns-in_err-top-clause-cost : goal.returns-in_err-top-clause-cost
 returns-in_err-top-clause-cost g c =
     let at = goal.at.returns-in_err-top-clause-cost g c in
     let o = top_of g at.After-as_slice in
-    let digits = digits_of g at.After-pass o in
+    let digits = digits_of g at.After-pass_last o in
     omega (arith, digits)
 
 pub returns-clause-products : goal.returns-clause-products
 returns-clause-products g c =
     let at = goal.at.returns-clause-products g c in
     let o = top_of g at.After-as_slice in
-    let changed = changed_of g at.After-pass o in
-    ap (λ (z : List (NodeLists g.row.R.Denot)). (lists_of z c.args.node).products) changed ∙ queued_products g.R.Rank.KEYS g.R.Rank.key c.args.self.now.tree.now c.args.self.now.entries.entries c.args.self.now.entries.entries c.args.self.now.nodes.items c.requires.formed (held_itself c.args.self.now.entries.entries) c.args.node c.args.group o.node o.group (stream_at c.pass.new.self c.args.group).queue (stream_at c.pass.new.self c.args.group).room c.args.node
+    let changed = c.pass_last.ensures.changed in
+    ap (λ (z : List (NodeLists g.row.R.Denot)). (lists_of z c.args.node).products) changed ∙ queued_products g.R.Rank.KEYS g.R.Rank.key c.args.self.now.tree.now c.args.self.now.entries.entries c.args.self.now.entries.entries c.args.self.now.nodes.items c.requires.formed (held_itself c.args.self.now.entries.entries) c.args.node c.args.group o.node o.group (stream_of c.pass_last.new.nodes.items c.args.node c.args.group).queue (stream_of c.pass_last.new.nodes.items c.args.node c.args.group).room c.args.node
 
 pub returns-clause-store : goal.returns-clause-store
 returns-clause-store g c =
@@ -139,27 +136,22 @@ pub returns-clause-cost : goal.returns-clause-cost
 returns-clause-cost g c =
     let at = goal.at.returns-clause-cost g c in
     let o = top_of g at.After-as_slice in
-    let digits = digits_of g at.After-pass o in
+    let digits = digits_of g at.After-pass_last o in
     omega (arith, digits, c.push_reserved-next.ensures.cost, c.set_next.ensures.cost)
 
 pub returns-clause-formed : goal.returns-clause-formed
 returns-clause-formed g c =
     let at = goal.at.returns-clause-formed g c in
     let o = top_of g at.After-as_slice in
-    let p = passed_of g at.After-pass o in
-    let changed = changed_of g at.After-pass o in
-    let read = read_of g at.After-top o in
-    let some = some_of g at.In_ok-top o in
-    let first = first_is g at.In_ok-top o in
+    let p = passed_of g at.After-pass_last o in
+    let changed = c.pass_last.ensures.changed in
+    let read = read_of g at.After-index o in
+    let some = some_of g at.In_ok-top read in
+    let first = first_is g at.In_ok-top read in
     let e = linked_of g at.After-set_next o in
     subst (λ (z : List (NodeLists g.row.R.Denot)). IsStreams g.R.Rank.KEYS g.R.Rank.key c.args.self.now.tree.now c.set_next.new.self.entries z) (sym changed)
-    (passed_grows p (stream_at c.pass.new.self c.args.group).room c.set_next.new.self.entries c.in_ok-top.top (entry_held c.args.self.now.entries.entries c.set_next.new.self.entries e.store) e.owners e.linked e.others e.longer some first
-    (subst (λ n. IsLeast g.R.Rank.KEYS g.R.Rank.key c.in_ok-top.top (stream_at n c.args.group).queue) read c.in_ok-top.ensures.least))
-
-pub firsts_below-left-requires-clause-group : goal.firsts_below-left-requires-clause-group
-firsts_below-left-requires-clause-group g c =
-    let at = goal.at.firsts_below-left-requires-clause-group g c in
-    (top_of g at.After-as_slice).group
+    (passed_grows p (stream_of c.pass_last.new.nodes.items c.args.node c.args.group).room c.set_next.new.self.entries c.in_ok-top.top (entry_held c.args.self.now.entries.entries c.set_next.new.self.entries e.store) e.owners e.linked e.others e.longer some first
+    (subst (λ n. IsLeast g.R.Rank.KEYS g.R.Rank.key c.in_ok-top.top (stream_at n c.args.group).queue) (sym read) c.in_ok-top.ensures.least))
 
 pub row_offer-offer-requires-clause-row : goal.row_offer-offer-requires-clause-row
 row_offer-offer-requires-clause-row g c =
@@ -176,40 +168,21 @@ pub top-requires : goal.top-requires
 top-requires g c =
     let at = goal.at.top-requires g c in
     let o = top_of g at.After-as_slice in
-    let read : c.index.result.now ≡ c.pass.new.self = c.index.ensures ∙ get_or-set_same c.args.self.now.nodes.items c.args.node c.pass.new.self c.index.result.now o.in_nodes in
-    let lists = lists_at c.args.self.now.nodes.items c.args.node c.index_mut.result.now c.index_mut.ensures.value o.in_nodes in
-    let same = set_length c.index_mut.result.now.streams c.args.group (record (stream_at c.index_mut.result.now c.args.group) { queue = (stream_at c.pass.new.self c.args.group).queue; room = (stream_at c.pass.new.self c.args.group).room }) in
-    omega (arith, o.group, c.requires.formed.all_streams c.args.node o.node, ap (λ n. length n.streams) lists, ap (λ n. length n.streams) (read ∙ c.pass.ensures.changed), same)
+    let read = read_of g c o in
+    let n = c.args.self.now.nodes.items in
+    let queued = with_queue (lists_of n c.args.node) c.args.group (stream_of c.pass_last.new.nodes.items c.args.node c.args.group).queue (stream_of c.pass_last.new.nodes.items c.args.node c.args.group).room in
+    let streams = ap (λ (z : List (NodeLists g.row.R.Denot)). length (lists_of z c.args.node).streams) c.pass_last.ensures.changed ∙ ap (λ (m : NodeLists g.row.R.Denot). length m.streams) (lists_same n c.args.node queued o.in_nodes)
+    ∙ set_length (lists_of n c.args.node).streams c.args.group (record (stream_of n c.args.node c.args.group) { queue = (stream_of c.pass_last.new.nodes.items c.args.node c.args.group).queue; room = (stream_of c.pass_last.new.nodes.items c.args.node c.args.group).room }) in
+    omega (arith, o.group, c.requires.formed.all_streams c.args.node o.node, streams, ap (λ (m : NodeLists g.row.R.Denot). length m.streams) read)
 
 pub returns-in_err-top-clause-products : goal.returns-in_err-top-clause-products
 returns-in_err-top-clause-products g c =
     let at = goal.at.returns-in_err-top-clause-products g c in
     let o = top_of g at.After-as_slice in
-    let changed = changed_of g at.After-pass o in
-    ap (λ (z : List (NodeLists g.row.R.Denot)). (lists_of z c.args.node).products) changed ∙ queued_products g.R.Rank.KEYS g.R.Rank.key c.args.self.now.tree.now c.args.self.now.entries.entries c.args.self.now.entries.entries c.args.self.now.nodes.items c.requires.formed (held_itself c.args.self.now.entries.entries) c.args.node c.args.group o.node o.group (stream_at c.pass.new.self c.args.group).queue (stream_at c.pass.new.self c.args.group).room c.args.node
+    let changed = c.pass_last.ensures.changed in
+    ap (λ (z : List (NodeLists g.row.R.Denot)). (lists_of z c.args.node).products) changed ∙ queued_products g.R.Rank.KEYS g.R.Rank.key c.args.self.now.tree.now c.args.self.now.entries.entries c.args.self.now.entries.entries c.args.self.now.nodes.items c.requires.formed (held_itself c.args.self.now.entries.entries) c.args.node c.args.group o.node o.group (stream_of c.pass_last.new.nodes.items c.args.node c.args.group).queue (stream_of c.pass_last.new.nodes.items c.args.node c.args.group).room c.args.node
 
-pub pass-requires-clause-group : goal.pass-requires-clause-group
-pass-requires-clause-group g c =
-    let at = goal.at.pass-requires-clause-group g c in
-    let o = top_of g at.After-as_slice in
-    omega (arith, o.group, c.requires.formed.all_streams c.args.node o.node, ap (λ n. length n.streams) (lists_at c.args.self.now.nodes.items c.args.node c.index_mut.result.now c.index_mut.ensures.value o.in_nodes))
-
-pub pass-requires-clause-top : goal.pass-requires-clause-top
-pass-requires-clause-top g c =
-    let at = goal.at.pass-requires-clause-top g c in
-    let o = top_of g at.After-as_slice in
-    subst (λ n. 0 < length (stream_at n c.args.group).queue) (lists_at c.args.self.now.nodes.items c.args.node c.index_mut.result.now c.index_mut.ensures.value o.in_nodes) c.requires.top
-
-pub pass-requires-clause-left_room : goal.pass-requires-clause-left_room
-pass-requires-clause-left_room g c some =
-    let at = goal.at.pass-requires-clause-left_room g c in
-    let o = top_of g at.After-as_slice in
-    let within = below_within g.R.Rank.KEYS g.R.Rank.key c.args.self.now.tree.now c.args.self.now.entries.entries c.args.node c.args.group c.args.place (2 * c.args.member + 1) c.firsts_below-left.result.0 c.firsts_below-left.ensures.left some in
-    omega (arith, within, c.requires.queue_room, ap (λ n. (stream_at n c.args.group).room) (lists_at c.args.self.now.nodes.items c.args.node c.index_mut.result.now c.index_mut.ensures.value o.in_nodes))
-
-pub pass-requires-clause-right_room : goal.pass-requires-clause-right_room
-pass-requires-clause-right_room g c some =
-    let at = goal.at.pass-requires-clause-right_room g c in
-    let o = top_of g at.After-as_slice in
-    let within = below_within g.R.Rank.KEYS g.R.Rank.key c.args.self.now.tree.now c.args.self.now.entries.entries c.args.node c.args.group c.args.place (2 * c.args.member + 2) c.firsts_below-left.result.1 c.firsts_below-left.ensures.right some in
-    omega (arith, within, c.requires.queue_room, ap (λ n. (stream_at n c.args.group).room) (lists_at c.args.self.now.nodes.items c.args.node c.index_mut.result.now c.index_mut.ensures.value o.in_nodes))
+pub pass_last-requires-clause-group : goal.pass_last-requires-clause-group
+pass_last-requires-clause-group g c =
+    let at = goal.at.pass_last-requires-clause-group g c in
+    (top_of g at.After-as_slice).group

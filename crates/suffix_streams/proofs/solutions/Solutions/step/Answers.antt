@@ -176,3 +176,50 @@ returns-clause-cost g c =
     let at = goal.at.returns-clause-cost g c in
     let digits = digits_of g at.After-pass_product in
     omega (arith, digits)
+
+pub index-requires : goal.index-requires
+index-requires g c =
+    omega (arith, c.requires.formed.all_nodes, c.requires.node)
+
+pub known-known-requires : goal.known-known-requires
+known-known-requires g c =
+    let inside : c.args.node < length c.args.self.now.nodes.items = omega (arith, c.requires.formed.all_nodes, c.requires.node) in
+    omega (arith, c.requires.child, ap (λ n. length (get_or n.products c.args.row [])) (lists_at c.args.self.now.nodes.items c.args.node c.index.result.now c.index.ensures inside))
+
+pub offered-down-requires-clause-formed : goal.offered-down-requires-clause-formed
+offered-down-requires-clause-formed g c =
+    c.requires.formed.tree
+
+pub offered-down-requires-clause-node : goal.offered-down-requires-clause-node
+offered-down-requires-clause-node g c =
+    c.requires.node
+
+pub offered-down-requires-clause-row : goal.offered-down-requires-clause-row
+offered-down-requires-clause-row g c =
+    c.requires.row
+
+pub offered-across-requires-clause-formed : goal.offered-across-requires-clause-formed
+offered-across-requires-clause-formed g c =
+    c.requires.formed.tree
+
+pub offered-across-requires-clause-node : goal.offered-across-requires-clause-node
+offered-across-requires-clause-node g c =
+    c.requires.node
+
+pub offered-across-requires-clause-row : goal.offered-across-requires-clause-row
+offered-across-requires-clause-row g c =
+    c.requires.row
+
+pub index_mut-requires : goal.index_mut-requires
+index_mut-requires g c =
+    omega (arith, c.requires.formed.all_nodes, c.requires.node)
+
+pub pass_product-requires-clause-child : goal.pass_product-requires-clause-child
+pass_product-requires-clause-child g c =
+    let inside : c.args.node < length c.args.self.now.nodes.items = omega (arith, c.requires.formed.all_nodes, c.requires.node) in
+    omega (arith, c.requires.child, ap (λ n. length (get_or n.products c.args.row [])) (lists_at c.args.self.now.nodes.items c.args.node c.index_mut.result.now c.index_mut.ensures.value inside))
+
+pub pass_product-requires-clause-top : goal.pass_product-requires-clause-top
+pass_product-requires-clause-top g c =
+    let inside : c.args.node < length c.args.self.now.nodes.items = omega (arith, c.requires.formed.all_nodes, c.requires.node) in
+    subst (λ n. 0 < length (product_at n c.args.row c.args.child).frontier) (lists_at c.args.self.now.nodes.items c.args.node c.index_mut.result.now c.index_mut.ensures.value inside) c.requires.top
