@@ -70,11 +70,11 @@ module _ {R : Type 0} (d : ℕ) (key : R → KeyOf d 16) (t : List (NodeData R))
   pub member_row : (place : ℕ) → place < length (members t s.node s.group) → get_or (members t s.node s.group) place 0 < rows t s.node
   member_row place l = facts.member_is_row d key t h.formed s.node s.group place h.node l
 
-  pub can_swap : (x : ℕ) (new : KeyOf d 16) → x < rows t s.node → new ≡ best t d key s.node x → CanSwap d (key s.total) (key s.best) new
+  pub can_swap : (x : ℕ) (new : KeyOf d 16) → x < rows t s.node → new ≡ best t d key s.node x → CanSwap d key (key s.total) (key s.best) new
   can_swap x new l e =
-      subst (λ z. CanSwap d z (key s.best) new) (sym h.total)
-      (subst (λ z. CanSwap d (least d key t (prefix ++ (s.row ∷ []))) z new) (ap (λ p. best t d key p s.row) long ∙ sym h.best)
-      (subst (λ z. CanSwap d (least d key t (prefix ++ (s.row ∷ []))) (best t d key (length prefix) s.row) z) (ap (λ p. best t d key p x) long ∙ sym e)
+      subst (λ z. CanSwap d key z (key s.best) new) (sym h.total)
+      (subst (λ z. CanSwap d key (least d key t (prefix ++ (s.row ∷ []))) z new) (ap (λ p. best t d key p s.row) long ∙ sym h.best)
+      (subst (λ z. CanSwap d key (least d key t (prefix ++ (s.row ∷ []))) (best t d key (length prefix) s.row) z) (ap (λ p. best t d key p x) long ∙ sym e)
       (facts.can_swap d key t h.formed h.live (length t - suc s.node) prefix s.row x reach (subst (λ p. s.row < rows t p) (sym long) h.row) (subst (λ p. x < rows t p) (sym long) l))))
 
   abbrev pub entry_at : R → ℕ → Entry R Candidate

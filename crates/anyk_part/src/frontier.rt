@@ -96,6 +96,7 @@ impl<R: Rank, A: Allocator + Clone> Frontier<R, A> {
     }
 
     /// Puts a candidate in place of the queue's top, or beside the others if the top is already gone.
+    #[inline(always)]
     fn put<L: Ledger>(
         &mut self,
         rank: R,
@@ -124,6 +125,7 @@ impl<R: Rank, A: Allocator + Clone> Frontier<R, A> {
 
     /// Puts in the candidate at one place of a site. It replaces the region being divided if that is still at the top
     /// of the queue.
+    #[inline(always)]
     fn offer<L: Ledger>(
         &mut self,
         tree: &Tree<R>,
@@ -166,6 +168,8 @@ impl<R: Rank, A: Allocator + Clone> Frontier<R, A> {
     }
 
     /// Chooses the row at one node, and puts in the candidates that deviate from it, if its group reaches that far.
+    // Inlined, as are `put`, `offer` and `advance`: what they hand on is then in registers.
+    #[inline(always)]
     fn choose<L: Ledger>(
         &mut self,
         tree: &Tree<R>,
@@ -217,6 +221,7 @@ impl<R: Rank, A: Allocator + Clone> Frontier<R, A> {
     }
 
     /// Chooses the row at a node that is not the last, and links it to the rows before it.
+    #[inline(always)]
     fn advance<L: Ledger>(
         &mut self,
         tree: &Tree<R>,
