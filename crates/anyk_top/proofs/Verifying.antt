@@ -44,7 +44,7 @@ use Rattle.verdict.specs.Words.{Words, built, verify, sought_by}
 use Rattle.verdict.proofs.Staging.{found_within, pure_staged}
 use Rattle.anyk_top.specs.Checked.{HasAnswers, IsChecked, IsCheckedFor, IsVerifiedIn, shape_reason, shown_done}
 use Rattle.anyk_top.specs.declared.verify.Checked.{Checked}
-use Rattle.task_answer.specs.Judged.{IsJudgedOn, IsLookedUp}
+use Rattle.task_plan.specs.Judged.{IsJudgedOn, IsLookedUp}
 
 -- ---- the steps, of which nothing is said
 

@@ -3,7 +3,7 @@ use Rattle.std.specs.Prelude.{◌≡◌, ℕ, List, Option, Some, None}
 use Rattle.refusal_lines.specs.Reason as reason
 use Rattle.refusal_lines.specs.Reason.{Reason}
 use Rattle.cmd_words.specs.Commands.{CommandSaid, run_said, session_said, plan_said, prove_said, verify_said, load_said}
-use Rattle.task_answer.specs.Tasks.{words_of}
+use Rattle.task_plan.specs.Tasks.{words_of}
 use Rattle.verdict.specs.Words.{Words, Asked, no_command, built, run, plan, session, load, prove, verify}
 
 -- `clap` accepts the arguments of a session only if a script is among them

@@ -22,7 +22,7 @@ use Rattle.verdict.specs.Staged.{Pure, Shelved}
 use Rattle.verdict.specs.Stages.{Then}
 use Rattle.verdict.specs.Verdict.{IsCertified, IsShaped, IsStructure, IsVerified}
 use Rattle.verdict.specs.Words.{Command}
-use Rattle.task_answer.specs.Judged.{IsJudgedOn}
+use Rattle.task_plan.specs.Judged.{IsJudgedOn}
 use Rattle.anyk_top.specs.declared.verify.Checked.{Checked}
 
 -- a result without its value

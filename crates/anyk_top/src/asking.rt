@@ -12,7 +12,7 @@ use cmd_words::{Command, Words, WordsFault, read_words};
 use input_load::MadeTables;
 use refusal_lines::Refusal;
 use std::alloc::Global;
-use task_answer::Task;
+use task_plan::Task;
 
 /// The command that the arguments ask for. `Usage` if they are not a command, and `NoMemory` if
 /// memory is refused.

@@ -4,6 +4,7 @@ ghost use Rattle.anyk_model.specs.Output.{cut};
 ghost use Rattle.anyk_model.specs.Ranking.{ranking_of};
 ghost use Rattle.anyk_model.specs.Table.{Table};
 ghost use Rattle.join_tree.specs.Rerooting.{IsTree};
+ghost use Rattle.node_build.specs.Nodes.{CapsBelow};
 ghost use Rattle.proof_check.specs.Checked.{item_rows};
 ghost use Rattle.proof_text.specs.Seen.{seen_proof};
 ghost use Rattle.query_bind.specs.Weighed.{Fits};
@@ -92,6 +93,7 @@ fn listed_answers<'a, R: Rank, L: Ledger>(
     requires fits { Fits query.now tables.now }
     requires keys { length query.now.query.order ≤ R.KEYS }
     requires slots { length query.now.query.items ≤ R.ITEMS }
+    requires limit { CapsBelow R.LIMIT query.now tables.now }
     requires tree { HasStoredTree query.now.query join.now }
     requires ordered { IsTree join.now.count join.now.atom join.now.parent }
     requires items { HasItems join.now.count join.now.atom (length query.now.query.items) }

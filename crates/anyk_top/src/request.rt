@@ -1,6 +1,6 @@
 //! The commands.
 use cmd_words::Words;
-use task_answer::Task;
+use task_plan::Task;
 
 /// A command with its arguments.
 #[derive(Drop)]

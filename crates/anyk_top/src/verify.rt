@@ -11,7 +11,7 @@ ghost use Rattle.verdict.specs.Output.{answers_text};
 ghost use Rattle.verdict.specs.Outcome.{IsCaused, IsComplete, IsCut, IsReason};
 ghost use Rattle.verdict.specs.Staged.{shelved};
 ghost use Rattle.verdict.specs.Words.{built, verify};
-ghost use Rattle.task_answer.specs.Tasks.{words_of};
+ghost use Rattle.task_plan.specs.Tasks.{words_of};
 ghost use Rattle.anyk_top.specs.Checked.{HasAnswers, IsChecked, IsVerifiedIn};
 ghost use Rattle.task_answer.specs.Sides.{seen_by};
 
@@ -26,7 +26,7 @@ use refusal_lines::Refusal;
 use std::alloc::Global;
 use std::sync::ledger::Ledger;
 use step_counter::Steps;
-use task_answer::look_up;
+use task_plan::look_up;
 
 /// An accepted input, with the answers that its certificate lists.
 #[derive(Drop)]

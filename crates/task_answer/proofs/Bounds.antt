@@ -1,23 +1,19 @@
 -- The steps of a command, if its input is accepted.
-use Rattle.std.proofs.Common.{◌≡◌, ◌<◌, ◌≤◌, ◌+◌, ◌++◌, ◌*◌, ℕ, Bool, true, false, if◌then◌else◌, List, [], ◌∷◌}
+use Rattle.std.proofs.Common.{◌≡◌, ◌<◌, ◌≤◌, ◌+◌, ◌++◌, ℕ, Bool, true, false, if◌then◌else◌, List, [], ◌∷◌}
 use Rattle.std.proofs.Common.{length, take, Option, Some, None, Result, Ok, refl, sym, subst, arith}
 use Rattle.std.specs.List.{sum_by}
 use Rattle.std.proofs.lemmas.Bool.{false≢true, lt-ltb, ltb-false}
 use Rattle.std.proofs.lemmas.List.{length-map}
 use Rattle.std.proofs.lemmas.List.Sums.{sum_by-cons}
-use Rattle.std.proofs.lemmas.Nat.{mul-le}
 use Rattle.anyk_model.specs.Output.{cut}
-use Rattle.anyk_model.specs.Query.{Query, row_counts}
+use Rattle.anyk_model.specs.Query.{Query}
 use Rattle.anyk_model.specs.Table.{Table}
 use Rattle.outer_io.specs.Files.{Files}
-use Rattle.query_bind.specs.Parts.{sum_of_all}
 use Rattle.query_shape.specs.Shape.{Shape}
-use Rattle.rank_key.specs.Bits.{bit_length}
 use Rattle.refusal_lines.specs.Reason.{Reason}
-use Rattle.step_bounds.specs.Bounded.{IsPrepared, cost_over, total_of}
 use Rattle.verdict.specs.SessionCalls.{session_reach}
 use Rattle.union_list.specs.Tagged.{Tagged, branch_at}
-use Rattle.union_list.specs.Union.{members_in, union_of}
+use Rattle.union_list.specs.Union.{union_of}
 use Rattle.union_list.specs.UnionOutput.{union_output_of}
 use Rattle.query_bind.specs.Weighed.{BoundQuery}
 use Rattle.input_load.specs.Input.{InputData, loaded_of, queries_in}
@@ -31,9 +27,10 @@ use Rattle.verdict.specs.Verdict.{IsStructured, IsVerdict}
 use Rattle.verdict.specs.Words.{Asked, Command, Words, no_command, built, run, plan, session, load, prove, verify}
 use Rattle.verdict.proofs.One.{one_verdict}
 use Rattle.verdict.proofs.Structure.{shapes_had}
-use Rattle.task_answer.specs.Planned.{ArePrepared, IsEarlyFor, IsEarlyWithin, preparation_of}
+use Rattle.task_plan.specs.Planned.{ArePrepared, IsEarlyFor, IsEarlyWithin, preparation_of}
+use Rattle.task_print.proofs.Prepared.{prepared-over, union-prepared}
 use Rattle.task_answer.proofs.Ends.{Accepts}
-use Rattle.task_answer.proofs.Judging.{verdict-structured}
+use Rattle.task_plan.proofs.Judging.{verdict-structured}
 
 -- known files have one verdict
 found-is : (command : Command) (files : Files) (found other : Found) → Accepts command (Some files) found
@@ -85,34 +82,7 @@ prompt-found command None found old new before now accepts h = tt
 prompt-found command (Some files) found old new before now accepts h = λ other verdict.
     subst (λ f. IsPaced command f old new before now) (found-is command files found other accepts verdict) h
 
--- ---- the steps of a preparation, as part of all steps
-
-prepared-cost : (l t b x : ℕ) → t ≤ b → 16 * (l * l * (1 + t)) ≤ 64 * (l * l) * (1 + b + x)
-prepared-cost l t b x h = let more = mul-le (l * l) (1 + t) (l * l) (1 + b + x) (omega arith) (omega (arith, h)) in
-    omega (arith, more)
-
-pub prepared-over : (query : Query) (tables : List Table) (shape : Shape) (before now calls : ℕ)
-    → IsPrepared query tables before now
-    → now ≤ before + cost_over query tables shape calls
-prepared-over query tables shape before now calls h =
-    let l : ℕ = length query.items in
-    let b : ℕ = total_of query tables shape in
-    let more = prepared-cost l (sum_of_all (row_counts query.items tables)) b
-    (calls * (1 + bit_length (b + calls * l))) (omega arith) in
-    omega (arith, h, more)
-
--- that of several queries, as part of the steps of their union
-pub union-prepared : (tables : List Table) (list : List Tagged) (b : ℕ) (queries : List Query) (shapes : List Shape)
-    → HaveShapes tables queries shapes
-    → sum_by (preparation_of tables) queries ≤ union_cost tables list b queries shapes
-union-prepared tables list b [] [] h = omega arith
-union-prepared tables list b [] (shape ∷ shapes) h = absurd h
-union-prepared tables list b (query ∷ queries) [] h = absurd h
-union-prepared tables list b (query ∷ queries) (shape ∷ shapes) h =
-    let sum = sum_by-cons (preparation_of tables) query queries in
-    let own = prepared-over query tables shape 0 (preparation_of tables query) (members_in b list + 1) (omega arith) in
-    let rest = union-prepared tables list (b + 1) queries shapes h.1 in
-    omega (arith, sum, own, rest)
+-- ---- the steps of a preparation
 
 at-most-one : (queries : List Query) (tables : List Table) → length queries ≤ 1
     → sum_by (preparation_of tables) queries ≤ preparation_of tables (branch_at queries 0)

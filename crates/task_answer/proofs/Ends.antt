@@ -19,7 +19,7 @@ use Rattle.verdict.specs.Staged.{Fits, Pure, Shelved, Staged, first_turn, second
 use Rattle.verdict.specs.Stages.{unless}
 use Rattle.verdict.specs.Verdict.{IsVerdict}
 use Rattle.verdict.specs.Words.{Asked, Command, Sought, built, run, plan, session, load, prove, verify, sought_by}
-use Rattle.task_answer.specs.Judged.{IsJudged}
+use Rattle.task_plan.specs.Judged.{IsJudged}
 use Rattle.refusal_lines.specs.Printed.{GotBeginning, IsBroken, IsPrintCause}
 
 -- ---- how reading and planning the input end

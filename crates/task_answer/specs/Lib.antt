@@ -1,5 +1,1 @@
-pub mod Tasks
 pub mod Sides
-pub mod Judged
-pub mod Planned
-pub mod Begun

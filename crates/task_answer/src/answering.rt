@@ -15,20 +15,13 @@ ghost use Rattle.verdict.specs.Made.{known_to};
 ghost use Rattle.verdict.specs.Outcome.{IsReason, IsCaused, IsComplete, IsCut};
 ghost use Rattle.verdict.specs.Output.{HasOutput};
 ghost use Rattle.verdict.specs.Words.{built};
-ghost use Rattle.task_answer.specs.Judged.{HasOne, IsUnnamed};
-ghost use Rattle.task_answer.specs.Planned.{ArePlans, ArePrepared, HavePlans, IsOnePlan, IsOnePlanOf, found_by};
-ghost use Rattle.task_answer.specs.Planned.{found_in, shape_in, shapes_of};
-ghost use Rattle.task_answer.specs.Tasks.{command_of};
+ghost use Rattle.task_plan.specs.Judged.{HasOne, IsUnnamed};
+ghost use Rattle.task_plan.specs.Planned.{ArePlans, ArePrepared, HavePlans, IsOnePlan, IsOnePlanOf, found_by};
+ghost use Rattle.task_plan.specs.Planned.{found_in, shape_in, shapes_of};
+ghost use Rattle.task_plan.specs.Tasks.{command_of};
 ghost use Rattle.task_answer.specs.Sides.{seen_by};
 
-use crate::load::print_load;
-use crate::plan::print_report;
-use crate::planning::{Planned, Plans, plan_task};
 use crate::prove::print_certificate;
-use crate::run::print_run;
-use crate::session::print_script;
-use crate::task::Task;
-use crate::union::print_union_run;
 use csv_tables::Tables;
 use hash_keys::Keys;
 use input_load::Input;
@@ -41,6 +34,8 @@ use session_script::Step;
 use std::alloc::Global;
 use std::sync::ledger::Ledger;
 use step_counter::Steps;
+use task_plan::{Planned, Plans, Task, plan_task};
+use task_print::{print_load, print_report, print_run, print_script, print_union_run};
 
 /// Reads or makes the input of the command, plans its query, and prints the command's output. The
 /// result is an error if the input is refused, if a read or a write failed, or if memory is refused.
@@ -131,7 +126,7 @@ fn print_one<'a, S: Sink, L: Ledger>(
         (S.written out.old) (S.written out.new) before steps.new }
 {
     match plan {
-        RankedPlan::SmallSum(plan) => print_plan(alloc, task, plan, input, out, steps),
+        RankedPlan::Packed(plan) => print_plan(alloc, task, plan, input, out, steps),
         RankedPlan::MiddleSum(plan) => print_plan(alloc, task, plan, input, out, steps),
         RankedPlan::Sum(plan) => print_plan(alloc, task, plan, input, out, steps),
         RankedPlan::SmallLex(plan) => print_plan(alloc, task, plan, input, out, steps),

@@ -7,7 +7,6 @@ ghost use Rattle.query_bind.specs.Weighed.{Fits};
 ghost use Rattle.refusal_lines.specs.Printed.{PrintedSome};
 ghost use Rattle.refusal_lines.specs.SinkState.{state_of};
 
-use crate::engine::engine_over;
 use bumpalo::Bump;
 use cmd_words::Engine;
 use command_prove::print_proof;
@@ -19,6 +18,7 @@ use refusal_lines::Refusal;
 use std::alloc::Global;
 use std::sync::ledger::Ledger;
 use step_counter::Steps;
+use task_print::engine_over;
 
 /// Prints the text of a certificate of the query's first answers, as many as the limit allows.
 /// `NoMemory` if memory is refused, before anything is written, and `WriteFault` if the write failed.

@@ -1,6 +1,6 @@
 use Rattle.std.specs.String.{string_bytes}
 use Rattle.cmd_words.specs.Said.{seen_words}
-use Rattle.task_answer.specs.Tasks.{words_of}
+use Rattle.task_plan.specs.Tasks.{words_of}
 use Rattle.anyk_top.proofs.Verifying.{verify-bounded, verify-prompt}
 use Rattle.anyk_top.proofs.answering.answer.Goals as goal
 

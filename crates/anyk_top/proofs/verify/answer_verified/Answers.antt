@@ -11,7 +11,7 @@ use Rattle.verdict.specs.Outcome.{Outside}
 use Rattle.verdict.specs.Output.{HasOutput}
 use Rattle.verdict.specs.Staged.{Shelved, shelved}
 use Rattle.verdict.specs.Words.{Command, verify}
-use Rattle.task_answer.specs.Tasks.{words_of}
+use Rattle.task_plan.specs.Tasks.{words_of}
 use Rattle.task_answer.specs.Sides.{seen_by}
 use Rattle.task_answer.proofs.Ends.{judged-accepts, judged-reason, judged-caused, judged-cut, printed-caused, printed-complete, printed-cut, printed-fits}
 use Rattle.anyk_top.proofs.verify.answer_verified.Goals as goal

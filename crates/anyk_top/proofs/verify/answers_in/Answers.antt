@@ -1,8 +1,8 @@
 use Rattle.std.proofs.Common.{◌≡◌, ◌∙◌, ap, length, subst}
 use Rattle.input_load.specs.Input.{InputData, loaded_of}
 use Rattle.anyk_top.specs.Checked.{IsVerifiedIn}
-use Rattle.task_answer.proofs.Inputs.{input_shown}
-use Rattle.task_answer.proofs.PlanList.{only-one}
+use Rattle.task_plan.proofs.Inputs.{input_shown}
+use Rattle.task_plan.proofs.PlanList.{only-one}
 use Rattle.anyk_top.proofs.Verifying.{verified-in}
 use Rattle.anyk_top.proofs.verify.answers_in.Goals as goal
 

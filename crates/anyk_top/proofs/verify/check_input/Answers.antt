@@ -2,8 +2,8 @@ use Rattle.cmd_words.specs.Said.{seen_words}
 use Rattle.refusal_lines.specs.Refused.{reason_of}
 use Rattle.verdict.specs.Staged.{Shelved, shelved}
 use Rattle.verdict.specs.Words.{verify}
-use Rattle.task_answer.specs.Tasks.{words_of}
-use Rattle.task_answer.proofs.Judging.{looked-refused}
+use Rattle.task_plan.specs.Tasks.{words_of}
+use Rattle.task_plan.proofs.Judging.{looked-refused}
 use Rattle.anyk_top.proofs.Verifying.{looked-checked}
 use Rattle.anyk_top.proofs.verify.check_input.Goals as goal
 

@@ -10,9 +10,9 @@ use Rattle.refusal_lines.specs.Printed.{Printed}
 use Rattle.refusal_lines.specs.SinkState.{state_of}
 use Rattle.verdict.specs.Found.{found_of}
 use Rattle.verdict.specs.Output.{answers_text, style_of}
-use Rattle.task_answer.specs.Tasks.{words_of}
+use Rattle.task_plan.specs.Tasks.{words_of}
 use Rattle.anyk_top.specs.Checked.{HasAnswers}
-use Rattle.task_answer.proofs.Inputs.{input_shown}
+use Rattle.task_plan.proofs.Inputs.{input_shown}
 use Rattle.anyk_top.proofs.Verifying.{answers-combine, answers-shown}
 use Rattle.anyk_top.proofs.verify.print_checked.Goals as goal
 

@@ -6,8 +6,8 @@ use Rattle.verdict.specs.Outcome.{Outside}
 use Rattle.verdict.specs.Words.{built}
 use Rattle.verdict.specs.Staged.{Shelved, shelved}
 use Rattle.refusal_lines.proofs.Prints.{appends-nothing}
-use Rattle.task_answer.specs.Planned.{found_in}
-use Rattle.task_answer.specs.Tasks.{command_of}
+use Rattle.task_plan.specs.Planned.{found_in}
+use Rattle.task_plan.specs.Tasks.{command_of}
 use Rattle.task_answer.specs.Sides.{seen_by}
 use Rattle.task_answer.proofs.Bounds.{bounded-early, bounded-found, prompt-early, prompt-found}
 use Rattle.task_answer.proofs.Ends.{judged-accepts, judged-reason, judged-caused, judged-cut, printed-caused, printed-complete, printed-cut, printed-fits}

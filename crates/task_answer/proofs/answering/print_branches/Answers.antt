@@ -8,11 +8,11 @@ use Rattle.verdict.specs.Bound.{IsPaced, IsWithin}
 use Rattle.verdict.specs.Found.{found_of}
 use Rattle.verdict.specs.Output.{HasOutput}
 use Rattle.verdict.specs.Words.{run}
-use Rattle.task_answer.specs.Tasks.{words_of}
-use Rattle.task_answer.specs.Planned.{ArePrepared, HavePlans, shapes_of}
-use Rattle.task_answer.proofs.Inputs.{input_shown}
+use Rattle.task_plan.specs.Tasks.{words_of}
+use Rattle.task_plan.specs.Planned.{ArePrepared, HavePlans, shapes_of}
+use Rattle.task_plan.proofs.Inputs.{input_shown}
 use Rattle.task_answer.proofs.Bounds.{several-output, several-paced, several-within}
-use Rattle.task_answer.proofs.PlanList.{plans-shaped}
+use Rattle.task_plan.proofs.PlanList.{plans-shaped}
 use Rattle.task_answer.proofs.answering.print_branches.Goals as goal
 
 pub returns-in-Run-clause-printed : goal.returns-in-Run-clause-printed

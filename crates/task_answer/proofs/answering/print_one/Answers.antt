@@ -1,7 +1,7 @@
 use Rattle.task_answer.proofs.answering.print_one.Goals as goal
 
-pub returns-in-SmallSum-clause-printed : goal.returns-in-SmallSum-clause-printed
-returns-in-SmallSum-clause-printed g c = rw c.in-SmallSum.is c.print_plan.ensures.printed
+pub returns-in-Packed-clause-printed : goal.returns-in-Packed-clause-printed
+returns-in-Packed-clause-printed g c = rw c.in-Packed.is c.print_plan.ensures.printed
 
 pub returns-in-MiddleSum-clause-printed : goal.returns-in-MiddleSum-clause-printed
 returns-in-MiddleSum-clause-printed g c = rw c.in-MiddleSum.is c.print_plan-in-MiddleSum.ensures.printed
@@ -15,8 +15,8 @@ returns-in-SmallLex-clause-printed g c = rw c.in-SmallLex.is c.print_plan-in-Sma
 pub returns-in-Lex-clause-printed : goal.returns-in-Lex-clause-printed
 returns-in-Lex-clause-printed g c = rw c.in-Lex.is c.print_plan-in-Lex.ensures.printed
 
-pub returns-in-SmallSum-clause-bounded : goal.returns-in-SmallSum-clause-bounded
-returns-in-SmallSum-clause-bounded g c = rw c.in-SmallSum.is c.print_plan.ensures.bounded
+pub returns-in-Packed-clause-bounded : goal.returns-in-Packed-clause-bounded
+returns-in-Packed-clause-bounded g c = rw c.in-Packed.is c.print_plan.ensures.bounded
 
 pub returns-in-MiddleSum-clause-bounded : goal.returns-in-MiddleSum-clause-bounded
 returns-in-MiddleSum-clause-bounded g c = rw c.in-MiddleSum.is c.print_plan-in-MiddleSum.ensures.bounded
@@ -30,8 +30,8 @@ returns-in-SmallLex-clause-bounded g c = rw c.in-SmallLex.is c.print_plan-in-Sma
 pub returns-in-Lex-clause-bounded : goal.returns-in-Lex-clause-bounded
 returns-in-Lex-clause-bounded g c = rw c.in-Lex.is c.print_plan-in-Lex.ensures.bounded
 
-pub returns-in-SmallSum-clause-paced : goal.returns-in-SmallSum-clause-paced
-returns-in-SmallSum-clause-paced g c = rw c.in-SmallSum.is c.print_plan.ensures.paced
+pub returns-in-Packed-clause-paced : goal.returns-in-Packed-clause-paced
+returns-in-Packed-clause-paced g c = rw c.in-Packed.is c.print_plan.ensures.paced
 
 pub returns-in-MiddleSum-clause-paced : goal.returns-in-MiddleSum-clause-paced
 returns-in-MiddleSum-clause-paced g c = rw c.in-MiddleSum.is c.print_plan-in-MiddleSum.ensures.paced

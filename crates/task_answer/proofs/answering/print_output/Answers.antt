@@ -1,11 +1,11 @@
 use Rattle.std.proofs.Common.{◌≡◌, ℕ, None, Option, arith, refl, subst}
 use Rattle.plan_build.specs.Plan.{IsPlanOf, shape_of}
 use Rattle.refusal_lines.proofs.Prints.{printed-some}
-use Rattle.task_answer.specs.Judged.{IsUnnamed}
-use Rattle.task_answer.specs.Tasks.{command_of}
-use Rattle.task_answer.specs.declared.task.Task.{Task}
+use Rattle.task_plan.specs.Judged.{IsUnnamed}
+use Rattle.task_plan.specs.Tasks.{command_of}
+use Rattle.task_plan.specs.declared.task.Task.{Task}
 use Rattle.plan_build.proofs.ShapeIs.{plan-shape}
-use Rattle.task_answer.proofs.Bounds.{prepared-over}
+use Rattle.task_print.proofs.Prepared.{prepared-over}
 use Rattle.plan_build.proofs.Rooted.{whole-of}
 use Rattle.task_answer.proofs.answering.print_output.Goals as goal
 

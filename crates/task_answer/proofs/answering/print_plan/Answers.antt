@@ -6,12 +6,12 @@ use Rattle.refusal_lines.specs.SinkState.{state_of}
 use Rattle.verdict.specs.Bound.{IsPaced, IsWithin}
 use Rattle.verdict.specs.Found.{Found, found_of}
 use Rattle.verdict.specs.Output.{HasOutput}
-use Rattle.task_answer.specs.Judged.{IsUnnamed}
-use Rattle.task_answer.specs.Planned.{ArePrepared, IsOnePlanOf}
-use Rattle.task_answer.specs.Tasks.{command_of}
-use Rattle.task_answer.proofs.Inputs.{input_shown}
-use Rattle.task_answer.proofs.Judging.{unnamed-of}
-use Rattle.task_answer.proofs.PlanList.{first-only, first-planned, one-cost, one-printed}
+use Rattle.task_plan.specs.Judged.{IsUnnamed}
+use Rattle.task_plan.specs.Planned.{ArePrepared, IsOnePlanOf}
+use Rattle.task_plan.specs.Tasks.{command_of}
+use Rattle.task_plan.proofs.Inputs.{input_shown}
+use Rattle.task_plan.proofs.Judging.{unnamed-of}
+use Rattle.task_plan.proofs.PlanList.{first-only, first-planned, one-cost, one-printed}
 use Rattle.task_answer.proofs.answering.print_plan.Goals as goal
 
 pub print_output-requires-clause-plan : goal.print_output-requires-clause-plan

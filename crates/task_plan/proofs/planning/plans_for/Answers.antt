@@ -1,0 +1,61 @@
+use Rattle.std.proofs.Common.{◌≡◌, ◌<◌, ◌+◌, true, Err, Some, length, subst, sym, arith}
+use Rattle.input_load.specs.Input.{queries_in}
+use Rattle.refusal_lines.specs.Reason.{Reason}
+use Rattle.verdict.specs.Staged.{Pure}
+use Rattle.verdict.specs.Verdict.{AreStructures}
+use Rattle.verdict.proofs.Structure.{structures_found}
+use Rattle.task_plan.specs.Planned.{plan_reason, shapes_of}
+use Rattle.task_plan.proofs.PlanList.{all-planned, next-flawed, planned-more, plans-shaped, some-prepared}
+use Rattle.task_plan.proofs.planning.plans_for.Goals as goal
+
+pub returns-in_err-push-in-Ok-clause-cost : goal.returns-in_err-push-in-Ok-clause-cost
+returns-in_err-push-in-Ok-clause-cost g c =
+    let at = c.loop-query in
+    let inside : at.query-index < length c.args.queries.now = omega arith in
+    some-prepared g.R.Rank.KEYS g.R.Rank.key c.args.tables.now c.args.queries.now at.query-index at.plans.items
+    c.args.steps.now at.steps c.prepare.new.steps
+    c.query-item.result at.invariant inside c.query-item.is c.in-Ok.ensures.cost
+
+pub returns-in-Err-clause-shaped : goal.returns-in-Err-clause-shaped
+returns-in-Err-clause-shaped g c =
+    let at = c.loop-query in
+    let inside : at.query-index < length c.args.queries.now = omega arith in
+    let place = c.len.result + 1 in
+    let was = at.invariant in
+    let here : place ≡ at.query-index + 1 = omega (arith, c.len.ensures, was.count) in
+    let P : Reason → Type 0 = λ a. Pure (AreStructures true 1 c.args.tables.now (queries_in c.args.queries.now))
+    (Err a) in
+    let flawed : P (plan_reason (Some place) c.in-Err.fault) =
+    next-flawed g.R.Rank.KEYS g.R.Rank.key c.args.tables.now c.args.queries.now at.query-index at.plans.items
+    c.args.steps.now at.steps place
+    c.query-item.result c.in-Err.fault at.invariant inside c.query-item.is here c.in-Err.ensures.refusal in
+    subst P (sym c.plan_refusal.ensures) flawed
+
+pub returns-in-Err-clause-cost : goal.returns-in-Err-clause-cost
+returns-in-Err-clause-cost g c =
+    let at = c.loop-query in
+    let inside : at.query-index < length c.args.queries.now = omega arith in
+    some-prepared g.R.Rank.KEYS g.R.Rank.key c.args.tables.now c.args.queries.now at.query-index at.plans.items
+    c.args.steps.now at.steps c.prepare.new.steps
+    c.query-item.result at.invariant inside c.query-item.is c.in-Err.ensures.cost
+
+pub loop-query-preserved : goal.loop-query-preserved
+loop-query-preserved g c =
+    let at = c.loop-query in
+    let inside : at.query-index < length c.args.queries.now = omega arith in
+    rw c.in_ok-push-in-Ok.ensures.items
+    (planned-more g.R.Rank.KEYS g.R.Rank.key c.args.tables.now c.args.queries.now at.query-index at.plans.items
+    c.args.steps.now at.steps c.prepare.new.steps
+    c.query-item.result c.in-Ok.plan at.invariant inside c.query-item.is c.in-Ok.ensures.plan c.in-Ok.ensures.cost)
+
+pub returns-clause-shaped : goal.returns-clause-shaped
+returns-clause-shaped g c =
+    let at = c.loop-query in
+    let d = g.R.Rank.KEYS in
+    let key = g.R.Rank.key in
+    let tables = c.args.tables.now in
+    let queries = c.args.queries.now in
+    let all = all-planned d key tables queries at.query-index at.plans.items c.args.steps.now at.steps at.invariant
+    (omega arith) in
+    structures_found true 1 tables (queries_in queries) (shapes_of at.plans.items)
+    (plans-shaped d key tables queries at.plans.items all)

@@ -1,0 +1,154 @@
+-- The plans of an accepted input, as the verdict sees them.
+use Rattle.std.specs.Prelude.{◌≡◌, ◌<◌, ◌≤◌, ◌+◌, ◌*◌, ℕ, List, [], ◌∷◌, length, map}
+use Rattle.std.specs.Prelude.{Option, None, IfSome, Result, Ok, Err, Vec}
+use Rattle.std.specs.Global.{Global}
+use Rattle.std.specs.List.{AllZip, sum_by}
+use Rattle.anyk_model.specs.Query.{Query, row_counts}
+use Rattle.anyk_model.specs.Table.{Table}
+use Rattle.hyper_graph.specs.Items.{items_of}
+use Rattle.outer_io.specs.Files.{Files}
+use Rattle.plan_build.specs.Plan.{IsPlanOf, PlanData, shape_of}
+use Rattle.plan_build.specs.RankedPlan.{fixed_key, key_of_packed}
+use Rattle.plan_build.specs.declared.fault.PlanFault.{PlanFault}
+use Rattle.plan_build.specs.declared.fault.PlanFault.TheVariants as fault
+use Rattle.plan_build.specs.declared.ranked_plan.RankedPlan.{RankedPlan}
+use Rattle.plan_build.specs.declared.ranked_plan.RankedPlan.TheVariants.{Lex, MiddleSum, Packed, SmallLex, Sum}
+use Rattle.query_bind.specs.Parts.{sum_of_all}
+use Rattle.query_bind.specs.Weighed.{BoundQuery}
+use Rattle.query_shape.specs.Shape.{Shape}
+use Rattle.proof_text.specs.Certificate.{Certificate}
+use Rattle.session_script.specs.declared.step.Step.{Step}
+use Rattle.tdp_model.specs.KeyTuple.{KeyOf}
+use Rattle.refusal_lines.specs.declared.refusal.Refusal.{Refusal}
+use Rattle.refusal_lines.specs.Reason as reason
+use Rattle.refusal_lines.specs.Reason.{Reason}
+use Rattle.refusal_lines.specs.Refused.{reason_of}
+use Rattle.step_bounds.specs.Bounded.{IsPrepared}
+use Rattle.input_load.specs.Input.{InputData, loaded_of}
+use Rattle.verdict.specs.Found.{Found, found_of, query_of}
+use Rattle.verdict.specs.Loading.{Loaded}
+use Rattle.verdict.specs.Verdict.{IsVerdict}
+use Rattle.verdict.specs.Words.{Command, built, run, plan, session, load, prove, verify}
+use Rattle.task_plan.specs.declared.planning.Planned.{Planned}
+use Rattle.task_plan.specs.declared.planning.Plans.{Plans}
+use Rattle.task_plan.specs.declared.planning.Plans.TheVariants.{One, Sums, Lexes}
+
+-- ---- the structures that plans show
+
+-- the join tree of a plan, with the numbers of its node rows
+abbrev pub shape_in : RankedPlan → Shape
+shape_in (Packed made) = shape_of made
+shape_in (MiddleSum made) = shape_of made
+shape_in (Sum made) = shape_of made
+shape_in (SmallLex made) = shape_of made
+shape_in (Lex made) = shape_of made
+
+-- that of each plan
+abbrev pub shapes_of : {R : Type 0} → List (PlanData R) → List Shape
+shapes_of plans = map shape_of plans
+
+abbrev pub shapes_in : Plans → List Shape
+shapes_in (One made) = shape_in made ∷ []
+shapes_in (Sums plans) = shapes_of plans.items
+shapes_in (Lexes plans) = shapes_of plans.items
+
+abbrev pub shown_shape : Result RankedPlan Refusal → Result Shape Reason
+shown_shape (Ok made) = Ok (shape_in made)
+shown_shape (Err refusal) = Err (reason_of refusal)
+
+abbrev pub shown_shapes : {R : Type 0} → Result (Vec (PlanData R) Global) Refusal
+    → Result (List Shape) Reason
+shown_shapes (Ok plans) = Ok (shapes_of plans.items)
+shown_shapes (Err refusal) = Err (reason_of refusal)
+
+abbrev pub shown_plans : Loaded → Result Plans Refusal → Result Found Reason
+shown_plans loaded (Ok plans) = Ok (found_of loaded (shapes_in plans))
+shown_plans loaded (Err refusal) = Err (reason_of refusal)
+
+-- what is known of a query, its tables, the item whose rows are asked for, a script and a certificate,
+-- with the structure of the query
+abbrev pub found_by : BoundQuery → List Table → Option ℕ → List Step → Certificate → Shape → Found
+found_by query tables best steps proof shape = record {
+  queries = query.query ∷ [];
+  tables = tables;
+  shapes = shape ∷ [];
+  best = best;
+  steps = steps;
+  proof = proof;
+}
+
+abbrev pub found_in : Planned → Found
+found_in planned = found_of (loaded_of planned.input) (shapes_in planned.plans)
+
+abbrev pub shown_planned : Result Planned Refusal → Result Found Reason
+shown_planned (Ok planned) = Ok (found_in planned)
+shown_planned (Err refusal) = Err (reason_of refusal)
+
+-- the branch is told if there are several
+abbrev pub plan_reason : Option ℕ → PlanFault → Reason
+plan_reason branch (fault.Cyclic core) = reason.Cyclic branch (items_of core)
+plan_reason branch (fault.TooManyRows most) = reason.TooManyNodeRows
+plan_reason branch fault.NoMemory = reason.NoMemory
+
+-- ---- the plans of the queries
+
+-- the plan of each query in order
+abbrev pub HavePlans : {R : Type 0} (d : ℕ) → (R → KeyOf d 16) → List Table → List BoundQuery
+    → List (PlanData R)
+    → Type 0
+HavePlans d key tables queries plans =
+    AllZip (λ query made. IsPlanOf d key query tables None made) queries plans
+
+-- the plan of the one query
+pub record IsOnePlanOf {R : Type 0} (d : ℕ) (key : R → KeyOf d 16) (queries : List BoundQuery)
+    (tables : List Table) (best : Option ℕ) (made : PlanData R)
+    : Type 0 where
+  pub query : BoundQuery
+  pub only : queries ≡ query ∷ []
+  pub is_plan : IsPlanOf d key query tables best made
+
+-- the same with the ranks that its order needs
+abbrev pub IsOnePlan : List BoundQuery → List Table → Option ℕ → RankedPlan → Type 0
+IsOnePlan queries tables best (Packed made) = IsOnePlanOf 1 key_of_packed queries tables best made
+IsOnePlan queries tables best (MiddleSum made) = IsOnePlanOf 1 (fixed_key 1 8) queries tables best made
+IsOnePlan queries tables best (Sum made) = IsOnePlanOf 1 (fixed_key 1 16) queries tables best made
+IsOnePlan queries tables best (SmallLex made) = IsOnePlanOf 2 (fixed_key 2 4) queries tables best made
+IsOnePlan queries tables best (Lex made) = IsOnePlanOf 8 (fixed_key 8 16) queries tables best made
+
+-- the plans of the queries of an input: of one query with the item that is named, and of several by
+-- one rank type
+abbrev pub ArePlans : InputData → Plans → Type 0
+ArePlans input (One made) = IsOnePlan input.queries input.tables input.best made
+ArePlans input (Sums plans) =
+    (1 < length input.queries) × HavePlans 1 (fixed_key 1 16) input.tables input.queries plans.items
+ArePlans input (Lexes plans) =
+    (1 < length input.queries) × HavePlans 8 (fixed_key 8 16) input.tables input.queries plans.items
+
+-- ---- the steps of the preparation
+
+-- the most steps that the preparation of a query's plan may take
+abbrev pub preparation_of : List Table → Query → ℕ
+preparation_of tables query =
+    16 * (length query.items * length query.items
+    * (1 + sum_of_all (row_counts query.items tables)))
+
+-- no more steps than the preparation of the plans of all queries may take
+abbrev pub ArePrepared : List Query → List Table → ℕ → ℕ → Type 0
+ArePrepared queries tables before now = now ≤ before + sum_by (preparation_of tables) queries
+
+-- the same of what is found: `run` may have several queries, and each other command has one. Nothing is said
+-- of the steps of `prove` and `verify`.
+abbrev pub IsEarlyFor : Command → Found → ℕ → ℕ → Type 0
+IsEarlyFor (run words) found before now = ArePrepared found.queries found.tables before now
+IsEarlyFor (plan words) found before now = IsPrepared (query_of found) found.tables before now
+IsEarlyFor (session script words) found before now = IsPrepared
+    (query_of found) found.tables before now
+IsEarlyFor (prove words) found before now = Unit {0}
+IsEarlyFor (verify proof words) found before now = Unit {0}
+IsEarlyFor (load number rows) found before now = IsPrepared (query_of found) found.tables before now
+
+-- if the files are known and the input is accepted, preparation took no more steps than it may take
+abbrev pub IsEarlyWithin : Command → Option Files → ℕ → ℕ → Type 0
+IsEarlyWithin command told before now =
+    IfSome told (λ files. (found : Found) → IsVerdict (built command) files (Ok found)
+    → IsEarlyFor command found before now)

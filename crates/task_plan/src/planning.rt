@@ -1,0 +1,167 @@
+//! The input of a command, with the plans of its queries.
+ghost use Rattle.std.specs.Prelude.{◌≡◌, ◌<◌, ◌≤◌, None, true, IfErr, IfOk, IfSome, length};
+ghost use Rattle.std.specs.List.{All};
+ghost use Rattle.input_load.specs.Input.{loaded_of, queries_in};
+ghost use Rattle.node_build.specs.Nodes.{CapsBelow};
+ghost use Rattle.plan_build.specs.RankedPlan.{IsRankedPlan};
+ghost use Rattle.query_bind.specs.Weighed.{Fits};
+ghost use Rattle.refusal_lines.specs.Refused.{reason_of};
+ghost use Rattle.step_bounds.specs.Bounded.{IsPrepared};
+ghost use Rattle.verdict.specs.Made.{known_to};
+ghost use Rattle.verdict.specs.Staged.{Pure, shelved};
+ghost use Rattle.verdict.specs.Verdict.{AreStructures, IsShaped, IsStructure};
+ghost use Rattle.verdict.specs.Words.{built};
+ghost use Rattle.task_plan.specs.Judged.{HasOne, IsJudged};
+ghost use Rattle.task_plan.specs.Planned.{ArePlans, ArePrepared, HavePlans, IsEarlyWithin, plan_reason};
+ghost use Rattle.task_plan.specs.Planned.{shown_plans, shown_planned, shown_shape, shown_shapes};
+ghost use Rattle.task_plan.specs.Tasks.{command_of};
+
+use crate::looking::look_at;
+use crate::task::Task;
+use csv_tables::Tables;
+use hash_keys::Keys;
+use input_load::Input;
+use outer_io::Shelf;
+use plan_build::{Plan, PlanFault, RankedPlan, prepare, prepare_ranked};
+use query_bind::Query;
+use rank_key::{LexRank, Rank, SumRank};
+use refusal_lines::Refusal;
+use std::alloc::Global;
+use std::sync::ledger::Ledger;
+use step_counter::Steps;
+
+/// An accepted input, with the plans of its queries.
+#[derive(Drop)]
+pub struct Planned {
+    pub input: Input,
+    pub plans: Plans,
+}
+
+/// The plans of an input's queries, with the ranks that their order needs.
+#[derive(Drop)]
+pub enum Plans {
+    /// The plan of the one query.
+    One(RankedPlan),
+    /// The plans of several queries in order, with ranks of one sum.
+    Sums(Vec<Plan<SumRank>>),
+    /// The plans of several queries in order, with ranks of eight sums.
+    Lexes(Vec<Plan<LexRank>>),
+}
+
+/// The input of the command with the plans of its queries, or the first refusal. `Cyclic` if a
+/// query has no join tree, and `TooManyNodeRows` if more of its rows pass than the limit, in all
+/// nodes together.
+pub fn plan_task<'a, F: Shelf, L: Ledger>(
+    alloc: Global,
+    task: &'a Task,
+    shelf: &mut F,
+    keys: Keys,
+    steps: &mut Steps<L>,
+) -> Result<Planned, Refusal<'a>>
+    ensures judged { IsJudged (command_of task.now)
+        (shelved F.Shelf shelf.old) (shelved F.Shelf shelf.new)
+        (shown_planned result) }
+    ensures plans { IfOk result (λ p. ArePlans p.input p.plans) }
+    ensures alone { IfOk result (λ p. HasOne (command_of task.now) p.input) }
+    ensures cost { IfOk result (λ p.
+        ArePrepared (queries_in p.input.queries) p.input.tables steps.old steps.new) }
+    ensures early { IfErr result (λ refusal. IsEarlyWithin (command_of task.now)
+        (known_to (built (command_of task.now)) (F.files shelf.old)) steps.old steps.new) }
+{
+    let input = look_at(alloc, task, shelf, keys)?;
+    let plans = plans_of(alloc, &input, steps)?;
+    Ok(Planned { input, plans })
+}
+
+// The plans of the input's queries, or the first refusal in their order.
+fn plans_of<'a, L: Ledger>(
+    alloc: Global,
+    input: &Input,
+    steps: &mut Steps<L>,
+) -> Result<Plans, Refusal<'a>>
+    ensures shaped { Pure (IsShaped (loaded_of input.now))
+        (shown_plans (loaded_of input.now) result) }
+    ensures plans { IfOk result (ArePlans input.now) }
+    ensures cost { ArePrepared (queries_in input.now.queries) input.now.tables steps.old steps.new }
+{
+    let queries = input.queries.as_slice();
+    let tables = &input.tables;
+    let first = &queries[0];
+    if queries.len() == 1 {
+        let plan = plan_of(alloc, first, tables, input.best, steps)?;
+        return Ok(Plans::One(plan));
+    }
+    if first.keys() <= 1 {
+        let plans = plans_for::<SumRank, L>(alloc, queries, tables, steps)?;
+        Ok(Plans::Sums(plans))
+    } else {
+        let plans = plans_for::<LexRank, L>(alloc, queries, tables, steps)?;
+        Ok(Plans::Lexes(plans))
+    }
+}
+
+// The plan of the one query of an input. `Cyclic` if it has no join tree, and `TooManyNodeRows` if
+// its nodes have too many rows.
+fn plan_of<'a, L: Ledger>(
+    alloc: Global,
+    query: &Query,
+    tables: &Tables,
+    best: Option<u32>,
+    steps: &mut Steps<L>,
+) -> Result<RankedPlan, Refusal<'a>>
+    requires fits { Fits query.now tables.now }
+    requires item { IfSome best (λ i. i < length query.now.query.items) }
+    ensures shaped { Pure (IsStructure None tables.now query.now.query) (shown_shape result) }
+    ensures plan { IfOk result (IsRankedPlan query.now tables.now best) }
+    ensures cost { IsPrepared query.now.query tables.now steps.old steps.new }
+{
+    match prepare_ranked(alloc, query, tables, best, steps) {
+        Ok(plan) => Ok(plan),
+        Err(fault) => Err(plan_refusal(None, fault)),
+    }
+}
+
+// The plan of each of several queries, by one rank type. The refusal is that of the first query
+// that has none, and `Cyclic` tells its number: `Cyclic` if it has no join tree, and
+// `TooManyNodeRows` if its nodes have too many rows.
+fn plans_for<'a, R: Rank, L: Ledger>(
+    alloc: Global,
+    queries: &[Query],
+    tables: &Tables,
+    steps: &mut Steps<L>,
+) -> Result<Vec<Plan<R>>, Refusal<'a>>
+    requires few { length queries.now ≤ 8 }
+    requires fits { All (λ q. Fits q tables.now) queries.now }
+    requires keys { All (λ q. length q.query.order ≤ R.KEYS) queries.now }
+    requires slots { 16 ≤ R.ITEMS }
+    requires limit { All (λ q. CapsBelow R.LIMIT q tables.now) queries.now }
+    ensures shaped { let all = queries_in queries.now in
+        Pure (AreStructures true 1 tables.now all) (shown_shapes result) }
+    ensures plans { IfOk result (λ v. HavePlans R.KEYS R.key tables.now queries.now v.items) }
+    ensures cost { ArePrepared (queries_in queries.now) tables.now steps.old steps.new }
+{
+    let mut plans = Vec::with_capacity(alloc, queries.len())?;
+    for query in queries {
+        // there are at most 16 items
+        let _items = query.items();
+        match prepare(alloc, query, tables, steps) {
+            Ok(plan) => plans.push(plan)?,
+            Err(fault) => {
+                let branch = plans.len() as u32 + 1;
+                return Err(plan_refusal(Some(branch), fault));
+            }
+        }
+    }
+    Ok(plans)
+}
+
+// The refusal of the query of this branch, from 1, or of the one query if no branch is told.
+fn plan_refusal<'a>(branch: Option<u32>, fault: PlanFault) -> Refusal<'a>
+    ensures { reason_of result ≡ plan_reason branch fault }
+{
+    match fault {
+        PlanFault::Cyclic(core) => Refusal::Cyclic { branch, core },
+        PlanFault::TooManyRows(_most) => Refusal::TooManyNodeRows,
+        PlanFault::NoMemory => Refusal::NoMemory,
+    }
+}

@@ -1,0 +1,4 @@
+pub mod Prepared
+pub mod RunBounds
+pub mod Left
+pub mod UnionRun

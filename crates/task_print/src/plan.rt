@@ -1,0 +1,30 @@
+//! The command `plan`.
+ghost use Rattle.plan_build.specs.Plan.{IsPlanFor, shape_of};
+ghost use Rattle.query_shape.specs.Report.{report_of};
+ghost use Rattle.refusal_lines.specs.Printed.{Printed};
+ghost use Rattle.refusal_lines.specs.SinkState.{state_of};
+
+use csv_tables::Tables;
+use outer_io::Sink;
+use plan_build::{Plan, report};
+use query_bind::Query;
+use rank_key::Rank;
+use refusal_lines::{Refusal, print};
+use std::alloc::Global;
+
+/// Prints the report of the plan's join tree. `WriteFault` if the write failed, and `NoMemory` if
+/// memory is refused.
+pub fn print_report<'a, R: Rank, S: Sink>(
+    alloc: Global,
+    plan: &Plan<R>,
+    query: &Query,
+    tables: &Tables,
+    out: &mut S,
+) -> Result<(), Refusal<'a>>
+    requires plan { IsPlanFor R.KEYS R.key query.now tables.now plan.now }
+    ensures { Printed (state_of S.Sink out.old) (state_of S.Sink out.new)
+        (report_of query.now.query tables.now (shape_of plan.now)) result }
+{
+    let text = report(alloc, plan, query, tables)?;
+    print(out, &text)
+}
