@@ -161,6 +161,13 @@ firsts-more all i e firsts inside is has h =
 pub no-firsts : (all : List (List ℕ × List ℕ)) → HasFirsts all 0 []
 no-firsts all = record { tables = refl; entries = λ named known. tt; few = omega arith }
 
+-- the first uses among all entries
+pub firsts-end : (all : List (List ℕ × List ℕ)) (i : ℕ) (firsts : List (List ℕ × List ℕ)) → length all ≤ i → HasFirsts all i firsts
+    → tables_of firsts ≡ first_uses_after [] (tables_of all)
+firsts-end all i firsts past h =
+    sym (append-nil (tables_of firsts))
+    ∙ ap (λ (l : List (List ℕ × List ℕ)). tables_of firsts ++ first_uses_after (tables_of firsts) (tables_of l)) (sym (drop_all i all past)) ∙ h.tables
+
 -- ---- the numbers of tables
 
 or-true : (a b : Bool) → a ≡ true → (a || b) ≡ true

@@ -1,22 +1,19 @@
 -- The first branch that is not of the first one's shape.
-use Rattle.std.proofs.Common.{◌≡◌, ◌+◌, ◌<◌, ◌≤◌, ◌∷◌, ◌&&◌, [], ℕ, suc, Bool, true, false, if◌then◌else◌, List, length, drop, get_or, Option, Some, None, Result, Ok, Err, refl, sym, ap, ◌∙◌, arith}
+use Rattle.std.proofs.Common.{◌≡◌, ◌+◌, ◌<◌, ◌≤◌, ◌∷◌, [], ℕ, suc, Bool, true, false, if◌then◌else◌, List, length, drop, get_or, Option, Some, None, Result, Ok, Err, refl, sym, ap, ◌∙◌, arith}
 use Rattle.std.proofs.lemmas.List.{drop_all, drop_more}
+use Rattle.std.proofs.lemmas.Bool.{and_parts}
 use Rattle.anyk_model.specs.Query.{OrderKey, Query}
 use Rattle.refusal_lines.specs.Reason.{BranchShape, Reason}
 use Rattle.union_list.specs.Tagged.{HaveKeys}
 use Rattle.verdict.specs.Loading.{have_directions, have_one_shape, odd_branch, odd_from}
 use Rattle.verdict.specs.Stages.{unless}
 
-both-true : (a b : Bool) → (a && b) ≡ true → (a ≡ true) × (b ≡ true)
-both-true true b h = (refl, h)
-both-true false b h = cc
-
 -- as many keys
 same-keys : (keys others : List OrderKey) → have_directions keys others ≡ true → length keys ≡ length others
 same-keys [] [] h = refl
 same-keys [] (other ∷ others) h = cc
 same-keys (key ∷ keys) [] h = cc
-same-keys (key ∷ keys) (other ∷ others) h = ap suc (same-keys keys others (both-true _ _ h).1)
+same-keys (key ∷ keys) (other ∷ others) h = ap suc (same-keys keys others (and_parts _ _ h).1)
 
 -- another number of keys
 pub other-keys : (keys others : List OrderKey) → (length keys ≡ length others → ⊥) → have_directions keys others ≡ false
@@ -32,7 +29,7 @@ keys-from first number (query ∷ queries) h = by (have_one_shape first query) r
   where
     by : (b : Bool) → have_one_shape first query ≡ b → (if b then odd_from first (number + 1) queries else Some (BranchShape number)) ≡ None
         → (odd_from first (number + 1) queries ≡ None → HaveKeys (length first.order) queries) → HaveKeys (length first.order) (query ∷ queries)
-    by true is h later = (sym (same-keys first.order query.order (both-true _ _ is).1), later h)
+    by true is h later = (sym (same-keys first.order query.order (and_parts _ _ is).1), later h)
     by false is h later = cc
 
 -- branches of one shape have as many keys

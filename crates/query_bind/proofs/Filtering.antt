@@ -2,7 +2,7 @@
 use Rattle.std.proofs.Common.{◌≡◌, ◌⊎◌, ◌↔◌, ◌<◌, ◌+◌, ◌==◌, ◌&&◌, ℕ, zero, suc, true, false, not, List, [], ◌∷◌, ◌++◌, map, length, take, get_or, refl, sym, ap, subst, ◌∙◌, inl, inr, arith}
 use Rattle.std.specs.List.{list_any}
 use Rattle.std.specs.Str.{bytes_eq}
-use Rattle.std.proofs.lemmas.Bool.{cases_eq, cases_order, not-false, not-true}
+use Rattle.std.proofs.lemmas.Bool.{cases_eq, cases_order, not-false, not-true, and_parts}
 use Rattle.std.proofs.lemmas.Bool.Decides.{Decides-eqb}
 use Rattle.std.proofs.lemmas.Slice.Eq.{bytes_eq-Decides}
 use Rattle.std.proofs.lemmas.List.{map-append, take_more}
@@ -17,7 +17,7 @@ use Rattle.query_bind.specs.Labels.{HasNoPlace, IsFirstPlace, IsLabelling}
 use Rattle.query_bind.specs.Stored.{equality_shown}
 use Rattle.query_bind.specs.declared.bound.BoundEquality.{BoundEquality}
 use Rattle.query_bind.specs.declared.filters.Constant.{Constant}
-use Rattle.query_bind.proofs.Lists.{and-parts, member-last, member-left, member-map, member-parts, member-unmap, or-parts}
+use Rattle.query_bind.proofs.Lists.{member-last, member-left, member-map, member-parts, member-unmap, or-parts}
 use Rattle.query_bind.proofs.Witness.{linked-back}
 
 abbrev column : ℕ → ℕ → Column
@@ -134,7 +134,7 @@ listed-member place bytes [] h = absurd (cc)
 listed-member place bytes (x ∷ xs) h =
     elim (or-parts ((x.place == place) && bytes_eq x.bytes bytes) (list_any (λ (c : Constant). (c.place == place) && bytes_eq c.bytes bytes) xs) h) [
       | inl t ↦
-          let p = and-parts (x.place == place) (bytes_eq x.bytes bytes) t in
+          let p = and_parts (x.place == place) (bytes_eq x.bytes bytes) t in
           let a : place ≡ x.place = sym ((Decides-eqb x.place place).0 p.0) in
           let b : bytes ≡ x.bytes = sym ((bytes_eq-Decides x.bytes bytes).0 p.1) in
           inl (λ j. (a j, b j))

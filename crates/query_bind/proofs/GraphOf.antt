@@ -1,5 +1,5 @@
 -- The hypergraph of a bound query.
-use Rattle.std.proofs.Common.{◌≡◌, ◌⊎◌, ◌↔◌, ◌==◌, ◌<◌, ◌≤◌, ◌*◌, ◌^◌, ◌%◌, ℕ, true, List, length, slice_index, bit_or, refl, sym, ap, subst, ◌∙◌, inl, inr, arith, w16}
+use Rattle.std.proofs.Common.{◌≡◌, ◌⊎◌, ◌↔◌, ◌==◌, ◌<◌, ◌≤◌, ◌+◌, ◌*◌, ◌^◌, ◌%◌, ℕ, true, List, [], ◌∷◌, ◌++◌, length, get_or, slice_index, bit_or, refl, sym, ap, subst, ◌∙◌, inl, inr, arith, w16}
 use Rattle.std.specs.List.{All}
 use Rattle.std.specs.Int.{bit_at}
 use Rattle.std.proofs.lemmas.Bool.{cases_eq}
@@ -10,10 +10,10 @@ use Rattle.hyper_graph.proofs.Bits.{bit_from_in, in_from_bit}
 use Rattle.anyk_model.specs.Table.{Table}
 use Rattle.anyk_model.specs.Query.{Column}
 use Rattle.query_bind.specs.Classes.{HasVariable, IsShared, variable_at}
-use Rattle.query_bind.specs.Graph.{AreItemSets, IsGraphOf, has_number}
+use Rattle.query_bind.specs.Graph.{AreItemSets, IsGraphOf, IsItemSet, has_number}
 use Rattle.query_bind.specs.Inside.{IsInside}
 use Rattle.query_bind.specs.Weighed.{BoundQuery, Fits, variables_at}
-use Rattle.query_bind.proofs.AllVariables.{shared-inside}
+use Rattle.query_bind.proofs.AllVariables.{at-last, at-left, length-last, shared-inside}
 use Rattle.query_bind.proofs.Filtering.{at-any}
 use Rattle.query_bind.proofs.Least.{at-member, shared-along}
 use Rattle.query_bind.proofs.Lists.{any-member, member-any}
@@ -34,6 +34,23 @@ in_with set item a h = (
     ]
   ],
 )
+
+-- ---- the sets of variables, one after another
+
+pub sets-more : (lists : List (List (ℕ × ℕ))) (items n set : ℕ) (sets more : List ℕ) → more ≡ sets ++ set ∷ []
+    → AreItemSets lists items n sets → IsItemSet lists n items set → AreItemSets lists items (n + 1) more
+sets-more lists items n set sets more e known own =
+    let count = known.count in
+    subst (λ (l : List ℕ). AreItemSets lists items (n + 1) l) (sym e) (record {
+      count = length-last sets set ∙ ap (λ (k : ℕ). k + 1) count;
+      each = λ number less. elim (cases_eq number n) [
+        | inl is ↦
+            let last : get_or (sets ++ set ∷ []) number 0 ≡ set = ap (λ (k : ℕ). get_or (sets ++ set ∷ []) k 0) (is ∙ sym count) ∙ at-last sets set 0 in
+            subst (λ (k : ℕ). IsItemSet lists number items k) (sym last) (subst (λ (k : ℕ). IsItemSet lists k items set) (sym is) own)
+        | inr ne ↦
+            subst (λ (k : ℕ). IsItemSet lists number items k) (sym (at-left sets set 0 number (omega (arith, less, ne, count)))) (known.each number (omega (arith, less, ne)))
+      ];
+    })
 
 -- ---- the graph
 

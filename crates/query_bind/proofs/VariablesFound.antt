@@ -1,6 +1,6 @@
 -- The variables that the tests on classes find.
 use Rattle.std.proofs.Common.{◌≡◌, ◌⊎◌, ◌==◌, ◌&&◌, ◌<◌, ◌+◌, if◌then◌else◌, ℕ, Bool, true, false, not, List, [], ◌∷◌, ◌++◌, map, filter, length, get_or, refl, sym, ap, subst, ◌∙◌, inl, inr, arith}
-use Rattle.std.proofs.lemmas.Bool.{cases_eq, cases_order, not-true, not_from_false, false_from_ne_true}
+use Rattle.std.proofs.lemmas.Bool.{cases_eq, cases_order, not-true, not_from_false, false_from_ne_true, and_from, and_parts}
 use Rattle.std.proofs.lemmas.Bool.Decides.{eqb_tells}
 use Rattle.std.proofs.lemmas.List.{get_or-map}
 use Rattle.anyk_model.specs.Query.{Column, Equality, Side, of_column, of_constant}
@@ -11,7 +11,7 @@ use Rattle.query_bind.specs.Stored.{column_shown, equality_shown}
 use Rattle.query_bind.specs.Variables.{HavePlaces, is_constant, is_elsewhere, is_fixed, is_fixing, is_other, is_variable}
 use Rattle.query_bind.specs.declared.bound.BoundEquality.{BoundEquality}
 use Rattle.query_bind.specs.declared.classes.Member.{Member}
-use Rattle.query_bind.proofs.Lists.{and-both, and-parts, any-member, ascending-append, ascending-filter, kept-member, map-filter, member-any, member-kept, member-last, member-left, member-map, member-parts, member-unmap}
+use Rattle.query_bind.proofs.Lists.{any-member, ascending-append, ascending-filter, kept-member, map-filter, member-any, member-kept, member-last, member-left, member-map, member-parts, member-unmap}
 use Rattle.query_bind.proofs.Order.{before-neither, same-tells, same-true, true-same}
 
 constant-is : (s : Side) → is_constant s ≡ true → (bytes : List ℕ) × (s ≡ of_constant bytes)
@@ -49,7 +49,7 @@ module _ (ms : List Member) (stored : List BoundEquality) (known : IsLabelling (
   fixed-not-free c own h free =
       let found = any-member (λ (e : BoundEquality). is_fixing label c (equality_shown e)) stored h in
       let e = equality_shown found.0 in
-      let parts = and-parts (is_constant e.right) (is_same (label e.left) c) found.2 in
+      let parts = and_parts (is_constant e.right) (is_same (label e.left) c) found.2 in
       let constant = constant-is e.right parts.0 in
       free constant.0 (record {
         equality = e;
@@ -65,17 +65,17 @@ module _ (ms : List Member) (stored : List BoundEquality) (known : IsLabelling (
       let link : label f.equality.left ≡ c = sym (known.complete c f.equality.left f.linked) ∙ own in
       member-any (λ (x : BoundEquality). is_fixing label c (equality_shown x)) e.0 stored e.1
       (ap (is_fixing label c) shown
-      ∙ and-both (is_constant f.equality.right) (is_same (label f.equality.left) c) (ap is_constant f.constant) (true-same (label f.equality.left) c link))
+      ∙ and_from (is_constant f.equality.right) (is_same (label f.equality.left) c) (ap is_constant f.constant) (true-same (label f.equality.left) c link))
 
   variable-sound : (c : Column) → is_variable ms stored c ≡ true → IsShared es c × IsLeast es c
   variable-sound c h =
-      let outer = and-parts (is_same (label c) c && is_elsewhere ms c) (not (is_fixed ms stored c)) h in
-      let inner = and-parts (is_same (label c) c) (is_elsewhere ms c) outer.0 in
+      let outer = and_parts (is_same (label c) c && is_elsewhere ms c) (not (is_fixed ms stored c)) h in
+      let inner = and_parts (is_same (label c) c) (is_elsewhere ms c) outer.0 in
       let own : label c ≡ c = same-true (label c) c inner.0 in
       let unfixed : is_fixed ms stored c ≡ false = not-true (is_fixed ms stored c) outer.1 in
       let found = any-member (λ (m : Member). is_other label c (column_shown m.column)) ms inner.1 in
       let other = column_shown found.0.column in
-      let tests = and-parts (is_same (label other) c) (not (other.item == c.item)) found.2 in (
+      let tests = and_parts (is_same (label other) c) (not (other.item == c.item)) found.2 in (
         record {
           free = λ bytes f. let e : true ≡ false = sym (fixing-found c bytes own f) ∙ unfixed in absurd (cc);
           other = other;
@@ -94,12 +94,12 @@ module _ (ms : List Member) (stored : List BoundEquality) (known : IsLabelling (
       let there : label s.other ≡ c = sym (known.complete c s.other s.linked) ∙ own in
       let unfixed : is_fixed ms stored c ≡ false = false_from_ne_true (is_fixed ms stored c) (λ h. fixed-not-free c own h s.free) in
       let apart : not (s.other.item == c.item) ≡ true = not_from_false (s.other.item == c.item) (elim (eqb_tells s.other.item c.item) [ inl p ↦ absurd (s.elsewhere p.1) | inr p ↦ p.0 ]) in
-      let test : is_other label c s.other ≡ true = and-both (is_same (label s.other) c) (not (s.other.item == c.item)) (true-same (label s.other) c there) apart in
+      let test : is_other label c s.other ≡ true = and_from (is_same (label s.other) c) (not (s.other.item == c.item)) (true-same (label s.other) c there) apart in
       let elsewhere : is_elsewhere ms c ≡ true = elim (listed-or ms s.other s.other) [
         | inl e ↦ absurd (s.elsewhere (ap (λ (z : Column). z.item) (sym e ∙ there)))
         | inr p ↦ member-any (λ (m : Member). is_other label c (column_shown m.column)) p.0 ms p.1 (ap (is_other label c) p.2 ∙ test)
       ] in
-      and-both (is_same (label c) c && is_elsewhere ms c) (not (is_fixed ms stored c)) (and-both (is_same (label c) c) (is_elsewhere ms c) (true-same (label c) c own) elsewhere)
+      and_from (is_same (label c) c && is_elsewhere ms c) (not (is_fixed ms stored c)) (and_from (is_same (label c) c) (is_elsewhere ms c) (true-same (label c) c own) elsewhere)
       (not_from_false (is_fixed ms stored c) unfixed)
 
   -- the variables, among ascending columns that include all columns of variables

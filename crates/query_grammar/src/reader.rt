@@ -289,7 +289,7 @@ fn alias<'a, 't>(
 }
 
 /// An item with the equalities of its ON.
-#[derive(Debug, Drop)]
+#[derive(Drop)]
 struct Joined {
     item: ItemRef,
     on: Vec<Equality>,
@@ -362,7 +362,7 @@ fn next_item<'a, 't>(
 }
 
 /// The from-items, and the equalities of their ON.
-#[derive(Debug, Drop)]
+#[derive(Drop)]
 struct FromItems {
     items: Vec<ItemRef>,
     on: Vec<Equality>,

@@ -135,7 +135,7 @@ fn sign_kind(byte: u8) -> Kind
 }
 
 /// A token at the front of some bytes, and the number of bytes that it takes.
-#[derive(Clone, Copy, Debug)]
+#[derive(Clone, Copy)]
 struct Scanned<'a> {
     kind: Kind,
     body: &'a [u8],

@@ -1,7 +1,7 @@
 //! The tokens into which the bytes of a query are cut.
 
 /// The kind of a token.
-#[derive(Clone, Copy, Debug, PartialEq, Eq)]
+#[derive(Clone, Copy, PartialEq, Eq)]
 pub enum Kind {
     Select,
     From,
@@ -36,7 +36,7 @@ pub enum Kind {
 
 /// A token. Its body is the bytes that it stands for: a name without its quotes, or a string
 /// without its outer quotes but with each `'` inside as it is written.
-#[derive(Clone, Copy, Debug)]
+#[derive(Clone, Copy)]
 pub struct Token<'a> {
     /// The kind of the token.
     pub kind: Kind,

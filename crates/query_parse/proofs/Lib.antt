@@ -1,3 +1,4 @@
+pub mod Listed
 pub mod Strings
 pub mod NameScan
 pub mod TextScan

@@ -6,7 +6,7 @@ use Rattle.std.specs.Int.{is_in_range}
 use Rattle.std.specs.Prelude.{codes}
 use Rattle.std.proofs.lemmas.List.{take_at, take-append-drop, length-append, append-nil}
 use Rattle.std.proofs.lemmas.List.Folds.{length-prefix_len}
-use Rattle.std.proofs.lemmas.Bool.{eqb-true, ltb-true, ltb-false}
+use Rattle.std.proofs.lemmas.Bool.{eqb-true, ltb-true, ltb-false, and_parts}
 use Rattle.query_grammar.specs.declared.token.Kind.{Kind}
 use Rattle.query_grammar.specs.declared.token.Kind.TheVariants as kind
 use Rattle.query_grammar.specs.Reading.{same}
@@ -14,7 +14,7 @@ use Rattle.query_grammar.specs.Tokens.{is_blank, is_letter, is_word_byte, is_wor
 use Rattle.query_parse.specs.Text.{doubled}
 use Rattle.query_parse.specs.TokenForms.{IsTokenForm, word, quoted_name, string, digits, sign, NoToken, IsLongestToken, IsLongestScan, ScansLongest}
 use Rattle.query_grammar.proofs.SameKind.{same_true, same_self}
-use Rattle.query_parse.proofs.NameScan.{both_true, prefix_ends, quoted_scans}
+use Rattle.query_parse.proofs.NameScan.{prefix_ends, quoted_scans}
 use Rattle.query_grammar.proofs.ScanLength.{letter_in_word}
 use Rattle.query_parse.proofs.TextScan.{text_scans}
 use Rattle.query_parse.proofs.Written.{word_scans, digits_scan_as}
@@ -36,7 +36,7 @@ stopped_len p b bs e = rw e refl
 reaches : (p : ℕ → Bool) (bs more : List ℕ) → list_all p bs ≡ true → length bs ≤ prefix_len p (bs ++ more)
 reaches p [] more all = omega arith
 reaches p (b ∷ bs) more all =
-    let h = both_true (p b) (list_all p bs) all in
+    let h = and_parts (p b) (list_all p bs) all in
     let is : prefix_len p (b ∷ (bs ++ more)) ≡ suc (prefix_len p (bs ++ more)) = passing_len p b (bs ++ more) h.0 in
     omega (arith, is, reaches p bs more h.1)
 
@@ -82,7 +82,7 @@ cut p (b ∷ bs) h = cut_by p b bs (p b) refl (cut p bs) h
 
 weaker_all : (p q : ℕ → Bool) → ((b : ℕ) → p b ≡ true → q b ≡ true) → (bs : List ℕ) → list_all p bs ≡ true → list_all q bs ≡ true
 weaker_all p q f [] all = refl
-weaker_all p q f (b ∷ bs) all = let h = both_true (p b) (list_all p bs) all in rw (f b h.0) (weaker_all p q f bs h.1)
+weaker_all p q f (b ∷ bs) all = let h = and_parts (p b) (list_all p bs) all in rw (f b h.0) (weaker_all p q f bs h.1)
 
 first_of_four : (d a c u : Bool) → d ≡ true → (((d || a) || c) || u) ≡ true
 first_of_four d a c u e = rw e refl

@@ -3,7 +3,7 @@ use Rattle.std.proofs.Common.{◌≡◌, ℕ, suc, ◌+◌, ◌<◌, ◌≤◌, 
 use Rattle.std.specs.List.{list_all, prefix_len}
 use Rattle.std.specs.Char.{is_ascii_digit}
 use Rattle.std.proofs.lemmas.List.{take_at, drop_at, length-append}
-use Rattle.std.proofs.lemmas.Bool.{eqb-true, false≢true, leb-true, lt-leb}
+use Rattle.std.proofs.lemmas.Bool.{eqb-true, false≢true, leb-true, lt-leb, and_parts}
 use Rattle.query_grammar.specs.declared.token.Kind.{Kind}
 use Rattle.query_grammar.specs.declared.token.Kind.TheVariants as kind
 use Rattle.query_grammar.specs.Lexeme.{Lexeme}
@@ -13,7 +13,7 @@ use Rattle.query_grammar.specs.Tokens.{Scan, is_blank, is_letter, is_word_byte, 
 use Rattle.query_grammar.specs.Text.{is_bare, name_text_of}
 use Rattle.query_parse.specs.Text.{doubled, constant_text}
 use Rattle.query_grammar.proofs.SameKind.{same_true}
-use Rattle.query_parse.proofs.NameScan.{both_true, quoted_scans}
+use Rattle.query_parse.proofs.NameScan.{quoted_scans}
 use Rattle.query_parse.proofs.TextScan.{NoQuote, text_scans}
 use Rattle.query_grammar.proofs.ScanLength.{letter_in_word, lexeme_of, tokens_at_token, tokens_at_blank}
 
@@ -67,7 +67,7 @@ not_blank p b h a c d e =
 front_is : (p : ℕ → Bool) (bs rest : List ℕ) → list_all p bs ≡ true → Stops p rest → prefix_len p (bs ++ rest) ≡ length bs
 front_is p [] [] all stops = refl
 front_is p [] (c ∷ rest) all stops = rw stops refl
-front_is p (b ∷ bs) rest all stops = let h = both_true (p b) (list_all p bs) all in rw (h.0, front_is p bs rest h.1 stops) (omega arith)
+front_is p (b ∷ bs) rest all stops = let h = and_parts (p b) (list_all p bs) all in rw (h.0, front_is p bs rest h.1 stops) (omega arith)
 
 pub word_scans : (b : ℕ) (bs rest : List ℕ) → is_letter b ≡ true → list_all is_word_byte bs ≡ true → Stops is_word_byte rest
     → scan_of ((b ∷ bs) ++ rest) ≡ record { kind = kind_of_word (b ∷ bs); body = b ∷ bs; len = length (b ∷ bs) }
@@ -101,8 +101,8 @@ quoted_written name rest plain =
 name_by : (name rest : List ℕ) (b : Bool) → is_bare name ≡ b → HasNoQuote name → Ends rest → (at : ℕ) → Written kind.Name name ((cond b name (34 ∷ name ++ 34 ∷ [])) ++ rest) rest at
 name_by [] rest true is plain ends = absurd (false≢true is)
 name_by (b ∷ bs) rest true is plain ends =
-    let h = both_true (is_letter b) (list_all is_word_byte bs && same (kind_of_word (b ∷ bs)) kind.Name) is in
-    let k = both_true (list_all is_word_byte bs) (same (kind_of_word (b ∷ bs)) kind.Name) h.1 in
+    let h = and_parts (is_letter b) (list_all is_word_byte bs && same (kind_of_word (b ∷ bs)) kind.Name) is in
+    let k = and_parts (list_all is_word_byte bs) (same (kind_of_word (b ∷ bs)) kind.Name) h.1 in
     word_written b bs rest kind.Name h.0 k.0 (same_true _ _ k.1) ends.word
 name_by name rest false is plain ends = quoted_written name rest plain
 
@@ -125,7 +125,7 @@ constant_written bytes rest ends =
 
 digit_is_no_letter : (b : ℕ) → is_ascii_digit b ≡ true → is_letter b ≡ false
 digit_is_no_letter b h =
-    let r = both_true (leb 48 b) (leb b 57) h in
+    let r = and_parts (leb 48 b) (leb b 57) h in
     let small : b ≤ 57 = leb-true b 57 r.1 in
     let upper : leb 65 b ≡ false = lt-leb 65 b (omega arith) in
     let lower : leb 97 b ≡ false = lt-leb 97 b (omega arith) in
@@ -135,7 +135,7 @@ digit_is_no_letter b h =
 pub digits_scan_as : (b : ℕ) (bs rest : List ℕ) → list_all is_ascii_digit (b ∷ bs) ≡ true → Stops is_ascii_digit rest → scan_of ((b ∷ bs) ++ rest) ≡ record { kind = kind.Digits; body = b ∷ bs; len = length (b ∷ bs) }
 unfolding scan_of
 digits_scan_as b bs rest all stops =
-    let h = both_true (is_ascii_digit b) (list_all is_ascii_digit bs) all in
+    let h = and_parts (is_ascii_digit b) (list_all is_ascii_digit bs) all in
     let front : prefix_len is_ascii_digit ((b ∷ bs) ++ rest) ≡ suc (length bs) = front_is is_ascii_digit (b ∷ bs) rest all stops in
     let word : take (suc (length bs)) ((b ∷ bs) ++ rest) ≡ b ∷ bs = take_at (b ∷ bs) rest (suc (length bs)) refl in
     rw (digit_is_no_letter b h.0, front, word, h.0) refl
@@ -143,7 +143,7 @@ digits_scan_as b bs rest all stops =
 pub digits_written : (digits rest : List ℕ) → 0 < length digits → list_all is_ascii_digit digits ≡ true → Ends rest → (at : ℕ) → Written kind.Digits digits (digits ++ rest) rest at
 digits_written [] rest some all ends = absurd (omega arith)
 digits_written (b ∷ bs) rest some all ends =
-    let h = both_true (is_ascii_digit b) (list_all is_ascii_digit bs) all in
+    let h = and_parts (is_ascii_digit b) (list_all is_ascii_digit bs) all in
     scanned b (bs ++ rest) rest kind.Digits (b ∷ bs) (suc (length bs)) (not_blank is_ascii_digit b h.0 refl refl refl refl) (digits_scan_as b bs rest all ends.digits) (drop_at (b ∷ bs) rest (suc (length bs)) refl)
 
 -- ---- signs

@@ -1,7 +1,7 @@
-use Rattle.std.proofs.Common.{◌≡◌, ◌∙◌, ◌<◌, [], ◌∷◌, length, map, get_or, ap, sym, arith}
+use Rattle.std.proofs.Common.{◌≡◌, ◌∙◌, ◌<◌, ◌≤◌, [], ◌∷◌, length, map, get_or, ap, subst, sym, arith}
 use Rattle.std.proofs.lemmas.List.{map-append, length-map, get_or-map}
 use Rattle.cmd_words.specs.NamedPairs.{named_pair}
-use Rattle.input_load.proofs.FirstUses.{firsts-more, firsts-same, has-shown}
+use Rattle.input_load.proofs.FirstUses.{HasFirsts, firsts-end, firsts-more, firsts-same, has-shown, no-firsts}
 use Rattle.input_load.proofs.uses.first_entries.Goals as goal
 
 pub loop-entry-preserved-then-has_table : goal.loop-entry-preserved-then-has_table
@@ -28,3 +28,18 @@ loop-entry-preserved c =
     let has = has-shown (λ e. named_pair e.now) c.loop-entry.firsts.items e.0 ∙ rw (c.deref.ensures.value, c.as_str.ensures.value) at (sym c.has_table.ensures ∙ c.if-has_table.false) in
     rw (c.in_ok-push.ensures.items, map-append (λ e. named_pair e.now) c.loop-entry.firsts.items (c.entry-item.result ∷ []))
     (firsts-more all i e (map (λ e. named_pair e.now) c.loop-entry.firsts.items) inside is has c.loop-entry.invariant)
+
+pub loop-entry-init : goal.loop-entry-init
+loop-entry-init c =
+    let all = map (λ e. named_pair e.now) c.args.entries.now in
+    subst (HasFirsts all 0) (sym (ap (map (λ e. named_pair e.now)) c.new-firsts.ensures.items)) (no-firsts all)
+
+pub returns-clause-tables : goal.returns-clause-tables
+returns-clause-tables c =
+    let all = map (λ e. named_pair e.now) c.args.entries.now in
+    let i = c.loop-entry.entry-index in
+    let past : length all ≤ i = omega (arith, c.loop-entry-test.false, length-map c.args.entries.now (λ e. named_pair e.now)) in
+    firsts-end all i (map (λ e. named_pair e.now) c.loop-entry.firsts.items) past c.loop-entry.invariant
+
+pub returns-clause-entries : goal.returns-clause-entries
+returns-clause-entries c = c.loop-entry.invariant.entries

@@ -1,10 +1,11 @@
 use Rattle.std.proofs.Common.{◌≡◌, ◌∙◌, ◌∷◌, [], take, get_or, sym, ap, subst, ◌==◌, ℕ, true, inl, inr}
 use Rattle.std.proofs.lemmas.List.{map-append, take_more}
 use Rattle.std.proofs.lemmas.Bool.Decides.{Decides-eqb}
+use Rattle.std.proofs.lemmas.Bool.{and_from}
 use Rattle.rankings.specs.Order.{IsMember}
 use Rattle.query_bind.specs.Tallies.{columns_of}
 use Rattle.query_bind.specs.declared.tallies.Tally.{Tally}
-use Rattle.query_bind.proofs.Lists.{and-both, member-parts}
+use Rattle.query_bind.proofs.Lists.{member-parts}
 use Rattle.query_bind.proofs.tallies.place_of.Goals as goal
 
 pub loop-i-preserved : goal.loop-i-preserved
@@ -19,7 +20,7 @@ loop-i-preserved c = λ m.
       | inr e ↦ absurd (
           let first : (y.column.0 == c.args.column.0) ≡ true = (Decides-eqb y.column.0 c.args.column.0).1 (ap (λ (k : ℕ × ℕ). k.0) (sym e)) in
           let second : (y.column.1 == c.args.column.1) ≡ true = (Decides-eqb y.column.1 c.args.column.1).1 (ap (λ (k : ℕ × ℕ). k.1) (sym e)) in
-          let hit = and-both (y.column.0 == c.args.column.0) (y.column.1 == c.args.column.1) first second in
+          let hit = and_from (y.column.0 == c.args.column.0) (y.column.1 == c.args.column.1) first second in
           let ends = sym c.if-eq.false ∙ c.eq.ensures ∙ hit in
           cc)
     ]

@@ -1,9 +1,30 @@
-use Rattle.std.proofs.Common.{◌≡◌, ◌∙◌, ◌+ℤ◌, ◌*ℤ◌, pos, sym, ap, get_or, arith, ℤ, ℕ, List, ◌∷◌, ◌++◌, [], rules, SFits}
+use Rattle.std.proofs.Common.{◌≡◌, ◌∙◌, ◌≤◌, ◌+ℤ◌, ◌*ℤ◌, pos, nat_abs, sym, ap, get_or, arith, ℤ, ℕ, List, ◌∷◌, ◌++◌, [], rules, SFits}
 use mir.Syntax.{w128}
 use mir.Val.{of_z, to_z}
 use Rattle.std.proofs.lemmas.Int.{to_z-of_z}
 use Rattle.std.proofs.lemmas.List.FromFn.{map-range_with_len_more}
+use Rattle.std.proofs.lemmas.Result.{IfOk-from_err}
+use Rattle.query_bind.specs.Weights.{most_sum}
 use Rattle.query_bind.proofs.weighing.sums_with.Goals as goal
+
+pub part_with-requires-clause-product : goal.part_with-requires-clause-product
+part_with-requires-clause-product c =
+    let weight = get_or c.args.weights.now c.loop-i.i (pos 0) in
+    let wf : SFits w128 weight = search rules in
+    let h : nat_abs (c.args.net *ℤ weight) ≤ most_sum = (c.requires c.loop-i.i c.loop-i-test.true).0 in
+    rw (to_z-of_z w128 c.args.net c.ranges.net, to_z-of_z w128 weight wf) h
+
+pub part_with-requires-clause-sum : goal.part_with-requires-clause-sum
+part_with-requires-clause-sum c =
+    let weight = get_or c.args.weights.now c.loop-i.i (pos 0) in
+    let part = c.part_at.result in
+    let wf : SFits w128 weight = search rules in
+    let pf : SFits w128 part = search rules in
+    let h : nat_abs (get_or c.args.parts.now c.loop-i.i (pos 0) +ℤ c.args.net *ℤ weight) ≤ most_sum = (c.requires c.loop-i.i c.loop-i-test.true).1 in
+    rw (to_z-of_z w128 part pf, to_z-of_z w128 c.args.net c.ranges.net, to_z-of_z w128 weight wf, c.part_at.ensures) h
+
+pub returns-in_err-push : goal.returns-in_err-push
+returns-in_err-push c = IfOk-from_err c.from_residual.result _ c.from_residual.ensures.0
 
 pub loop-i-preserved : goal.loop-i-preserved
 loop-i-preserved c =

@@ -1,12 +1,14 @@
-use Rattle.std.proofs.Common.{◌≡◌, ◌<◌, ◌+◌, ◌∙◌, ◌∷◌, ◌++◌, [], sym, ap, subst, length, map, take, get_or, arith, ℕ, List, Option}
-use Rattle.std.proofs.lemmas.List.{get_or-map, length-map, map-append, take_more}
+use Rattle.std.proofs.Common.{◌≡◌, ◌<◌, ◌≤◌, ◌+◌, ◌∙◌, ◌∷◌, ◌++◌, [], sym, ap, subst, length, map, take, get_or, arith, ℕ, List, Option}
+use Rattle.std.proofs.lemmas.List.{get_or-map, length-map, map-append, take_all, take_more}
 use Rattle.std.proofs.lemmas.Result.{err_from_is_err_and}
 use Rattle.anyk_model.specs.Query.{OrderKey}
+use Rattle.query_bind.specs.Fits.{KeysInside}
 use Rattle.query_bind.specs.Measured.{HasKeys}
 use Rattle.query_bind.specs.Stored.{items_shown, key_shown}
 use Rattle.query_bind.specs.Weighed.{ItemParts, key_parts}
 use Rattle.query_bind.specs.WeighedView.{weighed_shown}
-use Rattle.query_bind.proofs.Measuring.{keys-fault, keys-more, no-key-met}
+use Rattle.query_bind.proofs.Measuring.{all-sound, keys-fault, keys-more, no-key-met, none-past, one-past}
+use Rattle.query_bind.proofs.Search.{all-at}
 use Rattle.query_bind.proofs.weighing.weigh.Goals as goal
 
 pub returns-in_err-sum-clause-fault : goal.returns-in_err-sum-clause-fault
@@ -40,3 +42,33 @@ loop-i-preserved c =
           ∙ ap (λ (l : List ItemParts). map (key_parts tables items) (take i order) ++ l ∷ []) (c.in_ok-sum.ensures.parts met.1)
           ∙ sym (ap (map (key_parts tables items)) more ∙ map-append (key_parts tables items) (take i order) (key_shown x ∷ [])),
     )
+
+pub weigh_key-requires : goal.weigh_key-requires
+weigh_key-requires c =
+    let keys = c.args.keys.now in
+    let x = c.index-keys-i.result in
+    subst (KeysInside c.args.tables.now c.args.items.now) (sym c.index-keys-i.is)
+    (all-at (KeysInside c.args.tables.now c.args.items.now) keys c.loop-i.i x c.requires.inside c.loop-i-test.true)
+
+pub returns-in-None-clause-parts : goal.returns-in-None-clause-parts
+returns-in-None-clause-parts c =
+    let tables = c.args.tables.now in
+    let items = items_shown c.args.items.now in
+    let order = map key_shown c.args.keys.now in
+    let past : length order ≤ c.loop-i.i = let f = c.loop-i-test.false in omega (arith, f, length-map c.args.keys.now key_shown) in
+    c.loop-i.invariant.1 c.in-None.is ∙ ap (map (key_parts tables items)) (take_all c.loop-i.i order past)
+
+pub returns-in-None-clause-weights : goal.returns-in-None-clause-weights
+returns-in-None-clause-weights c =
+    let past : length (map key_shown c.args.keys.now) ≤ c.loop-i.i = let f = c.loop-i-test.false in omega (arith, f, length-map c.args.keys.now key_shown) in
+    all-sound c.args.tables.now (items_shown c.args.items.now) (map key_shown c.args.keys.now) c.loop-i.i c.loop-i.first c.loop-i.invariant.0 past
+
+pub returns-in-None-clause-range : goal.returns-in-None-clause-range
+returns-in-None-clause-range c =
+    let past : length (map key_shown c.args.keys.now) ≤ c.loop-i.i = let f = c.loop-i-test.false in omega (arith, f, length-map c.args.keys.now key_shown) in
+    none-past c.args.tables.now (items_shown c.args.items.now) (map key_shown c.args.keys.now) c.loop-i.i c.loop-i.first c.loop-i.invariant.0 past c.in-None.is
+
+pub returns-in-Some-clause-fault : goal.returns-in-Some-clause-fault
+returns-in-Some-clause-fault c =
+    let past : length (map key_shown c.args.keys.now) ≤ c.loop-i.i = let f = c.loop-i-test.false in omega (arith, f, length-map c.args.keys.now key_shown) in
+    one-past c.args.tables.now (items_shown c.args.items.now) (map key_shown c.args.keys.now) c.loop-i.i c.loop-i.first c.loop-i.invariant.0 past c.in-Some.key c.in-Some.is
