@@ -1,7 +1,7 @@
 -- The list that computes is the ranking.
-use Rattle.std.proofs.Common.{◌≡◌, ◌≤◌, ◌<◌, ◌+◌, ◌⊎◌, ◌↔◌, ◌&&◌, inl, inr, refl, sym, ap, subst, ◌∙◌, arith, ℕ, zero, suc, ℤ, pos, ◌<ℤ◌, Bool, true, false, cond, if◌then◌else◌, List, [], ◌∷◌, ◌++◌, map, filter, int_lt}
+use Rattle.std.proofs.Common.{◌≡◌, ◌≤◌, ◌<◌, ◌+◌, ◌⊎◌, ◌↔◌, inl, inr, refl, sym, ap, subst, ◌∙◌, arith, ℕ, zero, suc, ℤ, pos, ◌<ℤ◌, Bool, true, false, cond, if◌then◌else◌, List, [], ◌∷◌, ◌++◌, map, filter, int_lt}
 use Rattle.std.specs.List.{AllByRecursion, list_all, flat_map, range_with_len}
-use Rattle.std.proofs.lemmas.Bool.{cases_lt, false≢true}
+use Rattle.std.proofs.lemmas.Bool.{cases_lt, false≢true, and_parts, and_from}
 use Rattle.std.proofs.lemmas.Int.{ints}
 use Rattle.std.proofs.lemmas.Slice.Eq.{bytes_eq-Decides}
 use Rattle.anyk_model.specs.Table.{Table}
@@ -87,25 +87,17 @@ filter-parts p x (y ∷ xs) m = by (p y) refl m (filter-parts p x xs)
     by true is (inr later) rest = let h = rest later in (inr h.0, h.1)
     by false is later rest = let h = rest later in (inr h.0, h.1)
 
-and-parts : (a b : Bool) → (a && b) ≡ true → (a ≡ true) × (b ≡ true)
-and-parts true b e = (refl, e)
-and-parts false b e = absurd (false≢true e)
-
-and-true : (a b : Bool) → a ≡ true → b ≡ true → (a && b) ≡ true
-and-true true b p q = q
-and-true false b p q = absurd (false≢true p)
-
 module _ (query : Query) (tables : List Table) (rows : List ℕ) where
   all-hold : (es : List Equality) → list_all (holds query tables rows) es ≡ true → AllByRecursion (Holds query tables rows) es
   all-hold [] e = tt
   all-hold (q ∷ es) e =
-      let h = and-parts (holds query tables rows q) (list_all (holds query tables rows) es) e in
+      let h = and_parts (holds query tables rows q) (list_all (holds query tables rows) es) e in
       ((bytes_eq-Decides (value_of query tables rows q.left) (side_value query tables rows q.right)).0 h.0, all-hold es h.1)
 
   hold-all : (es : List Equality) → AllByRecursion (Holds query tables rows) es → list_all (holds query tables rows) es ≡ true
   hold-all [] h = refl
   hold-all (q ∷ es) h =
-      and-true (holds query tables rows q) (list_all (holds query tables rows) es)
+      and_from (holds query tables rows q) (list_all (holds query tables rows) es)
       ((bytes_eq-Decides (value_of query tables rows q.left) (side_value query tables rows q.right)).1 h.0) (hold-all es h.1)
 
 -- the witnesses that compute are the witnesses

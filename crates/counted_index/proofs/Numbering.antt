@@ -3,7 +3,7 @@ use Rattle.std.proofs.Common.{◌≡◌, ◌≢◌, ◌⊎◌, ◌<◌, ◌≤�
 use Rattle.std.specs.List.{list_any}
 use Rattle.std.specs.HashSet.{HashSet}
 use Rattle.std.proofs.Math.ListN.{set}
-use Rattle.std.proofs.lemmas.Bool.{cases_eq, cases_lt, false≢true}
+use Rattle.std.proofs.lemmas.Bool.{cases_eq, cases_lt, false≢true, and_parts}
 use Rattle.std.proofs.lemmas.List.{get_or-map, get_or-set_other, get_or-set_same, get_or_append_left, get_or_push, length-map, length-set, map-set}
 use Rattle.std.proofs.lemmas.Option.{get_or_from_slice_get, slice_get_within}
 use Rattle.indexmap.specs.IndexSet.{insert_key}
@@ -19,13 +19,9 @@ same a b = nat_eq a.0 b.0 && nat_eq a.1 b.1
 pub same-pair : (a b : Pair) → a.0 ≡ b.0 → a.1 ≡ b.1 → a ≡ b
 same-pair a b e f = λ i. (e i, f i)
 
-both-true : (a b : Bool) → (a && b) ≡ true → (a ≡ true) × (b ≡ true)
-both-true true b e = (refl, e)
-both-true false b e = absurd (false≢true e)
-
 same-is : (a b : Pair) → same a b ≡ true → a ≡ b
 same-is a b e =
-    let h = both-true (nat_eq a.0 b.0) (nat_eq a.1 b.1) e in
+    let h = and_parts (nat_eq a.0 b.0) (nat_eq a.1 b.1) e in
     same-pair a b (eqb-true a.0 b.0 h.0) (eqb-true a.1 b.1 h.1)
 
 is-same : (a b : Pair) → a ≡ b → same a b ≡ true

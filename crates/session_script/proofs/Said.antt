@@ -4,7 +4,7 @@ use Rattle.std.specs.Prelude.{codes, option_and_then}
 use Rattle.std.specs.List.{list_all, slice_split, join_with_byte}
 use Rattle.std.specs.Str.{bytes_eq}
 use Rattle.std.specs.Char.{is_ascii_digit}
-use Rattle.std.proofs.lemmas.Bool.{eqb-true, false≢true}
+use Rattle.std.proofs.lemmas.Bool.{eqb-true, false≢true, and_parts}
 use Rattle.std.proofs.lemmas.Slice.Eq.{bytes_eq-Decides}
 use Rattle.std.proofs.lemmas.List.Splits.{join_with_byte-slice_split}
 use Rattle.text_lines.specs.Parts.{parts}
@@ -14,10 +14,6 @@ use Rattle.session_script.specs.Names.{is_name_byte, is_name, name_of}
 use Rattle.session_script.specs.Words.{is_count, decimal_value, count_of, one_name_step, next_step, fork_step, two_part_step, step_of_parts, step_of}
 use Rattle.session_script.specs.Forms.{Says, opens, moves, forks, rewinds, closes, IsSaid}
 
-both_true : (a b : Bool) → (a && b) ≡ true → (a ≡ true) × (b ≡ true)
-both_true true b e = (refl, e)
-both_true false b e = absurd cc
-
 differs : (p : ℕ → Bool) (b k : ℕ) → p b ≡ true → p k ≡ false → (t : Bool) → eqb b k ≡ t → t ≡ false
 differs p b k passes fails true e = absurd (false≢true (sym fails ∙ ap p (sym (eqb-true b k e)) ∙ passes))
 differs p b k passes fails false e = refl
@@ -26,20 +22,20 @@ differs p b k passes fails false e = refl
 one_part : (p : ℕ → Bool) → p 32 ≡ false → (text : List ℕ) → list_all p text ≡ true → slice_split (λ b. eqb b 32) text ≡ text ∷ []
 one_part p no_space [] h = refl
 one_part p no_space (b ∷ bs) h =
-    let t = both_true (p b) (list_all p bs) h in
+    let t = and_parts (p b) (list_all p bs) h in
     rw (differs p b 32 t.0 no_space (eqb b 32) refl, one_part p no_space bs t.1) refl
 
 two_parts : (p : ℕ → Bool) → p 32 ≡ false → (text more : List ℕ) → list_all p text ≡ true → slice_split (λ b. eqb b 32) (text ++ 32 ∷ more) ≡ text ∷ slice_split (λ b. eqb b 32) more
 two_parts p no_space [] more h = refl
 two_parts p no_space (b ∷ bs) more h =
-    let t = both_true (p b) (list_all p bs) h in
+    let t = and_parts (p b) (list_all p bs) h in
     rw (differs p b 32 t.0 no_space (eqb b 32) refl, two_parts p no_space bs more t.1) refl
 
 name_bytes : (name : List ℕ) → is_name name ≡ true → list_all is_name_byte name ≡ true
-name_bytes name h = (both_true (leb (length name) 32) (list_all is_name_byte name) (both_true (leb 1 (length name)) (leb (length name) 32 && list_all is_name_byte name) h).1).1
+name_bytes name h = (and_parts (leb (length name) 32) (list_all is_name_byte name) (and_parts (leb 1 (length name)) (leb (length name) 32 && list_all is_name_byte name) h).1).1
 
 count_bytes : (digits : List ℕ) → is_count digits ≡ true → list_all is_ascii_digit digits ≡ true
-count_bytes digits h = (both_true (leb (length digits) 9) (list_all is_ascii_digit digits) (both_true (leb 1 (length digits)) (leb (length digits) 9 && list_all is_ascii_digit digits) h).1).1
+count_bytes digits h = (and_parts (leb (length digits) 9) (list_all is_ascii_digit digits) (and_parts (leb 1 (length digits)) (leb (length digits) 9 && list_all is_ascii_digit digits) h).1).1
 
 name_is : (name : List ℕ) → is_name name ≡ true → name_of name ≡ Some name
 name_is name h = rw h refl

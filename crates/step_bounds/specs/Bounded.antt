@@ -3,19 +3,14 @@ use Rattle.std.specs.Prelude.{◌≡◌, ◌+◌, ◌*◌, ◌++◌, ◌≤◌, 
 use Rattle.anyk_model.specs.Table.{Table}
 use Rattle.anyk_model.specs.Query.{Query, row_counts}
 use Rattle.anyk_model.specs.Output.{Style, cut, header_text, line_text}
+use Rattle.query_shape.specs.Report.{total_rows}
 use Rattle.query_shape.specs.Shape.{IsShape, Shape}
 use Rattle.query_bind.specs.Parts.{sum_of_all}
 use Rattle.step_bounds.specs.Steps.{calls_for, cost, whole_lines}
 
--- the number of rows of the tables of all items and of all nodes, a table counted once for each
--- item
-abbrev pub total_of : Query → List Table → Shape → ℕ
-total_of query tables shape = sum_of_all (row_counts query.items tables)
-    + sum_of_all shape.node_rows
-
 -- the bound for this many calls for answers
 abbrev pub cost_over : Query → List Table → Shape → ℕ → ℕ
-cost_over query tables shape calls = cost (length query.items) (total_of query tables shape) calls
+cost_over query tables shape calls = cost (length query.items) (total_rows query tables shape) calls
 
 -- the number of whole records, after the header, in a part of the output over a list of
 -- combinations
