@@ -5,21 +5,21 @@ use Rattle.anyk_model.specs.Table.{Table, table_at}
 use Rattle.anyk_model.specs.Query.{Query, Item, Column, IsCombination, row_counts}
 use Rattle.query_bind.specs.Inside.{HasTable, IsInside, IsWithin}
 use Rattle.query_bind.specs.Names.{item_at}
-use Rattle.query_bind.specs.Stored.{column_shown}
+use Rattle.query_bind.specs.StoredParts.{column_shown}
 use Rattle.query_bind.specs.Weights.{table_in}
-use Rattle.query_bind.proofs.Search.{all-at}
+use Rattle.query_bind.proofs.Search.{all_at}
 
-combination-at : (counts rows : List ℕ) (i : ℕ) → IsCombination counts rows → i < length counts → (1 ≤ get_or rows i 0) × (get_or rows i 0 ≤ get_or counts i 0)
-combination-at [] rows i chosen inside = absurd (omega arith)
-combination-at (count ∷ counts) [] i chosen inside = absurd chosen
-combination-at (count ∷ counts) (row ∷ rows) zero chosen inside = (chosen.0, chosen.1)
-combination-at (count ∷ counts) (row ∷ rows) (suc i) chosen inside = combination-at counts rows i chosen.2 (omega arith)
+combination_at : (counts rows : List ℕ) (i : ℕ) → IsCombination counts rows → i < length counts → (1 ≤ get_or rows i 0) × (get_or rows i 0 ≤ get_or counts i 0)
+combination_at [] rows i chosen inside = absurd (omega arith)
+combination_at (count ∷ counts) [] i chosen inside = absurd chosen
+combination_at (count ∷ counts) (row ∷ rows) zero chosen inside = (chosen.0, chosen.1)
+combination_at (count ∷ counts) (row ∷ rows) (suc i) chosen inside = combination_at counts rows i chosen.2 (omega arith)
 
-combination-length : (counts rows : List ℕ) → IsCombination counts rows → length rows ≡ length counts
-combination-length [] [] chosen = refl
-combination-length [] (row ∷ rows) chosen = absurd chosen
-combination-length (count ∷ counts) [] chosen = absurd chosen
-combination-length (count ∷ counts) (row ∷ rows) chosen = ap suc (combination-length counts rows chosen.2)
+combination_length : (counts rows : List ℕ) → IsCombination counts rows → length rows ≡ length counts
+combination_length [] [] chosen = refl
+combination_length [] (row ∷ rows) chosen = absurd chosen
+combination_length (count ∷ counts) [] chosen = absurd chosen
+combination_length (count ∷ counts) (row ∷ rows) chosen = ap suc (combination_length counts rows chosen.2)
 
 -- an item has a row, which exists
 pub record HasRow (tables : List Table) (items : List Item) (rows : List ℕ) (i : ℕ) : Type 0 where
@@ -28,15 +28,15 @@ pub record HasRow (tables : List Table) (items : List Item) (rows : List ℕ) (i
   pub last : get_or rows i 0 ≤ length (table_in tables items i).rows
   pub place : i < length rows
 
-pub row-there : (tables : List Table) (items : List Item) (rows : List ℕ) (i : ℕ) → IsCombination (row_counts items tables) (take (length items) rows) → i < length items
+pub row_there : (tables : List Table) (items : List Item) (rows : List ℕ) (i : ℕ) → IsCombination (row_counts items tables) (take (length items) rows) → i < length items
     → HasRow tables items rows i
-row-there tables items rows i chosen inside =
+row_there tables items rows i chosen inside =
     let counted : Item → ℕ = λ (it : Item). length ((table_at tables it.table).rows) in
     let sizes = length-map items counted in
     let same : get_or (take (length items) rows) i 0 ≡ get_or rows i 0 = get_or-take (length items) rows i 0 inside in
-    let there = combination-at (row_counts items tables) (take (length items) rows) i chosen (omega (arith, sizes)) in
+    let there = combination_at (row_counts items tables) (take (length items) rows) i chosen (omega (arith, sizes)) in
     let count : get_or (row_counts items tables) i 0 ≡ length (table_in tables items i).rows = get_or-map counted items i (record { table = 0; alias = [] }) 0 inside in
-    let all = combination-length (row_counts items tables) (take (length items) rows) chosen in
+    let all = combination_length (row_counts items tables) (take (length items) rows) chosen in
     record {
       same = same;
       first = omega (arith, there.0, same);
@@ -53,18 +53,18 @@ pub record HasColumn (query : Query) (tables : List Table) (shown : List (ℕ ×
   pub table : (item_at query.items (get_or shown i d).0).table < length tables
   pub column : (get_or shown i d).1 < length (table_in tables query.items (get_or shown i d).0).names
 
-pub column-there : (query : Query) (tables : List Table) (shown : List (ℕ × ℕ)) (i : ℕ) (d : ℕ × ℕ) → IsWithin query tables → map column_shown shown ≡ query.list
+pub column_there : (query : Query) (tables : List Table) (shown : List (ℕ × ℕ)) (i : ℕ) (d : ℕ × ℕ) → IsWithin query tables → map column_shown shown ≡ query.list
     → i < length shown → HasColumn query tables shown i d
-column-there query tables shown i d within stored inside =
+column_there query tables shown i d within stored inside =
     let place : i < length query.list = omega (arith, inside, ap length stored, length-map shown column_shown) in
     let same : column_shown (get_or shown i d) ≡ get_or query.list i (column_shown d) =
     sym (get_or-map column_shown shown i d (column_shown d) inside) ∙ ap (λ (l : List Column). get_or l i (column_shown d)) stored in
     let there : IsInside tables query.items (column_shown (get_or shown i d)) =
-    subst (IsInside tables query.items) (sym same) (all-at (IsInside tables query.items) query.list i (column_shown d) within.list place) in
+    subst (IsInside tables query.items) (sym same) (all_at (IsInside tables query.items) query.list i (column_shown d) within.list place) in
     record {
       place = place;
       same = same;
       item = there.item;
-      table = all-at (HasTable tables) query.items (get_or shown i d).0 (record { table = 0; alias = [] }) within.items there.item;
+      table = all_at (HasTable tables) query.items (get_or shown i d).0 (record { table = 0; alias = [] }) within.items there.item;
       column = there.place;
     }

@@ -9,45 +9,45 @@ use Rattle.anyk_model.specs.Table.{Table}
 use Rattle.anyk_model.specs.Query.{Item, OrderKey, rank_of, sum_of, total}
 use Rattle.query_bind.specs.Inside.{KeyInside}
 use Rattle.query_bind.specs.Parts.{sum_of_all}
-use Rattle.query_bind.specs.Weighed.{BoundQuery, Fits}
+use Rattle.query_bind.specs.WeighedQuery.{BoundQuery, Fits}
 use Rattle.query_bind.specs.Weights.{cap_of, key_at, most_sum, part_of, range_fault, terms_size}
 use Rattle.query_bind.specs.declared.fault.BindFault.TheVariants as fault
-use Rattle.query_bind.proofs.Parts.{caps-add, nat_abs-add, part-capped, parts-add}
-use Rattle.query_bind.proofs.Search.{all-at}
+use Rattle.query_bind.proofs.Parts.{caps_add, nat_abs_add, part_capped, parts_add}
+use Rattle.query_bind.proofs.Search.{all_at}
 
 -- ---- a key that is in range
 
-passed-by : (b : Bool) (n : ℕ) (later : Option ℕ) → cond b (Some n) later ≡ None → (b ≡ false) × (later ≡ None)
-passed-by true n later e = absurd (cc e)
-passed-by false n later e = (refl, e)
+passed_by : (b : Bool) (n : ℕ) (later : Option ℕ) → cond b (Some n) later ≡ None → (b ≡ false) × (later ≡ None)
+passed_by true n later e = absurd (cc e)
+passed_by false n later e = (refl, e)
 
 -- if no element passes a test, each one fails it
-none-passes : {A : Type 0} (test : A → Bool) (n : ℕ) (xs : List A) (k : ℕ) (d : A) → position_from test n xs ≡ None → k < length xs → test (get_or xs k d) ≡ false
-none-passes test n [] k d e inside = absurd (omega arith)
-none-passes test n (x ∷ xs) zero d e inside = (passed-by (test x) n (position_from test (n + 1) xs) e).0
-none-passes test n (x ∷ xs) (suc k) d e inside = none-passes test (n + 1) xs k d (passed-by (test x) n (position_from test (n + 1) xs) e).1 (omega arith)
+none_passes : {A : Type 0} (test : A → Bool) (n : ℕ) (xs : List A) (k : ℕ) (d : A) → position_from test n xs ≡ None → k < length xs → test (get_or xs k d) ≡ false
+none_passes test n [] k d e inside = absurd (omega arith)
+none_passes test n (x ∷ xs) zero d e inside = (passed_by (test x) n (position_from test (n + 1) xs) e).0
+none_passes test n (x ∷ xs) (suc k) d e inside = none_passes test (n + 1) xs k d (passed_by (test x) n (position_from test (n + 1) xs) e).1 (omega arith)
 
-no-fault : (o : Option ℕ) → option_map (λ n. fault.RankRange n) o ≡ None → o ≡ None
-no-fault None e = refl
-no-fault (Some n) e = absurd (cc e)
+no_fault : (o : Option ℕ) → option_map (λ n. fault.RankRange n) o ≡ None → o ≡ None
+no_fault None e = refl
+no_fault (Some n) e = absurd (cc e)
 
 -- the greatest weights of a key have a sum that fits
-in-range : (tables : List Table) (items : List Item) (order : List OrderKey) (key : ℕ) → range_fault tables items order ≡ None → key < length order
+in_range : (tables : List Table) (items : List Item) (order : List OrderKey) (key : ℕ) → range_fault tables items order ≡ None → key < length order
     → terms_size tables items (key_at order key).terms ≤ most_sum
-in-range tables items order key none inside =
+in_range tables items order key none inside =
     ltb-false most_sum (terms_size tables items (key_at order key).terms)
-    (none-passes (λ (k : OrderKey). nat_lt most_sum (terms_size tables items k.terms)) 1 order key (record { terms = []; descending = false }) (no-fault (position_from (λ (k : OrderKey). nat_lt most_sum (terms_size tables items k.terms)) 1 order) none) inside)
+    (none_passes (λ (k : OrderKey). nat_lt most_sum (terms_size tables items k.terms)) 1 order key (record { terms = []; descending = false }) (no_fault (position_from (λ (k : OrderKey). nat_lt most_sum (terms_size tables items k.terms)) 1 order) none) inside)
 
 -- ---- the parts so far
 
-total-more : (xs : List ℤ) (x : ℤ) → total (xs ++ x ∷ []) ≡ total xs +ℤ x
-total-more [] x = omega (arith, ints)
-total-more (y ∷ xs) x = let h = total-more xs x in omega (arith, ints, h)
+total_more : (xs : List ℤ) (x : ℤ) → total (xs ++ x ∷ []) ≡ total xs +ℤ x
+total_more [] x = omega (arith, ints)
+total_more (y ∷ xs) x = let h = total_more xs x in omega (arith, ints, h)
 
-sum-grows : (f : ℕ → ℕ) (first k n : ℕ) → k ≤ n → sum_of_all (map f (range_with_len first k)) ≤ sum_of_all (map f (range_with_len first n))
-sum-grows f first zero n h = omega arith
-sum-grows f first (suc k) zero h = absurd (omega arith)
-sum-grows f first (suc k) (suc n) h = let rest = sum-grows f (first + 1) k n (omega arith) in omega (arith, rest)
+sum_grows : (f : ℕ → ℕ) (first k n : ℕ) → k ≤ n → sum_of_all (map f (range_with_len first k)) ≤ sum_of_all (map f (range_with_len first n))
+sum_grows f first zero n h = omega arith
+sum_grows f first (suc k) zero h = absurd (omega arith)
+sum_grows f first (suc k) (suc n) h = let rest = sum_grows f (first + 1) k n (omega arith) in omega (arith, rest)
 
 module _ (tables : List Table) (items : List Item) (rows : List ℕ) (key : OrderKey) where
   -- what the first items' rows add to a key
@@ -57,30 +57,30 @@ module _ (tables : List Table) (items : List Item) (rows : List ℕ) (key : Orde
   abbrev caps_of : List ℕ → ℕ
   caps_of ns = sum_of_all (map (λ i. cap_of tables items i key) ns)
 
-  parts-small : (ns : List ℕ) → nat_abs (total (map (λ i. part_of tables items i (slice_index rows i) key) ns)) ≤ caps_of ns
-  parts-small [] = omega arith
-  parts-small (n ∷ ns) =
-      let h = parts-small ns in
-      let one = part-capped tables items (slice_index rows n) n key in
-      let both = nat_abs-add (part_of tables items n (slice_index rows n) key) (total (map (λ i. part_of tables items i (slice_index rows i) key) ns)) in
+  parts_small : (ns : List ℕ) → nat_abs (total (map (λ i. part_of tables items i (slice_index rows i) key) ns)) ≤ caps_of ns
+  parts_small [] = omega arith
+  parts_small (n ∷ ns) =
+      let h = parts_small ns in
+      let one = part_capped tables items (slice_index rows n) n key in
+      let both = nat_abs_add (part_of tables items n (slice_index rows n) key) (total (map (λ i. part_of tables items i (slice_index rows i) key) ns)) in
       omega (arith, h, one, both)
 
-  pub parts-more : (n : ℕ) → parts_so_far (n + 1) ≡ parts_so_far n +ℤ part_of tables items n (slice_index rows n) key
-  parts-more n =
+  pub parts_more : (n : ℕ) → parts_so_far (n + 1) ≡ parts_so_far n +ℤ part_of tables items n (slice_index rows n) key
+  parts_more n =
       ap total (map-range_with_len_more (λ i. part_of tables items i (slice_index rows i) key) 0 n n (omega arith))
-      ∙ total-more (map (λ i. part_of tables items i (slice_index rows i) key) (range_with_len 0 n)) (part_of tables items n (slice_index rows n) key)
+      ∙ total_more (map (λ i. part_of tables items i (slice_index rows i) key) (range_with_len 0 n)) (part_of tables items n (slice_index rows n) key)
 
   -- the sum so far and what the next row adds
-  pub part-added : (n row : ℕ) (sum part : ℤ) → sum ≡ parts_so_far n → part ≡ part_of tables items n row key → slice_index rows n ≡ row → sum +ℤ part ≡ parts_so_far (n + 1)
-  part-added n row sum part before here same =
-      ap (λ (z : ℤ). z +ℤ part) before ∙ ap (λ (z : ℤ). parts_so_far n +ℤ z) (here ∙ ap (λ (r : ℕ). part_of tables items n r key) (sym same)) ∙ sym (parts-more n)
+  pub part_added : (n row : ℕ) (sum part : ℤ) → sum ≡ parts_so_far n → part ≡ part_of tables items n row key → slice_index rows n ≡ row → sum +ℤ part ≡ parts_so_far (n + 1)
+  part_added n row sum part before here same =
+      ap (λ (z : ℤ). z +ℤ part) before ∙ ap (λ (z : ℤ). parts_so_far n +ℤ z) (here ∙ ap (λ (r : ℕ). part_of tables items n r key) (sym same)) ∙ sym (parts_more n)
 
   -- they are within the caps of all items, and so fit
-  parts-bounded : (n : ℕ) → KeyInside tables items key → terms_size tables items key.terms ≤ most_sum → n ≤ length items → nat_abs (parts_so_far n) ≤ most_sum
-  parts-bounded n inside size few =
-      let small = parts-small (range_with_len 0 n) in
-      let grows = sum-grows (λ i. cap_of tables items i key) 0 n (length items) few in
-      let all = caps-add tables items key inside in
+  parts_bounded : (n : ℕ) → KeyInside tables items key → terms_size tables items key.terms ≤ most_sum → n ≤ length items → nat_abs (parts_so_far n) ≤ most_sum
+  parts_bounded n inside size few =
+      let small = parts_small (range_with_len 0 n) in
+      let grows = sum_grows (λ i. cap_of tables items i key) 0 n (length items) few in
+      let all = caps_add tables items key inside in
       omega (arith, small, grows, all, size)
 
 -- ---- the sum of a key of a query that fits its tables
@@ -93,18 +93,18 @@ module _ (bound : BoundQuery) (tables : List Table) (fits : Fits bound tables) (
   so_far n = parts_so_far tables bound.query.items rows key n
 
   inside : KeyInside tables bound.query.items key
-  inside = all-at (KeyInside tables bound.query.items) bound.query.order k (record { terms = []; descending = false }) fits.within.order there
+  inside = all_at (KeyInside tables bound.query.items) bound.query.order k (record { terms = []; descending = false }) fits.within.order there
 
   pub bounded : (n : ℕ) → n ≤ length bound.query.items → nat_abs (so_far n) ≤ most_sum
-  bounded n few = parts-bounded tables bound.query.items rows key n inside (in-range tables bound.query.items bound.query.order k fits.range there) few
+  bounded n few = parts_bounded tables bound.query.items rows key n inside (in_range tables bound.query.items bound.query.order k fits.range there) few
 
-  pub sum-fits : (n : ℕ) (z : ℤ) → n ≤ length bound.query.items → z ≡ so_far n → FitsSigned w128 z
-  sum-fits n z few is =
+  pub sum_fits : (n : ℕ) (z : ℤ) → n ≤ length bound.query.items → z ≡ so_far n → FitsSigned w128 z
+  sum_fits n z few is =
       let small = bounded n few in
       fits_signed_from_abs w128 z (omega (arith, small, ap nat_abs is))
 
-  pub negated-fits : (n : ℕ) (z : ℤ) → n ≤ length bound.query.items → z ≡ so_far n → FitsSigned w128 (pos 0 -ℤ z)
-  negated-fits n z few is =
+  pub negated_fits : (n : ℕ) (z : ℤ) → n ≤ length bound.query.items → z ≡ so_far n → FitsSigned w128 (pos 0 -ℤ z)
+  negated_fits n z few is =
       let small = bounded n few in
       let same = ap nat_abs is in
       fits_signed_from_abs w128 (pos 0 -ℤ z) (omega (arith, ints, small, same))
@@ -115,10 +115,10 @@ module _ (bound : BoundQuery) (tables : List Table) (fits : Fits bound tables) (
 
   -- all parts give the sum, which is negated if the order descends
   whole : (z : ℤ) → z ≡ so_far (length bound.query.items) → z ≡ rank_of bound.query tables rows key
-  whole z is = is ∙ parts-add bound.query tables rows key inside
+  whole z is = is ∙ parts_add bound.query tables rows key inside
 
-  pub descending-sum : (z : ℤ) → z ≡ so_far (length bound.query.items) → key.descending ≡ true → pos 0 -ℤ z ≡ sum_of bound.query tables rows key
-  descending-sum z is down = (as_compared key.descending (sum_of bound.query tables rows key) z (whole z is)).0 down
+  pub descending_sum : (z : ℤ) → z ≡ so_far (length bound.query.items) → key.descending ≡ true → pos 0 -ℤ z ≡ sum_of bound.query tables rows key
+  descending_sum z is down = (as_compared key.descending (sum_of bound.query tables rows key) z (whole z is)).0 down
 
-  pub ascending-sum : (z : ℤ) → z ≡ so_far (length bound.query.items) → key.descending ≡ false → z ≡ sum_of bound.query tables rows key
-  ascending-sum z is up = (as_compared key.descending (sum_of bound.query tables rows key) z (whole z is)).1 up
+  pub ascending_sum : (z : ℤ) → z ≡ so_far (length bound.query.items) → key.descending ≡ false → z ≡ sum_of bound.query tables rows key
+  ascending_sum z is up = (as_compared key.descending (sum_of bound.query tables rows key) z (whole z is)).1 up

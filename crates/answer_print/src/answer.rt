@@ -3,9 +3,9 @@ ghost use Rattle.std.specs.Prelude.{◌≡◌, ◌<◌, ◌++◌, [], if◌then�
 ghost use Rattle.std.specs.Fmt.{decimal, signed_decimal};
 ghost use Rattle.anyk_model.specs.Output.{line_text, optional_field};
 ghost use Rattle.anyk_model.specs.Query.{IsCombination, row_counts, sum_of, value_of};
-ghost use Rattle.query_bind.specs.Weighed.{Fits};
+ghost use Rattle.query_bind.specs.WeighedQuery.{Fits};
 ghost use Rattle.query_bind.specs.Weights.{key_at};
-ghost use Rattle.answer_print.specs.Shown.{style_shown};
+ghost use Rattle.answer_print.specs.StyleView.{style_shown};
 
 use crate::fields::{Fields, push_numbers, push_optional};
 use crate::number::{Number, Numbers};

@@ -2,9 +2,9 @@
 ghost use Rattle.std.specs.Prelude.{length, take};
 ghost use Rattle.anyk_model.specs.Output.{header_text, line_text};
 ghost use Rattle.anyk_model.specs.Query.{IsCombination, row_counts};
-ghost use Rattle.answer_print.specs.Shown.{style_shown};
-ghost use Rattle.query_bind.specs.Weighed.{Fits};
-ghost use Rattle.refusal_lines.specs.Printed.{Printed};
+ghost use Rattle.answer_print.specs.StyleView.{style_shown};
+ghost use Rattle.query_bind.specs.WeighedQuery.{Fits};
+ghost use Rattle.refusal_lines.specs.Printing.{Printed};
 ghost use Rattle.refusal_lines.specs.SinkState.{state_of};
 
 use crate::answer::write_line;

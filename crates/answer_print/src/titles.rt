@@ -1,8 +1,8 @@
 //! The record above the answers.
 ghost use Rattle.std.specs.Prelude.{◌≡◌, ◌++◌, [], codes, if◌then◌else◌, length, map, option_map, string_bytes, IfOk, OnOk};
 ghost use Rattle.anyk_model.specs.Output.{column_name, cursor_title, header_text, numbered, optional_field};
-ghost use Rattle.query_bind.specs.Weighed.{Fits};
-ghost use Rattle.answer_print.specs.Shown.{style_shown};
+ghost use Rattle.query_bind.specs.WeighedQuery.{Fits};
+ghost use Rattle.answer_print.specs.StyleView.{style_shown};
 
 use crate::fields::{Fields, push_optional, push_texts};
 use crate::style::Style;

@@ -27,7 +27,7 @@ use Rattle.tdp_core.proofs.TreeFacts.{tie_free_of, member_is_row}
 use Rattle.anyk_part.specs.declared.candidate.Link.{Link}
 use Rattle.anyk_part.specs.declared.candidate.Candidate.{Candidate}
 use Rattle.anyk_part.specs.Chains.{chain, IsChain}
-use Rattle.anyk_part.specs.Rest.{held_solutions}
+use Rattle.anyk_part.specs.RemainingSolutions.{held_solutions}
 use Rattle.anyk_part.specs.Regions.{followers, Reached, least, regions_of, rest_keys, IsEntry, IsPart}
 use Rattle.anyk_part.proofs.HeldSolutions.{remains_is}
 use Rattle.anyk_part.proofs.LiveTrees.{tree, staged}

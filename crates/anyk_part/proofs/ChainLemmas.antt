@@ -7,97 +7,97 @@ use Rattle.anyk_part.specs.declared.candidate.Link.{Link}
 use Rattle.tdp_model.proofs.Sums.{length_end}
 use Rattle.anyk_part.specs.Chains.{link_at, chain, IsChain}
 
-pub chain-length : (links : List (Linked Link)) (n : ℕ) (last : Option ℕ) → IsChain links n last → length (chain links n last) ≡ n
+pub chain_length : (links : List (Linked Link)) (n : ℕ) (last : Option ℕ) → IsChain links n last → length (chain links n last) ≡ n
 unfolding chain IsChain
-chain-length links zero last h = refl
-chain-length links (suc n) None h = absurd h
-chain-length links (suc n) (Some id) h = length_end (chain links n (link_at links id).before) (link_at links id).row ∙ ap suc (chain-length links n (link_at links id).before h.1)
+chain_length links zero last h = refl
+chain_length links (suc n) None h = absurd h
+chain_length links (suc n) (Some id) h = length_end (chain links n (link_at links id).before) (link_at links id).row ∙ ap suc (chain_length links n (link_at links id).before h.1)
 
-link-kept : (links more : List (Linked Link)) (id : ℕ) → id < length links → link_at (links ++ more) id ≡ link_at links id
-link-kept links more id l = ap (λ e. e.value) (get_or-append links more _ id l)
+link_kept : (links more : List (Linked Link)) (id : ℕ) → id < length links → link_at (links ++ more) id ≡ link_at links id
+link_kept links more id l = ap (λ e. e.value) (get_or-append links more _ id l)
 
 pub IsChain-kept : (links more : List (Linked Link)) (n : ℕ) (last : Option ℕ) → IsChain links n last → IsChain (links ++ more) n last
 unfolding IsChain
 IsChain-kept links more zero last h = tt
 IsChain-kept links more (suc n) None h = absurd h
 IsChain-kept links more (suc n) (Some id) h =
-    (omega (arith, length-append links more, h.0), subst (λ k. IsChain (links ++ more) n k.before) (sym (link-kept links more id h.0)) (IsChain-kept links more n (link_at links id).before h.1))
+    (omega (arith, length-append links more, h.0), subst (λ k. IsChain (links ++ more) n k.before) (sym (link_kept links more id h.0)) (IsChain-kept links more n (link_at links id).before h.1))
 
-pub chain-kept : (links more : List (Linked Link)) (n : ℕ) (last : Option ℕ) → IsChain links n last → chain (links ++ more) n last ≡ chain links n last
+pub chain_kept : (links more : List (Linked Link)) (n : ℕ) (last : Option ℕ) → IsChain links n last → chain (links ++ more) n last ≡ chain links n last
 unfolding chain IsChain
-chain-kept links more zero last h = refl
-chain-kept links more (suc n) None h = absurd h
-chain-kept links more (suc n) (Some id) h =
-    ap (λ k. chain (links ++ more) n k.before ++ (k.row ∷ [])) (link-kept links more id h.0)
-    ∙ ap (λ z. z ++ ((link_at links id).row ∷ [])) (chain-kept links more n (link_at links id).before h.1)
+chain_kept links more zero last h = refl
+chain_kept links more (suc n) None h = absurd h
+chain_kept links more (suc n) (Some id) h =
+    ap (λ k. chain (links ++ more) n k.before ++ (k.row ∷ [])) (link_kept links more id h.0)
+    ∙ ap (λ z. z ++ ((link_at links id).row ∷ [])) (chain_kept links more n (link_at links id).before h.1)
 
-link-new : (links : List (Linked Link)) (e : Linked Link) → link_at (links ++ (e ∷ [])) (length links) ≡ e.value
-link-new links e = ap (λ x. x.value) (get_or_at links e [] _ (length links) refl)
+link_new : (links : List (Linked Link)) (e : Linked Link) → link_at (links ++ (e ∷ [])) (length links) ≡ e.value
+link_new links e = ap (λ x. x.value) (get_or_at links e [] _ (length links) refl)
 
 -- a chain that a new link ends
 pub IsChain-new : (links : List (Linked Link)) (e : Linked Link) (n : ℕ) → IsChain links n e.value.before → IsChain (links ++ (e ∷ [])) (suc n) (Some (length links))
 unfolding IsChain
 IsChain-new links e n h =
-    (omega (arith, length-append links (e ∷ [])), subst (λ k. IsChain (links ++ (e ∷ [])) n k.before) (sym (link-new links e)) (IsChain-kept links (e ∷ []) n e.value.before h))
+    (omega (arith, length-append links (e ∷ [])), subst (λ k. IsChain (links ++ (e ∷ [])) n k.before) (sym (link_new links e)) (IsChain-kept links (e ∷ []) n e.value.before h))
 
-pub chain-new : (links : List (Linked Link)) (e : Linked Link) (n : ℕ) → IsChain links n e.value.before
+pub chain_new : (links : List (Linked Link)) (e : Linked Link) (n : ℕ) → IsChain links n e.value.before
     → chain (links ++ (e ∷ [])) (suc n) (Some (length links)) ≡ chain links n e.value.before ++ (e.value.row ∷ [])
 unfolding chain
-chain-new links e n h =
-    ap (λ k. chain (links ++ (e ∷ [])) n k.before ++ (k.row ∷ [])) (link-new links e)
-    ∙ ap (λ z. z ++ (e.value.row ∷ [])) (chain-kept links (e ∷ []) n e.value.before h)
+chain_new links e n h =
+    ap (λ k. chain (links ++ (e ∷ [])) n k.before ++ (k.row ∷ [])) (link_new links e)
+    ∙ ap (λ z. z ++ (e.value.row ∷ [])) (chain_kept links (e ∷ []) n e.value.before h)
 
 -- # A prefix read from its last link on
 
-pub chain-names : (links : List (Linked Link)) (n id : ℕ) (last : Option ℕ) → 0 < n → last ≡ Some id → IsChain links n last → id < length links
+pub chain_names : (links : List (Linked Link)) (n id : ℕ) (last : Option ℕ) → 0 < n → last ≡ Some id → IsChain links n last → id < length links
 unfolding IsChain
-chain-names links zero id last p e h = absurd (omega arith)
-chain-names links (suc n) id last p e h = (subst (λ o. IsChain links (suc n) o) e h).0
+chain_names links zero id last p e h = absurd (omega arith)
+chain_names links (suc n) id last p e h = (subst (λ o. IsChain links (suc n) o) e h).0
 
-pub chain-rest : (links : List (Linked Link)) (n id : ℕ) (last : Option ℕ) → 0 < n → last ≡ Some id → IsChain links n last → IsChain links (n - 1) (link_at links id).before
+pub chain_rest : (links : List (Linked Link)) (n id : ℕ) (last : Option ℕ) → 0 < n → last ≡ Some id → IsChain links n last → IsChain links (n - 1) (link_at links id).before
 unfolding IsChain
-chain-rest links zero id last p e h = absurd (omega arith)
-chain-rest links (suc n) id last p e h =
+chain_rest links zero id last p e h = absurd (omega arith)
+chain_rest links (suc n) id last p e h =
     let k : suc n - 1 ≡ n = omega arith in subst (λ z. IsChain links z (link_at links id).before) (sym k) (subst (λ o. IsChain links (suc n) o) e h).1
 
-pub chain-split : (links : List (Linked Link)) (n id : ℕ) (last : Option ℕ) → 0 < n → last ≡ Some id → chain links n last ≡ chain links (n - 1) (link_at links id).before ++ ((link_at links id).row ∷ [])
+pub chain_split : (links : List (Linked Link)) (n id : ℕ) (last : Option ℕ) → 0 < n → last ≡ Some id → chain links n last ≡ chain links (n - 1) (link_at links id).before ++ ((link_at links id).row ∷ [])
 unfolding chain
-chain-split links zero id last p e = absurd (omega arith)
-chain-split links (suc n) id last p e =
+chain_split links zero id last p e = absurd (omega arith)
+chain_split links (suc n) id last p e =
     let k : suc n - 1 ≡ n = omega arith in
     subst (λ z. chain links (suc n) last ≡ chain links z (link_at links id).before ++ ((link_at links id).row ∷ [])) (sym k)
     (ap (λ o. chain links (suc n) o) e)
 
-pub chain-ends : (links : List (Linked Link)) (n : ℕ) (last : Option ℕ) → 0 < n → last ≡ None → IsChain links n last → ⊥
+pub chain_ends : (links : List (Linked Link)) (n : ℕ) (last : Option ℕ) → 0 < n → last ≡ None → IsChain links n last → ⊥
 unfolding IsChain
-chain-ends links zero last p e h = omega arith
-chain-ends links (suc n) last p e h = subst (λ o. IsChain links (suc n) o) e h
+chain_ends links zero last p e h = omega arith
+chain_ends links (suc n) last p e h = subst (λ o. IsChain links (suc n) o) e h
 
-pub drop-set : (xs : List ℕ) (k count r : ℕ) → k < count → count ≤ length xs → drop k (take count (set xs k r)) ≡ r ∷ drop (k + 1) (take count xs)
-drop-set [] k count r l h = absurd (omega arith)
-drop-set (x ∷ xs) k zero r l h = absurd (omega arith)
-drop-set (x ∷ xs) zero (suc count) r l h = refl
-drop-set (x ∷ xs) (suc k) (suc count) r l h =
+pub drop_set : (xs : List ℕ) (k count r : ℕ) → k < count → count ≤ length xs → drop k (take count (set xs k r)) ≡ r ∷ drop (k + 1) (take count xs)
+drop_set [] k count r l h = absurd (omega arith)
+drop_set (x ∷ xs) k zero r l h = absurd (omega arith)
+drop_set (x ∷ xs) zero (suc count) r l h = refl
+drop_set (x ∷ xs) (suc k) (suc count) r l h =
     let e : suc (k + 1) ≡ suc k + 1 = omega arith in
-    drop-set xs k count r (omega arith) (omega arith) ∙ ap (λ z. r ∷ drop z (x ∷ take count xs)) e
+    drop_set xs k count r (omega arith) (omega arith) ∙ ap (λ z. r ∷ drop z (x ∷ take count xs)) e
 
-append-one : (xs : List ℕ) (r : ℕ) (ys : List ℕ) → (xs ++ (r ∷ [])) ++ ys ≡ xs ++ (r ∷ ys)
-append-one [] r ys = refl
-append-one (x ∷ xs) r ys = ap (λ z. x ∷ z) (append-one xs r ys)
+append_one : (xs : List ℕ) (r : ℕ) (ys : List ℕ) → (xs ++ (r ∷ [])) ++ ys ≡ xs ++ (r ∷ ys)
+append_one [] r ys = refl
+append_one (x ∷ xs) r ys = ap (λ z. x ∷ z) (append_one xs r ys)
 
-pub prefix-turn : (links : List (Linked Link)) (chosen all : List ℕ) (n count id : ℕ) (last : Option ℕ) → 0 < n → n ≤ count → count ≤ length chosen → last ≡ Some id
+pub prefix_turn : (links : List (Linked Link)) (chosen all : List ℕ) (n count id : ℕ) (last : Option ℕ) → 0 < n → n ≤ count → count ≤ length chosen → last ≡ Some id
     → all ≡ chain links n last ++ drop n (take count chosen)
     → all ≡ chain links (n - 1) (link_at links id).before ++ drop (n - 1) (take count (set chosen (n - 1) (link_at links id).row))
-prefix-turn links chosen all n count id last p l h e h0 =
+prefix_turn links chosen all n count id last p l h e h0 =
     let row : ℕ = (link_at links id).row in
     let k : n ≡ (n - 1) + 1 = omega arith in
     h0
-    ∙ ap (λ z. z ++ drop n (take count chosen)) (chain-split links n id last p e)
-    ∙ append-one (chain links (n - 1) (link_at links id).before) row (drop n (take count chosen))
+    ∙ ap (λ z. z ++ drop n (take count chosen)) (chain_split links n id last p e)
+    ∙ append_one (chain links (n - 1) (link_at links id).before) row (drop n (take count chosen))
     ∙ ap (λ m. chain links (n - 1) (link_at links id).before ++ (row ∷ drop m (take count chosen))) k
-    ∙ ap (λ z. chain links (n - 1) (link_at links id).before ++ z) (sym (drop-set chosen (n - 1) count row (omega arith) h))
+    ∙ ap (λ z. chain links (n - 1) (link_at links id).before ++ z) (sym (drop_set chosen (n - 1) count row (omega arith) h))
 
-pub prefix-end : (links : List (Linked Link)) (all ys : List ℕ) (n : ℕ) (last : Option ℕ) → n ≤ 0 → all ≡ chain links n last ++ drop n ys → ys ≡ all
+pub prefix_end : (links : List (Linked Link)) (all ys : List ℕ) (n : ℕ) (last : Option ℕ) → n ≤ 0 → all ≡ chain links n last ++ drop n ys → ys ≡ all
 unfolding chain
-prefix-end links all ys zero last l e = sym e
-prefix-end links all ys (suc n) last l e = absurd (omega arith)
+prefix_end links all ys zero last l e = sym e
+prefix_end links all ys (suc n) last l e = absurd (omega arith)

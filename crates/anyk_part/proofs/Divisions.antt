@@ -18,32 +18,32 @@ use Rattle.anyk_part.specs.declared.candidate.Walk.{Walk}
 use Rattle.anyk_part.specs.Chains.{chain}
 use Rattle.anyk_part.specs.Regions.{followers, Reached, region_of, region_at, held_by, IsEntry}
 use Rattle.anyk_part.specs.Walks.{best_from, divided_from, IsAt, IsChoice, IsDivision, row_at, start_region}
-use Rattle.anyk_part.proofs.ChainLemmas.{chain-length}
-use Rattle.anyk_part.proofs.Sites.{sum_by-first}
+use Rattle.anyk_part.proofs.ChainLemmas.{chain_length}
+use Rattle.anyk_part.proofs.Sites.{sum_by_first}
 use Rattle.anyk_part.proofs.Steps.{link_of, at_after, chain_after, entries_after, held_after, held_kept, top_after}
 
 module _ (members : List ℕ → List ℕ) where
-  best_from-first : (n : ℕ) (pre : List ℕ) → best_from members n pre 0 ≡ completion members n pre
+  best_from_first : (n : ℕ) (pre : List ℕ) → best_from members n pre 0 ≡ completion members n pre
   unfolding best_from completion
-  best_from-first zero pre = refl
-  best_from-first (suc n) pre = refl
+  best_from_first zero pre = refl
+  best_from_first (suc n) pre = refl
 
-  divided_from-first : (n : ℕ) (pre : List ℕ) → divided_from members n pre 0 ≡ deviations members n pre
+  divided_from_first : (n : ℕ) (pre : List ℕ) → divided_from members n pre 0 ≡ deviations members n pre
   unfolding divided_from deviations
-  divided_from-first zero pre = refl
-  divided_from-first (suc n) pre = refl
+  divided_from_first zero pre = refl
+  divided_from_first (suc n) pre = refl
 
-  best_from-next : (n : ℕ) (pre : List ℕ) (place : ℕ) → best_from members (suc n) pre place ≡ best_from members n (pre ++ (get_or (members pre) place 0 ∷ [])) 0
+  best_from_next : (n : ℕ) (pre : List ℕ) (place : ℕ) → best_from members (suc n) pre place ≡ best_from members n (pre ++ (get_or (members pre) place 0 ∷ [])) 0
   unfolding best_from
-  best_from-next n pre place = sym (best_from-first n (pre ++ (get_or (members pre) place 0 ∷ [])))
+  best_from_next n pre place = sym (best_from_first n (pre ++ (get_or (members pre) place 0 ∷ [])))
 
-  divided_from-next : (n : ℕ) (pre : List ℕ) (place : ℕ) (s : List ℕ) → in_regions members (divided_from members (suc n) pre place) s
+  divided_from_next : (n : ℕ) (pre : List ℕ) (place : ℕ) (s : List ℕ) → in_regions members (divided_from members (suc n) pre place) s
       ≡ in_region members (record { chosen = pre; place = 2 * place + 1; left = n }) s
       + (in_region members (record { chosen = pre; place = 2 * place + 2; left = n }) s + in_regions members (divided_from members n (pre ++ (get_or (members pre) place 0 ∷ [])) 0) s)
   unfolding divided_from in_regions
-  divided_from-next n pre place s =
+  divided_from_next n pre place s =
       ap (λ ds. in_region members (record { chosen = pre; place = 2 * place + 1; left = n }) s + (in_region members (record { chosen = pre; place = 2 * place + 2; left = n }) s + in_regions members ds s))
-      (sym (divided_from-first n (pre ++ (get_or (members pre) place 0 ∷ []))))
+      (sym (divided_from_first n (pre ++ (get_or (members pre) place 0 ∷ []))))
 
 -- the numbers of a step: what a walk has divided, and what it puts in
 division_step : (stands stands' : Bool) (whole i j dev top here_top now next : ℕ) → whole ≡ (i + (j + dev)) + (cond stands 0 top + now)
@@ -95,7 +95,7 @@ module _ {R : Type 0} (d : ℕ) (key : R → KeyOf d 16) (t : List (NodeData R))
       let F : List ℕ → List ℕ = followers t in
       let pre : List ℕ = chain links w.node w.before in
       let n : ℕ = length t - suc w.node in
-      let long : length pre ≡ w.node = chain-length links w.node w.before at.chained in
+      let long : length pre ≡ w.node = chain_length links w.node w.before at.chained in
       let size : length t - w.node ≡ suc n = omega (arith, l) in
       let left : length t - w'.node ≡ n = omega (arith, en) in
       let next : List ℕ = pre ++ (row_at d key t w links ∷ []) in
@@ -103,7 +103,7 @@ module _ {R : Type 0} (d : ℕ) (key : R → KeyOf d 16) (t : List (NodeData R))
         from = omega (arith, en, h.from);
         goal = h.goal
             ∙ ap (λ k. best_from F k pre w.place) size
-            ∙ best_from-next F n pre w.place
+            ∙ best_from_next F n pre w.place
             ∙ ap (λ k. best_from F k next 0) (sym left)
             ∙ ap (λ p. best_from F (length t - w'.node) p 0) (sym ec)
             ∙ ap (λ k. best_from F (length t - w'.node) (chain links' w'.node w'.before) k) (sym ep);
@@ -118,7 +118,7 @@ module _ {R : Type 0} (d : ℕ) (key : R → KeyOf d 16) (t : List (NodeData R))
             ≡ (i (2 * w.place + 1) w.node + (i (2 * w.place + 2) w.node + dev)) + (cond w.top_stands 0 (held_by t old_links (take 1 before) s) + held_by t links entries s) =
             h.held s
             ∙ ap (λ k. in_regions F (divided_from F k pre w.place) s + (cond w.top_stands 0 (held_by t old_links (take 1 before) s) + held_by t links entries s)) size
-            ∙ ap (λ z. z + (cond w.top_stands 0 (held_by t old_links (take 1 before) s) + held_by t links entries s)) (divided_from-next F n pre w.place s) in
+            ∙ ap (λ z. z + (cond w.top_stands 0 (held_by t old_links (take 1 before) s) + held_by t links entries s)) (divided_from_next F n pre w.place s) in
             let now : i (2 * w.place + 1) w.node + (i (2 * w.place + 2) w.node + held_by t links entries s) ≡ cond w.top_stands (cond w'.top_stands 0 (held_by t links (take 1 entries) s)) 0 + held_by t links' entries' s =
             subst (λ k. i (2 * w.place + 1) k + (i (2 * w.place + 2) k + held_by t links entries s) ≡ cond w.top_stands (cond w'.top_stands 0 (held_by t links (take 1 entries) s)) 0 + held_by t links' entries' s) long (step s) in
             division_step w.top_stands w'.top_stands _ (i (2 * w.place + 1) w.node) (i (2 * w.place + 2) w.node) dev (held_by t old_links (take 1 before) s) (held_by t links (take 1 entries) s) (held_by t links entries s) (held_by t links' entries' s)
@@ -170,7 +170,7 @@ module _ {R : Type 0} (d : ℕ) (key : R → KeyOf d 16) (t : List (NodeData R))
           stands_yes w.top_stands (held_by t old_links (take 1 before) s) e,
           sum_by-IsPermutation f entries (top ∷ new) p,
           sum_by-cons f top new,
-          sum_by-first f entries top some,
+          sum_by_first f entries top some,
           ap f first,
           (h.stands e).1 s,
         )

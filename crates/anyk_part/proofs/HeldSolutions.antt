@@ -2,7 +2,7 @@
 use Rattle.std.proofs.Common.{◌≡◌, ℕ, zero, suc, ◌*◌, ◌-◌, ◌/◌, ◌<◌, ◌≤◌, Bool, true, false, cond, nat_eq, List, [], ◌∷◌, ◌++◌, map, length, get_or, refl, sym, ap, ◌∙◌, subst, inl, inr, arith}
 use Rattle.std.proofs.lemmas.Bool.{cases_lt, eq-eqb, eqb-true, cond-true}
 use Rattle.rankings.specs.Order.{IsOrder, IsMember, ranked}
-use Rattle.rankings.proofs.Members.{member-left, member-right, member-either, member-map, member-unmap}
+use Rattle.rankings.proofs.Members.{member_left, member_right, member_either, member_map, member_unmap}
 use Rattle.tdp_model.specs.Remains.{Remains}
 use Rattle.tdp_model.specs.Heap.{under, climbs}
 use Rattle.tdp_model.specs.Regions.{past, is_empty, completes, held, stands, place_of, Region, in_region, in_regions}
@@ -10,7 +10,7 @@ use Rattle.tdp_model.proofs.Division.{get_place, place_le, stands_yes, stands_pl
 use Rattle.tdp_model.proofs.Enumeration.{gather_member, member_gather}
 use Rattle.tdp_model.proofs.Sorting.{ranked_is_ranking}
 use Rattle.rankings.proofs.Unique.{ranking_unique}
-use Rattle.anyk_part.specs.Rest.{completions, region_solutions, held_solutions, ranking_of}
+use Rattle.anyk_part.specs.RemainingSolutions.{completions, region_solutions, held_solutions, ranking_of}
 
 joined : (pre : List ℕ) (r : ℕ) (t : List ℕ) → (pre ++ (r ∷ [])) ++ t ≡ pre ++ (r ∷ t)
 joined [] r t = refl
@@ -105,14 +105,14 @@ module _ (members : List ℕ → List ℕ) where
   unfolding in_regions held_solutions
   all_listed [] s h = absurd (omega arith)
   all_listed (r ∷ rs) s h = elim (cases_lt 0 (in_region members r s)) [
-    | inl p ↦ member-left s (region_solutions members r) (held_solutions members rs) (region_listed r s p)
-    | inr z ↦ member-right s (region_solutions members r) (held_solutions members rs) (all_listed rs s (omega arith))
+    | inl p ↦ member_left s (region_solutions members r) (held_solutions members rs) (region_listed r s p)
+    | inr z ↦ member_right s (region_solutions members r) (held_solutions members rs) (all_listed rs s (omega arith))
   ]
 
   pub all_counted : (rs : List Region) (s : List ℕ) → IsMember s (held_solutions members rs) → 0 < in_regions members rs s
   unfolding in_regions held_solutions
   all_counted [] s m = absurd m
-  all_counted (r ∷ rs) s m = elim (member-either s (region_solutions members r) (held_solutions members rs) m) [
+  all_counted (r ∷ rs) s m = elim (member_either s (region_solutions members r) (held_solutions members rs) m) [
     | inl n ↦ omega (arith, region_counted r s n)
     | inr n ↦ omega (arith, all_counted rs s n)
   ]
@@ -127,9 +127,9 @@ module _ (members : List ℕ → List ℕ) where
           ascending = h.ascending;
           sound = λ k m.
               let s : (x : List ℕ) × (0 < in_regions members rs x) × (bound x ≡ k) = h.sound k m in
-              subst (λ z. IsMember z keys) s.2 (member-map bound s.0 (held_solutions members rs) (all_listed rs s.0 s.1));
+              subst (λ z. IsMember z keys) s.2 (member_map bound s.0 (held_solutions members rs) (all_listed rs s.0 s.1));
           complete = λ k m.
-              let s : (x : List ℕ) × IsMember x (held_solutions members rs) × (k ≡ bound x) = member-unmap bound k (held_solutions members rs) m in
+              let s : (x : List ℕ) × IsMember x (held_solutions members rs) × (k ≡ bound x) = member_unmap bound k (held_solutions members rs) m in
               subst (λ z. IsMember z ks) (sym s.2) (h.complete s.0 (all_counted rs s.0 s.1));
         })
         (ranked_is_ranking Below o keys)

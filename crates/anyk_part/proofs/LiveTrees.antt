@@ -1,7 +1,7 @@
 -- A live tree as the theory of ranked enumeration has it.
 use Rattle.std.proofs.Common.{ℕ, ◌<◌, List, length}
 use Rattle.tdp_model.specs.KeyTuple.{KeyOf, key_below, key_add, key_none}
-use Rattle.tdp_model.specs.Staged.{IsStaged}
+use Rattle.tdp_model.specs.StagedProblem.{IsStaged}
 use Rattle.tdp_model.specs.TreeProblem.{IsTree}
 use Rattle.tdp_model.proofs.KeyTuples.{tuple_keys}
 use Rattle.tdp_model.proofs.TreeStaged.{other_of, tree_staged}

@@ -6,19 +6,19 @@ use Rattle.stream_store.specs.declared.entry.Linked.{Linked}
 use Rattle.take2_heap.specs.declared.entry.Entry.{Entry}
 use Rattle.take2_heap.specs.Order as heaps
 use Rattle.rank_key.specs.Bits.{bit_length}
-use Rattle.rank_key.proofs.BitLemmas.{bit_length-rises, bit_length-half}
+use Rattle.rank_key.proofs.BitLemmas.{bit_length_rises, bit_length_half}
 use Rattle.rankings.specs.Order.{ranked}
 use Rattle.tdp_model.specs.KeyTuple.{KeyOf}
 use Rattle.tdp_model.specs.KeyNumbers.{numbers}
 use Rattle.tdp_model.specs.Regions.{in_regions, divided, best_of}
-use Rattle.tdp_core.specs.Seen.{rows_of_key, answers_of}
+use Rattle.tdp_core.specs.SeenAnswers.{rows_of_key, answers_of}
 use Rattle.tdp_core.specs.TreeData.{NodeData}
 use Rattle.anyk_part.specs.declared.candidate.Link.{Link}
 use Rattle.anyk_part.specs.declared.candidate.Candidate.{Candidate}
 use Rattle.tdp_core.specs.Shares.{most_steps}
 use Rattle.anyk_part.specs.Candidates.{key_of_rows}
 use Rattle.anyk_part.specs.Regions.{followers, region_of, regions_of, candidates_of, held_by, rest_keys, rest_of, IsEntry, IsPart}
-use Rattle.anyk_part.specs.Rest.{held_solutions}
+use Rattle.anyk_part.specs.RemainingSolutions.{held_solutions}
 use Rattle.anyk_part.proofs.Queues.{part_next, one_open, regions_seen}
 use Rattle.anyk_part.proofs.WholeSolutions.{best_key}
 
@@ -82,8 +82,8 @@ answers_end d key t links (e ∷ es) empty = absurd (omega arith)
 
 more_digits : (n x : ℕ) → n ≤ 2 * x + 1 → bit_length n ≤ bit_length x + 1
 more_digits n x h = elim (cases_lt 0 n) [
-  | inl some ↦ omega (arith, bit_length-half n some, bit_length-rises (n / 2) x (omega (arith, h)))
-  | inr none ↦ omega (arith, bit_length-rises n x (omega (arith, none)))
+  | inl some ↦ omega (arith, bit_length_half n some, bit_length_rises (n / 2) x (omega (arith, h)))
+  | inr none ↦ omega (arith, bit_length_rises n x (omega (arith, none)))
 ]
 
 times_more : (m a b : ℕ) → a ≤ b → m * a ≤ m * b

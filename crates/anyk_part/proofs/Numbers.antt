@@ -6,10 +6,10 @@ use Rattle.std.proofs.lemmas.List.{get_or-take, length-take, get_or-set_same, ge
 use Rattle.tdp_model.specs.KeyTuple.{KeyOf, key_add, key_none, slot_of}
 use Rattle.tdp_model.specs.TreeProblem.{rows_key}
 use Rattle.tdp_model.proofs.Ties.{slot_key, slot_zero}
-use Rattle.tdp_core.specs.Seen.{rows_of_key}
+use Rattle.tdp_core.specs.SeenAnswers.{rows_of_key}
 use Rattle.tdp_core.specs.TreeData.{NodeData, parent, item, rows, number, group, rank}
 use Rattle.tdp_core.specs.WellFormed.{IsFormed, IsTieFreeTree}
-use Rattle.tdp_core.proofs.SeenFacts.{rows_of_key-length, rows_of_key-at}
+use Rattle.tdp_core.proofs.SeenFacts.{rows_of_key_length, rows_of_key_at}
 use Rattle.tdp_core.proofs.TreeFacts.{tie_free_of}
 
 pub same_places : (xs ys : List ℕ) → length xs ≡ length ys → ((i : ℕ) → i < length xs → get_or xs i 0 ≡ get_or ys i 0) → xs ≡ ys
@@ -49,7 +49,7 @@ module _ {R : Type 0} (d : ℕ) (key : R → KeyOf d 16) (t : List (NodeData R))
       let few = formed.shaped.few_nodes in
       let size : length s ≡ length t = length-take (length t) chosen ∙ omega (arith, few, wide) in
       let k : KeyOf d 16 = rows_key (key_add d 16) (key_none d 16) (rank t d key) s in
-      same_places numbers (rows_of_key d 16 k) (long ∙ sym (rows_of_key-length d 16 k))
+      same_places numbers (rows_of_key d 16 k) (long ∙ sym (rows_of_key_length d 16 k))
       (λ i l. elim (owner (item t) i (length t)) [
         | inl f ↦
             ap (λ z. get_or numbers z 0) f.2
@@ -57,7 +57,7 @@ module _ {R : Type 0} (d : ℕ) (key : R → KeyOf d 16) (t : List (NodeData R))
             ∙ ap (λ z. number t f.0 z) (sym (get_or-take (length t) chosen f.0 0 f.1))
             ∙ sym (slot_key (key_add d 16) (key_none d 16) (length t) (parent t) (rank t d key) (group t) (item t) (number t) (slot_of d 16) (tie_free_of d key t formed apart) f.0 s (omega (arith, size, f.1)) (omega (arith, size)))
             ∙ ap (λ z. slot_of d 16 z k) (sym f.2)
-            ∙ sym (rows_of_key-at d 16 i k)
+            ∙ sym (rows_of_key_at d 16 i k)
         | inr no_one ↦
             others i no_one
             ∙ sym (slot_zero (key_add d 16) (key_none d 16) (length t) (parent t) (rank t d key) (group t) (item t) (number t) (slot_of d 16) (tie_free_of d key t formed apart) i (λ q. rank t d key q (get_or s q 0)) (length s) 0
@@ -65,5 +65,5 @@ module _ {R : Type 0} (d : ℕ) (key : R → KeyOf d 16) (t : List (NodeData R))
             let below : j < length t = omega (arith, size, b) in
             (formed.rows_fit j (get_or s j 0) below (subst (λ z. z < rows t j) (sym (get_or-take (length t) chosen j 0 below)) (in_rows j below))).2 i (omega (arith, l, long))
             ∙ cond-false (nat_eq i (item t j)) (number t j (get_or s j 0)) 0 (ne_eqb i (item t j) (no_one j below))))
-            ∙ sym (rows_of_key-at d 16 i k)
+            ∙ sym (rows_of_key_at d 16 i k)
       ])

@@ -11,7 +11,7 @@ use Rattle.tdp_model.specs.Remains.{AtMost, Remains}
 use Rattle.tdp_model.specs.Regions.{Region, in_region, in_regions, divided}
 use Rattle.tdp_model.specs.Queue.{rank_of, IsOpen, AllOpen, IsLeast, IsQueue, present}
 use Rattle.tdp_model.proofs.KeyTuples.{tuple_keys}
-use Rattle.tdp_model.proofs.KeyNumbers.{not_less-at_most}
+use Rattle.tdp_model.proofs.KeyNumbers.{not_less_at_most}
 use Rattle.tdp_model.proofs.Removal.{Remains-same}
 use Rattle.tdp_model.proofs.PartNext.{part_keeps, in_regions_append, present_same}
 use Rattle.tdp_core.specs.TreeData.{NodeData, group_count}
@@ -49,7 +49,7 @@ module _ {R : Type 0} (d : ℕ) (key : R → KeyOf d 16) (t : List (NodeData R))
   least_of e (x ∷ es) h all l =
       let k : IsEntry d key t links x = All-head (IsEntry d key t links) x es all in (
         subst (λ z. AtMost (key_below d 16) z (rank_of (followers t) (least d key t) (region_of links (length t) x.tag))) h.ranked
-            (subst (λ z. AtMost (key_below d 16) (key e.rank) z) k.ranked (not_less-at_most d (16) (key x.rank) (key e.rank) l.0)),
+            (subst (λ z. AtMost (key_below d 16) (key e.rank) z) k.ranked (not_less_at_most d (16) (key x.rank) (key e.rank) l.0)),
         least_of e es h (All-tail (IsEntry d key t links) x es all) l.1,
       )
 

@@ -21,7 +21,7 @@ use Rattle.anyk_part.specs.declared.candidate.Site.{Site}
 use Rattle.anyk_part.specs.Chains.{chain}
 use Rattle.anyk_part.specs.Regions.{followers, Reached, least, region_of, region_at, held_by, IsEntry}
 use Rattle.anyk_part.specs.Walks.{IsSite}
-use Rattle.anyk_part.proofs.ChainLemmas.{chain-length}
+use Rattle.anyk_part.proofs.ChainLemmas.{chain_length}
 use Rattle.anyk_part.proofs.LiveTrees.{tree, other}
 
 past_zero : (pre s : List ℕ) → past pre (λ t. 0) s ≡ 0
@@ -38,16 +38,16 @@ pub none_past : (members : List ℕ → List ℕ) (r : Region) (s : List ℕ) �
 unfolding in_region
 none_past members r s l = past_same r.chosen (held members r.left r.chosen r.place) (λ t. 0) (held_past_end members r.left r.chosen r.place l) s ∙ past_zero r.chosen s
 
-pub sum_by-first : {X : Type 0} (f : X → ℕ) (xs : List X) (d : X) → 0 < length xs → sum_by f (take 1 xs) ≡ f (get_or xs 0 d)
-sum_by-first f [] d h = absurd (omega arith)
-sum_by-first f (x ∷ xs) d h = omega (arith, sum_by-cons f x [])
+pub sum_by_first : {X : Type 0} (f : X → ℕ) (xs : List X) (d : X) → 0 < length xs → sum_by f (take 1 xs) ≡ f (get_or xs 0 d)
+sum_by_first f [] d h = absurd (omega arith)
+sum_by_first f (x ∷ xs) d h = omega (arith, sum_by-cons f x [])
 
 module _ {R : Type 0} (d : ℕ) (key : R → KeyOf d 16) (t : List (NodeData R)) (links : List (Linked Link)) (s : Site R) (h : IsSite d key t links s) where
   abbrev pub prefix : List ℕ
   prefix = chain links s.node s.before
 
   long : length prefix ≡ s.node
-  long = chain-length links s.node s.before h.chained
+  long = chain_length links s.node s.before h.chained
 
   reach : Reached t (suc (length t - suc s.node)) prefix
   reach = (omega (arith, long, h.node), h.reached.1)
@@ -110,7 +110,7 @@ module _ {R : Type 0} (d : ℕ) (key : R → KeyOf d 16) (t : List (NodeData R))
         sum_by-IsPermutation f (entry_at r place ∷ old) (get_or old 0 (entry_at r place) ∷ new) p,
         sum_by-cons f (entry_at r place) old,
         sum_by-cons f (get_or old 0 (entry_at r place)) new,
-        sum_by-first f old (entry_at r place) some,
+        sum_by_first f old (entry_at r place) some,
         same_region r place u,
       )
 

@@ -10,7 +10,7 @@ use Rattle.std.proofs.lemmas.List.Elements.{All-head, All-tail, All-cons, All-ni
 use Rattle.stream_store.specs.declared.entry.Linked.{Linked}
 use Rattle.take2_heap.specs.declared.entry.Entry.{Entry}
 use Rattle.tdp_model.specs.KeyTuple.{KeyOf, key_below}
-use Rattle.tdp_model.specs.Staged.{IsStaged}
+use Rattle.tdp_model.specs.StagedProblem.{IsStaged}
 use Rattle.tdp_model.specs.Regions.{in_region, opening}
 use Rattle.tdp_core.specs.TreeData.{NodeData, parent, rows, members, group_number, group_named, child_place, group, best}
 use Rattle.tdp_core.proofs.TreeFacts.{member_is_row, rows_within, group_rows_within}
@@ -21,7 +21,7 @@ use Rattle.anyk_part.specs.declared.candidate.Walk.{Walk}
 use Rattle.anyk_part.specs.Chains.{chain, IsChain}
 use Rattle.anyk_part.specs.Regions.{followers, Reached, least, region_of, region_at, held_by, IsEntry}
 use Rattle.anyk_part.specs.Walks.{IsSite, IsAt, IsChoice, row_at}
-use Rattle.anyk_part.proofs.ChainLemmas.{chain-length, IsChain-kept, chain-kept, IsChain-new, chain-new}
+use Rattle.anyk_part.proofs.ChainLemmas.{chain_length, IsChain-kept, chain_kept, IsChain-new, chain_new}
 use Rattle.anyk_part.proofs.LiveTrees.{staged}
 use Rattle.anyk_part.proofs.Sites.{none_past}
 
@@ -30,7 +30,7 @@ use Rattle.anyk_part.proofs.Sites.{none_past}
 pub entry_kept : {R : Type 0} (d : ℕ) (key : R → KeyOf d 16) (t : List (NodeData R)) (links more : List (Linked Link)) (e : Entry R Candidate) → IsEntry d key t links e → IsEntry d key t (links ++ more) e
 unfolding opening
 entry_kept d key t links more e h =
-    let same : chain (links ++ more) e.tag.position e.tag.before ≡ chain links e.tag.position e.tag.before = chain-kept links more e.tag.position e.tag.before h.chained in
+    let same : chain (links ++ more) e.tag.position e.tag.before ≡ chain links e.tag.position e.tag.before = chain_kept links more e.tag.position e.tag.before h.chained in
     record {
       position = h.position;
       chained = IsChain-kept links more e.tag.position e.tag.before h.chained;
@@ -45,7 +45,7 @@ held_kept d key t links more [] all u = refl
 held_kept d key t links more (e ∷ es) all u =
     let head : IsEntry d key t links e = All-head (IsEntry d key t links) e es all in
     let same : in_region (followers t) (region_of (links ++ more) (length t) e.tag) u ≡ in_region (followers t) (region_of links (length t) e.tag) u =
-    ap (λ p. in_region (followers t) (record { chosen = p; place = e.tag.place; left = length t - suc e.tag.position }) u) (chain-kept links more e.tag.position e.tag.before head.chained) in
+    ap (λ p. in_region (followers t) (record { chosen = p; place = e.tag.place; left = length t - suc e.tag.position }) u) (chain_kept links more e.tag.position e.tag.before head.chained) in
     omega (
       arith,
       same,
@@ -82,7 +82,7 @@ module _ {R : Type 0} (d : ℕ) (key : R → KeyOf d 16) (t : List (NodeData R))
   row = row_at d key t w links
 
   long : length so_far ≡ w.node
-  long = chain-length links w.node w.before h.chained
+  long = chain_length links w.node w.before h.chained
 
   -- the row chosen at an earlier node
   pub chosen_is : (q : ℕ) → q < w.node → get_or chosen q 0 ≡ get_or so_far q 0
@@ -145,7 +145,7 @@ module _ {R : Type 0} (d : ℕ) (key : R → KeyOf d 16) (t : List (NodeData R))
   linked = link_of row
 
   pub chain_next : chain (links ++ (linked ∷ [])) (w.node + 1) (Some (length links)) ≡ so_far ++ (row ∷ [])
-  chain_next = subst (λ n. chain (links ++ (linked ∷ [])) n (Some (length links)) ≡ so_far ++ (row ∷ [])) next_size (chain-new links linked w.node h.chained)
+  chain_next = subst (λ n. chain (links ++ (linked ∷ [])) n (Some (length links)) ≡ so_far ++ (row ∷ [])) next_size (chain_new links linked w.node h.chained)
 
   abbrev pub law : IsStaged (KeyOf d 16) (key_below d 16) (followers t) (least d key t) (Reached t)
   law = staged d key t h.formed h.live

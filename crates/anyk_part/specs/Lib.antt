@@ -2,5 +2,5 @@ pub mod Candidates
 pub mod Chains
 pub mod Places
 pub mod Regions
-pub mod Rest
+pub mod RemainingSolutions
 pub mod Walks

@@ -9,13 +9,13 @@ use Rattle.tdp_model.specs.TreeProblem.{rows_after, bound_of, IsReached}
 use Rattle.tdp_model.specs.Queue.{rank_of}
 use Rattle.tdp_model.specs.Remains.{Remains}
 use Rattle.tdp_model.proofs.KeyTuples.{tuple_keys}
-use Rattle.tdp_core.specs.Seen.{Seen, answers_of}
+use Rattle.tdp_core.specs.SeenAnswers.{Seen, answers_of}
 use Rattle.tdp_core.specs.TreeData.{NodeData, parent, rows, group, group_count, rank, best}
 use Rattle.tdp_core.specs.WellFormed.{IsFormed, IsTieFreeTree}
 use Rattle.anyk_part.specs.declared.candidate.Link.{Link}
 use Rattle.anyk_part.specs.declared.candidate.Candidate.{Candidate}
 use Rattle.anyk_part.specs.Chains.{chain, IsChain}
-use Rattle.anyk_part.specs.Rest.{ranking_of}
+use Rattle.anyk_part.specs.RemainingSolutions.{ranking_of}
 
 -- a candidate: its region, and its rank
 pub record RankedRegion (R : Type 0) : Type 0 where

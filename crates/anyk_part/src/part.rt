@@ -6,7 +6,7 @@ ghost use Rattle.tdp_model.specs.KeyTuple.{KeyOf};
 ghost use Rattle.tdp_core.specs.TreeData.{group_count, row_count};
 ghost use Rattle.tdp_core.specs.WellFormed.{IsTieFreeTree};
 ghost use Rattle.tdp_core.specs.Solutions.{IsTreeRanking};
-ghost use Rattle.tdp_core.specs.Seen.{answers_of};
+ghost use Rattle.tdp_core.specs.SeenAnswers.{answers_of};
 ghost use Rattle.tdp_core.specs.Shares.{most_steps, share_of, size_of};
 ghost use Rattle.tdp_core.specs.RisingShares.{shares_rise, at_most_itself};
 ghost use Rattle.anyk_part.specs.Regions.{rest_of, rest_keys, regions_of, IsPart};

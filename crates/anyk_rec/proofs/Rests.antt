@@ -2,18 +2,18 @@
 use Rattle.std.proofs.Common.{◌≡◌, ℕ, ℤ, zero, suc, ◌+◌, ◌*◌, ◌^◌, ◌<◌, ◌≤◌, cond, nat_lt, Option, Some, None, IfSome, List, [], ◌∷◌, length, drop, get_or, refl, sym, ap, ◌∙◌, arith}
 use Rattle.std.proofs.lemmas.Bool.Decides.{nat_tests}
 use Rattle.rank_key.specs.Bits.{bit_length}
-use Rattle.rank_key.proofs.BitLemmas.{bit_length-rises, bit_length-below}
+use Rattle.rank_key.proofs.BitLemmas.{bit_length_rises, bit_length_below}
 use Rattle.tdp_model.specs.KeyTuple.{KeyOf, key_none}
 use Rattle.tdp_model.specs.KeyNumbers.{numbers}
 use Rattle.tdp_core.specs.declared.ranked.Answer.{Answer}
-use Rattle.tdp_core.specs.Seen.{Seen, rows_of_key, answers_of, answer_of}
+use Rattle.tdp_core.specs.SeenAnswers.{Seen, rows_of_key, answers_of, answer_of}
 use Rattle.tdp_core.specs.Shares.{size_of, share_of}
 use Rattle.tdp_core.specs.TreeData.{NodeData, group_count, row_count}
 use Rattle.tdp_core.specs.WellFormed.{IsFormed, IsTieFreeTree}
 use Rattle.tdp_core.specs.Solutions.{IsTreeRanking}
 use Rattle.suffix_streams.specs.Rankings.{group_list}
 use Rattle.suffix_streams.specs.StreamsView.{StreamsView, AreKept, entry_group, entry_place, entry_key}
-use Rattle.suffix_streams.proofs.BeginRankings.{root_list-empty, root_ranks}
+use Rattle.suffix_streams.proofs.BeginRankings.{root_list_empty, root_ranks}
 use Rattle.anyk_rec.specs.RecView.{RecView, rest_of, IsRootEntry, given_of}
 
 drop_nothing : {K : Type 0} (n : ℕ) → drop {A = K} n [] ≡ []
@@ -33,7 +33,7 @@ drop_all (x ∷ xs) (suc n) e = drop_all xs n (omega arith)
 module _ {R : Type 0} (d : ℕ) (key : R → KeyOf d 16) where
   -- of a tree without solutions
   pub rest_none : (r : RecView R) → group_count r.streams.tree 0 ≡ 0 → rest_of d key r ≡ []
-  rest_none r none = ap (λ ks. answers_of d (drop r.given ks)) (root_list-empty d key r.streams.tree none) ∙ ap (answers_of d) (drop_nothing r.given)
+  rest_none r none = ap (λ ks. answers_of d (drop r.given ks)) (root_list_empty d key r.streams.tree none) ∙ ap (answers_of d) (drop_nothing r.given)
 
   pub rest_end : (r : RecView R) → length (group_list d key r.streams.tree 0 0) ≡ r.given → rest_of d key r ≡ []
   rest_end r e = ap (answers_of d) (drop_all (group_list d key r.streams.tree 0 0) r.given e)
@@ -80,7 +80,7 @@ root_kept s s' (Some e) k root = record { within = omega (arith, root.within, k.
 -- # Steps
 
 some_digit : (n : ℕ) → 1 ≤ n → 1 ≤ bit_length n
-some_digit n l = above (bit_length n) n l (bit_length-below n)
+some_digit n l = above (bit_length n) n l (bit_length_below n)
   where
     above : (b n : ℕ) → 1 ≤ n → n < 2 ^ b → 1 ≤ b
     above zero n l h = absurd (omega arith)
@@ -99,7 +99,7 @@ call_within t before calls old new some live few cost =
     let n : ℕ = row_count t + (calls + 1) * length t in
     let more : (before + 1) * length t ≤ (calls + 1) * length t = times (before + 1) (calls + 1) (length t) (omega arith) in
     let much : 1 ≤ (calls + 1) * length t = product (calls + 1) (length t) (omega arith) some in
-    let rises : bit_length (row_count t + (before + 1) * length t) ≤ bit_length n = bit_length-rises (row_count t + (before + 1) * length t) n (omega (arith, more)) in
+    let rises : bit_length (row_count t + (before + 1) * length t) ≤ bit_length n = bit_length_rises (row_count t + (before + 1) * length t) n (omega (arith, more)) in
     let digit : 1 ≤ bit_length n = some_digit n (omega (arith, much)) in
     omega (arith, cost, live_share t calls live, shares (length t) (bit_length (row_count t + (before + 1) * length t)) (bit_length n) some rises digit)
   where

@@ -1,6 +1,6 @@
 -- The answers of a tree, as they are taken from its streams, to callers.
 use Rattle.std.specs.Prelude.{◌≡◌, ℕ, ◌+◌, ◌<◌, ◌≤◌, Bool, nat_lt, Option, Some, None, IfSome, List, length, drop}
-use Rattle.tdp_core.specs.Seen.{Seen, answers_of}
+use Rattle.tdp_core.specs.SeenAnswers.{Seen, answers_of}
 use Rattle.tdp_core.specs.TreeData.{group_count}
 use Rattle.tdp_core.specs.WellFormed.{IsFormed}
 use Rattle.tdp_model.specs.KeyTuple.{KeyOf}

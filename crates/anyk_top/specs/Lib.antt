@@ -1,4 +1,4 @@
-pub mod Asked
-pub mod Finished
+pub mod CommandLine
+pub mod Endings
 pub mod Requests
-pub mod Checked
+pub mod Verifications

@@ -1,5 +1,5 @@
 -- The commands, as their verdicts name them.
-use Rattle.cmd_words.specs.Said.{seen_words}
+use Rattle.cmd_words.specs.ArgumentMeaning.{seen_words}
 use Rattle.std.specs.Prelude.{string_bytes}
 use Rattle.verdict.specs.Words.{Command, verify}
 use Rattle.task_plan.specs.Tasks.{command_of, words_of}

@@ -1,8 +1,8 @@
 //! A command, from its input to its output.
 ghost use Rattle.std.specs.Prelude.{◌<◌, IfErr, OnOk};
-ghost use Rattle.refusal_lines.specs.Refused.{reason_of};
+ghost use Rattle.refusal_lines.specs.RefusalReasons.{reason_of};
 ghost use Rattle.verdict.specs.Bound.{IsBounded, IsPrompt};
-ghost use Rattle.verdict.specs.Made.{known_to};
+ghost use Rattle.verdict.specs.MadeFiles.{known_to};
 ghost use Rattle.verdict.specs.Outcome.{IsReason, IsCaused, IsComplete, IsCut};
 ghost use Rattle.verdict.specs.Words.{built};
 ghost use Rattle.anyk_top.specs.Requests.{asked_by};

@@ -2,9 +2,9 @@
 ghost use Rattle.std.specs.Prelude.{◌≡◌, Some, IfErr, IfOk, map};
 ghost use Rattle.std.specs.String.{string_bytes};
 ghost use Rattle.cmd_words.specs.Commands.{KeepsRange, said_of, seen_command};
-ghost use Rattle.refusal_lines.specs.Refused.{reason_of};
+ghost use Rattle.refusal_lines.specs.RefusalReasons.{reason_of};
 ghost use Rattle.verdict.specs.Words.{built};
-ghost use Rattle.anyk_top.specs.Asked.{IsEarly, asked_of};
+ghost use Rattle.anyk_top.specs.CommandLine.{IsEarly, asked_of};
 ghost use Rattle.anyk_top.specs.Requests.{asked_by};
 
 use crate::request::Request;

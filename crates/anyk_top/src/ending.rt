@@ -1,6 +1,6 @@
 //! How a call ends.
 ghost use Rattle.refusal_lines.specs.SinkState.{state_of};
-ghost use Rattle.anyk_top.specs.Finished.{Finished};
+ghost use Rattle.anyk_top.specs.Endings.{Finished};
 
 use outer_io::Sink;
 use refusal_lines::{Refusal, write_line};

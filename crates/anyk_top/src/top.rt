@@ -3,9 +3,9 @@ ghost use Rattle.std.specs.Prelude.{◌≡◌, ◌<◌, map};
 ghost use Rattle.std.specs.String.{string_bytes};
 ghost use Rattle.cmd_words.specs.Commands.{said_of};
 ghost use Rattle.verdict.specs.Bound.{IsBounded, IsPrompt};
-ghost use Rattle.verdict.specs.Made.{known_to};
+ghost use Rattle.verdict.specs.MadeFiles.{known_to};
 ghost use Rattle.verdict.specs.Outcome.{Outcome};
-ghost use Rattle.anyk_top.specs.Asked.{asked_of};
+ghost use Rattle.anyk_top.specs.CommandLine.{asked_of};
 ghost use Rattle.task_answer.specs.Sides.{outside};
 
 use crate::answering::answer;

@@ -1,18 +1,18 @@
 //! The command `verify`.
 ghost use Rattle.std.specs.Prelude.{◌≡◌, ◌∷◌, [], IfErr, IfOk, None, OnOk, length};
-ghost use Rattle.cmd_words.specs.Said.{seen_words};
+ghost use Rattle.cmd_words.specs.ArgumentMeaning.{seen_words};
 ghost use Rattle.input_load.specs.Input.{loaded_of};
 ghost use Rattle.query_shape.specs.Shape.{Shape};
-ghost use Rattle.refusal_lines.specs.Printed.{Printed};
-ghost use Rattle.refusal_lines.specs.Refused.{reason_of};
+ghost use Rattle.refusal_lines.specs.Printing.{Printed};
+ghost use Rattle.refusal_lines.specs.RefusalReasons.{reason_of};
 ghost use Rattle.refusal_lines.specs.SinkState.{state_of};
-ghost use Rattle.verdict.specs.Found.{found_of};
+ghost use Rattle.verdict.specs.AcceptedInput.{found_of};
 ghost use Rattle.verdict.specs.Output.{answers_text};
 ghost use Rattle.verdict.specs.Outcome.{IsCaused, IsComplete, IsCut, IsReason};
-ghost use Rattle.verdict.specs.Staged.{shelved};
+ghost use Rattle.verdict.specs.StageResults.{shelved};
 ghost use Rattle.verdict.specs.Words.{built, verify};
 ghost use Rattle.task_plan.specs.Tasks.{words_of};
-ghost use Rattle.anyk_top.specs.Checked.{HasAnswers, IsChecked, IsVerifiedIn};
+ghost use Rattle.anyk_top.specs.Verifications.{HasAnswers, IsChecked, IsVerifiedIn};
 ghost use Rattle.task_answer.specs.Sides.{seen_by};
 
 use crate::checking::check_proof;

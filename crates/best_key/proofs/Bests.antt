@@ -15,15 +15,15 @@ use Rattle.tdp_core.proofs.TreeFacts.{member_is_row, best_had, best_least}
 use Rattle.anyk_model.specs.Table.{Table}
 use Rattle.anyk_model.specs.Query.{Query, IsWitness, rank_of}
 use Rattle.anyk_model.specs.Ranking.{Precedes, ranking_of}
-use Rattle.anyk_model.proofs.Exists.{ranking-is}
+use Rattle.anyk_model.proofs.Exists.{ranking_is}
 use Rattle.tree_dp.specs.BestRanking.{IsBestRanking}
 use Rattle.tree_dp.proofs.RankingHead.{HasSolution, RootHas, root_has, has_solution}
 use Rattle.tree_dp.proofs.RootRows.{row_placed}
 use Rattle.witness_key.specs.WitnessKey.{witness_key}
-use Rattle.witness_key.proofs.Members.{ascending-map, map-member, member-map}
-use Rattle.witness_key.proofs.Rankings.{orders-agree, witness-length}
+use Rattle.witness_key.proofs.Members.{ascending_map, map_member, member_map}
+use Rattle.witness_key.proofs.Rankings.{orders_agree, witness_length}
 use Rattle.best_list.specs.BestList.{best_list, IsLeastOfRow}
-use Rattle.best_list.proofs.Least.{best-ranking}
+use Rattle.best_list.proofs.Least.{best_ranking}
 use Rattle.best_key.specs.BestKey.{RanksWitnesses}
 use Rattle.best_key.proofs.RootSlots.{RowOf, root_slot}
 
@@ -46,13 +46,13 @@ module _ {R : Type 0} (d : ℕ) (key : R → KeyOf d 16) (t : List (NodeData R))
     witness_of k h =
         let all = tree_ranking in
         let m : IsMember k (map (witness_key d query tables) (ranking_of query tables)) = subst (IsMember k) (ranks all.0 all.1) (all.1.complete k (has_solution d key t formed k h)) in
-        let f = map-member (witness_key d query tables) k (ranking_of query tables) m in
-        (f.0, (ranking-is query tables).sound f.0 f.1, f.2)
+        let f = map_member (witness_key d query tables) k (ranking_of query tables) m in
+        (f.0, (ranking_is query tables).sound f.0 f.1, f.2)
 
     had_by : (found : List ℕ) → IsWitness query tables found → RootHas d key t formed (witness_key d query tables found)
     had_by found w =
         let all = tree_ranking in
-        let m = member-map (witness_key d query tables) found (ranking_of query tables) ((ranking-is query tables).complete found w) in
+        let m = member_map (witness_key d query tables) found (ranking_of query tables) ((ranking_is query tables).complete found w) in
         root_has d key t formed (witness_key d query tables found) (all.1.sound (witness_key d query tables found) (subst (IsMember (witness_key d query tables found)) (sym (ranks all.0 all.1)) m))
 
     -- a witness has the number of the root's row
@@ -63,7 +63,7 @@ module _ {R : Type 0} (d : ℕ) (key : R → KeyOf d 16) (t : List (NodeData R))
 
     earlier : (a b : List ℕ) → IsWitness query tables a → IsWitness query tables b → (key_below d 16 (witness_key d query tables a) (witness_key d query tables b) → Precedes query tables a b)
         × (Precedes query tables a b → key_below d 16 (witness_key d query tables a) (witness_key d query tables b))
-    earlier a b p q = let o = orders-agree d query tables a b keys few (witness-length query tables a p) (witness-length query tables b q) in (o.0, o.1)
+    earlier a b p q = let o = orders_agree d query tables a b keys few (witness_length query tables a p) (witness_length query tables b q) in (o.0, o.1)
 
     -- the best key of a row of the root is one of the root's keys
     best_root : (r : ℕ) → r < rows t 0 → RootHas d key t formed (best t d key 0 r)
@@ -117,20 +117,20 @@ module _ {R : Type 0} (d : ℕ) (key : R → KeyOf d 16) (t : List (NodeData R))
           | inr e ↦ (r, row, sym e)
         ]
 
-    pub bests-agree : (ks : List (KeyOf d 16)) → IsBestRanking t d key ks → ks ≡ map (witness_key d query tables) (best_list (item t 0) (ranking_of query tables))
-    bests-agree ks ranking =
+    pub bests_agree_lem : (ks : List (KeyOf d 16)) → IsBestRanking t d key ks → ks ≡ map (witness_key d query tables) (best_list (item t 0) (ranking_of query tables))
+    bests_agree_lem ks ranking =
         let own_key = witness_key d query tables in
         let list = best_list (item t 0) (ranking_of query tables) in
         let Has : KeyOf d 16 → Type 0 = λ k. (r : ℕ) × (r < rows t 0) × (k ≡ best t d key 0 r) in
-        let least = best-ranking query tables (item t 0) in
+        let least = best_ranking query tables (item t 0) in
         ranking_unique (key_below d 16) (tuple_keys d 16).order Has ks (map own_key list) ranking
         (record {
-          ascending = ascending-map own_key (IsLeastOfRow query tables (item t 0)) (Precedes query tables) (key_below d 16) (λ a b p q. (earlier a b p.witness q.witness).1) list least.sound least.ascending;
+          ascending = ascending_map own_key (IsLeastOfRow query tables (item t 0)) (Precedes query tables) (key_below d 16) (λ a b p q. (earlier a b p.witness q.witness).1) list least.sound least.ascending;
           sound = λ k m.
-              let f = map-member own_key k list m in
+              let f = map_member own_key k list m in
               let b = witness_best f.0 (least.sound f.0 f.1) in
               (b.0, b.1, f.2 ∙ b.2);
           complete = λ k h.
               let b = best_witness h.0 h.1 in
-              subst (λ z. IsMember z (map own_key list)) (sym (h.2 ∙ b.2)) (member-map own_key b.0 list (least.complete b.0 b.1));
+              subst (λ z. IsMember z (map own_key list)) (sym (h.2 ∙ b.2)) (member_map own_key b.0 list (least.complete b.0 b.1));
         })

@@ -10,7 +10,7 @@ use Rattle.rankings.specs.Order.{IsMember}
 use Rattle.tdp_model.specs.KeyTuple.{KeyOf, key_below}
 use Rattle.tdp_model.specs.Remains.{AtMost, Remains}
 use Rattle.tdp_model.proofs.KeyTuples.{tuple_keys}
-use Rattle.tdp_model.proofs.KeyNumbers.{not_less-at_most}
+use Rattle.tdp_model.proofs.KeyNumbers.{not_less_at_most}
 use Rattle.tdp_model.proofs.Removal.{take_least}
 use Rattle.tdp_model.proofs.Subtrees.{same, same_at}
 use Rattle.tdp_core.specs.TreeData.{NodeData, node_at, group_count, rows, row_count}
@@ -57,7 +57,7 @@ module _ {R : Type 0} (d : ℕ) (key : R → KeyOf d 16) (t : List (NodeData R))
       let P : Entry R ℕ → Type 0 = λ y. AtMost (key_below d 16) (place_key d key t e.tag) (place_key d key t y.tag) in
       let own = All-head (IsPlace d key t) x es all in
       All-cons P x es
-      (subst (λ k. AtMost (key_below d 16) k (place_key d key t x.tag)) is (subst (λ k. AtMost (key_below d 16) (key e.rank) k) own.ranked (not_less-at_most d 16 (key x.rank) (key e.rank) least.0)))
+      (subst (λ k. AtMost (key_below d 16) k (place_key d key t x.tag)) is (subst (λ k. AtMost (key_below d 16) (key e.rank) k) own.ranked (not_less_at_most d 16 (key x.rank) (key e.rank) least.0)))
       (all_after e es is least.1 (All-tail (IsPlace d key t) x es all))
 
   module _ (entries : List (Entry R ℕ)) (spare : ℕ) (queue : IsQueue d key t entries spare) (e : Entry R ℕ) (others : List (Entry R ℕ)) (popped : IsPermutation entries (e ∷ others)) where

@@ -8,7 +8,7 @@ use Rattle.std.proofs.lemmas.List.FromFn.{length-range_with_len, get_or-range_wi
 use Rattle.std.proofs.lemmas.List.Sums.{sum_by-cons}
 use Rattle.take2_heap.specs.declared.entry.Entry.{Entry}
 use Rattle.rankings.specs.Order.{IsMember, IsRanking}
-use Rattle.rankings.proofs.Members.{member-map, member-unmap, contains-member}
+use Rattle.rankings.proofs.Members.{member_map, member_unmap, contains_member}
 use Rattle.rankings.proofs.Unique.{ranking_unique}
 use Rattle.tdp_model.specs.KeyTuple.{KeyOf, key_below, key_add, key_none, slot_of}
 use Rattle.tdp_model.specs.Remains.{Remains}
@@ -26,9 +26,9 @@ use Rattle.best_per.proofs.Counts.{ranked_length, filter_length}
 use Rattle.best_per.proofs.Places.{held_within, top_holds, top_holds_once}
 
 -- the members of a list that pass a test
-filter-in : (p : ℕ → Bool) (x : ℕ) (xs : List ℕ) → IsMember x xs → p x ≡ true → IsMember x (filter p xs)
-filter-in p x [] m e = m
-filter-in p x (y ∷ xs) m e = by (p y) refl m (λ later. filter-in p x xs later e)
+filter_in : (p : ℕ → Bool) (x : ℕ) (xs : List ℕ) → IsMember x xs → p x ≡ true → IsMember x (filter p xs)
+filter_in p x [] m e = m
+filter_in p x (y ∷ xs) m e = by (p y) refl m (λ later. filter_in p x xs later e)
   where
     by : (b : Bool) → p y ≡ b → IsMember x (y ∷ xs) → (IsMember x xs → IsMember x (filter p xs)) → IsMember x (cond b (y ∷ filter p xs) (filter p xs))
     by true is (inl same) rest = inl same
@@ -36,9 +36,9 @@ filter-in p x (y ∷ xs) m e = by (p y) refl m (λ later. filter-in p x xs later
     by false is (inl same) rest = absurd (false≢true (sym is ∙ ap p (sym same) ∙ e))
     by false is (inr later) rest = rest later
 
-filter-of : (p : ℕ → Bool) (x : ℕ) (xs : List ℕ) → IsMember x (filter p xs) → p x ≡ true
-filter-of p x [] m = absurd m
-filter-of p x (y ∷ xs) m = by (p y) refl m (filter-of p x xs)
+filter_of : (p : ℕ → Bool) (x : ℕ) (xs : List ℕ) → IsMember x (filter p xs) → p x ≡ true
+filter_of p x [] m = absurd m
+filter_of p x (y ∷ xs) m = by (p y) refl m (filter_of p x xs)
   where
     by : (b : Bool) → p y ≡ b → IsMember x (cond b (y ∷ filter p xs) (filter p xs)) → (IsMember x (filter p xs) → p x ≡ true) → p x ≡ true
     by true is (inl same) rest = ap p same ∙ is
@@ -53,16 +53,16 @@ is_positive n e = grind (arith, nat_tests)
 
 in_range : (n i : ℕ) → i < n → IsMember i (range_with_len 0 n)
 in_range n i l =
-    contains-member i (range_with_len 0 n) i (omega (arith, length-range_with_len 0 n))
+    contains_member i (range_with_len 0 n) i (omega (arith, length-range_with_len 0 n))
     (get_or-range_with_len 0 n i i l ∙ omega arith)
 
 module _ {R : Type 0} (n : ℕ) (es : List (Entry R ℕ)) (within : (i : ℕ) → 0 < held_by n es i → i < n) where
   -- the places left are those that the entries hold
   pub left_held : (i : ℕ) → IsMember i (places_left n es) → 0 < held_by n es i
-  left_held i m = is_positive (held_by n es i) (filter-of (λ j. nat_lt 0 (held_by n es j)) i (range_with_len 0 n) m)
+  left_held i m = is_positive (held_by n es i) (filter_of (λ j. nat_lt 0 (held_by n es j)) i (range_with_len 0 n) m)
 
   pub held_left : (i : ℕ) → 0 < held_by n es i → IsMember i (places_left n es)
-  held_left i h = filter-in (λ j. nat_lt 0 (held_by n es j)) i (range_with_len 0 n) (in_range n i (within i h)) (positive (held_by n es i) h)
+  held_left i h = filter_in (λ j. nat_lt 0 (held_by n es j)) i (range_with_len 0 n) (in_range n i (within i h)) (positive (held_by n es i) h)
 
 pub entries_within : {R : Type 0} (n : ℕ) (es : List (Entry R ℕ)) (i : ℕ) → 0 < held_by n es i → i < n
 entries_within n [] i h = absurd (omega (arith, h))
@@ -83,8 +83,8 @@ module _ {R : Type 0} (d : ℕ) (key : R → KeyOf d 16) (t : List (NodeData R))
       let r = ranked_is_ranking (key_below d 16) (tuple_keys d 16).order (map (place_key d key t) left) in
       record {
         ascending = r.ascending;
-        sound = λ k m. let f = member-unmap (place_key d key t) k left (r.sound k m) in (f.0, left_held n es (entries_within n es) f.0 f.1, sym f.2);
-        complete = λ k h. subst (λ z. IsMember z (rest_keys d key t es)) h.2 (r.complete (place_key d key t h.0) (member-map (place_key d key t) h.0 left (held_left n es (entries_within n es) h.0 h.1)));
+        sound = λ k m. let f = member_unmap (place_key d key t) k left (r.sound k m) in (f.0, left_held n es (entries_within n es) f.0 f.1, sym f.2);
+        complete = λ k h. subst (λ z. IsMember z (rest_keys d key t es)) h.2 (r.complete (place_key d key t h.0) (member_map (place_key d key t) h.0 left (held_left n es (entries_within n es) h.0 h.1)));
       }
 
   -- what remains is the rest

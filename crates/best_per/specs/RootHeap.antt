@@ -8,7 +8,7 @@ use Rattle.tdp_model.specs.Heap.{under}
 use Rattle.tdp_model.specs.KeyTuple.{KeyOf, key_below}
 use Rattle.tdp_model.specs.Remains.{Remains}
 use Rattle.tdp_model.proofs.KeyTuples.{tuple_keys}
-use Rattle.tdp_core.specs.Seen.{Seen}
+use Rattle.tdp_core.specs.SeenAnswers.{Seen}
 use Rattle.tdp_core.specs.TreeData.{NodeData, members, best}
 use Rattle.tdp_core.specs.WellFormed.{IsFormed, IsTieFreeTree}
 

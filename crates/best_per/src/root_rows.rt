@@ -4,7 +4,7 @@ ghost use Rattle.tdp_model.specs.KeyTuple.{KeyOf};
 ghost use Rattle.tdp_model.specs.KeyNumbers.{numbers};
 ghost use Rattle.tdp_core.specs.TreeData.{row_count};
 ghost use Rattle.tdp_core.specs.WellFormed.{IsTieFreeTree};
-ghost use Rattle.tdp_core.specs.Seen.{Seen, answers_of, counted};
+ghost use Rattle.tdp_core.specs.SeenAnswers.{Seen, answers_of, counted};
 ghost use Rattle.tdp_core.specs.Shares.{share_of, size_of};
 ghost use Rattle.tdp_core.specs.RisingShares.{at_most_itself};
 ghost use Rattle.tree_dp.specs.BestRanking.{IsBestRanking};
@@ -35,7 +35,7 @@ pub struct BestPer<'t, R: Rank, A: Allocator> {
 }
 
 impl<'t, R: Rank, A: Allocator> Model for BestPer<'t, R, A> {
-    ghost use Rattle.tdp_core.specs.Seen.{answers_of};
+    ghost use Rattle.tdp_core.specs.SeenAnswers.{answers_of};
     ghost use Rattle.best_per.specs.RootHeap.{BestState, rest_keys, IsQueue};
 
     ghost Value = { BestState R };

@@ -36,11 +36,11 @@ digits_from : (ds : List ℕ) → list_all (λ d. nat_lt (digit_value d) 10) ds 
 digits_from [] e = tt
 digits_from (d ∷ ds) e = let parts = both _ _ e in (ltb-true _ _ parts.0, digits_from ds parts.1)
 
-numeral-is : (text : List ℕ) → IsNumeral 10 text → is_numeral text ≡ true
-numeral-is text h = joined _ _ (lt-ltb 0 (length text) h.0) (digits_back text h.1)
+numeral_is : (text : List ℕ) → IsNumeral 10 text → is_numeral text ≡ true
+numeral_is text h = joined _ _ (lt-ltb 0 (length text) h.0) (digits_back text h.1)
 
-is-numeral : (text : List ℕ) → is_numeral text ≡ true → IsNumeral 10 text
-is-numeral text e = let parts = both _ _ e in (ltb-true _ _ parts.0, digits_from text parts.1)
+is_numeral_lem : (text : List ℕ) → is_numeral text ≡ true → IsNumeral 10 text
+is_numeral_lem text e = let parts = both _ _ e in (ltb-true _ _ parts.0, digits_from text parts.1)
 
 -- a numeral in the bounds
 pub number_taken : (low high n : ℕ) (text : List ℕ) → begins_plainly text ≡ true → IsNumeral 10 (without_leading_plus text)
@@ -50,7 +50,7 @@ number_taken low high n text plain numeral e above below =
     let value : n ≡ digits_value 10 text = e ∙ ap (digits_value 10) same in
     let digits : IsNumeral 10 text = subst (IsNumeral 10) same numeral in
     ap Some value ∙ taken _ (digits_value 10 text)
-    (joined _ _ (numeral-is text digits) (joined _ _ plain
+    (joined _ _ (numeral_is text digits) (joined _ _ plain
     (joined _ _ (le-leb low _ (omega (arith, value, above))) (le-leb _ high (omega (arith, value, below))))))
 
 -- any other text
@@ -63,6 +63,6 @@ number_refused low high text fails = refused _ (digits_value 10 text) (λ e.
     let second = both _ _ first.1 in
     let third = both _ _ second.1 in
     let same : text ≡ without_leading_plus text = sym (whole text second.0) in
-    fails second.0 (subst (IsNumeral 10) same (is-numeral text first.0))
+    fails second.0 (subst (IsNumeral 10) same (is_numeral_lem text first.0))
     (subst (λ (t : List ℕ). low ≤ digits_value 10 t) same (leb-true _ _ third.0))
     (subst (λ (t : List ℕ). digits_value 10 t ≤ high) same (leb-true _ _ third.1)))

@@ -16,23 +16,23 @@ use denote.Ref.{Bor}
 abbrev pub Holds : BTreeSet (Bor (List ℕ)) → List Named → Type 0
 Holds names rest = (q : Bor (List ℕ)) → contains (λ x y. slice_cmp nat_cmp x.now y.now) names q ≡ list_any (λ pair. bytes_eq pair.0 q.now) (map named_pair rest)
 
-cond-or : (a b : Bool) → cond a true b ≡ (a || b)
-cond-or true b = refl
-cond-or false b = refl
+cond_or : (a b : Bool) → cond a true b ≡ (a || b)
+cond_or true b = refl
+cond_or false b = refl
 
-and-true : (a b : Bool) → b ≡ true → (a && b) ≡ a
-and-true true b e = e
-and-true false b e = refl
+and_true : (a b : Bool) → b ≡ true → (a && b) ≡ a
+and_true true b e = e
+and_true false b e = refl
 
-and-false : (a b : Bool) → b ≡ false → (a && b) ≡ false
-and-false true b e = e
-and-false false b e = refl
+and_false : (a b : Bool) → b ≡ false → (a && b) ≡ false
+and_false true b e = e
+and_false false b e = refl
 
 -- names of which some at the end are not distinct are not
 pub repeats_before : (n : ℕ) (named : List Named) → are_distinct (map named_pair (drop n named)) ≡ false → are_distinct (map named_pair named) ≡ false
 repeats_before zero named e = e
 repeats_before (suc n) [] e = e
-repeats_before (suc n) (one ∷ named) e = and-false _ _ (repeats_before n named e)
+repeats_before (suc n) (one ∷ named) e = and_false _ _ (repeats_before n named e)
 
 -- one name before those that the set has
 module _ (names : BTreeSet (Bor (List ℕ))) (name : Bor (List ℕ)) (named : List Named) (at : ℕ) (first : Named) where
@@ -46,10 +46,10 @@ module _ (names : BTreeSet (Bor (List ℕ))) (name : Bor (List ℕ)) (named : Li
     holds_more more updates = subst (Holds more) (sym (back some within is)) (λ q.
         updates.0 q ∙ ap (λ b. cond b true (contains (λ x y. slice_cmp nat_cmp x.now y.now) names q)) (is_eq-slice_cmp name.now q.now ∙ ap (λ l. bytes_eq l q.now) (sym same))
         ∙ ap (cond (bytes_eq (string_bytes first.table) q.now) true) (before q)
-        ∙ cond-or (bytes_eq (string_bytes first.table) q.now) (list_any (λ pair. bytes_eq pair.0 q.now) (map named_pair (drop at named))))
+        ∙ cond_or (bytes_eq (string_bytes first.table) q.now) (list_any (λ pair. bytes_eq pair.0 q.now) (map named_pair (drop at named))))
 
     -- it is new exactly where the names are distinct with it
     pub distinct_more : are_distinct (map named_pair (drop at named)) ≡ true → not (contains (λ x y. slice_cmp nat_cmp x.now y.now) names name) ≡ are_distinct (map named_pair (drop (at - 1) named))
     distinct_more distinct =
-        ap not (before name ∙ ap (λ l. list_any (λ pair. bytes_eq pair.0 l) (map named_pair (drop at named))) (sym same)) ∙ sym (and-true _ _ distinct)
+        ap not (before name ∙ ap (λ l. list_any (λ pair. bytes_eq pair.0 l) (map named_pair (drop at named))) (sym same)) ∙ sym (and_true _ _ distinct)
         ∙ ap (λ l. are_distinct (map named_pair l)) (sym (back some within is))

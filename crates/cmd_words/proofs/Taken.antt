@@ -7,7 +7,7 @@ use Rattle.clap.specs.Simple.{App, is_simple, matches_of}
 use Rattle.clap.specs.Walk.{Row}
 use Rattle.cmd_words.specs.Arguments.{run_app, session_app, plan_app, prove_app, verify_app, load_app}
 use Rattle.cmd_words.specs.Commands.{if_no, if_taken, run_of, session_of, plan_of, prove_of, verify_of, load_of}
-use Rattle.cmd_words.specs.Said.{Texts, texts_of, run_texts, session_texts, plan_texts, prove_texts, verify_texts, said_by, session_by, verify_by, load_by, load_by_texts}
+use Rattle.cmd_words.specs.ArgumentMeaning.{Texts, texts_of, run_texts, session_texts, plan_texts, prove_texts, verify_texts, said_by, session_by, verify_by, load_by, load_by_texts}
 
 -- each command is one of those whose matches and faults `clap` states
 pub run_simple : is_simple run_app ≡ true

@@ -3,4 +3,4 @@ pub mod Commands
 pub mod NamedPairs
 pub mod Numbers
 pub mod Pairs
-pub mod Said
+pub mod ArgumentMeaning

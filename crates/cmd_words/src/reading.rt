@@ -4,7 +4,7 @@ ghost use Rattle.std.specs.Prelude.{◌≡◌, Some, None, map, IfOk, IsErrOf};
 ghost use Rattle.std.specs.String.{string_bytes};
 ghost use Rattle.cmd_words.specs.Commands.{run_of, session_of, plan_of, prove_of, verify_of, load_of, said_of, said_to, seen_command, KeepsRange};
 ghost use Rattle.cmd_words.specs.Numbers.{IsInRange};
-ghost use Rattle.cmd_words.specs.Said.{seen_words};
+ghost use Rattle.cmd_words.specs.ArgumentMeaning.{seen_words};
 
 use crate::WordsFault;
 use crate::arguments::{

@@ -6,7 +6,7 @@ ghost use Rattle.clap.specs.Matches.{found_of};
 ghost use Rattle.clap.specs.Walk.{rows_of};
 ghost use Rattle.cmd_words.specs.NamedPairs.{named_pair};
 ghost use Rattle.cmd_words.specs.Numbers.{IsInRange, begins_plainly, number_in};
-ghost use Rattle.cmd_words.specs.Said.{engine_of, is_set, load_by, load_by_texts, said_by, session_by, seen_texts, seen_words, tables_of, texts_of, verify_by};
+ghost use Rattle.cmd_words.specs.ArgumentMeaning.{engine_of, is_set, load_by, load_by_texts, said_by, session_by, seen_texts, seen_words, tables_of, texts_of, verify_by};
 
 use crate::WordsFault;
 use crate::command::{Engine, Words};

@@ -4,14 +4,14 @@ use Rattle.std.proofs.lemmas.List.{take_all}
 use Rattle.anyk_model.specs.Table.{Table, table_at}
 use Rattle.verdict.specs.Summary.{rows_in_all}
 
-pub rows-more : (tables : List Table) (i : ℕ) → i < length tables → rows_in_all (take (i + 1) tables) ≡ rows_in_all (take i tables) + length (table_at tables i).rows
-rows-more [] i inside = absurd (omega (arith, inside))
-rows-more (t ∷ tables) zero inside = omega arith
-rows-more (t ∷ tables) (suc i) inside =
-    let later = rows-more tables i (omega (arith, inside)) in
+pub rows_more : (tables : List Table) (i : ℕ) → i < length tables → rows_in_all (take (i + 1) tables) ≡ rows_in_all (take i tables) + length (table_at tables i).rows
+rows_more [] i inside = absurd (omega (arith, inside))
+rows_more (t ∷ tables) zero inside = omega arith
+rows_more (t ∷ tables) (suc i) inside =
+    let later = rows_more tables i (omega (arith, inside)) in
     let shown = ap (λ (n : ℕ). rows_in_all (take n (t ∷ tables))) (add-one (suc i)) in
     let also = ap (λ (n : ℕ). rows_in_all (take n tables)) (add-one i) in
     omega (arith, later, shown, also)
 
-pub rows-all : (tables : List Table) (i : ℕ) → length tables ≤ i → rows_in_all (take i tables) ≡ rows_in_all tables
-rows-all tables i end = ap rows_in_all (take_all i tables end)
+pub rows_all : (tables : List Table) (i : ℕ) → length tables ≤ i → rows_in_all (take i tables) ≡ rows_in_all tables
+rows_all tables i end = ap rows_in_all (take_all i tables end)

@@ -4,7 +4,7 @@ use Rattle.std.specs.List.{last_or, slice_get}
 use Rattle.std.specs.Prelude.{None}
 use Rattle.anyk_model.specs.Table.{Table}
 use Rattle.anyk_model.specs.Query.{Query}
-use Rattle.tdp_core.specs.Seen.{Seen}
+use Rattle.tdp_core.specs.SeenAnswers.{Seen}
 use Rattle.verdict.specs.Summary.{member_text, rows_in_all}
 use Rattle.command_load.specs.declared.ends.Ends.{Ends}
 

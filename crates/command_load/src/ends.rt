@@ -2,7 +2,7 @@
 ghost use Rattle.std.specs.Prelude.{◌≡◌, ◌+◌, ◌++◌, ◌∷◌, ◌≤◌, ◌<◌, [], IfOk, List, length};
 ghost use Rattle.anyk_model.specs.Output.{cut};
 ghost use Rattle.step_bounds.specs.Steps.{calls_for, steps_for};
-ghost use Rattle.tdp_core.specs.Seen.{Seen};
+ghost use Rattle.tdp_core.specs.SeenAnswers.{Seen};
 ghost use Rattle.command_load.specs.Ends.{HasEnds};
 
 use std::sync::ledger::Ledger;

@@ -1,8 +1,8 @@
 //! Printing the summary, by one write.
 ghost use Rattle.std.specs.Prelude.{◌≡◌, ◌+◌, ◌≤◌};
 ghost use Rattle.anyk_model.specs.Output.{cut};
-ghost use Rattle.query_bind.specs.Weighed.{Fits};
-ghost use Rattle.refusal_lines.specs.Printed.{Printed};
+ghost use Rattle.query_bind.specs.WeighedQuery.{Fits};
+ghost use Rattle.refusal_lines.specs.Printing.{Printed};
 ghost use Rattle.refusal_lines.specs.SinkState.{state_of};
 ghost use Rattle.step_bounds.specs.Steps.{calls_for, steps_for};
 ghost use Rattle.verdict.specs.Summary.{summary_text};

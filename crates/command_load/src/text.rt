@@ -1,7 +1,7 @@
 //! The text of the summary.
 ghost use Rattle.std.specs.Prelude.{◌≡◌, ◌++◌, IfOk, IfSome, codes, decimal, length, option_map, string_bytes, take};
 ghost use Rattle.anyk_model.specs.Query.{IsCombination, row_counts};
-ghost use Rattle.query_bind.specs.Weighed.{Fits};
+ghost use Rattle.query_bind.specs.WeighedQuery.{Fits};
 ghost use Rattle.verdict.specs.Summary.{member_text, rows_in_all};
 ghost use Rattle.command_load.specs.Ends.{ends_text};
 

@@ -3,10 +3,10 @@ ghost use Rattle.std.specs.Prelude.{◌≡◌, List};
 ghost use Rattle.anyk_model.specs.Table.{Table};
 ghost use Rattle.plan_build.specs.Plan.{IsPlan, PlanData};
 ghost use Rattle.proof_model.specs.ProofTexts.{IsProofText};
-ghost use Rattle.query_bind.specs.Weighed.{Fits};
-ghost use Rattle.refusal_lines.specs.Printed.{PrintedSome};
+ghost use Rattle.query_bind.specs.WeighedQuery.{Fits};
+ghost use Rattle.refusal_lines.specs.Printing.{PrintedSome};
 ghost use Rattle.refusal_lines.specs.SinkState.{state_of};
-ghost use Rattle.tdp_core.specs.Seen.{answers_of};
+ghost use Rattle.tdp_core.specs.SeenAnswers.{answers_of};
 ghost use Rattle.tdp_core.specs.Solutions.{IsTreeRanking};
 ghost use Rattle.tdp_model.specs.KeyTuple.{KeyOf};
 

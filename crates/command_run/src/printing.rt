@@ -2,11 +2,11 @@
 ghost use Rattle.std.specs.Prelude.{◌≡◌, ◌+◌, ◌++◌, ◌≤◌, IfOk, List, Some, drop, length, map, take, ℕ};
 ghost use Rattle.std.specs.List.{flat_map};
 ghost use Rattle.anyk_model.specs.Output.{cut, header_text, line_text, output_of};
-ghost use Rattle.answer_print.specs.Shown.{style_shown};
-ghost use Rattle.query_bind.specs.Weighed.{Fits};
+ghost use Rattle.answer_print.specs.StyleView.{style_shown};
+ghost use Rattle.query_bind.specs.WeighedQuery.{Fits};
 ghost use Rattle.witness_key.specs.WitnessKey.{AreCombinations, combinations_in};
 ghost use Rattle.step_bounds.specs.Steps.{Paced, calls_for, steps_for, whole_lines};
-ghost use Rattle.refusal_lines.specs.Printed.{Printed};
+ghost use Rattle.refusal_lines.specs.Printing.{Printed};
 ghost use Rattle.refusal_lines.specs.SinkState.{state_of};
 
 use answer_print::{AnswerWriter, Style, print_answer, print_header};

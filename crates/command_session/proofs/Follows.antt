@@ -4,7 +4,7 @@ use Rattle.std.specs.Prelude.{slice_get}
 use Rattle.std.proofs.lemmas.List.{drop_all, drop_more, get_or-map, get_or-set_same, get_or-take, set-set, length-drop, length-map, length-take, length-take-le, take_all}
 use Rattle.std.proofs.lemmas.Option.{get_or_from_slice_get, slice_get_within}
 use Rattle.std.specs.List.{AllByRecursion}
-use Rattle.rankings.proofs.Members.{all-member, contains-member}
+use Rattle.rankings.proofs.Members.{all_member, contains_member}
 use Rattle.anyk_model.specs.Output.{cut}
 use Rattle.verdict.specs.Session.{next_text}
 
@@ -12,33 +12,33 @@ use Rattle.verdict.specs.Session.{next_text}
 
 module _ (line : List ℕ → List ℕ) (ending : List ℕ) (members : List (List ℕ)) where
   -- one member more is printed
-  pub next-member : (p n m : ℕ) (x : List ℕ) → p < length members → n ≡ m + 1
+  pub next_member : (p n m : ℕ) (x : List ℕ) → p < length members → n ≡ m + 1
       → next_text line ending (drop p members) n ≡ line (get_or members p x) ++ next_text line ending (drop (p + 1) members) m
-  next-member p n m x inside more =
+  next_member p n m x inside more =
       let is : n ≡ suc m = omega (arith, more) in
       ap (next_text line ending (drop p members)) is ∙ ap (λ (l : List (List ℕ)). next_text line ending l (suc m)) (drop_more members p x inside)
 
   -- none is left
-  pub next-ending : (p n m : ℕ) → length members ≤ p → n ≡ m + 1 → next_text line ending (drop p members) n ≡ ending
-  next-ending p n m end more =
+  pub next_ending : (p n m : ℕ) → length members ≤ p → n ≡ m + 1 → next_text line ending (drop p members) n ≡ ending
+  next_ending p n m end more =
       let is : n ≡ suc m = omega (arith, more) in
       ap (next_text line ending (drop p members)) is ∙ ap (λ (l : List (List ℕ)). next_text line ending l (suc m)) (drop_all p members end)
 
   -- no more members are asked for
-  pub next-done : (p n : ℕ) → n ≡ 0 → next_text line ending (drop p members) n ≡ []
-  next-done p n none = ap (next_text line ending (drop p members)) none
+  pub next_done : (p n : ℕ) → n ≡ 0 → next_text line ending (drop p members) n ≡ []
+  next_done p n none = ap (next_text line ending (drop p members)) none
 
 -- ---- the place of the cursor
 
 -- as many were given as there are from its place, and as many as were asked for
-pub given-all : (members : List (List ℕ)) (p given count : ℕ) → given ≤ length (drop p members) → given ≡ count → length (take count (drop p members)) ≡ given
-given-all members p given count within all =
+pub given_all : (members : List (List ℕ)) (p given count : ℕ) → given ≤ length (drop p members) → given ≡ count → length (take count (drop p members)) ≡ given
+given_all members p given count within all =
     let e = length-take-le count (drop p members) (omega (arith, within, all)) in omega (arith, e, all)
 
 -- the list ended before
-pub given-less : (members : List (List ℕ)) (p given count : ℕ) → given ≤ length (drop p members) → given < count → length members ≤ p + given
+pub given_less : (members : List (List ℕ)) (p given count : ℕ) → given ≤ length (drop p members) → given < count → length members ≤ p + given
     → length (take count (drop p members)) ≡ given
-given-less members p given count within less end =
+given_less members p given count within less end =
     let all : length (drop p members) ≤ count = omega (arith, length-drop p members, end, less) in
     let e = ap length (take_all count (drop p members) all) in
     omega (arith, e, length-drop p members, end, within)
@@ -50,34 +50,34 @@ pub cut-length : {A B : Type 0} (limit : Option ℕ) (f : A → B) (list : List 
 cut-length None f list = length-map list f
 cut-length (Some n) f list = omega (arith, length-take n (map f list), length-take n list, length-map list f)
 
-pub cut-within : (limit : Option ℕ) (list : List (List ℕ)) (p : ℕ) → IfSome limit (λ n. p < n) → p < length list → p < length (cut limit list)
-cut-within None list p below inside = inside
-cut-within (Some n) list p below inside = omega (arith, length-take n list, below, inside)
+pub cut_within : (limit : Option ℕ) (list : List (List ℕ)) (p : ℕ) → IfSome limit (λ n. p < n) → p < length list → p < length (cut limit list)
+cut_within None list p below inside = inside
+cut_within (Some n) list p below inside = omega (arith, length-take n list, below, inside)
 
-pub cut-at : (limit : Option ℕ) (list : List (List ℕ)) (p : ℕ) (x : List ℕ) → IfSome limit (λ n. p < n) → get_or (cut limit list) p x ≡ get_or list p x
-cut-at None list p x below = refl
-cut-at (Some n) list p x below = get_or-take n list p x below
+pub cut_at : (limit : Option ℕ) (list : List (List ℕ)) (p : ℕ) (x : List ℕ) → IfSome limit (λ n. p < n) → get_or (cut limit list) p x ≡ get_or list p x
+cut_at None list p x below = refl
+cut_at (Some n) list p x below = get_or-take n list p x below
 
 -- the member at the place of an answer
-pub told-within : {A B : Type 0} (f : B → A) (answers : List B) (p : ℕ) (b : B) → slice_get answers p ≡ Some b → p < length (map f answers)
-told-within f answers p b at =
+pub told_within : {A B : Type 0} (f : B → A) (answers : List B) (p : ℕ) (b : B) → slice_get answers p ≡ Some b → p < length (map f answers)
+told_within f answers p b at =
     let inside = slice_get_within answers p b at in
     omega (arith, inside, length-map answers f)
 
-pub told-is : {A B : Type 0} (f : B → A) (answers : List B) (p : ℕ) (b : B) (x : A) → slice_get answers p ≡ Some b → f b ≡ get_or (map f answers) p x
-told-is f answers p b x at =
+pub told_is : {A B : Type 0} (f : B → A) (answers : List B) (p : ℕ) (b : B) (x : A) → slice_get answers p ≡ Some b → f b ≡ get_or (map f answers) p x
+told_is f answers p b x at =
     ap f (sym (get_or_from_slice_get answers p b b at)) ∙ sym (get_or-map f answers p b x (slice_get_within answers p b at))
 
 -- what holds for all answers holds for it
-pub told-all : {B : Type 0} (P : B → Type 0) (answers : List B) (p : ℕ) (b : B) → AllByRecursion P answers → slice_get answers p ≡ Some b → P b
-told-all P answers p b all at =
-    all-member P b answers all (contains-member b answers p (slice_get_within answers p b at) (get_or_from_slice_get answers p b b at))
+pub told_all : {B : Type 0} (P : B → Type 0) (answers : List B) (p : ℕ) (b : B) → AllByRecursion P answers → slice_get answers p ≡ Some b → P b
+told_all P answers p b all at =
+    all_member P b answers all (contains_member b answers p (slice_get_within answers p b at) (get_or_from_slice_get answers p b b at))
 
 -- ---- one member after another
 
-pub next-start : (P : List ℕ → Type 0) (line : List ℕ → List ℕ) (ending : List ℕ) (members : List (List ℕ)) (p n : ℕ)
+pub next_start : (P : List ℕ → Type 0) (line : List ℕ → List ℕ) (ending : List ℕ) (members : List (List ℕ)) (p n : ℕ)
     → P (next_text line ending (drop p members) n) → P (next_text line ending (drop (p + 0) members) (n - 0))
-next-start P line ending members p n h =
+next_start P line ending members p n h =
     let same : p ≡ p + 0 = omega arith in
     let also : n ≡ n - 0 = omega arith in
     let A : ℕ → Type 0 = λ q. P (next_text line ending (drop q members) n) in
@@ -89,33 +89,33 @@ always (Ok a) h = h
 always (Err e) h = tt
 
 -- a place past the start
-pub past-start : (members : List (List ℕ)) (p given q : ℕ) → q ≡ p + given → q < length members → given + 1 ≤ length (drop p members)
-past-start members p given q is inside = omega (arith, length-drop p members, is, inside)
+pub past_start : (members : List (List ℕ)) (p given q : ℕ) → q ≡ p + given → q < length members → given + 1 ≤ length (drop p members)
+past_start members p given q is inside = omega (arith, length-drop p members, is, inside)
 
 -- the text of what is left, from the next member
-pub next-given : (line : List ℕ → List ℕ) (ending : List ℕ) (limit : Option ℕ) (ranking : List (List ℕ)) (start given count place : ℕ) (x : List ℕ)
+pub next_given : (line : List ℕ → List ℕ) (ending : List ℕ) (limit : Option ℕ) (ranking : List (List ℕ)) (start given count place : ℕ) (x : List ℕ)
     → place ≡ start + given → given < count → IfSome limit (λ n. place < n) → place < length ranking
     → next_text line ending (drop (start + given) (cut limit ranking)) (count - given)
     ≡ line (get_or ranking place x) ++ next_text line ending (drop (start + (given + 1)) (cut limit ranking)) (count - (given + 1))
-next-given line ending limit ranking start given count place x is less below inside =
+next_given line ending limit ranking start given count place x is less below inside =
     let members = cut limit ranking in
-    let within = cut-within limit ranking place below inside in
+    let within = cut_within limit ranking place below inside in
     let more : count - given ≡ (count - (given + 1)) + 1 = omega (arith, less) in
     let on : place + 1 ≡ start + (given + 1) = omega (arith, is) in
     ap (λ (p : ℕ). next_text line ending (drop p members) (count - given)) (sym is)
-    ∙ next-member line ending members place (count - given) (count - (given + 1)) x within more
-    ∙ ap (λ (m : List ℕ). line m ++ next_text line ending (drop (place + 1) members) (count - (given + 1))) (cut-at limit ranking place x below)
+    ∙ next_member line ending members place (count - given) (count - (given + 1)) x within more
+    ∙ ap (λ (m : List ℕ). line m ++ next_text line ending (drop (place + 1) members) (count - (given + 1))) (cut_at limit ranking place x below)
     ∙ ap (λ (p : ℕ). line (get_or ranking place x) ++ next_text line ending (drop p members) (count - (given + 1))) on
 
 -- ---- one place of many
 
-some-inside : {A : Type 0} (places : List (Option A)) (i : ℕ) (a : A) → get_or places i None ≡ Some a → i < length places
-some-inside [] i a e = cc
-some-inside (o ∷ places) zero a e = omega arith
-some-inside (o ∷ places) (suc i) a e = let h = some-inside places i a e in omega (arith, h)
+some_inside : {A : Type 0} (places : List (Option A)) (i : ℕ) (a : A) → get_or places i None ≡ Some a → i < length places
+some_inside [] i a e = cc
+some_inside (o ∷ places) zero a e = omega arith
+some_inside (o ∷ places) (suc i) a e = let h = some_inside places i a e in omega (arith, h)
 
-pub place-set : {A : Type 0} (places new : List (Option A)) (i : ℕ) (a b : A) → get_or places i None ≡ Some a → new ≡ set places i (Some b) → get_or new i None ≡ Some b
-place-set places new i a b here is = ap (λ l. get_or l i None) is ∙ get_or-set_same places i (Some b) None (some-inside places i a here)
+pub place_set : {A : Type 0} (places new : List (Option A)) (i : ℕ) (a b : A) → get_or places i None ≡ Some a → new ≡ set places i (Some b) → get_or new i None ≡ Some b
+place_set places new i a b here is = ap (λ l. get_or l i None) is ∙ get_or-set_same places i (Some b) None (some_inside places i a here)
 
-pub places-set : {A : Type 0} (old mid new : List (Option A)) (i : ℕ) (a b : A) → mid ≡ set old i (Some a) → new ≡ set mid i (Some b) → new ≡ set old i (Some b)
-places-set old mid new i a b first second = second ∙ ap (λ l. set l i (Some b)) first ∙ set-set old i (Some a) (Some b)
+pub places_set : {A : Type 0} (old mid new : List (Option A)) (i : ℕ) (a b : A) → mid ≡ set old i (Some a) → new ≡ set mid i (Some b) → new ≡ set old i (Some b)
+places_set old mid new i a b first second = second ∙ ap (λ l. set l i (Some b)) first ∙ set-set old i (Some a) (Some b)

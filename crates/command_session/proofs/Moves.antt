@@ -10,8 +10,8 @@ use Rattle.std.proofs.lemmas.List.Quantifiers.{position-Some}
 use Rattle.cursor_set.specs.CursorSet.{CursorSet}
 use Rattle.verdict.specs.Session.{Places, with_cursor}
 use Rattle.command_session.specs.declared.open_cursors.OpenCursor.{OpenCursor}
-use Rattle.command_session.specs.Held.{IsAt, IsHeld, is_named}
-use Rattle.command_session.proofs.Names.{name-differs, name-same, same-name}
+use Rattle.command_session.specs.OpenCursors.{IsAt, IsHeld, is_named}
+use Rattle.command_session.proofs.Names.{name_differs, name_same, same_name}
 
 abbrev pub Cursor : Type 0
 Cursor = Option OpenCursor
@@ -22,14 +22,14 @@ place_of_cursor cursor = option_map (λ (c : OpenCursor). c.place) cursor
 abbrev pub Is : Cursor → Cursor → Type 0
 Is a b = a ≡ b
 
-pub some-same : {a b : OpenCursor} → Is (Some a) (Some b) → a ≡ b
-some-same e = cc
+pub some_same : {a b : OpenCursor} → Is (Some a) (Some b) → a ≡ b
+some_same e = cc
 
-pub none-some : {A : Type 0} {c : OpenCursor} → Is None (Some c) → A
-none-some e = cc
+pub none_some : {A : Type 0} {c : OpenCursor} → Is None (Some c) → A
+none_some e = cc
 
-pub no-place : {A : Type 0} {p : ℕ} → ◌≡◌ {A = Option ℕ} None (Some p) → A
-no-place e = cc
+pub no_place : {A : Type 0} {p : ℕ} → ◌≡◌ {A = Option ℕ} None (Some p) → A
+no_place e = cc
 
 apart : (i j : ℕ) → (i ≡ j) ⊎ (i ≢ j)
 apart i j = elim (cases_order i j) [ inl same ↦ inl same | inr (inl less) ↦ inr (λ e. omega (arith, less, e)) | inr (inr more) ↦ inr (λ e. omega (arith, more, e)) ]
@@ -48,150 +48,150 @@ module _ (old new : CursorSet) (cursors : List Cursor) (places : Places) (number
   after : List Cursor
   after = set cursors number now
 
-  at-number : (c : OpenCursor) → IsAt (set cursors number now) number c → Is now (Some c)
-  at-number c at = sym (get_or-set_same cursors number now None within) ∙ at
+  at_number : (c : OpenCursor) → IsAt (set cursors number now) number c → Is now (Some c)
+  at_number c at = sym (get_or-set_same cursors number now None within) ∙ at
 
-  at-other : (j : ℕ) (c : OpenCursor) → j ≢ number → IsAt (set cursors number now) j c → IsAt cursors j c
-  at-other j c other at = sym (get_or-set_other cursors number j now None other) ∙ at
+  at_other : (j : ℕ) (c : OpenCursor) → j ≢ number → IsAt (set cursors number now) j c → IsAt cursors j c
+  at_other j c other at = sym (get_or-set_other cursors number j now None other) ∙ at
 
-  other-at : (j : ℕ) (c : OpenCursor) → j ≢ number → IsAt cursors j c → IsAt (set cursors number now) j c
-  other-at j c other at = get_or-set_other cursors number j now None other ∙ at
+  other_at : (j : ℕ) (c : OpenCursor) → j ≢ number → IsAt cursors j c → IsAt (set cursors number now) j c
+  other_at j c other at = get_or-set_other cursors number j now None other ∙ at
 
-  placed-after : (j : ℕ) (c : OpenCursor) → IsAt (set cursors number now) j c → with_cursor places name (place_of_cursor now) c.name.now ≡ Some c.place
-  placed-after j c at = elim (apart j number) [ inl same ↦ at-it same | inr other ↦ at-another other ]
+  placed_after : (j : ℕ) (c : OpenCursor) → IsAt (set cursors number now) j c → with_cursor places name (place_of_cursor now) c.name.now ≡ Some c.place
+  placed_after j c at = elim (apart j number) [ inl same ↦ at_it same | inr other ↦ at_another other ]
     where
-      at-it : j ≡ number → with_cursor places name (place_of_cursor now) c.name.now ≡ Some c.place
-      at-it same =
-          let is : Is now (Some c) = at-number c (subst (λ (k : ℕ). IsAt (set cursors number now) k c) same at) in
-          cond-true (bytes_eq c.name.now name) (place_of_cursor now) (places c.name.now) (name-same c.name.now name (named c is))
+      at_it : j ≡ number → with_cursor places name (place_of_cursor now) c.name.now ≡ Some c.place
+      at_it same =
+          let is : Is now (Some c) = at_number c (subst (λ (k : ℕ). IsAt (set cursors number now) k c) same at) in
+          cond-true (bytes_eq c.name.now name) (place_of_cursor now) (places c.name.now) (name_same c.name.now name (named c is))
           ∙ ap place_of_cursor is
 
-      at-another : j ≢ number → with_cursor places name (place_of_cursor now) c.name.now ≡ Some c.place
-      at-another other =
-          let before = at-other j c other at in
+      at_another : j ≢ number → with_cursor places name (place_of_cursor now) c.name.now ≡ Some c.place
+      at_another other =
+          let before = at_other j c other at in
           cond-false (bytes_eq c.name.now name) (place_of_cursor now) (places c.name.now)
-          (name-differs c.name.now name (λ same. other (only j c before same)))
+          (name_differs c.name.now name (λ same. other (only j c before same)))
           ∙ held.placed j c before
 
-  known-after : (wanted : List ℕ) (place : ℕ) → with_cursor places name (place_of_cursor now) wanted ≡ Some place
+  known_after : (wanted : List ℕ) (place : ℕ) → with_cursor places name (place_of_cursor now) wanted ≡ Some place
       → (j : ℕ) × (c : OpenCursor) × IsAt (set cursors number now) j c × (c.name.now ≡ wanted)
-  known-after wanted place known = by (bytes_eq wanted name) refl
+  known_after wanted place known = by (bytes_eq wanted name) refl
     where
-      new-one : (cursor : Cursor) → Is now cursor → place_of_cursor cursor ≡ Some place → wanted ≡ name
+      new_one : (cursor : Cursor) → Is now cursor → place_of_cursor cursor ≡ Some place → wanted ≡ name
           → (j : ℕ) × (c : OpenCursor) × IsAt (set cursors number now) j c × (c.name.now ≡ wanted)
-      new-one None is e same = no-place e
-      new-one (Some c) is e same = (number, c, get_or-set_same cursors number now None within ∙ is, named c is ∙ sym same)
+      new_one None is e same = no_place e
+      new_one (Some c) is e same = (number, c, get_or-set_same cursors number now None within ∙ is, named c is ∙ sym same)
 
-      old-one : wanted ≢ name → (j : ℕ) × (c : OpenCursor) × IsAt cursors j c × (c.name.now ≡ wanted)
+      old_one : wanted ≢ name → (j : ℕ) × (c : OpenCursor) × IsAt cursors j c × (c.name.now ≡ wanted)
           → (j : ℕ) × (c : OpenCursor) × IsAt (set cursors number now) j c × (c.name.now ≡ wanted)
-      old-one differs (j, c, at, is) =
+      old_one differs (j, c, at, is) =
           let other : j ≢ number = λ same. differs (sym is ∙ here c (subst (λ (k : ℕ). IsAt cursors k c) same at)) in
-          (j, c, other-at j c other at, is)
+          (j, c, other_at j c other at, is)
 
       by : (t : Bool) → bytes_eq wanted name ≡ t → (j : ℕ) × (c : OpenCursor) × IsAt (set cursors number now) j c × (c.name.now ≡ wanted)
-      by true e = new-one now refl (sym (cond-true (bytes_eq wanted name) (place_of_cursor now) (places wanted) e) ∙ known) (same-name wanted name e)
+      by true e = new_one now refl (sym (cond-true (bytes_eq wanted name) (place_of_cursor now) (places wanted) e) ∙ known) (same_name wanted name e)
       by false e =
-          old-one (λ same. let t : true ≡ false = sym (name-same wanted name same) ∙ e in cc)
+          old_one (λ same. let t : true ≡ false = sym (name_same wanted name same) ∙ e in cc)
           (held.known wanted place (sym (cond-false (bytes_eq wanted name) (place_of_cursor now) (places wanted) e) ∙ known))
 
-  distinct-after : (i j : ℕ) (a b : OpenCursor) → IsAt (set cursors number now) i a → IsAt (set cursors number now) j b → a.name.now ≡ b.name.now → i ≡ j
-  distinct-after i j a b at bt same = elim (apart i number) [
+  distinct_after : (i j : ℕ) (a b : OpenCursor) → IsAt (set cursors number now) i a → IsAt (set cursors number now) j b → a.name.now ≡ b.name.now → i ≡ j
+  distinct_after i j a b at bt same = elim (apart i number) [
     | inl first ↦ elim (apart j number) [
       | inl second ↦ first ∙ sym second
       | inr other ↦
-          let is = named a (at-number a (subst (λ (k : ℕ). IsAt (set cursors number now) k a) first at)) in
-          absurd (other (only j b (at-other j b other bt) (sym same ∙ is)))
+          let is = named a (at_number a (subst (λ (k : ℕ). IsAt (set cursors number now) k a) first at)) in
+          absurd (other (only j b (at_other j b other bt) (sym same ∙ is)))
     ]
     | inr other ↦ elim (apart j number) [
       | inl second ↦
-          let is = named b (at-number b (subst (λ (k : ℕ). IsAt (set cursors number now) k b) second bt)) in
-          absurd (other (only i a (at-other i a other at) (same ∙ is)))
-      | inr another ↦ held.distinct i j a b (at-other i a other at) (at-other j b another bt) same
+          let is = named b (at_number b (subst (λ (k : ℕ). IsAt (set cursors number now) k b) second bt)) in
+          absurd (other (only i a (at_other i a other at) (same ∙ is)))
+      | inr another ↦ held.distinct i j a b (at_other i a other at) (at_other j b another bt) same
     ]
   ]
 
-  pub held-put : IsHeld new (set cursors number now) (with_cursor places name (place_of_cursor now))
-  held-put = record {
+  pub held_put : IsHeld new (set cursors number now) (with_cursor places name (place_of_cursor now))
+  held_put = record {
     same = moved ∙ ap (λ (l : List (Option ℕ)). set l number (place_of_cursor now)) held.same ∙ sym (map-set place_of_cursor cursors number now);
-    placed = placed-after;
-    known = known-after;
-    distinct = distinct-after;
+    placed = placed_after;
+    known = known_after;
+    distinct = distinct_after;
   }
 
 -- ---- a new cursor
 
 module _ (old new : CursorSet) (cursors : List Cursor) (places : Places) (number : ℕ) (held : IsHeld old cursors places)
     (free : position is_none old.places ≡ Some number) where
-  places-long : length old.places ≡ length cursors
-  places-long = ap length held.same ∙ length-map cursors place_of_cursor
+  places_long : length old.places ≡ length cursors
+  places_long = ap length held.same ∙ length-map cursors place_of_cursor
 
-  free-within : number < length cursors
-  free-within = let h = (position-Some is_none old.places number None free).0 in omega (arith, h, places-long)
+  free_within : number < length cursors
+  free_within = let h = (position-Some is_none old.places number None free).0 in omega (arith, h, places_long)
 
-  free-none : (c : OpenCursor) → IsAt cursors number c → ⊥
-  free-none c at = by (get_or old.places number None) (position-Some is_none old.places number None free).1 taken
+  free_none : (c : OpenCursor) → IsAt cursors number c → ⊥
+  free_none c at = by (get_or old.places number None) (position-Some is_none old.places number None free).1 taken
     where
       taken : get_or old.places number None ≡ Some c.place
-      taken = ap (λ (l : List (Option ℕ)). get_or l number None) held.same ∙ get_or-map place_of_cursor cursors number None None free-within ∙ ap place_of_cursor at
+      taken = ap (λ (l : List (Option ℕ)). get_or l number None) held.same ∙ get_or-map place_of_cursor cursors number None None free_within ∙ ap place_of_cursor at
 
       by : (o : Option ℕ) → is_none o ≡ true → o ≡ Some c.place → ⊥
-      by None e is = no-place is
+      by None e is = no_place is
       by (Some p) e is = cc
 
-  pub held-new : (c : OpenCursor) → places c.name.now ≡ None → new.places ≡ set old.places number (Some c.place)
+  pub held_new : (c : OpenCursor) → places c.name.now ≡ None → new.places ≡ set old.places number (Some c.place)
       → IsHeld new (set cursors number (Some c)) (with_cursor places c.name.now (Some c.place))
-  held-new c closed moved =
-      held-put old new cursors places number c.name.now (Some c) held free-within
-      (λ j d at is. no-place (sym closed ∙ sym (ap places is) ∙ held.placed j d at))
-      (λ d at. absurd (free-none d at)) (λ d is. ap (λ (e : OpenCursor). e.name.now) (sym (some-same is))) moved
+  held_new c closed moved =
+      held_put old new cursors places number c.name.now (Some c) held free_within
+      (λ j d at is. no_place (sym closed ∙ sym (ap places is) ∙ held.placed j d at))
+      (λ d at. absurd (free_none d at)) (λ d is. ap (λ (e : OpenCursor). e.name.now) (sym (some_same is))) moved
 
 -- ---- a cursor that is open
 
 -- a place that passes the test is found
-position-at : (p : Cursor → Bool) (x : Cursor) (xs : List Cursor) (b : Bool) → p x ≡ b → position_or_len p (x ∷ xs) ≡ cond (not b) (1 + position_or_len p xs) 0
-position-at p x xs b e = ap (λ t. cond (not t) (1 + position_or_len p xs) 0) e
+position_at : (p : Cursor → Bool) (x : Cursor) (xs : List Cursor) (b : Bool) → p x ≡ b → position_or_len p (x ∷ xs) ≡ cond (not b) (1 + position_or_len p xs) 0
+position_at p x xs b e = ap (λ t. cond (not t) (1 + position_or_len p xs) 0) e
 
-first-passes : (p : Cursor → Bool) (x : Cursor) (xs : List Cursor) → p x ≡ true → position_or_len p (x ∷ xs) < length (x ∷ xs)
-first-passes p x xs e = let first = position-at p x xs true e in omega (arith, first)
+first_passes : (p : Cursor → Bool) (x : Cursor) (xs : List Cursor) → p x ≡ true → position_or_len p (x ∷ xs) < length (x ∷ xs)
+first_passes p x xs e = let first = position_at p x xs true e in omega (arith, first)
 
-later-passes : (p : Cursor → Bool) (x : Cursor) (xs : List Cursor) → position_or_len p xs < length xs → position_or_len p (x ∷ xs) < length (x ∷ xs)
-later-passes p x xs rest = by (p x) refl
+later_passes : (p : Cursor → Bool) (x : Cursor) (xs : List Cursor) → position_or_len p xs < length xs → position_or_len p (x ∷ xs) < length (x ∷ xs)
+later_passes p x xs rest = by (p x) refl
   where
     by : (b : Bool) → p x ≡ b → position_or_len p (x ∷ xs) < length (x ∷ xs)
-    by true e = first-passes p x xs e
-    by false e = let next = position-at p x xs false e in omega (arith, next, rest)
+    by true e = first_passes p x xs e
+    by false e = let next = position_at p x xs false e in omega (arith, next, rest)
 
-passes-before : (p : Cursor → Bool) (cursors : List Cursor) (k : ℕ) → k < length cursors → p (get_or cursors k None) ≡ true → position_or_len p cursors < length cursors
-passes-before p [] k within passes = absurd (omega arith)
-passes-before p (x ∷ xs) zero within passes = first-passes p x xs passes
-passes-before p (x ∷ xs) (suc k) within passes = later-passes p x xs (passes-before p xs k (omega arith) passes)
+passes_before : (p : Cursor → Bool) (cursors : List Cursor) (k : ℕ) → k < length cursors → p (get_or cursors k None) ≡ true → position_or_len p cursors < length cursors
+passes_before p [] k within passes = absurd (omega arith)
+passes_before p (x ∷ xs) zero within passes = first_passes p x xs passes
+passes_before p (x ∷ xs) (suc k) within passes = later_passes p x xs (passes_before p xs k (omega arith) passes)
 
-not-none : (p : Cursor → Bool) (cursors : List Cursor) → position_or_len p cursors < length cursors → position p cursors ≡ None → ⊥
-not-none p cursors before none = by (nat_lt (position_or_len p cursors) (length cursors)) refl none
+not_none : (p : Cursor → Bool) (cursors : List Cursor) → position_or_len p cursors < length cursors → position p cursors ≡ None → ⊥
+not_none p cursors before none = by (nat_lt (position_or_len p cursors) (length cursors)) refl none
   where
     by : (t : Bool) → nat_lt (position_or_len p cursors) (length cursors) ≡ t → cond t (Some (position_or_len p cursors)) None ≡ None → ⊥
     by true e is = cc
     by false e is = absurd (grind (arith, nat_tests))
 
-pub inside-at : (cursors : List Cursor) (number : ℕ) (c : OpenCursor) → IsAt cursors number c → number < length cursors
-inside-at [] number c at = none-some at
-inside-at (x ∷ xs) zero c at = omega arith
-inside-at (x ∷ xs) (suc number) c at = let h = inside-at xs number c at in omega (arith, h)
+pub inside_at : (cursors : List Cursor) (number : ℕ) (c : OpenCursor) → IsAt cursors number c → number < length cursors
+inside_at [] number c at = none_some at
+inside_at (x ∷ xs) zero c at = omega arith
+inside_at (x ∷ xs) (suc number) c at = let h = inside_at xs number c at in omega (arith, h)
 
-named-is : (name : List ℕ) (c : OpenCursor) → c.name.now ≡ name → is_named name (Some c) ≡ true
-named-is name c is = name-same c.name.now name is
+named_is : (name : List ℕ) (c : OpenCursor) → c.name.now ≡ name → is_named name (Some c) ≡ true
+named_is name c is = name_same c.name.now name is
 
 -- if no cursor has the name, it is not open
-pub unknown-closed : {A : Type 0} (set : CursorSet) (cursors : List Cursor) (places : Places) (name : List ℕ) → None ≡ position (is_named name) cursors
+pub unknown_closed : {A : Type 0} (set : CursorSet) (cursors : List Cursor) (places : Places) (name : List ℕ) → None ≡ position (is_named name) cursors
     → IsHeld set cursors places → IsSome (places name) → A
-unknown-closed {A} s cursors places name none held opened = by (places name) refl opened
+unknown_closed {A} s cursors places name none held opened = by (places name) refl opened
   where
     by : (o : Option ℕ) → places name ≡ o → IsSome o → A
     by None e h = let t : false ≡ true = h in cc
     by (Some place) e h =
         let (number, c, at, is) = held.known name place e in
-        absurd (not-none (is_named name) cursors
-        (passes-before (is_named name) cursors number (inside-at cursors number c at) (ap (is_named name) at ∙ named-is name c is)) (sym none))
+        absurd (not_none (is_named name) cursors
+        (passes_before (is_named name) cursors number (inside_at cursors number c at) (ap (is_named name) at ∙ named_is name c is)) (sym none))
 
 -- the cursor that was found has the name
 pub record Found (cursors : List Cursor) (number : ℕ) (name : List ℕ) : Type 0 where
@@ -200,29 +200,29 @@ pub record Found (cursors : List Cursor) (number : ℕ) (name : List ℕ) : Type
   pub is : cursor.name.now ≡ name
   pub within : number < length cursors
 
-pub found-named : (cursors : List Cursor) (number : ℕ) (name : List ℕ) → Some number ≡ position (is_named name) cursors → Found cursors number name
-found-named cursors number name e =
+pub found_named : (cursors : List Cursor) (number : ℕ) (name : List ℕ) → Some number ≡ position (is_named name) cursors → Found cursors number name
+found_named cursors number name e =
     let h = position-Some (is_named name) cursors number None (sym e) in by (get_or cursors number None) refl h.1 h.0
   where
     by : (o : Cursor) → get_or cursors number None ≡ o → is_named name o ≡ true → number < length cursors → Found cursors number name
     by None at passes within = let t : false ≡ true = passes in cc
-    by (Some c) at passes within = record { cursor = c; at = at; is = same-name c.name.now name passes; within = within }
+    by (Some c) at passes within = record { cursor = c; at = at; is = same_name c.name.now name passes; within = within }
 
-pub no-cursor : {A : Type 0} (cursors : List Cursor) (number : ℕ) (name : List ℕ) → Some number ≡ position (is_named name) cursors → get_or cursors number None ≡ None → A
-no-cursor cursors number name e none = let f = found-named cursors number name e in none-some (sym none ∙ f.at)
+pub no_cursor : {A : Type 0} (cursors : List Cursor) (number : ℕ) (name : List ℕ) → Some number ≡ position (is_named name) cursors → get_or cursors number None ≡ None → A
+no_cursor cursors number name e none = let f = found_named cursors number name e in none_some (sym none ∙ f.at)
 
 module _ (old new : CursorSet) (cursors : List Cursor) (places : Places) (number : ℕ) (name : List ℕ) (c : OpenCursor) (held : IsHeld old cursors places)
     (within : number < length cursors) (at : IsAt cursors number c) (is : c.name.now ≡ name) where
   -- its place in the set is its own place
-  pub place-held : get_or old.places number None ≡ Some c.place
-  place-held = ap (λ (l : List (Option ℕ)). get_or l number None) held.same ∙ get_or-map place_of_cursor cursors number None None within ∙ ap place_of_cursor at
+  pub place_held : get_or old.places number None ≡ Some c.place
+  place_held = ap (λ (l : List (Option ℕ)). get_or l number None) held.same ∙ get_or-map place_of_cursor cursors number None None within ∙ ap place_of_cursor at
 
-  pub place-named : places name ≡ Some c.place
-  place-named = ap places (sym is) ∙ held.placed number c at
+  pub place_named : places name ≡ Some c.place
+  place_named = ap places (sym is) ∙ held.placed number c at
 
-  pub held-moved : (now : Cursor) → ((d : OpenCursor) → Is now (Some d) → d.name.now ≡ name) → new.places ≡ set old.places number (place_of_cursor now)
+  pub held_moved : (now : Cursor) → ((d : OpenCursor) → Is now (Some d) → d.name.now ≡ name) → new.places ≡ set old.places number (place_of_cursor now)
       → IsHeld new (set cursors number now) (with_cursor places name (place_of_cursor now))
-  held-moved now named moved =
-      held-put old new cursors places number name now held within
+  held_moved now named moved =
+      held_put old new cursors places number name now held within
       (λ j d dt same. held.distinct j number d c dt at (same ∙ sym is))
-      (λ d dt. ap (λ (e : OpenCursor). e.name.now) (some-same (sym dt ∙ at)) ∙ is) named moved
+      (λ d dt. ap (λ (e : OpenCursor). e.name.now) (some_same (sym dt ∙ at)) ∙ is) named moved

@@ -11,51 +11,51 @@ use Rattle.session_script.specs.declared.step.Step.{Step}
 use Rattle.session_script.specs.declared.step.Step.TheVariants.{Next}
 use Rattle.verdict.specs.Session.{Places, no_cursors, place_in, places_after}
 use Rattle.verdict.specs.SessionCalls.{calls_among, calls_of_step, calls_of_steps, ends_by_itself, reach_of_step, reach_of_steps}
-use Rattle.command_session.specs.Spent.{IsWithin, Spent, calls_at}
-use Rattle.command_session.proofs.Costs.{spent-places, spent-then, spent-wider, within-spent, within-then}
+use Rattle.command_session.specs.Costs.{IsWithin, Spent, calls_at}
+use Rattle.command_session.proofs.Costs.{spent_places, spent_then, spent_wider, within_spent, within_then}
 use Rattle.command_session.proofs.Moves.{Cursor}
 use Rattle.command_session.proofs.Steps.{HasTaken}
 
 -- ---- the calls of one step
 
-calls-below : (limit : Option ℕ) (place : ℕ) → IfSome limit (λ n. place < n) → calls_at limit place ≡ 1
-calls-below None place below = refl
-calls-below (Some n) place below = grind (arith, nat_tests)
+calls_below : (limit : Option ℕ) (place : ℕ) → IfSome limit (λ n. place < n) → calls_at limit place ≡ 1
+calls_below None place below = refl
+calls_below (Some n) place below = grind (arith, nat_tests)
 
-calls-past : (limit : Option ℕ) (place : ℕ) → IsSomeAnd limit (λ n. n ≤ place) → calls_at limit place ≡ 0
-calls-past None place past = absurd past
-calls-past (Some n) place past = grind (arith, nat_tests)
+calls_past : (limit : Option ℕ) (place : ℕ) → IsSomeAnd limit (λ n. n ≤ place) → calls_at limit place ≡ 0
+calls_past None place past = absurd past
+calls_past (Some n) place past = grind (arith, nat_tests)
 
-pub at-below : (P : ℕ → Type 0) (limit : Option ℕ) (place : ℕ) → IfSome limit (λ n. place < n) → P 1 → P (calls_at limit place)
-at-below P limit place below h = subst P (sym (calls-below limit place below)) h
+pub at_below : (P : ℕ → Type 0) (limit : Option ℕ) (place : ℕ) → IfSome limit (λ n. place < n) → P 1 → P (calls_at limit place)
+at_below P limit place below h = subst P (sym (calls_below limit place below)) h
 
-pub at-limit : (P : ℕ → Type 0) (limit : Option ℕ) (place : ℕ) → IsSomeAnd limit (λ n. n ≤ place) → P 0 → P (calls_at limit place)
-at-limit P limit place past h = subst P (sym (calls-past limit place past)) h
+pub at_limit : (P : ℕ → Type 0) (limit : Option ℕ) (place : ℕ) → IsSomeAnd limit (λ n. n ≤ place) → P 0 → P (calls_at limit place)
+at_limit P limit place past h = subst P (sym (calls_past limit place past)) h
 
 -- members that were given are among those that were asked for
-pub given-among : (ends : Bool) (left given count : ℕ) → given ≤ left → given ≤ count → given ≤ calls_among ends left count
-given-among ends left given count within few = omega (arith, within, few)
+pub given_among : (ends : Bool) (left given count : ℕ) → given ≤ left → given ≤ count → given ≤ calls_among ends left count
+given_among ends left given count within few = omega (arith, within, few)
 
-more-among : (left given count : ℕ) → given ≤ left → given < count → given + 1 ≤ calls_among true left count
-more-among left given count within few = by (nat_lt left count) refl
+more_among : (left given count : ℕ) → given ≤ left → given < count → given + 1 ≤ calls_among true left count
+more_among left given count within few = by (nat_lt left count) refl
   where
     by : (b : Bool) → nat_lt left count ≡ b → given + 1 ≤ min count left + (if b then 1 else 0)
     by true e = omega (arith, within, few)
     by false e = let past : count ≤ left = grind (arith, nat_tests) in omega (arith, past, few)
 
 -- and so is the next one, or the end, unless it is at the limit
-pub next-among : (limit : Option ℕ) (ranking : List (List ℕ)) (start given count : ℕ) → given ≤ length (drop start (cut limit ranking)) → given < count
+pub next_among : (limit : Option ℕ) (ranking : List (List ℕ)) (start given count : ℕ) → given ≤ length (drop start (cut limit ranking)) → given < count
     → given + calls_at limit (start + given) ≤ calls_among (ends_by_itself limit ranking) (length (drop start (cut limit ranking))) count
-next-among None ranking start given count within few = more-among (length (drop start ranking)) given count within few
-next-among (Some n) ranking start given count within few = by (nat_lt (start + given) n) refl (nat_le n (length ranking)) refl
+next_among None ranking start given count within few = more_among (length (drop start ranking)) given count within few
+next_among (Some n) ranking start given count within few = by (nat_lt (start + given) n) refl (nat_le n (length ranking)) refl
   where
     left : ℕ
     left = length (drop start (take n ranking))
 
     by : (b : Bool) → nat_lt (start + given) n ≡ b → (r : Bool) → nat_le n (length ranking) ≡ r
         → given + (if b then 1 else 0) ≤ calls_among (not r) (length (drop start (take n ranking))) count
-    by false e r is = let h = given-among (not r) (length (drop start (take n ranking))) given count within (omega (arith, few)) in omega (arith, h)
-    by true e false is = more-among (length (drop start (take n ranking))) given count within few
+    by false e r is = let h = given_among (not r) (length (drop start (take n ranking))) given count within (omega (arith, few)) in omega (arith, h)
+    by true e false is = more_among (length (drop start (take n ranking))) given count within few
     by true e true is =
         let below : start + given < n = grind (arith, nat_tests) in
         let all = length-take-le n ranking (leb-true n (length ranking) is) in
@@ -70,46 +70,46 @@ module _ (share : List ℕ → ℕ → ℕ) (rises : (s : List ℕ) (c d : ℕ) 
   abbrev among : ℕ
   among = calls_among (ends_by_itself limit ranking) (length (drop start (cut limit ranking))) count
 
-  among-next : given < count → given + calls_at limit place ≤ calls_among (ends_by_itself limit ranking) (length (drop start (cut limit ranking))) count
-  among-next few =
-      let all = next-among limit ranking start given count within few in
+  among_next : given < count → given + calls_at limit place ≤ calls_among (ends_by_itself limit ranking) (length (drop start (cut limit ranking))) count
+  among_next few =
+      let all = next_among limit ranking start given count within few in
       let same = ap (calls_at limit) is in
       omega (arith, all, same)
 
   -- no more members are asked for
-  pub given-done : given ≤ count → Spent share old mid (start + among) among before at
-  given-done few =
-      let all = given-among (ends_by_itself limit ranking) (length (drop start (cut limit ranking))) given count within few in
-      spent-wider share rises old mid (start + given) (start + among) given among before at (omega (arith, all)) all first
+  pub given_done : given ≤ count → Spent share old mid (start + among) among before at
+  given_done few =
+      let all = given_among (ends_by_itself limit ranking) (length (drop start (cut limit ranking))) given count within few in
+      spent_wider share rises old mid (start + given) (start + among) given among before at (omega (arith, all)) all first
 
   -- the call for the next one
-  pub given-spent : (new : CursorSet) (now : ℕ) → given < count → Spent share mid new (place + calls_at limit place) (calls_at limit place) at now → Spent share old new (start + among) among before now
-  given-spent new now few next =
-      let all = among-next few in
-      spent-then share rises old mid (start + given) (place + calls_at limit place) (start + among) given (calls_at limit place) among before at now first
+  pub given_spent : (new : CursorSet) (now : ℕ) → given < count → Spent share mid new (place + calls_at limit place) (calls_at limit place) at now → Spent share old new (start + among) among before now
+  given_spent new now few next =
+      let all = among_next few in
+      spent_then share rises old mid (start + given) (place + calls_at limit place) (start + among) given (calls_at limit place) among before at now first
       (omega (arith, all)) (omega (arith, all, is)) all new next
 
-  pub given-within : (now : ℕ) → given < count → IsWithin share mid (place + calls_at limit place) (calls_at limit place) at now → IsWithin share old (start + among) among before now
-  given-within now few next =
-      let all = among-next few in
-      within-then share rises old mid (start + given) (place + calls_at limit place) (start + among) given (calls_at limit place) among before at now first
+  pub given_within : (now : ℕ) → given < count → IsWithin share mid (place + calls_at limit place) (calls_at limit place) at now → IsWithin share old (start + among) among before now
+  given_within now few next =
+      let all = among_next few in
+      within_then share rises old mid (start + given) (place + calls_at limit place) (start + among) given (calls_at limit place) among before at now first
       (omega (arith, all)) (omega (arith, all, is)) all next
 
   -- which gave one
-  pub given-more : (new : CursorSet) (now : ℕ) → IfSome limit (λ n. place < n) → Spent share mid new (place + calls_at limit place) (calls_at limit place) at now
+  pub given_more : (new : CursorSet) (now : ℕ) → IfSome limit (λ n. place < n) → Spent share mid new (place + calls_at limit place) (calls_at limit place) at now
       → Spent share old new (start + (given + 1)) (given + 1) before now
-  given-more new now below next =
-      let one = calls-below limit place below in
-      spent-then share rises old mid (start + given) (place + calls_at limit place) (start + (given + 1)) given (calls_at limit place) (given + 1) before at now first
+  given_more new now below next =
+      let one = calls_below limit place below in
+      spent_then share rises old mid (start + given) (place + calls_at limit place) (start + (given + 1)) given (calls_at limit place) (given + 1) before at now first
       (omega arith) (omega (arith, one, is)) (omega (arith, one)) new next
 
 -- ---- one step of a script
 
 -- the cost of `next`, by the cursor's own place
-pub next-paid : (P : ℕ → ℕ → Type 0) (ends : Bool) (members : List (List ℕ)) (places : Places) (name : List ℕ) (place count : ℕ) → places name ≡ Some place
+pub next_paid : (P : ℕ → ℕ → Type 0) (ends : Bool) (members : List (List ℕ)) (places : Places) (name : List ℕ) (place count : ℕ) → places name ≡ Some place
     → P (place + calls_among ends (length (drop place members)) count) (calls_among ends (length (drop place members)) count)
     → P (reach_of_step ends members places (Next name count)) (calls_of_step ends members places (Next name count))
-next-paid P ends members places name place count at h =
+next_paid P ends members places name place count at h =
     let B : ℕ → Type 0 = λ p. P (p + calls_among ends (length (drop p members)) count) (calls_among ends (length (drop p members)) count) in
     let there : place ≡ place_in places name = ap (λ (o : Option ℕ). unwrap_or o 0) (sym at) in
     subst B there h
@@ -125,11 +125,11 @@ pub record HasPaid (share : List ℕ → ℕ → ℕ) (ends : Bool) (members : L
   pub many : calls + calls_of_steps ends members places (drop i script) ≤ calls_of_steps ends members no_cursors script
 
 module _ (share : List ℕ → ℕ → ℕ) (rises : (s : List ℕ) (c d : ℕ) → c ≤ d → share s c ≤ share s d) (ends : Bool) (members : List (List ℕ)) (script : List Step) where
-  pub paid-start : (set : CursorSet) (n : ℕ) → HasPaid share ends members script 0 no_cursors set set n n
-  paid-start set n = record {
+  pub paid_start : (set : CursorSet) (n : ℕ) → HasPaid share ends members script 0 no_cursors set set n n
+  paid_start set n = record {
     reach = 0;
     calls = 0;
-    paid = spent-places share rises set set 0 0 n n refl (omega arith);
+    paid = spent_places share rises set set 0 0 n n refl (omega arith);
     far = omega arith;
     many = omega arith;
   }
@@ -139,17 +139,17 @@ module _ (share : List ℕ → ℕ → ℕ) (rises : (s : List ℕ) (c d : ℕ) 
     split : drop i script ≡ step ∷ drop (i + 1) script
     split = drop_more script i step inside ∙ ap (λ (s : Step). s ∷ drop (i + 1) script) here
 
-    reach-split : reach_of_steps ends members places (drop i script)
+    reach_split : reach_of_steps ends members places (drop i script)
         ≡ max (reach_of_step ends members places step) (reach_of_steps ends members (places_after members places step) (drop (i + 1) script))
-    reach-split = ap (reach_of_steps ends members places) split
+    reach_split = ap (reach_of_steps ends members places) split
 
-    calls-split : calls_of_steps ends members places (drop i script)
+    calls_split : calls_of_steps ends members places (drop i script)
         ≡ calls_of_step ends members places step + calls_of_steps ends members (places_after members places step) (drop (i + 1) script)
-    calls-split = ap (calls_of_steps ends members places) split
+    calls_split = ap (calls_of_steps ends members places) split
 
-    pub paid-more : (new : CursorSet) → Spent share mid new (reach_of_step ends members places step) (calls_of_step ends members places step) at now
+    pub paid_more : (new : CursorSet) → Spent share mid new (reach_of_step ends members places step) (calls_of_step ends members places step) at now
         → HasPaid share ends members script (i + 1) (places_after members places step) old new before now
-    paid-more new spent =
+    paid_more new spent =
         let far = h.far in
         let many = h.many in
         let one = reach_of_step ends members places step in
@@ -157,31 +157,31 @@ module _ (share : List ℕ → ℕ → ℕ) (rises : (s : List ℕ) (c d : ℕ) 
         record {
           reach = max h.reach one;
           calls = h.calls + more;
-          paid = spent-then share rises old mid h.reach one (max h.reach one) h.calls more (h.calls + more) before at now h.paid (omega arith) (omega arith) (omega arith) new spent;
-          far = omega (arith, far, reach-split);
-          many = omega (arith, many, calls-split);
+          paid = spent_then share rises old mid h.reach one (max h.reach one) h.calls more (h.calls + more) before at now h.paid (omega arith) (omega arith) (omega arith) new spent;
+          far = omega (arith, far, reach_split);
+          many = omega (arith, many, calls_split);
         }
 
     -- the last of them was cut short
-    pub paid-stopped : IsWithin share mid (reach_of_step ends members places step) (calls_of_step ends members places step) at now
+    pub paid_stopped : IsWithin share mid (reach_of_step ends members places step) (calls_of_step ends members places step) at now
         → IsWithin share old (reach_of_steps ends members no_cursors script) (calls_of_steps ends members no_cursors script) before now
-    paid-stopped within =
+    paid_stopped within =
         let far = h.far in
         let many = h.many in
-        within-then share rises old mid h.reach (reach_of_step ends members places step) (reach_of_steps ends members no_cursors script) h.calls
+        within_then share rises old mid h.reach (reach_of_step ends members places step) (reach_of_steps ends members no_cursors script) h.calls
         (calls_of_step ends members places step) (calls_of_steps ends members no_cursors script) before at now h.paid
-        (omega (arith, far)) (omega (arith, far, reach-split)) (omega (arith, many, calls-split)) within
+        (omega (arith, far)) (omega (arith, far, reach_split)) (omega (arith, many, calls_split)) within
 
   -- the cost is within that of the whole script
-  pub paid-all : (i : ℕ) (places : Places) (old now : CursorSet) (before spent : ℕ) → HasPaid share ends members script i places old now before spent
+  pub paid_all : (i : ℕ) (places : Places) (old now : CursorSet) (before spent : ℕ) → HasPaid share ends members script i places old now before spent
       → IsWithin share old (reach_of_steps ends members no_cursors script) (calls_of_steps ends members no_cursors script) before spent
-  paid-all i places old now before spent h =
+  paid_all i places old now before spent h =
       let far = h.far in
       let many = h.many in
       let reach = reach_of_steps ends members no_cursors script in
       let calls = calls_of_steps ends members no_cursors script in
-      within-spent share rises old now reach calls before spent
-      (spent-wider share rises old now h.reach reach h.calls calls before spent (omega (arith, far)) (omega (arith, many)) h.paid)
+      within_spent share rises old now reach calls before spent
+      (spent_wider share rises old now h.reach reach h.calls calls before spent (omega (arith, far)) (omega (arith, many)) h.paid)
 
 -- this many steps were taken, what the other steps print is left, and the cost is known
 pub record HasRun (line : List ℕ → List ℕ → List ℕ) (members : List (List ℕ)) (script : List Step) (i : ℕ) (set : CursorSet) (cursors : List Cursor)

@@ -4,30 +4,30 @@ use Rattle.std.specs.Prelude.{take}
 use Rattle.std.proofs.lemmas.List.{drop_all, drop_more, get_or-map, get_or-replicate, length-replicate}
 use Rattle.cursor_set.specs.CursorSet.{CursorSet}
 use Rattle.refusal_lines.specs.declared.refusal.Refusal.{Refusal}
-use Rattle.refusal_lines.specs.Printed.{Printed}
+use Rattle.refusal_lines.specs.Printing.{Printed}
 use Rattle.refusal_lines.specs.SinkState.{SinkState}
 use Rattle.session_script.specs.declared.step.Step.{Step}
 use Rattle.session_script.specs.declared.step.Step.TheVariants.{Next}
 use Rattle.verdict.specs.Session.{Places, next_text, no_cursors, place_in, places_after, step_text, steps_text, with_cursor}
 use Rattle.command_session.specs.declared.open_cursors.OpenCursor.{OpenCursor}
-use Rattle.command_session.specs.Held.{IsAt, IsHeld}
+use Rattle.command_session.specs.OpenCursors.{IsAt, IsHeld}
 use Rattle.command_session.specs.Rules.{CanFollow, CanStep}
-use Rattle.command_session.proofs.Left.{HasLeft, left-more, left-none, left-stopped}
-use Rattle.command_session.proofs.Moves.{Cursor, inside-at, no-place, none-some, place_of_cursor}
+use Rattle.command_session.proofs.Left.{HasLeft, left_more, left_none, left_stopped}
+use Rattle.command_session.proofs.Moves.{Cursor, inside_at, no_place, none_some, place_of_cursor}
 
 -- ---- before the first step
 
 absent : {A : Type 0} (cursors : List Cursor) (k : ℕ) (c : OpenCursor) → cursors ≡ replicate 64 None → IsAt cursors k c → A
 absent cursors k c none at =
-    let inside = inside-at cursors k c at in
+    let inside = inside_at cursors k c at in
     let few : k < 64 = omega (arith, inside, ap length none, length-replicate {A = Cursor} 64 None) in
-    none-some (sym (get_or-replicate {A = Cursor} 64 k None None few) ∙ ap (λ (l : List Cursor). get_or l k None) (sym none) ∙ at)
+    none_some (sym (get_or-replicate {A = Cursor} 64 k None None few) ∙ ap (λ (l : List Cursor). get_or l k None) (sym none) ∙ at)
 
-pub none-held : (set : CursorSet) (cursors : List Cursor) → cursors ≡ replicate 64 None → set.places ≡ replicate 64 None → IsHeld set cursors no_cursors
-none-held set cursors none same = record {
+pub none_held : (set : CursorSet) (cursors : List Cursor) → cursors ≡ replicate 64 None → set.places ≡ replicate 64 None → IsHeld set cursors no_cursors
+none_held set cursors none same = record {
   same = same ∙ ap (map place_of_cursor) (sym none);
   placed = λ k c at. absent cursors k c none at;
-  known = λ name place e. no-place e;
+  known = λ name place e. no_place e;
   distinct = λ i j a b at bt same. absent cursors i a none at;
 }
 
@@ -45,60 +45,60 @@ module _ (line : List ℕ → List ℕ → List ℕ) (members : List (List ℕ))
   split : drop i script ≡ step ∷ drop (i + 1) script
   split = drop_more script i step inside ∙ ap (λ (s : Step). s ∷ drop (i + 1) script) here
 
-  pub can-step : CanFollow members places (drop i script) → CanStep places step × CanFollow members (places_after members places step) (drop (i + 1) script)
-  can-step rules = let P : List Step → Type 0 = CanFollow members places in subst P split rules
+  pub can_step : CanFollow members places (drop i script) → CanStep places step × CanFollow members (places_after members places step) (drop (i + 1) script)
+  can_step rules = let P : List Step → Type 0 = CanFollow members places in subst P split rules
 
-  text-split : steps_text line members places (drop i script)
+  text_split : steps_text line members places (drop i script)
       ≡ step_text line members places step ++ steps_text line members (places_after members places step) (drop (i + 1) script)
-  text-split = ap (steps_text line members places) split
+  text_split = ap (steps_text line members places) split
 
-  pub taken-more : (set set' : CursorSet) (cursors cursors' : List Cursor) (old mid now : SinkState)
+  pub taken_more : (set set' : CursorSet) (cursors cursors' : List Cursor) (old mid now : SinkState)
       → (t : HasTaken line members script i places set cursors old mid) → IsHeld set' cursors' (places_after members places step)
       → Printed mid now (step_text line members places step) (Ok tt) → HasTaken line members script (i + 1) (places_after members places step) set' cursors' old now
-  taken-more set set' cursors cursors' old mid now t held printed = record {
+  taken_more set set' cursors cursors' old mid now t held printed = record {
     held = held;
-    rules = (can-step t.rules).1;
-    left = left-more (steps_text line members no_cursors script) (steps_text line members places (drop i script)) old mid now t.left
-        (step_text line members places step) (steps_text line members (places_after members places step) (drop (i + 1) script)) text-split
+    rules = (can_step t.rules).1;
+    left = left_more (steps_text line members no_cursors script) (steps_text line members places (drop i script)) old mid now t.left
+        (step_text line members places step) (steps_text line members (places_after members places step) (drop (i + 1) script)) text_split
         printed.whole printed.later;
   }
 
-  pub taken-stopped : (set : CursorSet) (cursors : List Cursor) (old mid now : SinkState) (e : Refusal)
+  pub taken_stopped : (set : CursorSet) (cursors : List Cursor) (old mid now : SinkState) (e : Refusal)
       → (t : HasTaken line members script i places set cursors old mid) → Printed mid now (step_text line members places step) (Err e)
       → Printed old now (steps_text line members no_cursors script) (Err e)
-  taken-stopped set cursors old mid now e t printed =
-      left-stopped (steps_text line members no_cursors script) (steps_text line members places (drop i script)) old mid now t.left
-      (step_text line members places step) (steps_text line members (places_after members places step) (drop (i + 1) script)) e text-split printed
+  taken_stopped set cursors old mid now e t printed =
+      left_stopped (steps_text line members no_cursors script) (steps_text line members places (drop i script)) old mid now t.left
+      (step_text line members places step) (steps_text line members (places_after members places step) (drop (i + 1) script)) e text_split printed
 
 -- all steps were taken
-pub taken-all : (line : List ℕ → List ℕ → List ℕ) (members : List (List ℕ)) (script : List Step) (i : ℕ) (places : Places) (set : CursorSet) (cursors : List Cursor)
+pub taken_all : (line : List ℕ → List ℕ → List ℕ) (members : List (List ℕ)) (script : List Step) (i : ℕ) (places : Places) (set : CursorSet) (cursors : List Cursor)
     (old now : SinkState) → length script ≤ i → HasTaken line members script i places set cursors old now
     → Printed old now (steps_text line members no_cursors script) (Ok tt)
-taken-all line members script i places set cursors old now end t =
-    left-none (steps_text line members no_cursors script) (steps_text line members places (drop i script)) old now t.left
+taken_all line members script i places set cursors old now end t =
+    left_none (steps_text line members no_cursors script) (steps_text line members places (drop i script)) old now t.left
     (ap (steps_text line members places) (drop_all i script end))
 
 -- ---- the step `next`
 
 -- the place of an open cursor is its place in the set
-pub same-place : (set : CursorSet) (cursors : List Cursor) (number : ℕ) (c : OpenCursor) → set.places ≡ map place_of_cursor cursors → IsAt cursors number c
+pub same_place : (set : CursorSet) (cursors : List Cursor) (number : ℕ) (c : OpenCursor) → set.places ≡ map place_of_cursor cursors → IsAt cursors number c
     → get_or set.places number None ≡ Some c.place
-same-place set cursors number c same at =
-    ap (λ (l : List (Option ℕ)). get_or l number None) same ∙ get_or-map place_of_cursor cursors number None None (inside-at cursors number c at) ∙ ap place_of_cursor at
+same_place set cursors number c same at =
+    ap (λ (l : List (Option ℕ)). get_or l number None) same ∙ get_or-map place_of_cursor cursors number None None (inside_at cursors number c at) ∙ ap place_of_cursor at
 
 -- what it prints, by the cursor's own name and place
-pub next-told : (P : List ℕ → Type 0) (line : List ℕ → List ℕ → List ℕ) (members : List (List ℕ)) (places : Places) (name : List ℕ) (place count : ℕ) (own : List ℕ)
+pub next_told : (P : List ℕ → Type 0) (line : List ℕ → List ℕ → List ℕ) (members : List (List ℕ)) (places : Places) (name : List ℕ) (place count : ℕ) (own : List ℕ)
     → own ≡ name → places name ≡ Some place → P (next_text (line own) (own ++ 10 ∷ []) (drop place members) count) → P (step_text line members places (Next name count))
-next-told P line members places name place count own is at h =
+next_told P line members places name place count own is at h =
     let A : List ℕ → Type 0 = λ n. P (next_text (line n) (n ++ 10 ∷ []) (drop place members) count) in
     let B : ℕ → Type 0 = λ p. P (next_text (line name) (name ++ 10 ∷ []) (drop p members) count) in
     let there : place ≡ place_in places name = ap (λ (o : Option ℕ). unwrap_or o 0) (sym at) in
     subst B there (subst A is h)
 
 -- the places of the cursors after it
-pub next-after : (P : Places → Type 0) (members : List (List ℕ)) (places : Places) (name : List ℕ) (place now count : ℕ) → places name ≡ Some place
+pub next_after : (P : Places → Type 0) (members : List (List ℕ)) (places : Places) (name : List ℕ) (place now count : ℕ) → places name ≡ Some place
     → now ≡ place + length (take count (drop place members)) → P (with_cursor places name (Some now)) → P (places_after members places (Next name count))
-next-after P members places name place now count at is h =
+next_after P members places name place now count at is h =
     let A : ℕ → Type 0 = λ n. P (with_cursor places name (Some n)) in
     let B : ℕ → Type 0 = λ p. P (with_cursor places name (Some (p + length (take count (drop p members))))) in
     let there : place ≡ place_in places name = ap (λ (o : Option ℕ). unwrap_or o 0) (sym at) in

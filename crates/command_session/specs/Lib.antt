@@ -1,3 +1,3 @@
-pub mod Held
+pub mod OpenCursors
 pub mod Rules
-pub mod Spent
+pub mod Costs

@@ -1,16 +1,16 @@
 //! The step `next`: members from a cursor's place.
 ghost use Rattle.std.specs.Prelude.{◌≡◌, ◌≤◌, ◌<◌, ◌+◌, ◌++◌, IfNone, IfOk, IfSome, IsSomeAnd, IsTrue, OnOk, Some, false, codes, drop, length, slice_get, take};
 ghost use Rattle.anyk_model.specs.Output.{cut, line_text};
-ghost use Rattle.answer_print.specs.Shown.{style_shown};
+ghost use Rattle.answer_print.specs.StyleView.{style_shown};
 ghost use Rattle.cursor_set.specs.CursorSet.{place_of, with_place};
-ghost use Rattle.query_bind.specs.Weighed.{Fits};
-ghost use Rattle.refusal_lines.specs.Printed.{Printed};
+ghost use Rattle.query_bind.specs.WeighedQuery.{Fits};
+ghost use Rattle.refusal_lines.specs.Printing.{Printed};
 ghost use Rattle.refusal_lines.specs.SinkState.{state_of};
 ghost use Rattle.tdp_model.specs.KeyNumbers.{numbers};
 ghost use Rattle.verdict.specs.Session.{next_text, with_name};
 ghost use Rattle.verdict.specs.SessionCalls.{calls_among, ends_by_itself};
 ghost use Rattle.witness_key.specs.WitnessKey.{AreCombinations, combinations_in};
-ghost use Rattle.command_session.specs.Spent.{Paid, calls_at};
+ghost use Rattle.command_session.specs.Costs.{Paid, calls_at};
 
 use crate::open_cursors::OpenCursor;
 use answer_print::{AnswerWriter, Style, print_answer};

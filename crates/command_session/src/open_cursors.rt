@@ -1,9 +1,9 @@
 //! The open cursors by name.
 ghost use Rattle.std.specs.Prelude.{◌≡◌, IfErr, IsSome, None, OnOk, Some, position};
 ghost use Rattle.refusal_lines.specs.Reason as reason;
-ghost use Rattle.refusal_lines.specs.Refused.{reason_of};
+ghost use Rattle.refusal_lines.specs.RefusalReasons.{reason_of};
 ghost use Rattle.verdict.specs.Session.{Places, with_cursor};
-ghost use Rattle.command_session.specs.Held.{IsHeld, is_named};
+ghost use Rattle.command_session.specs.OpenCursors.{IsHeld, is_named};
 
 use cursor_set::{CursorId, Cursors, MAX_OPEN};
 use refusal_lines::Refusal;

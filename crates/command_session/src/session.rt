@@ -1,9 +1,9 @@
 //! A session, one step after another.
 ghost use Rattle.std.specs.Prelude.{◌≡◌, ◌≤◌, ◌+◌, ◌*◌, [], IsSome, None, OnOk, map, option_map, replicate};
 ghost use Rattle.anyk_model.specs.Output.{cut, line_text};
-ghost use Rattle.answer_print.specs.Shown.{style_shown};
-ghost use Rattle.query_bind.specs.Weighed.{Fits};
-ghost use Rattle.refusal_lines.specs.Printed.{Printed};
+ghost use Rattle.answer_print.specs.StyleView.{style_shown};
+ghost use Rattle.query_bind.specs.WeighedQuery.{Fits};
+ghost use Rattle.refusal_lines.specs.Printing.{Printed};
 ghost use Rattle.refusal_lines.specs.SinkState.{state_of};
 ghost use Rattle.session_script.specs.declared.step.Step.TheVariants.{Next};
 ghost use Rattle.session_script.specs.Script.{KeepsRules};
@@ -11,9 +11,9 @@ ghost use Rattle.verdict.specs.Session.{Places, no_cursors, places_after, sessio
 ghost use Rattle.verdict.specs.SessionCalls.{calls_of_step, calls_of_steps, ends_by_itself, reach_of_step, reach_of_steps};
 ghost use Rattle.step_bounds.specs.Steps.{steps_for};
 ghost use Rattle.witness_key.specs.WitnessKey.{AreCombinations, combinations_in};
-ghost use Rattle.command_session.specs.Held.{IsHeld};
+ghost use Rattle.command_session.specs.OpenCursors.{IsHeld};
 ghost use Rattle.command_session.specs.Rules.{CanFollow, CanStep};
-ghost use Rattle.command_session.specs.Spent.{IsWithin, Paid};
+ghost use Rattle.command_session.specs.Costs.{IsWithin, Paid};
 
 use crate::moving::print_next;
 use crate::open_cursors::{OpenCursors, close, fork, number_of, open, rewind};

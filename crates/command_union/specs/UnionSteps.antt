@@ -4,9 +4,9 @@ use Rattle.std.specs.List.{AllByRecursion}
 use Rattle.anyk_model.specs.Query.{IsCombination, Query, row_counts}
 use Rattle.anyk_model.specs.Table.{Table}
 use Rattle.step_bounds.specs.Steps.{steps_for, whole_lines}
-use Rattle.union_list.specs.Tagged.{Tagged, branch_at}
+use Rattle.union_list.specs.TaggedRows.{Tagged, branch_at}
 use Rattle.union_list.specs.Union.{members_in}
-use Rattle.union_all.specs.Merged.{EngineSeen}
+use Rattle.union_all.specs.Merge.{EngineSeen}
 
 -- the most steps of the calls of each branch's engine for its members in the list; the first of these
 -- branches has the number b

@@ -2,10 +2,10 @@
 ghost use Rattle.std.specs.Prelude.{◌≡◌, ◌+◌, ◌++◌, ◌≤◌, List, Some, drop, length, map, take, ℕ};
 ghost use Rattle.std.specs.List.{All, flat_map};
 ghost use Rattle.anyk_model.specs.Output.{cut};
-ghost use Rattle.answer_print.specs.Shown.{style_shown};
-ghost use Rattle.query_bind.specs.Weighed.{Fits};
+ghost use Rattle.answer_print.specs.StyleView.{style_shown};
+ghost use Rattle.query_bind.specs.WeighedQuery.{Fits};
 ghost use Rattle.step_bounds.specs.Steps.{whole_lines};
-ghost use Rattle.refusal_lines.specs.Printed.{Printed};
+ghost use Rattle.refusal_lines.specs.Printing.{Printed};
 ghost use Rattle.refusal_lines.specs.SinkState.{state_of};
 ghost use Rattle.union_list.specs.UnionOutput.{union_header_text, union_line_text, union_output_of};
 ghost use Rattle.union_all.specs.Firsts.{tagged_shown};

@@ -9,11 +9,11 @@ pub eqb_false : (a b : ℕ) → (a ≡ b → ⊥) → nat_eq a b ≡ false
 eqb_false a b not = eqb_by a b (nat_eq a b) refl not
 
 -- an element of a list with one more at its end
-pub get_or-snoc : {X : Type 0} (xs : List X) (x : X) (c : ℕ) (d : X) → c < length (xs ++ (x ∷ []))
+pub get_or_snoc : {X : Type 0} (xs : List X) (x : X) (c : ℕ) (d : X) → c < length (xs ++ (x ∷ []))
     → ((c < length xs) × (get_or (xs ++ (x ∷ [])) c d ≡ get_or xs c d)) ⊎ ((c ≡ length xs) × (get_or (xs ++ (x ∷ [])) c d ≡ x))
-get_or-snoc [] x zero d h = inr (refl, refl)
-get_or-snoc [] x (suc c) d h = absurd (omega arith)
-get_or-snoc (y ∷ xs) x zero d h = inl (omega arith, refl)
-get_or-snoc (y ∷ xs) x (suc c) d h =
+get_or_snoc [] x zero d h = inr (refl, refl)
+get_or_snoc [] x (suc c) d h = absurd (omega arith)
+get_or_snoc (y ∷ xs) x zero d h = inl (omega arith, refl)
+get_or_snoc (y ∷ xs) x (suc c) d h =
     let less : c < length (xs ++ (x ∷ [])) = omega arith in
-    elim (get_or-snoc xs x c d less) [ inl p ↦ inl (omega (arith, p.0), p.1) | inr p ↦ inr (ap suc p.0, p.1) ]
+    elim (get_or_snoc xs x c d less) [ inl p ↦ inl (omega (arith, p.0), p.1) | inr p ↦ inr (ap suc p.0, p.1) ]

@@ -16,36 +16,36 @@ Pair = ℕ × ℕ
 abbrev same : Pair → Pair → Bool
 same a b = nat_eq a.0 b.0 && nat_eq a.1 b.1
 
-pub same-pair : (a b : Pair) → a.0 ≡ b.0 → a.1 ≡ b.1 → a ≡ b
-same-pair a b e f = λ i. (e i, f i)
+pub same_pair : (a b : Pair) → a.0 ≡ b.0 → a.1 ≡ b.1 → a ≡ b
+same_pair a b e f = λ i. (e i, f i)
 
-same-is : (a b : Pair) → same a b ≡ true → a ≡ b
-same-is a b e =
+same_is : (a b : Pair) → same a b ≡ true → a ≡ b
+same_is a b e =
     let h = and_parts (nat_eq a.0 b.0) (nat_eq a.1 b.1) e in
-    same-pair a b (eqb-true a.0 b.0 h.0) (eqb-true a.1 b.1 h.1)
+    same_pair a b (eqb-true a.0 b.0 h.0) (eqb-true a.1 b.1 h.1)
 
-is-same : (a b : Pair) → a ≡ b → same a b ≡ true
-is-same a b e = (λ i. eq-eqb a.0 b.0 (ap (λ (p : Pair). p.0) e) i && nat_eq a.1 b.1) ∙ eq-eqb a.1 b.1 (ap (λ (p : Pair). p.1) e)
+is_same : (a b : Pair) → a ≡ b → same a b ≡ true
+is_same a b e = (λ i. eq-eqb a.0 b.0 (ap (λ (p : Pair). p.0) e) i && nat_eq a.1 b.1) ∙ eq-eqb a.1 b.1 (ap (λ (p : Pair). p.1) e)
 
-or-first : (a b : Bool) → (a || b) ≡ false → a ≡ false
-or-first true b e = e
-or-first false b e = refl
+or_first : (a b : Bool) → (a || b) ≡ false → a ≡ false
+or_first true b e = e
+or_first false b e = refl
 
-or-second : (a b : Bool) → (a || b) ≡ false → b ≡ false
-or-second true b e = absurd (false≢true (sym e))
-or-second false b e = e
+or_second : (a b : Bool) → (a || b) ≡ false → b ≡ false
+or_second true b e = absurd (false≢true (sym e))
+or_second false b e = e
 
-none-at : (p : Pair → Bool) (xs : List Pair) (k : ℕ) → list_any p xs ≡ false → k < length xs → p (get_or xs k (0, 0)) ≡ false
-none-at p [] k e inside = absurd (omega arith)
-none-at p (x ∷ xs) zero e inside = or-first (p x) (list_any p xs) e
-none-at p (x ∷ xs) (suc k) e inside = none-at p xs k (or-second (p x) (list_any p xs) e) (omega arith)
+none_at : (p : Pair → Bool) (xs : List Pair) (k : ℕ) → list_any p xs ≡ false → k < length xs → p (get_or xs k (0, 0)) ≡ false
+none_at p [] k e inside = absurd (omega arith)
+none_at p (x ∷ xs) zero e inside = or_first (p x) (list_any p xs) e
+none_at p (x ∷ xs) (suc k) e inside = none_at p xs k (or_second (p x) (list_any p xs) e) (omega arith)
 
 -- pair n of xs is y
 abbrev At : List Pair → ℕ → Pair → Type 0
 At xs n y = (n < length xs) × (get_or xs n (0, 0) ≡ y)
 
-kept-at : (xs : List Pair) (x : Pair) (n : ℕ) (y : Pair) → At xs n y → At (insert_key same xs x) n y
-kept-at xs x n y h = by (list_any (same x) xs)
+kept_at : (xs : List Pair) (x : Pair) (n : ℕ) (y : Pair) → At xs n y → At (insert_key same xs x) n y
+kept_at xs x n y h = by (list_any (same x) xs)
   where
     by : (b : Bool) → At (if b then xs else xs ++ x ∷ []) n y
     by true = h
@@ -54,9 +54,9 @@ kept-at xs x n y h = by (list_any (same x) xs)
 One : List Pair → Type 0
 One xs = (m n : ℕ) (y : Pair) → At xs m y → At xs n y → m ≡ n
 
-one-more : (xs : List Pair) (x : Pair) → list_any (same x) xs ≡ false → One xs → One (xs ++ x ∷ [])
+one_more : (xs : List Pair) (x : Pair) → list_any (same x) xs ≡ false → One xs → One (xs ++ x ∷ [])
 unfolding One
-one-more xs x none one m n y p q = by (cases_lt m (length xs)) (cases_lt n (length xs))
+one_more xs x none one m n y p q = by (cases_lt m (length xs)) (cases_lt n (length xs))
   where
     size : length (xs ++ x ∷ []) ≡ length xs + 1
     size = length-append xs (x ∷ [])
@@ -68,7 +68,7 @@ one-more xs x none one m n y p q = by (cases_lt m (length xs)) (cases_lt n (leng
     last k h g = let e : length xs ≡ k = omega (arith, h.0, g, size) in sym (get_or_push xs x (0, 0) k e) ∙ h.1
 
     apart : (k : ℕ) → At xs k y → x ≡ y → ⊥
-    apart k h e = false≢true (sym (none-at (same x) xs k none h.0) ∙ is-same x (get_or xs k (0, 0)) (e ∙ sym h.1))
+    apart k h e = false≢true (sym (none_at (same x) xs k none h.0) ∙ is_same x (get_or xs k (0, 0)) (e ∙ sym h.1))
 
     by : (m < length xs) ⊎ (length xs ≤ m) → (n < length xs) ⊎ (length xs ≤ n) → m ≡ n
     by (inl a) (inl b) = one m n y (old m p a) (old n q b)
@@ -76,12 +76,12 @@ one-more xs x none one m n y p q = by (cases_lt m (length xs)) (cases_lt n (leng
     by (inr a) (inl b) = absurd (apart n (old n q b) (last m p a))
     by (inr a) (inr b) = omega (arith, p.0, q.0, size, a, b)
 
-one-with : (xs : List Pair) (x : Pair) → One xs → One (insert_key same xs x)
-one-with xs x one = by (list_any (same x) xs) refl
+one_with : (xs : List Pair) (x : Pair) → One xs → One (insert_key same xs x)
+one_with xs x one = by (list_any (same x) xs) refl
   where
     by : (b : Bool) → list_any (same x) xs ≡ b → One (if b then xs else xs ++ x ∷ [])
     by true e = one
-    by false e = one-more xs x e one
+    by false e = one_more xs x e one
 
 module _ (names : List (List Pair)) (q : ℕ) (x : Pair) (inside : q < length names) where
   abbrev after : List (List Pair)
@@ -93,24 +93,24 @@ module _ (names : List (List Pair)) (q : ℕ) (x : Pair) (inside : q < length na
   there : (u : ℕ) → u ≢ q → get_or after u [] ≡ get_or names u []
   there u other = get_or-set_other names q u (insert_key same (get_or names q []) x) [] other
 
-  here-too : (u : ℕ) → u ≡ q → get_or after u [] ≡ insert_key same (get_or names u []) x
-  here-too u e = subst (λ (w : ℕ). get_or after w [] ≡ insert_key same (get_or names w []) x) (sym e) here
+  here_too : (u : ℕ) → u ≡ q → get_or after u [] ≡ insert_key same (get_or names u []) x
+  here_too u e = subst (λ (w : ℕ). get_or after w [] ≡ insert_key same (get_or names w []) x) (sym e) here
 
   -- a pair that is numbered keeps the others' numbers
-  pub more-names : AreMore names after
+  pub more_names : AreMore names after
   unfolding One
-  more-names = record {
+  more_names = record {
     count = length-set names q (insert_key same (get_or names q []) x);
     kept = λ u n pair h. let at : At (get_or names u []) n pair = (h.within, h.is) in elim (cases_eq u q) [
       | inl e ↦
-          let m = subst (λ (xs : List Pair). At xs n pair) (sym (here-too u e)) (kept-at (get_or names u []) x n pair at) in
+          let m = subst (λ (xs : List Pair). At xs n pair) (sym (here_too u e)) (kept_at (get_or names u []) x n pair at) in
           record { within = m.0; is = m.1 }
       | inr other ↦ let m = subst (λ (xs : List Pair). At xs n pair) (sym (there u other)) at in record { within = m.0; is = m.1 }
     ];
     numbers = λ one u m n pair a b. elim (cases_eq u q) [
       | inl e ↦
           let was : One (get_or names u []) = λ j k y c d. one u j k y (record { within = c.0; is = c.1 }) (record { within = d.0; is = d.1 }) in
-          (subst One (sym (here-too u e)) (one-with (get_or names u []) x was)) m n pair (a.within, a.is) (b.within, b.is)
+          (subst One (sym (here_too u e)) (one_with (get_or names u []) x was)) m n pair (a.within, a.is) (b.within, b.is)
       | inr other ↦
           let e = there u other in
           let c = subst (λ (xs : List Pair). At xs m pair) e (a.within, a.is) in
@@ -120,34 +120,34 @@ module _ (names : List (List Pair)) (q : ℕ) (x : Pair) (inside : q < length na
   }
 
 -- there are as many sets as lists of pairs
-pub there-too : {S : Type 0} (sets : List (HashSet Pair S)) (q : ℕ) (names : List (List Pair)) → names_of sets ≡ names → q < length names → q < length sets
-there-too sets q names is inside =
+pub there_too : {S : Type 0} (sets : List (HashSet Pair S)) (q : ℕ) (names : List (List Pair)) → names_of sets ≡ names → q < length names → q < length sets
+there_too sets q names is inside =
     let size = ap (λ (xs : List (List Pair)). length xs) is in
     omega (arith, size, length-map sets (λ s. s.keys), inside)
 
 -- the sets after a pair was put into one of them
 module _ {S : Type 0} (sets : List (HashSet Pair S)) (q : ℕ) (old new : HashSet Pair S) (pair : Pair)
     (inside : q < length sets) (at : old ≡ get_or sets q old) (keys : new.keys ≡ insert_key same old.keys pair) where
-  pairs-before : get_or (names_of sets) q [] ≡ old.keys
-  pairs-before = get_or-map (λ (s : HashSet Pair S). s.keys) sets q old [] inside ∙ ap (λ (s : HashSet Pair S). s.keys) (sym at)
+  pairs_before : get_or (names_of sets) q [] ≡ old.keys
+  pairs_before = get_or-map (λ (s : HashSet Pair S). s.keys) sets q old [] inside ∙ ap (λ (s : HashSet Pair S). s.keys) (sym at)
 
-  names-now : names_of (set sets q new) ≡ set (names_of sets) q (insert_key same (get_or (names_of sets) q []) pair)
-  names-now =
+  names_now : names_of (set sets q new) ≡ set (names_of sets) q (insert_key same (get_or (names_of sets) q []) pair)
+  names_now =
       map-set (λ (s : HashSet Pair S). s.keys) sets q new
-      ∙ ap (set (names_of sets) q) (keys ∙ ap (λ (xs : List Pair). insert_key same xs pair) (sym pairs-before))
+      ∙ ap (set (names_of sets) q) (keys ∙ ap (λ (xs : List Pair). insert_key same xs pair) (sym pairs_before))
 
-  names-inside : q < length (names_of sets)
-  names-inside = omega (arith, length-map sets (λ (s : HashSet Pair S). s.keys), inside)
+  names_inside : q < length (names_of sets)
+  names_inside = omega (arith, length-map sets (λ (s : HashSet Pair S). s.keys), inside)
 
-  pub put-more : AreMore (names_of sets) (names_of (set sets q new))
-  put-more = subst (AreMore (names_of sets)) (sym names-now) (more-names (names_of sets) q pair names-inside)
+  pub put_more : AreMore (names_of sets) (names_of (set sets q new))
+  put_more = subst (AreMore (names_of sets)) (sym names_now) (more_names (names_of sets) q pair names_inside)
 
-  pub put-number : (n : ℕ) (stored : Pair) → slice_get new.keys n ≡ Some stored → same pair stored ≡ true → IsNumbered (names_of (set sets q new)) q n pair
-  put-number n stored is alike =
+  pub put_number : (n : ℕ) (stored : Pair) → slice_get new.keys n ≡ Some stored → same pair stored ≡ true → IsNumbered (names_of (set sets q new)) q n pair
+  put_number n stored is alike =
       let e : get_or (names_of (set sets q new)) q [] ≡ new.keys =
-      ap (λ (xs : List (List Pair)). get_or xs q []) (map-set (λ (s : HashSet Pair S). s.keys) sets q new) ∙ get_or-set_same (names_of sets) q new.keys [] names-inside in
+      ap (λ (xs : List (List Pair)). get_or xs q []) (map-set (λ (s : HashSet Pair S). s.keys) sets q new) ∙ get_or-set_same (names_of sets) q new.keys [] names_inside in
       let within : n < length new.keys = slice_get_within new.keys n stored is in
       record {
         within = subst (λ (xs : List Pair). n < length xs) (sym e) within;
-        is = ap (λ (xs : List Pair). get_or xs n (0, 0)) e ∙ get_or_from_slice_get new.keys n stored (0, 0) is ∙ sym (same-is pair stored alike);
+        is = ap (λ (xs : List Pair). get_or xs n (0, 0)) e ∙ get_or_from_slice_get new.keys n stored (0, 0) is ∙ sym (same_is pair stored alike);
       }

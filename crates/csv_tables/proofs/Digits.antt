@@ -7,34 +7,34 @@ use Rattle.std.proofs.lemmas.Str.Parse.{digit_from_value}
 use Rattle.std.proofs.Math.Nat.{pow-le-pow_right}
 use Rattle.std.specs.Str.Parse.{AllDigits, digits_value}
 
-digits-suc : (bytes : List ℕ) (i : ℕ) → i < length bytes → 48 ≤ get_or bytes i 0 → get_or bytes i 0 ≤ 57
+digits_suc : (bytes : List ℕ) (i : ℕ) → i < length bytes → 48 ≤ get_or bytes i 0 → get_or bytes i 0 ≤ 57
     → AllDigits 10 (take i bytes) → AllDigits 10 (take (suc i) bytes)
-digits-suc [] i inside low high digits = absurd (omega arith)
-digits-suc (c ∷ bytes) zero inside low high digits = (omega (arith, digit_value_digit c (low, high)), tt)
-digits-suc (c ∷ bytes) (suc i) inside low high digits = (digits.0, digits-suc bytes i (omega arith) low high digits.1)
+digits_suc [] i inside low high digits = absurd (omega arith)
+digits_suc (c ∷ bytes) zero inside low high digits = (omega (arith, digit_value_digit c (low, high)), tt)
+digits_suc (c ∷ bytes) (suc i) inside low high digits = (digits.0, digits_suc bytes i (omega arith) low high digits.1)
 
 -- one more digit
-pub digits-more : (bytes : List ℕ) (i : ℕ) → i < length bytes → 48 ≤ get_or bytes i 0 → get_or bytes i 0 ≤ 57
+pub digits_more : (bytes : List ℕ) (i : ℕ) → i < length bytes → 48 ≤ get_or bytes i 0 → get_or bytes i 0 ≤ 57
     → AllDigits 10 (take i bytes) → AllDigits 10 (take (i + 1) bytes)
-digits-more bytes i inside low high digits =
+digits_more bytes i inside low high digits =
     let next : suc i ≡ i + 1 = omega arith in
-    subst (λ (k : ℕ). AllDigits 10 (take k bytes)) next (digits-suc bytes i inside low high digits)
+    subst (λ (k : ℕ). AllDigits 10 (take k bytes)) next (digits_suc bytes i inside low high digits)
 
-pub value-more : (bytes : List ℕ) (i : ℕ) → i < length bytes → 48 ≤ get_or bytes i 0 → get_or bytes i 0 ≤ 57
+pub value_more : (bytes : List ℕ) (i : ℕ) → i < length bytes → 48 ≤ get_or bytes i 0 → get_or bytes i 0 ≤ 57
     → digits_value 10 (take (i + 1) bytes) + 48 ≡ digits_value 10 (take i bytes) * 10 + get_or bytes i 0
-value-more bytes i inside low high =
+value_more bytes i inside low high =
     omega (arith, digits_value_more 10 bytes i inside, digit_value_digit (get_or bytes i 0) (low, high))
 
 -- fewer than ten digits
-pub digits-bound : (bytes : List ℕ) (i : ℕ) → i < length bytes → length bytes ≤ 10 → AllDigits 10 (take i bytes) → digits_value 10 (take i bytes) < 1000000000
-digits-bound bytes i inside few digits =
+pub digits_bound : (bytes : List ℕ) (i : ℕ) → i < length bytes → length bytes ≤ 10 → AllDigits 10 (take i bytes) → digits_value 10 (take i bytes) < 1000000000
+digits_bound bytes i inside few digits =
     let below = digits_value-lt 10 (take i bytes) digits in
     let short : length (take i bytes) ≤ 9 = omega (arith, inside, few, length-take-le i bytes (omega arith)) in
     let most : 10 ^ length (take i bytes) ≤ 10 ^ 9 = pow-le-pow_right {n = 10} (omega arith) short in
     omega (arith, below, most)
 
 -- each byte is a digit
-pub digits-at : (bytes : List ℕ) (i : ℕ) → i < length bytes → AllDigits 10 bytes → (48 ≤ get_or bytes i 0) × (get_or bytes i 0 ≤ 57)
-digits-at [] i inside digits = absurd (omega arith)
-digits-at (c ∷ bytes) zero inside digits = digit_from_value c digits.0
-digits-at (c ∷ bytes) (suc i) inside digits = digits-at bytes i (omega arith) digits.1
+pub digits_at : (bytes : List ℕ) (i : ℕ) → i < length bytes → AllDigits 10 bytes → (48 ≤ get_or bytes i 0) × (get_or bytes i 0 ≤ 57)
+digits_at [] i inside digits = absurd (omega arith)
+digits_at (c ∷ bytes) zero inside digits = digit_from_value c digits.0
+digits_at (c ∷ bytes) (suc i) inside digits = digits_at bytes i (omega arith) digits.1

@@ -6,36 +6,36 @@ use Rattle.anyk_model.specs.Table.{Fields, Flaw, most_rows, or_else, row_flaw, r
 use Rattle.csv_tables.specs.Faults.{fault_of, refusal}
 use Rattle.csv_tables.specs.declared.fault.TableFault.{TableFault}
 
-pub or_else-first : (a b : Option Flaw) → or_else a b ≡ None → a ≡ None
-or_else-first None b e = refl
-or_else-first (Some flaw) b e = e
+pub or_else_first : (a b : Option Flaw) → or_else a b ≡ None → a ≡ None
+or_else_first None b e = refl
+or_else_first (Some flaw) b e = e
 
-pub or_else-second : (a b : Option Flaw) → a ≡ None → or_else a b ≡ b
-or_else-second a b e = ap (λ (o : Option Flaw). or_else o b) e
+pub or_else_second : (a b : Option Flaw) → a ≡ None → or_else a b ≡ b
+or_else_second a b e = ap (λ (o : Option Flaw). or_else o b) e
 
 -- after rows with no flaw the flaw is that of the rows behind them
-pub rows_flaw-append : (width n : ℕ) (done more : List Fields) → rows_flaw width n done ≡ None
+pub rows_flaw_append : (width n : ℕ) (done more : List Fields) → rows_flaw width n done ≡ None
     → rows_flaw width n (done ++ more) ≡ rows_flaw width (n + length done) more
-rows_flaw-append width n [] more e = ap (λ (k : ℕ). rows_flaw width k more) (omega arith)
-rows_flaw-append width n (row ∷ done) more e =
-    let here = or_else-first (row_flaw width n row) (rows_flaw width (n + 1) done) e in
-    let later = sym (or_else-second (row_flaw width n row) (rows_flaw width (n + 1) done) here) ∙ e in
-    or_else-second (row_flaw width n row) (rows_flaw width (n + 1) (done ++ more)) here
-    ∙ rows_flaw-append width (n + 1) done more later
+rows_flaw_append width n [] more e = ap (λ (k : ℕ). rows_flaw width k more) (omega arith)
+rows_flaw_append width n (row ∷ done) more e =
+    let here = or_else_first (row_flaw width n row) (rows_flaw width (n + 1) done) e in
+    let later = sym (or_else_second (row_flaw width n row) (rows_flaw width (n + 1) done) here) ∙ e in
+    or_else_second (row_flaw width n row) (rows_flaw width (n + 1) (done ++ more)) here
+    ∙ rows_flaw_append width (n + 1) done more later
     ∙ ap (λ (k : ℕ). rows_flaw width k more) (omega arith)
 
-pub or_else-some : (a b : Option Flaw) (fault : TableFault) → option_map fault_of a ≡ Some fault → option_map fault_of (or_else a b) ≡ Some fault
-or_else-some None b fault e = cc
-or_else-some (Some flaw) b fault e = e
+pub or_else_some : (a b : Option Flaw) (fault : TableFault) → option_map fault_of a ≡ Some fault → option_map fault_of (or_else a b) ≡ Some fault
+or_else_some None b fault e = cc
+or_else_some (Some flaw) b fault e = e
 
 -- what a test for a flaw that was passed or failed says
-pub refusal-none : (flaw : Option Flaw) → Ok tt ≡ refusal flaw → flaw ≡ None
-refusal-none None e = refl
-refusal-none (Some flaw) e = cc
+pub refusal_none : (flaw : Option Flaw) → Ok tt ≡ refusal flaw → flaw ≡ None
+refusal_none None e = refl
+refusal_none (Some flaw) e = cc
 
-pub flaw-tells : (flaw : Option Flaw) (fault : TableFault) → Err fault ≡ refusal flaw → option_map fault_of flaw ≡ Some fault
-flaw-tells None fault e = cc
-flaw-tells (Some flaw) fault e = cc
+pub flaw_tells : (flaw : Option Flaw) (fault : TableFault) → Err fault ≡ refusal flaw → option_map fault_of flaw ≡ Some fault
+flaw_tells None fault e = cc
+flaw_tells (Some flaw) fault e = cc
 
 -- a test whose first answer is a flaw was not met
 pub unmet : (b : Bool) (flaw : Flaw) (more : Option Flaw) → cond b (Some flaw) more ≡ None → (b ≡ false) × (more ≡ None)
@@ -50,30 +50,30 @@ met false flaw e = cc
 row-number : (width n : ℕ) (row : Fields) → row_flaw width n row ≡ None → n ≤ 1048576
 row-number width n row e = ltb-false 1048576 n (unmet (nat_lt most_rows n) too_many_rows (cond (length row == width) None (Some (ragged n))) e).0
 
-row-width : (width n : ℕ) (row : Fields) → row_flaw width n row ≡ None → length row ≡ width
-row-width width n row e =
+row_width : (width n : ℕ) (row : Fields) → row_flaw width n row ≡ None → length row ≡ width
+row_width width n row e =
     eqb-true (length row) width (met (length row == width) (ragged n) (unmet (nat_lt most_rows n) too_many_rows (cond (length row == width) None (Some (ragged n))) e).1)
 
-rows-first : (width n : ℕ) (row : Fields) (rows : List Fields) → rows_flaw width n (row ∷ rows) ≡ None → row_flaw width n row ≡ None
-rows-first width n row rows e = or_else-first (row_flaw width n row) (rows_flaw width (n + 1) rows) e
+rows_first : (width n : ℕ) (row : Fields) (rows : List Fields) → rows_flaw width n (row ∷ rows) ≡ None → row_flaw width n row ≡ None
+rows_first width n row rows e = or_else_first (row_flaw width n row) (rows_flaw width (n + 1) rows) e
 
-rows-rest : (width n : ℕ) (row : Fields) (rows : List Fields) → rows_flaw width n (row ∷ rows) ≡ None → rows_flaw width (n + 1) rows ≡ None
-rows-rest width n row rows e =
-    sym (or_else-second (row_flaw width n row) (rows_flaw width (n + 1) rows) (rows-first width n row rows e)) ∙ e
+rows_rest : (width n : ℕ) (row : Fields) (rows : List Fields) → rows_flaw width n (row ∷ rows) ≡ None → rows_flaw width (n + 1) rows ≡ None
+rows_rest width n row rows e =
+    sym (or_else_second (row_flaw width n row) (rows_flaw width (n + 1) rows) (rows_first width n row rows e)) ∙ e
 
-pub rows-few : (width n : ℕ) (rows : List Fields) → rows_flaw width n rows ≡ None → n ≤ 1048577 → n + length rows ≤ 1048577
-rows-few width n [] e low = omega arith
-rows-few width n (row ∷ rows) e low =
-    let here = row-number width n row (rows-first width n row rows e) in
-    let later = rows-few width (n + 1) rows (rows-rest width n row rows e) (omega arith) in
+pub rows_few : (width n : ℕ) (rows : List Fields) → rows_flaw width n rows ≡ None → n ≤ 1048577 → n + length rows ≤ 1048577
+rows_few width n [] e low = omega arith
+rows_few width n (row ∷ rows) e low =
+    let here = row-number width n row (rows_first width n row rows e) in
+    let later = rows_few width (n + 1) rows (rows_rest width n row rows e) (omega arith) in
     omega arith
 
-pub rows-width : (width n : ℕ) (rows : List Fields) (i : ℕ) → rows_flaw width n rows ≡ None → i < length rows → length (get_or rows i []) ≡ width
-rows-width width n [] i e inside = absurd (omega arith)
-rows-width width n (row ∷ rows) zero e inside = row-width width n row (rows-first width n row rows e)
-rows-width width n (row ∷ rows) (suc i) e inside = rows-width width (n + 1) rows i (rows-rest width n row rows e) (omega arith)
+pub rows_width : (width n : ℕ) (rows : List Fields) (i : ℕ) → rows_flaw width n rows ≡ None → i < length rows → length (get_or rows i []) ≡ width
+rows_width width n [] i e inside = absurd (omega arith)
+rows_width width n (row ∷ rows) zero e inside = row_width width n row (rows_first width n row rows e)
+rows_width width n (row ∷ rows) (suc i) e inside = rows_width width (n + 1) rows i (rows_rest width n row rows e) (omega arith)
 
 -- each row has the width
-pub all-width : (width n : ℕ) (rows : List Fields) → rows_flaw width n rows ≡ None → AllByRecursion (λ row. length row ≡ width) rows
-all-width width n [] e = tt
-all-width width n (row ∷ rows) e = (row-width width n row (rows-first width n row rows e), all-width width (n + 1) rows (rows-rest width n row rows e))
+pub all_width : (width n : ℕ) (rows : List Fields) → rows_flaw width n rows ≡ None → AllByRecursion (λ row. length row ≡ width) rows
+all_width width n [] e = tt
+all_width width n (row ∷ rows) e = (row_width width n row (rows_first width n row rows e), all_width width (n + 1) rows (rows_rest width n row rows e))

@@ -7,34 +7,34 @@ use Rattle.csv.proofs.RecordFacts.{cut-end, cut-more, field-cut, field-get, last
 use Rattle.anyk_model.specs.Table.{Fields}
 use Rattle.csv_tables.specs.Fields.{ends_from}
 
-pub none-cut : (bytes : List ℕ) → cut_from 0 [] bytes ≡ []
+pub none_cut : (bytes : List ℕ) → cut_from 0 [] bytes ≡ []
 unfolding cut_from
-none-cut bytes = refl
+none_cut bytes = refl
 
-pub none-rising : Rising 0 [] 0
+pub none_rising : Rising 0 [] 0
 unfolding Rising
-none-rising = omega arith
+none_rising = omega arith
 
-pub none-whole : last_end 0 [] ≡ 0
+pub none_whole : last_end 0 [] ≡ 0
 unfolding last_end
-none-whole = refl
+none_whole = refl
 
 module _ (ends bytes field : List ℕ) (rising : Rising 0 ends (length bytes)) (whole : last_end 0 ends ≡ length bytes) where
-  rising-grown : Rising 0 ends (length (bytes ++ field))
-  rising-grown = rising-more 0 ends (length bytes) (length (bytes ++ field)) rising (omega (arith, length-append bytes field))
+  rising_grown : Rising 0 ends (length (bytes ++ field))
+  rising_grown = rising-more 0 ends (length bytes) (length (bytes ++ field)) rising (omega (arith, length-append bytes field))
 
   -- the bytes of one more field, and its end
-  pub push-cut : cut_from 0 (ends ++ length (bytes ++ field) ∷ []) (bytes ++ field) ≡ cut_from 0 ends bytes ++ field ∷ []
-  push-cut =
+  pub push_cut : cut_from 0 (ends ++ length (bytes ++ field) ∷ []) (bytes ++ field) ≡ cut_from 0 ends bytes ++ field ∷ []
+  push_cut =
       let last : drop (last_end 0 ends) (bytes ++ field) ≡ field = ap (λ (n : ℕ). drop n (bytes ++ field)) whole ∙ drop-append_seam bytes field in
       let front = cut-more 0 ends bytes field rising in
-      cut-end 0 ends (bytes ++ field) rising-grown ∙ (λ i. front i ++ last i ∷ [])
+      cut-end 0 ends (bytes ++ field) rising_grown ∙ (λ i. front i ++ last i ∷ [])
 
-  pub push-rising : Rising 0 (ends ++ length (bytes ++ field) ∷ []) (length (bytes ++ field))
-  push-rising = rising-end 0 ends (length (bytes ++ field)) rising-grown
+  pub push_rising : Rising 0 (ends ++ length (bytes ++ field) ∷ []) (length (bytes ++ field))
+  push_rising = rising-end 0 ends (length (bytes ++ field)) rising_grown
 
-  pub push-whole : last_end 0 (ends ++ length (bytes ++ field) ∷ []) ≡ length (bytes ++ field)
-  push-whole = last-append 0 ends (length (bytes ++ field))
+  pub push_whole : last_end 0 (ends ++ length (bytes ++ field) ∷ []) ≡ length (bytes ++ field)
+  push_whole = last-append 0 ends (length (bytes ++ field))
 
 -- places and bytes that show these fields
 pub record Shows (ends bytes : List ℕ) (fields : Fields) : Type 0 where
@@ -42,21 +42,21 @@ pub record Shows (ends bytes : List ℕ) (fields : Fields) : Type 0 where
   pub whole : last_end 0 ends ≡ length bytes
   pub cut : cut_from 0 ends bytes ≡ fields
 
-shows-push : (ends bytes : List ℕ) (fields : Fields) (f : List ℕ) → Shows ends bytes fields
+shows_push : (ends bytes : List ℕ) (fields : Fields) (f : List ℕ) → Shows ends bytes fields
     → Shows (ends ++ (length bytes + length f) ∷ []) (bytes ++ f) (fields ++ f ∷ [])
-shows-push ends bytes fields f shows =
+shows_push ends bytes fields f shows =
     rw (sym (length-append bytes f)) (record {
-      rising = push-rising ends bytes f shows.rising shows.whole;
-      whole = push-whole ends bytes f shows.rising shows.whole;
-      cut = push-cut ends bytes f shows.rising shows.whole ∙ ap (λ (l : Fields). l ++ f ∷ []) shows.cut;
+      rising = push_rising ends bytes f shows.rising shows.whole;
+      whole = push_whole ends bytes f shows.rising shows.whole;
+      cut = push_cut ends bytes f shows.rising shows.whole ∙ ap (λ (l : Fields). l ++ f ∷ []) shows.cut;
     })
 
 -- the bytes of more fields, and their ends
-pub shows-more : (more : Fields) (ends bytes : List ℕ) (fields : Fields) → Shows ends bytes fields
+pub shows_more : (more : Fields) (ends bytes : List ℕ) (fields : Fields) → Shows ends bytes fields
     → Shows (ends ++ ends_from (length bytes) more) (bytes ++ concat more) (fields ++ more)
-shows-more [] ends bytes fields shows = rw (append-nil ends, append-nil bytes, append-nil fields) shows
-shows-more (f ∷ more) ends bytes fields shows =
-    let rest = shows-more more (ends ++ (length bytes + length f) ∷ []) (bytes ++ f) (fields ++ f ∷ []) (shows-push ends bytes fields f shows) in
+shows_more [] ends bytes fields shows = rw (append-nil ends, append-nil bytes, append-nil fields) shows
+shows_more (f ∷ more) ends bytes fields shows =
+    let rest = shows_more more (ends ++ (length bytes + length f) ∷ []) (bytes ++ f) (fields ++ f ∷ []) (shows_push ends bytes fields f shows) in
     rw (
       length-append bytes f,
       append_assoc ends ((length bytes + length f) ∷ []) (ends_from (length bytes + length f) more),
@@ -65,6 +65,6 @@ shows-more (f ∷ more) ends bytes fields shows =
     ) at rest
 
 -- the field at a place is the bytes between its start and its end
-pub field-between : (ends bytes : List ℕ) (i : ℕ) → i < length ends
+pub field_between : (ends bytes : List ℕ) (i : ℕ) → i < length ends
     → take (get_or ends i 0 - prev 0 ends i) (drop (prev 0 ends i) bytes) ≡ get_or (cut_from 0 ends bytes) i []
-field-between ends bytes i inside = sym (field-get (cut_from 0 ends bytes) i _ (field-cut 0 ends bytes i inside))
+field_between ends bytes i inside = sym (field-get (cut_from 0 ends bytes) i _ (field-cut 0 ends bytes i inside))

@@ -4,54 +4,54 @@ use Rattle.std.specs.List.{AllByRecursion}
 use Rattle.std.proofs.lemmas.Bool.{ltb-false}
 use Rattle.std.proofs.lemmas.List.{get_or-map, length-map}
 use Rattle.anyk_model.specs.Table.{Table, field_at, header_flaw, rows_flaw, table_at, too_many_columns}
-use Rattle.csv_tables.specs.Stored.{IsStored, shown}
+use Rattle.csv_tables.specs.StoredTables.{IsStored, shown}
 use Rattle.csv_tables.specs.Values.{IsNumber}
 use Rattle.csv_tables.specs.Tables.{IsSound, all_shown}
 use Rattle.csv_tables.specs.declared.stored.StoredTable.{StoredTable}
-use Rattle.csv_tables.proofs.Cuts.{cut_rows-cell, cut_rows-length}
-use Rattle.csv_tables.proofs.Flaws.{or_else-first, or_else-second, rows-few, rows-width, unmet}
-use Rattle.csv_tables.proofs.Stands.{stands-at, stands-length}
+use Rattle.csv_tables.proofs.Cuts.{cut_rows_cell, cut_rows_length}
+use Rattle.csv_tables.proofs.Flaws.{or_else_first, or_else_second, rows_few, rows_width, unmet}
+use Rattle.csv_tables.proofs.Stands.{stands_at, stands_length}
 
 -- ---- sound tables
 
-sound-rows : (table : Table) → IsSound table → rows_flaw (length table.names) 1 table.rows ≡ None
-sound-rows table sound =
-    sym (or_else-second (header_flaw table.names) (rows_flaw (length table.names) 1 table.rows)
-    (or_else-first (header_flaw table.names) (rows_flaw (length table.names) 1 table.rows) sound)) ∙ sound
+sound_rows : (table : Table) → IsSound table → rows_flaw (length table.names) 1 table.rows ≡ None
+sound_rows table sound =
+    sym (or_else_second (header_flaw table.names) (rows_flaw (length table.names) 1 table.rows)
+    (or_else_first (header_flaw table.names) (rows_flaw (length table.names) 1 table.rows) sound)) ∙ sound
 
 -- a sound table has few rows and columns, and each row has a field for each column
-pub sound-few_rows : (table : Table) → IsSound table → length table.rows ≤ 1048576
-sound-few_rows table sound = let h = rows-few (length table.names) 1 table.rows (sound-rows table sound) (omega arith) in omega arith
+pub sound_few_rows : (table : Table) → IsSound table → length table.rows ≤ 1048576
+sound_few_rows table sound = let h = rows_few (length table.names) 1 table.rows (sound_rows table sound) (omega arith) in omega arith
 
-pub sound-few_columns : (table : Table) → IsSound table → length table.names ≤ 64
-sound-few_columns table sound =
-    let h = or_else-first (header_flaw table.names) (rows_flaw (length table.names) 1 table.rows) sound in
+pub sound_few_columns : (table : Table) → IsSound table → length table.names ≤ 64
+sound_few_columns table sound =
+    let h = or_else_first (header_flaw table.names) (rows_flaw (length table.names) 1 table.rows) sound in
     ltb-false 64 (length table.names) (unmet (nat_lt 64 (length table.names)) too_many_columns _ h).0
 
-pub sound-width : (table : Table) (i : ℕ) → IsSound table → i < length table.rows → length (get_or table.rows i []) ≡ length table.names
-sound-width table i sound inside = rows-width (length table.names) 1 table.rows i (sound-rows table sound) inside
+pub sound_width : (table : Table) (i : ℕ) → IsSound table → i < length table.rows → length (get_or table.rows i []) ≡ length table.names
+sound_width table i sound inside = rows_width (length table.names) 1 table.rows i (sound_rows table sound) inside
 
 -- ---- places
 
-all-at : {A : Type 0} (P : A → Type 0) (xs : List A) (i : ℕ) (d : A) → AllByRecursion P xs → i < length xs → P (get_or xs i d)
-all-at P [] i d all inside = absurd (omega arith)
-all-at P (x ∷ xs) zero d all inside = all.0
-all-at P (x ∷ xs) (suc i) d all inside = all-at P xs i d all.1 (omega arith)
+all_at : {A : Type 0} (P : A → Type 0) (xs : List A) (i : ℕ) (d : A) → AllByRecursion P xs → i < length xs → P (get_or xs i d)
+all_at P [] i d all inside = absurd (omega arith)
+all_at P (x ∷ xs) zero d all inside = all.0
+all_at P (x ∷ xs) (suc i) d all inside = all_at P xs i d all.1 (omega arith)
 
 -- the table at a place is the one that is stored there
-pub table_at-shown : (stored : List StoredTable) (t : ℕ) (s : StoredTable) → t < length stored → s ≡ get_or stored t s
+pub table_at_shown : (stored : List StoredTable) (t : ℕ) (s : StoredTable) → t < length stored → s ≡ get_or stored t s
     → table_at (all_shown stored) t ≡ shown s
-table_at-shown stored t s inside e =
+table_at_shown stored t s inside e =
     get_or-map shown stored t s (record { names = []; rows = [] }) inside ∙ ap shown (sym e)
 
-pub sound-at : (tables : List Table) (t : ℕ) → AllByRecursion IsSound tables → t < length tables → IsSound (table_at tables t)
-sound-at tables t all inside = all-at IsSound tables t (record { names = []; rows = [] }) all inside
+pub sound_at : (tables : List Table) (t : ℕ) → AllByRecursion IsSound tables → t < length tables → IsSound (table_at tables t)
+sound_at tables t all inside = all_at IsSound tables t (record { names = []; rows = [] }) all inside
 
 -- a place in a row below the last stands below the end
-place-below : (width count r c : ℕ) → r < count → c < width → r * width + c < count * width
-place-below width zero r c below there = absurd (omega arith)
-place-below width (suc count) zero c below there = omega arith
-place-below width (suc count) (suc r) c below there = let h = place-below width count r c (omega arith) there in omega arith
+place_below : (width count r c : ℕ) → r < count → c < width → r * width + c < count * width
+place_below width zero r c below there = absurd (omega arith)
+place_below width (suc count) zero c below there = omega arith
+place_below width (suc count) (suc r) c below there = let h = place_below width count r c (omega arith) there in omega arith
 
 -- ---- the same, of what is stored
 
@@ -59,49 +59,49 @@ abbrev items : Vec ℕ Global → List ℕ
 items v = v.items
 
 module _ (stored : List StoredTable) (t : ℕ) (s : StoredTable) (inside : t < length stored) (at : s ≡ get_or stored t s) where
-  pub same-table : table_at (all_shown stored) t ≡ shown s
-  same-table = table_at-shown stored t s inside at
+  pub same_table : table_at (all_shown stored) t ≡ shown s
+  same_table = table_at_shown stored t s inside at
 
-  stored-sound : AllByRecursion IsSound (all_shown stored) → IsSound (shown s)
-  stored-sound all =
-      subst IsSound same-table (sound-at (all_shown stored) t all (omega (arith, inside, length-map stored shown)))
+  stored_sound : AllByRecursion IsSound (all_shown stored) → IsSound (shown s)
+  stored_sound all =
+      subst IsSound same_table (sound_at (all_shown stored) t all (omega (arith, inside, length-map stored shown)))
 
-  rows-same : length (shown s).rows ≡ s.rows.count
-  rows-same = cut_rows-length (length s.names.items) s.rows.count s.rows.fields
+  rows_same : length (shown s).rows ≡ s.rows.count
+  rows_same = cut_rows_length (length s.names.items) s.rows.count s.rows.fields
 
-  pub few-rows : AllByRecursion IsSound (all_shown stored) → s.rows.count ≤ 1048576
-  few-rows all = omega (arith, rows-same, sound-few_rows (shown s) (stored-sound all))
+  pub few_rows_lem : AllByRecursion IsSound (all_shown stored) → s.rows.count ≤ 1048576
+  few_rows_lem all = omega (arith, rows_same, sound_few_rows (shown s) (stored_sound all))
 
-  pub few-columns : AllByRecursion IsSound (all_shown stored) → length s.names.items ≤ 64
-  few-columns all = omega (arith, length-map s.names.items items, sound-few_columns (shown s) (stored-sound all))
+  pub few_columns : AllByRecursion IsSound (all_shown stored) → length s.names.items ≤ 64
+  few_columns all = omega (arith, length-map s.names.items items, sound_few_columns (shown s) (stored_sound all))
 
   module _ (texts : List (List ℕ)) (all : AllByRecursion (IsStored texts) stored) (r c : ℕ) (below : r < s.rows.count) (there : c < length s.names.items) where
-    stored-at : IsStored texts s
-    stored-at = subst (IsStored texts) (sym at) (all-at (IsStored texts) stored t s all inside)
+    stored_at : IsStored texts s
+    stored_at = subst (IsStored texts) (sym at) (all_at (IsStored texts) stored t s all inside)
 
     pub field-there : r * length s.names.items + c < length s.rows.fields
-    field-there = let h = place-below (length s.names.items) s.rows.count r c below there in omega (arith, h, stored-at.size)
+    field-there = let h = place_below (length s.names.items) s.rows.count r c below there in omega (arith, h, stored_at.size)
 
-    pub cell-there : r * length s.names.items + c < length s.rows.cells.items
-    cell-there = omega (arith, field-there, stands-length texts s.rows.cells.items s.rows.fields stored-at.stand)
+    pub cell_there : r * length s.names.items + c < length s.rows.cells.items
+    cell_there = omega (arith, field-there, stands_length texts s.rows.cells.items s.rows.fields stored_at.stand)
 
-    pub field-shows : field_at (table_at (all_shown stored) t) r c ≡ get_or s.rows.fields (r * length s.names.items + c) []
-    field-shows =
-        ap (λ (table : Table). field_at table r c) same-table
-        ∙ cut_rows-cell (length s.names.items) s.rows.count s.rows.fields r c [] below there
+    pub field_shows : field_at (table_at (all_shown stored) t) r c ≡ get_or s.rows.fields (r * length s.names.items + c) []
+    field_shows =
+        ap (λ (table : Table). field_at table r c) same_table
+        ∙ cut_rows_cell (length s.names.items) s.rows.count s.rows.fields r c [] below there
 
-    pub number-shows : (n : ℕ) → n ≡ get_or s.rows.cells.items (r * length s.names.items + c) n → IsNumber texts (field_at (table_at (all_shown stored) t) r c) n
-    number-shows n cell =
-        subst (λ f. IsNumber texts f n) (sym field-shows)
+    pub number_shows : (n : ℕ) → n ≡ get_or s.rows.cells.items (r * length s.names.items + c) n → IsNumber texts (field_at (table_at (all_shown stored) t) r c) n
+    number_shows n cell =
+        subst (λ f. IsNumber texts f n) (sym field_shows)
         (subst (IsNumber texts (get_or s.rows.fields (r * length s.names.items + c) [])) (sym cell)
-        (stands-at texts s.rows.cells.items s.rows.fields (r * length s.names.items + c) n stored-at.stand cell-there))
+        (stands_at texts s.rows.cells.items s.rows.fields (r * length s.names.items + c) n stored_at.stand cell_there))
 
   -- as a caller sees the tables
-  pub rows-now : (now : List Table) → all_shown stored ≡ now → length (table_at now t).rows ≡ s.rows.count
-  rows-now now view =
-      sym (ap (λ (ts : List Table). length (table_at ts t).rows) view) ∙ ap (λ (table : Table). length table.rows) same-table ∙ rows-same
+  pub rows_now : (now : List Table) → all_shown stored ≡ now → length (table_at now t).rows ≡ s.rows.count
+  rows_now now view =
+      sym (ap (λ (ts : List Table). length (table_at ts t).rows) view) ∙ ap (λ (table : Table). length table.rows) same_table ∙ rows_same
 
-  pub columns-now : (now : List Table) → all_shown stored ≡ now → length (table_at now t).names ≡ length s.names.items
-  columns-now now view =
-      sym (ap (λ (ts : List Table). length (table_at ts t).names) view) ∙ ap (λ (table : Table). length table.names) same-table
+  pub columns_now : (now : List Table) → all_shown stored ≡ now → length (table_at now t).names ≡ length s.names.items
+  columns_now now view =
+      sym (ap (λ (ts : List Table). length (table_at ts t).names) view) ∙ ap (λ (table : Table). length table.names) same_table
       ∙ length-map s.names.items items

@@ -7,31 +7,31 @@ use Rattle.anyk_model.specs.Output.{record_text}
 abbrev any_length : WriterBuilder
 any_length = with_flexible default_writer true
 
-escaped-same : (field : List ℕ) → escaped any_length field ≡ escaped default_writer field
+escaped_same : (field : List ℕ) → escaped any_length field ≡ escaped default_writer field
 unfolding escaped
-escaped-same [] = refl
-escaped-same (b ∷ rest) = rw (escaped-same rest)
+escaped_same [] = refl
+escaped_same (b ∷ rest) = rw (escaped_same rest)
 
-fields-same : (fields : List (List ℕ)) → fields_text any_length fields ≡ fields_text default_writer fields
+fields_same : (fields : List (List ℕ)) → fields_text any_length fields ≡ fields_text default_writer fields
 unfolding fields_text
-fields-same [] = refl
-fields-same (field ∷ rest) = rw (escaped-same field, fields-same rest)
+fields_same [] = refl
+fields_same (field ∷ rest) = rw (escaped_same field, fields_same rest)
 
-blank-same : (fields : List (List ℕ)) → is_blank any_length fields ≡ is_blank default_writer fields
+blank_same : (fields : List (List ℕ)) → is_blank any_length fields ≡ is_blank default_writer fields
 unfolding is_blank
-blank-same [] = refl
-blank-same (field ∷ []) = rw (escaped-same field)
-blank-same (field ∷ next ∷ rest) = refl
+blank_same [] = refl
+blank_same (field ∷ []) = rw (escaped_same field)
+blank_same (field ∷ next ∷ rest) = refl
 
-body-same : (fields : List (List ℕ)) → row_body any_length fields ≡ row_body default_writer fields
-body-same [] = refl
-body-same (field ∷ rest) = rw (escaped-same field, fields-same rest)
+body_same : (fields : List (List ℕ)) → row_body any_length fields ≡ row_body default_writer fields
+body_same [] = refl
+body_same (field ∷ rest) = rw (escaped_same field, fields_same rest)
 
-pub row-same : (fields : List (List ℕ)) → row_text any_length fields ≡ record_text fields
-row-same fields = rw (body-same fields, blank-same fields)
+pub row_same : (fields : List (List ℕ)) → row_text any_length fields ≡ record_text fields
+row_same fields = rw (body_same fields, blank_same fields)
 
 -- a text was put behind what was written and an empty buffer, and the buffer was then written out
-pub written-out : (old pending held new left text : List ℕ) → pending ≡ [] → left ≡ []
+pub written_out : (old pending held new left text : List ℕ) → pending ≡ [] → left ≡ []
     → held ≡ (old ++ pending) ++ text → new ++ left ≡ held → new ≡ old ++ text
-written-out old pending held new left text none empty put out =
+written_out old pending held new left text none empty put out =
     sym (ap (λ l. new ++ l) empty ∙ append-nil new) ∙ out ∙ put ∙ ap (λ l. l ++ text) (ap (λ l. old ++ l) none ∙ append-nil old)

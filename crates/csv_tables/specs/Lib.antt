@@ -1,8 +1,8 @@
 pub mod Faults
 pub mod Fields
-pub mod Left
-pub mod Stored
+pub mod RecordsLeft
+pub mod StoredTables
 pub mod Tables
 pub mod Texts
 pub mod Values
-pub mod Written
+pub mod WrittenRecords

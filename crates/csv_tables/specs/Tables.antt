@@ -2,7 +2,7 @@
 use Rattle.std.specs.Prelude.{◌≡◌, ℕ, ◌≤◌, List, [], ◌∷◌, map, length, None}
 use Rattle.std.specs.List.{AllByRecursion}
 use Rattle.anyk_model.specs.Table.{Table, flaw_of}
-use Rattle.csv_tables.specs.Stored.{IsStored, shown}
+use Rattle.csv_tables.specs.StoredTables.{IsStored, shown}
 use Rattle.csv_tables.specs.Values.{with_tables}
 use Rattle.csv_tables.specs.declared.stored.StoredTable.{StoredTable}
 use Rattle.csv_tables.specs.declared.tables.Tables.TheInside.{Inside}

@@ -3,7 +3,7 @@ ghost use Rattle.std.specs.Prelude.{◌≡◌, ◌≤◌, ◌∷◌, IfErr, IfOk
 ghost use Rattle.csv.specs.Records.{fields_of};
 ghost use Rattle.anyk_model.specs.Table.{flaw_of, header_flaw, records_of, row_flaw, rows_flaw, table_of};
 ghost use Rattle.csv_tables.specs.Faults.{Tells, refusal};
-ghost use Rattle.csv_tables.specs.Stored.{IsStored, fields_in, shown};
+ghost use Rattle.csv_tables.specs.StoredTables.{IsStored, fields_in, shown};
 ghost use Rattle.csv_tables.specs.Values.{Extends, StandsFor, lists_of, with_rows};
 
 use crate::fault::TableFault;

@@ -17,7 +17,7 @@ pub(crate) struct Records<'a> {
 impl<'a> Model for Records<'a> {
     ghost use Rattle.std.specs.Prelude.{List};
     ghost use Rattle.anyk_model.specs.Table.{Fields};
-    ghost use Rattle.csv_tables.specs.Left.{records_left, KeepsPlain};
+    ghost use Rattle.csv_tables.specs.RecordsLeft.{records_left, KeepsPlain};
 
     ghost Value = { List Fields };
 

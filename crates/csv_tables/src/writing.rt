@@ -1,7 +1,7 @@
 //! The texts of records.
 ghost use Rattle.std.specs.Prelude.{◌≡◌, ◌++◌, [], IfOk, OnOk, map};
 ghost use Rattle.anyk_model.specs.Output.{record_text};
-ghost use Rattle.csv_tables.specs.Written.{IsBetween, bytes_under};
+ghost use Rattle.csv_tables.specs.WrittenRecords.{IsBetween, bytes_under};
 
 use csv::{Writer, WriterBuilder};
 use std::alloc::Global;
@@ -23,7 +23,7 @@ pub struct RecordWriter {
 
 impl Model for RecordWriter {
     ghost use Rattle.std.specs.Prelude.{List, ℕ, drop, length, ◌≤◌};
-    ghost use Rattle.csv_tables.specs.Written.{IsBetween, bytes_under};
+    ghost use Rattle.csv_tables.specs.WrittenRecords.{IsBetween, bytes_under};
 
     ghost Value = { List ℕ };
 

@@ -69,5 +69,5 @@ refused_at s number place TooMany h at = absurd h
 refused_at s number place NoMemory h at = rw at at h
 
 -- the count of refused calls, at the start
-pub counted-none : (n : ℕ) → n < 2 ^ 64 → n ≡ min (n + 0) (2 ^ 64 - 1)
-counted-none n h = omega arith
+pub counted_none : (n : ℕ) → n < 2 ^ 64 → n ≡ min (n + 0) (2 ^ 64 - 1)
+counted_none n h = omega arith

@@ -1,6 +1,6 @@
 -- What contracts see of a set of cursors.
 use Rattle.std.specs.Prelude.{◌≡◌, ℕ, ◌+◌, ◌≤◌, Bool, true, if◌then◌else◌, ◌⊎◌, Option, Some, None, IfSome, is_none, List, All, position, slice_index_or, slice_set}
-use Rattle.tdp_core.specs.Seen.{Seen}
+use Rattle.tdp_core.specs.SeenAnswers.{Seen}
 
 -- cursors over one list of answers
 pub record CursorSet : Type 0 where

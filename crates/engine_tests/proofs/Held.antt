@@ -14,54 +14,54 @@ use Rattle.tdp_model.proofs.KeyNumbers.{sum_of_add, sum_of_lists}
 use Rattle.rank_key.specs.Keys.{IsHeld, IsInRange, IsWithin, KeyFits, row_key}
 use Rattle.rank_key.proofs.RowKeys.{row_fits, two_rows_fit}
 use Rattle.tdp_core.specs.WellFormed.{AreHeld}
-use Rattle.tdp_core.proofs.RowKeys.{row_key-slot}
+use Rattle.tdp_core.proofs.RowKeys.{row_key_slot}
 
 -- a number below 50 in absolute value
 abbrev pub IsSmall : ℤ → Type 0
 IsSmall z = unsigned_abs z < 50
 
-small-at : (xs : List ℤ) (i : ℕ) → AllByRecursion IsSmall xs → IsSmall (get_or xs i (pos 0))
-small-at [] i all = omega arith
-small-at (x ∷ xs) zero all = all.0
-small-at (x ∷ xs) (suc i) all = small-at xs i all.1
+small_at : (xs : List ℤ) (i : ℕ) → AllByRecursion IsSmall xs → IsSmall (get_or xs i (pos 0))
+small_at [] i all = omega arith
+small_at (x ∷ xs) zero all = all.0
+small_at (x ∷ xs) (suc i) all = small_at xs i all.1
 
-small-fits : (z : ℤ) → IsSmall z → FitsSigned w64 z
-small-fits z h = grind (arith, ints)
+small_fits : (z : ℤ) → IsSmall z → FitsSigned w64 z
+small_fits z h = grind (arith, ints)
 
-smalls-fit : (xs : List ℤ) → AllByRecursion IsSmall xs → AllByRecursion (FitsSigned w64) xs
-smalls-fit [] all = tt
-smalls-fit (x ∷ xs) all = (small-fits x all.0, smalls-fit xs all.1)
+smalls_fit : (xs : List ℤ) → AllByRecursion IsSmall xs → AllByRecursion (FitsSigned w64) xs
+smalls_fit [] all = tt
+smalls_fit (x ∷ xs) all = (small_fits x all.0, smalls_fit xs all.1)
 
-abs-add : (a b : ℤ) → unsigned_abs (a +ℤ b) ≤ unsigned_abs a + unsigned_abs b
-abs-add a b = grind (arith, ints)
+abs_add : (a b : ℤ) → unsigned_abs (a +ℤ b) ≤ unsigned_abs a + unsigned_abs b
+abs_add a b = grind (arith, ints)
 
-in-one-slot : (i slot row : ℕ) → cond {A = ℕ} (nat_eq i slot) row 0 ≤ row
-in-one-slot i slot row = grind (arith, nat_tests)
+in_one_slot : (i slot row : ℕ) → cond {A = ℕ} (nat_eq i slot) row 0 ≤ row
+in_one_slot i slot row = grind (arith, nat_tests)
 
-in-no-slot : (i slot row items : ℕ) → slot < items → items ≤ i → cond {A = ℕ} (nat_eq i slot) row 0 ≡ 0
-in-no-slot i slot row items l h = grind (arith, nat_tests)
+in_no_slot : (i slot row items : ℕ) → slot < items → items ≤ i → cond {A = ℕ} (nat_eq i slot) row 0 ≡ 0
+in_no_slot i slot row items l h = grind (arith, nat_tests)
 
 -- rows of different items add at most one number to a slot
-in-two-slots : (i most : ℕ) → cond {A = ℕ} (nat_eq i 1) most 0 + cond {A = ℕ} (nat_eq i 0) most 0 ≤ most
-in-two-slots i most = grind (arith, nat_tests)
+in_two_slots : (i most : ℕ) → cond {A = ℕ} (nat_eq i 1) most 0 + cond {A = ℕ} (nat_eq i 0) most 0 ≤ most
+in_two_slots i most = grind (arith, nat_tests)
 
 module _ {R : Type 0} {d items limit rows : ℕ} (key : R → KeyOf d 16)
     (holds : (k : KeyOf d 16) → IsWithin d items limit rows k → IsHeld d key k)
     (roomy : 2 ^ 21 ≤ rows) (few : 2 ≤ items) (wide : 100 ≤ limit) where
   -- a row with small sums that a rank holds
-  pub own-row-fits : (r : R) (xs : List ℤ) (slot row : ℕ) → key r ≡ row_key d xs slot row → AllByRecursion IsSmall xs → row < 100 → KeyFits d key (key r)
-  own-row-fits r xs slot row is small low =
-      let range : IsInRange d (key r) = rw is (row_fits d xs slot row (smalls-fit xs small) (omega arith)) in
+  pub own_row_fits : (r : R) (xs : List ℤ) (slot row : ℕ) → key r ≡ row_key d xs slot row → AllByRecursion IsSmall xs → row < 100 → KeyFits d key (key r)
+  own_row_fits r xs slot row is small low =
+      let range : IsInRange d (key r) = rw is (row_fits d xs slot row (smalls_fit xs small) (omega arith)) in
       (range.0, range.1, (r, refl))
 
   -- two rows of items 0 and 1 with small sums
-  pub two-rows-held : (xs ys : List ℤ) (slot row other number : ℕ) → AllByRecursion IsSmall xs
+  pub two_rows_held : (xs ys : List ℤ) (slot row other number : ℕ) → AllByRecursion IsSmall xs
       → AllByRecursion IsSmall ys → slot < 2 → other < 2 → row < 100 → number < 100
       → KeyFits d key (key_add d 16 (row_key d xs slot row) (row_key d ys other number))
-  two-rows-held xs ys slot row other number small little l h low less =
+  two_rows_held xs ys slot row other number small little l h low less =
       let a = row_key d xs slot row in
       let b = row_key d ys other number in
-      let range = two_rows_fit d xs ys slot row other number (smalls-fit xs small) (smalls-fit ys little) (omega arith) (omega arith) in (
+      let range = two_rows_fit d xs ys slot row other number (smalls_fit xs small) (smalls_fit ys little) (omega arith) (omega arith) in (
         range.0,
         range.1,
         holds (key_add d 16 a b) (record {
@@ -69,37 +69,37 @@ module _ {R : Type 0} {d items limit rows : ℕ} (key : R → KeyOf d 16)
               let x = sum_of_lists d 16 i xs (set (replicate 16 0) slot row) u in
               let y = sum_of_lists d 16 i ys (set (replicate 16 0) other number) u in
               let bound : unsigned_abs (sum_of d 16 i a +ℤ sum_of d 16 i b) < 100 =
-              rw (x, y) (omega (arith, abs-add (get_or xs i (pos 0)) (get_or ys i (pos 0)), small-at xs i small, small-at ys i little)) in
+              rw (x, y) (omega (arith, abs_add (get_or xs i (pos 0)) (get_or ys i (pos 0)), small_at xs i small, small_at ys i little)) in
               rw (sum_of_add d 16 i a b) (omega (arith, bound));
           slots = λ i u. omega (
             arith,
             slot_of_add d 16 i a b,
-            row_key-slot d xs slot row i (omega arith) u,
-            row_key-slot d ys other number i (omega arith) u,
-            in-one-slot i slot row,
-            in-one-slot i other number,
+            row_key_slot d xs slot row i (omega arith) u,
+            row_key_slot d ys other number i (omega arith) u,
+            in_one_slot i slot row,
+            in_one_slot i other number,
           );
           none = λ i past u. omega (
             arith,
             slot_of_add d 16 i a b,
-            row_key-slot d xs slot row i (omega arith) u,
-            row_key-slot d ys other number i (omega arith) u,
-            in-no-slot i slot row items (omega arith) past,
-            in-no-slot i other number items (omega arith) past,
+            row_key_slot d xs slot row i (omega arith) u,
+            row_key_slot d ys other number i (omega arith) u,
+            in_no_slot i slot row items (omega arith) past,
+            in_no_slot i other number items (omega arith) past,
           );
         }),
       )
 
   -- two nodes, the first of item 1 and the second of item 0, whose caps are at most 10
-  pub two-nodes-held : (item : ℕ → ℕ) (cap : ℕ → ℕ → ℕ) → item 0 ≡ 1 → item 1 ≡ 0
+  pub two_nodes_held : (item : ℕ → ℕ) (cap : ℕ → ℕ → ℕ) → item 0 ≡ 1 → item 1 ≡ 0
       → ((i : ℕ) → cap 0 i ≤ 10) → ((i : ℕ) → cap 1 i ≤ 10) → AreHeld d key 2 item cap
   unfolding sum_from
-  two-nodes-held item cap i0 i1 c0 c1 k within =
+  two_nodes_held item cap i0 i1 c0 c1 k within =
       let most : ℕ = 2 ^ 21 - 1 in
       let first : (i : ℕ) → cond {A = ℕ} (nat_eq i (item 0)) most 0 ≡ cond {A = ℕ} (nat_eq i 1) most 0 = λ i. ap (λ v. cond {A = ℕ} (nat_eq i v) most 0) i0 in
       let second : (i : ℕ) → cond {A = ℕ} (nat_eq i (item 1)) most 0 ≡ cond {A = ℕ} (nat_eq i 0) most 0 = λ i. ap (λ v. cond {A = ℕ} (nat_eq i v) most 0) i1 in
       holds k (record {
         sums = λ i u. omega (arith, within.0 i u, c0 i, c1 i);
-        slots = λ i u. omega (arith, within.1 i u, first i, second i, in-two-slots i most);
-        none = λ i past u. omega (arith, within.1 i u, first i, second i, in-no-slot i 1 most items (omega arith) past, in-no-slot i 0 most items (omega arith) past);
+        slots = λ i u. omega (arith, within.1 i u, first i, second i, in_two_slots i most);
+        none = λ i past u. omega (arith, within.1 i u, first i, second i, in_no_slot i 1 most items (omega arith) past, in_no_slot i 0 most items (omega arith) past);
       })

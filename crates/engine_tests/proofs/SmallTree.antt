@@ -15,8 +15,8 @@ use Rattle.tdp_core.specs.declared.parts.NodeParts.{NodeParts}
 use Rattle.tdp_core.specs.RawData.{AreShapes, AreShapesHeld, shape_children}
 use Rattle.tdp_core.specs.TreeData.{NodeData, node_data, tree_data, kids_below, parent, item, cap, rows, number, child_count, child_place, group_count, group_named, members, group, rank, best, node_at}
 use Rattle.tdp_core.specs.WellFormed.{AreHeld, IsShaped, IsFormed, RowFits}
-use Rattle.tdp_core.proofs.RowKeys.{row_key-fits}
-use Rattle.engine_tests.proofs.Held.{two-nodes-held, two-rows-held}
+use Rattle.tdp_core.proofs.RowKeys.{row_key_fits}
+use Rattle.engine_tests.proofs.Held.{two_nodes_held, two_rows_held}
 
 abbrev pub small_shapes : List NodeShape
 small_shapes = small_shape 1 ∷ small_shape 0 ∷ []
@@ -69,7 +69,7 @@ module _ {R : Type 0} {d items limit rows : ℕ} (key : R → KeyOf d 16)
     (holds : (k : KeyOf d 16) → IsWithin d items limit rows k → IsHeld d key k)
     (roomy : 2 ^ 21 ≤ rows) (few : 2 ≤ items) (wide : 100 ≤ limit) where
   pub small_held : AreShapesHeld d key small_shapes
-  small_held = two-nodes-held key holds roomy few wide _ _ refl refl
+  small_held = two_nodes_held key holds roomy few wide _ _ refl refl
       (λ i. capped i (get_or small_caps i 0) (ten i)) (λ i. capped i (get_or small_caps i 0) (ten i))
 
 pub root_children : shape_children small_shapes 0 ≡ 1
@@ -107,7 +107,7 @@ module _ {R : Type 0} (top later sooner whole : R) where
   module _ (d : ℕ) (key : R → KeyOf d 16) (is_top : key top ≡ row_key d [] 1 4) (is_later : key later ≡ row_key d [] 0 3) (is_sooner : key sooner ≡ row_key d [] 0 1) (is_whole : key whole ≡ key_add d 16 (key top) (key sooner))
       (held : AreHeld d key 2 (item small_nodes) (cap small_nodes)) where
     fits : (cap : ℕ → ℕ) (item row : ℕ) (r : R) → item < 16 → row < 2 ^ 21 → key r ≡ row_key d [] item row → RowFits d item cap row (key r)
-    fits cap item row r l h is = subst (RowFits d item cap row) (sym is) (row_key-fits d [] item row cap l h (λ i b. omega arith))
+    fits cap item row r l h is = subst (RowFits d item cap row) (sym is) (row_key_fits d [] item row cap l h (λ i b. omega arith))
 
     rows_fit : (v r : ℕ) → v < 2 → r < rows small_nodes v → RowFits d (item small_nodes v) (cap small_nodes v) (number small_nodes v r) (rank small_nodes d key v r)
     rows_fit zero zero l h = fits (cap small_nodes 0) 1 4 top (omega arith) (omega arith) is_top
@@ -206,9 +206,9 @@ module _ {R : Type 0} {d items limit rows : ℕ} (key : R → KeyOf d 16)
   -- what the join of the root's row and the lesser row below it asks
   pub small_fits : (a b : KeyOf d 16) → a ≡ row_key d [] 1 4 → b ≡ row_key d [] 0 1 → KeyFits d key (key_add d 16 a b)
   small_fits a b top sooner = rw (top, sooner)
-      (two-rows-held key holds roomy few wide [] [] 1 4 0 1 tt tt (omega arith) (omega arith) (omega arith) (omega arith))
+      (two_rows_held key holds roomy few wide [] [] 1 4 0 1 tt tt (omega arith) (omega arith) (omega arith) (omega arith))
 
   -- the nodes' shapes are the small ones
   pub nodes_held : (top later sooner whole : R) → AreHeld d key 2 (item (small_nodes top later sooner whole)) (cap (small_nodes top later sooner whole))
-  nodes_held top later sooner whole = two-nodes-held key holds roomy few wide _ _ refl refl
+  nodes_held top later sooner whole = two_nodes_held key holds roomy few wide _ _ refl refl
       (λ i. capped i (get_or small_caps i 0) (ten i)) (λ i. capped i (get_or small_caps i 0) (ten i))

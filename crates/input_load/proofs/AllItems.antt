@@ -9,37 +9,37 @@ use Rattle.query_select.specs.declared.select.Select.{Select}
 use Rattle.refusal_lines.specs.Reason as reason
 use Rattle.refusal_lines.specs.Reason.{Reason, UnknownTable}
 use Rattle.verdict.specs.Loading.{all_items, table_names, unknown_table, unknown_with}
-use Rattle.verdict.specs.Staged.{Pure}
+use Rattle.verdict.specs.StageResults.{Pure}
 use Rattle.verdict.specs.Stages.{Is, unless}
 use Rattle.input_load.specs.Entries.{HasAdded, IsEntryOf, tables_of}
 
-pub all_items-flat : (selects : List Select) → all_items selects ≡ flat_map (λ (s : Select). s.items) selects
-all_items-flat [] = refl
-all_items-flat (select ∷ []) = sym (append-nil select.items)
-all_items-flat (select ∷ other ∷ selects) = ap (λ (l : List ItemRef). select.items ++ l) (all_items-flat (other ∷ selects))
+pub all_items_flat : (selects : List Select) → all_items selects ≡ flat_map (λ (s : Select). s.items) selects
+all_items_flat [] = refl
+all_items_flat (select ∷ []) = sym (append-nil select.items)
+all_items_flat (select ∷ other ∷ selects) = ap (λ (l : List ItemRef). select.items ++ l) (all_items_flat (other ∷ selects))
 
-pub all_items-cons : (select : Select) (selects : List Select) → all_items (select ∷ selects) ≡ select.items ++ all_items selects
-all_items-cons select selects =
-    all_items-flat (select ∷ selects) ∙ ap (λ (l : List ItemRef). select.items ++ l) (sym (all_items-flat selects))
+pub all_items_cons : (select : Select) (selects : List Select) → all_items (select ∷ selects) ≡ select.items ++ all_items selects
+all_items_cons select selects =
+    all_items_flat (select ∷ selects) ∙ ap (λ (l : List ItemRef). select.items ++ l) (sym (all_items_flat selects))
 
-all_items-append : (xs ys : List Select) → all_items (xs ++ ys) ≡ all_items xs ++ all_items ys
-all_items-append xs ys =
-    all_items-flat (xs ++ ys) ∙ flat_map-append (λ (s : Select). s.items) xs ys
-    ∙ ap (λ (l : List ItemRef). l ++ flat_map (λ (s : Select). s.items) ys) (sym (all_items-flat xs))
-    ∙ ap (λ (l : List ItemRef). all_items xs ++ l) (sym (all_items-flat ys))
+all_items_append : (xs ys : List Select) → all_items (xs ++ ys) ≡ all_items xs ++ all_items ys
+all_items_append xs ys =
+    all_items_flat (xs ++ ys) ∙ flat_map-append (λ (s : Select). s.items) xs ys
+    ∙ ap (λ (l : List ItemRef). l ++ flat_map (λ (s : Select). s.items) ys) (sym (all_items_flat xs))
+    ∙ ap (λ (l : List ItemRef). all_items xs ++ l) (sym (all_items_flat ys))
 
 -- the items of the select at i come next
-pub items-left : (selects : List Select) (i : ℕ) (select : Select) → i < length selects → select ≡ get_or selects i select
+pub items_left : (selects : List Select) (i : ℕ) (select : Select) → i < length selects → select ≡ get_or selects i select
     → all_items (drop i selects) ≡ select.items ++ all_items (drop (i + 1) selects)
-items-left selects i select inside is =
+items_left selects i select inside is =
     ap all_items (drop_more selects i select inside ∙ ap (λ (s : Select). s ∷ drop (i + 1) selects) (sym is))
-    ∙ all_items-cons select (drop (i + 1) selects)
+    ∙ all_items_cons select (drop (i + 1) selects)
 
-pub items-done : (selects : List Select) (i : ℕ) (select : Select) → i < length selects → select ≡ get_or selects i select
+pub items_done : (selects : List Select) (i : ℕ) (select : Select) → i < length selects → select ≡ get_or selects i select
     → all_items (take (i + 1) selects) ≡ all_items (take i selects) ++ select.items
-items-done selects i select inside is =
+items_done selects i select inside is =
     ap all_items (take_more selects i select inside ∙ ap (λ (s : Select). take i selects ++ s ∷ []) (sym is))
-    ∙ all_items-append (take i selects) (select ∷ [])
+    ∙ all_items_append (take i selects) (select ∷ [])
 
 -- ---- the first item whose table no entry names
 
@@ -47,10 +47,10 @@ abbrev first_reason : Option Reason → Option Reason → Option Reason
 first_reason None later = later
 first_reason (Some e) later = Some e
 
-unknown-append : (named : List (List ℕ × List ℕ)) (xs ys : List ItemRef)
+unknown_append : (named : List (List ℕ × List ℕ)) (xs ys : List ItemRef)
     → unknown_table named (xs ++ ys) ≡ first_reason (unknown_table named xs) (unknown_table named ys)
-unknown-append named [] ys = refl
-unknown-append named (x ∷ xs) ys = by (bytes_of named x.table) (unknown-append named xs ys)
+unknown_append named [] ys = refl
+unknown_append named (x ∷ xs) ys = by (bytes_of named x.table) (unknown_append named xs ys)
   where
     by : (o : Option (List ℕ)) → unknown_table named (xs ++ ys) ≡ first_reason (unknown_table named xs) (unknown_table named ys)
         → unknown_with o x.at (unknown_table named (xs ++ ys)) ≡ first_reason (unknown_with o x.at (unknown_table named xs)) (unknown_table named ys)
@@ -58,22 +58,22 @@ unknown-append named (x ∷ xs) ys = by (bytes_of named x.table) (unknown-append
     by (Some file) later = later
 
 -- a refusal of one stage that is one of another
-pub pure-as : {A B : Type 0} (G : Result A Reason → Type 0) (H : Result B Reason → Type 0) (e : Reason) → (G (Err e) → H (Err e)) → Pure G (Err e) → Pure H (Err e)
-pure-as G H reason.NoMemory gives h = tt
-pure-as G H (reason.NoFile name) gives h = h
-pure-as G H (reason.ReadFault name) gives h = h
-pure-as G H (reason.TooLarge name) gives h = h
-pure-as G H reason.WriteFault gives h = h
-pure-as G H reason.Usage gives h = h
-pure-as G H e gives h = gives h
+pub pure_as : {A B : Type 0} (G : Result A Reason → Type 0) (H : Result B Reason → Type 0) (e : Reason) → (G (Err e) → H (Err e)) → Pure G (Err e) → Pure H (Err e)
+pure_as G H reason.NoMemory gives h = tt
+pure_as G H (reason.NoFile name) gives h = h
+pure_as G H (reason.ReadFault name) gives h = h
+pure_as G H (reason.TooLarge name) gives h = h
+pure_as G H reason.WriteFault gives h = h
+pure_as G H reason.Usage gives h = h
+pure_as G H e gives h = gives h
 
-none-unless : {A : Type 0} (o : Option Reason) (a b : A) → Ok a ≡ unless o b → o ≡ None
-none-unless None a b e = refl
-none-unless (Some x) a b e = cc
+none_unless : {A : Type 0} (o : Option Reason) (a b : A) → Ok a ≡ unless o b → o ≡ None
+none_unless None a b e = refl
+none_unless (Some x) a b e = cc
 
-some-unless : {A : Type 0} (o : Option Reason) (e : Reason) (b : A) → Err e ≡ unless o b → o ≡ Some e
-some-unless None e b h = cc
-some-unless (Some x) e b h = let same : e ≡ x = cc in ap Some (sym same)
+some_unless : {A : Type 0} (o : Option Reason) (e : Reason) (b : A) → Err e ≡ unless o b → o ≡ Some e
+some_unless None e b h = cc
+some_unless (Some x) e b h = let same : e ≡ x = cc in ap Some (sym same)
 
 -- the items of the selects up to i have tables that entries name, and these are the entries
 pub record HasAllEntries (named : List (List ℕ × List ℕ)) (selects : List Select) (i : ℕ) (words : List (List ℕ × List ℕ)) : Type 0 where
@@ -83,36 +83,36 @@ pub record HasAllEntries (named : List (List ℕ × List ℕ)) (selects : List S
 
 module _ (named : List (List ℕ × List ℕ)) (selects : List Select) (i : ℕ) (select : Select) (words : List (List ℕ × List ℕ))
     (inside : i < length selects) (is : select ≡ get_or selects i select) (so_far : HasAllEntries named selects i words) where
-  here-unknown : first_reason (unknown_table named select.items) (unknown_table named (all_items (drop (i + 1) selects))) ≡ unknown_table named (all_items selects)
-  here-unknown =
-      sym (ap (unknown_table named) (items-left selects i select inside is) ∙ unknown-append named select.items (all_items (drop (i + 1) selects)))
+  here_unknown : first_reason (unknown_table named select.items) (unknown_table named (all_items (drop (i + 1) selects))) ≡ unknown_table named (all_items selects)
+  here_unknown =
+      sym (ap (unknown_table named) (items_left selects i select inside is) ∙ unknown_append named select.items (all_items (drop (i + 1) selects)))
       ∙ so_far.known
 
   -- the items of the select at i have such tables too
-  pub all-more : (now : List (List ℕ × List ℕ)) → Ok select.items ≡ unless (unknown_table named select.items) select.items
+  pub all_more : (now : List (List ℕ × List ℕ)) → Ok select.items ≡ unless (unknown_table named select.items) select.items
       → HasAdded named select.items words now → HasAllEntries named selects (i + 1) now
-  all-more now known added = record {
-    known = sym (ap (λ (o : Option Reason). first_reason o (unknown_table named (all_items (drop (i + 1) selects)))) (none-unless _ _ _ known)) ∙ here-unknown;
+  all_more now known added = record {
+    known = sym (ap (λ (o : Option Reason). first_reason o (unknown_table named (all_items (drop (i + 1) selects)))) (none_unless _ _ _ known)) ∙ here_unknown;
     tables = added.tables ∙ ap (λ (l : List (List ℕ)). l ++ table_names select.items) so_far.tables
-        ∙ sym (ap table_names (items-done selects i select inside is)
+        ∙ sym (ap table_names (items_done selects i select inside is)
         ∙ map-append (λ (x : ItemRef). x.table) (all_items (take i selects)) select.items);
     entries = added.entries so_far.entries;
   }
 
   -- one of them has not
-  pub all-refused : {A : Type 0} (a : A) (e : Reason) → Pure (Is (unless (unknown_table named select.items) select.items)) (Err e)
+  pub all_refused : {A : Type 0} (a : A) (e : Reason) → Pure (Is (unless (unknown_table named select.items) select.items)) (Err e)
       → Pure (Is (unless (unknown_table named (all_items selects)) a)) (Err e)
-  all-refused a e =
-      pure-as (Is (unless (unknown_table named select.items) select.items)) (Is (unless (unknown_table named (all_items selects)) a)) e
-      (λ h. let here = some-unless _ e select.items h in
+  all_refused a e =
+      pure_as (Is (unless (unknown_table named select.items) select.items)) (Is (unless (unknown_table named (all_items selects)) a)) e
+      (λ h. let here = some_unless _ e select.items h in
       let all : unknown_table named (all_items selects) ≡ Some e =
-      sym here-unknown ∙ ap (λ (o : Option Reason). first_reason o (unknown_table named (all_items (drop (i + 1) selects)))) here in
+      sym here_unknown ∙ ap (λ (o : Option Reason). first_reason o (unknown_table named (all_items (drop (i + 1) selects)))) here in
       sym (ap (λ (o : Option Reason). unless o a) all))
 
 -- all selects were gone over
-pub all-known : {A : Type 0} (named : List (List ℕ × List ℕ)) (selects : List Select) (i : ℕ) (words : List (List ℕ × List ℕ)) (a : A) → length selects ≤ i
+pub all_known : {A : Type 0} (named : List (List ℕ × List ℕ)) (selects : List Select) (i : ℕ) (words : List (List ℕ × List ℕ)) (a : A) → length selects ≤ i
     → HasAllEntries named selects i words → Is (unless (unknown_table named (all_items selects)) a) (Ok a)
-all-known named selects i words a end h =
+all_known named selects i words a end h =
     let none : unknown_table named (all_items selects) ≡ None =
     sym h.known ∙ ap (λ (l : List Select). unknown_table named (all_items l)) (drop_all i selects end) in
     sym (ap (λ (o : Option Reason). unless o a) none)

@@ -4,36 +4,36 @@ use Rattle.std.specs.List.{AllByRecursion}
 use Rattle.std.specs.Str.{bytes_eq}
 use Rattle.anyk_model.specs.Query.{Item, Query}
 use Rattle.anyk_model.specs.Table.{Table}
-use Rattle.query_bind.specs.Weighed.{BoundQuery}
+use Rattle.query_bind.specs.WeighedQuery.{BoundQuery}
 use Rattle.refusal_lines.specs.Reason.{BranchShape, Reason, UnionBest, UnknownBest}
 use Rattle.verdict.specs.Loading.{Beside, Loaded, best_in, known_item, loaded_in, odd_branch}
-use Rattle.verdict.specs.Staged.{Pure}
+use Rattle.verdict.specs.StageResults.{Pure}
 use Rattle.verdict.specs.Stages.{Is, then_by, unless}
 use Rattle.input_load.specs.Input.{queries_in}
-use Rattle.input_load.proofs.Shapes.{Checked, odd-none, odd-told}
+use Rattle.input_load.proofs.Shapes.{Checked, odd_none, odd_told}
 
 -- ---- the item that has the alias
 
 -- there are several branches
-pub best-several : (alias : List ℕ) (queries : List BoundQuery) → 1 < length queries → Err UnionBest ≡ best_in (Some alias) (queries_in queries)
-best-several alias [] many = absurd (omega arith)
-best-several alias (query ∷ []) many = absurd (omega arith)
-best-several alias (query ∷ other ∷ queries) many = refl
+pub best_several : (alias : List ℕ) (queries : List BoundQuery) → 1 < length queries → Err UnionBest ≡ best_in (Some alias) (queries_in queries)
+best_several alias [] many = absurd (omega arith)
+best_several alias (query ∷ []) many = absurd (omega arith)
+best_several alias (query ∷ other ∷ queries) many = refl
 
 -- there is one
-pub best-one : (alias : List ℕ) (queries : List BoundQuery) (query : BoundQuery) → 1 ≤ length queries → length queries ≤ 1 → query ≡ get_or queries 0 query
+pub best_one : (alias : List ℕ) (queries : List BoundQuery) (query : BoundQuery) → 1 ≤ length queries → length queries ≤ 1 → query ≡ get_or queries 0 query
     → best_in (Some alias) (queries_in queries) ≡ known_item (position (λ (i : Item). bytes_eq i.alias alias) query.query.items)
-best-one alias [] query some one is = absurd (omega arith)
-best-one alias (first ∷ []) query some one is = ap (λ (q : BoundQuery). known_item (position (λ (i : Item). bytes_eq i.alias alias) q.query.items)) (sym is)
-best-one alias (first ∷ other ∷ queries) query some one is = absurd (omega arith)
+best_one alias [] query some one is = absurd (omega arith)
+best_one alias (first ∷ []) query some one is = ap (λ (q : BoundQuery). known_item (position (λ (i : Item). bytes_eq i.alias alias) q.query.items)) (sym is)
+best_one alias (first ∷ other ∷ queries) query some one is = absurd (omega arith)
 
-pub one-within : (queries : List BoundQuery) (query : BoundQuery) (item : ℕ) → 1 ≤ length queries → length queries ≤ 1 → query ≡ get_or queries 0 query
+pub one_within : (queries : List BoundQuery) (query : BoundQuery) (item : ℕ) → 1 ≤ length queries → length queries ≤ 1 → query ≡ get_or queries 0 query
     → item < length query.query.items → AllByRecursion (λ (q : BoundQuery). item < length q.query.items) queries
-one-within [] query item some one is inside = tt
-one-within (first ∷ []) query item some one is inside =
+one_within [] query item some one is inside = tt
+one_within (first ∷ []) query item some one is inside =
     let same : length query.query.items ≡ length first.query.items = ap (λ (q : BoundQuery). length q.query.items) is in
     (omega (arith, inside, same), tt)
-one-within (first ∷ other ∷ queries) query item some one is inside = absurd (omega arith)
+one_within (first ∷ other ∷ queries) query item some one is inside = absurd (omega arith)
 
 -- ---- what was loaded
 
@@ -44,43 +44,43 @@ module _ (queries : List Query) (tables : List Table) (beside : Beside) where
   abbrev loaded_after : Option (List ℕ) → List Query → Result Loaded Reason
   loaded_after alias qs = then_by (best_in alias qs) (λ best. Ok (record { queries = qs; tables = tables; best = best; steps = beside.steps; proof = beside.proof }))
 
-  shape-same : (n : ℕ) (e x : Reason) → e ≡ BranchShape n → x ≡ BranchShape n → Pure (Is {A = Loaded} (Err x)) (Err e)
-  shape-same n e x told same = rw (told, same) refl
+  shape_same : (n : ℕ) (e x : Reason) → e ≡ BranchShape n → x ≡ BranchShape n → Pure (Is {A = Loaded} (Err x)) (Err e)
+  shape_same n e x told same = rw (told, same) refl
 
   -- a branch is not of the first one's shape
-  pub shape-refused : (alias : Option (List ℕ)) (e : Reason) → Checked (Err e) queries → Pure (Is (loaded_in alias queries tables beside)) (Err e)
-  shape-refused alias e h = by (odd_branch queries) refl h
+  pub shape_refused : (alias : Option (List ℕ)) (e : Reason) → Checked (Err e) queries → Pure (Is (loaded_in alias queries tables beside)) (Err e)
+  shape_refused alias e h = by (odd_branch queries) refl h
     where
       by : (o : Option Reason) → odd_branch queries ≡ o → ◌≡◌ {A = Result (Unit {0}) Reason} (Err e) (unless o tt)
           → Pure (Is (then_by (unless o queries) (loaded_after alias))) (Err e)
       by None is h = cc
       by (Some x) is h =
-          let told = odd-told queries x is in
+          let told = odd_told queries x is in
           let same : e ≡ x = cc in
-          shape-same told.0 e x (same ∙ told.1) told.1
+          shape_same told.0 e x (same ∙ told.1) told.1
 
   shaped : (alias : Option (List ℕ)) → Checked (Ok tt) queries → loaded_in alias queries tables beside ≡ then_by (best_in alias queries) loaded_with
-  shaped alias h = ap (λ (o : Option Reason). then_by (unless o queries) (loaded_after alias)) (odd-none queries h)
+  shaped alias h = ap (λ (o : Option Reason). then_by (unless o queries) (loaded_after alias)) (odd_none queries h)
 
-  best-refused : (alias : Option (List ℕ)) (qs : List Query) (e : Reason) → Err e ≡ best_in alias qs → Pure (Is (then_by (best_in alias qs) loaded_with)) (Err e)
-  best-refused None qs e h = cc
-  best-refused (Some alias) [] e h = let same : e ≡ UnknownBest = cc in rw same refl
-  best-refused (Some alias) (query ∷ other ∷ qs) e h = let same : e ≡ UnionBest = cc in rw same refl
-  best-refused (Some alias) (query ∷ []) e h = by (position (λ (item : Item). bytes_eq item.alias alias) query.items) h
+  best_refused : (alias : Option (List ℕ)) (qs : List Query) (e : Reason) → Err e ≡ best_in alias qs → Pure (Is (then_by (best_in alias qs) loaded_with)) (Err e)
+  best_refused None qs e h = cc
+  best_refused (Some alias) [] e h = let same : e ≡ UnknownBest = cc in rw same refl
+  best_refused (Some alias) (query ∷ other ∷ qs) e h = let same : e ≡ UnionBest = cc in rw same refl
+  best_refused (Some alias) (query ∷ []) e h = by (position (λ (item : Item). bytes_eq item.alias alias) query.items) h
     where
       by : (o : Option ℕ) → Err e ≡ known_item o → Pure (Is (then_by (known_item o) loaded_with)) (Err e)
       by None h = let same : e ≡ UnknownBest = cc in rw same refl
       by (Some item) h = cc
 
   -- no item has the alias, or there are several branches
-  pub item-refused : (alias : Option (List ℕ)) (e : Reason) → Checked (Ok tt) queries → Err e ≡ best_in alias queries
+  pub item_refused : (alias : Option (List ℕ)) (e : Reason) → Checked (Ok tt) queries → Err e ≡ best_in alias queries
       → Pure (Is (loaded_in alias queries tables beside)) (Err e)
-  item-refused alias e one h =
+  item_refused alias e one h =
       let P : Result Loaded Reason → Type 0 = λ r. Pure (Is r) (Err e) in
-      subst P (sym (shaped alias one)) (best-refused alias queries e h)
+      subst P (sym (shaped alias one)) (best_refused alias queries e h)
 
   -- an item has it, or no alias is named
-  pub item-found : (alias : Option (List ℕ)) (best : Option ℕ) → Checked (Ok tt) queries → Ok best ≡ best_in alias queries
+  pub item_found : (alias : Option (List ℕ)) (best : Option ℕ) → Checked (Ok tt) queries → Ok best ≡ best_in alias queries
       → Is (loaded_in alias queries tables beside) (loaded_with best)
-  item-found alias best one h =
+  item_found alias best one h =
       ap (λ (r : Result (Option ℕ) Reason). then_by r loaded_with) h ∙ sym (shaped alias one)

@@ -25,11 +25,11 @@ use Rattle.verdict.specs.Faults.{of_bind, of_flaw, of_parse, of_proof, of_script
 use Rattle.verdict.specs.Loading.{IsParse, IsParseAll, IsReading, all_items, branches_of, proof_said, steps_said, told_proof, told_steps}
 use Rattle.verdict.specs.Stages.{Is, followed, unless}
 use Rattle.verdict.proofs.Staging.{pure_refused}
-use Rattle.verdict.specs.Staged.{Pure}
+use Rattle.verdict.specs.StageResults.{Pure}
 use Rattle.input_load.specs.Entries.{table_after}
 use Rattle.input_load.specs.Limits.{AreWithinLimits, IsWithinLimits}
-use Rattle.input_load.specs.Shown.{table_reason}
-use Rattle.input_load.proofs.AllItems.{all_items-cons}
+use Rattle.input_load.specs.StageViews.{table_reason}
+use Rattle.input_load.proofs.AllItems.{all_items_cons}
 use Rattle.query_grammar.specs.Grammar.{IsBranch, IsItems, IsQuery, branch, items, query}
 use Rattle.query_grammar.specs.Reading.{Clauses}
 use Rattle.query_grammar.specs.Lexeme.{Lexeme}
@@ -58,17 +58,17 @@ parse_all_told bytes (parse.LimitRange at) h = (parse.LimitRange at, h, (λ e. c
 parse_all_told bytes parse.NoMemory h = tt
 
 -- what the parser found or refused, as the stage of reading
-pub one-refused : (bytes : List ℕ) (fault : ParseFault) → Parses bytes (Err fault) → Pure (IsReading false bytes) (Err (of_parse fault))
-one-refused bytes fault h = pure_refused (IsParse bytes) (λ select. Is (Ok (select ∷ []))) (of_parse fault) (parse_told bytes fault h)
+pub one_refused : (bytes : List ℕ) (fault : ParseFault) → Parses bytes (Err fault) → Pure (IsReading false bytes) (Err (of_parse fault))
+one_refused bytes fault h = pure_refused (IsParse bytes) (λ select. Is (Ok (select ∷ []))) (of_parse fault) (parse_told bytes fault h)
 
-pub one-read : (bytes : List ℕ) (select : Select) (selects : List Select) → Parses bytes (Ok select) → selects ≡ select ∷ [] → IsReading false bytes (Ok selects)
-one-read bytes select selects h is = followed {a = select} h (ap Ok is)
+pub one_read : (bytes : List ℕ) (select : Select) (selects : List Select) → Parses bytes (Ok select) → selects ≡ select ∷ [] → IsReading false bytes (Ok selects)
+one_read bytes select selects h is = followed {a = select} h (ap Ok is)
 
-pub branches-refused : (bytes : List ℕ) (fault : ParseFault) → ParsesAll bytes (Err fault) → Pure (IsReading true bytes) (Err (of_parse fault))
-branches-refused bytes fault h = pure_refused (IsParseAll bytes) (λ all. Is (Ok (branches_of all))) (of_parse fault) (parse_all_told bytes fault h)
+pub branches_refused : (bytes : List ℕ) (fault : ParseFault) → ParsesAll bytes (Err fault) → Pure (IsReading true bytes) (Err (of_parse fault))
+branches_refused bytes fault h = pure_refused (IsParseAll bytes) (λ all. Is (Ok (branches_of all))) (of_parse fault) (parse_all_told bytes fault h)
 
-pub branches-read : (bytes : List ℕ) (all : SelectAll) (selects : List Select) → ParsesAll bytes (Ok all) → selects ≡ branches_of all → IsReading true bytes (Ok selects)
-branches-read bytes all selects h is = followed {a = all} h (ap Ok is)
+pub branches_read : (bytes : List ℕ) (all : SelectAll) (selects : List Select) → ParsesAll bytes (Ok all) → selects ≡ branches_of all → IsReading true bytes (Ok selects)
+branches_read bytes all selects h is = followed {a = all} h (ap Ok is)
 
 -- the first fault of binding
 bind_fault_refused : (told : Option ℕ) (bound : Query) (fault : BindFault) → Pure (Is (unless (Some (of_bind told fault)) bound)) (Err (of_bind told fault))
@@ -134,61 +134,61 @@ table_refused name old t (Some flaw) fault (inr e) =
     rw (sym is) (flaw_refused name old t flaw)
 
 -- a query has at least one item
-some-items : {ts rest : List Lexeme} {r : List ItemRef × List Equality} → IsItems ts rest r → 1 ≤ length r.0
-some-items (items one others) = omega arith
+some_items : {ts rest : List Lexeme} {r : List ItemRef × List Equality} → IsItems ts rest r → 1 ≤ length r.0
+some_items (items one others) = omega arith
 
-some-branch : {ts rest : List Lexeme} {s : Select} → IsBranch ts rest s → 1 ≤ length s.items
-some-branch (branch s l f i w o) = some-items i
+some_branch : {ts rest : List Lexeme} {s : Select} → IsBranch ts rest s → 1 ≤ length s.items
+some_branch (branch s l f i w o) = some_items i
 
-some-clauses : {ts : List Lexeme} {x : Clauses} → IsQuery ts x → 1 ≤ length x.0.items
-some-clauses (query b l e) = some-branch b
+some_clauses : {ts : List Lexeme} {x : Clauses} → IsQuery ts x → 1 ≤ length x.0.items
+some_clauses (query b l e) = some_branch b
 
-parsed-limits : (bytes : List ℕ) (select : Select) → IsParsed bytes select → IsWithinLimits select
-parsed-limits bytes select h =
+parsed_limits : (bytes : List ℕ) (select : Select) → IsParsed bytes select → IsWithinLimits select
+parsed_limits bytes select h =
     let P : Select → Type 0 = λ s. 1 ≤ length s.items in
-    record { some = subst P (sym h.is) (some-clauses h.says.query); items = h.items; keys = h.keys }
+    record { some = subst P (sym h.is) (some_clauses h.says.query); items = h.items; keys = h.keys }
 
-pub one-limits : (bytes : List ℕ) (select : Select) → IsParsed bytes select → AreWithinLimits (select ∷ [])
-one-limits bytes select h = record { some = omega arith; few = omega arith; each = (parsed-limits bytes select h, tt); items = h.items }
+pub one_limits : (bytes : List ℕ) (select : Select) → IsParsed bytes select → AreWithinLimits (select ∷ [])
+one_limits bytes select h = record { some = omega arith; few = omega arith; each = (parsed_limits bytes select h, tt); items = h.items }
 
-items-counted : (selects : List Select) → items_in selects ≡ length (all_items selects)
-items-counted [] = refl
-items-counted (select ∷ selects) =
-    let later = items-counted selects in
-    let whole : length (all_items (select ∷ selects)) ≡ length (select.items ++ all_items selects) = ap length (all_items-cons select selects) in
+items_counted : (selects : List Select) → items_in selects ≡ length (all_items selects)
+items_counted [] = refl
+items_counted (select ∷ selects) =
+    let later = items_counted selects in
+    let whole : length (all_items (select ∷ selects)) ≡ length (select.items ++ all_items selects) = ap length (all_items_cons select selects) in
     let both = length-append select.items (all_items selects) in
     omega (arith, later, whole, both)
 
 -- no more branches than a query may have, and no more items in all of them
-all-limits : (bytes : List ℕ) (all : SelectAll) → IsParsedAll bytes all → (length all.branches ≤ 8) × (length (all_items all.branches) ≤ 16)
-all-limits bytes all h =
-    let counted = items-counted all.branches in
+all_limits : (bytes : List ℕ) (all : SelectAll) → IsParsedAll bytes all → (length all.branches ≤ 8) × (length (all_items all.branches) ≤ 16)
+all_limits bytes all h =
+    let counted = items_counted all.branches in
     let items = h.items in
     (h.branches, omega (arith, counted, items))
 
 -- the limits of the branches change nothing else
-limited-items : (limit : Option ℕ) (selects : List Select) → all_items (map (λ (s : Select). record s { limit = limit }) selects) ≡ all_items selects
-limited-items limit [] = refl
-limited-items limit (select ∷ []) = refl
-limited-items limit (select ∷ other ∷ selects) = ap (λ (l : List ItemRef). select.items ++ l) (limited-items limit (other ∷ selects))
+limited_items : (limit : Option ℕ) (selects : List Select) → all_items (map (λ (s : Select). record s { limit = limit }) selects) ≡ all_items selects
+limited_items limit [] = refl
+limited_items limit (select ∷ []) = refl
+limited_items limit (select ∷ other ∷ selects) = ap (λ (l : List ItemRef). select.items ++ l) (limited_items limit (other ∷ selects))
 
-limited-each : (limit : Option ℕ) (selects : List Select) → AllByRecursion (λ (s : Select). (1 ≤ length s.items) × ((length s.items ≤ 16) × (length s.keys ≤ 8))) selects
+limited_each : (limit : Option ℕ) (selects : List Select) → AllByRecursion (λ (s : Select). (1 ≤ length s.items) × ((length s.items ≤ 16) × (length s.keys ≤ 8))) selects
     → AllByRecursion IsWithinLimits (map (λ (s : Select). record s { limit = limit }) selects)
-limited-each limit [] all = tt
-limited-each limit (select ∷ selects) all =
-    (record { some = all.0.0; items = all.0.1.0; keys = all.0.1.1 }, limited-each limit selects all.1)
+limited_each limit [] all = tt
+limited_each limit (select ∷ selects) all =
+    (record { some = all.0.0; items = all.0.1.0; keys = all.0.1.1 }, limited_each limit selects all.1)
 
-pub branches-limits : (bytes : List ℕ) (all : SelectAll) → IsParsedAll bytes all → 1 ≤ length all.branches
+pub branches_limits : (bytes : List ℕ) (all : SelectAll) → IsParsedAll bytes all → 1 ≤ length all.branches
     → AllByRecursion (λ (s : Select). (1 ≤ length s.items) × ((length s.items ≤ 16) × (length s.keys ≤ 8))) all.branches → AreWithinLimits (branches_of all)
-branches-limits bytes all h some filled =
-    let limits = all-limits bytes all h in
+branches_limits bytes all h some filled =
+    let limits = all_limits bytes all h in
     let few = limits.0 in
     let items = limits.1 in
     let as_many = length-map all.branches (λ (s : Select). record s { limit = all.limit }) in
-    let as_many_items = ap length (limited-items all.limit all.branches) in
+    let as_many_items = ap length (limited_items all.limit all.branches) in
     record {
       some = omega (arith, some, as_many);
       few = omega (arith, few, as_many);
-      each = limited-each all.limit all.branches filled;
+      each = limited_each all.limit all.branches filled;
       items = omega (arith, items, as_many_items);
     }

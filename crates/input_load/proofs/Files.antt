@@ -9,9 +9,9 @@ use Rattle.std.specs.Prelude.{length}
 use Rattle.refusal_lines.specs.Reason as reason
 use Rattle.refusal_lines.specs.Reason.{Reason}
 use Rattle.verdict.specs.Loading.{file_in, file_with, most_bytes, short_enough}
-use Rattle.verdict.specs.Staged.{Fits, Causes, Shelved, Staged}
+use Rattle.verdict.specs.StageResults.{Fits, Causes, Shelved, Staged}
 use Rattle.verdict.specs.Stages.{Is}
-use Rattle.input_load.specs.Shown.{file_reason}
+use Rattle.input_load.specs.StageViews.{file_reason}
 
 pub short_bytes : (name bytes : List ℕ) → length bytes ≤ most_bytes → short_enough name bytes ≡ Ok bytes
 short_bytes name bytes h = grind (arith, nat_tests)

@@ -9,38 +9,38 @@ use Rattle.cmd_words.specs.NamedPairs.{named_pair, are_distinct as have_distinct
 use Rattle.make_input.specs.Input.{files, load_query, query_file, table_files}
 use Rattle.outer_io.specs.declared.held.MemFile.{MemFile}
 use Rattle.outer_io.specs.Entries.{are_distinct, entry_of}
-use Rattle.verdict.specs.Made.{made_files}
-use Rattle.input_load.proofs.FirstUses.{list_any-map}
+use Rattle.verdict.specs.MadeFiles.{made_files}
+use Rattle.input_load.proofs.FirstUses.{list_any_map}
 
 -- ---- the files, one after another
 
 abbrev pub files_of : List Named → List (Vec ℕ Global) → List (List ℕ × List ℕ)
 files_of named tables = zip (map (λ (n : Named). string_bytes n.file) named) (map (λ (t : Vec ℕ Global). t.items) tables)
 
-its-files : (named : List Named) → map (λ (n : Named). string_bytes n.file) named ≡ map (λ (t : List ℕ × List ℕ). t.1) (map named_pair named)
-its-files [] = refl
-its-files (n ∷ named) = ap (λ (l : List (List ℕ)). string_bytes n.file ∷ l) (its-files named)
+its_files : (named : List Named) → map (λ (n : Named). string_bytes n.file) named ≡ map (λ (t : List ℕ × List ℕ). t.1) (map named_pair named)
+its_files [] = refl
+its_files (n ∷ named) = ap (λ (l : List (List ℕ)). string_bytes n.file ∷ l) (its_files named)
 
 -- the query's file, and those of the tables
-pub files-first : (held : List MemFile) (file : MemFile) (named : List Named) (tables : List (Vec ℕ Global)) (number rows : ℕ)
+pub files_first : (held : List MemFile) (file : MemFile) (named : List Named) (tables : List (Vec ℕ Global)) (number rows : ℕ)
     → held ≡ [] ++ file ∷ [] → string_bytes file.name ≡ query_file → file.bytes.items ≡ load_query
     → map named_pair named ≡ table_files → map (λ (t : Vec ℕ Global). t.items) tables ≡ files number rows
     → map entry_of held ++ files_of named tables ≡ made_files number rows
-files-first held file named tables number rows is name bytes names texts =
+files_first held file named tables number rows is name bytes names texts =
     let first : map entry_of held ≡ (query_file, load_query) ∷ [] =
     ap (map entry_of) is ∙ ap (λ (n : List ℕ). (n, file.bytes.items) ∷ []) name ∙ ap (λ (b : List ℕ). (query_file, b) ∷ []) bytes in
     let named_files : map (λ (n : Named). string_bytes n.file) named ≡ map (λ (t : List ℕ × List ℕ). t.1) table_files =
-    its-files named ∙ ap (map (λ (t : List ℕ × List ℕ). t.1)) names in
+    its_files named ∙ ap (map (λ (t : List ℕ × List ℕ). t.1)) names in
     ap (λ (l : List (List ℕ × List ℕ)). l ++ files_of named tables) first
     ∙ ap (λ (l : List (List ℕ)). (query_file, load_query) ∷ zip l (map (λ (t : Vec ℕ Global). t.items) tables)) named_files
     ∙ ap (λ (l : List (List ℕ)). (query_file, load_query) ∷ zip (map (λ (t : List ℕ × List ℕ). t.1) table_files) l) texts
 
 -- one file more
-pub files-more : (held now : List MemFile) (file : MemFile) (n : Named) (table : Vec ℕ Global) (named later : List Named) (tables others : List (Vec ℕ Global)) (all : List (List ℕ × List ℕ))
+pub files_more : (held now : List MemFile) (file : MemFile) (n : Named) (table : Vec ℕ Global) (named later : List Named) (tables others : List (Vec ℕ Global)) (all : List (List ℕ × List ℕ))
     → map entry_of held ++ files_of named tables ≡ all → named ≡ n ∷ later → tables ≡ table ∷ others
     → now ≡ held ++ file ∷ [] → string_bytes file.name ≡ string_bytes n.file → file.bytes ≡ table
     → map entry_of now ++ files_of later others ≡ all
-files-more held now file n table named later tables others all before is also pushed name bytes =
+files_more held now file n table named later tables others all before is also pushed name bytes =
     let entry : entry_of file ≡ (string_bytes n.file, table.items) = ap (λ (x : List ℕ). (x, file.bytes.items)) name ∙ ap (λ (b : Vec ℕ Global). (string_bytes n.file, b.items)) bytes in
     ap (λ (l : List MemFile). map entry_of l ++ files_of later others) pushed
     ∙ ap (λ (l : List (List ℕ × List ℕ)). l ++ files_of later others) (map-append entry_of held (file ∷ []))
@@ -50,22 +50,22 @@ files-more held now file n table named later tables others all before is also pu
     ∙ ap (λ (l : List (Vec ℕ Global)). map entry_of held ++ files_of named l) (sym also) ∙ before
 
 -- all files, when no name or no table is left
-pub files-all : (held : List MemFile) (named : List Named) (tables : List (Vec ℕ Global)) (all : List (List ℕ × List ℕ))
+pub files_all : (held : List MemFile) (named : List Named) (tables : List (Vec ℕ Global)) (all : List (List ℕ × List ℕ))
     → map entry_of held ++ files_of named tables ≡ all → (length named ≡ 0) ⊎ (length tables ≡ 0) → map entry_of held ≡ all
-files-all held [] tables all before ended = sym (append-nil (map entry_of held)) ∙ before
-files-all held (n ∷ named) [] all before ended = sym (append-nil (map entry_of held)) ∙ before
-files-all held (n ∷ named) (table ∷ tables) all before (inl none) = absurd (omega (arith, none))
-files-all held (n ∷ named) (table ∷ tables) all before (inr none) = absurd (omega (arith, none))
+files_all held [] tables all before ended = sym (append-nil (map entry_of held)) ∙ before
+files_all held (n ∷ named) [] all before ended = sym (append-nil (map entry_of held)) ∙ before
+files_all held (n ∷ named) (table ∷ tables) all before (inl none) = absurd (omega (arith, none))
+files_all held (n ∷ named) (table ∷ tables) all before (inr none) = absurd (omega (arith, none))
 
 -- they have distinct names
-distinct-entries : (held : List MemFile) → are_distinct held ≡ have_distinct_names (map entry_of held)
-distinct-entries [] = refl
-distinct-entries (file ∷ held) =
-    ap (λ (b : Bool). not b && are_distinct held) (sym (list_any-map (λ (other : List ℕ × List ℕ). bytes_eq other.0 (string_bytes file.name)) entry_of held))
-    ∙ ap (λ (b : Bool). not (list_any (λ (other : List ℕ × List ℕ). bytes_eq other.0 (string_bytes file.name)) (map entry_of held)) && b) (distinct-entries held)
+distinct_entries : (held : List MemFile) → are_distinct held ≡ have_distinct_names (map entry_of held)
+distinct_entries [] = refl
+distinct_entries (file ∷ held) =
+    ap (λ (b : Bool). not b && are_distinct held) (sym (list_any_map (λ (other : List ℕ × List ℕ). bytes_eq other.0 (string_bytes file.name)) entry_of held))
+    ∙ ap (λ (b : Bool). not (list_any (λ (other : List ℕ × List ℕ). bytes_eq other.0 (string_bytes file.name)) (map entry_of held)) && b) (distinct_entries held)
 
-made-distinct : (number rows : ℕ) → have_distinct_names (made_files number rows) ≡ true
-made-distinct number rows = refl
+made_distinct : (number rows : ℕ) → have_distinct_names (made_files number rows) ≡ true
+made_distinct number rows = refl
 
-pub distinct-files : (held : List MemFile) (number rows : ℕ) → map entry_of held ≡ made_files number rows → are_distinct held ≡ true
-distinct-files held number rows is = distinct-entries held ∙ ap have_distinct_names is ∙ made-distinct number rows
+pub distinct_files : (held : List MemFile) (number rows : ℕ) → map entry_of held ≡ made_files number rows → are_distinct held ≡ true
+distinct_files held number rows is = distinct_entries held ∙ ap have_distinct_names is ∙ made_distinct number rows

@@ -4,42 +4,42 @@ use Rattle.std.proofs.lemmas.List.{drop_all, drop_more}
 use Rattle.std.proofs.lemmas.Bool.{and_parts}
 use Rattle.anyk_model.specs.Query.{OrderKey, Query}
 use Rattle.refusal_lines.specs.Reason.{BranchShape, Reason}
-use Rattle.union_list.specs.Tagged.{HaveKeys}
+use Rattle.union_list.specs.TaggedRows.{HaveKeys}
 use Rattle.verdict.specs.Loading.{have_directions, have_one_shape, odd_branch, odd_from}
 use Rattle.verdict.specs.Stages.{unless}
 
 -- as many keys
-same-keys : (keys others : List OrderKey) → have_directions keys others ≡ true → length keys ≡ length others
-same-keys [] [] h = refl
-same-keys [] (other ∷ others) h = cc
-same-keys (key ∷ keys) [] h = cc
-same-keys (key ∷ keys) (other ∷ others) h = ap suc (same-keys keys others (and_parts _ _ h).1)
+same_keys : (keys others : List OrderKey) → have_directions keys others ≡ true → length keys ≡ length others
+same_keys [] [] h = refl
+same_keys [] (other ∷ others) h = cc
+same_keys (key ∷ keys) [] h = cc
+same_keys (key ∷ keys) (other ∷ others) h = ap suc (same_keys keys others (and_parts _ _ h).1)
 
 -- another number of keys
-pub other-keys : (keys others : List OrderKey) → (length keys ≡ length others → ⊥) → have_directions keys others ≡ false
-other-keys keys others differ = by (have_directions keys others) refl
+pub other_keys : (keys others : List OrderKey) → (length keys ≡ length others → ⊥) → have_directions keys others ≡ false
+other_keys keys others differ = by (have_directions keys others) refl
   where
     by : (b : Bool) → have_directions keys others ≡ b → b ≡ false
-    by true is = absurd (differ (same-keys keys others is))
+    by true is = absurd (differ (same_keys keys others is))
     by false is = refl
 
-keys-from : (first : Query) (number : ℕ) (queries : List Query) → odd_from first number queries ≡ None → HaveKeys (length first.order) queries
-keys-from first number [] h = tt
-keys-from first number (query ∷ queries) h = by (have_one_shape first query) refl h (keys-from first (number + 1) queries)
+keys_from : (first : Query) (number : ℕ) (queries : List Query) → odd_from first number queries ≡ None → HaveKeys (length first.order) queries
+keys_from first number [] h = tt
+keys_from first number (query ∷ queries) h = by (have_one_shape first query) refl h (keys_from first (number + 1) queries)
   where
     by : (b : Bool) → have_one_shape first query ≡ b → (if b then odd_from first (number + 1) queries else Some (BranchShape number)) ≡ None
         → (odd_from first (number + 1) queries ≡ None → HaveKeys (length first.order) queries) → HaveKeys (length first.order) (query ∷ queries)
-    by true is h later = (sym (same-keys first.order query.order (and_parts _ _ is).1), later h)
+    by true is h later = (sym (same_keys first.order query.order (and_parts _ _ is).1), later h)
     by false is h later = cc
 
 -- branches of one shape have as many keys
-pub keys-none-odd : (queries : List Query) → odd_branch queries ≡ None → (keys : ℕ) × HaveKeys keys queries
-keys-none-odd [] h = (0, tt)
-keys-none-odd (first ∷ queries) h = (length first.order, (refl, keys-from first 2 queries h))
+pub keys_none_odd : (queries : List Query) → odd_branch queries ≡ None → (keys : ℕ) × HaveKeys keys queries
+keys_none_odd [] h = (0, tt)
+keys_none_odd (first ∷ queries) h = (length first.order, (refl, keys_from first 2 queries h))
 
-odd-from-told : (first : Query) (number : ℕ) (queries : List Query) (e : Reason) → odd_from first number queries ≡ Some e → (branch : ℕ) × (e ≡ BranchShape branch)
-odd-from-told first number [] e h = cc
-odd-from-told first number (query ∷ queries) e h = by (have_one_shape first query) h (odd-from-told first (number + 1) queries e)
+odd_from_told : (first : Query) (number : ℕ) (queries : List Query) (e : Reason) → odd_from first number queries ≡ Some e → (branch : ℕ) × (e ≡ BranchShape branch)
+odd_from_told first number [] e h = cc
+odd_from_told first number (query ∷ queries) e h = by (have_one_shape first query) h (odd_from_told first (number + 1) queries e)
   where
     by : (b : Bool) → (if b then odd_from first (number + 1) queries else Some (BranchShape number)) ≡ Some e
         → (odd_from first (number + 1) queries ≡ Some e → (branch : ℕ) × (e ≡ BranchShape branch)) → (branch : ℕ) × (e ≡ BranchShape branch)
@@ -47,9 +47,9 @@ odd-from-told first number (query ∷ queries) e h = by (have_one_shape first qu
     by false h later = (number, cc)
 
 -- the reason names a branch
-pub odd-told : (queries : List Query) (e : Reason) → odd_branch queries ≡ Some e → (branch : ℕ) × (e ≡ BranchShape branch)
-odd-told [] e h = cc
-odd-told (first ∷ queries) e h = odd-from-told first 2 queries e h
+pub odd_told : (queries : List Query) (e : Reason) → odd_branch queries ≡ Some e → (branch : ℕ) × (e ≡ BranchShape branch)
+odd_told [] e h = cc
+odd_told (first ∷ queries) e h = odd_from_told first 2 queries e h
 
 -- ---- the branches, one after another
 
@@ -57,8 +57,8 @@ odd-told (first ∷ queries) e h = odd-from-told first 2 queries e h
 abbrev pub Checked : Result (Unit {0}) Reason → List Query → Type 0
 Checked result queries = result ≡ unless (odd_branch queries) tt
 
-pub odd-none : (queries : List Query) → Checked (Ok tt) queries → odd_branch queries ≡ None
-odd-none queries h = by (odd_branch queries) h
+pub odd_none : (queries : List Query) → Checked (Ok tt) queries → odd_branch queries ≡ None
+odd_none queries h = by (odd_branch queries) h
   where
     by : (o : Option Reason) → ◌≡◌ {A = Result (Unit {0}) Reason} (Ok tt) (unless o tt) → o ≡ None
     by None h = refl
@@ -69,38 +69,38 @@ abbrev pub odd_after : List Query → ℕ → Option Reason
 odd_after [] b = None
 odd_after (first ∷ queries) b = odd_from first (b + 1) (drop b (first ∷ queries))
 
-pub odd-begins : (queries : List Query) → odd_after queries 1 ≡ odd_branch queries
-odd-begins [] = refl
-odd-begins (first ∷ queries) = refl
+pub odd_begins : (queries : List Query) → odd_after queries 1 ≡ odd_branch queries
+odd_begins [] = refl
+odd_begins (first ∷ queries) = refl
 
-odd-step : (queries : List Query) (b : ℕ) (first query : Query) → b < length queries → first ≡ get_or queries 0 first → query ≡ get_or queries b query
+odd_step : (queries : List Query) (b : ℕ) (first query : Query) → b < length queries → first ≡ get_or queries 0 first → query ≡ get_or queries b query
     → odd_after queries b ≡ (if have_one_shape first query then odd_after queries (b + 1) else Some (BranchShape (b + 1)))
-odd-step [] b first query inside zeroth is = absurd (omega arith)
-odd-step (x ∷ queries) b first query inside zeroth is =
+odd_step [] b first query inside zeroth is = absurd (omega arith)
+odd_step (x ∷ queries) b first query inside zeroth is =
     ap (odd_from x (b + 1)) (drop_more (x ∷ queries) b query inside)
     ∙ ap (λ (q : Query). if have_one_shape x q then odd_from x (b + 1 + 1) (drop (b + 1) (x ∷ queries)) else Some (BranchShape (b + 1))) (sym is)
     ∙ ap (λ (q : Query). if have_one_shape q query then odd_from x (b + 1 + 1) (drop (b + 1) (x ∷ queries)) else Some (BranchShape (b + 1))) (sym zeroth)
 
 -- the branch at b has the shape
-pub shape-kept : (queries : List Query) (b : ℕ) (first query : Query) → b < length queries → first ≡ get_or queries 0 first → query ≡ get_or queries b query
+pub shape_kept : (queries : List Query) (b : ℕ) (first query : Query) → b < length queries → first ≡ get_or queries 0 first → query ≡ get_or queries b query
     → have_one_shape first query ≡ true → odd_after queries b ≡ odd_branch queries → odd_after queries (b + 1) ≡ odd_branch queries
-shape-kept queries b first query inside zeroth is same so_far =
-    sym (odd-step queries b first query inside zeroth is
+shape_kept queries b first query inside zeroth is same so_far =
+    sym (odd_step queries b first query inside zeroth is
     ∙ ap (λ (h : Bool). if h then odd_after queries (b + 1) else Some (BranchShape (b + 1))) same)
     ∙ so_far
 
 -- it has not
-pub shape-odd : (queries : List Query) (b : ℕ) (first query : Query) → b < length queries → first ≡ get_or queries 0 first → query ≡ get_or queries b query
+pub shape_odd : (queries : List Query) (b : ℕ) (first query : Query) → b < length queries → first ≡ get_or queries 0 first → query ≡ get_or queries b query
     → have_one_shape first query ≡ false → odd_after queries b ≡ odd_branch queries → Checked (Err (BranchShape (b + 1))) queries
-shape-odd queries b first query inside zeroth is other so_far =
+shape_odd queries b first query inside zeroth is other so_far =
     let odd : odd_branch queries ≡ Some (BranchShape (b + 1)) =
-    sym so_far ∙ odd-step queries b first query inside zeroth is
+    sym so_far ∙ odd_step queries b first query inside zeroth is
     ∙ ap (λ (h : Bool). if h then odd_after queries (b + 1) else Some (BranchShape (b + 1))) other in
     sym (ap (λ (o : Option Reason). unless {A = Unit {0}} o tt) odd)
 
 -- all have it
-pub shapes-same : (queries : List Query) (b : ℕ) → length queries ≤ b → odd_after queries b ≡ odd_branch queries → Checked (Ok tt) queries
-shapes-same queries b end so_far = sym (ap (λ (o : Option Reason). unless {A = Unit {0}} o tt) (sym so_far ∙ by queries end))
+pub shapes_same : (queries : List Query) (b : ℕ) → length queries ≤ b → odd_after queries b ≡ odd_branch queries → Checked (Ok tt) queries
+shapes_same queries b end so_far = sym (ap (λ (o : Option Reason). unless {A = Unit {0}} o tt) (sym so_far ∙ by queries end))
   where
     by : (queries : List Query) → length queries ≤ b → odd_after queries b ≡ None
     by [] end = refl

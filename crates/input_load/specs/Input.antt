@@ -3,11 +3,11 @@ use Rattle.std.specs.Prelude.{◌<◌, ◌≤◌, ℕ, List, [], length, map, Op
 use Rattle.std.specs.List.{All, AllByRecursion}
 use Rattle.anyk_model.specs.Table.{Table}
 use Rattle.anyk_model.specs.Query.{Query}
-use Rattle.query_bind.specs.Weighed.{BoundQuery, Fits}
+use Rattle.query_bind.specs.WeighedQuery.{BoundQuery, Fits}
 use Rattle.proof_text.specs.Certificate.{Certificate}
 use Rattle.session_script.specs.declared.step.Step.{Step}
 use Rattle.session_script.specs.Script.{KeepsRules}
-use Rattle.union_list.specs.Tagged.{HaveKeys}
+use Rattle.union_list.specs.TaggedRows.{HaveKeys}
 use Rattle.verdict.specs.Loading.{Loaded}
 
 pub record InputData : Type 0 where

@@ -1,6 +1,6 @@
 pub mod Entries
 pub mod Input
 pub mod Limits
-pub mod Shown
+pub mod StageViews
 pub mod Sought
 pub mod Turns

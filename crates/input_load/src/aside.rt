@@ -1,14 +1,14 @@
 //! The script or the certificate, if there is one.
 ghost use Rattle.std.specs.Prelude.{◌≡◌, [], IfOk, Some};
-ghost use Rattle.refusal_lines.specs.Refused.{reason_of};
-ghost use Rattle.proof_text.specs.Seen.{seen_proof};
+ghost use Rattle.refusal_lines.specs.RefusalReasons.{reason_of};
+ghost use Rattle.proof_text.specs.ProofView.{seen_proof};
 ghost use Rattle.session_script.specs.Script.{KeepsRules};
 ghost use Rattle.verdict.specs.Faults.{of_proof, of_script};
 ghost use Rattle.verdict.specs.Loading.{beside_in, no_certificate, proof_said, steps_said};
 ghost use Rattle.verdict.specs.Stages.{Is};
-ghost use Rattle.verdict.specs.Staged.{Pure, Staged, shelved};
+ghost use Rattle.verdict.specs.StageResults.{Pure, Staged, shelved};
 ghost use Rattle.verdict.specs.Words.{aside_name, certificate, script};
-ghost use Rattle.input_load.specs.Shown.{shown_beside, shown_proof, shown_steps};
+ghost use Rattle.input_load.specs.StageViews.{shown_beside, shown_proof, shown_steps};
 ghost use Rattle.input_load.specs.Sought.{aside_shown};
 
 use crate::file::load;

@@ -5,18 +5,18 @@ ghost use Rattle.std.specs.Str.{bytes_eq};
 ghost use Rattle.anyk_model.specs.Query.{Item};
 ghost use Rattle.query_bind.specs.Bind.{bind_fault};
 ghost use Rattle.query_bind.specs.Binding.{bound_query};
-ghost use Rattle.query_bind.specs.Weighed.{Fits};
-ghost use Rattle.refusal_lines.specs.Refused.{reason_of};
+ghost use Rattle.query_bind.specs.WeighedQuery.{Fits};
+ghost use Rattle.refusal_lines.specs.RefusalReasons.{reason_of};
 ghost use Rattle.session_script.specs.Script.{KeepsRules};
 ghost use Rattle.verdict.specs.Faults.{of_bind};
 ghost use Rattle.verdict.specs.Loading.{all_items, best_in, bound_in, first_uses};
 ghost use Rattle.verdict.specs.Loading.{have_directions, have_one_shape, odd_branch, table_numbers, told_branch};
 ghost use Rattle.verdict.specs.Stages.{Is, unless};
-ghost use Rattle.verdict.specs.Staged.{Pure};
+ghost use Rattle.verdict.specs.StageResults.{Pure};
 ghost use Rattle.verdict.specs.Verdict.{IsBound};
 ghost use Rattle.input_load.specs.Limits.{AreWithinLimits, IsWithinLimits};
 ghost use Rattle.input_load.specs.Input.{queries_in};
-ghost use Rattle.input_load.specs.Shown.{seen_beside, shown_check, shown_input, shown_item, shown_queries, shown_query};
+ghost use Rattle.input_load.specs.StageViews.{seen_beside, shown_check, shown_input, shown_item, shown_queries, shown_query};
 ghost use Rattle.input_load.specs.Sought.{sought_shown};
 
 use crate::aside::Beside;
@@ -48,7 +48,7 @@ pub struct Input {
 
 impl Model for Input {
     ghost use Rattle.input_load.specs.Input.{InputData, IsSound};
-    ghost use Rattle.proof_text.specs.Seen.{seen_proof};
+    ghost use Rattle.proof_text.specs.ProofView.{seen_proof};
 
     ghost Value = { InputData };
 

@@ -2,9 +2,9 @@
 ghost use Rattle.std.specs.Prelude.{◌≡◌, ◌≤◌, IfOk, length};
 ghost use Rattle.verdict.specs.Loading.{file_in};
 ghost use Rattle.verdict.specs.Stages.{Is};
-ghost use Rattle.verdict.specs.Staged.{Staged, shelved};
-ghost use Rattle.refusal_lines.specs.Refused.{reason_of};
-ghost use Rattle.input_load.specs.Shown.{file_reason, shown_bytes};
+ghost use Rattle.verdict.specs.StageResults.{Staged, shelved};
+ghost use Rattle.refusal_lines.specs.RefusalReasons.{reason_of};
+ghost use Rattle.input_load.specs.StageViews.{file_reason, shown_bytes};
 
 use outer_io::{FileFault, Shelf, read_file};
 use refusal_lines::Refusal;

@@ -4,11 +4,11 @@ ghost use Rattle.std.specs.List.{AllByRecursion};
 ghost use Rattle.cmd_words.specs.NamedPairs.{named_pair};
 ghost use Rattle.session_script.specs.Script.{KeepsRules};
 ghost use Rattle.verdict.specs.Loading.{all_items, table_names};
-ghost use Rattle.verdict.specs.Staged.{Staged, shelved};
+ghost use Rattle.verdict.specs.StageResults.{Staged, shelved};
 ghost use Rattle.verdict.specs.Verdict.{IsAccompanied, IsLoadedOn, IsRead, IsSelected, IsTabled};
 ghost use Rattle.input_load.specs.Entries.{IsEntryOf, tables_of};
 ghost use Rattle.input_load.specs.Limits.{AreWithinLimits};
-ghost use Rattle.input_load.specs.Shown.{seen_beside, shown_input};
+ghost use Rattle.input_load.specs.StageViews.{seen_beside, shown_input};
 ghost use Rattle.input_load.specs.Sought.{sought_shown};
 ghost use Rattle.input_load.specs.Turns.{IsAccompaniedTurn, IsReadTurn, IsSelectedTurn, IsTabledTurn, IsTurn};
 

@@ -1,11 +1,11 @@
 //! An input that is made from a number.
 ghost use Rattle.std.specs.Prelude.{◌≡◌, IfOk, length, map};
 ghost use Rattle.outer_io.specs.Entries.{entry_of};
-ghost use Rattle.verdict.specs.Made.{made_files};
-ghost use Rattle.verdict.specs.Staged.{Pure};
+ghost use Rattle.verdict.specs.MadeFiles.{made_files};
+ghost use Rattle.verdict.specs.StageResults.{Pure};
 ghost use Rattle.verdict.specs.Verdict.{IsLoadedOn};
 ghost use Rattle.verdict.specs.Words.{load, sought_by};
-ghost use Rattle.input_load.specs.Shown.{shown_input};
+ghost use Rattle.input_load.specs.StageViews.{shown_input};
 
 use crate::binding::Input;
 use crate::generated::MadeTables;

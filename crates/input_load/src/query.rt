@@ -1,11 +1,11 @@
 //! The query of the query file, or its branches.
 ghost use Rattle.std.specs.Prelude.{◌≡◌, ◌∷◌, [], false, true, IfOk, length, map};
-ghost use Rattle.refusal_lines.specs.Refused.{reason_of};
+ghost use Rattle.refusal_lines.specs.RefusalReasons.{reason_of};
 ghost use Rattle.verdict.specs.Faults.{of_parse};
 ghost use Rattle.verdict.specs.Loading.{IsReading, branches_of};
-ghost use Rattle.verdict.specs.Staged.{Pure};
+ghost use Rattle.verdict.specs.StageResults.{Pure};
 ghost use Rattle.input_load.specs.Limits.{AreWithinLimits, limited};
-ghost use Rattle.input_load.specs.Shown.{shown_selects};
+ghost use Rattle.input_load.specs.StageViews.{shown_selects};
 
 use query_grammar::fault::ParseFault;
 use query_grammar::{parse, parse_all};

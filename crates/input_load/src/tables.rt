@@ -4,12 +4,12 @@ ghost use Rattle.std.specs.List.{AllByRecursion};
 ghost use Rattle.std.specs.String.{string_bytes};
 ghost use Rattle.cmd_words.specs.NamedPairs.{named_pair};
 ghost use Rattle.rankings.specs.Order.{IsMember};
-ghost use Rattle.refusal_lines.specs.Refused.{reason_of};
+ghost use Rattle.refusal_lines.specs.RefusalReasons.{reason_of};
 ghost use Rattle.verdict.specs.Loading.{files_read, sound_table, table_in, tables_in};
 ghost use Rattle.verdict.specs.Stages.{Is};
-ghost use Rattle.verdict.specs.Staged.{Pure, Staged, shelved};
+ghost use Rattle.verdict.specs.StageResults.{Pure, Staged, shelved};
 ghost use Rattle.input_load.specs.Entries.{IsEntryOf, table_after, tables_of};
-ghost use Rattle.input_load.specs.Shown.{said_as, shown_tables, table_reason};
+ghost use Rattle.input_load.specs.StageViews.{said_as, shown_tables, table_reason};
 
 use crate::file::load;
 use cmd_words::Named;

@@ -6,9 +6,9 @@ ghost use Rattle.std.specs.String.{string_bytes};
 ghost use Rattle.cmd_words.specs.NamedPairs.{named_pair};
 ghost use Rattle.verdict.specs.Loading.{all_items, first_uses_after, table_names, unknown_table};
 ghost use Rattle.verdict.specs.Stages.{Is, unless};
-ghost use Rattle.verdict.specs.Staged.{Pure};
+ghost use Rattle.verdict.specs.StageResults.{Pure};
 ghost use Rattle.input_load.specs.Entries.{HasAdded, IsEntryOf, tables_of};
-ghost use Rattle.input_load.specs.Shown.{said_as};
+ghost use Rattle.input_load.specs.StageViews.{said_as};
 
 use cmd_words::Named;
 use query_select::select::{ItemRef, Select};

@@ -12,10 +12,10 @@ use Rattle.query_bind.specs.declared.fault.BindFault.{BindFault}
 use Rattle.refusal_lines.specs.Reason as reason
 use Rattle.refusal_lines.specs.Reason.{Reason, status_of}
 use Rattle.verdict.specs.Faults.{of_bind, of_flaw}
-use Rattle.verdict.specs.Found.{Found, found_of}
+use Rattle.verdict.specs.AcceptedInput.{Found, found_of}
 use Rattle.verdict.specs.Loading.{Loaded, bound_in, first_uses, most_bytes, no_certificate, short_enough, sound_table}
 use Rattle.verdict.specs.Loading.{tables_in, with_steps}
-use Rattle.verdict.specs.Made.{made_files}
+use Rattle.verdict.specs.MadeFiles.{made_files}
 use Rattle.verdict.specs.Outcome.{IsReason}
 use Rattle.verdict.specs.Stages.{followed, then_by, unless}
 use Rattle.verdict.specs.Verdict.{IsLoaded, IsVerdict}

@@ -6,8 +6,8 @@ use Rattle.rankings.specs.Order.{IsMember}
 use Rattle.hyper_graph.specs.Graph.{HasVar}
 use Rattle.query_bind.specs.Classes.{AreVariables, ColumnBefore, HasVariable, IsFixedTo, IsLeast, IsShared, Linked, same, forth, variable_at}
 use Rattle.query_bind.specs.Labels.{IsLabelling, replaced}
-use Rattle.query_bind.proofs.Labels.{labels-join, labels-none}
-use Rattle.query_bind.proofs.Order.{before-neither, same-tells}
+use Rattle.query_bind.proofs.Labels.{labels_join, labels_none}
+use Rattle.query_bind.proofs.Order.{before_neither, same_tells}
 use Rattle.load_law.proofs.ChainTree.{chain_graph, chain_has, has_chain}
 
 abbrev pub at : ℕ → ℕ → Column
@@ -54,26 +54,26 @@ sides x y e p q b is =
 
 labels_one : IsLabelling (first ∷ []) one_joined
 labels_one =
-    labels-join [] (λ c. c) first (at 0 1) (at 1 0) labels-none (forth {e = first} {b = at 1 0} (inl refl) refl same)
+    labels_join [] (λ c. c) first (at 0 1) (at 1 0) labels_none (forth {e = first} {b = at 1 0} (inl refl) refl same)
     (later_item 0 1 1 0 (omega arith)) (sides (at 0 1) (at 1 0) first refl refl)
 
 labels_two : IsLabelling (first ∷ second ∷ []) two_joined
 labels_two =
-    labels-join (first ∷ []) one_joined second (at 1 1) (at 2 0) labels_one (forth {e = second} {b = at 2 0} (inr (inl refl)) refl same)
+    labels_join (first ∷ []) one_joined second (at 1 1) (at 2 0) labels_one (forth {e = second} {b = at 2 0} (inr (inl refl)) refl same)
     (later_item 1 2 1 0 (omega arith)) (sides (at 1 1) (at 2 0) second refl refl)
 
 labels : IsLabelling chain label
 labels =
-    labels-join (first ∷ second ∷ []) two_joined third (at 2 1) (at 3 0) labels_two (forth {e = third} {b = at 3 0} (inr (inr (inl refl))) refl same)
+    labels_join (first ∷ second ∷ []) two_joined third (at 2 1) (at 3 0) labels_two (forth {e = third} {b = at 3 0} (inr (inr (inl refl))) refl same)
     (later_item 2 3 1 0 (omega arith)) (sides (at 2 1) (at 3 0) third refl refl)
 
 -- a column is its own label, or it is the right side of an equality
 by_label : (P : Column → Column → Type 0) → ((c : Column) → P c c) → P (at 1 0) (at 0 1) → P (at 2 0) (at 1 1) → P (at 3 0) (at 2 1) → (c : Column) → P c (label c)
-by_label P own one two three c = elim (same-tells c (at 1 0)) [
+by_label P own one two three c = elim (same_tells c (at 1 0)) [
   | inl s ↦ subst (λ (d : Column). P d (label d)) (sym s.1) one
-  | inr s ↦ elim (same-tells c (at 2 0)) [
+  | inr s ↦ elim (same_tells c (at 2 0)) [
     | inl t ↦ subst (λ (d : Column). P d (label d)) (sym t.1) two
-    | inr t ↦ elim (same-tells c (at 3 0)) [
+    | inr t ↦ elim (same_tells c (at 3 0)) [
       | inl u ↦ subst (λ (d : Column). P d (label d)) (sym u.1) three
       | inr u ↦
           let alone : label c ≡ c = rw (s.0, t.0, u.0) refl in
@@ -116,7 +116,7 @@ variable_is c (inr (inr (inr m))) = absurd m
 
 is_variable : (c : Column) → IsShared chain c × IsLeast chain c → IsMember c chain_variables
 is_variable c h =
-    let own : c ≡ label c = before-neither c (label c) (labels.least c) (h.1 (label c) (labels.own c)) in
+    let own : c ≡ label c = before_neither c (label c) (labels.least c) (h.1 (label c) (labels.own c)) in
     let alike : label h.0.other ≡ c = sym (labels.complete c h.0.other h.0.linked) ∙ sym own in
     by_label (λ x l. l ≡ c → x.item ≢ c.item → IsMember c chain_variables)
     (λ x e apart. absurd (apart (ap (λ (y : Column). y.item) e)))

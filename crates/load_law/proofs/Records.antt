@@ -14,7 +14,7 @@ use Rattle.csv.specs.declared.parser.State.TheVariants as st
 use Rattle.csv.proofs.RoundTrip as csv_text
 use Rattle.csv.proofs.RoundTrip.{read-write}
 use Rattle.anyk_model.specs.Table.{Fields, flaw_of, header_flaw, most_rows, records_of, rows_flaw}
-use Rattle.query_bind.proofs.Found.{all-append}
+use Rattle.query_bind.proofs.Found.{all_append}
 use Rattle.make_input.specs.Input.{draw, row_text, rows_text, table_text}
 
 -- the fields of a made row, from the two draws after x
@@ -105,7 +105,7 @@ pub each_made : (P : Fields → Type 0) (modulus n x : ℕ) → ((y : ℕ) → P
 unfolding made_rows
 each_made P modulus zero x made = tt
 each_made P modulus (suc n) x made =
-    all-append P (made_rows modulus n x) (made_row modulus (draw x (2 * n)) ∷ []) (each_made P modulus n x made) (made (draw x (2 * n)), tt)
+    all_append P (made_rows modulus n x) (made_row modulus (draw x (2 * n)) ∷ []) (each_made P modulus n x made) (made (draw x (2 * n)), tt)
 
 pub rows_wide : (modulus n x : ℕ) → AllByRecursion (λ row. length row ≡ 3) (made_rows modulus n x)
 rows_wide modulus n x = each_made (λ row. length row ≡ 3) modulus n x (λ y. refl)

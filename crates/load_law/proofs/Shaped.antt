@@ -5,7 +5,7 @@ use Rattle.std.proofs.lemmas.List.FromFn.{get_or-range_with_len, length-range_wi
 use Rattle.anyk_model.specs.Table.{Fields, Table}
 use Rattle.anyk_model.specs.Query.{item_table}
 use Rattle.rankings.specs.Order.{BelowAll, IsAscending, IsMember}
-use Rattle.rankings.proofs.Members.{contains-member, member-contains}
+use Rattle.rankings.proofs.Members.{contains_member, member_contains}
 use Rattle.query_bind.specs.Classes.{Passes, row_field}
 use Rattle.query_bind.specs.Graph.{IsGraphOf}
 use Rattle.query_shape.specs.Shape.{HasNodeRows, HasTree, IsShape, Shape}
@@ -50,7 +50,7 @@ rising a (suc n) = (all_above a (a + 1) n (omega arith), rising (a + 1) n)
 
 in_range : (n row : ℕ) → IsMember row (range_with_len 1 n) → (1 ≤ row) × (row ≤ n)
 in_range n row m =
-    let place = member-contains row (range_with_len 1 n) m in
+    let place = member_contains row (range_with_len 1 n) m in
     let count = length-range_with_len 1 n in
     let inside : place.0 < n = omega (arith, place.1, count) in
     let is : 1 + place.0 ≡ row = sym (get_or-range_with_len 1 n place.0 row inside) ∙ place.2 in
@@ -60,7 +60,7 @@ range_has : (n row : ℕ) → 1 ≤ row → row ≤ n → IsMember row (range_wi
 range_has n row low high =
     let count = length-range_with_len 1 n in
     let is : get_or (range_with_len 1 n) (row - 1) row ≡ 1 + (row - 1) = get_or-range_with_len 1 n (row - 1) row (omega (arith, low, high)) in
-    contains-member row (range_with_len 1 n) (row - 1) (omega (arith, low, high, count)) (omega (arith, is, low))
+    contains_member row (range_with_len 1 n) (row - 1) (omega (arith, low, high, count)) (omega (arith, is, low))
 
 -- no two columns of an item are in one class, and no class has a constant
 all_pass : (tables : List Table) (item row : ℕ) → Passes load_bound tables item row

@@ -1,8 +1,8 @@
 -- What holds of each call of the command `load`.
 use Rattle.std.specs.Prelude.{◌≡◌, ◌⊎◌, ◌≤◌, ℕ, Option, Ok}
 use Rattle.outer_io.specs.Files.{Files}
-use Rattle.verdict.specs.Found.{Found}
-use Rattle.verdict.specs.Made.{known_to}
+use Rattle.verdict.specs.AcceptedInput.{Found}
+use Rattle.verdict.specs.MadeFiles.{known_to}
 use Rattle.verdict.specs.Outcome.{Outcome, Outside}
 use Rattle.verdict.specs.Verdict.{IsVerdict}
 use Rattle.verdict.specs.Words.{built, load}

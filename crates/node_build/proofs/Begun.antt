@@ -9,41 +9,41 @@ use Rattle.tdp_core.specs.declared.parts.NodeShape.{NodeShape}
 use Rattle.tdp_core.specs.RawData.{RawData, RawRowData, row_total}
 use Rattle.join_tree.specs.declared.tree.JoinTree.{JoinTree}
 use Rattle.anyk_model.specs.Table.{Table}
-use Rattle.query_bind.specs.Weighed.{BoundQuery}
-use Rattle.node_build.specs.Filled.{AreFilled}
+use Rattle.query_bind.specs.WeighedQuery.{BoundQuery}
+use Rattle.node_build.specs.PartialTrees.{AreFilled}
 use Rattle.counted_index.specs.Pairs.{AreNumbers}
 
-none-at : (A : Type 0) (n q : ℕ) → (let none : List A = [] in get_or (replicate n none) q none ≡ none)
-none-at A n q = let none : List A = [] in elim (cases_lt q n) [
+none_at : (A : Type 0) (n q : ℕ) → (let none : List A = [] in get_or (replicate n none) q none ≡ none)
+none_at A n q = let none : List A = [] in elim (cases_lt q n) [
   | inl l ↦ get_or-replicate n q none none l
   | inr g ↦ get_or_past (replicate n none) q none (omega (arith, g, length-replicate n none))
 ]
 
-sum-none : (A : Type 0) (n : ℕ) → (let none : List A = [] in sum_by length (replicate n none) ≡ 0)
-sum-none A zero = refl
-sum-none A (suc n) = let none : List A = [] in omega (arith, sum-none A n, sum_by-cons length none (replicate n none))
+sum_none : (A : Type 0) (n : ℕ) → (let none : List A = [] in sum_by length (replicate n none) ≡ 0)
+sum_none A zero = refl
+sum_none A (suc n) = let none : List A = [] in omega (arith, sum_none A n, sum_by-cons length none (replicate n none))
 
-pub no-numbers : (names : List (List (ℕ × ℕ))) (n : ℕ) → names ≡ replicate n [] → AreNumbers names
-no-numbers names n is q m k values a b =
+pub no_numbers : (names : List (List (ℕ × ℕ))) (n : ℕ) → names ≡ replicate n [] → AreNumbers names
+no_numbers names n is q m k values a b =
     let none : List (ℕ × ℕ) = [] in
-    let empty : get_or names q none ≡ none = ap (λ (xs : List (List (ℕ × ℕ))). get_or xs q none) is ∙ none-at (ℕ × ℕ) n q in
+    let empty : get_or names q none ≡ none = ap (λ (xs : List (List (ℕ × ℕ))). get_or xs q none) is ∙ none_at (ℕ × ℕ) n q in
     let size : length (get_or names q none) ≡ 0 = ap length empty in
     let w = a.within in
     absurd (omega (arith, w, size))
 
-pub names-count : (names : List (List (ℕ × ℕ))) (n : ℕ) → names ≡ replicate n [] → length names ≡ n
-names-count names n is = let none : List (ℕ × ℕ) = [] in ap length is ∙ length-replicate n none
+pub names_count : (names : List (List (ℕ × ℕ))) (n : ℕ) → names ≡ replicate n [] → length names ≡ n
+names_count names n is = let none : List (ℕ × ℕ) = [] in ap length is ∙ length-replicate n none
 
-pub no-rows-yet : {R : Type 0} (bound : BoundQuery) (tables : List Table) (join : JoinTree) (own above : List (List ℕ)) (d : ℕ) (key : R → KeyOf d 16) (names : List (List (ℕ × ℕ)))
+pub no_rows_yet : {R : Type 0} (bound : BoundQuery) (tables : List Table) (join : JoinTree) (own above : List (List ℕ)) (d : ℕ) (key : R → KeyOf d 16) (names : List (List (ℕ × ℕ)))
     (rows : List (List ℕ)) (shapes : List NodeShape) (tree : RawData R) → length shapes ≡ join.count → tree ≡ record { shapes = shapes; rows = replicate (length shapes) [] }
     → AreFilled bound tables join own above d key names 0 rows tree
-no-rows-yet {R = R} bound tables join own above d key names rows shapes tree count is =
+no_rows_yet {R = R} bound tables join own above d key names rows shapes tree count is =
     let none : List (RawRowData R) = [] in
     let list : tree.rows ≡ replicate (length shapes) none = ap (λ (t : RawData R). t.rows) is in
-    let total : row_total tree ≡ 0 = ap (sum_by length) list ∙ sum-none (RawRowData R) (length shapes) in
+    let total : row_total tree ≡ 0 = ap (sum_by length) list ∙ sum_none (RawRowData R) (length shapes) in
     record {
       each_node = ap length list ∙ length-replicate (length shapes) none ∙ count;
       filled = λ v l. absurd (omega (arith, l));
-      empty = λ v l. ap (λ (xs : List (List (RawRowData R))). get_or xs v none) list ∙ none-at (RawRowData R) (length shapes) v;
+      empty = λ v l. ap (λ (xs : List (List (RawRowData R))). get_or xs v none) list ∙ none_at (RawRowData R) (length shapes) v;
       total = total;
     }

@@ -10,44 +10,44 @@ use Rattle.join_tree.specs.declared.tree.JoinTree.{JoinTree}
 use Rattle.anyk_model.specs.Table.{Table}
 use Rattle.anyk_model.specs.Query.{Query}
 use Rattle.query_bind.specs.Classes.{HasVariable}
-use Rattle.query_bind.specs.Weighed.{BoundQuery}
+use Rattle.query_bind.specs.WeighedQuery.{BoundQuery}
 use Rattle.node_build.specs.Columns.{AreShared, HaveColumns}
 use Rattle.node_build.specs.Nodes.{AreNodeRows, cap_at, item_of, parent_of}
 use Rattle.node_build.specs.Rows.{HaveRows, lists_of, table_rows}
 use Rattle.node_build.specs.Shapes.{AreShapesOf}
 
 -- what holds of each element at its place, and of one more
-each-more : {A : Type 0} (P : ℕ → A → Type 0) (xs : List A) (x d : A) (n : ℕ) → length xs ≡ n → ((v : ℕ) → v < n → P v (get_or xs v d)) → P n x
+each_more : {A : Type 0} (P : ℕ → A → Type 0) (xs : List A) (x d : A) (n : ℕ) → length xs ≡ n → ((v : ℕ) → v < n → P v (get_or xs v d)) → P n x
     → (v : ℕ) → v < n + 1 → P v (get_or (xs ++ x ∷ []) v d)
-each-more {A = A} P xs x d n count before here v l = elim (cases_lt v n) [
+each_more {A = A} P xs x d n count before here v l = elim (cases_lt v n) [
   | inl old ↦ subst (P v) (sym (get_or_append_left xs (x ∷ []) d v (omega (arith, old, count)))) (before v old)
   | inr new ↦
       let at : n ≡ v = omega (arith, new, l) in
       subst (P v) (sym (get_or_push xs x d v (count ∙ at))) (subst (λ (w : ℕ). P w x) at here)
 ]
 
-lists-push : (vs : List (Vec ℕ Global)) (v : Vec ℕ Global) → lists_of (vs ++ v ∷ []) ≡ lists_of vs ++ v.items ∷ []
-lists-push vs v = map-append (λ (w : Vec ℕ Global). w.items) vs (v ∷ [])
+lists_push : (vs : List (Vec ℕ Global)) (v : Vec ℕ Global) → lists_of (vs ++ v ∷ []) ≡ lists_of vs ++ v.items ∷ []
+lists_push vs v = map-append (λ (w : Vec ℕ Global). w.items) vs (v ∷ [])
 
 module _ (query : Query) (tables : List Table) (join : JoinTree) where
-  pub no-rows : (rows : List (List ℕ)) → rows ≡ [] → HaveRows query tables join 0 rows
-  no-rows rows none =
+  pub no_rows : (rows : List (List ℕ)) → rows ≡ [] → HaveRows query tables join 0 rows
+  no_rows rows none =
       let n : length rows ≡ 0 = ap length none in
       let s : sum_by length rows ≡ 0 = ap (sum_by length) none in
       record { count = n; each = λ v l. absurd (omega (arith, l)); fewer = λ v l. absurd (omega (arith, l)); limit = omega (arith, s) }
 
-  pub rows-push : (n : ℕ) (vs now : List (Vec ℕ Global)) (v : Vec ℕ Global) → now ≡ vs ++ v ∷ [] → HaveRows query tables join n (lists_of vs)
+  pub rows_push : (n : ℕ) (vs now : List (Vec ℕ Global)) (v : Vec ℕ Global) → now ≡ vs ++ v ∷ [] → HaveRows query tables join n (lists_of vs)
       → AreNodeRows query tables (item_of join n) v.items → length v.items ≤ table_rows query tables join n → length v.items ≤ 1048576
       → HaveRows query tables join (n + 1) (lists_of now)
-  rows-push n vs now v is so_far here few limit =
-      let same : lists_of now ≡ lists_of vs ++ v.items ∷ [] = ap lists_of is ∙ lists-push vs v in
+  rows_push n vs now v is so_far here few limit =
+      let same : lists_of now ≡ lists_of vs ++ v.items ∷ [] = ap lists_of is ∙ lists_push vs v in
       let count = so_far.count in
       let before = so_far.limit in
       let none : List (List ℕ) = [] in
       subst (HaveRows query tables join (n + 1)) (sym same) (record {
         count = omega (arith, count, length-append (lists_of vs) (v.items ∷ []));
-        each = each-more (λ k rows. AreNodeRows query tables (item_of join k) rows) (lists_of vs) v.items [] n count so_far.each here;
-        fewer = each-more (λ k rows. length rows ≤ table_rows query tables join k) (lists_of vs) v.items [] n count so_far.fewer few;
+        each = each_more (λ k rows. AreNodeRows query tables (item_of join k) rows) (lists_of vs) v.items [] n count so_far.each here;
+        fewer = each_more (λ k rows. length rows ≤ table_rows query tables join k) (lists_of vs) v.items [] n count so_far.fewer few;
         limit = omega (arith, before, limit, sum_by-append length (lists_of vs) (v.items ∷ []), sum_by-cons length v.items none);
       })
 
@@ -56,8 +56,8 @@ module _ (bound : BoundQuery) (join : JoinTree) where
   Shares v own above = AreShared bound (item_of join v) (item_of join (parent_of join v))
       (λ x. HasVariable bound.query.equalities bound.variables (item_of join v) x.0 x.1) own above
 
-  pub root-columns : (own above : List (List ℕ)) → own ≡ [] ∷ [] → above ≡ [] ∷ [] → HaveColumns bound join 1 own above
-  root-columns own above is also =
+  pub root_columns : (own above : List (List ℕ)) → own ≡ [] ∷ [] → above ≡ [] ∷ [] → HaveColumns bound join 1 own above
+  root_columns own above is also =
       let n : length own ≡ 1 = ap length is in
       let m : length above ≡ 1 = ap length also in
       record {
@@ -67,9 +67,9 @@ module _ (bound : BoundQuery) (join : JoinTree) where
         each = λ v some l. absurd (omega (arith, some, l));
       }
 
-  columns-append : (n : ℕ) (own above : List (List ℕ)) (x y : List ℕ) → 0 < n → HaveColumns bound join n own above → Shares n x y
+  columns_append : (n : ℕ) (own above : List (List ℕ)) (x y : List ℕ) → 0 < n → HaveColumns bound join n own above → Shares n x y
       → HaveColumns bound join (n + 1) (own ++ x ∷ []) (above ++ y ∷ [])
-  columns-append n own above x y some so_far here =
+  columns_append n own above x y some so_far here =
       let a = so_far.own_count in
       let b = so_far.above_count in
       record {
@@ -88,29 +88,29 @@ module _ (bound : BoundQuery) (join : JoinTree) where
         ];
       }
 
-  pub columns-push : (n : ℕ) (us us' vs vs' : List (Vec ℕ Global)) (u v : Vec ℕ Global) → 0 < n → us' ≡ us ++ u ∷ [] → vs' ≡ vs ++ v ∷ []
+  pub columns_push : (n : ℕ) (us us' vs vs' : List (Vec ℕ Global)) (u v : Vec ℕ Global) → 0 < n → us' ≡ us ++ u ∷ [] → vs' ≡ vs ++ v ∷ []
       → HaveColumns bound join n (lists_of us) (lists_of vs) → Shares n u.items v.items → HaveColumns bound join (n + 1) (lists_of us') (lists_of vs')
-  columns-push n us us' vs vs' u v some is also so_far here =
-      let own : lists_of us' ≡ lists_of us ++ u.items ∷ [] = ap lists_of is ∙ lists-push us u in
-      let above : lists_of vs' ≡ lists_of vs ++ v.items ∷ [] = ap lists_of also ∙ lists-push vs v in
+  columns_push n us us' vs vs' u v some is also so_far here =
+      let own : lists_of us' ≡ lists_of us ++ u.items ∷ [] = ap lists_of is ∙ lists_push us u in
+      let above : lists_of vs' ≡ lists_of vs ++ v.items ∷ [] = ap lists_of also ∙ lists_push vs v in
       subst (λ (p : List (List ℕ)). HaveColumns bound join (n + 1) p (lists_of vs')) (sym own)
       (subst (λ (p : List (List ℕ)). HaveColumns bound join (n + 1) (lists_of us ++ u.items ∷ []) p) (sym above)
-      (columns-append n (lists_of us) (lists_of vs) u.items v.items some so_far here))
+      (columns_append n (lists_of us) (lists_of vs) u.items v.items some so_far here))
 
 module _ (bound : BoundQuery) (tables : List Table) (join : JoinTree) where
-  pub no-shapes : (shapes : List NodeShape) → shapes ≡ [] → AreShapesOf bound tables join 0 shapes
-  no-shapes shapes none =
+  pub no_shapes : (shapes : List NodeShape) → shapes ≡ [] → AreShapesOf bound tables join 0 shapes
+  no_shapes shapes none =
       let n : length shapes ≡ 0 = ap length none in
       record { count = n; parents = λ v l. absurd (omega (arith, l)); items = λ v l. absurd (omega (arith, l)); caps = λ v i l. absurd (omega (arith, l)) }
 
-  pub shapes-push : (n : ℕ) (shapes now : List NodeShape) (s : NodeShape) → now ≡ shapes ++ s ∷ [] → s.parent ≡ parent_of join n → s.item ≡ item_of join n
+  pub shapes_push : (n : ℕ) (shapes now : List NodeShape) (s : NodeShape) → now ≡ shapes ++ s ∷ [] → s.parent ≡ parent_of join n → s.item ≡ item_of join n
       → ((i : ℕ) → cap_of s i ≡ cap_at bound tables (item_of join n) i) → AreShapesOf bound tables join n shapes → AreShapesOf bound tables join (n + 1) now
-  shapes-push n shapes now s is parent item caps so_far =
+  shapes_push n shapes now s is parent item caps so_far =
       let none : NodeShape = record { parent = 0; item = 0; caps = [] } in
       let count = so_far.count in
       subst (AreShapesOf bound tables join (n + 1)) (sym is) (record {
         count = omega (arith, count, length-append shapes (s ∷ []));
-        parents = each-more (λ v (t : NodeShape). t.parent ≡ parent_of join v) shapes s none n count so_far.parents parent;
-        items = each-more (λ v (t : NodeShape). t.item ≡ item_of join v) shapes s none n count so_far.items item;
-        caps = λ v i l. each-more (λ w (t : NodeShape). cap_of t i ≡ cap_at bound tables (item_of join w) i) shapes s none n count (λ w k. so_far.caps w i k) (caps i) v l;
+        parents = each_more (λ v (t : NodeShape). t.parent ≡ parent_of join v) shapes s none n count so_far.parents parent;
+        items = each_more (λ v (t : NodeShape). t.item ≡ item_of join v) shapes s none n count so_far.items item;
+        caps = λ v i l. each_more (λ w (t : NodeShape). cap_of t i ≡ cap_at bound tables (item_of join w) i) shapes s none n count (λ w k. so_far.caps w i k) (caps i) v l;
       })

@@ -7,41 +7,41 @@ use Rattle.join_tree.specs.declared.tree.JoinTree.{JoinTree}
 use Rattle.anyk_model.specs.Table.{Table, table_at}
 use Rattle.anyk_model.specs.Query.{Item, Query, item_table, row_counts}
 use Rattle.query_bind.specs.Parts.{sum_of_all}
-use Rattle.step_bounds.proofs.NodeSums.{fewer-nodes, lengths-fewer, over}
+use Rattle.step_bounds.proofs.NodeSums.{fewer_nodes, lengths_fewer, over}
 use Rattle.node_build.specs.Nodes.{IsJoinTreeOf, item_of}
 use Rattle.node_build.specs.Rows.{HaveRows, table_rows}
 use Rattle.node_build.proofs.Shaped.{apart}
 
 -- a sum over the numbers of a list's elements
-range-map-from : {A : Type 0} (g : A → ℕ) (d : A) (xs : List A) (all : ℕ → A) (a : ℕ) → ((k : ℕ) → k < length xs → get_or xs k d ≡ all (a + k))
+range_map_from : {A : Type 0} (g : A → ℕ) (d : A) (xs : List A) (all : ℕ → A) (a : ℕ) → ((k : ℕ) → k < length xs → get_or xs k d ≡ all (a + k))
     → map (λ i. g (all i)) (range_with_len a (length xs)) ≡ map g xs
-range-map-from g d [] all a h = refl
-range-map-from g d (x ∷ xs) all a h =
+range_map_from g d [] all a h = refl
+range_map_from g d (x ∷ xs) all a h =
     let none : a + 0 ≡ a = omega arith in
     let here : x ≡ all a = h 0 (omega arith) ∙ ap all none in
-    let rest = range-map-from g d xs all (a + 1) (λ k l. let move : a + suc k ≡ a + 1 + k = omega arith in h (suc k) (omega (arith, l)) ∙ ap all move) in
+    let rest = range_map_from g d xs all (a + 1) (λ k l. let move : a + suc k ≡ a + 1 + k = omega arith in h (suc k) (omega (arith, l)) ∙ ap all move) in
     (λ j. g (sym here j) ∷ rest j)
 
-range-map : {A : Type 0} (g : A → ℕ) (d : A) (xs : List A) → map (λ i. g (get_or xs i d)) (range_with_len 0 (length xs)) ≡ map g xs
-range-map g d xs = range-map-from g d xs (λ i. get_or xs i d) 0 (λ k l. let none : 0 + k ≡ k = omega arith in ap (λ (p : ℕ). get_or xs p d) (sym none))
+range_map : {A : Type 0} (g : A → ℕ) (d : A) (xs : List A) → map (λ i. g (get_or xs i d)) (range_with_len 0 (length xs)) ≡ map g xs
+range_map g d xs = range_map_from g d xs (λ i. get_or xs i d) 0 (λ k l. let none : 0 + k ≡ k = omega arith in ap (λ (p : ℕ). get_or xs p d) (sym none))
 
 module _ (query : Query) (tables : List Table) (join : JoinTree) (tree : IsJoinTreeOf query join) (rows : List (List ℕ)) (of_nodes : HaveRows query tables join join.count rows) where
   abbrev rows_in : ℕ → ℕ
   rows_in i = length (item_table query tables i).rows
 
-  pub rows-fewer : sum_by length rows ≤ sum_of_all (row_counts query.items tables)
-  rows-fewer =
+  pub rows_fewer : sum_by length rows ≤ sum_of_all (row_counts query.items tables)
+  rows_fewer =
       let a : sum_by length rows ≤ sum_from ◌+◌ 0 (table_rows query tables join) join.count 0 =
-      lengths-fewer rows join.count (table_rows query tables join) of_nodes.count of_nodes.fewer in
+      lengths_fewer rows join.count (table_rows query tables join) of_nodes.count of_nodes.fewer in
       let b : sum_from ◌+◌ 0 (λ v. rows_in (item_of join v)) join.count 0 ≤ over rows_in (length query.items) =
-      fewer-nodes (length query.items) (item_of join) join.count rows_in (apart query join tree) in
+      fewer_nodes (length query.items) (item_of join) join.count rows_in (apart query join tree) in
       let e : over rows_in (length query.items) ≡ sum_of_all (row_counts query.items tables) =
-      ap sum_of_all (range-map (λ (i : Item). length (table_at tables i.table).rows) (record { table = 0; alias = [] }) query.items) in
+      ap sum_of_all (range_map (λ (i : Item). length (table_at tables i.table).rows) (record { table = 0; alias = [] }) query.items) in
       omega (arith, a, b, e)
 
-  pub cost-within : (old new : ℕ) → new ≤ old + sum_by length rows * join.count → new ≤ old + length query.items * sum_of_all (row_counts query.items tables)
-  cost-within old new h =
-      let fewer = mul-le-mul_right join.count rows-fewer in
+  pub cost_within : (old new : ℕ) → new ≤ old + sum_by length rows * join.count → new ≤ old + length query.items * sum_of_all (row_counts query.items tables)
+  cost_within old new h =
+      let fewer = mul-le-mul_right join.count rows_fewer in
       let count = ap (λ (n : ℕ). sum_of_all (row_counts query.items tables) * n) tree.count in
       let turn : sum_of_all (row_counts query.items tables) * length query.items ≡ length query.items * sum_of_all (row_counts query.items tables) = omega arith in
       omega (arith, h, fewer, count, turn)

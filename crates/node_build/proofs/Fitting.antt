@@ -11,44 +11,44 @@ use Rattle.tdp_core.specs.declared.parts.NodeShape.{NodeShape}
 use Rattle.tdp_core.specs.RawData.{shape_cap, shape_children, shape_item, shape_parent}
 use Rattle.tdp_core.specs.TreeData.{kids_below}
 use Rattle.tdp_core.specs.WellFormed.{RowFits}
-use Rattle.tdp_core.proofs.RowKeys.{row_key-fits}
+use Rattle.tdp_core.proofs.RowKeys.{row_key_fits}
 use Rattle.join_tree.specs.declared.tree.JoinTree.{JoinTree}
 use Rattle.anyk_model.specs.Table.{Table}
-use Rattle.query_bind.specs.Weighed.{BoundQuery}
+use Rattle.query_bind.specs.WeighedQuery.{BoundQuery}
 use Rattle.query_bind.specs.Weights.{cap_of, key_at, part_of}
-use Rattle.query_bind.proofs.Parts.{part-capped}
-use Rattle.step_bounds.proofs.NodeSums.{fewer-nodes, over}
+use Rattle.query_bind.proofs.Parts.{part_capped}
+use Rattle.step_bounds.proofs.NodeSums.{fewer_nodes, over}
 use Rattle.node_build.specs.Nodes.{CapsBelow, cap_at, item_of, parent_of, row_parts}
 use Rattle.node_build.specs.Shapes.{AreShapesOf}
-use Rattle.node_build.proofs.Naming.{kids-ap}
+use Rattle.node_build.proofs.Naming.{kids_ap}
 
-one-term : (f : ℕ → ℕ) (item : ℕ) → sum_from ◌+◌ 0 (λ v. f item) 1 0 ≡ f item
+one_term : (f : ℕ → ℕ) (item : ℕ) → sum_from ◌+◌ 0 (λ v. f item) 1 0 ≡ f item
 unfolding sum_from
-one-term f item = omega arith
+one_term f item = omega arith
 
 -- a term of a sum over all items
-one-of-all : (f : ℕ → ℕ) (n item : ℕ) → item < n → f item ≤ over f n
-one-of-all f n item known =
-    let fewer = fewer-nodes n (λ v. item) 1 f (record { within = λ v a b. known; differ = λ u v a b c. absurd (omega (arith, b, c)) }) in
-    let one = one-term f item in
+one_of_all : (f : ℕ → ℕ) (n item : ℕ) → item < n → f item ≤ over f n
+one_of_all f n item known =
+    let fewer = fewer_nodes n (λ v. item) 1 f (record { within = λ v a b. known; differ = λ u v a b c. absurd (omega (arith, b, c)) }) in
+    let one = one_term f item in
     omega (arith, fewer, one)
 
-pub one-below : (limit : ℕ) (z : ℤ) → unsigned_abs z < limit → All (λ y. unsigned_abs y < limit) (z ∷ [])
-one-below limit z small zero d l = small
-one-below limit z small (suc k) d l = absurd (omega arith)
+pub one_below : (limit : ℕ) (z : ℤ) → unsigned_abs z < limit → All (λ y. unsigned_abs y < limit) (z ∷ [])
+one_below limit z small zero d l = small
+one_below limit z small (suc k) d l = absurd (omega arith)
 
 module _ (bound : BoundQuery) (tables : List Table) where
-  cap-there : (item key : ℕ) → key < length bound.query.order → cap_at bound tables item key ≡ cap_of tables bound.query.items item (key_at bound.query.order key)
-  cap-there item key l = cond-true (nat_lt key (length bound.query.order)) (cap_of tables bound.query.items item (key_at bound.query.order key)) 0 (lt-ltb key (length bound.query.order) l)
+  cap_there : (item key : ℕ) → key < length bound.query.order → cap_at bound tables item key ≡ cap_of tables bound.query.items item (key_at bound.query.order key)
+  cap_there item key l = cond-true (nat_lt key (length bound.query.order)) (cap_of tables bound.query.items item (key_at bound.query.order key)) 0 (lt-ltb key (length bound.query.order) l)
 
-  part-small : (item row i : ℕ) → unsigned_abs (get_or (row_parts bound tables item row) i (pos 0)) ≤ cap_at bound tables item i
-  part-small item row i = elim (cases_lt i (length bound.query.order)) [
+  part_small : (item row i : ℕ) → unsigned_abs (get_or (row_parts bound tables item row) i (pos 0)) ≤ cap_at bound tables item i
+  part_small item row i = elim (cases_lt i (length bound.query.order)) [
     | inl l ↦
         let key = key_at bound.query.order i in
         let at : get_or (row_parts bound tables item row) i (pos 0) ≡ part_of tables bound.query.items item row key =
         get_or-map (part_of tables bound.query.items item row) bound.query.order i (record { terms = []; descending = false }) (pos 0) l in
-        let cap = cap-there item i l in
-        let small : unsigned_abs (part_of tables bound.query.items item row key) ≤ cap_of tables bound.query.items item key = part-capped tables bound.query.items row item key in
+        let cap = cap_there item i l in
+        let small : unsigned_abs (part_of tables bound.query.items item row key) ≤ cap_of tables bound.query.items item key = part_capped tables bound.query.items row item key in
         let same : unsigned_abs (get_or (row_parts bound tables item row) i (pos 0)) ≡ unsigned_abs (part_of tables bound.query.items item row key) = ap unsigned_abs at in
         omega (arith, same, cap, small)
     | inr g ↦
@@ -59,36 +59,36 @@ module _ (bound : BoundQuery) (tables : List Table) where
   ]
 
   module _ (limit item row : ℕ) (below : CapsBelow limit bound tables) (known : item < length bound.query.items) where
-    at-below : (i z : ℕ) → z ≤ cap_at bound tables item i → z < limit
-    at-below i z small =
-        let one = one-of-all (λ k. cap_at bound tables k i) (length bound.query.items) item known in
+    at_below : (i z : ℕ) → z ≤ cap_at bound tables item i → z < limit
+    at_below i z small =
+        let one = one_of_all (λ k. cap_at bound tables k i) (length bound.query.items) item known in
         let all = below i in
         omega (arith, small, one, all)
 
     -- the part of a row is below what the caps of all items are below
-    pub part-below : (key : ℕ) → key < length bound.query.order → unsigned_abs (part_of tables bound.query.items item row (key_at bound.query.order key)) < limit
-    part-below key there =
-        let cap = cap-there item key there in
+    pub part_below : (key : ℕ) → key < length bound.query.order → unsigned_abs (part_of tables bound.query.items item row (key_at bound.query.order key)) < limit
+    part_below key there =
+        let cap = cap_there item key there in
         let small : unsigned_abs (part_of tables bound.query.items item row (key_at bound.query.order key)) ≤ cap_of tables bound.query.items item (key_at bound.query.order key) =
-        part-capped tables bound.query.items row item (key_at bound.query.order key) in
-        at-below key (unsigned_abs (part_of tables bound.query.items item row (key_at bound.query.order key))) (omega (arith, cap, small))
+        part_capped tables bound.query.items row item (key_at bound.query.order key) in
+        at_below key (unsigned_abs (part_of tables bound.query.items item row (key_at bound.query.order key))) (omega (arith, cap, small))
 
     -- so are all parts of a row
-    pub parts-below : All (λ z. unsigned_abs z < limit) (row_parts bound tables item row)
-    parts-below = All-from_get_or (λ z. unsigned_abs z < limit) (row_parts bound tables item row) (pos 0)
-        (λ i l. at-below i (unsigned_abs (get_or (row_parts bound tables item row) i (pos 0))) (part-small item row i))
+    pub parts_below : All (λ z. unsigned_abs z < limit) (row_parts bound tables item row)
+    parts_below = All-from_get_or (λ z. unsigned_abs z < limit) (row_parts bound tables item row) (pos 0)
+        (λ i l. at_below i (unsigned_abs (get_or (row_parts bound tables item row) i (pos 0))) (part_small item row i))
 
   module _ (join : JoinTree) (shapes : List NodeShape) (of_join : AreShapesOf bound tables join join.count shapes) (v : ℕ) (l : v < join.count) where
-    pub row-fits : (d row : ℕ) (k : KeyOf d 16) → item_of join v < 16 → row < 2 ^ 21 → k ≡ row_key d (row_parts bound tables (item_of join v) row) (item_of join v) row
+    pub row_fits : (d row : ℕ) (k : KeyOf d 16) → item_of join v < 16 → row < 2 ^ 21 → k ≡ row_key d (row_parts bound tables (item_of join v) row) (item_of join v) row
         → RowFits d (shape_item shapes v) (shape_cap shapes v) row k
-    row-fits d row k few low is =
+    row_fits d row k few low is =
         let item = of_join.items v l in
         subst (RowFits d (shape_item shapes v) (shape_cap shapes v) row) (sym is)
         (subst (λ (i : ℕ). RowFits d i (shape_cap shapes v) row (row_key d (row_parts bound tables (item_of join v) row) (item_of join v) row)) (sym item)
-        (row_key-fits d (row_parts bound tables (item_of join v) row) (item_of join v) row (shape_cap shapes v) few low
-        (λ i h. let cap = of_join.caps v i l in let small = part-small (item_of join v) row i in omega (arith, cap, small))))
+        (row_key_fits d (row_parts bound tables (item_of join v) row) (item_of join v) row (shape_cap shapes v) few low
+        (λ i h. let cap = of_join.caps v i l in let small = part_small (item_of join v) row i in omega (arith, cap, small))))
 
-    pub children-are : kids_below (parent_of join) v join.count ≡ shape_children shapes v
-    children-are =
-        kids-ap (parent_of join) (shape_parent shapes) v join.count (λ q h. sym (of_join.parents q h))
+    pub children_are : kids_below (parent_of join) v join.count ≡ shape_children shapes v
+    children_are =
+        kids_ap (parent_of join) (shape_parent shapes) v join.count (λ q h. sym (of_join.parents q h))
         ∙ ap (kids_below (shape_parent shapes) v) (sym of_join.count)

@@ -10,11 +10,11 @@ use Rattle.tdp_model.specs.KeyTuple.{KeyOf}
 use Rattle.tdp_core.specs.RawData.{RawData, RawRowData, row_total, rows_at, with_row}
 use Rattle.join_tree.specs.declared.tree.JoinTree.{JoinTree}
 use Rattle.anyk_model.specs.Table.{Table}
-use Rattle.query_bind.specs.Weighed.{BoundQuery}
-use Rattle.node_build.specs.Filled.{AreFilled, HasOnlyMore}
+use Rattle.query_bind.specs.WeighedQuery.{BoundQuery}
+use Rattle.node_build.specs.PartialTrees.{AreFilled, HasOnlyMore}
 use Rattle.counted_index.specs.Pairs.{AreMore}
 use Rattle.node_build.specs.Links.{HasRowsOf, IsRowOf}
-use Rattle.node_build.proofs.Numbering.{link-kept}
+use Rattle.node_build.proofs.Numbering.{link_kept}
 
 sum_set : {X : Type 0} (xss : List (List X)) (v : ℕ) (x : X) → v < length xss → sum_by length (set xss v (get_or xss v [] ++ x ∷ [])) ≡ sum_by length xss + 1
 sum_set [] v x l = absurd (omega arith)
@@ -23,15 +23,15 @@ sum_set (xs ∷ xss) (suc v) x l =
     omega (arith, sum_by-cons length xs xss, sum_by-cons length xs (set xss v (get_or xss v [] ++ x ∷ [])), sum_set xss v x (omega arith))
 
 module _ {R : Type 0} where
-  pub only-none : (v : ℕ) (t : RawData R) → HasOnlyMore v 0 t t
-  only-none v t = record { shapes = refl; each_node = refl; others = λ u other. refl; total = omega arith }
+  pub only_none : (v : ℕ) (t : RawData R) → HasOnlyMore v 0 t t
+  only_none v t = record { shapes = refl; each_node = refl; others = λ u other. refl; total = omega arith }
 
   -- the rows of a node with one more
-  pub rows-now : (t new : RawData R) (v : ℕ) (x : RawRowData R) → v < length t.rows → new ≡ with_row t v x → rows_at new v ≡ rows_at t v ++ x ∷ []
-  rows-now t new v x inside is = ap (λ (n : RawData R). rows_at n v) is ∙ get_or-set_same t.rows v (rows_at t v ++ x ∷ []) [] inside
+  pub rows_now : (t new : RawData R) (v : ℕ) (x : RawRowData R) → v < length t.rows → new ≡ with_row t v x → rows_at new v ≡ rows_at t v ++ x ∷ []
+  rows_now t new v x inside is = ap (λ (n : RawData R). rows_at n v) is ∙ get_or-set_same t.rows v (rows_at t v ++ x ∷ []) [] inside
 
-  pub only-more : (first t new : RawData R) (v n : ℕ) (x : RawRowData R) → v < length t.rows → HasOnlyMore v n first t → new ≡ with_row t v x → HasOnlyMore v (n + 1) first new
-  only-more first t new v n x inside so_far is =
+  pub only_more : (first t new : RawData R) (v n : ℕ) (x : RawRowData R) → v < length t.rows → HasOnlyMore v n first t → new ≡ with_row t v x → HasOnlyMore v (n + 1) first new
+  only_more first t new v n x inside so_far is =
       let before = so_far.total in
       let one = sum_set t.rows v x inside in
       let now : row_total new ≡ row_total (with_row t v x) = ap (λ (m : RawData R). row_total m) is in
@@ -43,8 +43,8 @@ module _ {R : Type 0} where
       }
 
 -- an element of a list with one more at the end
-last-or-before : {A : Type 0} (xs : List A) (x y : A) (r : ℕ) → slice_get (xs ++ x ∷ []) r ≡ Some y → (slice_get xs r ≡ Some y) ⊎ ((r ≡ length xs) × (x ≡ y))
-last-or-before xs x y r e = elim (cases_lt r (length xs)) [
+last_or_before : {A : Type 0} (xs : List A) (x y : A) (r : ℕ) → slice_get (xs ++ x ∷ []) r ≡ Some y → (slice_get xs r ≡ Some y) ⊎ ((r ≡ length xs) × (x ≡ y))
+last_or_before xs x y r e = elim (cases_lt r (length xs)) [
   | inl l ↦ inl (slice_get_read xs (length xs) r y refl l (sym (sym (get_or_append_left xs (x ∷ []) y r l) ∙ get_or_from_slice_get (xs ++ x ∷ []) r y y e)))
   | inr g ↦
       let within = slice_get_within (xs ++ x ∷ []) r y e in
@@ -54,35 +54,35 @@ last-or-before xs x y r e = elim (cases_lt r (length xs)) [
 
 module _ (bound : BoundQuery) (tables : List Table) (join : JoinTree) (own above : List (List ℕ)) {R : Type 0} (d : ℕ) (key : R → KeyOf d 16) where
   -- a row keeps its links when more pairs are numbered
-  row-kept : (old new : List (List (ℕ × ℕ))) (v row : ℕ) (x : RawRowData R) → AreMore old new → IsRowOf bound tables join own above d key old v row x
+  row_kept : (old new : List (List (ℕ × ℕ))) (v row : ℕ) (x : RawRowData R) → AreMore old new → IsRowOf bound tables join own above d key old v row x
       → IsRowOf bound tables join own above d key new v row x
-  row-kept old new v row x more h = record {
+  row_kept old new v row x more h = record {
     number = h.number;
     rank = h.rank;
-    link = link-kept old new v x.own _ more h.link;
-    children = λ q some l is. link-kept old new q _ _ more (h.children q some l is);
+    link = link_kept old new v x.own _ more h.link;
+    children = λ q some l is. link_kept old new q _ _ more (h.children q some l is);
   }
 
-  pub rows-kept : (old new : List (List (ℕ × ℕ))) (v n : ℕ) (rows : List ℕ) (xs : List (RawRowData R)) → AreMore old new
+  pub rows_kept : (old new : List (List (ℕ × ℕ))) (v n : ℕ) (rows : List ℕ) (xs : List (RawRowData R)) → AreMore old new
       → HasRowsOf bound tables join own above d key old v n rows xs → HasRowsOf bound tables join own above d key new v n rows xs
-  rows-kept old new v n rows xs more h = record { count = h.count; each = λ r x is. row-kept old new v (get_or rows r 0) x more (h.each r x is) }
+  rows_kept old new v n rows xs more h = record { count = h.count; each = λ r x is. row_kept old new v (get_or rows r 0) x more (h.each r x is) }
 
-  pub no-rows : (names : List (List (ℕ × ℕ))) (v : ℕ) (rows : List ℕ) (xs : List (RawRowData R)) → xs ≡ [] → HasRowsOf bound tables join own above d key names v 0 rows xs
-  no-rows names v rows xs none =
+  pub no_rows : (names : List (List (ℕ × ℕ))) (v : ℕ) (rows : List ℕ) (xs : List (RawRowData R)) → xs ≡ [] → HasRowsOf bound tables join own above d key names v 0 rows xs
+  no_rows names v rows xs none =
       let n : length xs ≡ 0 = ap length none in
       record { count = n; each = λ r x is. absurd (let l = slice_get_within xs r x is in omega (arith, l, n)) }
 
   -- one more row of a node
-  pub rows-more : (old new : List (List (ℕ × ℕ))) (v n row : ℕ) (rows : List ℕ) (xs now : List (RawRowData R)) (x : RawRowData R) → AreMore old new → row ≡ get_or rows n 0
+  pub rows_more : (old new : List (List (ℕ × ℕ))) (v n row : ℕ) (rows : List ℕ) (xs now : List (RawRowData R)) (x : RawRowData R) → AreMore old new → row ≡ get_or rows n 0
       → now ≡ xs ++ x ∷ [] → HasRowsOf bound tables join own above d key old v n rows xs → IsRowOf bound tables join own above d key new v row x
       → HasRowsOf bound tables join own above d key new v (n + 1) rows now
-  rows-more old new v n row rows xs now x more at is so_far here =
+  rows_more old new v n row rows xs now x more at is so_far here =
       let Has : ℕ → RawRowData R → Type 0 = λ r y. IsRowOf bound tables join own above d key new v r y in
       let count = so_far.count in
       record {
         count = ap length is ∙ length-append xs (x ∷ []) ∙ ap (λ (k : ℕ). k + 1) count;
-        each = λ r y e. elim (last-or-before xs x y r (ap (λ (l : List (RawRowData R)). slice_get l r) (sym is) ∙ e)) [
-          | inl before ↦ row-kept old new v (get_or rows r 0) y more (so_far.each r y before)
+        each = λ r y e. elim (last_or_before xs x y r (ap (λ (l : List (RawRowData R)). slice_get l r) (sym is) ∙ e)) [
+          | inl before ↦ row_kept old new v (get_or rows r 0) y more (so_far.each r y before)
           | inr (place, same) ↦
               let here_at : IsRowOf bound tables join own above d key new v (get_or rows r 0) x =
               subst (λ (w : ℕ). Has w x) (at ∙ ap (λ (k : ℕ). get_or rows k 0) (sym (place ∙ count))) here in
@@ -91,11 +91,11 @@ module _ (bound : BoundQuery) (tables : List Table) (join : JoinTree) (own above
       }
 
   -- the rows of one more node
-  pub filled-more : (old new : List (List (ℕ × ℕ))) (n : ℕ) (rows : List (List ℕ)) (t now : RawData R) → AreMore old new → n < length rows
+  pub filled_more : (old new : List (List (ℕ × ℕ))) (n : ℕ) (rows : List (List ℕ)) (t now : RawData R) → AreMore old new → n < length rows
       → AreFilled bound tables join own above d key old n rows t → HasOnlyMore n (length (get_or rows n [])) t now
       → HasRowsOf bound tables join own above d key new n (length (get_or rows n [])) (get_or rows n []) (rows_at now n)
       → AreFilled bound tables join own above d key new (n + 1) rows now
-  filled-more old new n rows t now more inside so_far only here =
+  filled_more old new n rows t now more inside so_far only here =
       let total = so_far.total in
       let added = only.total in
       let one = sum_by_more length rows n [] inside in
@@ -104,7 +104,7 @@ module _ (bound : BoundQuery) (tables : List Table) (join : JoinTree) (own above
         filled = λ v l. elim (cases_eq v n) [
           | inl same ↦ subst (λ (u : ℕ). HasRowsOf bound tables join own above d key new u (length (get_or rows u [])) (get_or rows u []) (rows_at now u)) (sym same) here
           | inr other ↦
-              let h = rows-kept old new v (length (get_or rows v [])) (get_or rows v []) (rows_at t v) more (so_far.filled v (omega (arith, l, other))) in
+              let h = rows_kept old new v (length (get_or rows v [])) (get_or rows v []) (rows_at t v) more (so_far.filled v (omega (arith, l, other))) in
               subst (HasRowsOf bound tables join own above d key new v (length (get_or rows v [])) (get_or rows v [])) (sym (only.others v other)) h
         ];
         empty = λ v l. only.others v (omega (arith, l)) ∙ so_far.empty v (omega (arith, l));

@@ -11,87 +11,87 @@ use Rattle.join_tree.specs.declared.tree.JoinTree.{JoinTree}
 use Rattle.anyk_model.specs.Table.{Table}
 use Rattle.anyk_model.specs.Query.{Query}
 use Rattle.query_bind.specs.Parts.{sum_of_all}
-use Rattle.query_bind.specs.Weighed.{BoundQuery}
+use Rattle.query_bind.specs.WeighedQuery.{BoundQuery}
 use Rattle.query_bind.proofs.Parts.{counts}
-use Rattle.step_bounds.proofs.NodeSums.{fewer-nodes, over, sum-fewer, sum-same}
+use Rattle.step_bounds.proofs.NodeSums.{fewer_nodes, over, sum_fewer, sum_same}
 use Rattle.node_build.specs.Nodes.{CapsBelow, IsJoinTreeOf, cap_at, item_of}
 use Rattle.node_build.specs.Shapes.{AreShapesOf}
-use Rattle.node_build.proofs.Shaped.{apart, item-known, over-none}
+use Rattle.node_build.proofs.Shaped.{apart, item_known, over_none}
 
 -- what an item adds to slot i, if the numbers of its rows are at most `most`
 abbrev slot_most : (most i item : ℕ) → ℕ
 slot_most most i item = cond (nat_eq i item) most 0
 
-slot-counted : (most i item : ℕ) → slot_most most i item ≡ cond (i == item) (most + 0) 0
-slot-counted most i item = by (nat_eq i item)
+slot_counted : (most i item : ℕ) → slot_most most i item ≡ cond (i == item) (most + 0) 0
+slot_counted most i item = by (nat_eq i item)
   where
     by : (b : Bool) → cond b most 0 ≡ cond b (most + 0) 0
     by true = omega arith
     by false = refl
 
-over-ap : (f g : ℕ → ℕ) (ns : List ℕ) → ((i : ℕ) → f i ≡ g i) → sum_of_all (map f ns) ≡ sum_of_all (map g ns)
-over-ap f g ns e = ap (λ (h : ℕ → ℕ). sum_of_all (map h ns)) (λ j i. e i j)
+over_ap : (f g : ℕ → ℕ) (ns : List ℕ) → ((i : ℕ) → f i ≡ g i) → sum_of_all (map f ns) ≡ sum_of_all (map g ns)
+over_ap f g ns e = ap (λ (h : ℕ → ℕ). sum_of_all (map h ns)) (λ j i. e i j)
 
 -- of all items, one has slot i
-one-slot : (most i n : ℕ) → i < n → over (slot_most most i) n ≡ most
-one-slot most i n inside =
-    over-ap (slot_most most i) (λ k. cond (i == k) (most + 0) 0) (range_with_len 0 n) (slot-counted most i)
+one_slot : (most i n : ℕ) → i < n → over (slot_most most i) n ≡ most
+one_slot most i n inside =
+    over_ap (slot_most most i) (λ k. cond (i == k) (most + 0) 0) (range_with_len 0 n) (slot_counted most i)
     ∙ counts i (λ k. most) (λ k. 0) 0 n (omega arith) (omega (arith, inside))
-    ∙ (let none = over-none (range_with_len 0 n) in omega (arith, none))
+    ∙ (let none = over_none (range_with_len 0 n) in omega (arith, none))
 
 module _ (query : Query) (join : JoinTree) (tree : IsJoinTreeOf query join) (most : ℕ) where
   abbrev slot_total : ℕ → ℕ
   slot_total i = sum_from ◌+◌ 0 (λ v. slot_most most i (item_of join v)) join.count 0
 
-  slot-small : (i : ℕ) → i < length query.items → slot_total i ≤ most
-  slot-small i inside =
-      let few = fewer-nodes (length query.items) (item_of join) join.count (slot_most most i) (apart query join tree) in
-      let one = one-slot most i (length query.items) inside in
+  slot_small : (i : ℕ) → i < length query.items → slot_total i ≤ most
+  slot_small i inside =
+      let few = fewer_nodes (length query.items) (item_of join) join.count (slot_most most i) (apart query join tree) in
+      let one = one_slot most i (length query.items) inside in
       omega (arith, few, one)
 
-  slot-none : (i : ℕ) → length query.items ≤ i → slot_total i ≡ 0
-  slot-none i past =
-      let each = sum-fewer (λ v. slot_most most i (item_of join v)) (λ v. 0) join.count 0
-      (λ v a b. let known = item-known query join tree v (omega (arith, b)) in
+  slot_none : (i : ℕ) → length query.items ≤ i → slot_total i ≡ 0
+  slot_none i past =
+      let each = sum_fewer (λ v. slot_most most i (item_of join v)) (λ v. 0) join.count 0
+      (λ v a b. let known = item_known query join tree v (omega (arith, b)) in
       let none = cond-false (nat_eq i (item_of join v)) most 0 (ne_eqb i (item_of join v) (λ same. omega (arith, same, known, past))) in
       omega (arith, none)) in
-      let few = fewer-nodes (length query.items) (item_of join) join.count (λ item. 0) (apart query join tree) in
-      let zero = over-none (range_with_len 0 (length query.items)) in
+      let few = fewer_nodes (length query.items) (item_of join) join.count (λ item. 0) (apart query join tree) in
+      let zero = over_none (range_with_len 0 (length query.items)) in
       omega (arith, each, few, zero)
 
 module _ (bound : BoundQuery) (tables : List Table) (join : JoinTree) (tree : IsJoinTreeOf bound.query join)
     (shapes : List NodeShape) (of_join : AreShapesOf bound tables join join.count shapes) where
   -- ranks that hold each key within these bounds hold what rows of the nodes can add up to
-  pub shapes-held : {R : Type 0} (d : ℕ) (key : R → KeyOf d 16) (items limit rows : ℕ)
+  pub shapes_held : {R : Type 0} (d : ℕ) (key : R → KeyOf d 16) (items limit rows : ℕ)
       → ((k : KeyOf d 16) → IsWithin d items limit rows k → IsHeld d key k) → 2 ^ 21 ≤ rows
       → length bound.query.items ≤ items → CapsBelow limit bound tables → AreShapesHeld d key shapes
-  shapes-held d key items limit rows holds wide slots below k within =
+  shapes_held d key items limit rows holds wide slots below k within =
       let most : ℕ = 2 ^ 21 - 1 in
       let nodes : (f : ℕ → ℕ) → sum_from ◌+◌ 0 f (length shapes) 0 ≡ sum_from ◌+◌ 0 f join.count 0 =
       λ f. ap (λ (m : ℕ). sum_from ◌+◌ 0 f m 0) of_join.count in
       let slot_in : (i : ℕ) → sum_from ◌+◌ 0 (λ v. slot_most most i (shape_item shapes v)) (length shapes) 0 ≡ slot_total bound.query join tree most i =
       λ i. nodes (λ v. slot_most most i (shape_item shapes v))
-      ∙ sum-same (λ v. slot_most most i (shape_item shapes v)) (λ v. slot_most most i (item_of join v)) join.count 0
+      ∙ sum_same (λ v. slot_most most i (shape_item shapes v)) (λ v. slot_most most i (item_of join v)) join.count 0
       (λ v a b. ap (slot_most most i) (of_join.items v (omega (arith, b)))) in
       holds k (record {
         sums = λ i l.
             let here = within.0 i l in
             let all = nodes (λ v. shape_cap shapes v i) in
-            let same = sum-same (λ v. shape_cap shapes v i) (λ v. cap_at bound tables (item_of join v) i) join.count 0
+            let same = sum_same (λ v. shape_cap shapes v i) (λ v. cap_at bound tables (item_of join v) i) join.count 0
             (λ v a b. of_join.caps v i (omega (arith, b))) in
-            let fewer = fewer-nodes (length bound.query.items) (item_of join) join.count (λ item. cap_at bound tables item i) (apart bound.query join tree) in
+            let fewer = fewer_nodes (length bound.query.items) (item_of join) join.count (λ item. cap_at bound tables item i) (apart bound.query join tree) in
             let small = below i in
             omega (arith, here, all, same, fewer, small);
         slots = λ i l.
             let here = within.1 i l in
             let same = slot_in i in
             elim (cases_lt i (length bound.query.items)) [
-              | inl inside ↦ (let small = slot-small bound.query join tree most i inside in omega (arith, here, same, small, wide))
-              | inr past ↦ (let none = slot-none bound.query join tree most i past in omega (arith, here, same, none, wide))
+              | inl inside ↦ (let small = slot_small bound.query join tree most i inside in omega (arith, here, same, small, wide))
+              | inr past ↦ (let none = slot_none bound.query join tree most i past in omega (arith, here, same, none, wide))
             ];
         none = λ i past l.
             let here = within.1 i l in
             let same = slot_in i in
-            let none = slot-none bound.query join tree most i (omega (arith, past, slots)) in
+            let none = slot_none bound.query join tree most i (omega (arith, past, slots)) in
             omega (arith, here, same, none);
       })

@@ -3,60 +3,60 @@ use Rattle.std.proofs.Common.{◌≡◌, ◌≢◌, ◌<◌, ◌≤◌, ◌+◌,
 use Rattle.std.proofs.lemmas.Bool.{cases_eq}
 use Rattle.std.proofs.lemmas.List.{get_or-map, get_or_append_left, get_or_push, length-map}
 use Rattle.tdp_core.specs.TreeData.{kids_below}
-use Rattle.tdp_core.proofs.Children.{child_place_within, kids_below-child, kids_below-first, kids_below-other}
+use Rattle.tdp_core.proofs.Children.{child_place_within, kids_below_child, kids_below_first, kids_below_other}
 use Rattle.join_tree.specs.declared.tree.JoinTree.{JoinTree}
 use Rattle.anyk_model.specs.Table.{Table, table_at}
 use Rattle.query_bind.specs.Names.{item_at}
-use Rattle.query_bind.specs.Weighed.{BoundQuery, Fits}
+use Rattle.query_bind.specs.WeighedQuery.{BoundQuery, Fits}
 use Rattle.node_build.specs.Columns.{HaveColumns}
 use Rattle.counted_index.specs.Pairs.{AreMore}
 use Rattle.node_build.specs.Links.{IsLink, NamesLinks, values_at}
 use Rattle.node_build.specs.Nodes.{item_of, parent_of}
 use Rattle.node_build.specs.Rows.{lists_of}
-use Rattle.node_build.proofs.Agreement.{other-inside, own-inside}
-use Rattle.node_build.proofs.Numbering.{link-kept}
+use Rattle.node_build.proofs.Agreement.{other_inside, own_inside}
+use Rattle.node_build.proofs.Numbering.{link_kept}
 
 -- ---- the children of a node
 
-pub kids-first : (parent : ℕ → ℕ) (v : ℕ) → kids_below parent v 1 ≡ 0
-kids-first parent v = kids_below-first parent v
+pub kids_first : (parent : ℕ → ℕ) (v : ℕ) → kids_below parent v 1 ≡ 0
+kids_first parent v = kids_below_first parent v
 
 -- fewer children than nodes
-pub kids-few : (parent : ℕ → ℕ) (v n : ℕ) → kids_below parent v (suc n) ≤ n
-kids-few parent v zero = let one : suc 0 ≡ 1 = refl in omega (arith, kids_below-first parent v)
-kids-few parent v (suc n) =
-    let before = kids-few parent v n in
+pub kids_few : (parent : ℕ → ℕ) (v n : ℕ) → kids_below parent v (suc n) ≤ n
+kids_few parent v zero = let one : suc 0 ≡ 1 = refl in omega (arith, kids_below_first parent v)
+kids_few parent v (suc n) =
+    let before = kids_few parent v n in
     let next : suc n + 1 ≡ suc (suc n) = omega arith in
     let same = ap (kids_below parent v) next in
     elim (cases_eq (parent (suc n)) v) [
-      | inl e ↦ omega (arith, kids_below-child parent v (suc n) (omega arith) e, before, same)
-      | inr e ↦ omega (arith, kids_below-other parent v (suc n) e, before, same)
+      | inl e ↦ omega (arith, kids_below_child parent v (suc n) (omega arith) e, before, same)
+      | inr e ↦ omega (arith, kids_below_other parent v (suc n) e, before, same)
     ]
 
-pub kids-below : (parent : ℕ → ℕ) (v n : ℕ) → 1 ≤ n → kids_below parent v n + 1 ≤ n
-kids-below parent v zero some = absurd (omega (arith, some))
-kids-below parent v (suc n) some = let h = kids-few parent v n in omega (arith, h)
+pub kids_below_lem : (parent : ℕ → ℕ) (v n : ℕ) → 1 ≤ n → kids_below parent v n + 1 ≤ n
+kids_below_lem parent v zero some = absurd (omega (arith, some))
+kids_below_lem parent v (suc n) some = let h = kids_few parent v n in omega (arith, h)
 
 -- the same for two functions that agree
-pub kids-ap : (parent other : ℕ → ℕ) (v n : ℕ) → ((q : ℕ) → q < n → parent q ≡ other q) → kids_below parent v n ≡ kids_below other v n
+pub kids_ap : (parent other : ℕ → ℕ) (v n : ℕ) → ((q : ℕ) → q < n → parent q ≡ other q) → kids_below parent v n ≡ kids_below other v n
 unfolding kids_below
-kids-ap parent other v zero e = refl
-kids-ap parent other v (suc n) e =
+kids_ap parent other v zero e = refl
+kids_ap parent other v (suc n) e =
     let here = e n (omega arith) in
-    (λ j. kids-ap parent other v n (λ q l. e q (omega (arith, l))) j + cond {A = ℕ} (nat_lt 0 n) (cond {A = ℕ} (nat_eq (here j) v) 1 0) 0)
+    (λ j. kids_ap parent other v n (λ q l. e q (omega (arith, l))) j + cond {A = ℕ} (nat_lt 0 n) (cond {A = ℕ} (nat_eq (here j) v) 1 0) 0)
 
-kids-more : (parent : ℕ → ℕ) (v n k : ℕ) → kids_below parent v n ≤ kids_below parent v (k + n)
+kids_more : (parent : ℕ → ℕ) (v n k : ℕ) → kids_below parent v n ≤ kids_below parent v (k + n)
 unfolding kids_below
-kids-more parent v n zero = let same : 0 + n ≡ n = omega arith in omega (arith, ap (kids_below parent v) same)
-kids-more parent v n (suc k) =
+kids_more parent v n zero = let same : 0 + n ≡ n = omega arith in omega (arith, ap (kids_below parent v) same)
+kids_more parent v n (suc k) =
     let next : suc k + n ≡ suc (k + n) = omega arith in
-    omega (arith, ap (kids_below parent v) next, kids-more parent v n k)
+    omega (arith, ap (kids_below parent v) next, kids_more parent v n k)
 
 -- no fewer among more nodes
-pub kids-rise : (parent : ℕ → ℕ) (v n m : ℕ) → n ≤ m → kids_below parent v n ≤ kids_below parent v m
-kids-rise parent v n m l =
+pub kids_rise : (parent : ℕ → ℕ) (v n m : ℕ) → n ≤ m → kids_below parent v n ≤ kids_below parent v m
+kids_rise parent v n m l =
     let all : m - n + n ≡ m = omega (arith, l) in
-    omega (arith, kids-more parent v n (m - n), ap (kids_below parent v) all)
+    omega (arith, kids_more parent v n (m - n), ap (kids_below parent v) all)
 
 -- ---- names
 
@@ -64,19 +64,19 @@ module _ (bound : BoundQuery) (tables : List Table) (join : JoinTree) (own above
   abbrev Names : List (List (ℕ × ℕ)) → ℕ → ℕ → ℕ → List ℕ → Type 0
   Names = NamesLinks bound tables join own above
 
-  pub names-none : (names : List (List (ℕ × ℕ))) (v row : ℕ) (children : List ℕ) → Names names v row 1 children
-  names-none names v row children q some l is = absurd (omega (arith, some, l))
+  pub names_none : (names : List (List (ℕ × ℕ))) (v row : ℕ) (children : List ℕ) → Names names v row 1 children
+  names_none names v row children q some l is = absurd (omega (arith, some, l))
 
-  pub names-skip : (names : List (List (ℕ × ℕ))) (v row n : ℕ) (children : List ℕ) → parent_of join n ≢ v → Names names v row n children → Names names v row (n + 1) children
-  names-skip names v row n children other so_far q some l is = elim (cases_eq q n) [
+  pub names_skip : (names : List (List (ℕ × ℕ))) (v row n : ℕ) (children : List ℕ) → parent_of join n ≢ v → Names names v row n children → Names names v row (n + 1) children
+  names_skip names v row n children other so_far q some l is = elim (cases_eq q n) [
     | inl same ↦ absurd (other (ap (parent_of join) (sym same) ∙ is))
     | inr differ ↦ so_far q some (omega (arith, l, differ)) is
   ]
 
-  pub names-more : (old new : List (List (ℕ × ℕ))) (v row n : ℕ) (children now : List ℕ) (link : ℕ) → AreMore old new → 0 < n → parent_of join n ≡ v
+  pub names_more : (old new : List (List (ℕ × ℕ))) (v row n : ℕ) (children now : List ℕ) (link : ℕ) → AreMore old new → 0 < n → parent_of join n ≡ v
       → length children ≡ kids_below (parent_of join) v n → now ≡ children ++ link ∷ [] → Names old v row n children
       → IsLink new n link (values_at bound tables join own above v row (get_or above n [])) → Names new v row (n + 1) now
-  names-more old new v row n children now link more past below count is so_far here q some l up = elim (cases_eq q n) [
+  names_more old new v row n children now link more past below count is so_far here q some l up = elim (cases_eq q n) [
     | inl same ↦
         let at : length children ≡ kids_below (parent_of join) v q = count ∙ ap (kids_below (parent_of join) v) (sym same) in
         let last : get_or now (kids_below (parent_of join) v q) 0 ≡ link =
@@ -94,24 +94,24 @@ module _ (bound : BoundQuery) (tables : List Table) (join : JoinTree) (own above
         let kept : get_or now (kids_below (parent_of join) v q) 0 ≡ get_or children (kids_below (parent_of join) v q) 0 =
         ap (λ (xs : List ℕ). get_or xs (kids_below (parent_of join) v q) 0) is ∙ get_or_append_left children (link ∷ []) 0 (kids_below (parent_of join) v q) inside in
         subst (λ (k : ℕ). IsLink new q k (values_at bound tables join own above v row (get_or above q []))) (sym kept)
-        (link-kept old new q _ _ more (so_far q some before up))
+        (link_kept old new q _ _ more (so_far q some before up))
   ]
 
 -- ---- the columns of a node
 
 -- the list in a vector of some
-pub list-at : (vs : List (Vec ℕ Global)) (i : ℕ) (v : Vec ℕ Global) → i < length vs → v ≡ get_or vs i v → get_or (lists_of vs) i [] ≡ v.items
-list-at vs i v inside is = get_or-map (λ (w : Vec ℕ Global). w.items) vs i v [] inside ∙ ap (λ (w : Vec ℕ Global). w.items) (sym is)
+pub list_at : (vs : List (Vec ℕ Global)) (i : ℕ) (v : Vec ℕ Global) → i < length vs → v ≡ get_or vs i v → get_or (lists_of vs) i [] ≡ v.items
+list_at vs i v inside is = get_or-map (λ (w : Vec ℕ Global). w.items) vs i v [] inside ∙ ap (λ (w : Vec ℕ Global). w.items) (sym is)
 
-pub lists-length : (vs : List (Vec ℕ Global)) → length (lists_of vs) ≡ length vs
-lists-length vs = length-map vs (λ (w : Vec ℕ Global). w.items)
+pub lists_length : (vs : List (Vec ℕ Global)) → length (lists_of vs) ≡ length vs
+lists_length vs = length-map vs (λ (w : Vec ℕ Global). w.items)
 
 module _ (bound : BoundQuery) (tables : List Table) (fits : Fits bound tables) (join : JoinTree) (own above : List (List ℕ)) (columns : HaveColumns bound join join.count own above) where
   -- the columns of a child's parent are there
-  pub above-there : (q v table : ℕ) (list : List ℕ) → 0 < q → q < join.count → parent_of join q ≡ v → list ≡ get_or above q [] → table ≡ (item_at bound.query.items (item_of join v)).table
+  pub above_there : (q v table : ℕ) (list : List ℕ) → 0 < q → q < join.count → parent_of join q ≡ v → list ≡ get_or above q [] → table ≡ (item_at bound.query.items (item_of join v)).table
       → (k : ℕ) → k < length list → get_or list k 0 < length (table_at tables table).names
-  above-there q v table list some l up is at k inside =
-      let h = other-inside bound tables fits (item_of join q) (item_of join (parent_of join q)) (get_or own q []) (get_or above q []) (columns.each q some l) k
+  above_there q v table list some l up is at k inside =
+      let h = other_inside bound tables fits (item_of join q) (item_of join (parent_of join q)) (get_or own q []) (get_or above q []) (columns.each q some l) k
       (subst (λ (xs : List ℕ). k < length xs) is inside) in
       let there : get_or list k 0 ≡ get_or (get_or above q []) k 0 = ap (λ (xs : List ℕ). get_or xs k 0) is in
       let wide : length (table_at tables table).names ≡ length (table_at tables (item_at bound.query.items (item_of join (parent_of join q))).table).names =
@@ -119,15 +119,15 @@ module _ (bound : BoundQuery) (tables : List Table) (fits : Fits bound tables) (
       omega (arith, h, there, wide)
 
   -- and so are a node's own
-  pub own-there : (v table : ℕ) (list : List ℕ) → v < join.count → list ≡ get_or own v [] → table ≡ (item_at bound.query.items (item_of join v)).table
+  pub own_there : (v table : ℕ) (list : List ℕ) → v < join.count → list ≡ get_or own v [] → table ≡ (item_at bound.query.items (item_of join v)).table
       → (k : ℕ) → k < length list → get_or list k 0 < length (table_at tables table).names
-  own-there v table list l is at k inside = elim (cases_eq v 0) [
+  own_there v table list l is at k inside = elim (cases_eq v 0) [
     | inl root ↦
         let none : list ≡ [] = is ∙ ap (λ (w : ℕ). get_or own w []) root ∙ columns.root in
         let short : length list ≡ 0 = ap length none in
         absurd (omega (arith, inside, short))
     | inr past ↦
-        let h = own-inside bound tables fits (item_of join v) (item_of join (parent_of join v)) (get_or own v []) (get_or above v []) (columns.each v (omega (arith, past)) l) k
+        let h = own_inside bound tables fits (item_of join v) (item_of join (parent_of join v)) (get_or own v []) (get_or above v []) (columns.each v (omega (arith, past)) l) k
         (subst (λ (xs : List ℕ). k < length xs) is inside) in
         let there : get_or list k 0 ≡ get_or (get_or own v []) k 0 = ap (λ (xs : List ℕ). get_or xs k 0) is in
         let wide : length (table_at tables table).names ≡ length (table_at tables (item_at bound.query.items (item_of join v)).table).names =

@@ -11,7 +11,7 @@ pub kept : (z : ℤ) → FitsSigned w128 z → to_z w128 (of_z w128 z) ≡ z
 kept z f = simp to_z-of_z
 
 -- one more place of an array is written
-pub places-more : {A : Type 0} (f : A → ℤ) (to : List ℤ) (from : List A) (i : ℕ) (d : A) (v : ℤ) → i < length to → i < length from → v ≡ f (get_or from i d)
+pub places_more : {A : Type 0} (f : A → ℤ) (to : List ℤ) (from : List A) (i : ℕ) (d : A) (v : ℤ) → i < length to → i < length from → v ≡ f (get_or from i d)
     → take i to ≡ map f (take i from) → take (i + 1) (set to i v) ≡ map f (take (i + 1) from)
-places-more f to from i d v room inside is done =
+places_more f to from i d v room inside is done =
     take_more_set to i v room ∙ (λ j. done j ++ is j ∷ []) ∙ sym (ap (map f) (take_more from i d inside) ∙ map-append f (take i from) (get_or from i d ∷ []))

@@ -13,19 +13,19 @@ use Rattle.tdp_core.proofs.RawReads.{field_read}
 use Rattle.join_tree.specs.declared.tree.JoinTree.{JoinTree}
 use Rattle.anyk_model.specs.Table.{Table}
 use Rattle.csv_tables.specs.Tables.{IsSound}
-use Rattle.query_bind.specs.Weighed.{BoundQuery, Fits}
+use Rattle.query_bind.specs.WeighedQuery.{BoundQuery, Fits}
 use Rattle.query_bind.specs.Weights.{table_in}
-use Rattle.node_build.specs.Filled.{IsFilledTree}
+use Rattle.node_build.specs.PartialTrees.{IsFilledTree}
 use Rattle.node_build.specs.Links.{IsRowOf, values_at}
 use Rattle.node_build.specs.Nodes.{AreNodeRows, IsBuilt, IsJoinTreeOf, RowsAgree, RowsAlike, item_of, parent_of, row_parts}
 use Rattle.node_build.specs.Rows.{HaveRows}
 use Rattle.node_build.specs.Shapes.{AreShapesOf}
 use Rattle.query_bind.proofs.Lists.{member-index}
-use Rattle.node_build.proofs.Agreement.{IsRowIn, agree-iff, alike-iff, values-length}
-use Rattle.node_build.proofs.Naming.{kids-ap}
-use Rattle.node_build.proofs.Numbering.{link-iff}
+use Rattle.node_build.proofs.Agreement.{IsRowIn, agree_iff, alike_iff, values_length}
+use Rattle.node_build.proofs.Naming.{kids_ap}
+use Rattle.node_build.proofs.Numbering.{link_iff}
 use Rattle.node_build.proofs.Passing.{rises}
-use Rattle.node_build.proofs.Shaped.{item-known, parent-earlier}
+use Rattle.node_build.proofs.Shaped.{item_known, parent_earlier}
 
 -- an element that is there
 there : {A : Type 0} (xs : List A) (i : ℕ) → i < length xs → (x : A) × (slice_get xs i ≡ Some x)
@@ -58,8 +58,8 @@ module _ {R : Type 0} (bound : BoundQuery) (tables : List Table) (fits : Fits bo
         number = field_read (λ (y : RawRowData R). y.row.row) (rows_at tree v) r x.0 0 x.1 ∙ of_row.number;
       }
 
-  numbers-are : (v : ℕ) → v < join.count → map (λ x. x.row.row) (rows_at tree v) ≡ get_or rows v []
-  numbers-are v l =
+  numbers_are : (v : ℕ) → v < join.count → map (λ x. x.row.row) (rows_at tree v) ≡ get_or rows v []
+  numbers_are v l =
       let has = filled.filled.filled v l in
       let count = has.count in
       let size = length-map (rows_at tree v) (λ (x : RawRowData R). x.row.row) in
@@ -67,26 +67,26 @@ module _ {R : Type 0} (bound : BoundQuery) (tables : List Table) (fits : Fits bo
       (λ r h. (read v r l (omega (arith, h, size))).number)
 
   -- the row is one of its item's table
-  row-in : (v r : ℕ) → v < join.count → r < raw_len tree v → IsRowIn bound tables fits sound (item_of join v) (raw_number tree v r)
-  row-in v r l h =
+  row_in : (v r : ℕ) → v < join.count → r < raw_len tree v → IsRowIn bound tables fits sound (item_of join v) (raw_number tree v r)
+  row_in v r l h =
       let x = read v r l h in
       let inside = x.member in
       let m = ((of_nodes.each v l).members (get_or (get_or rows v []) r 0)).0 (member-index (get_or rows v []) r 0 inside) in
       subst (IsRowIn bound tables fits sound (item_of join v)) (sym x.number)
-      (record { known = item-known bound.query join is_tree v l; first = m.0; last = m.1 })
+      (record { known = item_known bound.query join is_tree v l; first = m.0; last = m.1 })
 
   abbrev values : ℕ → ℕ → List ℕ → List ℕ
   values v row columns = values_at bound tables join filled.own filled.above v row columns
 
   -- as many values as columns
-  as-many : (v row : ℕ) (columns : List ℕ) → length (values v row columns) ≡ length columns
-  as-many v row columns = values-length tables (table_in tables bound.query.items (item_of join v)) row columns
+  as_many : (v row : ℕ) (columns : List ℕ) → length (values v row columns) ≡ length columns
+  as_many v row columns = values_length tables (table_in tables bound.query.items (item_of join v)) row columns
 
-  links-are : (q i r : ℕ) → 0 < q → q < join.count → i < raw_len tree q → r < raw_len tree (parent_of join q)
+  links_are : (q i r : ℕ) → 0 < q → q < join.count → i < raw_len tree q → r < raw_len tree (parent_of join q)
       → (own_link tree q i ≡ child_link tree (parent_of join q) r (shape_child_place tree.shapes q))
       ↔ RowsAgree bound tables (item_of join q) (item_of join (parent_of join q)) (raw_number tree q i) (raw_number tree (parent_of join q) r)
-  links-are q i r some l h k =
-      let up = parent-earlier bound.query join is_tree q some l in
+  links_are q i r some l h k =
+      let up = parent_earlier bound.query join is_tree q some l in
       let p = parent_of join q in
       let below : p < join.count = omega (arith, up, l) in
       let x = read q i l h in
@@ -96,45 +96,45 @@ module _ {R : Type 0} (bound : BoundQuery) (tables : List Table) (fits : Fits bo
       let same_parent : shape_parent tree.shapes q ≡ p = shapes.parents q l in
       let place : shape_child_place tree.shapes q ≡ kids_below (parent_of join) p q =
       ap (λ (w : ℕ). kids_below (shape_parent tree.shapes) w q) same_parent
-      ∙ kids-ap (shape_parent tree.shapes) (parent_of join) p q (λ u before. shapes.parents u (omega (arith, before, l))) in
+      ∙ kids_ap (shape_parent tree.shapes) (parent_of join) p q (λ u before. shapes.parents u (omega (arith, before, l))) in
       let child : child_link tree p r (shape_child_place tree.shapes q) ≡ get_or y.row.children (kids_below (parent_of join) p q) 0 =
       ap (λ (cs : List ℕ). get_or cs (shape_child_place tree.shapes q) 0) children ∙ ap (λ (n : ℕ). get_or y.row.children n 0) place in
-      let names = link-iff filled.names q x.row.own (get_or y.row.children (kids_below (parent_of join) p q) 0)
+      let names = link_iff filled.names q x.row.own (get_or y.row.children (kids_below (parent_of join) p q) 0)
       (values q (get_or (get_or rows q []) i 0) (get_or filled.own q [])) (values p (get_or (get_or rows p []) r 0) (get_or filled.above q []))
-      filled.numbers (as-many q (get_or (get_or rows q []) i 0) (get_or filled.own q []) ∙ (filled.columns.each q some l).same ∙ sym (as-many p (get_or (get_or rows p []) r 0) (get_or filled.above q [])))
+      filled.numbers (as_many q (get_or (get_or rows q []) i 0) (get_or filled.own q []) ∙ (filled.columns.each q some l).same ∙ sym (as_many p (get_or (get_or rows p []) r 0) (get_or filled.above q [])))
       x.of_row.link (y.of_row.children q some l refl) in
-      let agree = agree-iff bound tables fits sound (item_of join q) (item_of join p) (get_or filled.own q []) (get_or filled.above q []) (filled.columns.each q some l)
-      (raw_number tree q i) (raw_number tree p r) (row-in q i l h) in
+      let agree = agree_iff bound tables fits sound (item_of join q) (item_of join p) (get_or filled.own q []) (get_or filled.above q []) (filled.columns.each q some l)
+      (raw_number tree q i) (raw_number tree p r) (row_in q i l h) in
       let left = ap (λ (n : ℕ). values q n (get_or filled.own q [])) x.number in
       let right = ap (λ (n : ℕ). values p n (get_or filled.above q [])) y.number in (
         λ e. agree.0 (left ∙ names.0 (sym own ∙ e ∙ child) ∙ sym right),
         λ a. own ∙ names.1 (sym left ∙ agree.1 a ∙ right) ∙ sym child,
       )
 
-  own-links-are : (q i j : ℕ) → 0 < q → q < join.count → i < raw_len tree q → j < raw_len tree q
+  own_links_are : (q i j : ℕ) → 0 < q → q < join.count → i < raw_len tree q → j < raw_len tree q
       → (own_link tree q i ≡ own_link tree q j)
       ↔ RowsAlike bound tables (item_of join q) (item_of join (parent_of join q)) (raw_number tree q i) (raw_number tree q j)
-  own-links-are q i j some l h k =
+  own_links_are q i j some l h k =
       let p = parent_of join q in
       let x = read q i l h in
       let y = read q j l k in
       let own : own_link tree q i ≡ x.row.own = field_read (λ (z : RawRowData R). z.own) (rows_at tree q) i x.row 0 x.at in
       let other : own_link tree q j ≡ y.row.own = field_read (λ (z : RawRowData R). z.own) (rows_at tree q) j y.row 0 y.at in
-      let names = link-iff filled.names q x.row.own y.row.own
+      let names = link_iff filled.names q x.row.own y.row.own
       (values q (get_or (get_or rows q []) i 0) (get_or filled.own q [])) (values q (get_or (get_or rows q []) j 0) (get_or filled.own q []))
-      filled.numbers (as-many q (get_or (get_or rows q []) i 0) (get_or filled.own q []) ∙ sym (as-many q (get_or (get_or rows q []) j 0) (get_or filled.own q [])))
+      filled.numbers (as_many q (get_or (get_or rows q []) i 0) (get_or filled.own q []) ∙ sym (as_many q (get_or (get_or rows q []) j 0) (get_or filled.own q [])))
       x.of_row.link y.of_row.link in
-      let alike = alike-iff bound tables fits sound (item_of join q) (item_of join p) (get_or filled.own q []) (get_or filled.above q []) (filled.columns.each q some l)
-      (raw_number tree q i) (raw_number tree q j) (row-in q i l h) in
+      let alike = alike_iff bound tables fits sound (item_of join q) (item_of join p) (get_or filled.own q []) (get_or filled.above q []) (filled.columns.each q some l)
+      (raw_number tree q i) (raw_number tree q j) (row_in q i l h) in
       let left = ap (λ (n : ℕ). values q n (get_or filled.own q [])) x.number in
       let right = ap (λ (n : ℕ). values q n (get_or filled.own q [])) y.number in (
         λ e. alike.0 (left ∙ names.0 (sym own ∙ e ∙ other) ∙ sym right),
         λ a. own ∙ names.1 (sym left ∙ alike.1 a ∙ right) ∙ sym other,
       )
 
-  ranks-are : (v r : ℕ) → v < join.count → r < raw_len tree v
+  ranks_are : (v r : ℕ) → v < join.count → r < raw_len tree v
       → raw_rank tree d key v r ≡ row_key d (row_parts bound tables (item_of join v) (raw_number tree v r)) (item_of join v) (raw_number tree v r)
-  ranks-are v r l h =
+  ranks_are v r l h =
       let x = read v r l h in
       field_read (λ (z : RawRowData R). key z.row.rank) (rows_at tree v) r x.row (key_none d 16) x.at ∙ x.of_row.rank
       ∙ ap (λ (n : ℕ). row_key d (row_parts bound tables (item_of join v) n) (item_of join v) n) (sym x.number)
@@ -145,15 +145,15 @@ module _ {R : Type 0} (bound : BoundQuery) (tables : List Table) (fits : Fits bo
     parents = shapes.parents;
     items = shapes.items;
     caps = shapes.caps;
-    rows = λ v l. subst (AreNodeRows bound.query tables (item_of join v)) (sym (numbers-are v l)) (of_nodes.each v l);
-    ranks = ranks-are;
-    links = links-are;
-    own_links = own-links-are;
+    rows = λ v l. subst (AreNodeRows bound.query tables (item_of join v)) (sym (numbers_are v l)) (of_nodes.each v l);
+    ranks = ranks_are;
+    links = links_are;
+    own_links = own_links_are;
   }
 
   -- numbers of one node's rows differ
-  pub tie-free : IsTieFreeRaw tree
-  tie-free v i j l h k linked same =
+  pub tie_free_lem : IsTieFreeRaw tree
+  tie_free_lem v i j l h k linked same =
       let inside : v < join.count = let c = shapes.count in omega (arith, l, c) in
       let x = read v i inside h in
       let y = read v j inside k in
@@ -168,8 +168,8 @@ module _ {R : Type 0} (bound : BoundQuery) (tables : List Table) (fits : Fits bo
       ]
 
   -- the counts are those of the rows
-  pub counts-are : map length rows ≡ map length tree.rows
-  counts-are =
+  pub counts_are : map length rows ≡ map length tree.rows
+  counts_are =
       let count = of_nodes.count in
       let each_node = filled.filled.each_node in
       let left = length-map rows (λ (xs : List ℕ). length xs) in

@@ -7,31 +7,31 @@ use Rattle.join_tree.specs.declared.tree.JoinTree.{JoinTree}
 use Rattle.anyk_model.specs.Table.{Table}
 use Rattle.anyk_model.specs.Query.{Query}
 use Rattle.query_bind.specs.Parts.{sum_of_all}
-use Rattle.query_bind.specs.Weighed.{BoundQuery}
+use Rattle.query_bind.specs.WeighedQuery.{BoundQuery}
 use Rattle.query_shape.specs.Shape.{HasNodeRows, HasShape, IsShape, Shape, most_node_rows, too_many_rows}
-use Rattle.query_shape.specs.Shown.{HasStoredTree}
-use Rattle.step_bounds.proofs.NodeSums.{sum-of-lengths}
+use Rattle.query_shape.specs.JoinTreeView.{HasStoredTree}
+use Rattle.step_bounds.proofs.NodeSums.{sum_of_lengths}
 use Rattle.node_build.specs.Nodes.{AreNodeRows, AreRowsOfNodes, IsBuilt, IsJoinTreeOf, item_of}
 
 -- a stored tree of ear removal is a join tree with a node for each item
-pub join-tree-of : (query : Query) (join : JoinTree) → HasStoredTree query join → join.count ≡ length query.items → IsJoinTreeOf query join
-join-tree-of query join stored count = record { count = count; graph = stored.graph; of_query = stored.of_query; tree = stored.join_tree }
+pub join_tree_of : (query : Query) (join : JoinTree) → HasStoredTree query join → join.count ≡ length query.items → IsJoinTreeOf query join
+join_tree_of query join stored count = record { count = count; graph = stored.graph; of_query = stored.of_query; tree = stored.join_tree }
 
 -- the numbers of the rows of each node
 abbrev pub numbers_of : {R : Type 0} → RawData R → List (List ℕ)
 numbers_of raw = map (map (λ x. x.row.row)) raw.rows
 
-pub same-lengths : {A : Type 0} (f : A → ℕ) (xss : List (List A)) → map length (map (map f) xss) ≡ map length xss
-same-lengths f [] = refl
-same-lengths f (xs ∷ xss) = λ i. length-map xs f i ∷ same-lengths f xss i
+pub same_lengths : {A : Type 0} (f : A → ℕ) (xss : List (List A)) → map length (map (map f) xss) ≡ map length xss
+same_lengths f [] = refl
+same_lengths f (xs ∷ xss) = λ i. length-map xs f i ∷ same_lengths f xss i
 
-pub numbers-in-all : {R : Type 0} (raw : RawData R) → sum_of_all (map length (numbers_of raw)) ≡ row_total raw
-numbers-in-all raw = ap sum_of_all (same-lengths (λ x. x.row.row) raw.rows) ∙ sum-of-lengths raw.rows
+pub numbers_in_all : {R : Type 0} (raw : RawData R) → sum_of_all (map length (numbers_of raw)) ≡ row_total raw
+numbers_in_all raw = ap sum_of_all (same_lengths (λ x. x.row.row) raw.rows) ∙ sum_of_lengths raw.rows
 
 -- the rows of a raw tree that is built are those of the nodes
-pub rows-of-built : (bound : BoundQuery) (tables : List Table) (join : JoinTree) {R : Type 0} (d : ℕ) (key : R → KeyOf d 16) (raw : RawData R)
+pub rows_of_built : (bound : BoundQuery) (tables : List Table) (join : JoinTree) {R : Type 0} (d : ℕ) (key : R → KeyOf d 16) (raw : RawData R)
     → IsBuilt bound tables d key join raw → length raw.rows ≡ length raw.shapes → AreRowsOfNodes bound tables join (numbers_of raw)
-rows-of-built bound tables join d key raw built each_node = record {
+rows_of_built bound tables join d key raw built each_node = record {
   count = length-map raw.rows (map (λ x. x.row.row)) ∙ each_node ∙ built.nodes;
   each = λ v l.
       let inside : v < length raw.rows = (let n = built.nodes in omega (arith, l, each_node, n)) in
@@ -48,8 +48,8 @@ module _ (bound : BoundQuery) (tables : List Table) (join : JoinTree) (stored : 
   nodes-count = stored.join_tree.nodes ∙ stored.of_query.atoms ∙ sym count
 
   module _ (node_rows : List (List ℕ)) (are : AreRowsOfNodes bound tables join node_rows) where
-    pub shape-of-rows : HasShape bound.query tables (shape_with node_rows)
-    shape-of-rows = record {
+    pub shape_of_rows : HasShape bound.query tables (shape_with node_rows)
+    shape_of_rows = record {
       hung = stored;
       counts = length-map node_rows length ∙ are.count ∙ sym nodes-count;
       rows = λ k l.
@@ -61,8 +61,8 @@ module _ (bound : BoundQuery) (tables : List Table) (join : JoinTree) (stored : 
           (record { rows = slice_index_or node_rows k []; ascending = node.ascending; members = node.members; counted = sym long });
     }
 
-    pub shape-if-few : sum_of_all (map length node_rows) ≤ most_node_rows → IsShape bound.query tables (Ok (shape_with node_rows))
-    shape-if-few few = (shape-of-rows, few)
+    pub shape_if_few : sum_of_all (map length node_rows) ≤ most_node_rows → IsShape bound.query tables (Ok (shape_with node_rows))
+    shape_if_few few = (shape_of_rows, few)
 
-    pub flaw-if-many : most_node_rows < sum_of_all (map length node_rows) → IsShape bound.query tables (Err too_many_rows)
-    flaw-if-many many = (shape_with node_rows, shape-of-rows, many)
+    pub flaw_if_many : most_node_rows < sum_of_all (map length node_rows) → IsShape bound.query tables (Err too_many_rows)
+    flaw_if_many many = (shape_with node_rows, shape_of_rows, many)

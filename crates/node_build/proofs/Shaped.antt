@@ -11,12 +11,12 @@ use Rattle.anyk_model.specs.Table.{Table}
 use Rattle.anyk_model.specs.Query.{OrderKey, Query}
 use Rattle.query_bind.specs.Inside.{KeyInside}
 use Rattle.query_bind.specs.Parts.{numbers_of, sum_of_all}
-use Rattle.query_bind.specs.Weighed.{BoundQuery, Fits}
+use Rattle.query_bind.specs.WeighedQuery.{BoundQuery, Fits}
 use Rattle.query_bind.specs.Weights.{cap_of, key_at, most_sum, terms_size}
 use Rattle.query_bind.specs.declared.fault.BindFault.TheVariants as fault
-use Rattle.query_bind.proofs.Parts.{caps-add}
-use Rattle.query_bind.proofs.Search.{all-at}
-use Rattle.step_bounds.proofs.NodeSums.{AreApart, fewer-nodes, over, sum-same}
+use Rattle.query_bind.proofs.Parts.{caps_add}
+use Rattle.query_bind.proofs.Search.{all_at}
+use Rattle.step_bounds.proofs.NodeSums.{AreApart, fewer_nodes, over, sum_same}
 use Rattle.node_build.specs.Nodes.{CapsBelow, IsJoinTreeOf, cap_at, item_of, parent_of}
 use Rattle.node_build.specs.Shapes.{AreShapesOf}
 
@@ -26,11 +26,11 @@ module _ (query : Query) (join : JoinTree) (tree : IsJoinTreeOf query join) wher
   atoms : tree.graph.atoms ≡ join.count
   atoms = let a = tree.of_query.atoms in let c = tree.count in omega (arith, a, c)
 
-  pub few-nodes : join.count ≤ 16
-  few-nodes = let f = tree.of_query.is_graph.few in let a = atoms in omega (arith, f, a)
+  pub few_nodes_lem : join.count ≤ 16
+  few_nodes_lem = let f = tree.of_query.is_graph.few in let a = atoms in omega (arith, f, a)
 
-  pub some-node : 1 ≤ join.count
-  some-node = let f = tree.of_query.is_graph.some in let a = atoms in omega (arith, f, a)
+  pub some_node_lem : 1 ≤ join.count
+  some_node_lem = let f = tree.of_query.is_graph.some in let a = atoms in omega (arith, f, a)
 
   nodes : length (take join.count join.atom) ≡ join.count
   nodes = tree.tree.nodes ∙ atoms
@@ -38,24 +38,24 @@ module _ (query : Query) (join : JoinTree) (tree : IsJoinTreeOf query join) wher
   parents : length (take join.count join.parent) ≡ join.count
   parents = tree.tree.has_parents ∙ atoms
 
-  pub item-known : (v : ℕ) → v < join.count → item_of join v < length query.items
-  item-known v l =
+  pub item_known : (v : ℕ) → v < join.count → item_of join v < length query.items
+  item_known v l =
       let n = nodes in
       let h = tree.tree.within v (omega (arith, l, n)) in
       let same : get_or (take join.count join.atom) v 0 ≡ item_of join v = get_or-take join.count join.atom v 0 l in
       let a = tree.of_query.atoms in
       omega (arith, h, same, a)
 
-  pub items-differ : (u v : ℕ) → u < v → v < join.count → item_of join u ≢ item_of join v
-  items-differ u v less l e =
+  pub items_differ : (u v : ℕ) → u < v → v < join.count → item_of join u ≢ item_of join v
+  items_differ u v less l e =
       let n = nodes in
       tree.tree.distinct u v less (omega (arith, l, n)) (get_or-take join.count join.atom u 0 (omega (arith, less, l)) ∙ e ∙ sym (get_or-take join.count join.atom v 0 l))
 
-  pub root-parent : parent_of join 0 ≡ 0
-  root-parent = let s = some-node in sym (get_or-take join.count join.parent 0 0 (omega (arith, s))) ∙ tree.tree.first.root
+  pub root_parent : parent_of join 0 ≡ 0
+  root_parent = let s = some_node_lem in sym (get_or-take join.count join.parent 0 0 (omega (arith, s))) ∙ tree.tree.first.root
 
-  pub parent-earlier : (v : ℕ) → 0 < v → v < join.count → parent_of join v < v
-  parent-earlier v some l =
+  pub parent_earlier : (v : ℕ) → 0 < v → v < join.count → parent_of join v < v
+  parent_earlier v some l =
       let n = parents in
       let h = tree.tree.first.earlier v some (omega (arith, l, n)) in
       let same : get_or (take join.count join.parent) v 0 ≡ parent_of join v = get_or-take join.count join.parent v 0 l in
@@ -63,21 +63,21 @@ module _ (query : Query) (join : JoinTree) (tree : IsJoinTreeOf query join) wher
 
   pub apart : AreApart (length query.items) (item_of join) join.count 0
   apart = record {
-    within = λ v a b. item-known v (omega (arith, b));
-    differ = λ u v a b c. items-differ u v b (omega (arith, c));
+    within = λ v a b. item_known v (omega (arith, b));
+    differ = λ u v a b c. items_differ u v b (omega (arith, c));
   }
 
 -- ---- caps
 
-not-past : (size : ℕ) → nat_lt most_sum size ≡ false → size ≤ most_sum
-not-past size e = elim (cases_lt most_sum size) [
+not_past : (size : ℕ) → nat_lt most_sum size ≡ false → size ≤ most_sum
+not_past size e = elim (cases_lt most_sum size) [
   | inl above ↦ absurd (let t : nat_lt most_sum size ≡ true = lt-ltb most_sum size above in cc)
   | inr below ↦ below
 ]
 
-none-passes : {A : Type 0} (test : A → Bool) (n : ℕ) (xs : List A) → position_from test n xs ≡ None → (i : ℕ) (d : A) → i < length xs → test (get_or xs i d) ≡ false
-none-passes test n [] e i d inside = absurd (omega arith)
-none-passes {A = A} test n (x ∷ xs) e i d inside = by (test x) refl e i inside (λ left. none-passes test (n + 1) xs left)
+none_passes : {A : Type 0} (test : A → Bool) (n : ℕ) (xs : List A) → position_from test n xs ≡ None → (i : ℕ) (d : A) → i < length xs → test (get_or xs i d) ≡ false
+none_passes test n [] e i d inside = absurd (omega arith)
+none_passes {A = A} test n (x ∷ xs) e i d inside = by (test x) refl e i inside (λ left. none_passes test (n + 1) xs left)
   where
     by : (b : Bool) → test x ≡ b → cond b (Some n) (position_from test (n + 1) xs) ≡ None → (i : ℕ) → i < length (x ∷ xs)
         → (position_from test (n + 1) xs ≡ None → (i : ℕ) (d : A) → i < length xs → test (get_or xs i d) ≡ false) → test (get_or (x ∷ xs) i d) ≡ false
@@ -85,24 +85,24 @@ none-passes {A = A} test n (x ∷ xs) e i d inside = by (test x) refl e i inside
     by false is left zero inside later = is
     by false is left (suc i) inside later = later left i d (omega arith)
 
-no-fault : (p : Option ℕ) → option_map (λ n. fault.RankRange n) p ≡ None → p ≡ None
-no-fault None e = refl
-no-fault (Some n) e = cc
+no_fault : (p : Option ℕ) → option_map (λ n. fault.RankRange n) p ≡ None → p ≡ None
+no_fault None e = refl
+no_fault (Some n) e = cc
 
-pub over-none : (ns : List ℕ) → sum_of_all (map (λ (i : ℕ). 0) ns) ≡ 0
-over-none [] = refl
-over-none (n ∷ ns) = let h = over-none ns in omega (arith, h)
+pub over_none : (ns : List ℕ) → sum_of_all (map (λ (i : ℕ). 0) ns) ≡ 0
+over_none [] = refl
+over_none (n ∷ ns) = let h = over_none ns in omega (arith, h)
 
 module _ (bound : BoundQuery) (tables : List Table) (fits : Fits bound tables) where
-  key-in-range : (key : ℕ) → key < length bound.query.order → terms_size tables bound.query.items (key_at bound.query.order key).terms ≤ most_sum
-  key-in-range key there =
+  key_in_range : (key : ℕ) → key < length bound.query.order → terms_size tables bound.query.items (key_at bound.query.order key).terms ≤ most_sum
+  key_in_range key there =
       let test : OrderKey → Bool = λ (k : OrderKey). nat_lt most_sum (terms_size tables bound.query.items k.terms) in
-      not-past (terms_size tables bound.query.items (key_at bound.query.order key).terms)
-      (none-passes test 1 bound.query.order (no-fault (position_from test 1 bound.query.order) fits.range) key (record { terms = []; descending = false }) there)
+      not_past (terms_size tables bound.query.items (key_at bound.query.order key).terms)
+      (none_passes test 1 bound.query.order (no_fault (position_from test 1 bound.query.order) fits.range) key (record { terms = []; descending = false }) there)
 
   -- the caps of all items have a sum that fits
-  pub caps-small : CapsBelow (2 ^ 127) bound tables
-  caps-small i = by (nat_lt i (length bound.query.order)) refl
+  pub caps_small : CapsBelow (2 ^ 127) bound tables
+  caps_small i = by (nat_lt i (length bound.query.order)) refl
     where
       by : (b : Bool) → nat_lt i (length bound.query.order) ≡ b
           → over (λ item. cond {A = ℕ} b (cap_of tables bound.query.items item (key_at bound.query.order i)) 0) (length bound.query.items) < 2 ^ 127
@@ -112,29 +112,29 @@ module _ (bound : BoundQuery) (tables : List Table) (fits : Fits bound tables) w
             | inr g ↦ absurd (let f : nat_lt i (length bound.query.order) ≡ false = grind (arith, g) in cc)
           ] in
           let inside : KeyInside tables bound.query.items (key_at bound.query.order i) =
-          all-at (KeyInside tables bound.query.items) bound.query.order i (record { terms = []; descending = false }) fits.within.order there in
-          let sum = caps-add tables bound.query.items (key_at bound.query.order i) inside in
-          let small = key-in-range i there in
+          all_at (KeyInside tables bound.query.items) bound.query.order i (record { terms = []; descending = false }) fits.within.order there in
+          let sum = caps_add tables bound.query.items (key_at bound.query.order i) inside in
+          let small = key_in_range i there in
           omega (arith, sum, small)
-      by false e = let none = over-none (numbers_of bound.query.items) in omega (arith, none)
+      by false e = let none = over_none (numbers_of bound.query.items) in omega (arith, none)
 
   -- the shapes are those of a tree
-  pub shapes-are : (join : JoinTree) (shapes : List NodeShape) → IsJoinTreeOf bound.query join → AreShapesOf bound tables join join.count shapes → AreShapes shapes
-  shapes-are join shapes tree of_join =
+  pub shapes_are : (join : JoinTree) (shapes : List NodeShape) → IsJoinTreeOf bound.query join → AreShapesOf bound tables join join.count shapes → AreShapes shapes
+  shapes_are join shapes tree of_join =
       let count = of_join.count in
-      let few = few-nodes bound.query join tree in
-      let some = some-node bound.query join tree in
+      let few = few_nodes_lem bound.query join tree in
+      let some = some_node_lem bound.query join tree in
       record {
         some_node = omega (arith, count, some);
         few_nodes = omega (arith, count, few);
-        root = of_join.parents 0 (omega (arith, some)) ∙ root-parent bound.query join tree;
+        root = of_join.parents 0 (omega (arith, some)) ∙ root_parent bound.query join tree;
         parents_first = λ q l h.
             let e = of_join.parents q (omega (arith, h, count)) in
-            let p = parent-earlier bound.query join tree q l (omega (arith, h, count)) in
+            let p = parent_earlier bound.query join tree q l (omega (arith, h, count)) in
             omega (arith, e, p);
         items = λ v h.
             let e = of_join.items v (omega (arith, h, count)) in
-            let i = item-known bound.query join tree v (omega (arith, h, count)) in
+            let i = item_known bound.query join tree v (omega (arith, h, count)) in
             let c = tree.count in
             omega (arith, e, i, c, few);
         items_apart = λ u v a b same.
@@ -142,13 +142,13 @@ module _ (bound : BoundQuery) (tables : List Table) (fits : Fits bound tables) w
             let f = of_join.items v (omega (arith, b, count)) in
             elim (cases_order u v) [
               | inl is ↦ is
-              | inr (inl less) ↦ absurd (items-differ bound.query join tree u v less (omega (arith, b, count)) (sym e ∙ same ∙ f))
-              | inr (inr more) ↦ absurd (items-differ bound.query join tree v u more (omega (arith, a, count)) (sym f ∙ sym same ∙ e))
+              | inr (inl less) ↦ absurd (items_differ bound.query join tree u v less (omega (arith, b, count)) (sym e ∙ same ∙ f))
+              | inr (inr more) ↦ absurd (items_differ bound.query join tree v u more (omega (arith, a, count)) (sym f ∙ sym same ∙ e))
             ];
         caps_fit = λ i.
-            let same = sum-same (λ v. shape_cap shapes v i) (λ v. cap_at bound tables (item_of join v) i) join.count 0 (λ v a b. of_join.caps v i (omega (arith, b))) in
-            let fewer = fewer-nodes (length bound.query.items) (item_of join) join.count (λ item. cap_at bound tables item i) (apart bound.query join tree) in
-            let small = caps-small i in
+            let same = sum_same (λ v. shape_cap shapes v i) (λ v. cap_at bound tables (item_of join v) i) join.count 0 (λ v a b. of_join.caps v i (omega (arith, b))) in
+            let fewer = fewer_nodes (length bound.query.items) (item_of join) join.count (λ item. cap_at bound tables item i) (apart bound.query join tree) in
+            let small = caps_small i in
             let all : sum_from ◌+◌ 0 (λ v. shape_cap shapes v i) (length shapes) 0 ≡ sum_from ◌+◌ 0 (λ v. shape_cap shapes v i) join.count 0 =
             ap (λ (m : ℕ). sum_from ◌+◌ 0 (λ v. shape_cap shapes v i) m 0) count in
             omega (arith, same, fewer, small, all);

@@ -5,16 +5,16 @@ use Rattle.std.proofs.lemmas.List.{get_or_append_left, get_or_push}
 use Rattle.anyk_model.specs.Query.{Column, Equality}
 use Rattle.rankings.specs.Order.{IsMember}
 use Rattle.query_bind.specs.Classes.{HasVariable}
-use Rattle.query_bind.specs.Weighed.{BoundQuery}
-use Rattle.query_bind.proofs.Lists.{each-all, each-further}
-use Rattle.query_bind.proofs.Witness.{linked-append, linked-back}
+use Rattle.query_bind.specs.WeighedQuery.{BoundQuery}
+use Rattle.query_bind.proofs.Lists.{each_all, each_further}
+use Rattle.query_bind.proofs.Witness.{linked_append, linked_back}
 use Rattle.node_build.specs.Columns.{AreShared, IsColumnPair, StandTogether}
 
 -- a variable has one column in an item
-pub one-column : (es : List Equality) (variables : List Column) (item number p q : ℕ) → HasVariable es variables item number p → HasVariable es variables item number q → p ≡ q
-one-column es variables item number p q a b =
-    let forth = a.least q (linked-append (linked-back a.linked) b.linked) in
-    let back = b.least p (linked-append (linked-back b.linked) a.linked) in
+pub one_column : (es : List Equality) (variables : List Column) (item number p q : ℕ) → HasVariable es variables item number p → HasVariable es variables item number q → p ≡ q
+one_column es variables item number p q a b =
+    let forth = a.least q (linked_append (linked_back a.linked) b.linked) in
+    let back = b.least p (linked_append (linked_back b.linked) a.linked) in
     omega (arith, forth, back)
 
 module _ (bound : BoundQuery) (i j : ℕ) where
@@ -28,8 +28,8 @@ module _ (bound : BoundQuery) (i j : ℕ) where
   abbrev pub SoFar : List (ℕ × ℕ) → List ℕ → List ℕ → Type 0
   SoFar done own other = AreShared bound i j (λ v. IsMember v done) own other
 
-  pub none-shared : (done : List (ℕ × ℕ)) → done ≡ [] → SoFar done [] []
-  none-shared done none = record {
+  pub none_shared : (done : List (ℕ × ℕ)) → done ≡ [] → SoFar done [] []
+  none_shared done none = record {
     same = refl;
     sound = λ k l. absurd (omega (arith, l));
     complete = λ v q m h. absurd (subst (λ (l : List (ℕ × ℕ)). IsMember v l) none m);
@@ -53,10 +53,10 @@ module _ (bound : BoundQuery) (i j : ℕ) where
     second = get_or_push other y 0 (length own) (sym same);
   }
 
-  pair-more : (own other : List ℕ) (number x y : ℕ) → length own ≡ length other → Has i number x → Has j number y
+  pair_more : (own other : List ℕ) (number x y : ℕ) → length own ≡ length other → Has i number x → Has j number y
       → ((k : ℕ) → k < length own → IsColumnPair bound i j (get_or own k 0) (get_or other k 0))
       → (k : ℕ) → k < length (own ++ x ∷ []) → IsColumnPair bound i j (get_or (own ++ x ∷ []) k 0) (get_or (other ++ y ∷ []) k 0)
-  pair-more own other number x y same a b before k l = elim (cases_lt k (length own)) [
+  pair_more own other number x y same a b before k l = elim (cases_lt k (length own)) [
     | inl old ↦
         subst (λ (p : ℕ). IsColumnPair bound i j p (get_or (other ++ y ∷ []) k 0)) (sym (get_or_append_left own (x ∷ []) 0 k old))
         (subst (λ (q : ℕ). IsColumnPair bound i j (get_or own k 0) q) (sym (get_or_append_left other (y ∷ []) 0 k (omega (arith, old, same)))) (before k old))
@@ -67,34 +67,34 @@ module _ (bound : BoundQuery) (i j : ℕ) where
   ]
 
   -- a variable that both items have
-  pub shared-more : (variables : List (ℕ × ℕ)) (n : ℕ) (v : ℕ × ℕ) (y : ℕ) (own other : List ℕ) → n < length variables → v ≡ get_or variables n v
+  pub shared_more : (variables : List (ℕ × ℕ)) (n : ℕ) (v : ℕ × ℕ) (y : ℕ) (own other : List ℕ) → n < length variables → v ≡ get_or variables n v
       → Has i v.0 v.1 → Has j v.0 y → SoFar (take n variables) own other → SoFar (take (n + 1) variables) (own ++ v.1 ∷ []) (other ++ y ∷ [])
-  shared-more variables n v y own other inside is a b before =
+  shared_more variables n v y own other inside is a b before =
       let same = before.same in
       record {
         same = omega (arith, same, length-append own (v.1 ∷ []), length-append other (y ∷ []));
-        sound = pair-more own other v.0 v.1 y same a b before.sound;
+        sound = pair_more own other v.0 v.1 y same a b before.sound;
         complete = λ u q m h.
-            each-further (Found (own ++ v.1 ∷ []) (other ++ y ∷ [])) variables n v inside is
+            each_further (Found (own ++ v.1 ∷ []) (other ++ y ∷ [])) variables n v inside is
             (λ w k r g. longer own other v.1 y w.1 r same (before.complete w r k g))
-            (λ r g. subst (StandTogether (own ++ v.1 ∷ []) (other ++ y ∷ []) v.1) (one-column bound.query.equalities bound.variables j v.0 y r b g) (last own other v.1 y same))
+            (λ r g. subst (StandTogether (own ++ v.1 ∷ []) (other ++ y ∷ []) v.1) (one_column bound.query.equalities bound.variables j v.0 y r b g) (last own other v.1 y same))
             u m q h;
       }
 
   -- a variable that the other item has not
-  pub shared-skip : (variables : List (ℕ × ℕ)) (n : ℕ) (v : ℕ × ℕ) (own other : List ℕ) → n < length variables → v ≡ get_or variables n v
+  pub shared_skip : (variables : List (ℕ × ℕ)) (n : ℕ) (v : ℕ × ℕ) (own other : List ℕ) → n < length variables → v ≡ get_or variables n v
       → ((q : ℕ) → Has j v.0 q → ⊥) → SoFar (take n variables) own other → SoFar (take (n + 1) variables) own other
-  shared-skip variables n v own other inside is none before = record {
+  shared_skip variables n v own other inside is none before = record {
     same = before.same;
     sound = before.sound;
-    complete = λ u q m h. each-further (Found own other) variables n v inside is (λ w k r g. before.complete w r k g) (λ r g. absurd (none r g)) u m q h;
+    complete = λ u q m h. each_further (Found own other) variables n v inside is (λ w k r g. before.complete w r k g) (λ r g. absurd (none r g)) u m q h;
   }
 
   -- all variables of the item
-  pub shared-all : (variables : List (ℕ × ℕ)) (n : ℕ) (own other : List ℕ) → length variables ≤ n
+  pub shared_all : (variables : List (ℕ × ℕ)) (n : ℕ) (own other : List ℕ) → length variables ≤ n
       → ((v : ℕ × ℕ) → Has i v.0 v.1 → IsMember v variables) → SoFar (take n variables) own other → AreShared bound i j (λ v. Has i v.0 v.1) own other
-  shared-all variables n own other all members h = record {
+  shared_all variables n own other all members h = record {
     same = h.same;
     sound = h.sound;
-    complete = λ v q a b. each-all (Found own other) variables n all (λ w k r g. h.complete w r k g) v (members v a) q b;
+    complete = λ v q a b. each_all (Found own other) variables n all (λ w k r g. h.complete w r k g) v (members v a) q b;
   }

@@ -1,5 +1,5 @@
 pub mod Columns
-pub mod Filled
+pub mod PartialTrees
 pub mod Links
 pub mod Nodes
 pub mod Rows

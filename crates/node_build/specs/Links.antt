@@ -8,7 +8,7 @@ use Rattle.join_tree.specs.declared.tree.JoinTree.{JoinTree}
 use Rattle.anyk_model.specs.Table.{Table, field_at}
 use Rattle.csv_tables.specs.Values.{number_of}
 use Rattle.counted_index.specs.Pairs.{IsNumbered}
-use Rattle.query_bind.specs.Weighed.{BoundQuery}
+use Rattle.query_bind.specs.WeighedQuery.{BoundQuery}
 use Rattle.query_bind.specs.Weights.{table_in}
 use Rattle.node_build.specs.Nodes.{item_of, parent_of, row_parts}
 

@@ -13,7 +13,7 @@ use Rattle.anyk_model.specs.Query.{Query, item_table}
 use Rattle.query_bind.specs.Classes.{HasVariable, Passes, row_field}
 use Rattle.query_bind.specs.Graph.{IsGraphOf}
 use Rattle.query_bind.specs.Parts.{numbers_of, sum_of_all}
-use Rattle.query_bind.specs.Weighed.{BoundQuery}
+use Rattle.query_bind.specs.WeighedQuery.{BoundQuery}
 use Rattle.query_bind.specs.Weights.{cap_of, key_at, part_of}
 use Rattle.node_build.specs.declared.built.BuildFault.{BuildFault}
 use Rattle.node_build.specs.declared.built.BuildFault.TheVariants as fault

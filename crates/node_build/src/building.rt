@@ -4,7 +4,7 @@ ghost use Rattle.tdp_core.specs.RawData.{row_total};
 ghost use Rattle.tdp_core.specs.Solutions.{IsTieFreeRaw};
 ghost use Rattle.anyk_model.specs.Query.{row_counts};
 ghost use Rattle.query_bind.specs.Parts.{sum_of_all};
-ghost use Rattle.query_bind.specs.Weighed.{Fits};
+ghost use Rattle.query_bind.specs.WeighedQuery.{Fits};
 ghost use Rattle.node_build.specs.Nodes.{CapsBelow, IsBuilt, IsJoinTreeOf, TellsFault};
 
 use crate::built::{BuildFault, Built};

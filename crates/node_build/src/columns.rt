@@ -3,7 +3,7 @@ ghost use Rattle.std.specs.Prelude.{◌<◌, ℕ, List, length, IfOk, IfSome, If
 ghost use Rattle.anyk_model.specs.Table.{Table};
 ghost use Rattle.rankings.specs.Order.{IsMember};
 ghost use Rattle.query_bind.specs.Classes.{HasVariable};
-ghost use Rattle.query_bind.specs.Weighed.{Fits};
+ghost use Rattle.query_bind.specs.WeighedQuery.{Fits};
 ghost use Rattle.node_build.specs.Columns.{AreShared, HaveColumns};
 ghost use Rattle.node_build.specs.Nodes.{IsJoinTreeOf};
 ghost use Rattle.node_build.specs.Rows.{lists_of};

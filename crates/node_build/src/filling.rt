@@ -1,8 +1,8 @@
 //! Filling the raw tree, one node after another.
 ghost use Rattle.std.specs.Prelude.{◌<◌, ◌≤◌, ◌+◌, ◌*◌, length, IfOk};
 ghost use Rattle.std.specs.List.{sum_by};
-ghost use Rattle.query_bind.specs.Weighed.{Fits};
-ghost use Rattle.node_build.specs.Filled.{IsFilledTree};
+ghost use Rattle.query_bind.specs.WeighedQuery.{Fits};
+ghost use Rattle.node_build.specs.PartialTrees.{IsFilledTree};
 ghost use Rattle.node_build.specs.Nodes.{CapsBelow, IsJoinTreeOf};
 ghost use Rattle.node_build.specs.Rows.{HaveRows, lists_of};
 ghost use Rattle.node_build.specs.Shapes.{AreShapesOf};

@@ -3,10 +3,10 @@ ghost use Rattle.std.specs.Prelude.{◌≡◌, ◌<◌, ◌≤◌, ◌+◌, ◌*
 ghost use Rattle.rankings.specs.Order.{IsMember};
 ghost use Rattle.tdp_core.specs.RawData.{RawRowData, row_total, rows_at, with_row};
 ghost use Rattle.tdp_core.specs.TreeData.{kids_below};
-ghost use Rattle.query_bind.specs.Weighed.{Fits};
+ghost use Rattle.query_bind.specs.WeighedQuery.{Fits};
 ghost use Rattle.query_bind.specs.Weights.{table_in};
 ghost use Rattle.node_build.specs.Columns.{HaveColumns};
-ghost use Rattle.node_build.specs.Filled.{HasOnlyMore};
+ghost use Rattle.node_build.specs.PartialTrees.{HasOnlyMore};
 ghost use Rattle.counted_index.specs.Pairs.{AreMore};
 ghost use Rattle.node_build.specs.Links.{HasRowsOf, IsRowOf, NamesLinks};
 ghost use Rattle.node_build.specs.Nodes.{CapsBelow, IsJoinTreeOf, item_of, parent_of};

@@ -1,6 +1,6 @@
 //! The rows of the nodes.
 ghost use Rattle.std.specs.Prelude.{◌≡◌, ◌<◌, ◌≤◌, IfOk, length, map};
-ghost use Rattle.query_bind.specs.Weighed.{Fits};
+ghost use Rattle.query_bind.specs.WeighedQuery.{Fits};
 ghost use Rattle.query_bind.specs.Weights.{table_in};
 ghost use Rattle.node_build.specs.Nodes.{AreNodeRows, IsJoinTreeOf};
 ghost use Rattle.node_build.specs.Rows.{HaveRows, lists_of};

@@ -2,7 +2,7 @@
 ghost use Rattle.std.specs.Prelude.{◌≡◌, ◌<◌, ◌≤◌, ℕ, List, length, take, IfOk, slice_index};
 ghost use Rattle.anyk_model.specs.Table.{Table};
 ghost use Rattle.rank_key.specs.Keys.{row_key};
-ghost use Rattle.query_bind.specs.Weighed.{Fits};
+ghost use Rattle.query_bind.specs.WeighedQuery.{Fits};
 ghost use Rattle.query_bind.specs.Weights.{table_in};
 ghost use Rattle.node_build.specs.Nodes.{CapsBelow, IsJoinTreeOf, item_of, cap_at, row_parts};
 ghost use Rattle.node_build.specs.Shapes.{AreShapesOf};

@@ -6,24 +6,24 @@ use Rattle.std.proofs.lemmas.Int.{ints}
 use Rattle.tdp_model.specs.KeyTuple.{KeyOf, key_add, slot_of}
 use Rattle.tdp_model.specs.KeyNumbers.{sum_of}
 use Rattle.packed_rank.specs.Packed.{lifted, packed_key}
-use Rattle.packed_rank.specs.Digits.{lifted-is}
+use Rattle.packed_rank.specs.Digits.{lifted_is}
 
-rests-add : (x y z : ℕ) → z / 2 ^ 63 ≡ x / 2 ^ 63 + y / 2 ^ 63 → z / 2 ^ 42 % 2 ^ 21 ≡ x / 2 ^ 42 % 2 ^ 21 + y / 2 ^ 42 % 2 ^ 21 → z / 2 ^ 21 % 2 ^ 21 ≡ x / 2 ^ 21 % 2 ^ 21 + y / 2 ^ 21 % 2 ^ 21
+rests_add : (x y z : ℕ) → z / 2 ^ 63 ≡ x / 2 ^ 63 + y / 2 ^ 63 → z / 2 ^ 42 % 2 ^ 21 ≡ x / 2 ^ 42 % 2 ^ 21 + y / 2 ^ 42 % 2 ^ 21 → z / 2 ^ 21 % 2 ^ 21 ≡ x / 2 ^ 21 % 2 ^ 21 + y / 2 ^ 21 % 2 ^ 21
     → z % 2 ^ 21 ≡ x % 2 ^ 21 + y % 2 ^ 21 → z ≡ x + y
-rests-add x y z p q r s = omega (arith, p, q, r, s)
+rests_add x y z p q r s = omega (arith, p, q, r, s)
 
 module _ (a b z : ℤ) (fits-a : FitsSigned w128 a) (fits-b : FitsSigned w128 b) (fits-z : FitsSigned w128 z) where
-  pub number-sum : packed_key z ≡ key_add 1 16 (packed_key a) (packed_key b) → z ≡ a +ℤ b
-  number-sum e =
+  pub number_sum : packed_key z ≡ key_add 1 16 (packed_key a) (packed_key b) → z ≡ a +ℤ b
+  number_sum e =
       let sums : pos (lifted z / 2 ^ 84) -ℤ pos (2 ^ 43) ≡ (pos (lifted a / 2 ^ 84) -ℤ pos (2 ^ 43)) +ℤ (pos (lifted b / 2 ^ 84) -ℤ pos (2 ^ 43)) = ap (sum_of 1 16 0) e in
       let rest : lifted z % 2 ^ 84 ≡ lifted a % 2 ^ 84 + lifted b % 2 ^ 84 =
-      rests-add (lifted a % 2 ^ 84) (lifted b % 2 ^ 84) (lifted z % 2 ^ 84) (ap (slot_of 1 16 0) e) (ap (slot_of 1 16 1) e) (ap (slot_of 1 16 2) e) (ap (slot_of 1 16 3) e) in
-      let is-a = lifted-is a fits-a in let is-b = lifted-is b fits-b in let is-z = lifted-is z fits-z in
+      rests_add (lifted a % 2 ^ 84) (lifted b % 2 ^ 84) (lifted z % 2 ^ 84) (ap (slot_of 1 16 0) e) (ap (slot_of 1 16 1) e) (ap (slot_of 1 16 2) e) (ap (slot_of 1 16 3) e) in
+      let is-a = lifted_is a fits-a in let is-b = lifted_is b fits-b in let is-z = lifted_is z fits-z in
       omega (arith, ints, sums, rest, is-a, is-b, is-z)
 
 -- what is left of a number without a part of it
-pub number-rest : (t o r : ℤ) (rest : KeyOf 1 16) → FitsSigned w128 t → FitsSigned w128 o → FitsSigned w128 r
+pub number_rest : (t o r : ℤ) (rest : KeyOf 1 16) → FitsSigned w128 t → FitsSigned w128 o → FitsSigned w128 r
     → packed_key t ≡ key_add 1 16 rest (packed_key o) → packed_key r ≡ rest → r ≡ t -ℤ o
-number-rest t o r rest fits-t fits-o fits-r whole is =
-    let sum = number-sum r o t fits-r fits-o fits-t (whole ∙ ap (λ k. key_add 1 16 k (packed_key o)) (sym is)) in
+number_rest t o r rest fits-t fits-o fits-r whole is =
+    let sum = number_sum r o t fits-r fits-o fits-t (whole ∙ ap (λ k. key_add 1 16 k (packed_key o)) (sym is)) in
     omega (arith, ints, sum)

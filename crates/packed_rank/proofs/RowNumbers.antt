@@ -13,66 +13,66 @@ use Rattle.tdp_model.specs.KeyNumbers.{sum_of}
 use Rattle.tdp_model.proofs.KeyNumbers.{slot_of_lists}
 use Rattle.rank_key.specs.Keys.{IsWithin, row_key}
 use Rattle.packed_rank.specs.Packed.{number_of, packed_key, unit_of}
-use Rattle.packed_rank.specs.Digits.{key-of_number}
+use Rattle.packed_rank.specs.Digits.{key_of_number}
 
 module _ (row : ℕ) where
-  number-is : (sum : ℤ) (slot : ℕ) → slot < 4 → number_of (row_key 1 (sum ∷ []) slot row) ≡ sum *ℤ pos (2 ^ 84) +ℤ pos row *ℤ unit_of slot
-  number-is sum zero l = omega (arith, ints)
-  number-is sum (suc zero) l = omega (arith, ints)
-  number-is sum (suc (suc zero)) l = omega (arith, ints)
-  number-is sum (suc (suc (suc zero))) l = omega (arith, ints)
-  number-is sum (suc (suc (suc (suc slot)))) l = absurd (omega arith)
+  number_is : (sum : ℤ) (slot : ℕ) → slot < 4 → number_of (row_key 1 (sum ∷ []) slot row) ≡ sum *ℤ pos (2 ^ 84) +ℤ pos row *ℤ unit_of slot
+  number_is sum zero l = omega (arith, ints)
+  number_is sum (suc zero) l = omega (arith, ints)
+  number_is sum (suc (suc zero)) l = omega (arith, ints)
+  number_is sum (suc (suc (suc zero))) l = omega (arith, ints)
+  number_is sum (suc (suc (suc (suc slot)))) l = absurd (omega arith)
 
   module _ (sums : List ℤ) (slot : ℕ) (few : slot < 4) where
-    slot-own : (i : ℕ) → i < 16 → i ≡ slot → slot_of 1 16 i (row_key 1 sums slot row) ≡ row
-    slot-own i l e = slot_of_lists 1 16 i sums (set (replicate 16 0) slot row) l ∙ get_or-set_at (replicate 16 0) slot i row 0 e (omega arith)
+    slot_own : (i : ℕ) → i < 16 → i ≡ slot → slot_of 1 16 i (row_key 1 sums slot row) ≡ row
+    slot_own i l e = slot_of_lists 1 16 i sums (set (replicate 16 0) slot row) l ∙ get_or-set_at (replicate 16 0) slot i row 0 e (omega arith)
 
-    slot-other : (i : ℕ) → i < 16 → (i ≡ slot → ⊥) → slot_of 1 16 i (row_key 1 sums slot row) ≡ 0
-    slot-other i l n =
+    slot_other : (i : ℕ) → i < 16 → (i ≡ slot → ⊥) → slot_of 1 16 i (row_key 1 sums slot row) ≡ 0
+    slot_other i l n =
         slot_of_lists 1 16 i sums (set (replicate 16 0) slot row) l
         ∙ get_or-set_other {A = ℕ} (replicate 16 0) slot i row 0 n ∙ get_or-replicate {A = ℕ} 16 i 0 0 l
 
-  small-sum : (sums : List ℤ) (slot i : ℕ) → All (λ z. unsigned_abs z < 2 ^ 43) sums → i < 1 → unsigned_abs (sum_of 1 16 i (row_key 1 sums slot row)) < 2 ^ 43
-  small-sum [] slot zero small l = omega (arith, ints)
-  small-sum (x ∷ xs) slot zero small l = All-head (λ z. unsigned_abs z < 2 ^ 43) x xs small
-  small-sum sums slot (suc i) small l = absurd (omega arith)
+  small_sum : (sums : List ℤ) (slot i : ℕ) → All (λ z. unsigned_abs z < 2 ^ 43) sums → i < 1 → unsigned_abs (sum_of 1 16 i (row_key 1 sums slot row)) < 2 ^ 43
+  small_sum [] slot zero small l = omega (arith, ints)
+  small_sum (x ∷ xs) slot zero small l = All-head (λ z. unsigned_abs z < 2 ^ 43) x xs small
+  small_sum sums slot (suc i) small l = absurd (omega arith)
 
   within : (sums : List ℤ) (slot : ℕ) → slot < 4 → row < 2 ^ 21 → All (λ z. unsigned_abs z < 2 ^ 43) sums → IsWithin 1 4 (2 ^ 43) (2 ^ 21) (row_key 1 sums slot row)
   within sums slot few low small = record {
-    sums = λ i l. small-sum sums slot i small l;
+    sums = λ i l. small_sum sums slot i small l;
     slots = λ i l. elim (cases_eq i slot) [
-      | inl e ↦ omega (arith, slot-own sums slot few i l e)
-      | inr n ↦ omega (arith, slot-other sums slot few i l n)
+      | inl e ↦ omega (arith, slot_own sums slot few i l e)
+      | inr n ↦ omega (arith, slot_other sums slot few i l n)
     ];
-    none = λ i past l. slot-other sums slot few i l (λ e. omega arith);
+    none = λ i past l. slot_other sums slot few i l (λ e. omega arith);
   }
 
-  number-of-row : (sums : List ℤ) (slot : ℕ) → slot < 4 → number_of (row_key 1 sums slot row) ≡ get_or sums 0 (pos 0) *ℤ pos (2 ^ 84) +ℤ pos row *ℤ unit_of slot
-  number-of-row [] slot few = number-is (pos 0) slot few
-  number-of-row (x ∷ xs) slot few = number-is x slot few
+  number_of_row : (sums : List ℤ) (slot : ℕ) → slot < 4 → number_of (row_key 1 sums slot row) ≡ get_or sums 0 (pos 0) *ℤ pos (2 ^ 84) +ℤ pos row *ℤ unit_of slot
+  number_of_row [] slot few = number_is (pos 0) slot few
+  number_of_row (x ∷ xs) slot few = number_is x slot few
 
-  pub first-small : (sums : List ℤ) → All (λ z. unsigned_abs z < 2 ^ 43) sums → unsigned_abs (get_or sums 0 (pos 0)) < 2 ^ 43
-  first-small [] small = omega (arith, ints)
-  first-small (x ∷ xs) small = All-head (λ z. unsigned_abs z < 2 ^ 43) x xs small
+  pub first_small : (sums : List ℤ) → All (λ z. unsigned_abs z < 2 ^ 43) sums → unsigned_abs (get_or sums 0 (pos 0)) < 2 ^ 43
+  first_small [] small = omega (arith, ints)
+  first_small (x ∷ xs) small = All-head (λ z. unsigned_abs z < 2 ^ 43) x xs small
 
   -- what is computed on the way fits
-  pub sum-fits : (x : ℤ) → unsigned_abs x < 2 ^ 43 → FitsSigned w128 (x *ℤ pos (2 ^ 84))
-  sum-fits x small = omega (arith, ints)
+  pub sum_fits : (x : ℤ) → unsigned_abs x < 2 ^ 43 → FitsSigned w128 (x *ℤ pos (2 ^ 84))
+  sum_fits x small = omega (arith, ints)
 
-  pub unit-fits : (slot : ℕ) → slot < 4 → row < 2 ^ 21 → FitsSigned w128 (pos row *ℤ unit_of slot)
-  unit-fits zero few low = omega (arith, ints)
-  unit-fits (suc zero) few low = omega (arith, ints)
-  unit-fits (suc (suc zero)) few low = omega (arith, ints)
-  unit-fits (suc (suc (suc slot))) few low = omega (arith, ints)
+  pub unit_fits : (slot : ℕ) → slot < 4 → row < 2 ^ 21 → FitsSigned w128 (pos row *ℤ unit_of slot)
+  unit_fits zero few low = omega (arith, ints)
+  unit_fits (suc zero) few low = omega (arith, ints)
+  unit_fits (suc (suc zero)) few low = omega (arith, ints)
+  unit_fits (suc (suc (suc slot))) few low = omega (arith, ints)
 
-  pub both-fit : (x : ℤ) (slot : ℕ) → unsigned_abs x < 2 ^ 43 → slot < 4 → row < 2 ^ 21 → FitsSigned w128 (x *ℤ pos (2 ^ 84) +ℤ pos row *ℤ unit_of slot)
-  both-fit x zero small few low = omega (arith, ints)
-  both-fit x (suc zero) small few low = omega (arith, ints)
-  both-fit x (suc (suc zero)) small few low = omega (arith, ints)
-  both-fit x (suc (suc (suc slot))) small few low = omega (arith, ints)
+  pub both_fit : (x : ℤ) (slot : ℕ) → unsigned_abs x < 2 ^ 43 → slot < 4 → row < 2 ^ 21 → FitsSigned w128 (x *ℤ pos (2 ^ 84) +ℤ pos row *ℤ unit_of slot)
+  both_fit x zero small few low = omega (arith, ints)
+  both_fit x (suc zero) small few low = omega (arith, ints)
+  both_fit x (suc (suc zero)) small few low = omega (arith, ints)
+  both_fit x (suc (suc (suc slot))) small few low = omega (arith, ints)
 
   -- the key of the number that is made of a row is the key of the row
-  pub key-of_row : (sums : List ℤ) (slot : ℕ) (z : ℤ) → slot < 4 → row < 2 ^ 21 → All (λ z. unsigned_abs z < 2 ^ 43) sums
+  pub key_of_row : (sums : List ℤ) (slot : ℕ) (z : ℤ) → slot < 4 → row < 2 ^ 21 → All (λ z. unsigned_abs z < 2 ^ 43) sums
       → z ≡ get_or sums 0 (pos 0) *ℤ pos (2 ^ 84) +ℤ pos row *ℤ unit_of slot → packed_key z ≡ row_key 1 sums slot row
-  key-of_row sums slot z few low small is =
-      ap packed_key (is ∙ sym (number-of-row sums slot few)) ∙ key-of_number (row_key 1 sums slot row) (within sums slot few low small)
+  key_of_row sums slot z few low small is =
+      ap packed_key (is ∙ sym (number_of_row sums slot few)) ∙ key_of_number (row_key 1 sums slot row) (within sums slot few low small)

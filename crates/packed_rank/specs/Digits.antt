@@ -10,27 +10,27 @@ use Rattle.rank_key.specs.Keys.{IsWithin}
 use Rattle.packed_rank.specs.Packed.{lifted, digits, packed_key, from_digits, number_of}
 
 -- a number of 128 bits with a sign, lifted
-pub lifted-is : (z : ℤ) → FitsSigned w128 z → pos (lifted z) ≡ z +ℤ pos (2 ^ 127)
-lifted-is (pos n) fits = omega (arith, ints)
-lifted-is (negsuc n) fits = omega (arith, ints)
+pub lifted_is : (z : ℤ) → FitsSigned w128 z → pos (lifted z) ≡ z +ℤ pos (2 ^ 127)
+lifted_is (pos n) fits = omega (arith, ints)
+lifted_is (negsuc n) fits = omega (arith, ints)
 
 -- the digits of such a number
 module _ (a b c d : ℕ)
     (p : a < 2 ^ 21) (q : b < 2 ^ 21) (r : c < 2 ^ 21) (s : d < 2 ^ 21) where
-  pub digits-below : from_digits a b c d < 2 ^ 84
-  digits-below = omega (arith, p, q, r, s)
+  pub digits_below : from_digits a b c d < 2 ^ 84
+  digits_below = omega (arith, p, q, r, s)
 
-  first-digit : from_digits a b c d / 2 ^ 63 ≡ a
-  first-digit = omega (arith, p, q, r, s)
+  first_digit : from_digits a b c d / 2 ^ 63 ≡ a
+  first_digit = omega (arith, p, q, r, s)
 
-  second-digit : from_digits a b c d / 2 ^ 42 % 2 ^ 21 ≡ b
-  second-digit = omega (arith, p, q, r, s)
+  second_digit : from_digits a b c d / 2 ^ 42 % 2 ^ 21 ≡ b
+  second_digit = omega (arith, p, q, r, s)
 
-  third-digit : from_digits a b c d / 2 ^ 21 % 2 ^ 21 ≡ c
-  third-digit = omega (arith, p, q, r, s)
+  third_digit : from_digits a b c d / 2 ^ 21 % 2 ^ 21 ≡ c
+  third_digit = omega (arith, p, q, r, s)
 
-  last-digit : from_digits a b c d % 2 ^ 21 ≡ d
-  last-digit = omega (arith, p, q, r, s)
+  last_digit : from_digits a b c d % 2 ^ 21 ≡ d
+  last_digit = omega (arith, p, q, r, s)
 
 -- a sum below 2 ^ 43 in absolute value and a number below 2 ^ 84 make a number of 128 bits with a
 -- sign, and are had from it
@@ -38,14 +38,14 @@ module _ (sum : ℤ) (rest : ℕ) (small : unsigned_abs sum < 2 ^ 43) (low : res
   abbrev made : ℤ
   made = sum *ℤ pos (2 ^ 84) +ℤ pos rest
 
-  pub made-fits : FitsSigned w128 made
-  made-fits = omega (arith, ints, small, low)
+  pub made_fits : FitsSigned w128 made
+  made_fits = omega (arith, ints, small, low)
 
-  pub made-sum : pos (lifted made / 2 ^ 84) -ℤ pos (2 ^ 43) ≡ sum
-  made-sum = let is = lifted-is made made-fits in omega (arith, ints, small, low, is)
+  pub made_sum : pos (lifted made / 2 ^ 84) -ℤ pos (2 ^ 43) ≡ sum
+  made_sum = let is = lifted_is made made_fits in omega (arith, ints, small, low, is)
 
-  pub made-rest : lifted made % 2 ^ 84 ≡ rest
-  made-rest = let is = lifted-is made made-fits in omega (arith, ints, small, low, is)
+  pub made_rest : lifted made % 2 ^ 84 ≡ rest
+  made_rest = let is = lifted_is made made_fits in omega (arith, ints, small, low, is)
 
 module _ (k : KeyOf 1 16) (within : IsWithin 1 4 (2 ^ 43) (2 ^ 21) k) where
   abbrev sum : ℤ
@@ -63,32 +63,32 @@ module _ (k : KeyOf 1 16) (within : IsWithin 1 4 (2 ^ 43) (2 ^ 21) k) where
   small : (i : ℕ) → i < 4 → slot i < 2 ^ 21
   small i l = within.slots i (omega arith)
 
-  sum-small : unsigned_abs sum < 2 ^ 43
-  sum-small = within.sums 0 (omega arith)
+  sum_small : unsigned_abs sum < 2 ^ 43
+  sum_small = within.sums 0 (omega arith)
 
-  rest-below : rest < 2 ^ 84
-  rest-below = digits-below (slot 0) (slot 1) (slot 2) (slot 3) (small 0 (omega arith))
+  rest_below : rest < 2 ^ 84
+  rest_below = digits_below (slot 0) (slot 1) (slot 2) (slot 3) (small 0 (omega arith))
       (small 1 (omega arith)) (small 2 (omega arith)) (small 3 (omega arith))
 
-  pub number-fits : FitsSigned w128 (number_of k)
-  number-fits = made-fits sum rest sum-small rest-below
+  pub number_fits : FitsSigned w128 (number_of k)
+  number_fits = made_fits sum rest sum_small rest_below
 
-  digits-are : digits (lifted (number_of k) % 2 ^ 84) ≡ four
-  digits-are =
+  digits_are : digits (lifted (number_of k) % 2 ^ 84) ≡ four
+  digits_are =
       let p = small 0 (omega arith) in let q = small 1 (omega arith) in
       let r = small 2 (omega arith) in let s = small 3 (omega arith) in
-      ap digits (made-rest sum rest sum-small rest-below)
-      ∙ (λ i. first-digit (slot 0) (slot 1) (slot 2) (slot 3) p q r s i
-      ∷ second-digit (slot 0) (slot 1) (slot 2) (slot 3) p q r s i
-      ∷ third-digit (slot 0) (slot 1) (slot 2) (slot 3) p q r s i
-      ∷ last-digit (slot 0) (slot 1) (slot 2) (slot 3) p q r s i ∷ [])
+      ap digits (made_rest sum rest sum_small rest_below)
+      ∙ (λ i. first_digit (slot 0) (slot 1) (slot 2) (slot 3) p q r s i
+      ∷ second_digit (slot 0) (slot 1) (slot 2) (slot 3) p q r s i
+      ∷ third_digit (slot 0) (slot 1) (slot 2) (slot 3) p q r s i
+      ∷ last_digit (slot 0) (slot 1) (slot 2) (slot 3) p q r s i ∷ [])
 
   -- the digits of a key's number make the key
-  pub key-of_number : packed_key (number_of k) ≡ k
-  key-of_number =
+  pub key_of_number : packed_key (number_of k) ≡ k
+  key_of_number =
       ap (λ s. key_of_lists 1 16 (s ∷ []) (digits (lifted (number_of k) % 2 ^ 84)))
-      (made-sum sum rest sum-small rest-below)
-      ∙ ap (key_of_lists 1 16 (sum ∷ [])) digits-are
+      (made_sum sum rest sum_small rest_below)
+      ∙ ap (key_of_lists 1 16 (sum ∷ [])) digits_are
       ∙ key_same 1 16 (key_of_lists 1 16 (sum ∷ []) four) k sums slots
     where
       sums : (i : ℕ) → i < 1 → sum_of 1 16 i (key_of_lists 1 16 (sum ∷ []) four) ≡ sum_of 1 16 i k

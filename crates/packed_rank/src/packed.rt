@@ -3,7 +3,7 @@ ghost use Rattle.std.specs.Prelude.{◌≡◌, ◌^◌, ◌<◌, pos, slice_inde
 ghost use Rattle.std.specs.Int.{w128};
 ghost use Rattle.std.proofs.Common.{rules};
 ghost use Rattle.packed_rank.specs.Packed.{packed_key, number_of, unit_of};
-ghost use Rattle.packed_rank.specs.Digits.{number-fits, key-of_number};
+ghost use Rattle.packed_rank.specs.Digits.{number_fits, key_of_number};
 
 use rank_key::{Rank, Sum};
 use std::sync::ledger::Ledger;
@@ -91,9 +91,9 @@ impl Rank for PackedRank {
     ghost holds = { λ k within. (
       record {
         number = number_of k;
-        fits = number-fits k within;
+        fits = number_fits k within;
       },
-      key-of_number k within,
+      key_of_number k within,
     ) };
 
     ghost rows_held = { Prim.search rules };

@@ -3,8 +3,8 @@ use Rattle.std.proofs.Common.{◌≡◌, ◌↔◌, ◌≤◌, ℕ, Bool, false,
 use Rattle.std.specs.Prelude.{IsTrue}
 use Rattle.rank_key.specs.declared.fixed_rank.FixedRank.{FixedRank}
 use Rattle.anyk_model.specs.Table.{Table}
-use Rattle.query_bind.specs.Weighed.{BoundQuery, Fits}
-use Rattle.node_build.proofs.Shaped.{caps-small}
+use Rattle.query_bind.specs.WeighedQuery.{BoundQuery, Fits}
+use Rattle.node_build.proofs.Shaped.{caps_small}
 use Rattle.plan_build.specs.Plan.{PlanData}
 use Rattle.plan_build.specs.RankedPlan.{HasLeastRoom, HasRoom, fixed_room, packed_room}
 use Rattle.plan_build.specs.declared.ranked_plan.RankedPlan.TheVariants.{Lex, MiddleSum, SmallLex, Sum}
@@ -17,34 +17,34 @@ module _ (bound : BoundQuery) (tables : List Table) (fits : Fits bound tables) w
   abbrev HasPlaces : ℕ → ℕ → Type 0
   HasPlaces n m = (length bound.query.order ≤ n) × (length bound.query.items ≤ m)
 
-  fixed-enough : (n m : ℕ) → HasPlaces n m → HasRoom bound tables (fixed_room n m)
-  fixed-enough n m places = record { keys = places.0; items = places.1; limit = caps-small bound tables fits }
+  fixed_enough : (n m : ℕ) → HasPlaces n m → HasRoom bound tables (fixed_room n m)
+  fixed_enough n m places = record { keys = places.0; items = places.1; limit = caps_small bound tables fits }
 
-  no-fixed : (n m : ℕ) → (HasPlaces n m → ⊥) → HasRoom bound tables (fixed_room n m) → ⊥
-  no-fixed n m never room = never (room.keys, room.items)
+  no_fixed : (n m : ℕ) → (HasPlaces n m → ⊥) → HasRoom bound tables (fixed_room n m) → ⊥
+  no_fixed n m never room = never (room.keys, room.items)
 
   module _ (packed : HasRoom bound tables packed_room → ⊥) where
-    pub middle-least : (plan : PlanData (FixedRank 1 8)) → HasPlaces 1 8 → HasLeastRoom bound tables (MiddleSum plan)
-    middle-least plan places = record {
-      enough = fixed-enough 1 8 places;
+    pub middle_least : (plan : PlanData (FixedRank 1 8)) → HasPlaces 1 8 → HasLeastRoom bound tables (MiddleSum plan)
+    middle_least plan places = record {
+      enough = fixed_enough 1 8 places;
       least = ((λ h. absurd (packed h)), ((λ h. omega arith), ((λ h. omega arith), ((λ h. omega arith), ((λ h. omega arith), tt)))));
     }
 
-    pub small-lex-least : (plan : PlanData (FixedRank 2 4)) → HasPlaces 2 4 → HasLeastRoom bound tables (SmallLex plan)
-    small-lex-least plan places = record {
-      enough = fixed-enough 2 4 places;
+    pub small_lex_least : (plan : PlanData (FixedRank 2 4)) → HasPlaces 2 4 → HasLeastRoom bound tables (SmallLex plan)
+    small_lex_least plan places = record {
+      enough = fixed_enough 2 4 places;
       least = ((λ h. absurd (packed h)), ((λ h. omega arith), ((λ h. omega arith), ((λ h. omega arith), ((λ h. omega arith), tt)))));
     }
 
     module _ (middle : HasPlaces 1 8 → ⊥) (small_lex : HasPlaces 2 4 → ⊥) where
-      pub sum-least : (plan : PlanData (FixedRank 1 16)) → HasPlaces 1 16 → HasLeastRoom bound tables (Sum plan)
-      sum-least plan places = record {
-        enough = fixed-enough 1 16 places;
-        least = ((λ h. absurd (packed h)), ((λ h. absurd (no-fixed 1 8 middle h)), ((λ h. omega arith), ((λ h. absurd (no-fixed 2 4 small_lex h)), ((λ h. omega arith), tt)))));
+      pub sum_least : (plan : PlanData (FixedRank 1 16)) → HasPlaces 1 16 → HasLeastRoom bound tables (Sum plan)
+      sum_least plan places = record {
+        enough = fixed_enough 1 16 places;
+        least = ((λ h. absurd (packed h)), ((λ h. absurd (no_fixed 1 8 middle h)), ((λ h. omega arith), ((λ h. absurd (no_fixed 2 4 small_lex h)), ((λ h. omega arith), tt)))));
       }
 
-      pub lex-least : (plan : PlanData (FixedRank 8 16)) → (HasPlaces 1 16 → ⊥) → HasPlaces 8 16 → HasLeastRoom bound tables (Lex plan)
-      lex-least plan sum places = record {
-        enough = fixed-enough 8 16 places;
-        least = ((λ h. absurd (packed h)), ((λ h. absurd (no-fixed 1 8 middle h)), ((λ h. absurd (no-fixed 1 16 sum h)), ((λ h. absurd (no-fixed 2 4 small_lex h)), ((λ h. omega arith), tt)))));
+      pub lex_least : (plan : PlanData (FixedRank 8 16)) → (HasPlaces 1 16 → ⊥) → HasPlaces 8 16 → HasLeastRoom bound tables (Lex plan)
+      lex_least plan sum places = record {
+        enough = fixed_enough 8 16 places;
+        least = ((λ h. absurd (packed h)), ((λ h. absurd (no_fixed 1 8 middle h)), ((λ h. absurd (no_fixed 1 16 sum h)), ((λ h. absurd (no_fixed 2 4 small_lex h)), ((λ h. omega arith), tt)))));
       }

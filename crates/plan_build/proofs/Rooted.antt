@@ -10,10 +10,10 @@ use Rattle.join_tree.specs.Rerooting.{AreLinked, HasAtom, IsSameTree}
 use Rattle.join_tree.specs.declared.tree.JoinTree.{JoinTree}
 use Rattle.anyk_model.specs.Table.{Table}
 use Rattle.anyk_model.specs.Query.{Query}
-use Rattle.query_bind.specs.Weighed.{BoundQuery}
+use Rattle.query_bind.specs.WeighedQuery.{BoundQuery}
 use Rattle.query_shape.specs.Shape.{Shape}
 use Rattle.node_build.specs.Nodes.{IsJoinTreeOf, item_of, parent_of}
-use Rattle.plan_build.proofs.Witnesses.{items-ordered}
+use Rattle.plan_build.proofs.Witnesses.{items_ordered}
 use Rattle.plan_build.specs.declared.fault.PlanFault.{PlanFault}
 use Rattle.plan_build.specs.Plan.{IsPlan, IsPlanAt, IsPlanFor, IsPlanOf, PlanData, nodes_in, tree_shown}
 
@@ -21,36 +21,36 @@ use Rattle.plan_build.specs.Plan.{IsPlan, IsPlanAt, IsPlanFor, IsPlanOf, PlanDat
 
 module _ (count : ℕ) (atoms ups others parents : List ℕ) (same_atoms : (k : ℕ) → k < count → slice_index others k ≡ slice_index atoms k)
     (same_ups : (k : ℕ) → k < count → slice_index parents k ≡ slice_index ups k) where
-  has-atom : (a : ℕ) → HasAtom count atoms a → HasAtom count others a
-  has-atom a (k, l, e) = (k, l, same_atoms k l ∙ e)
+  has_atom : (a : ℕ) → HasAtom count atoms a → HasAtom count others a
+  has_atom a (k, l, e) = (k, l, same_atoms k l ∙ e)
 
-  linked-same : (j k : ℕ) → j < count → k < count → IsLinked ups j k → IsLinked parents j k
-  linked-same j k lj lk (inl (above, e)) = inl (above, same_ups k lk ∙ e)
-  linked-same j k lj lk (inr (above, e)) = inr (above, same_ups j lj ∙ e)
+  linked_same : (j k : ℕ) → j < count → k < count → IsLinked ups j k → IsLinked parents j k
+  linked_same j k lj lk (inl (above, e)) = inl (above, same_ups k lk ∙ e)
+  linked_same j k lj lk (inr (above, e)) = inr (above, same_ups j lj ∙ e)
 
-  are-linked : (a b : ℕ) → AreLinked count atoms ups a b → AreLinked count others parents a b
-  are-linked a b (j, k, lj, lk, ej, ek, linked) = (j, k, lj, lk, same_atoms j lj ∙ ej, same_atoms k lk ∙ ek, linked-same j k lj lk linked)
+  are_linked : (a b : ℕ) → AreLinked count atoms ups a b → AreLinked count others parents a b
+  are_linked a b (j, k, lj, lk, ej, ek, linked) = (j, k, lj, lk, same_atoms j lj ∙ ej, same_atoms k lk ∙ ek, linked_same j k lj lk linked)
 
 -- a tree that is equal node by node to one with the same links has the same links
-pub same-tree : (count : ℕ) (first firsts atoms ups others parents : List ℕ) → ((k : ℕ) → k < count → slice_index others k ≡ slice_index atoms k)
+pub same_tree : (count : ℕ) (first firsts atoms ups others parents : List ℕ) → ((k : ℕ) → k < count → slice_index others k ≡ slice_index atoms k)
     → ((k : ℕ) → k < count → slice_index parents k ≡ slice_index ups k) → IsSameTree count first firsts atoms ups → IsSameTree count first firsts others parents
-same-tree count first firsts atoms ups others parents same_atoms same_ups same =
+same_tree count first firsts atoms ups others parents same_atoms same_ups same =
     let back_atoms : (k : ℕ) → k < count → slice_index atoms k ≡ slice_index others k = λ k l. sym (same_atoms k l) in
     let back_ups : (k : ℕ) → k < count → slice_index ups k ≡ slice_index parents k = λ k l. sym (same_ups k l) in
     record {
       nodes = λ a. (
-        λ h. has-atom count atoms ups others parents same_atoms same_ups a ((same.nodes a).0 h),
-        λ h. (same.nodes a).1 (has-atom count others parents atoms ups back_atoms back_ups a h),
+        λ h. has_atom count atoms ups others parents same_atoms same_ups a ((same.nodes a).0 h),
+        λ h. (same.nodes a).1 (has_atom count others parents atoms ups back_atoms back_ups a h),
       );
       links = λ a b. (
-        λ h. are-linked count atoms ups others parents same_atoms same_ups a b ((same.links a b).0 h),
-        λ h. (same.links a b).1 (are-linked count others parents atoms ups back_atoms back_ups a b h),
+        λ h. are_linked count atoms ups others parents same_atoms same_ups a b ((same.links a b).0 h),
+        λ h. (same.links a b).1 (are_linked count others parents atoms ups back_atoms back_ups a b h),
       );
     }
 
 -- lists that are equal at the first n places
-fronts-same : (n : ℕ) (xs ys : List ℕ) → length (take n xs) ≡ n → length (take n ys) ≡ n → ((k : ℕ) → k < n → slice_index xs k ≡ slice_index ys k) → take n xs ≡ take n ys
-fronts-same n xs ys long alike same =
+fronts_same : (n : ℕ) (xs ys : List ℕ) → length (take n xs) ≡ n → length (take n ys) ≡ n → ((k : ℕ) → k < n → slice_index xs k ≡ slice_index ys k) → take n xs ≡ take n ys
+fronts_same n xs ys long alike same =
     ext_get_or 0 (take n xs) (take n ys) (long ∙ sym alike) (λ k l.
     let inside : k < n = omega (arith, l, long) in
     get_or-take n xs k 0 inside ∙ same k inside ∙ sym (get_or-take n ys k 0 inside))
@@ -59,16 +59,16 @@ fronts-same n xs ys long alike same =
 
 module _ (query : Query) (join : JoinTree) (joined : IsJoinTreeOf query join) where
   -- each item is at a node
-  pub item-there : (at : ℕ) → at < length query.items → HasAtom join.count join.atom at
-  item-there at l =
-      let found = (items-ordered query join joined).each at l in
+  pub item_there : (at : ℕ) → at < length query.items → HasAtom join.count join.atom at
+  item_there at l =
+      let found = (items_ordered query join joined).each at l in
       (found.0, (let w = found.1 in let c = joined.count in omega (arith, w, c)), found.2)
 
   -- what is a join tree of each graph of which this is one is a join tree of the query
-  pub joined-again : (rooted : JoinTree) → rooted.count ≡ join.count
+  pub joined_again : (rooted : JoinTree) → rooted.count ≡ join.count
       → ((graph : Hypergraph) → IsJoinTree graph (take join.count join.atom) (take join.count join.parent)
       → IsJoinTree graph (take rooted.count rooted.atom) (take rooted.count rooted.parent)) → IsJoinTreeOf query rooted
-  joined-again rooted same graphs = record {
+  joined_again rooted same graphs = record {
     count = same ∙ joined.count;
     graph = joined.graph;
     of_query = joined.of_query;
@@ -81,46 +81,46 @@ module _ {R : Type 0} (d : ℕ) (key : R → KeyOf d 16) (bound : BoundQuery) (t
     (whole : IsPlanFor d key bound tables plan) (kept : plan.join ≡ join) (joined : IsJoinTreeOf bound.query over)
     (items : (v : ℕ) → v < length plan.tree → item plan.tree v ≡ item_of over v)
     (parents : (v : ℕ) → v < length plan.tree → parent plan.tree v ≡ parent_of over v) where
-  shape-is : whole.shape ≡ tree_shown join plan.node_rows
-  shape-is = whole.shown ∙ ap (λ (j : JoinTree). tree_shown j plan.node_rows) kept
+  shape_is : whole.shape ≡ tree_shown join plan.node_rows
+  shape_is = whole.shown ∙ ap (λ (j : JoinTree). tree_shown j plan.node_rows) kept
 
-  nodes-many : length plan.tree ≡ over.count
-  nodes-many = whole.nodes ∙ sym joined.count
+  nodes_many : length plan.tree ≡ over.count
+  nodes_many = whole.nodes ∙ sym joined.count
 
   -- the nodes are those of the join tree that the plan keeps
-  pub plan-of : over ≡ join → IsPlan d key bound tables plan
-  plan-of same =
-      let over_shown : whole.shape ≡ tree_shown over plan.node_rows = shape-is ∙ ap (λ (j : JoinTree). tree_shown j plan.node_rows) (sym same) in
+  pub plan_of : over ≡ join → IsPlan d key bound tables plan
+  plan_of same =
+      let over_shown : whole.shape ≡ tree_shown over plan.node_rows = shape_is ∙ ap (λ (j : JoinTree). tree_shown j plan.node_rows) (sym same) in
       record {
         whole = whole;
         items = λ v l.
-            let inside : v < over.count = (let n = nodes-many in omega (arith, l, n)) in
+            let inside : v < over.count = (let n = nodes_many in omega (arith, l, n)) in
             items v l ∙ sym (ap (λ (s : Shape). slice_index s.atoms v) over_shown ∙ get_or-take over.count over.atom v 0 inside);
         parents = λ v l.
-            let inside : v < over.count = (let n = nodes-many in omega (arith, l, n)) in
+            let inside : v < over.count = (let n = nodes_many in omega (arith, l, n)) in
             parents v l ∙ sym (ap (λ (s : Shape). slice_index s.parents v) over_shown ∙ get_or-take over.count over.parent v 0 inside);
       }
 
-  atom-at : (v : ℕ) → v < over.count → slice_index (nodes_in plan.tree).atom v ≡ slice_index over.atom v
-  atom-at v l =
-      let inside : v < length plan.tree = (let n = nodes-many in omega (arith, l, n)) in
+  atom_at : (v : ℕ) → v < over.count → slice_index (nodes_in plan.tree).atom v ≡ slice_index over.atom v
+  atom_at v l =
+      let inside : v < length plan.tree = (let n = nodes_many in omega (arith, l, n)) in
       get_or-map (λ n. n.shape.item) plan.tree v _ 0 inside ∙ items v inside
 
-  parent-at : (v : ℕ) → v < over.count → slice_index (nodes_in plan.tree).parent v ≡ slice_index over.parent v
-  parent-at v l =
-      let inside : v < length plan.tree = (let n = nodes-many in omega (arith, l, n)) in
+  parent_at : (v : ℕ) → v < over.count → slice_index (nodes_in plan.tree).parent v ≡ slice_index over.parent v
+  parent_at v l =
+      let inside : v < length plan.tree = (let n = nodes_many in omega (arith, l, n)) in
       get_or-map (λ n. n.shape.parent) plan.tree v _ 0 inside ∙ parents v inside
 
-  nodes-joined : IsJoinTreeOf bound.query (nodes_in plan.tree)
-  nodes-joined =
-      let many = nodes-many in
+  nodes_joined : IsJoinTreeOf bound.query (nodes_in plan.tree)
+  nodes_joined =
+      let many = nodes_many in
       let full : over.count ≡ joined.graph.atoms = joined.count ∙ sym joined.of_query.atoms in
       let atoms_long : length (take over.count over.atom) ≡ over.count = joined.tree.nodes ∙ sym full in
       let ups_long : length (take over.count over.parent) ≡ over.count = joined.tree.has_parents ∙ sym full in
       let own_long : length (take over.count (nodes_in plan.tree).atom) ≡ over.count = length-take-le over.count (nodes_in plan.tree).atom (let m = length-map plan.tree (λ n. n.shape.item) in omega (arith, m, many)) in
       let above_long : length (take over.count (nodes_in plan.tree).parent) ≡ over.count = length-take-le over.count (nodes_in plan.tree).parent (let m = length-map plan.tree (λ n. n.shape.parent) in omega (arith, m, many)) in
-      let atoms = fronts-same over.count over.atom (nodes_in plan.tree).atom atoms_long own_long (λ k l. sym (atom-at k l)) in
-      let ups = fronts-same over.count over.parent (nodes_in plan.tree).parent ups_long above_long (λ k l. sym (parent-at k l)) in
+      let atoms = fronts_same over.count over.atom (nodes_in plan.tree).atom atoms_long own_long (λ k l. sym (atom_at k l)) in
+      let ups = fronts_same over.count over.parent (nodes_in plan.tree).parent ups_long above_long (λ k l. sym (parent_at k l)) in
       let tree = subst (λ (xs : List ℕ). IsJoinTree joined.graph xs (take over.count (nodes_in plan.tree).parent)) atoms
       (subst (λ (xs : List ℕ). IsJoinTree joined.graph (take over.count over.atom) xs) ups joined.tree) in
       record {
@@ -131,37 +131,37 @@ module _ {R : Type 0} (d : ℕ) (key : R → KeyOf d 16) (bound : BoundQuery) (t
       }
 
   -- the nodes are those of the join tree under another root
-  pub plan-at : (at : ℕ) → 0 < length bound.query.items → item_of over 0 ≡ at → over.count ≡ join.count
+  pub plan_at : (at : ℕ) → 0 < length bound.query.items → item_of over 0 ≡ at → over.count ≡ join.count
       → IsSameTree join.count join.atom join.parent over.atom over.parent → IsPlanAt d key bound tables at plan
-  plan-at at some root alike same = record {
+  plan_at at some root alike same = record {
     whole = whole;
     root = items 0 (let n = whole.nodes in omega (arith, n, some)) ∙ root;
-    joined = nodes-joined;
+    joined = nodes_joined;
     same = subst (λ (j : JoinTree). IsSameTree j.count j.atom j.parent (nodes_in plan.tree).atom (nodes_in plan.tree).parent) (sym kept)
-        (same-tree join.count join.atom join.parent over.atom over.parent (nodes_in plan.tree).atom (nodes_in plan.tree).parent
-        (λ k l. atom-at k (omega (arith, l, alike))) (λ k l. parent-at k (omega (arith, l, alike))) same);
+        (same_tree join.count join.atom join.parent over.atom over.parent (nodes_in plan.tree).atom (nodes_in plan.tree).parent
+        (λ k l. atom_at k (omega (arith, l, alike))) (λ k l. parent_at k (omega (arith, l, alike))) same);
   }
 
 -- what all plans have, whether an item is given or not
-pub whole-of : {R : Type 0} (d : ℕ) (key : R → KeyOf d 16) (bound : BoundQuery) (tables : List Table) (at : Option ℕ) (plan : PlanData R)
+pub whole_of : {R : Type 0} (d : ℕ) (key : R → KeyOf d 16) (bound : BoundQuery) (tables : List Table) (at : Option ℕ) (plan : PlanData R)
     → IsPlanOf d key bound tables at plan → IsPlanFor d key bound tables plan
-whole-of d key bound tables None plan is = is.whole
-whole-of d key bound tables (Some item) plan is = is.whole
+whole_of d key bound tables None plan is = is.whole
+whole_of d key bound tables (Some item) plan is = is.whole
 
 -- ---- the same of a result
 
 module _ {R : Type 0} (d : ℕ) (key : R → KeyOf d 16) (bound : BoundQuery) (tables : List Table) (join over : JoinTree) (joined : IsJoinTreeOf bound.query over) where
-  pub plan-given : (result : Result (PlanData R) PlanFault) → IfOk result (IsPlanFor d key bound tables) → IfOk result (λ plan. plan.join ≡ join)
+  pub plan_given : (result : Result (PlanData R) PlanFault) → IfOk result (IsPlanFor d key bound tables) → IfOk result (λ plan. plan.join ≡ join)
       → IfOk result (λ plan. (v : ℕ) → v < length plan.tree → item plan.tree v ≡ item_of over v)
       → IfOk result (λ plan. (v : ℕ) → v < length plan.tree → parent plan.tree v ≡ parent_of over v)
       → over ≡ join → IfOk result (IsPlan d key bound tables)
-  plan-given (Ok plan) whole kept items parents same = plan-of d key bound tables plan join over whole kept joined items parents same
-  plan-given (Err fault) whole kept items parents same = tt
+  plan_given (Ok plan) whole kept items parents same = plan_of d key bound tables plan join over whole kept joined items parents same
+  plan_given (Err fault) whole kept items parents same = tt
 
-  pub plan-at-given : (result : Result (PlanData R) PlanFault) → IfOk result (IsPlanFor d key bound tables) → IfOk result (λ plan. plan.join ≡ join)
+  pub plan_at_given : (result : Result (PlanData R) PlanFault) → IfOk result (IsPlanFor d key bound tables) → IfOk result (λ plan. plan.join ≡ join)
       → IfOk result (λ plan. (v : ℕ) → v < length plan.tree → item plan.tree v ≡ item_of over v)
       → IfOk result (λ plan. (v : ℕ) → v < length plan.tree → parent plan.tree v ≡ parent_of over v)
       → (at : ℕ) → 0 < length bound.query.items → item_of over 0 ≡ at → over.count ≡ join.count
       → IsSameTree join.count join.atom join.parent over.atom over.parent → IfOk result (IsPlanAt d key bound tables at)
-  plan-at-given (Ok plan) whole kept items parents at some root alike same = plan-at d key bound tables plan join over whole kept joined items parents at some root alike same
-  plan-at-given (Err fault) whole kept items parents at some root alike same = tt
+  plan_at_given (Ok plan) whole kept items parents at some root alike same = plan_at d key bound tables plan join over whole kept joined items parents at some root alike same
+  plan_at_given (Err fault) whole kept items parents at some root alike same = tt

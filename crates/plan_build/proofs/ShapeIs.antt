@@ -4,27 +4,27 @@ use Rattle.tdp_model.specs.KeyTuple.{KeyOf}
 use Rattle.tdp_core.specs.TreeData.{row_count}
 use Rattle.anyk_model.specs.Table.{Table}
 use Rattle.anyk_model.specs.Query.{Query}
-use Rattle.query_bind.specs.Weighed.{BoundQuery}
+use Rattle.query_bind.specs.WeighedQuery.{BoundQuery}
 use Rattle.query_shape.specs.Shape.{Flaw, IsShape, Shape}
 use Rattle.query_shape.proofs.OneShape.{one_shape}
 use Rattle.query_shape.specs.Report.{total_rows}
 use Rattle.plan_build.specs.Plan.{IsPlanFor, PlanData, shape_of}
 
 -- a query has one shape
-pub shape-is : (query : Query) (tables : List Table) (x y : Shape) → IsShape query tables (Ok x) → IsShape query tables (Ok y) → x ≡ y
-shape-is query tables x y a b = let e = one_shape query tables (Ok x) (Ok y) a b in cc
+pub shape_is : (query : Query) (tables : List Table) (x y : Shape) → IsShape query tables (Ok x) → IsShape query tables (Ok y) → x ≡ y
+shape_is query tables x y a b = let e = one_shape query tables (Ok x) (Ok y) a b in cc
 
 -- and it has no flaw then
-pub has-no-flaw : {A : Type 0} (query : Query) (tables : List Table) (x : Shape) (flaw : Flaw) → IsShape query tables (Ok x) → IsShape query tables (Err flaw) → A
-has-no-flaw query tables x flaw a b = let e = one_shape query tables (Ok x) (Err flaw) a b in cc
+pub has_no_flaw : {A : Type 0} (query : Query) (tables : List Table) (x : Shape) (flaw : Flaw) → IsShape query tables (Ok x) → IsShape query tables (Err flaw) → A
+has_no_flaw query tables x flaw a b = let e = one_shape query tables (Ok x) (Err flaw) a b in cc
 
 module _ {R : Type 0} (d : ℕ) (key : R → KeyOf d 16) (bound : BoundQuery) (tables : List Table) (plan : PlanData R) (is : IsPlanFor d key bound tables plan) where
   -- the shape that the plan keeps is the query's
-  pub plan-shape : IsShape bound.query tables (Ok (shape_of plan))
-  plan-shape = subst (λ (s : Shape). IsShape bound.query tables (Ok s)) is.shown is.is_shape
+  pub plan_shape : IsShape bound.query tables (Ok (shape_of plan))
+  plan_shape = subst (λ (s : Shape). IsShape bound.query tables (Ok s)) is.shown is.is_shape
 
   -- the rows of the tree are among the rows that are counted
-  pub rows-counted : (shape : Shape) → IsShape bound.query tables (Ok shape) → row_count plan.tree ≤ total_rows bound.query tables shape
-  rows-counted shape has =
-      let same = shape-is bound.query tables is.shape shape is.is_shape has in
+  pub rows_counted : (shape : Shape) → IsShape bound.query tables (Ok shape) → row_count plan.tree ≤ total_rows bound.query tables shape
+  rows_counted shape has =
+      let same = shape_is bound.query tables is.shape shape is.is_shape has in
       subst (λ s. row_count plan.tree ≤ total_rows bound.query tables s) same (let few = is.fewer in omega (arith, few))

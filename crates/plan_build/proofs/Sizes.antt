@@ -9,24 +9,24 @@ use Rattle.query_bind.specs.Names.{item_at}
 use Rattle.query_bind.specs.Parts.{sum_of_all}
 
 -- an ascending list of numbers below n has at most n elements
-pub few-below : (xs : List ℕ) (n : ℕ) → IsStrictlyIncreasing xs → ((k : ℕ) → k < length xs → slice_index xs k < n) → length xs ≤ n
-few-below [] n rises low = omega arith
-few-below (x ∷ xs) n rises low =
+pub few_below : (xs : List ℕ) (n : ℕ) → IsStrictlyIncreasing xs → ((k : ℕ) → k < length xs → slice_index xs k < n) → length xs ≤ n
+few_below [] n rises low = omega arith
+few_below (x ∷ xs) n rises low =
     let last = low (length xs) (omega arith) in
-    let at = at-least (length xs) (omega arith) in
+    let at = at_least (length xs) (omega arith) in
     omega (arith, last, at)
   where
-    at-least : (k : ℕ) → k < length (x ∷ xs) → k ≤ slice_index (x ∷ xs) k
-    at-least zero l = omega arith
-    at-least (suc k) l =
-        let before = at-least k (omega (arith, l)) in
+    at_least : (k : ℕ) → k < length (x ∷ xs) → k ≤ slice_index (x ∷ xs) k
+    at_least zero l = omega arith
+    at_least (suc k) l =
+        let before = at_least k (omega (arith, l)) in
         let same : k + 1 ≡ suc k = omega arith in
         let up : slice_index (x ∷ xs) k < slice_index (x ∷ xs) (suc k) = subst (λ j. slice_index (x ∷ xs) k < slice_index (x ∷ xs) j) same (rises k (omega (arith, l))) in
         omega (arith, before, up)
 
 -- the first i numbers and the next one
-pub sum-one-more : (xs : List ℕ) (i : ℕ) → i < length xs → sum_of_all (take (i + 1) xs) ≡ sum_of_all (take i xs) + get_or xs i 0
-sum-one-more xs i l = subst (λ n. sum_of_all (take n xs) ≡ sum_of_all (take i xs) + get_or xs i 0) (let e : suc i ≡ i + 1 = omega arith in e) (by xs i l)
+pub sum_one_more : (xs : List ℕ) (i : ℕ) → i < length xs → sum_of_all (take (i + 1) xs) ≡ sum_of_all (take i xs) + get_or xs i 0
+sum_one_more xs i l = subst (λ n. sum_of_all (take n xs) ≡ sum_of_all (take i xs) + get_or xs i 0) (let e : suc i ≡ i + 1 = omega arith in e) (by xs i l)
   where
     by : (xs : List ℕ) (i : ℕ) → i < length xs → sum_of_all (take (suc i) xs) ≡ sum_of_all (take i xs) + get_or xs i 0
     by [] i l = absurd (omega (arith, l))
@@ -45,21 +45,21 @@ shares (suc m) t n k some a b =
     omega (arith, rows, kept, all)
 
 -- the number of rows of an item's table
-pub row-count-at : (items : List Item) (tables : List Table) (i : ℕ) → i < length items → get_or (row_counts items tables) i 0 ≡ length (table_at tables (item_at items i).table).rows
-row-count-at items tables i l = get_or-map (λ (i : Item). length ((table_at tables i.table).rows)) items i _ 0 l
+pub row_count_at : (items : List Item) (tables : List Table) (i : ℕ) → i < length items → get_or (row_counts items tables) i 0 ≡ length (table_at tables (item_at items i).table).rows
+row_count_at items tables i l = get_or-map (λ (i : Item). length ((table_at tables i.table).rows)) items i _ 0 l
 
 -- the steps of building and reducing
-pub steps-of-reduction : (before built now l t m n : ℕ) → 1 ≤ l → n ≤ t → m ≡ l → built ≤ before + l * t → now ≤ built + 2 * m * (1 + n)
+pub steps_of_reduction : (before built now l t m n : ℕ) → 1 ≤ l → n ≤ t → m ≡ l → built ≤ before + l * t → now ≤ built + 2 * m * (1 + n)
     → now ≤ before + 16 * (l * l * (1 + t))
-steps-of-reduction before built now l t m n some low same first second =
+steps_of_reduction before built now l t m n some low same first second =
     let all = shares l t n 0 some low (omega arith) in
     let here : 2 * m * (1 + n) ≡ 2 * l * (1 + n) = ap (λ k. 2 * k * (1 + n)) same in
     omega (arith, all, first, second, here)
 
 -- and the steps of solving
-pub steps-of-plan : (before built reduced now l t m n p k : ℕ) → 1 ≤ l → n ≤ t → k ≤ n → m ≡ l → p ≡ l → built ≤ before + l * t
+pub steps_of_plan : (before built reduced now l t m n p k : ℕ) → 1 ≤ l → n ≤ t → k ≤ n → m ≡ l → p ≡ l → built ≤ before + l * t
     → reduced ≤ built + 2 * m * (1 + n) → now ≤ reduced + 4 * p * (1 + k) → now ≤ before + 16 * (l * l * (1 + t))
-steps-of-plan before built reduced now l t m n p k some low kept same alike first second third =
+steps_of_plan before built reduced now l t m n p k some low kept same alike first second third =
     let all = shares l t n k some low kept in
     let here : 2 * m * (1 + n) ≡ 2 * l * (1 + n) = ap (λ j. 2 * j * (1 + n)) same in
     let there : 4 * p * (1 + k) ≡ 4 * l * (1 + k) = ap (λ j. 4 * j * (1 + k)) alike in

@@ -10,15 +10,15 @@ use Rattle.anyk_model.specs.Query.{Query, IsWitness, item_table}
 use Rattle.anyk_model.specs.Ranking.{ranking_of}
 use Rattle.query_bind.specs.Classes.{Passes}
 use Rattle.query_bind.specs.Parts.{sum_of_all}
-use Rattle.query_bind.specs.Weighed.{BoundQuery}
+use Rattle.query_bind.specs.WeighedQuery.{BoundQuery}
 use Rattle.query_bind.specs.Weights.{part_of}
 use Rattle.rank_key.specs.Keys.{row_key}
 use Rattle.join_tree.specs.Rerooting.{IsSameTree, IsTree}
 use Rattle.join_tree.specs.declared.tree.JoinTree.{JoinTree}
 use Rattle.query_shape.specs.Shape.{IsShape, Shape, cyclic, too_many_rows}
-use Rattle.query_shape.specs.Shown.{HasItems}
+use Rattle.query_shape.specs.JoinTreeView.{HasItems}
 use Rattle.node_build.specs.Nodes.{IsJoinTreeOf, RowsAgree, RowsAlike}
-use Rattle.semi_join.specs.Reduced.{ShareGroup}
+use Rattle.semi_join.specs.ReducedTrees.{ShareGroup}
 use Rattle.hyper_graph.specs.Items.{items_of}
 use Rattle.query_shape.specs.Report.{total_rows}
 use Rattle.witness_key.specs.WitnessKey.{witness_key}

@@ -7,7 +7,7 @@ use Rattle.rank_key.specs.declared.fixed_rank.FixedRank.{FixedRank}
 use Rattle.packed_rank.specs.declared.packed.PackedRank.{PackedRank}
 use Rattle.packed_rank.specs.Packed.{packed_key}
 use Rattle.anyk_model.specs.Table.{Table}
-use Rattle.query_bind.specs.Weighed.{BoundQuery}
+use Rattle.query_bind.specs.WeighedQuery.{BoundQuery}
 use Rattle.node_build.specs.Nodes.{CapsBelow}
 use Rattle.plan_build.specs.Plan.{IsPlanOf}
 use Rattle.plan_build.specs.declared.ranked_plan.RankedPlan.{RankedPlan}

@@ -3,14 +3,14 @@ ghost use Rattle.std.specs.Prelude.{◌≡◌, ◌≤◌, ◌+◌, ◌*◌, ◌<
 ghost use Rattle.anyk_model.specs.Query.{row_counts};
 ghost use Rattle.anyk_model.specs.Table.{Table};
 ghost use Rattle.query_bind.specs.Parts.{sum_of_all};
-ghost use Rattle.query_bind.specs.Weighed.{Fits};
+ghost use Rattle.query_bind.specs.WeighedQuery.{Fits};
 ghost use Rattle.join_tree.specs.Rerooting.{IsTree};
-ghost use Rattle.query_shape.specs.Shown.{HasItems, HasStoredTree};
+ghost use Rattle.query_shape.specs.JoinTreeView.{HasItems, HasStoredTree};
 ghost use Rattle.tdp_core.specs.RawData.{IsRawFormed, row_total};
 ghost use Rattle.tdp_core.specs.Solutions.{IsTieFreeRaw};
 ghost use Rattle.tdp_core.specs.TreeData.{item, parent};
 ghost use Rattle.node_build.specs.Nodes.{CapsBelow, IsBuilt, IsJoinTreeOf, item_of, parent_of};
-ghost use Rattle.step_bounds.specs.Bounded.{IsPrepared};
+ghost use Rattle.step_bounds.specs.RunBounds.{IsPrepared};
 ghost use Rattle.plan_build.specs.Plan.{IsPlan, IsPlanAt, IsPlanFor, TellsFlaw};
 
 use crate::fault::PlanFault;

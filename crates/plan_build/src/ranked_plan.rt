@@ -1,9 +1,9 @@
 //! The plan of a query, with ranks that have room for its order keys.
 ghost use Rattle.std.specs.Prelude.{◌↔◌, ◌^◌, ◌<◌, ◌≤◌, IfErr, IfOk, IfSome, IsTrue, List, length};
 ghost use Rattle.anyk_model.specs.Table.{Table};
-ghost use Rattle.query_bind.specs.Weighed.{Fits};
+ghost use Rattle.query_bind.specs.WeighedQuery.{Fits};
 ghost use Rattle.node_build.specs.Nodes.{CapsBelow};
-ghost use Rattle.step_bounds.specs.Bounded.{IsPrepared};
+ghost use Rattle.step_bounds.specs.RunBounds.{IsPrepared};
 ghost use Rattle.plan_build.specs.Plan.{IsPlanOf, TellsFlaw};
 ghost use Rattle.plan_build.specs.RankedPlan.{HasLeastRoom, HasRoom, IsRankedPlan, packed_room};
 

@@ -2,7 +2,7 @@
 ghost use Rattle.std.specs.Prelude.{◌≡◌, ◌<◌, ◌≤◌, ◌+◌, ◌++◌, IfOk, List, OnOk, codes, decimal, length, slice_index, ℕ};
 ghost use Rattle.join_tree.specs.Rerooting.{IsTree};
 ghost use Rattle.query_shape.specs.Report.{node_line, node_text, parent_number, report_of};
-ghost use Rattle.query_shape.specs.Shown.{HasItems};
+ghost use Rattle.query_shape.specs.JoinTreeView.{HasItems};
 ghost use Rattle.plan_build.specs.Plan.{IsPlanFor, shape_of, tree_shown};
 
 use crate::plan::Plan;

@@ -8,7 +8,7 @@ use Rattle.tdp_core.specs.declared.parts.NodeShape.{NodeShape}
 use Rattle.tdp_core.specs.RawData.{AreShapes, AreShapesHeld, shape_item, shape_parent, shape_cap, shape_children}
 use Rattle.tdp_core.specs.TreeData.{kids_below}
 use Rattle.plan_tests.specs.ChainTrees.{IsChain, chain_children}
-use Rattle.plan_tests.proofs.Held.{three-nodes-held}
+use Rattle.plan_tests.proofs.Held.{three_nodes_held}
 
 abbrev pub no_caps : List ℕ
 no_caps = 0 ∷ 0 ∷ 0 ∷ 0 ∷ 0 ∷ 0 ∷ 0 ∷ 0 ∷ []
@@ -16,62 +16,62 @@ no_caps = 0 ∷ 0 ∷ 0 ∷ 0 ∷ 0 ∷ 0 ∷ 0 ∷ 0 ∷ []
 abbrev pub chain_shapes : List NodeShape
 chain_shapes = record { parent = 0; item = 0; caps = no_caps } ∷ record { parent = 0; item = 1; caps = no_caps } ∷ record { parent = 1; item = 2; caps = no_caps } ∷ []
 
-no-cap : (i : ℕ) → get_or no_caps i 0 ≡ 0
-no-cap zero = refl
-no-cap (suc zero) = refl
-no-cap (suc (suc zero)) = refl
-no-cap (suc (suc (suc zero))) = refl
-no-cap (suc (suc (suc (suc zero)))) = refl
-no-cap (suc (suc (suc (suc (suc zero))))) = refl
-no-cap (suc (suc (suc (suc (suc (suc zero)))))) = refl
-no-cap (suc (suc (suc (suc (suc (suc (suc zero))))))) = refl
-no-cap (suc (suc (suc (suc (suc (suc (suc (suc i)))))))) = refl
+no_cap : (i : ℕ) → get_or no_caps i 0 ≡ 0
+no_cap zero = refl
+no_cap (suc zero) = refl
+no_cap (suc (suc zero)) = refl
+no_cap (suc (suc (suc zero))) = refl
+no_cap (suc (suc (suc (suc zero)))) = refl
+no_cap (suc (suc (suc (suc (suc zero))))) = refl
+no_cap (suc (suc (suc (suc (suc (suc zero)))))) = refl
+no_cap (suc (suc (suc (suc (suc (suc (suc zero))))))) = refl
+no_cap (suc (suc (suc (suc (suc (suc (suc (suc i)))))))) = refl
 
 capped : (i n : ℕ) → n ≡ 0 → cond {A = ℕ} (nat_lt i 8) n 0 ≡ 0
 capped i n e = grind (arith, nat_tests)
 
-item-is : (v : ℕ) → v < 3 → shape_item chain_shapes v ≡ v
-item-is zero h = refl
-item-is (suc zero) h = refl
-item-is (suc (suc zero)) h = refl
-item-is (suc (suc (suc v))) h = absurd (omega arith)
+item_is : (v : ℕ) → v < 3 → shape_item chain_shapes v ≡ v
+item_is zero h = refl
+item_is (suc zero) h = refl
+item_is (suc (suc zero)) h = refl
+item_is (suc (suc (suc v))) h = absurd (omega arith)
 
-parent-less : (q : ℕ) → 0 < q → q < 3 → shape_parent chain_shapes q < q
-parent-less zero some h = absurd (omega arith)
-parent-less (suc zero) some h = omega arith
-parent-less (suc (suc zero)) some h = omega arith
-parent-less (suc (suc (suc q))) some h = absurd (omega arith)
+parent_less : (q : ℕ) → 0 < q → q < 3 → shape_parent chain_shapes q < q
+parent_less zero some h = absurd (omega arith)
+parent_less (suc zero) some h = omega arith
+parent_less (suc (suc zero)) some h = omega arith
+parent_less (suc (suc (suc q))) some h = absurd (omega arith)
 
-caps-few : (i : ℕ) → sum_from ◌+◌ 0 (λ v. shape_cap chain_shapes v i) 3 0 < 2 ^ 127
+caps_few : (i : ℕ) → sum_from ◌+◌ 0 (λ v. shape_cap chain_shapes v i) 3 0 < 2 ^ 127
 unfolding sum_from
-caps-few i = omega (arith, capped i (get_or no_caps i 0) (no-cap i))
+caps_few i = omega (arith, capped i (get_or no_caps i 0) (no_cap i))
 
-pub chain-shaped : AreShapes chain_shapes
-chain-shaped = record {
+pub chain_shaped : AreShapes chain_shapes
+chain_shaped = record {
   some_node = omega arith;
   few_nodes = omega arith;
   root = refl;
-  parents_first = parent-less;
-  items = λ v h. omega (arith, h, item-is v h);
-  items_apart = λ u v hu hv e. sym (item-is u hu) ∙ e ∙ item-is v hv;
-  caps_fit = caps-few;
+  parents_first = parent_less;
+  items = λ v h. omega (arith, h, item_is v h);
+  items_apart = λ u v hu hv e. sym (item_is u hu) ∙ e ∙ item_is v hv;
+  caps_fit = caps_few;
 }
 
 module _ {R : Type 0} {d items limit rows : ℕ} (key : R → KeyOf d 16)
     (holds : (k : KeyOf d 16) → IsWithin d items limit rows k → IsHeld d key k)
     (roomy : 2 ^ 21 ≤ rows) (few : 16 ≤ items) (wide : 2 ^ 127 ≤ limit) where
-  pub chain-held : AreShapesHeld d key chain_shapes
-  chain-held = three-nodes-held key holds roomy few wide _ _ refl refl refl cap-few cap-few cap-few
+  pub chain_held : AreShapesHeld d key chain_shapes
+  chain_held = three_nodes_held key holds roomy few wide _ _ refl refl refl cap_few cap_few cap_few
     where
-      cap-few : (i : ℕ) → cond {A = ℕ} (nat_lt i 8) (get_or no_caps i 0) 0 ≤ 100
-      cap-few i = omega (arith, capped i (get_or no_caps i 0) (no-cap i))
+      cap_few : (i : ℕ) → cond {A = ℕ} (nat_lt i 8) (get_or no_caps i 0) 0 ≤ 100
+      cap_few i = omega (arith, capped i (get_or no_caps i 0) (no_cap i))
 
-children-are : (v : ℕ) → v < 3 → shape_children chain_shapes v ≡ chain_children v
+children_are : (v : ℕ) → v < 3 → shape_children chain_shapes v ≡ chain_children v
 unfolding kids_below
-children-are zero h = refl
-children-are (suc zero) h = refl
-children-are (suc (suc zero)) h = refl
-children-are (suc (suc (suc v))) h = absurd (omega arith)
+children_are zero h = refl
+children_are (suc zero) h = refl
+children_are (suc (suc zero)) h = refl
+children_are (suc (suc (suc v))) h = absurd (omega arith)
 
-pub chain-is : IsChain chain_shapes
-chain-is = record { nodes = refl; children = children-are }
+pub chain_is : IsChain chain_shapes
+chain_is = record { nodes = refl; children = children_are }

@@ -11,7 +11,7 @@ use Rattle.tdp_core.specs.RawData.{RawData, RawRowData, AreShapes, AreShapesHeld
 use Rattle.tdp_core.specs.TreeData.{kids_below}
 use Rattle.tdp_core.specs.Solutions.{IsTieFreeRaw}
 use Rattle.plan_tests.specs.SampleTrees.{IsSample, hundreds, sample_shapes, sample_children}
-use Rattle.plan_tests.proofs.Held.{three-nodes-held}
+use Rattle.plan_tests.proofs.Held.{three_nodes_held}
 
 hundred : (i : ℕ) → get_or hundreds i 0 ≤ 100
 hundred zero = omega arith
@@ -27,60 +27,60 @@ hundred (suc (suc (suc (suc (suc (suc (suc (suc i)))))))) = omega arith
 capped : (i n : ℕ) → n ≤ 100 → cond {A = ℕ} (nat_lt i 8) n 0 ≤ 100
 capped i n e = grind (arith, nat_tests)
 
-pub item-is : (v : ℕ) → v < 3 → shape_item sample_shapes v ≡ v
-item-is zero h = refl
-item-is (suc zero) h = refl
-item-is (suc (suc zero)) h = refl
-item-is (suc (suc (suc v))) h = absurd (omega arith)
+pub item_is : (v : ℕ) → v < 3 → shape_item sample_shapes v ≡ v
+item_is zero h = refl
+item_is (suc zero) h = refl
+item_is (suc (suc zero)) h = refl
+item_is (suc (suc (suc v))) h = absurd (omega arith)
 
-parent-less : (q : ℕ) → 0 < q → q < 3 → shape_parent sample_shapes q < q
-parent-less zero some h = absurd (omega arith)
-parent-less (suc zero) some h = omega arith
-parent-less (suc (suc zero)) some h = omega arith
-parent-less (suc (suc (suc q))) some h = absurd (omega arith)
+parent_less : (q : ℕ) → 0 < q → q < 3 → shape_parent sample_shapes q < q
+parent_less zero some h = absurd (omega arith)
+parent_less (suc zero) some h = omega arith
+parent_less (suc (suc zero)) some h = omega arith
+parent_less (suc (suc (suc q))) some h = absurd (omega arith)
 
-caps-few : (i : ℕ) → sum_from ◌+◌ 0 (λ v. shape_cap sample_shapes v i) 3 0 < 2 ^ 127
+caps_few : (i : ℕ) → sum_from ◌+◌ 0 (λ v. shape_cap sample_shapes v i) 3 0 < 2 ^ 127
 unfolding sum_from
-caps-few i = omega (arith, capped i (get_or hundreds i 0) (hundred i))
+caps_few i = omega (arith, capped i (get_or hundreds i 0) (hundred i))
 
-pub sample-shaped : AreShapes sample_shapes
-sample-shaped = record {
+pub sample_shaped : AreShapes sample_shapes
+sample_shaped = record {
   some_node = omega arith;
   few_nodes = omega arith;
   root = refl;
-  parents_first = parent-less;
-  items = λ v h. omega (arith, h, item-is v h);
-  items_apart = λ u v hu hv e. sym (item-is u hu) ∙ e ∙ item-is v hv;
-  caps_fit = caps-few;
+  parents_first = parent_less;
+  items = λ v h. omega (arith, h, item_is v h);
+  items_apart = λ u v hu hv e. sym (item_is u hu) ∙ e ∙ item_is v hv;
+  caps_fit = caps_few;
 }
 
 module _ {R : Type 0} {d items limit rows : ℕ} (key : R → KeyOf d 16)
     (holds : (k : KeyOf d 16) → IsWithin d items limit rows k → IsHeld d key k)
     (roomy : 2 ^ 21 ≤ rows) (few : 16 ≤ items) (wide : 2 ^ 127 ≤ limit) where
-  pub sample-held : AreShapesHeld d key sample_shapes
-  sample-held = three-nodes-held key holds roomy few wide _ _ refl refl refl
+  pub sample_held : AreShapesHeld d key sample_shapes
+  sample_held = three_nodes_held key holds roomy few wide _ _ refl refl refl
       (λ i. capped i (get_or hundreds i 0) (hundred i)) (λ i. capped i (get_or hundreds i 0) (hundred i)) (λ i. capped i (get_or hundreds i 0) (hundred i))
 
-pub children-are : (v : ℕ) → v < 3 → shape_children sample_shapes v ≡ sample_children v
+pub children_are : (v : ℕ) → v < 3 → shape_children sample_shapes v ≡ sample_children v
 unfolding kids_below
-children-are zero h = refl
-children-are (suc zero) h = refl
-children-are (suc (suc zero)) h = refl
-children-are (suc (suc (suc v))) h = absurd (omega arith)
+children_are zero h = refl
+children_are (suc zero) h = refl
+children_are (suc (suc zero)) h = refl
+children_are (suc (suc (suc v))) h = absurd (omega arith)
 
 -- one sum within the caps
-pub sum-capped : (v i : ℕ) (s : ℤ) → v < 3 → unsigned_abs s ≤ 100 → unsigned_abs (get_or (s ∷ []) i (pos 0)) ≤ shape_cap sample_shapes v i
-sum-capped v (suc i) s h few = omega arith
-sum-capped zero zero s h few = few
-sum-capped (suc zero) zero s h few = few
-sum-capped (suc (suc zero)) zero s h few = few
-sum-capped (suc (suc (suc v))) zero s h few = absurd (omega arith)
+pub sum_capped : (v i : ℕ) (s : ℤ) → v < 3 → unsigned_abs s ≤ 100 → unsigned_abs (get_or (s ∷ []) i (pos 0)) ≤ shape_cap sample_shapes v i
+sum_capped v (suc i) s h few = omega arith
+sum_capped zero zero s h few = few
+sum_capped (suc zero) zero s h few = few
+sum_capped (suc (suc zero)) zero s h few = few
+sum_capped (suc (suc (suc v))) zero s h few = absurd (omega arith)
 
 abbrev numbers_of : {R : Type 0} → List (RawRowData R) → List ℕ
 numbers_of xs = map (λ x. x.row.row) xs
 
-number-more : {R : Type 0} (xs : List (RawRowData R)) (x : RawRowData R) → x.row.row ≡ length xs → ((i : ℕ) → i < length xs → get_or (numbers_of xs) i 0 ≡ i) → (i : ℕ) → i < length (xs ++ x ∷ []) → get_or (numbers_of (xs ++ x ∷ [])) i 0 ≡ i
-number-more xs x is before i l =
+number_more : {R : Type 0} (xs : List (RawRowData R)) (x : RawRowData R) → x.row.row ≡ length xs → ((i : ℕ) → i < length xs → get_or (numbers_of xs) i 0 ≡ i) → (i : ℕ) → i < length (xs ++ x ∷ []) → get_or (numbers_of (xs ++ x ∷ [])) i 0 ≡ i
+number_more xs x is before i l =
     let long : length (numbers_of xs) ≡ length xs = length-map xs (λ y. y.row.row) in
     ap (λ ns. get_or ns i 0) (map-append (λ y. y.row.row) xs (x ∷ []))
     ∙ elim (cases_eq i (length xs)) [
@@ -91,8 +91,8 @@ number-more xs x is before i l =
     ]
 
 module _ {R : Type 0} where
-  pub sample-more : (t : RawData R) (v : ℕ) (x : RawRowData R) → IsSample t → v < 3 → x.row.row ≡ raw_len t v → IsSample (with_row t v x)
-  sample-more t v x sample l is =
+  pub sample_more : (t : RawData R) (v : ℕ) (x : RawRowData R) → IsSample t → v < 3 → x.row.row ≡ raw_len t v → IsSample (with_row t v x)
+  sample_more t v x sample l is =
       let more = rows_at t v ++ x ∷ [] in
       record {
         shapes = sample.shapes;
@@ -100,7 +100,7 @@ module _ {R : Type 0} where
         numbered = λ u i h. elim (cases_eq u v) [
           | inl e ↦
               let here : get_or (set t.rows v more) u [] ≡ more = ap (λ w. get_or (set t.rows v more) w []) e ∙ get_or-set_same t.rows v more [] (omega (arith, sample.every_node)) in
-              ap (λ xs. get_or (numbers_of xs) i 0) here ∙ number-more (rows_at t v) x is (sample.numbered v) i (omega (arith, h, ap length here))
+              ap (λ xs. get_or (numbers_of xs) i 0) here ∙ number_more (rows_at t v) x is (sample.numbered v) i (omega (arith, h, ap length here))
           | inr other ↦
               let same : get_or (set t.rows v more) u [] ≡ rows_at t u = get_or-set_other t.rows v u more [] other in
               ap (λ xs. get_or (numbers_of xs) i 0) same ∙ sample.numbered u i (omega (arith, h, ap length same))
@@ -108,8 +108,8 @@ module _ {R : Type 0} where
       }
 
   -- rows with different places have different numbers
-  pub sample-tie_free : (t : RawData R) → IsSample t → IsTieFreeRaw t
-  sample-tie_free t sample v i j l hi hj linked same = sym (sample.numbered v i hi) ∙ same ∙ sample.numbered v j hj
+  pub sample_tie_free : (t : RawData R) → IsSample t → IsTieFreeRaw t
+  sample_tie_free t sample v i j l hi hj linked same = sym (sample.numbered v i hi) ∙ same ∙ sample.numbered v j hj
 
 -- what one result's value has, from what another clause says of it
 pub on_ok : {A E : Type 0} (P Q : A → Type 0) → ((x : A) → Q x → P x) → (r : Result A E) → IfOk r Q → IfOk r P

@@ -1,7 +1,7 @@
 //! Small tables, small queries over them, and their plans.
 ghost use Rattle.std.specs.Prelude.{◌≡◌, ◌^◌, ◌<◌, ◌≤◌, [], IfSome, OnOk, length};
 ghost use Rattle.std.specs.List.{AllByRecursion};
-ghost use Rattle.query_bind.specs.Weighed.{Fits};
+ghost use Rattle.query_bind.specs.WeighedQuery.{Fits};
 ghost use Rattle.tdp_core.specs.WellFormed.{IsTieFreeTree};
 
 use csv_tables::{TableFault, Tables};

@@ -1,7 +1,7 @@
 //! The raw trees of two tables, by the columns in which rows must agree.
 ghost use Rattle.std.specs.Prelude.{◌≡◌, ◌^◌, ◌<◌, ◌≤◌, IfSome, List, length};
 ghost use Rattle.anyk_model.specs.Table.{Table};
-ghost use Rattle.query_bind.specs.Weighed.{Fits};
+ghost use Rattle.query_bind.specs.WeighedQuery.{Fits};
 ghost use Rattle.node_build.specs.Nodes.{IsJoinTreeOf};
 
 use crate::fixtures::{TWO, query_of, read_two};

@@ -1,6 +1,6 @@
 //! The plan of two tables that share a column, and a triangle.
 ghost use Rattle.std.specs.Prelude.{◌≡◌, ◌^◌, ◌<◌, ◌≤◌, length};
-ghost use Rattle.query_bind.specs.Weighed.{Fits};
+ghost use Rattle.query_bind.specs.WeighedQuery.{Fits};
 ghost use Rattle.tdp_core.specs.WellFormed.{IsTieFreeTree};
 
 use crate::fixtures::{TWO, plan_of, query_of, read_two};

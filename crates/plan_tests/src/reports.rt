@@ -1,7 +1,7 @@
 //! The reports of two tables that share a column, and of a table that is joined to itself.
 ghost use Rattle.std.specs.Prelude.{◌≡◌, ◌<◌, ◌≤◌, IfSome, Option, length, ℕ};
 ghost use Rattle.std.specs.List.{AllByRecursion};
-ghost use Rattle.query_bind.specs.Weighed.{Fits};
+ghost use Rattle.query_bind.specs.WeighedQuery.{Fits};
 ghost use Rattle.plan_build.specs.Plan.{IsPlanFor};
 ghost use Rattle.plan_build.specs.RankedPlan.{IsRankedPlan};
 

@@ -4,17 +4,17 @@ use Rattle.std.specs.Prelude.{codes}
 use Rattle.clap.proofs.OnLiterals.{clap_on_literals}
 use Rattle.cmd_words.specs.Arguments.{run_app}
 use Rattle.cmd_words.specs.Commands.{CommandSaid, run_of, run_said, said_of}
-use Rattle.cmd_words.specs.Said.{WordsSaid}
+use Rattle.cmd_words.specs.ArgumentMeaning.{WordsSaid}
 use Rattle.cmd_words.specs.declared.command.Engine.TheVariants.{Part}
 use Rattle.outer_io.specs.Files.{Files}
 use Rattle.verdict.specs.Bound.{IsBounded}
-use Rattle.verdict.specs.Made.{known_to}
+use Rattle.verdict.specs.MadeFiles.{known_to}
 use Rattle.verdict.specs.Words.{Asked}
 use Rattle.row_law.specs.Row.{row_arguments, row_files}
 use Rattle.row_law.specs.UnionRow.{union_files}
 use Rattle.row_law.proofs.Accepted.{row_bounded}
 use Rattle.row_law.proofs.UnionAccepted.{union_bounded}
-use Rattle.anyk_top.specs.Asked.{asked_of}
+use Rattle.anyk_top.specs.CommandLine.{asked_of}
 
 abbrev row_said : WordsSaid
 row_said = record {

@@ -4,22 +4,22 @@ use Rattle.std.proofs.Math.ListN.{get_or-append}
 use Rattle.std.proofs.Math.Seq.{get_or-append_seam}
 use Rattle.std.proofs.lemmas.List.{get_or-map, length-map}
 use Rattle.proof_text.specs.Certificate.{AnswerLine}
-use Rattle.proof_text.specs.Seen.{seen_answer}
+use Rattle.proof_text.specs.ProofView.{seen_answer}
 use Rattle.proof_text.specs.declared.proof.Listed.{Listed}
 
-pub seen-at : (items : List Listed) (i : ℕ) (x : Listed) (z : AnswerLine) → i < length items → x ≡ get_or items i x
+pub seen_at : (items : List Listed) (i : ℕ) (x : Listed) (z : AnswerLine) → i < length items → x ≡ get_or items i x
     → get_or (map seen_answer items) i z ≡ seen_answer x
-seen-at items i x z l e = get_or-map seen_answer items i x z l ∙ ap seen_answer (sym e)
+seen_at items i x z l e = get_or-map seen_answer items i x z l ∙ ap seen_answer (sym e)
 
-pub seen-count : (items : List Listed) → length (map seen_answer items) ≡ length items
-seen-count items = length-map items seen_answer
+pub seen_count : (items : List Listed) → length (map seen_answer items) ≡ length items
+seen_count items = length-map items seen_answer
 
 -- one more element of a list
 module _ {A : Type 0} (P : ℕ → A → Type 0) (xs : List A) (x z : A) (n : ℕ) (long : length xs ≡ n)
     (all : (i : ℕ) → i < n → P i (get_or xs i z)) (last : P n x) where
-  pub all-before : (i : ℕ) → i < n → P i (get_or (xs ++ x ∷ []) i z)
-  all-before i l = subst (P i) (sym (get_or-append xs (x ∷ []) z i (omega (arith, l, long)))) (all i l)
+  pub all_before : (i : ℕ) → i < n → P i (get_or (xs ++ x ∷ []) i z)
+  all_before i l = subst (P i) (sym (get_or-append xs (x ∷ []) z i (omega (arith, l, long)))) (all i l)
 
-  pub at-last : P n (get_or (xs ++ x ∷ []) n z)
-  at-last =
+  pub at_last : P n (get_or (xs ++ x ∷ []) n z)
+  at_last =
       subst (λ k. P n (get_or (xs ++ x ∷ []) k z)) long (subst (P n) (sym (get_or-append_seam xs x [] z)) last)

@@ -15,8 +15,8 @@ use Rattle.proof_text.specs.Certificate.{Certificate}
 use Rattle.proof_model.specs.Problem.{Problem}
 use Rattle.proof_model.specs.QueryProblem.{problem_in}
 use Rattle.proof_model.specs.Valid.{Serves, bound_key}
-use Rattle.proof_model.proofs.Wider.{wide-add, wide-none, wide-sum}
-use Rattle.proof_bounds.specs.Bounded.{BoundedData, IsBounded, named_bound, query_key, rank_of_bound}
+use Rattle.proof_model.proofs.Wider.{wide_add, wide_none, wide_sum}
+use Rattle.proof_bounds.specs.BoundedRows.{BoundedData, IsBounded, named_bound, query_key, rank_of_bound}
 use Rattle.proof_answers.specs.Lows.{AreServed, IsLow, low_key}
 use Rattle.proof_answers.proofs.LowParts.{AreNamed, low_part, named_key}
 
@@ -30,21 +30,21 @@ module _ {R : Type 0} (query : Query) (tables : List Table) (join : JoinTree) (d
   abbrev number : ℕ
   number = raw_number tree.raw v i
 
-  row-above : (q : ℕ) → t.parent q ≡ v → i < raw_len tree.raw (t.parent q)
-  row-above q e = subst (λ w. i < raw_len tree.raw w) (sym e) row
+  row_above : (q : ℕ) → t.parent q ≡ v → i < raw_len tree.raw (t.parent q)
+  row_above q e = subst (λ w. i < raw_len tree.raw w) (sym e) row
 
   -- a bound that serves is named
-  served-named : (below : ℕ → ℕ) → AreServed t c v number below → (q : ℕ) → v < q → q < t.nodes → t.parent q ≡ v
+  served_named : (below : ℕ → ℕ) → AreServed t c v number below → (q : ℕ) → v < q → q < t.nodes → t.parent q ≡ v
       → (b : ℕ) × (named_bound tree q i ≡ Some b) × (bounded.line q b ≡ below q)
-  served-named below served q a l e =
-      bounded.named_every q i (below q) (omega (arith, a)) l (row-above q e)
+  served_named below served q a l e =
+      bounded.named_every q i (below q) (omega (arith, a)) l (row_above q e)
       (subst (λ w. Serves t c q (raw_number tree.raw w i) (below q)) (sym e) (served q a l e))
 
   -- without one of the bounds
-  pub low-none : (q : ℕ) → v < q → q < t.nodes → t.parent q ≡ v → named_bound tree q i ≡ None
+  pub low_none : (q : ℕ) → v < q → q < t.nodes → t.parent q ≡ v → named_bound tree q i ≡ None
       → IsLow query tables join d c v number None
-  low-none q a l e gone below served =
-      let named = served-named below served q a l e in
+  low_none q a l e gone below served =
+      let named = served_named below served q a l e in
       let apart : (b : ℕ) → None ≡ Some b → ⊥ = λ b x. cc in
       apart named.0 (sym gone ∙ named.1)
 
@@ -55,17 +55,17 @@ module _ {R : Type 0} (query : Query) (tables : List Table) (join : JoinTree) (d
       let n = t.nodes - suc v in
       let W = query_key query d in
       let f = kid_key t.none t.parent v (λ q. bound_key t c q (below q)) in
-      sym (wide-add (length query.order) d 16 few (t.key v number) (sum_from t.add t.none f n (suc v))
+      sym (wide_add (length query.order) d 16 few (t.key v number) (sum_from t.add t.none f n (suc v))
       ∙ ap (λ z. key_add d 16 z (W (sum_from t.add t.none f n (suc v)))) (sym (bounded.rows.keys v i node row))
       ∙ ap (λ z. key_add d 16 (raw_rank tree.raw d key v i) z)
-      (wide-sum (length query.order) d few f n (suc v)
+      (wide_sum (length query.order) d few f n (suc v)
       ∙ sum_same (key_below d 16) (key_add d 16) (key_none d 16) (tuple_keys d 16) (λ q. W (f q))
       (kid_key (key_none d 16) t.parent v (named_key d key tree t.parent v i)) n (suc v)
       (λ q a b. elim (cases_eq (t.parent q) v) [
         | inl e ↦
             let l : q < t.nodes = omega (arith, b, node) in
-            let named = served-named below served q a l e in
-            let is = bounded.named_is q i named.0 (omega (arith, a)) l (row-above q e) named.1 in
+            let named = served_named below served q a l e in
+            let is = bounded.named_is q i named.0 (omega (arith, a)) l (row_above q e) named.1 in
             ap W (kid_yes t.none t.parent v (λ p. bound_key t c p (below p)) q e)
             ∙ ap (λ j. W (bound_key t c q j)) (sym named.2)
             ∙ sym (bounded.ranks q named.0 l is.0)
@@ -73,19 +73,19 @@ module _ {R : Type 0} (query : Query) (tables : List Table) (join : JoinTree) (d
             ∙ sym (kid_yes (key_none d 16) t.parent v (named_key d key tree t.parent v i) q e)
         | inr x ↦
             ap W (kid_no t.none t.parent v (λ p. bound_key t c p (below p)) q x)
-            ∙ wide-none (length query.order) d 16 few
+            ∙ wide_none (length query.order) d 16 few
             ∙ sym (kid_no (key_none d 16) t.parent v (named_key d key tree t.parent v i) q x)
       ])))
 
   -- with all of them
-  pub low-some : (k : KeyOf d 16) → AreNamed d key tree t.parent v i (t.nodes - suc v)
+  pub low_some : (k : KeyOf d 16) → AreNamed d key tree t.parent v i (t.nodes - suc v)
       → k ≡ low_part d key tree t.parent v i (t.nodes - suc v) → IsLow query tables join d c v number (Some k)
-  low-some k all e = (
+  low_some k all e = (
     (
       λ q. unwrap_or (option_map (bounded.line q) (named_bound tree q i)) 0,
       λ q a l up.
           let named = all q a (omega (arith, l)) up in
-          let is = bounded.named_is q i named.0 (omega (arith, a)) l (row-above q up) named.1 in
+          let is = bounded.named_is q i named.0 (omega (arith, a)) l (row_above q up) named.1 in
           subst (λ o. Serves t c q number (unwrap_or (option_map (bounded.line q) o) 0)) (sym named.1)
           (subst (λ w. Serves t c q (raw_number tree.raw w i) (bounded.line q named.0)) up is.1),
     ),

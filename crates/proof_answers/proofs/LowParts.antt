@@ -19,9 +19,9 @@ use Rattle.proof_model.specs.Problem.{Problem, IsSolutionAt, row_in}
 use Rattle.proof_model.specs.QueryProblem.{problem_in}
 use Rattle.proof_model.specs.Valid.{bound_at, bound_key}
 use Rattle.proof_model.proofs.Sums.{pick_eq, pick_ne, sum_none, sum_one}
-use Rattle.proof_bounds.specs.Bounded.{BoundedData, IsBounded, bound_ranks, named_bound, query_key, rank_of_bound}
+use Rattle.proof_bounds.specs.BoundedRows.{BoundedData, IsBounded, bound_ranks, named_bound, query_key, rank_of_bound}
 use Rattle.proof_bounds.proofs.RankSums.{IsRawPart}
-use Rattle.proof_model.proofs.Wider.{wide-cond, wide-sum}
+use Rattle.proof_model.proofs.Wider.{wide_cond, wide_sum}
 use Rattle.proof_answers.proofs.RawSums.{double_sums_fit}
 
 -- # Parts
@@ -41,13 +41,13 @@ module _ {R : Type 0} (d : ℕ) (key : R → KeyOf d 16) (tree : BoundedData R) 
   abbrev pub AreNamed : ℕ → Type 0
   AreNamed n = (q : ℕ) → v < q → q < suc v + n → up q ≡ v → (b : ℕ) × (named_bound tree q i ≡ Some b)
 
-  pub part-none : low_part 0 ≡ raw_rank tree.raw d key v i
+  pub part_none : low_part 0 ≡ raw_rank tree.raw d key v i
   unfolding sum_from
-  part-none = (tuple_keys d 16).add_none (raw_rank tree.raw d key v i)
+  part_none = (tuple_keys d 16).add_none (raw_rank tree.raw d key v i)
 
-  part-last : (n q : ℕ) → q ≡ suc v + n
+  part_last : (n q : ℕ) → q ≡ suc v + n
       → low_part (suc n) ≡ key_add d 16 (low_part n) (kid_key (key_none d 16) up v named_key q)
-  part-last n q e =
+  part_last n q e =
       let keys = tuple_keys d 16 in
       let f = kid_key (key_none d 16) up v named_key in
       let own = raw_rank tree.raw d key v i in
@@ -55,18 +55,18 @@ module _ {R : Type 0} (d : ℕ) (key : R → KeyOf d 16) (tree : BoundedData R) 
       (sum_last (key_below d 16) (key_add d 16) (key_none d 16) keys f n (suc v) q e)
       ∙ sym (keys.add_assoc own (sum_from (key_add d 16) (key_none d 16) f n (suc v)) (f q))
 
-  pub part-child : (n q : ℕ) → q ≡ suc v + n → up q ≡ v → low_part (suc n) ≡ key_add d 16 (low_part n) (named_key q)
-  part-child n q e u =
-      part-last n q e ∙ ap (λ z. key_add d 16 (low_part n) z) (kid_yes (key_none d 16) up v named_key q u)
+  pub part_child : (n q : ℕ) → q ≡ suc v + n → up q ≡ v → low_part (suc n) ≡ key_add d 16 (low_part n) (named_key q)
+  part_child n q e u =
+      part_last n q e ∙ ap (λ z. key_add d 16 (low_part n) z) (kid_yes (key_none d 16) up v named_key q u)
 
-  pub part-other : (n q : ℕ) → q ≡ suc v + n → up q ≢ v → low_part (suc n) ≡ low_part n
-  part-other n q e u =
-      part-last n q e ∙ ap (λ z. key_add d 16 (low_part n) z) (kid_no (key_none d 16) up v named_key q u)
+  pub part_other : (n q : ℕ) → q ≡ suc v + n → up q ≢ v → low_part (suc n) ≡ low_part n
+  part_other n q e u =
+      part_last n q e ∙ ap (λ z. key_add d 16 (low_part n) z) (kid_no (key_none d 16) up v named_key q u)
       ∙ (tuple_keys d 16).add_none (low_part n)
 
-  pub named-more : (n q : ℕ) → q ≡ suc v + n → AreNamed n → (up q ≡ v → (b : ℕ) × (named_bound tree q i ≡ Some b))
+  pub named_more : (n q : ℕ) → q ≡ suc v + n → AreNamed n → (up q ≡ v → (b : ℕ) × (named_bound tree q i ≡ Some b))
       → AreNamed (suc n)
-  named-more n q e all here p a b u = elim (cases_eq p q) [
+  named_more n q e all here p a b u = elim (cases_eq p q) [
     | inl same ↦ subst (λ z. (b : ℕ) × (named_bound tree z i ≡ Some b)) (sym same) (here (ap up (sym same) ∙ u))
     | inr other ↦ all p a (omega (arith, other)) u
   ]
@@ -80,26 +80,26 @@ module _ {R : Type 0} (query : Query) (tables : List Table) (join : JoinTree) (d
   t = problem_in query tables join
 
   -- bound b of node q is a solution there
-  pub bound-solution : (q b : ℕ) → q < t.nodes → b < length (bound_ranks tree q)
+  pub bound_solution : (q b : ℕ) → q < t.nodes → b < length (bound_ranks tree q)
       → IsSolutionAt t q (bound_at t c (bounded.line q b)).rows
-  bound-solution q b l h =
+  bound_solution q b l h =
       let at = bounded.is_bound q b l h in
       let s = bounded.solutions (bounded.line q b) at.0 in
       let same : s.0 ≡ q = let e : suc s.0 ≡ suc q = sym s.1 ∙ at.1 in omega (arith, e) in
       subst (λ w. IsSolutionAt t w (bound_at t c (bounded.line q b)).rows) same s.2
 
   -- the wide key of a row is the rank of a row of the raw tree
-  pub raw-part : (u row : ℕ) → u < t.nodes → t.IsRow u row
+  pub raw_part : (u row : ℕ) → u < t.nodes → t.IsRow u row
       → IsRawPart d key tree.raw u (query_key query d (t.key u row))
-  raw-part u row l h =
+  raw_part u row l h =
       let at = bounded.rows.every_row u row l h in
       inr (at.0, at.1, ap (λ r. query_key query d (t.key u r)) (sym at.2) ∙ sym (bounded.rows.keys u at.0 l at.1))
 
   module _ (first : (q : ℕ) → 0 < q → q < t.nodes → t.parent q < q) where
     -- each row of a solution is one of its node
-    pub solution-row : (q u : ℕ) (rows : List ℕ) → IsSolutionAt t q rows → u < t.nodes → is_below t.parent q u ≡ 1
+    pub solution_row : (q u : ℕ) (rows : List ℕ) → IsSolutionAt t q rows → u < t.nodes → is_below t.parent q u ≡ 1
         → t.IsRow u (row_in t q rows u)
-    solution-row q u rows s l below = elim (cases_eq u q) [
+    solution_row q u rows s l below = elim (cases_eq u q) [
       | inl e ↦ subst (λ w. t.IsRow w (row_in t q rows w)) (sym e) s.first
       | inr n ↦ elim (cases_lt u q) [
         | inl less ↦ absurd (omega (arith, below, below_less t.nodes t.parent first q u l less))
@@ -131,9 +131,9 @@ module _ {R : Type 0} (query : Query) (tables : List Table) (join : JoinTree) (d
       abbrev total : (ℕ → KeyOf d 16) → KeyOf d 16
       total f = sum_from (key_add d 16) (key_none d 16) f t.nodes 0
 
-      own-total : total (given v) ≡ raw_rank tree.raw d key v i
+      own_total : total (given v) ≡ raw_rank tree.raw d key v i
       unfolding given
-      own-total =
+      own_total =
           sum_same (key_below d 16) (key_add d 16) (key_none d 16) (tuple_keys d 16) (given v)
           (λ u. cond (nat_eq u v) (raw_rank tree.raw d key v i) (key_none d 16)) t.nodes 0
           (λ u a b. pick_eq v v _ _ refl)
@@ -141,10 +141,10 @@ module _ {R : Type 0} (query : Query) (tables : List Table) (join : JoinTree) (d
           (raw_rank tree.raw d key v i) t.nodes 0 v
           (omega arith) (omega (arith, node))
 
-      child-total : (q : ℕ) → v < q → q < suc v + n → t.parent q ≡ v
+      child_total : (q : ℕ) → v < q → q < suc v + n → t.parent q ≡ v
           → total (given q) ≡ named_key d key tree t.parent v i q
       unfolding given child_part rows_of line_of
-      child-total q a b e =
+      child_total q a b e =
           let l : q < t.nodes = omega (arith, b, inside) in
           let p : 0 < q = omega (arith, a) in
           let named = all q a b e in
@@ -156,17 +156,17 @@ module _ {R : Type 0} (query : Query) (tables : List Table) (join : JoinTree) (d
           ∙ sum_same (key_below d 16) (key_add d 16) (key_none d 16) (tuple_keys d 16) (child_part q)
           (λ u. query_key query d
           (cond (nat_eq (is_below t.parent q u) 1) (t.key u (row_in t q (rows_of q) u)) t.none)) t.nodes 0
-          (λ u x y. sym (wide-cond (length query.order) d few (nat_eq (is_below t.parent q u) 1)
+          (λ u x y. sym (wide_cond (length query.order) d few (nat_eq (is_below t.parent q u) 1)
           (t.key u (row_in t q (rows_of q) u))))
-          ∙ sym (wide-sum (length query.order) d few
+          ∙ sym (wide_sum (length query.order) d few
           (λ u. cond (nat_eq (is_below t.parent q u) 1) (t.key u (row_in t q (rows_of q) u)) t.none) t.nodes 0)
           ∙ ap (λ o. query_key query d (bound_key t c q (unwrap_or (option_map (bounded.line q) o) 0))) named.1
           ∙ sym (bounded.ranks q named.0 l is.0)
           ∙ sym (ap (λ o. unwrap_or (option_map (rank_of_bound tree d key q) o) (key_none d 16)) named.1)
 
-      other-total : (q : ℕ) → v < q → t.parent q ≢ v → total (given q) ≡ key_none d 16
+      other_total : (q : ℕ) → v < q → t.parent q ≢ v → total (given q) ≡ key_none d 16
       unfolding given
-      other-total q a n' =
+      other_total q a n' =
           sum_none (key_below d 16) (key_add d 16) (key_none d 16) (tuple_keys d 16) (given q) t.nodes 0
           (λ u x y. pick_ne q v _ _ (λ w. omega (arith, w, a)) ∙ pick_ne (t.parent q) v _ _ n')
 
@@ -176,9 +176,9 @@ module _ {R : Type 0} (query : Query) (tables : List Table) (join : JoinTree) (d
           (u < t.nodes) × (q < t.nodes)
           × (((q ≡ v) × (u ≡ v)) ⊎ ((v < q) × (t.parent q ≡ v) × (is_below t.parent q u ≡ 1)))
 
-      given-once : (u p q : ℕ) → IsGiven u p → IsGiven u q → p ≡ q
+      given_once : (u p q : ℕ) → IsGiven u p → IsGiven u q → p ≡ q
       unfolding IsGiven
-      given-once u p q a b = elim a.2 [
+      given_once u p q a b = elim a.2 [
         | inl x ↦ elim b.2 [
           | inl y ↦ x.0 ∙ sym y.0
           | inr y ↦ absurd (omega (arith, y.2, below_less t.nodes t.parent first q u a.0 (omega (arith, x.1, y.0))))
@@ -195,10 +195,10 @@ module _ {R : Type 0} (query : Query) (tables : List Table) (join : JoinTree) (d
         ]
       ]
 
-      given-part : (q u : ℕ) → v ≤ q → q < v + suc n → u < t.nodes
+      given_part : (q u : ℕ) → v ≤ q → q < v + suc n → u < t.nodes
           → (given q u ≡ key_none d 16) ⊎ (IsGiven u q × IsRawPart d key tree.raw u (given q u))
       unfolding given child_part rows_of line_of IsGiven
-      given-part q u a b l = elim (cases_eq q v) [
+      given_part q u a b l = elim (cases_eq q v) [
         | inl e ↦ elim (cases_eq u v) [
           | inl x ↦
               let at : given q u ≡ raw_rank tree.raw d key v i = pick_eq q v _ _ e ∙ pick_eq u v _ _ x in
@@ -222,36 +222,36 @@ module _ {R : Type 0} (query : Query) (tables : List Table) (join : JoinTree) (d
                 let sol : IsSolutionAt t q (rows_of q) =
                 subst (λ o. IsSolutionAt t q (bound_at t c (unwrap_or (option_map (bounded.line q) o) 0)).rows)
                 (sym named.1)
-                (bound-solution q named.0 lq is.0) in
+                (bound_solution q named.0 lq is.0) in
                 let at : given q u ≡ query_key query d (t.key u (row_in t q (rows_of q) u)) =
                 pick_ne q v _ _ far ∙ pick_eq (t.parent q) v _ _ x ∙ pick_eq (is_below t.parent q u) 1 _ _ y in
                 inr (
                   (l, lq, inr (less, x, y)),
                   subst (IsRawPart d key tree.raw u) (sym at)
-                      (raw-part u (row_in t q (rows_of q) u) l (solution-row q u (rows_of q) sol l y)),
+                      (raw_part u (row_in t q (rows_of q) u) l (solution_row q u (rows_of q) sol l y)),
                 )
           ]
         ]
       ]
 
-      pub low-fits : KeyFits d key (low_part d key tree t.parent v i n)
+      pub low_fits : KeyFits d key (low_part d key tree t.parent v i n)
       unfolding sum_from kid_key
-      low-fits =
+      low_fits =
           let all-rows : t.nodes ≡ length tree.raw.shapes = sym bounded.rows.nodes in
           let whole : sum_from (key_add d 16) (key_none d 16) (λ q. total (given q)) (suc n) v
           ≡ low_part d key tree t.parent v i n =
-          ap (λ z. key_add d 16 z (sum_from (key_add d 16) (key_none d 16) (λ q. total (given q)) n (suc v))) own-total
+          ap (λ z. key_add d 16 z (sum_from (key_add d 16) (key_none d 16) (λ q. total (given q)) n (suc v))) own_total
           ∙ ap (λ z. key_add d 16 (raw_rank tree.raw d key v i) z)
           (sum_same (key_below d 16) (key_add d 16) (key_none d 16) (tuple_keys d 16) (λ q. total (given q))
           (kid_key (key_none d 16) t.parent v (named_key d key tree t.parent v i)) n (suc v)
           (λ q a b. elim (cases_eq (t.parent q) v) [
-            | inl e ↦ child-total q (omega arith) b e
+            | inl e ↦ child_total q (omega arith) b e
                 ∙ sym (kid_yes (key_none d 16) t.parent v (named_key d key tree t.parent v i) q e)
-            | inr x ↦ other-total q (omega arith) x
+            | inr x ↦ other_total q (omega arith) x
                 ∙ sym (kid_no (key_none d 16) t.parent v (named_key d key tree t.parent v i) q x)
           ])) in
           subst (KeyFits d key) whole
           (subst (λ m. KeyFits d key (sum_from (key_add d 16) (key_none d 16)
           (λ q. sum_from (key_add d 16) (key_none d 16) (given q) m 0) (suc n) v)) (sym all-rows)
-          (double_sums_fit d key tree.raw formed IsGiven given (suc n) v given-once
-          (λ q u a b l. given-part q u a b (omega (arith, l, all-rows)))))
+          (double_sums_fit d key tree.raw formed IsGiven given (suc n) v given_once
+          (λ q u a b l. given_part q u a b (omega (arith, l, all-rows)))))

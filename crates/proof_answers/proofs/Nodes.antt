@@ -15,34 +15,34 @@ module _ (query : Query) (tables : List Table) (join : JoinTree) where
   t = problem_in query tables join
 
   -- the problem has no more nodes than the tree says
-  pub nodes-few : t.nodes ≤ join.count
-  nodes-few = omega (arith, length-take join.count join.atom)
+  pub nodes_few : t.nodes ≤ join.count
+  nodes_few = omega (arith, length-take join.count join.atom)
 
-  stored-parent : (q : ℕ) → q < t.nodes → t.parent q ≡ slice_index join.parent q
-  stored-parent q l = get_or-take join.count join.parent q 0 (omega (arith, l, nodes-few))
+  stored_parent : (q : ℕ) → q < t.nodes → t.parent q ≡ slice_index join.parent q
+  stored_parent q l = get_or-take join.count join.parent q 0 (omega (arith, l, nodes_few))
 
   module _ (ordered : IsTree join.count join.atom join.parent) where
-    pub parents-earlier : (q : ℕ) → 0 < q → q < t.nodes → t.parent q < q
-    parents-earlier q p l =
-        omega (arith, stored-parent q l, ordered.earlier q p (omega (arith, l, nodes-few)))
+    pub parents_earlier : (q : ℕ) → 0 < q → q < t.nodes → t.parent q < q
+    parents_earlier q p l =
+        omega (arith, stored_parent q l, ordered.earlier q p (omega (arith, l, nodes_few)))
 
     module _ (long : length join.atom ≡ 16) where
-      pub all-nodes : t.nodes ≡ join.count
-      all-nodes = length-take-le join.count join.atom (omega (arith, ordered.few, long))
+      pub all_nodes : t.nodes ≡ join.count
+      all_nodes = length-take-le join.count join.atom (omega (arith, ordered.few, long))
 
-      pub parent-at : (q : ℕ) → q < t.nodes → t.parent q ≡ slice_index join.parent q
-      parent-at = stored-parent
+      pub parent_at : (q : ℕ) → q < t.nodes → t.parent q ≡ slice_index join.parent q
+      parent_at = stored_parent
 
-      pub parents-first : (q : ℕ) → 0 < q → q < t.nodes → t.parent q < q
-      parents-first = parents-earlier
+      pub parents_first_lem : (q : ℕ) → 0 < q → q < t.nodes → t.parent q < q
+      parents_first_lem = parents_earlier
 
 -- # What an option holds
 
-pub option-none : {A B : Type 0} (f : A → B) (o : Option A) → None ≡ option_map f o → o ≡ None
-option-none f None e = refl
-option-none f (Some x) e = absurd (let no : None ≡ Some (f x) → ⊥ = λ w. cc in no e)
+pub option_none : {A B : Type 0} (f : A → B) (o : Option A) → None ≡ option_map f o → o ≡ None
+option_none f None e = refl
+option_none f (Some x) e = absurd (let no : None ≡ Some (f x) → ⊥ = λ w. cc in no e)
 
-pub option-some : {A B : Type 0} (f : A → B) (o : Option A) (y : B) → Some y ≡ option_map f o
+pub option_some : {A B : Type 0} (f : A → B) (o : Option A) (y : B) → Some y ≡ option_map f o
     → (x : A) × (o ≡ Some x) × (y ≡ f x)
-option-some f None y e = absurd (let no : Some y ≡ None → ⊥ = λ w. cc in no e)
-option-some f (Some x) y e = (x, refl, let is : y ≡ f x = cc in is)
+option_some f None y e = absurd (let no : Some y ≡ None → ⊥ = λ w. cc in no e)
+option_some f (Some x) y e = (x, refl, let is : y ≡ f x = cc in is)

@@ -5,7 +5,7 @@ use Rattle.tdp_model.specs.TreeProblem.{sum_from}
 use Rattle.tdp_model.proofs.KeyTuples.{tuple_keys}
 use Rattle.rank_key.specs.Keys.{KeyFits}
 use Rattle.tdp_core.specs.RawData.{RawData, IsRawFormed}
-use Rattle.proof_bounds.proofs.RankSums.{IsRawPart, parts-fit}
+use Rattle.proof_bounds.proofs.RankSums.{IsRawPart, parts_fit}
 use Rattle.proof_answers.proofs.DoubleSums.{sum_swap, sum_choice}
 
 module _ {R : Type 0} (d : ℕ) (key : R → KeyOf d 16) (raw : RawData R) (formed : IsRawFormed d key raw) where
@@ -20,7 +20,7 @@ module _ {R : Type 0} (d : ℕ) (key : R → KeyOf d 16) (raw : RawData R) (form
   double_sums_fit Is f n s one each =
       let keys = tuple_keys d 16 in
       subst (KeyFits d key) (sym (sum_swap (key_below d 16) (key_add d 16) (key_none d 16) keys f n s m 0))
-      (parts-fit d key raw formed (λ q. sum_from (key_add d 16) (key_none d 16) (λ i. f i q) n s) (λ q l.
+      (parts_fit d key raw formed (λ q. sum_from (key_add d 16) (key_none d 16) (λ i. f i q) n s) (λ q l.
       elim (sum_choice (key_below d 16) (key_add d 16) (key_none d 16) keys (IsRawPart d key raw q) (Is q)
       (λ i. f i q) n s (one q)
       (λ i a b. each i q a b l)) [

@@ -13,17 +13,17 @@ use Rattle.proof_answers.specs.Solutions.{IsFirstBad, IsFirstBehind, TellsBad, T
 
 module _ (query : Query) (tables : List Table) (join : JoinTree) (c : Certificate) (shape : Shape)
     (is_shape : IsShape query tables (Ok shape)) (told : ProofFault) where
-  pub tells-bad : TellsBad (problem_in query tables join) c told
+  pub tells_bad : TellsBad (problem_in query tables join) c told
       → ((i : ℕ) → IsFirstBad (problem_in query tables join) c i
       → IsFirst (problem_in query tables join) c query.limit (no_answer i))
       → TellsFlaw query tables join c told
-  tells-bad (inl e) first = subst (TellsFlaw query tables join c) (sym e) tt
-  tells-bad (inr h) first =
+  tells_bad (inl e) first = subst (TellsFlaw query tables join c) (sym e) tt
+  tells_bad (inr h) first =
       subst (TellsFlaw query tables join c) (sym h.1) (shape, is_shape, no_answer h.0, refl, first h.0 h.2)
 
-  pub tells-behind : TellsBehind (problem_in query tables join) c told
+  pub tells_behind : TellsBehind (problem_in query tables join) c told
       → ((i : ℕ) → IsFirstBehind (problem_in query tables join) c i
       → IsFirst (problem_in query tables join) c query.limit (not_in_order i))
       → TellsFlaw query tables join c told
-  tells-behind h first =
+  tells_behind h first =
       subst (TellsFlaw query tables join c) (sym h.1) (shape, is_shape, not_in_order h.0, refl, first h.0 h.2)

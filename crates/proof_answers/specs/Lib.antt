@@ -1,4 +1,4 @@
-pub mod Covered
+pub mod Coverage
 pub mod Lows
-pub mod Placed
+pub mod RowPlaces
 pub mod Solutions

@@ -9,7 +9,7 @@ use Rattle.proof_text.specs.Certificate.{Certificate}
 use Rattle.proof_model.specs.Problem.{Problem}
 use Rattle.proof_model.specs.QueryProblem.{problem_in}
 use Rattle.proof_model.specs.Valid.{Serves, bound_key}
-use Rattle.proof_bounds.specs.Bounded.{BoundedData, IsBounded, query_key}
+use Rattle.proof_bounds.specs.BoundedRows.{BoundedData, IsBounded, query_key}
 
 module _ {K : Type 0} (t : Problem K) (c : Certificate) (v row : ℕ) where
   -- the group that the row names at each child has this bound

@@ -11,7 +11,7 @@ use Rattle.proof_text.specs.declared.fault.ProofFault.TheVariants as fault
 use Rattle.proof_model.specs.Problem.{Problem, IsSolutionAt}
 use Rattle.proof_model.specs.QueryProblem.{problem_in}
 use Rattle.proof_model.specs.Valid.{answer_at, answer_key}
-use Rattle.proof_bounds.specs.Bounded.{HasProblemRows}
+use Rattle.proof_bounds.specs.BoundedRows.{HasProblemRows}
 use Rattle.proof_bounds.specs.Places.{ArePlacesOf}
 
 module _ {K : Type 0} (t : Problem K) (c : Certificate) where

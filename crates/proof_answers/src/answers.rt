@@ -1,12 +1,12 @@
 //! The answers, told by the places of their rows.
 ghost use Rattle.std.specs.Prelude.{◌≡◌, ◌≤◌, ◌<◌, ℕ, length, option_map, IfErr, IfOk};
-ghost use Rattle.query_bind.specs.Weighed.{Fits};
-ghost use Rattle.query_shape.specs.Shown.{HasItems, HasStoredTree};
+ghost use Rattle.query_bind.specs.WeighedQuery.{Fits};
+ghost use Rattle.query_shape.specs.JoinTreeView.{HasItems, HasStoredTree};
 ghost use Rattle.join_tree.specs.Rerooting.{IsTree};
-ghost use Rattle.proof_text.specs.Seen.{seen_proof};
+ghost use Rattle.proof_text.specs.ProofView.{seen_proof};
 ghost use Rattle.proof_model.specs.Faults.{TellsFlaw};
-ghost use Rattle.proof_bounds.specs.Bounded.{IsBounded};
-ghost use Rattle.proof_answers.specs.Placed.{ArePlaced, IsLastKey};
+ghost use Rattle.proof_bounds.specs.BoundedRows.{IsBounded};
+ghost use Rattle.proof_answers.specs.RowPlaces.{ArePlaced, IsLastKey};
 
 use crate::count::is_count;
 use crate::covering::first_weak;

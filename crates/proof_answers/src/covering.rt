@@ -8,8 +8,8 @@ ghost use Rattle.tdp_core.specs.RawData.{raw_len, raw_number};
 ghost use Rattle.proof_text.specs.Certificate.{Certificate};
 ghost use Rattle.proof_model.specs.QueryProblem.{problem_in};
 ghost use Rattle.proof_model.specs.Valid.{IsCovered};
-ghost use Rattle.proof_bounds.specs.Bounded.{IsBounded, bound_ranks, named_bound, own_bound, rank_of_bound};
-ghost use Rattle.proof_answers.specs.Covered.{AllCovered, HasWeakRow, IsFirstWeak};
+ghost use Rattle.proof_bounds.specs.BoundedRows.{IsBounded, bound_ranks, named_bound, own_bound, rank_of_bound};
+ghost use Rattle.proof_answers.specs.Coverage.{AllCovered, HasWeakRow, IsFirstWeak};
 ghost use Rattle.proof_answers.specs.Lows.{IsBoundedTree, IsLow, OfEach};
 
 use join_tree::JoinTree;

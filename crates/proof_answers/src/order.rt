@@ -4,10 +4,10 @@ ghost use Rattle.anyk_model.specs.Table.{Table};
 ghost use Rattle.anyk_model.specs.Query.{Query as SelectQuery};
 ghost use Rattle.join_tree.specs.declared.tree.JoinTree.{JoinTree};
 ghost use Rattle.tdp_model.specs.KeyNumbers.{key_less};
-ghost use Rattle.proof_text.specs.Seen.{seen_proof};
+ghost use Rattle.proof_text.specs.ProofView.{seen_proof};
 ghost use Rattle.proof_model.specs.QueryProblem.{problem_in};
-ghost use Rattle.proof_bounds.specs.Bounded.{HasProblemRows};
-ghost use Rattle.proof_answers.specs.Placed.{IsLastKey};
+ghost use Rattle.proof_bounds.specs.BoundedRows.{HasProblemRows};
+ghost use Rattle.proof_answers.specs.RowPlaces.{IsLastKey};
 ghost use Rattle.proof_answers.specs.Solutions.{AreAnswers, AreOrdered, HasAnswers, TellsBehind};
 
 use proof_bounds::rank_of_places;

@@ -3,9 +3,9 @@ ghost use Rattle.std.specs.Prelude.{◌<◌, List, length, IfErr, IfOk};
 ghost use Rattle.anyk_model.specs.Table.{Table};
 ghost use Rattle.anyk_model.specs.Query.{Query as SelectQuery};
 ghost use Rattle.join_tree.specs.declared.tree.JoinTree.{JoinTree};
-ghost use Rattle.proof_text.specs.Seen.{seen_proof};
+ghost use Rattle.proof_text.specs.ProofView.{seen_proof};
 ghost use Rattle.proof_model.specs.QueryProblem.{problem_in};
-ghost use Rattle.proof_bounds.specs.Bounded.{HasProblemRows};
+ghost use Rattle.proof_bounds.specs.BoundedRows.{HasProblemRows};
 ghost use Rattle.proof_answers.specs.Solutions.{AreAnswers, TellsBad};
 
 use proof_bounds::solution_places;

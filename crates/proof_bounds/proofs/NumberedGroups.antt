@@ -17,25 +17,25 @@ use Rattle.proof_text.specs.Certificate.{Certificate}
 use Rattle.proof_model.specs.Problem.{Problem}
 use Rattle.proof_model.specs.QueryProblem.{problem_in}
 use Rattle.proof_model.specs.Valid.{Serves, StandsFor, bound_key}
-use Rattle.proof_bounds.specs.Bounded.{BoundedData, HasProblemRows, IsBounded, bound_ranks, named_bound, own_bound, query_key}
+use Rattle.proof_bounds.specs.BoundedRows.{BoundedData, HasProblemRows, IsBounded, bound_ranks, named_bound, own_bound, query_key}
 use Rattle.proof_bounds.specs.Lines.{AreLineGroups, AreNamed, ArePlacedLines, group_link, line_node, lines_of, named_link}
-use Rattle.proof_bounds.proofs.BoundLines.{lines-are}
-use Rattle.proof_bounds.proofs.LineFaults.{group-iff, groups-apart, line-place, lines-long, link-own, place-line}
-use Rattle.proof_bounds.proofs.Pushed.{found-there, there-found}
-use Rattle.proof_bounds.proofs.Solutions.{from-nodes}
+use Rattle.proof_bounds.proofs.BoundLines.{lines_are}
+use Rattle.proof_bounds.proofs.LineFaults.{group_iff, groups_apart, line_place, lines_long, link_own, place_line}
+use Rattle.proof_bounds.proofs.Pushed.{found_there, there_found}
+use Rattle.proof_bounds.proofs.Solutions.{from_nodes}
 
 -- numbers that rise one after another rise
-rise-far : (xs : List ℕ) → IsStrictlyIncreasing xs → (i g : ℕ) → i + suc g < length xs
+rise_far : (xs : List ℕ) → IsStrictlyIncreasing xs → (i g : ℕ) → i + suc g < length xs
     → get_or xs i 0 < get_or xs (i + suc g) 0
-rise-far xs up i zero l = up i (omega (arith, l))
-rise-far xs up i (suc g) l =
+rise_far xs up i zero l = up i (omega (arith, l))
+rise_far xs up i (suc g) l =
     let more : i + suc g + 1 ≡ i + suc (suc g) = omega arith in
-    let before = rise-far xs up i g (omega (arith, l)) in
+    let before = rise_far xs up i g (omega (arith, l)) in
     let step = up (i + suc g) (omega (arith, l)) in
     subst (λ j. get_or xs i 0 < get_or xs j 0) more (omega (arith, before, step))
 
-range-rises : (n : ℕ) → IsStrictlyIncreasing (range_with_len 0 n)
-range-rises n k l =
+range_rises : (n : ℕ) → IsStrictlyIncreasing (range_with_len 0 n)
+range_rises n k l =
     let size = length-range_with_len 0 n in
     let here = get_or-range_with_len 0 n k 0 (omega (arith, l, size)) in
     let next = get_or-range_with_len 0 n (k + 1) 0 (omega (arith, l, size)) in
@@ -64,56 +64,56 @@ module _ (query : Query) (tables : List Table) (join : JoinTree) {R : Type 0} (d
   links v = get_or groups v []
 
   inside : (v : ℕ) → v < t.nodes → v < length raw.shapes
-  inside v l = from-nodes query tables join d key raw shaped has v l
+  inside v l = from_nodes query tables join d key raw shaped has v l
 
-  ranks-long : (v : ℕ) → v < length raw.shapes → length (bound_ranks tree v) ≡ length (lines_of c v n)
-  ranks-long v l =
+  ranks_long : (v : ℕ) → v < length raw.shapes → length (bound_ranks tree v) ≡ length (lines_of c v n)
+  ranks_long v l =
       sym (length-map (bound_ranks tree v) key) ∙ ap length (p.keys v l)
       ∙ length-map (lines_of c v n) (λ i. query_key query d (bound_key t c v i))
 
-  links-long : (v : ℕ) → v < length raw.shapes → length (links v) ≡ length (bound_ranks tree v)
-  links-long v l = lines-long query tables join d key raw shaped has c n tops (map (λ b. b.ranks.items) tree.bounds) p n (omega arith) groups g v l
-      ∙ sym (ranks-long v l)
+  links_long : (v : ℕ) → v < length raw.shapes → length (links v) ≡ length (bound_ranks tree v)
+  links_long v l = lines_long query tables join d key raw shaped has c n tops (map (λ b. b.ranks.items) tree.bounds) p n (omega arith) groups g v l
+      ∙ sym (ranks_long v l)
 
   -- no line of a node has two numbers
-  one-number : (v a b : ℕ) → v < length raw.shapes → a < length (bound_ranks tree v) → b < length (bound_ranks tree v)
+  one_number_lem : (v a b : ℕ) → v < length raw.shapes → a < length (bound_ranks tree v) → b < length (bound_ranks tree v)
       → line v a ≡ line v b → a ≡ b
-  one-number v a b l ha hb e =
-      let long = ranks-long v l in
-      let up : IsStrictlyIncreasing (lines_of c v n) = IsStrictlyIncreasing-filter _ (range_with_len 0 n) (range-rises n) in
+  one_number_lem v a b l ha hb e =
+      let long = ranks_long v l in
+      let up : IsStrictlyIncreasing (lines_of c v n) = IsStrictlyIncreasing-filter _ (range_with_len 0 n) (range_rises n) in
       elim (cases_order a b) [
         | inl same ↦ same
         | inr (inl less) ↦
             let at : a + suc (b - suc a) ≡ b = omega (arith, less) in
-            let far = rise-far (lines_of c v n) up a (b - suc a) (omega (arith, at, hb, long)) in
+            let far = rise_far (lines_of c v n) up a (b - suc a) (omega (arith, at, hb, long)) in
             let apart : line v a < line v b = subst (λ j. get_or (lines_of c v n) a 0 < get_or (lines_of c v n) j 0) at far in
             absurd (omega (arith, apart, e))
         | inr (inr more) ↦
             let at : b + suc (a - suc b) ≡ a = omega (arith, more) in
-            let far = rise-far (lines_of c v n) up b (a - suc b) (omega (arith, at, ha, long)) in
+            let far = rise_far (lines_of c v n) up b (a - suc b) (omega (arith, at, ha, long)) in
             let apart : line v b < line v a = subst (λ j. get_or (lines_of c v n) b 0 < get_or (lines_of c v n) j 0) at far in
             absurd (omega (arith, apart, e))
       ]
 
-  placed-line : (v b : ℕ) → v < length raw.shapes → b < length (links v)
+  placed_line : (v b : ℕ) → v < length raw.shapes → b < length (links v)
       → (line v b < n) × (line_node c (line v b) ≡ suc v) × (get_or (links v) b 0 ≡ group_link raw v (get_or tops (line v b) 0))
-  placed-line v b l h =
-      place-line query tables join d key raw shaped has c n tops (map (λ b. b.ranks.items) tree.bounds) p n (omega arith) groups g v b l h
+  placed_line v b l h =
+      place_line query tables join d key raw shaped has c n tops (map (λ b. b.ranks.items) tree.bounds) p n (omega arith) groups g v b l h
 
-  place-of : (v i : ℕ) → v < length raw.shapes → i < n → line_node c i ≡ suc v
+  place_of : (v i : ℕ) → v < length raw.shapes → i < n → line_node c i ≡ suc v
       → (b : ℕ) × (b < length (links v)) × (line v b ≡ i) × (get_or (links v) b 0 ≡ group_link raw v (get_or tops i 0))
-  place-of v i l h e =
-      line-place query tables join d key raw shaped has c n tops (map (λ b. b.ranks.items) tree.bounds) p n (omega arith) groups g v i l h e
+  place_of v i l h e =
+      line_place query tables join d key raw shaped has c n tops (map (λ b. b.ranks.items) tree.bounds) p n (omega arith) groups g v i l h e
 
-  in-group : (v i j : ℕ) → v < length raw.shapes → i < raw_len raw v → j < raw_len raw v
+  in_group : (v i j : ℕ) → v < length raw.shapes → i < raw_len raw v → j < raw_len raw v
       → (group_link raw v i ≡ group_link raw v j) ↔ t.IsGrouped v (raw_number raw v i) (raw_number raw v j)
-  in-group v i j l h k =
-      group-iff query tables join d key raw shaped has c n tops (map (λ b. b.ranks.items) tree.bounds) p v i j l h k
+  in_group v i j l h k =
+      group_iff query tables join d key raw shaped has c n tops (map (λ b. b.ranks.items) tree.bounds) p v i j l h k
 
   -- lines of one node with one link are one line
-  one-line : (v i j : ℕ) → i < n → j < n → line_node c i ≡ suc v → line_node c j ≡ suc v
+  one_line : (v i j : ℕ) → i < n → j < n → line_node c i ≡ suc v → line_node c j ≡ suc v
       → group_link raw v (get_or tops i 0) ≡ group_link raw v (get_or tops j 0) → i ≡ j
-  one-line v i j l h e f x = elim (cases_lt i j) [
+  one_line v i j l h e f x = elim (cases_lt i j) [
     | inl y ↦ absurd (g.apart v i j y h e f x)
     | inr y ↦ elim (cases_lt j i) [
       | inl z ↦ absurd (g.apart v j i z l f e (sym x))
@@ -122,40 +122,40 @@ module _ (query : Query) (tables : List Table) (join : JoinTree) {R : Type 0} (d
   ]
 
   -- a line that is found by a link
-  found-line : (v link b : ℕ) → v < length raw.shapes → position (nat_eq link) (links v) ≡ Some b
+  found_line : (v link b : ℕ) → v < length raw.shapes → position (nat_eq link) (links v) ≡ Some b
       → (b < length (bound_ranks tree v)) × (line v b < n) × (line_node c (line v b) ≡ suc v)
       × (group_link raw v (get_or tops (line v b) 0) ≡ link)
-  found-line v link b l e =
-      let at = found-there link (links v) b e in
+  found_line v link b l e =
+      let at = found_there link (links v) b e in
       let low = at.0 in
-      let long = links-long v l in
-      let of_line = placed-line v b l at.0 in
+      let long = links_long v l in
+      let of_line = placed_line v b l at.0 in
       (omega (arith, low, long), of_line.0, of_line.1, sym of_line.2 ∙ at.1)
 
-  line-found : (v link j : ℕ) → v < length raw.shapes → j < n → line_node c j ≡ suc v
+  line_found : (v link j : ℕ) → v < length raw.shapes → j < n → line_node c j ≡ suc v
       → group_link raw v (get_or tops j 0) ≡ link → (b : ℕ) × (position (nat_eq link) (links v) ≡ Some b) × (line v b ≡ j)
-  line-found v link j l h e x =
-      let at = place-of v j l h e in
-      let found = there-found link (links v) at.0 at.1 (at.3 ∙ x) in
-      let other = placed-line v found.0 l found.2 in
-      (found.0, found.1, one-line v (line v found.0) j other.0 h other.1 e (sym other.2 ∙ found.3 ∙ sym x))
+  line_found v link j l h e x =
+      let at = place_of v j l h e in
+      let found = there_found link (links v) at.0 at.1 (at.3 ∙ x) in
+      let other = placed_line v found.0 l found.2 in
+      (found.0, found.1, one_line v (line v found.0) j other.0 h other.1 e (sym other.2 ∙ found.3 ∙ sym x))
 
   stands : (v i b : ℕ) → v < length raw.shapes → i < raw_len raw v → own_bound tree v i ≡ Some b
       → (b < length (bound_ranks tree v)) × StandsFor t c v (raw_number raw v i) (line v b)
   stands v i b l h e =
-      let f = found-line v (group_link raw v i) b l (sym ((named v l).own_numbers i h) ∙ e) in
+      let f = found_line v (group_link raw v i) b l (sym ((named v l).own_numbers i h) ∙ e) in
       let row = p.within v (line v b) f.1 f.2 in
-      let grouped = (in-group v i (get_or tops (line v b) 0) l h row).0 (sym f.3) in
+      let grouped = (in_group v i (get_or tops (line v b) 0) l h row).0 (sym f.3) in
       (f.0, ((f.1, f.2), subst (λ r. t.IsGrouped v (raw_number raw v i) r) (p.numbers v (line v b) f.1 f.2) grouped))
 
-  stands-every : (v i j : ℕ) → v < length raw.shapes → i < raw_len raw v → StandsFor t c v (raw_number raw v i) j
+  stands_every : (v i j : ℕ) → v < length raw.shapes → i < raw_len raw v → StandsFor t c v (raw_number raw v i) j
       → (b : ℕ) × (own_bound tree v i ≡ Some b) × (line v b ≡ j)
-  stands-every v i j l h s =
+  stands_every v i j l h s =
       let of_node = s.0 in
       let row = p.within v j of_node.0 of_node.1 in
-      let link = (in-group v i (get_or tops j 0) l h row).1
+      let link = (in_group v i (get_or tops j 0) l h row).1
       (subst (λ r. t.IsGrouped v (raw_number raw v i) r) (sym (p.numbers v j of_node.0 of_node.1)) s.1) in
-      let f = line-found v (group_link raw v i) j l of_node.0 of_node.1 (sym link) in
+      let f = line_found v (group_link raw v i) j l of_node.0 of_node.1 (sym link) in
       (f.0, (named v l).own_numbers i h ∙ f.1, f.2)
 
   -- ---- named groups
@@ -164,12 +164,12 @@ module _ (query : Query) (tables : List Table) (join : JoinTree) {R : Type 0} (d
     up : shape_parent raw.shapes q ≡ t.parent q
     up = has.parents q node
 
-    long-above : (r : ℕ) → r < raw_len raw (t.parent q) → r < raw_len raw (shape_parent raw.shapes q)
-    long-above r h = subst (λ a. r < raw_len raw a) (sym up) h
+    long_above : (r : ℕ) → r < raw_len raw (t.parent q) → r < raw_len raw (shape_parent raw.shapes q)
+    long_above r h = subst (λ a. r < raw_len raw a) (sym up) h
 
-    fits-iff : (r i : ℕ) → r < raw_len raw (t.parent q) → i < raw_len raw q
+    fits_iff : (r i : ℕ) → r < raw_len raw (t.parent q) → i < raw_len raw q
         → (own_link raw q i ≡ named_link raw q r) ↔ t.Fits q (raw_number raw (t.parent q) r) (raw_number raw q i)
-    fits-iff r i h k =
+    fits_iff r i h k =
         subst (λ a. (own_link raw q i ≡ child_link raw a r (shape_child_place raw.shapes q))
         ↔ t.Fits q (raw_number raw (t.parent q) r) (raw_number raw q i)) (sym up) (has.fits q r i some node h k)
 
@@ -177,21 +177,21 @@ module _ (query : Query) (tables : List Table) (join : JoinTree) {R : Type 0} (d
         → (b < length (bound_ranks tree q)) × Serves t c q (raw_number raw (t.parent q) r) (line q b)
     serves r b h e =
         let l = inside q node in
-        let f = found-line q (named_link raw q r) b l (sym ((named q l).named_numbers some r (long-above r h)) ∙ e) in
+        let f = found_line q (named_link raw q r) b l (sym ((named q l).named_numbers some r (long_above r h)) ∙ e) in
         let row = p.within q (line q b) f.1 f.2 in
-        let fit = (fits-iff r (get_or tops (line q b) 0) h row).0 (sym (link-own raw q (get_or tops (line q b) 0) some) ∙ f.3) in
+        let fit = (fits_iff r (get_or tops (line q b) 0) h row).0 (sym (link_own raw q (get_or tops (line q b) 0) some) ∙ f.3) in
         (f.0, ((f.1, f.2), subst (λ x. t.Fits q (raw_number raw (t.parent q) r) x) (p.numbers q (line q b) f.1 f.2) fit))
 
-    serves-every : (r j : ℕ) → r < raw_len raw (t.parent q) → Serves t c q (raw_number raw (t.parent q) r) j
+    serves_every : (r j : ℕ) → r < raw_len raw (t.parent q) → Serves t c q (raw_number raw (t.parent q) r) j
         → (b : ℕ) × (named_bound tree q r ≡ Some b) × (line q b ≡ j)
-    serves-every r j h s =
+    serves_every r j h s =
         let l = inside q node in
         let of_node = s.0 in
         let row = p.within q j of_node.0 of_node.1 in
-        let link = (fits-iff r (get_or tops j 0) h row).1
+        let link = (fits_iff r (get_or tops j 0) h row).1
         (subst (λ x. t.Fits q (raw_number raw (t.parent q) r) x) (sym (p.numbers q j of_node.0 of_node.1)) s.1) in
-        let f = line-found q (named_link raw q r) j l of_node.0 of_node.1 (link-own raw q (get_or tops j 0) some ∙ link) in
-        (f.0, (named q l).named_numbers some r (long-above r h) ∙ f.1, f.2)
+        let f = line_found q (named_link raw q r) j l of_node.0 of_node.1 (link_own raw q (get_or tops j 0) some ∙ link) in
+        (f.0, (named q l).named_numbers some r (long_above r h) ∙ f.1, f.2)
 
   pub bounded : IsBounded query tables join d key c tree
   bounded = record {
@@ -201,21 +201,21 @@ module _ (query : Query) (tables : List Table) (join : JoinTree) {R : Type 0} (d
     each_node = each ∙ has.nodes;
     line = line;
     is_bound = λ v b l h.
-        let long = ranks-long v (inside v l) in
-        lines-are c v n b (omega (arith, h, long));
+        let long = ranks_long v (inside v l) in
+        lines_are c v n b (omega (arith, h, long));
     ranks = λ v b l h.
-        let long = ranks-long v (inside v l) in
+        let long = ranks_long v (inside v l) in
         ap (λ xs. get_or xs b (key_none d 16)) (p.keys v (inside v l))
         ∙ get_or-map (λ i. query_key query d (bound_key t c v i)) (lines_of c v n) b 0 (key_none d 16) (omega (arith, h, long));
-    one_number = λ v a b l ha hb e. one-number v a b (inside v l) ha hb e;
+    one_number = λ v a b l ha hb e. one_number_lem v a b (inside v l) ha hb e;
     own_length = λ v l. (named v (inside v l)).own_length;
     own_is = λ v i b l h e. stands v i b (inside v l) h e;
-    own_every = λ v i j l h s. stands-every v i j (inside v l) h s;
+    own_every = λ v i j l h s. stands_every v i j (inside v l) h s;
     named_length = λ q some l. (named q (inside q l)).named_length some ∙ ap (raw_len raw) (has.parents q l);
     named_is = λ q r b some l h e. serves q some l r b h e;
-    named_every = λ q r j some l h s. serves-every q some l r j h s;
+    named_every = λ q r j some l h s. serves_every q some l r j h s;
     solutions = p.solutions;
     apart = λ v i j l e f x.
-        groups-apart query tables join d key raw shaped has c n tops (map (λ b. b.ranks.items) tree.bounds) p n (omega arith) groups g
+        groups_apart query tables join d key raw shaped has c n tops (map (λ b. b.ranks.items) tree.bounds) p n (omega arith) groups g
         v i j l f.0 e.1 f.1 x;
   }

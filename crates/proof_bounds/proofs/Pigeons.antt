@@ -21,35 +21,35 @@ find (suc k) x f = elim (cases_eq (f k) x) [
 skip : ℕ → ℕ → ℕ
 skip i j = cond (nat_lt j i) j (suc j)
 
-skip-low : (i j : ℕ) → j < i → skip i j ≡ j
+skip_low : (i j : ℕ) → j < i → skip i j ≡ j
 unfolding skip
-skip-low i j l = grind (arith, nat_tests)
+skip_low i j l = grind (arith, nat_tests)
 
-skip-high : (i j : ℕ) → i ≤ j → skip i j ≡ suc j
+skip_high : (i j : ℕ) → i ≤ j → skip i j ≡ suc j
 unfolding skip
-skip-high i j l = grind (arith, nat_tests)
+skip_high i j l = grind (arith, nat_tests)
 
-skip-other : (i j : ℕ) → skip i j ≢ i
-skip-other i j = elim (cases_lt j i) [
-  | inl l ↦ λ e. let s = skip-low i j l in omega (arith, e, s, l)
-  | inr l ↦ λ e. let s = skip-high i j l in omega (arith, e, s, l)
+skip_other : (i j : ℕ) → skip i j ≢ i
+skip_other i j = elim (cases_lt j i) [
+  | inl l ↦ λ e. let s = skip_low i j l in omega (arith, e, s, l)
+  | inr l ↦ λ e. let s = skip_high i j l in omega (arith, e, s, l)
 ]
 
-skip-within : (i j k : ℕ) → j < k → skip i j < suc k
-skip-within i j k h = elim (cases_lt j i) [
-  | inl l ↦ let s = skip-low i j l in omega (arith, s, h)
-  | inr l ↦ let s = skip-high i j l in omega (arith, s, h)
+skip_within : (i j k : ℕ) → j < k → skip i j < suc k
+skip_within i j k h = elim (cases_lt j i) [
+  | inl l ↦ let s = skip_low i j l in omega (arith, s, h)
+  | inr l ↦ let s = skip_high i j l in omega (arith, s, h)
 ]
 
-skip-apart : (i a b : ℕ) → a ≢ b → skip i a ≢ skip i b
-skip-apart i a b n = elim (cases_lt a i) [
+skip_apart : (i a b : ℕ) → a ≢ b → skip i a ≢ skip i b
+skip_apart i a b n = elim (cases_lt a i) [
   | inl l ↦ elim (cases_lt b i) [
-    | inl k ↦ λ e. let s = skip-low i a l in let u = skip-low i b k in omega (arith, e, s, u, n)
-    | inr k ↦ λ e. let s = skip-low i a l in let u = skip-high i b k in omega (arith, e, s, u, l, k)
+    | inl k ↦ λ e. let s = skip_low i a l in let u = skip_low i b k in omega (arith, e, s, u, n)
+    | inr k ↦ λ e. let s = skip_low i a l in let u = skip_high i b k in omega (arith, e, s, u, l, k)
   ]
   | inr l ↦ elim (cases_lt b i) [
-    | inl k ↦ λ e. let s = skip-high i a l in let u = skip-low i b k in omega (arith, e, s, u, l, k)
-    | inr k ↦ λ e. let s = skip-high i a l in let u = skip-high i b k in omega (arith, e, s, u, n)
+    | inl k ↦ λ e. let s = skip_high i a l in let u = skip_low i b k in omega (arith, e, s, u, l, k)
+    | inr k ↦ λ e. let s = skip_high i a l in let u = skip_high i b k in omega (arith, e, s, u, n)
   ]
 ]
 
@@ -62,11 +62,11 @@ pigeons (suc n) (suc k) f low apart = elim (find (suc k) n f) [
       let at : ℕ = h.0 in
       let less = pigeons n k (λ j. f (skip at j))
       (λ j l.
-      let here = low (skip at j) (skip-within at j k l) in
-      let other = apart (skip at j) at (skip-within at j k l) h.1 (skip-other at j) in
+      let here = low (skip at j) (skip_within at j k l) in
+      let other = apart (skip at j) at (skip_within at j k l) h.1 (skip_other at j) in
       let differ : f (skip at j) ≢ n = λ e. other (e ∙ sym h.2) in
       omega (arith, here, differ))
-      (λ a b l m e. apart (skip at a) (skip at b) (skip-within at a k l) (skip-within at b k m) (skip-apart at a b e)) in
+      (λ a b l m e. apart (skip at a) (skip at b) (skip_within at a k l) (skip_within at b k m) (skip_apart at a b e)) in
       omega (arith, less)
   | inr h ↦
       let less = pigeons n (suc k) f (λ i l. let a = low i l in let b = h i l in omega (arith, a, b)) apart in

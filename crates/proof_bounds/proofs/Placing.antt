@@ -6,7 +6,7 @@ use Rattle.std.proofs.lemmas.Bool.{cases_eq, cases_lt}
 use Rattle.std.proofs.lemmas.List.{get_or-set_same, get_or-set_other, get_or-replicate, get_or_past, length-replicate}
 use Rattle.tdp_core.specs.RawData.{AreShapes, RawData, raw_len, raw_number, shape_parent}
 use Rattle.proof_bounds.specs.Subtrees.{ArePlacedBefore, HasLinkOf, raw_below, raw_place}
-use Rattle.proof_bounds.proofs.Subtrees.{below-after, parents-first, parent-low}
+use Rattle.proof_bounds.proofs.Subtrees.{below_after, parents_first_lem, parent_low}
 
 abbrev no_places : List ℕ
 no_places = replicate 16 0
@@ -25,17 +25,17 @@ module _ {R : Type 0} (raw : RawData R) (shaped : AreShapes raw.shapes) (v : ℕ
   up = shape_parent raw.shapes
 
   -- nothing is placed before the subtree begins
-  pub placed-none : v < m → ArePlacedBefore raw v rows (replicate 16 0) v
-  placed-none l = record {
-    within = λ q h some. absurd (omega (arith, below-after raw shaped v q (omega arith) some));
-    numbers = λ q h some. absurd (omega (arith, below-after raw shaped v q (omega arith) some));
+  pub placed_none : v < m → ArePlacedBefore raw v rows (replicate 16 0) v
+  placed_none l = record {
+    within = λ q h some. absurd (omega (arith, below_after raw shaped v q (omega arith) some));
+    numbers = λ q h some. absurd (omega (arith, below_after raw shaped v q (omega arith) some));
     linked = λ q a h some. absurd (omega arith);
     outside = λ q h. zeros q;
   }
 
-  pub placed-skip : (places : List ℕ) (n : ℕ) → raw_below raw v n ≡ 0 → ArePlacedBefore raw v rows places n
+  pub placed_skip : (places : List ℕ) (n : ℕ) → raw_below raw v n ≡ 0 → ArePlacedBefore raw v rows places n
       → ArePlacedBefore raw v rows places (n + 1)
-  placed-skip places n none p =
+  placed_skip places n none p =
       let before : (q : ℕ) → q < n + 1 → 0 < raw_below raw v q → q < n = λ q h some. elim (cases_eq q n) [
         | inl e ↦ let z = ap (raw_below raw v) e in absurd (omega (arith, z))
         | inr e ↦ omega (arith, e)
@@ -51,39 +51,39 @@ module _ {R : Type 0} (raw : RawData R) (shaped : AreShapes raw.shapes) (v : ℕ
     abbrev more : List ℕ
     more = set places n place
 
-    same-place : (q : ℕ) → q ≢ n → get_or more q 0 ≡ get_or places q 0
-    same-place q e = get_or-set_other places n q place 0 e
+    same_place : (q : ℕ) → q ≢ n → get_or more q 0 ≡ get_or places q 0
+    same_place q e = get_or-set_other places n q place 0 e
 
-    new-place : get_or more n 0 ≡ place
-    new-place = get_or-set_same places n place 0 (let few = shaped.few_nodes in omega (arith, few, long))
+    new_place : get_or more n 0 ≡ place
+    new_place = get_or-set_same places n place 0 (let few = shaped.few_nodes in omega (arith, few, long))
 
-    pub placed-more : 0 < raw_below raw v n → place < raw_len raw n → raw_number raw n place ≡ get_or rows (raw_place raw v n) 0
+    pub placed_more : 0 < raw_below raw v n → place < raw_len raw n → raw_number raw n place ≡ get_or rows (raw_place raw v n) 0
         → (v < n → HasLinkOf raw n (get_or places (up n) 0) place) → ArePlacedBefore raw v rows more (n + 1)
-    placed-more is fits row link = record {
+    placed_more is fits row link = record {
       within = λ q h some. elim (cases_eq q n) [
-        | inl e ↦ subst (λ k. get_or more k 0 < raw_len raw k) (sym e) (omega (arith, new-place, fits))
-        | inr e ↦ omega (arith, same-place q e, p.within q (omega (arith, e)) some)
+        | inl e ↦ subst (λ k. get_or more k 0 < raw_len raw k) (sym e) (omega (arith, new_place, fits))
+        | inr e ↦ omega (arith, same_place q e, p.within q (omega (arith, e)) some)
       ];
       numbers = λ q h some. elim (cases_eq q n) [
         | inl e ↦ subst (λ k. raw_number raw k (get_or more k 0) ≡ get_or rows (raw_place raw v k) 0) (sym e)
-            (ap (raw_number raw n) new-place ∙ row)
-        | inr e ↦ ap (raw_number raw q) (same-place q e) ∙ p.numbers q (omega (arith, e)) some
+            (ap (raw_number raw n) new_place ∙ row)
+        | inr e ↦ ap (raw_number raw q) (same_place q e) ∙ p.numbers q (omega (arith, e)) some
       ];
       linked = λ q a h some. elim (cases_eq q n) [
         | inl e ↦
             let far : v < n = omega arith in
-            let less = parents-first raw shaped n (omega arith) inside in
+            let less = parents_first_lem raw shaped n (omega arith) inside in
             subst (λ k. HasLinkOf raw k (get_or more (up k) 0) (get_or more k 0)) (sym e)
-            (subst (λ r. HasLinkOf raw n r (get_or more n 0)) (sym (same-place (up n) (λ x. omega arith)))
-            (subst (λ i. HasLinkOf raw n (get_or places (up n) 0) i) (sym new-place) (link far)))
+            (subst (λ r. HasLinkOf raw n r (get_or more n 0)) (sym (same_place (up n) (λ x. omega arith)))
+            (subst (λ i. HasLinkOf raw n (get_or places (up n) 0) i) (sym new_place) (link far)))
         | inr e ↦
             let l : q < n = omega (arith, e) in
-            let low = parent-low raw shaped q (omega arith) in
-            subst (λ r. HasLinkOf raw q r (get_or more q 0)) (sym (same-place (up q) (λ x. omega arith)))
-            (subst (λ i. HasLinkOf raw q (get_or places (up q) 0) i) (sym (same-place q e)) (p.linked q a l some))
+            let low = parent_low raw shaped q (omega arith) in
+            subst (λ r. HasLinkOf raw q r (get_or more q 0)) (sym (same_place (up q) (λ x. omega arith)))
+            (subst (λ i. HasLinkOf raw q (get_or places (up q) 0) i) (sym (same_place q e)) (p.linked q a l some))
       ];
       outside = λ q h. elim (cases_eq q n) [
         | inl e ↦ let z = h (omega arith) in let y = ap (raw_below raw v) e in absurd (omega (arith, z, y, is))
-        | inr e ↦ same-place q e ∙ p.outside q (λ l. h (omega arith))
+        | inr e ↦ same_place q e ∙ p.outside q (λ l. h (omega arith))
       ];
     }

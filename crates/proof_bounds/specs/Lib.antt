@@ -1,4 +1,4 @@
-pub mod Bounded
+pub mod BoundedRows
 pub mod Faults
 pub mod Lines
 pub mod Places

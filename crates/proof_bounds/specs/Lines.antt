@@ -10,7 +10,7 @@ use Rattle.proof_text.specs.Certificate.{Certificate}
 use Rattle.proof_model.specs.Problem.{IsSolutionAt}
 use Rattle.proof_model.specs.QueryProblem.{problem_in}
 use Rattle.proof_model.specs.Valid.{bound_at, bound_key, bound_row}
-use Rattle.proof_bounds.specs.Bounded.{HasProblemRows, query_key}
+use Rattle.proof_bounds.specs.BoundedRows.{HasProblemRows, query_key}
 
 module _ (c : Certificate) where
   -- the node of line i, from 1; 0 past the last line

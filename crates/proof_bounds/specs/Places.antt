@@ -8,7 +8,7 @@ use Rattle.tdp_model.specs.KeyTuple.{KeyOf}
 use Rattle.tdp_core.specs.RawData.{RawData, raw_len, raw_number}
 use Rattle.proof_model.specs.Problem.{IsSolutionAt, row_in}
 use Rattle.proof_model.specs.QueryProblem.{problem_in}
-use Rattle.proof_bounds.specs.Bounded.{HasProblemRows}
+use Rattle.proof_bounds.specs.BoundedRows.{HasProblemRows}
 
 -- The rows are a subtree solution of node v. The places of its rows are given by node, and are 0 at nodes outside of
 -- the subtree.

@@ -23,7 +23,7 @@ pub struct BoundedTree<R: Rank> {
 }
 
 impl<R: Rank> Model for BoundedTree<R> {
-    ghost use Rattle.proof_bounds.specs.Bounded.{BoundedData};
+    ghost use Rattle.proof_bounds.specs.BoundedRows.{BoundedData};
 
     ghost Value = { BoundedData R };
 

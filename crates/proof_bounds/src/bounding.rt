@@ -1,9 +1,9 @@
 //! From a certificate to the bounds of groups.
 ghost use Rattle.std.specs.Prelude.{◌≡◌, ◌≤◌, ◌<◌, ℕ, length, IfErr, IfOk, Ok};
 ghost use Rattle.query_shape.specs.Shape.{IsShape, Shape};
-ghost use Rattle.proof_text.specs.Seen.{seen_proof};
+ghost use Rattle.proof_text.specs.ProofView.{seen_proof};
 ghost use Rattle.proof_model.specs.Faults.{TellsFlaw};
-ghost use Rattle.proof_bounds.specs.Bounded.{HasProblemRows, IsBounded};
+ghost use Rattle.proof_bounds.specs.BoundedRows.{HasProblemRows, IsBounded};
 
 use crate::bounded::BoundedTree;
 use crate::groups::line_groups;

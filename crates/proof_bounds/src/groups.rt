@@ -4,8 +4,8 @@ ghost use Rattle.anyk_model.specs.Table.{Table};
 ghost use Rattle.anyk_model.specs.Query.{Query as SelectQuery};
 ghost use Rattle.join_tree.specs.declared.tree.JoinTree.{JoinTree};
 ghost use Rattle.tdp_core.specs.RawData.{raw_len};
-ghost use Rattle.proof_text.specs.Seen.{seen_proof};
-ghost use Rattle.proof_bounds.specs.Bounded.{HasProblemRows};
+ghost use Rattle.proof_text.specs.ProofView.{seen_proof};
+ghost use Rattle.proof_bounds.specs.BoundedRows.{HasProblemRows};
 ghost use Rattle.proof_bounds.specs.Faults.{TellsBoundTwice};
 ghost use Rattle.proof_bounds.specs.Lines.{AreLineGroups, ArePlacedLines, HasPlacedLines, group_link};
 

@@ -3,10 +3,10 @@ ghost use Rattle.std.specs.Prelude.{◌≡◌, ◌≤◌, ◌<◌, [], List, ℕ
 ghost use Rattle.anyk_model.specs.Table.{Table};
 ghost use Rattle.anyk_model.specs.Query.{Query as SelectQuery};
 ghost use Rattle.join_tree.specs.declared.tree.JoinTree.{JoinTree};
-ghost use Rattle.proof_text.specs.Seen.{seen_proof};
+ghost use Rattle.proof_text.specs.ProofView.{seen_proof};
 ghost use Rattle.proof_model.specs.Problem.{IsSolutionAt};
 ghost use Rattle.proof_model.specs.QueryProblem.{problem_in};
-ghost use Rattle.proof_bounds.specs.Bounded.{HasProblemRows};
+ghost use Rattle.proof_bounds.specs.BoundedRows.{HasProblemRows};
 ghost use Rattle.proof_bounds.specs.Faults.{TellsBadBound};
 ghost use Rattle.proof_bounds.specs.Lines.{ArePlacedLines, HasProblem};
 ghost use Rattle.proof_bounds.specs.Places.{ArePlacesOf};

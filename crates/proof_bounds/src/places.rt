@@ -6,7 +6,7 @@ ghost use Rattle.join_tree.specs.declared.tree.JoinTree.{JoinTree};
 ghost use Rattle.tdp_core.specs.RawData.{raw_len, shape_parent};
 ghost use Rattle.proof_model.specs.Problem.{IsSolutionAt, key_at};
 ghost use Rattle.proof_model.specs.QueryProblem.{problem_in};
-ghost use Rattle.proof_bounds.specs.Bounded.{HasProblemRows, query_key};
+ghost use Rattle.proof_bounds.specs.BoundedRows.{HasProblemRows, query_key};
 ghost use Rattle.proof_bounds.specs.Places.{ArePlacesOf, HasSolutionAt};
 ghost use Rattle.proof_bounds.specs.Subtrees.{HasLinkOf};
 

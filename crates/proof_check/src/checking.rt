@@ -1,15 +1,15 @@
 //! Whether a certificate is valid.
 ghost use Rattle.std.specs.Prelude.{◌≡◌, ◌≤◌, ◌<◌, ℕ, length, map, take, IfErr, IfOk, OnOk, Ok};
-ghost use Rattle.query_bind.specs.Weighed.{Fits};
+ghost use Rattle.query_bind.specs.WeighedQuery.{Fits};
 ghost use Rattle.query_shape.specs.Shape.{IsShape, Shape};
-ghost use Rattle.query_shape.specs.Shown.{HasItems, HasStoredTree};
+ghost use Rattle.query_shape.specs.JoinTreeView.{HasItems, HasStoredTree};
 ghost use Rattle.join_tree.specs.Rerooting.{IsTree};
 ghost use Rattle.node_build.specs.Nodes.{CapsBelow};
-ghost use Rattle.proof_text.specs.Seen.{seen_proof};
+ghost use Rattle.proof_text.specs.ProofView.{seen_proof};
 ghost use Rattle.proof_model.specs.Faults.{TellsFlaw};
 ghost use Rattle.proof_model.specs.QueryProblem.{problem_in};
 ghost use Rattle.proof_model.specs.Valid.{IsValid};
-ghost use Rattle.proof_check.specs.Checked.{item_rows, list_at};
+ghost use Rattle.proof_check.specs.RowLists.{item_rows, list_at};
 ghost use Rattle.proof_text.specs.declared.fault.ProofFault.TheVariants.{NoMemory};
 
 use csv_tables::Tables;

@@ -3,7 +3,7 @@ use Rattle.std.proofs.Common.{◌≡◌, ◌↔◌, ◌⊎◌, ◌<◌, ◌≤�
 use Rattle.std.proofs.Common.{refl, sym, ap, subst, ◌∙◌, inl, inr, arith, length-append}
 use Rattle.std.proofs.lemmas.Bool.{cases_lt}
 use Rattle.std.proofs.lemmas.List.{get_or_append_left, get_or_push}
-use Rattle.proof_answers.specs.Placed.{place_at}
+use Rattle.proof_answers.specs.RowPlaces.{place_at}
 use Rattle.proof_choices.specs.Adding.{IsAdding}
 use Rattle.proof_choices.specs.Levels.{ArePrefixes, BeginAlike, IsPairAt, IsTaken, list_at}
 
@@ -14,8 +14,8 @@ Pair = ℕ × ℕ
 abbrev pub IsOnce : List Pair → Type 0
 IsOnce pairs = (m n : ℕ) (x : Pair) → IsPairAt pairs m x → IsPairAt pairs n x → m ≡ n
 
-once-more : (xs : List Pair) (x : Pair) → ((k : ℕ) → IsPairAt xs k x → ⊥) → IsOnce xs → IsOnce (xs ++ x ∷ [])
-once-more xs x new once m n y p q = by (cases_lt m (length xs)) (cases_lt n (length xs))
+once_more : (xs : List Pair) (x : Pair) → ((k : ℕ) → IsPairAt xs k x → ⊥) → IsOnce xs → IsOnce (xs ++ x ∷ [])
+once_more xs x new once m n y p q = by (cases_lt m (length xs)) (cases_lt n (length xs))
   where
     size : length (xs ++ x ∷ []) ≡ length xs + 1
     size = length-append xs (x ∷ [])
@@ -52,8 +52,8 @@ module _ (p : ℕ) (places : List (List ℕ)) (numbers : List ℕ) where
         → (i : ℕ) × (i < k) × (slice_index next i ≡ n) × (list_at starts n ≡ list_at places i)
     pub once : IsOnce pairs
 
-  pub none-added : AreAdded 0 [] [] []
-  none-added = record {
+  pub none_added : AreAdded 0 [] [] []
+  none_added = record {
     count = refl;
     many = refl;
     each = λ i l. absurd (omega (arith, l));
@@ -64,8 +64,8 @@ module _ (p : ℕ) (places : List (List ℕ)) (numbers : List ℕ) where
   module _ (k : ℕ) (old new : List Pair) (next more : List ℕ) (starts longer : List (List ℕ))
       (added : AreAdded k old next starts)
       (adding : IsAdding p (list_at places k) (slice_index numbers k) old new next more starts longer) where
-    more-count : length more ≡ k + 1
-    more-count =
+    more_count : length more ≡ k + 1
+    more_count =
         ap length adding.numbered ∙ length-append next (adding.number ∷ []) ∙ ap (λ n. n + 1) added.count
 
     earlier : (i : ℕ) → i < k → slice_index more i ≡ slice_index next i
@@ -87,8 +87,8 @@ module _ (p : ℕ) (places : List (List ℕ)) (numbers : List ℕ) where
       )
     ]
 
-    each-now : (i : ℕ) → i < k + 1 → IsPairAt new (slice_index more i) (pair_of i)
-    each-now i l = elim (cases_lt i k) [
+    each_now : (i : ℕ) → i < k + 1 → IsPairAt new (slice_index more i) (pair_of i)
+    each_now i l = elim (cases_lt i k) [
       | inl less ↦ subst (λ n. IsPairAt new n (pair_of i)) (sym (earlier i less))
           (kept (slice_index next i) (pair_of i) (added.each i less))
       | inr at ↦
@@ -101,8 +101,8 @@ module _ (p : ℕ) (places : List (List ℕ)) (numbers : List ℕ) where
     HasBegun lists n =
         (i : ℕ) × (i < k + 1) × (slice_index more i ≡ n) × (list_at lists n ≡ list_at places i)
 
-    begun-same : starts ≡ longer → (n : ℕ) → n < length old → HasBegun longer n
-    begun-same e n l =
+    begun_same : starts ≡ longer → (n : ℕ) → n < length old → HasBegun longer n
+    begun_same e n l =
         let b = added.begun n l in (
           b.0,
           let h = b.1 in omega (arith, h),
@@ -110,14 +110,14 @@ module _ (p : ℕ) (places : List (List ℕ)) (numbers : List ℕ) where
           sym (ap (λ xs. list_at xs n) e) ∙ b.3,
         )
 
-    once-now : IsOnce new
-    once-now = elim adding.added [
+    once_now : IsOnce new
+    once_now = elim adding.added [
       | inl same ↦ subst IsOnce (sym same.0) added.once
-      | inr longer' ↦ subst IsOnce (sym longer'.0) (once-more old (pair_of k) longer'.2 added.once)
+      | inr longer' ↦ subst IsOnce (sym longer'.0) (once_more old (pair_of k) longer'.2 added.once)
     ]
 
-    many-now : length longer ≡ length new
-    many-now = elim adding.added [
+    many_now : length longer ≡ length new
+    many_now = elim adding.added [
       | inl same ↦ ap length same.1 ∙ added.many ∙ sym (ap length same.0)
       | inr longer' ↦
           let a = ap length longer'.1 in
@@ -126,9 +126,9 @@ module _ (p : ℕ) (places : List (List ℕ)) (numbers : List ℕ) where
           omega (arith, a, b, m, length-append starts (list_at places k ∷ []), length-append old (pair_of k ∷ []))
     ]
 
-    begun-now : (n : ℕ) → n < length new → HasBegun longer n
-    begun-now n l = elim adding.added [
-      | inl same ↦ begun-same (sym same.1) n (subst (λ xs. n < length xs) same.0 l)
+    begun_now : (n : ℕ) → n < length new → HasBegun longer n
+    begun_now n l = elim adding.added [
+      | inl same ↦ begun_same (sym same.1) n (subst (λ xs. n < length xs) same.0 l)
       | inr longer' ↦
           let size : n < length old + 1 = let b = ap length longer'.0 in
           omega (arith, b, l, length-append old (pair_of k ∷ [])) in
@@ -150,26 +150,26 @@ module _ (p : ℕ) (places : List (List ℕ)) (numbers : List ℕ) where
                 ) in (
                   k,
                   omega arith,
-                  last k refl ∙ once-now adding.number n (pair_of k) adding.stands here,
+                  last k refl ∙ once_now adding.number n (pair_of k) adding.stands here,
                   ap (λ xs. list_at xs n) longer'.1
                       ∙ get_or_push starts (list_at places k) [] n (let m = added.many in omega (arith, m, e)),
                 )
           ]
     ]
 
-    pub one-added : AreAdded (k + 1) new more longer
-    one-added = record {
-      count = more-count;
-      many = many-now;
-      each = each-now;
-      begun = begun-now;
-      once = once-now;
+    pub one_added : AreAdded (k + 1) new more longer
+    one_added = record {
+      count = more_count;
+      many = many_now;
+      each = each_now;
+      begun = begun_now;
+      once = once_now;
     }
 
   module _ (starts : List (List ℕ)) (prefixes : ArePrefixes p places numbers starts) (pairs : List Pair)
       (next : List ℕ) (longer : List (List ℕ)) (added : AreAdded (length places) pairs next longer) where
-    pub taken-pairs : (n r : ℕ) → ((k : ℕ) × IsPairAt pairs k (n, r)) ↔ IsTaken p places numbers n r
-    taken-pairs n r = (
+    pub taken_pairs : (n r : ℕ) → ((k : ℕ) × IsPairAt pairs k (n, r)) ↔ IsTaken p places numbers n r
+    taken_pairs n r = (
       λ h.
           let l = h.1.0 in
           let b = added.begun h.0 l in
@@ -184,45 +184,45 @@ module _ (p : ℕ) (places : List (List ℕ)) (numbers : List ℕ) where
     )
 
     -- answers that begin alike as far as p do so one node further if their rows there are the same
-    alike-more : (a b : List ℕ) → BeginAlike p a b → slice_index a p ≡ slice_index b p → BeginAlike (p + 1) a b
-    alike-more a b h e q l = elim (cases_lt q p) [
+    alike_more : (a b : List ℕ) → BeginAlike p a b → slice_index a p ≡ slice_index b p → BeginAlike (p + 1) a b
+    alike_more a b h e q l = elim (cases_lt q p) [
       | inl less ↦ h q less
       | inr at ↦ let is : q ≡ p = omega (arith, l, at) in subst (λ z. slice_index a z ≡ slice_index b z) (sym is) e
     ]
 
-    alike-less : (a b : List ℕ) → BeginAlike (p + 1) a b → BeginAlike p a b
-    alike-less a b h q l = h q (omega (arith, l))
+    alike_less : (a b : List ℕ) → BeginAlike (p + 1) a b → BeginAlike p a b
+    alike_less a b h q l = h q (omega (arith, l))
 
-    alike-back : (m : ℕ) (a b : List ℕ) → BeginAlike m a b → BeginAlike m b a
-    alike-back m a b h q l = sym (h q l)
+    alike_back : (m : ℕ) (a b : List ℕ) → BeginAlike m a b → BeginAlike m b a
+    alike_back m a b h q l = sym (h q l)
 
-    alike-both : (m : ℕ) (a b c : List ℕ) → BeginAlike m a b → BeginAlike m b c → BeginAlike m a c
-    alike-both m a b c h k q l = h q l ∙ k q l
+    alike_both : (m : ℕ) (a b c : List ℕ) → BeginAlike m a b → BeginAlike m b c → BeginAlike m a c
+    alike_both m a b c h k q l = h q l ∙ k q l
 
     -- answers with one number begin alike
-    numbered-alike : (i j : ℕ) → i < length places → j < length places
+    numbered_alike : (i j : ℕ) → i < length places → j < length places
         → slice_index numbers i ≡ slice_index numbers j → BeginAlike p (list_at places i) (list_at places j)
-    numbered-alike i j a b e =
-        alike-both p (list_at places i) (list_at starts (slice_index numbers i)) (list_at places j)
+    numbered_alike i j a b e =
+        alike_both p (list_at places i) (list_at starts (slice_index numbers i)) (list_at places j)
         (prefixes.begins i a)
-        (alike-back p (list_at places j) (list_at starts (slice_index numbers i))
+        (alike_back p (list_at places j) (list_at starts (slice_index numbers i))
         (subst (λ n. BeginAlike p (list_at places j) (list_at starts n)) (sym e) (prefixes.begins j b)))
 
-    alike-numbered : (i j : ℕ) → i < length places → j < length places
+    alike_numbered : (i j : ℕ) → i < length places → j < length places
         → BeginAlike p (list_at places i) (list_at places j) → slice_index numbers i ≡ slice_index numbers j
-    alike-numbered i j a b h =
+    alike_numbered i j a b h =
         prefixes.apart (slice_index numbers i) (slice_index numbers j) (prefixes.within i a) (prefixes.within j b)
-        (alike-both p (list_at starts (slice_index numbers i)) (list_at places i)
+        (alike_both p (list_at starts (slice_index numbers i)) (list_at places i)
         (list_at starts (slice_index numbers j))
-        (alike-back p (list_at places i) (list_at starts (slice_index numbers i)) (prefixes.begins i a))
-        (alike-both p (list_at places i) (list_at places j) (list_at starts (slice_index numbers j)) h
+        (alike_back p (list_at places i) (list_at starts (slice_index numbers i)) (prefixes.begins i a))
+        (alike_both p (list_at places i) (list_at places j) (list_at starts (slice_index numbers j)) h
         (prefixes.begins j b)))
 
-    within-now : (n : ℕ) → n < length longer → n < length pairs
-    within-now n l = let m = added.many in omega (arith, m, l)
+    within_now : (n : ℕ) → n < length longer → n < length pairs
+    within_now n l = let m = added.many in omega (arith, m, l)
 
-    pub next-prefixes : ArePrefixes (p + 1) places next longer
-    next-prefixes = record {
+    pub next_prefixes : ArePrefixes (p + 1) places next longer
+    next_prefixes = record {
       count = added.count;
       within = λ i l. let a = (added.each i l).0 in let m = added.many in omega (arith, a, m);
       begins = λ i l.
@@ -231,16 +231,16 @@ module _ (p : ℕ) (places : List (List ℕ)) (numbers : List ℕ) where
           let other = added.each b.0 b.1 in
           let e : pair_of b.0 ≡ pair_of i = sym other.1 ∙ ap (λ k. get_or pairs k (0, 0)) b.2 ∙ at.1 in
           subst (BeginAlike (p + 1) (list_at places i)) (sym b.3)
-          (alike-more (list_at places i) (list_at places b.0)
-          (numbered-alike i b.0 l b.1 (sym (ap (λ (x : Pair). x.0) e))) (sym (ap (λ (x : Pair). x.1) e)));
+          (alike_more (list_at places i) (list_at places b.0)
+          (numbered_alike i b.0 l b.1 (sym (ap (λ (x : Pair). x.0) e))) (sym (ap (λ (x : Pair). x.1) e)));
       apart = λ m n lm ln h.
-          let a = added.begun m (within-now m lm) in
-          let b = added.begun n (within-now n ln) in
+          let a = added.begun m (within_now m lm) in
+          let b = added.begun n (within_now n ln) in
           let alike : BeginAlike (p + 1) (list_at places a.0) (list_at places b.0) =
           subst (λ xs. BeginAlike (p + 1) xs (list_at places b.0)) a.3
           (subst (BeginAlike (p + 1) (list_at longer m)) b.3 h) in
-          let number = alike-numbered a.0 b.0 a.1 b.1
-          (alike-less (list_at places a.0) (list_at places b.0) alike) in
+          let number = alike_numbered a.0 b.0 a.1 b.1
+          (alike_less (list_at places a.0) (list_at places b.0) alike) in
           let row : place_at places a.0 p ≡ place_at places b.0 p = alike p (omega arith) in
           let e : pair_of a.0 ≡ pair_of b.0 = λ i. (number i, row i) in
           sym a.2
@@ -248,7 +248,7 @@ module _ (p : ℕ) (places : List (List ℕ)) (numbers : List ℕ) where
           (subst (IsPairAt pairs (slice_index next a.0)) e (added.each a.0 a.1)) (added.each b.0 b.1)
           ∙ b.2;
       begun = λ n l.
-          let b = added.begun n (within-now n l) in
+          let b = added.begun n (within_now n l) in
           inr (b.0, b.1, subst (λ xs. BeginAlike (p + 1) xs (list_at places b.0)) (sym b.3) (λ q h. refl));
       first = λ z. absurd (omega (arith, z));
     }

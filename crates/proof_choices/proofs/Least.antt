@@ -12,9 +12,9 @@ use Rattle.proof_choices.specs.declared.branches.Branch.{Branch}
 use Rattle.proof_choices.specs.Levels.{AreLeast, IsLesser}
 
 -- nothing is known before the first beginning
-pub none-least : {R : Type 0} (d : ℕ) (key : R → KeyOf d 16) (branches : List (Option (Branch R))) (least : List (Option R))
+pub none_least : {R : Type 0} (d : ℕ) (key : R → KeyOf d 16) (branches : List (Option (Branch R))) (least : List (Option R))
     → ((g : ℕ) → get_or least g None ≡ None) → AreLeast d key 0 branches least
-none-least d key branches least none = record {
+none_least d key branches least none = record {
   below = λ n b l e. absurd (omega (arith, l));
   one = λ g k e. absurd (let clash : None ≡ Some k = sym (none g) ∙ e in
       let no : None ≡ Some k → ⊥ = λ w. cc in no clash);
@@ -23,8 +23,8 @@ none-least d key branches least none = record {
 module _ {R : Type 0} (d : ℕ) (key : R → KeyOf d 16) (m : ℕ) (branches : List (Option (Branch R)))
     (least : List (Option R)) (are : AreLeast d key m branches least) where
   -- a beginning that may not be left
-  pub least-kept : get_or branches m None ≡ None → AreLeast d key (m + 1) branches least
-  least-kept none = record {
+  pub least_kept : get_or branches m None ≡ None → AreLeast d key (m + 1) branches least
+  least_kept none = record {
     below = λ n b l e. elim (cases_lt n m) [
       | inl less ↦ are.below n b less e
       | inr at ↦
@@ -41,23 +41,23 @@ module _ {R : Type 0} (d : ℕ) (key : R → KeyOf d 16) (m : ℕ) (branches : L
     after : List (Option R)
     after = set least b.group (Some now)
 
-    at-group : get_or after b.group None ≡ Some now
+    at_group : get_or after b.group None ≡ Some now
     unfolding after
-    at-group = get_or-set_same least b.group (Some now) None within
+    at_group = get_or-set_same least b.group (Some now) None within
 
     elsewhere : (g : ℕ) → (g ≡ b.group → ⊥) → get_or after g None ≡ get_or least g None
     unfolding after
     elsewhere g n = get_or-set_other least b.group g (Some now) None n
 
-    below-now : (n : ℕ) (x : Branch R) → n < m + 1 → get_or branches n None ≡ Some x
+    below_now : (n : ℕ) (x : Branch R) → n < m + 1 → get_or branches n None ≡ Some x
         → (k : R) × (get_or after x.group None ≡ Some k) × AtMost (key_below d 16) (key k) (key x.base)
-    below-now n x l e = elim (cases_lt n m) [
+    below_now n x l e = elim (cases_lt n m) [
       | inl less ↦
           let old = are.below n x less e in
           elim (cases_eq x.group b.group) [
             | inl same ↦ (
               now,
-              ap (λ g. get_or after g None) same ∙ at-group,
+              ap (λ g. get_or after g None) same ∙ at_group,
               at_most_trans (key_below d 16) (tuple_keys d 16).order (key now) (key old.0) (key x.base)
                   (lesser.falls old.0 (ap (λ g. get_or least g None) (sym same) ∙ old.1)) old.2,
             )
@@ -68,15 +68,15 @@ module _ {R : Type 0} (d : ℕ) (key : R → KeyOf d 16) (m : ℕ) (branches : L
           let same : b ≡ x =
           let both : Some b ≡ Some x = sym here ∙ ap (λ k. get_or branches k None) (sym is) ∙ e in cc in
           subst (λ (y : Branch R). (k : R) × (get_or after y.group None ≡ Some k)
-          × AtMost (key_below d 16) (key k) (key y.base)) same (now, at-group, lesser.below)
+          × AtMost (key_below d 16) (key k) (key y.base)) same (now, at_group, lesser.below)
     ]
 
-    one-now : (g : ℕ) (k : R) → get_or after g None ≡ Some k
+    one_now : (g : ℕ) (k : R) → get_or after g None ≡ Some k
         → (n : ℕ) × ((x : Branch R) × (n < m + 1) × (get_or branches n None ≡ Some x) × (x.group ≡ g) × (x.base ≡ k))
-    one-now g k e = elim (cases_eq g b.group) [
+    one_now g k e = elim (cases_eq g b.group) [
       | inl same ↦
           let is : now ≡ k =
-          let both : Some now ≡ Some k = sym at-group ∙ ap (λ z. get_or after z None) (sym same) ∙ e in cc in
+          let both : Some now ≡ Some k = sym at_group ∙ ap (λ z. get_or after z None) (sym same) ∙ e in cc in
           elim lesser.one [
             | inl new ↦ (m, (b, omega arith, here, sym same, sym new ∙ is))
             | inr old ↦
@@ -88,6 +88,6 @@ module _ {R : Type 0} (d : ℕ) (key : R → KeyOf d 16) (m : ℕ) (branches : L
           (o.0, (o.1.0, let l = o.1.1 in omega (arith, l), o.1.2, o.1.3, o.1.4))
     ]
 
-    pub least-lowered : AreLeast d key (m + 1) branches (set least b.group (Some now))
+    pub least_lowered : AreLeast d key (m + 1) branches (set least b.group (Some now))
     unfolding after
-    least-lowered = record { below = below-now; one = one-now }
+    least_lowered = record { below = below_now; one = one_now }

@@ -15,35 +15,35 @@ Pair = ℕ × ℕ
 abbrev pub same : Pair → Pair → Bool
 same a b = nat_eq a.0 b.0 && nat_eq a.1 b.1
 
-same-is : (a b : Pair) → same a b ≡ true → a ≡ b
-same-is a b e =
+same_is : (a b : Pair) → same a b ≡ true → a ≡ b
+same_is a b e =
     let h = and_parts (nat_eq a.0 b.0) (nat_eq a.1 b.1) e in
     let x : a.0 ≡ b.0 = eqb-true a.0 b.0 h.0 in
     let y : a.1 ≡ b.1 = eqb-true a.1 b.1 h.1 in
     λ i. (x i, y i)
 
-is-same : (a b : Pair) → a ≡ b → same a b ≡ true
-is-same a b e =
+is_same : (a b : Pair) → a ≡ b → same a b ≡ true
+is_same a b e =
     (λ i. eq-eqb a.0 b.0 (ap (λ (p : Pair). p.0) e) i && nat_eq a.1 b.1) ∙ eq-eqb a.1 b.1 (ap (λ (p : Pair). p.1) e)
 
-pub found-at : (xs : List Pair) (x : Pair) → list_any (same x) xs ≡ true → (k : ℕ) × IsPairAt xs k x
-found-at [] x e = absurd (false≢true e)
-found-at (y ∷ ys) x e = by (same x y) refl e (λ h. found-at ys x h)
+pub found_at : (xs : List Pair) (x : Pair) → list_any (same x) xs ≡ true → (k : ℕ) × IsPairAt xs k x
+found_at [] x e = absurd (false≢true e)
+found_at (y ∷ ys) x e = by (same x y) refl e (λ h. found_at ys x h)
   where
     by : (b : Bool) → same x y ≡ b → (b || list_any (same x) ys) ≡ true
         → (list_any (same x) ys ≡ true → (k : ℕ) × IsPairAt ys k x) → (k : ℕ) × IsPairAt (y ∷ ys) k x
-    by true s _ later = (0, (omega arith, sym (same-is x y s)))
+    by true s _ later = (0, (omega arith, sym (same_is x y s)))
     by false s h later = let r = later h in (suc r.0, (let l = r.1.0 in omega (arith, l), r.1.1))
 
-or-true : (b c : Bool) → c ≡ true → (b || c) ≡ true
-or-true true c e = refl
-or-true false c e = e
+or_true : (b c : Bool) → c ≡ true → (b || c) ≡ true
+or_true true c e = refl
+or_true false c e = e
 
-pub at-found : (xs : List Pair) (x : Pair) (k : ℕ) → IsPairAt xs k x → list_any (same x) xs ≡ true
-at-found [] x k h = absurd (let l = h.0 in omega (arith, l))
-at-found (y ∷ ys) x zero h = ap (λ b. b || list_any (same x) ys) (is-same x y (sym h.1))
-at-found (y ∷ ys) x (suc k) h =
-    or-true (same x y) (list_any (same x) ys) (at-found ys x k (let l = h.0 in omega (arith, l), h.1))
+pub at_found : (xs : List Pair) (x : Pair) (k : ℕ) → IsPairAt xs k x → list_any (same x) xs ≡ true
+at_found [] x k h = absurd (let l = h.0 in omega (arith, l))
+at_found (y ∷ ys) x zero h = ap (λ b. b || list_any (same x) ys) (is_same x y (sym h.1))
+at_found (y ∷ ys) x (suc k) h =
+    or_true (same x y) (list_any (same x) ys) (at_found ys x k (let l = h.0 in omega (arith, l), h.1))
 
 -- what inserting a pair gives
 module _ (old : List Pair) (x : Pair) (new : List Pair) (keys : new ≡ insert_key same old x) where
@@ -55,11 +55,11 @@ module _ (old : List Pair) (x : Pair) (new : List Pair) (keys : new ≡ insert_k
       by true added e = ap (λ c. if c then old ++ x ∷ [] else old) (sym e)
       by false added e = ap (λ c. if c then old ++ x ∷ [] else old) (sym e)
 
-  pub inserted-at : (n : ℕ) (y : Pair) → slice_get new n ≡ Some y → same x y ≡ true → IsPairAt new n x
-  inserted-at n y is alike = (
+  pub inserted_at : (n : ℕ) (y : Pair) → slice_get new n ≡ Some y → same x y ≡ true → IsPairAt new n x
+  inserted_at n y is alike = (
     slice_get_within new n y is,
-    get_or_from_slice_get new n y (0, 0) is ∙ sym (same-is x y alike),
+    get_or_from_slice_get new n y (0, 0) is ∙ sym (same_is x y alike),
   )
 
-  pub inserted-new : (added : Bool) → added ≡ not (list_any (same x) old) → added ≡ true → (k : ℕ) → IsPairAt old k x → ⊥
-  inserted-new added e is k h = false≢true (sym (e ∙ ap not (at-found old x k h)) ∙ is)
+  pub inserted_new : (added : Bool) → added ≡ not (list_any (same x) old) → added ≡ true → (k : ℕ) → IsPairAt old k x → ⊥
+  inserted_new added e is k h = false≢true (sym (e ∙ ap not (at_found old x k h)) ∙ is)

@@ -11,13 +11,13 @@ use Rattle.proof_text.specs.Certificate.{Certificate}
 use Rattle.proof_model.specs.Problem.{Problem}
 use Rattle.proof_model.specs.QueryProblem.{problem_in}
 use Rattle.proof_model.specs.Valid.{IsPassed, OpenChoice, answer_key, choice_key}
-use Rattle.proof_model.proofs.Wider.{wide-below}
-use Rattle.proof_bounds.specs.Bounded.{BoundedData, IsBounded, query_key}
-use Rattle.proof_answers.specs.Placed.{ArePlaced, IsLastKey}
-use Rattle.proof_answers.proofs.Nodes.{all-nodes}
+use Rattle.proof_model.proofs.Wider.{wide_below}
+use Rattle.proof_bounds.specs.BoundedRows.{BoundedData, IsBounded, query_key}
+use Rattle.proof_answers.specs.RowPlaces.{ArePlaced, IsLastKey}
+use Rattle.proof_answers.proofs.Nodes.{all_nodes}
 use Rattle.proof_choices.specs.Choices.{ArePassed, IsMissed}
 use Rattle.proof_choices.specs.Levels.{IsMissedAt, IsPassedAt, IsPast}
-use Rattle.proof_choices.proofs.Bridge.{choice-value, choice-way, way-choice, way-key}
+use Rattle.proof_choices.proofs.Bridge.{choice_value, choice_way, way-choice, way_key}
 
 module _ {R : Type 0} (query : Query) (tables : List Table) (join : JoinTree) (d : ℕ) (key : R → KeyOf d 16)
     (c : Certificate) (tree : BoundedData R) (few : length query.order ≤ d)
@@ -35,48 +35,48 @@ module _ {R : Type 0} (query : Query) (tables : List Table) (join : JoinTree) (d
       ((c.ended ≡ true) × (last ≡ None))
       ⊎ ((c.ended ≡ false) × ((0 < length c.answers) × (last ≡ Some (W (answer_key t c (length c.answers - 1))))))
 
-  pub limit-from : (answer : Option R) → IsLastKey query tables join d c (option_map key answer) → is_some answer ≡ true
+  pub limit_from : (answer : Option R) → IsLastKey query tables join d c (option_map key answer) → is_some answer ≡ true
       → c.ended ≡ false → (last : Option (KeyOf d 16)) → last ≡ option_map key answer → IsLimit last
-  limit-from None h some ended last e = absurd (false≢true some)
-  limit-from (Some k) h some ended last e = inr (ended, (h.0, e ∙ ap Some h.1))
+  limit_from None h some ended last e = absurd (false≢true some)
+  limit_from (Some k) h some ended last e = inr (ended, (h.0, e ∙ ap Some h.1))
 
-  past-passed : (last : Option (KeyOf d 16)) → IsLimit last → (o : OpenChoice t c) → IsPast d last (W (choice_key t c o))
+  past_passed : (last : Option (KeyOf d 16)) → IsLimit last → (o : OpenChoice t c) → IsPast d last (W (choice_key t c o))
       → IsPassed t c c.ended o
-  past-passed last (inl e) o h = absurd (subst (λ z. IsPast d z (W (choice_key t c o))) e.1 h)
-  past-passed last (inr e) o h =
+  past_passed last (inl e) o h = absurd (subst (λ z. IsPast d z (W (choice_key t c o))) e.1 h)
+  past_passed last (inr e) o h =
       subst (λ b. IsPassed t c b o) (sym e.0)
-      (λ some. (wide-below (length query.order) d 16 few (answer_key t c (length c.answers - 1)) (choice_key t c o)).0
+      (λ some. (wide_below (length query.order) d 16 few (answer_key t c (length c.answers - 1)) (choice_key t c o)).0
       (subst (λ z. IsPast d z (W (choice_key t c o))) e.1.1 h))
 
-  passed-past : (last : Option (KeyOf d 16)) → IsLimit last → (o : OpenChoice t c) → IsPassed t c c.ended o
+  passed_past : (last : Option (KeyOf d 16)) → IsLimit last → (o : OpenChoice t c) → IsPassed t c c.ended o
       → IsPast d last (W (choice_key t c o))
-  passed-past last (inl e) o h = absurd (subst (λ b. IsPassed t c b o) e.0 h)
-  passed-past last (inr e) o h =
+  passed_past last (inl e) o h = absurd (subst (λ b. IsPassed t c b o) e.0 h)
+  passed_past last (inr e) o h =
       subst (λ z. IsPast d z (W (choice_key t c o))) (sym e.1.1)
-      ((wide-below (length query.order) d 16 few (answer_key t c (length c.answers - 1)) (choice_key t c o)).1
+      ((wide_below (length query.order) d 16 few (answer_key t c (length c.answers - 1)) (choice_key t c o)).1
       ((subst (λ b. IsPassed t c b o) e.0 h) e.1.0))
 
-  pub all-passed : (last : Option (KeyOf d 16)) → IsLimit last
+  pub all_passed : (last : Option (KeyOf d 16)) → IsLimit last
       → ((p : ℕ) → p < join.count → IsPassedAt join tree d key places last p) → ArePassed query tables join c
-  all-passed last limit each o =
-      let nodes = all-nodes query tables join ordered long in
+  all_passed last limit each o =
+      let nodes = all_nodes query tables join ordered long in
       let at = each o.at (let l = o.node in omega (arith, nodes, l)) in
-      past-passed last limit o
+      past_passed last limit o
       (subst (IsPast d last)
-      (choice-value query tables join d key c tree few bounded ordered long places placed o.at o.node at.numbers at.starts
+      (choice_value query tables join d key c tree few bounded ordered long places placed o.at o.node at.numbers at.starts
       at.pairs at.beginnings o refl)
-      (at.passed _ _ _ (choice-way query tables join d key c tree few bounded ordered long places placed o.at o.node
+      (at.passed _ _ _ (choice_way query tables join d key c tree few bounded ordered long places placed o.at o.node
       at.numbers at.starts at.pairs at.beginnings o refl)))
 
-  pub is-missed : (last : Option (KeyOf d 16)) → IsLimit last → IsMissedAt join tree d key places last
+  pub is_missed : (last : Option (KeyOf d 16)) → IsLimit last → IsMissedAt join tree d key places last
       → IsMissed query tables join c
-  is-missed last limit m =
-      let nodes = all-nodes query tables join ordered long in
+  is_missed last limit m =
+      let nodes = all_nodes query tables join ordered long in
       let node : m.at < t.nodes = let l = m.node in omega (arith, nodes, l) in (
         way-choice query tables join d key c tree few bounded ordered long places placed m.at node m.numbers m.starts
             m.pairs m.beginnings m.number m.row m.rank m.way,
         λ passed. m.early (subst (IsPast d last)
-            (sym (way-key query tables join d key c tree few bounded ordered long places placed m.at node m.numbers m.starts
+            (sym (way_key query tables join d key c tree few bounded ordered long places placed m.at node m.numbers m.starts
             m.pairs m.beginnings m.number m.row m.rank m.way))
-            (passed-past last limit _ passed)),
+            (passed_past last limit _ passed)),
       )

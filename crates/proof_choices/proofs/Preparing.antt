@@ -4,42 +4,42 @@ use Rattle.join_tree.specs.Rerooting.{IsTree}
 use Rattle.join_tree.specs.declared.tree.JoinTree.{JoinTree}
 use Rattle.tdp_model.specs.KeyTuple.{KeyOf}
 use Rattle.tdp_core.specs.RawData.{IsRawFormed}
-use Rattle.proof_bounds.specs.Bounded.{BoundedData, bound_ranks}
+use Rattle.proof_bounds.specs.BoundedRows.{BoundedData, bound_ranks}
 use Rattle.proof_answers.specs.Lows.{IsBoundedTree}
-use Rattle.proof_answers.specs.Placed.{place_at}
-use Rattle.proof_answers.proofs.Nodes.{all-nodes}
+use Rattle.proof_answers.specs.RowPlaces.{place_at}
+use Rattle.proof_answers.proofs.Nodes.{all_nodes}
 use Rattle.proof_choices.specs.Levels.{ArePrefixes, BeginAlike, list_at, own_bounds}
-use Rattle.proof_choices.proofs.Grouping.{one-of-all}
-use Rattle.proof_choices.proofs.Walking.{own-size}
+use Rattle.proof_choices.proofs.Grouping.{one_of_all}
+use Rattle.proof_choices.proofs.Walking.{own_size}
 
 module _ {R : Type 0} (join : JoinTree) (tree : BoundedData R) (d : ℕ) (key : R → KeyOf d 16)
     (known : IsBoundedTree join d key tree) (ordered : IsTree join.count join.atom join.parent)
     (long : length join.atom ≡ 16) (p : ℕ) (node : p < join.count) where
-  pub node-bounds : p < length tree.bounds
-  node-bounds =
-      let nodes = all-nodes known.query known.tables join ordered long in
+  pub node_bounds : p < length tree.bounds
+  node_bounds =
+      let nodes = all_nodes known.query known.tables join ordered long in
       let each = known.bounded.each_node in
       omega (arith, nodes, each, node)
 
-  pub few-rows : IsRawFormed d key tree.raw → length (own_bounds tree p) ≤ 4194304
-  few-rows formed =
-      let size = own-size join tree d key known ordered long p node in
+  pub few_rows_lem : IsRawFormed d key tree.raw → length (own_bounds tree p) ≤ 4194304
+  few_rows_lem formed =
+      let size = own_size join tree d key known ordered long p node in
       let few = formed.few_rows in
-      omega (arith, size, few, one-of-all tree.raw.rows p)
+      omega (arith, size, few, one_of_all tree.raw.rows p)
 
-  pub own-within : (i b : ℕ) → i < length (own_bounds tree p) → slice_index_or (own_bounds tree p) i None ≡ Some b
+  pub own_within : (i b : ℕ) → i < length (own_bounds tree p) → slice_index_or (own_bounds tree p) i None ≡ Some b
       → b < length (bound_ranks tree p)
-  own-within i b l e =
-      let nodes = all-nodes known.query known.tables join ordered long in
-      let size = own-size join tree d key known ordered long p node in
+  own_within i b l e =
+      let nodes = all_nodes known.query known.tables join ordered long in
+      let size = own_size join tree d key known ordered long p node in
       (known.bounded.own_is p i b (omega (arith, nodes, node)) (omega (arith, size, l)) e).0
 
 -- the rows of a beginning are rows of their nodes
-pub start-rows : (len : ℕ → ℕ) (count p : ℕ) (places : List (List ℕ)) (numbers : List ℕ) (starts : List (List ℕ)) → p < count
+pub start_rows : (len : ℕ → ℕ) (count p : ℕ) (places : List (List ℕ)) (numbers : List ℕ) (starts : List (List ℕ)) → p < count
     → ((i q : ℕ) → i < length places → q < count → place_at places i q < len q)
     → ArePrefixes p places numbers starts → (n q : ℕ) → n < length starts → q < p
     → slice_index (list_at starts n) q < len q
-start-rows len count p places numbers starts node within prefixes n q l h =
+start_rows len count p places numbers starts node within prefixes n q l h =
     by (prefixes.begun n l)
   where
     by : (p ≡ 0) ⊎ ((i : ℕ) × (i < length places) × BeginAlike p (list_at starts n) (list_at places i))

@@ -20,15 +20,15 @@ module _ {K : Type 0} (t : Problem K) (laws : IsProblem t) where
     pub each : (q : ℕ) → q < t.nodes → IsPartOf Has q (part q)
     pub whole : sum_from t.add t.none part t.nodes 0 ≡ k
 
-  pub over-none : (Has : ℕ → Type 0) → IsSumOver Has t.none
-  over-none Has = record {
+  pub over_none : (Has : ℕ → Type 0) → IsSumOver Has t.none
+  over_none Has = record {
     part = λ q. t.none;
     each = λ q l. inl refl;
     whole = sum_none t.Below t.add t.none laws.keys (λ q. t.none) t.nodes 0 (λ i a b. refl);
   }
 
-  pub over-row : (v row : ℕ) → v < t.nodes → t.IsRow v row → IsSumOver (λ w. w ≡ v) (t.key v row)
-  over-row v row l is = record {
+  pub over_row : (v row : ℕ) → v < t.nodes → t.IsRow v row → IsSumOver (λ w. w ≡ v) (t.key v row)
+  over_row v row l is = record {
     part = λ q. cond (nat_eq q v) (t.key v row) t.none;
     each = λ q h. elim (cases_eq q v) [
       | inl e ↦ inr (
@@ -44,9 +44,9 @@ module _ {K : Type 0} (t : Problem K) (laws : IsProblem t) where
     whole = sum_one t.Below t.add t.none laws.keys (t.key v row) t.nodes 0 v (omega arith) (omega (arith, l));
   }
 
-  pub over-solution : (v : ℕ) (rows : List ℕ) → IsSolutionAt t v rows
+  pub over_solution : (v : ℕ) (rows : List ℕ) → IsSolutionAt t v rows
       → IsSumOver (λ w. is_below t.parent v w ≡ 1) (key_at t v rows)
-  over-solution v rows s = record {
+  over_solution v rows s = record {
     part = λ q. cond (nat_eq (is_below t.parent v q) 1) (t.key q (row_in t v rows q)) t.none;
     each = λ q h. elim (cases_eq (is_below t.parent v q) 1) [
       | inl e ↦ inr (e, (row_in t v rows q, row q h e, pick_eq (is_below t.parent v q) 1 _ t.none e))
@@ -65,20 +65,20 @@ module _ {K : Type 0} (t : Problem K) (laws : IsProblem t) where
         ]
       ]
 
-  pub over-more : (A B : ℕ → Type 0) (k : K) → ((q : ℕ) → q < t.nodes → A q → B q) → IsSumOver A k → IsSumOver B k
-  over-more A B k f s = record {
+  pub over_more : (A B : ℕ → Type 0) (k : K) → ((q : ℕ) → q < t.nodes → A q → B q) → IsSumOver A k → IsSumOver B k
+  over_more A B k f s = record {
     part = s.part;
     each = λ q l. elim (s.each q l) [ inl z ↦ inl z | inr h ↦ inr (f q l h.0, h.1) ];
     whole = s.whole;
   }
 
-  pub over-same : (A : ℕ → Type 0) (k l : K) → k ≡ l → IsSumOver A k → IsSumOver A l
-  over-same A k l e s = record { part = s.part; each = s.each; whole = s.whole ∙ e }
+  pub over_same : (A : ℕ → Type 0) (k l : K) → k ≡ l → IsSumOver A k → IsSumOver A l
+  over_same A k l e s = record { part = s.part; each = s.each; whole = s.whole ∙ e }
 
   -- sums over sets that have no node in common
-  pub over-both : (A B : ℕ → Type 0) (k l : K) → ((q : ℕ) → q < t.nodes → A q → B q → ⊥)
+  pub over_both : (A B : ℕ → Type 0) (k l : K) → ((q : ℕ) → q < t.nodes → A q → B q → ⊥)
       → IsSumOver A k → IsSumOver B l → IsSumOver (λ q. A q ⊎ B q) (t.add k l)
-  over-both A B k l apart a b = record {
+  over_both A B k l apart a b = record {
     part = λ q. t.add (a.part q) (b.part q);
     each = λ q h. elim (a.each q h) [
       | inl z ↦ elim (b.each q h) [
@@ -109,17 +109,17 @@ module _ {K : Type 0} (t : Problem K) (laws : IsProblem t) where
   }
 
   -- Each node has one holder, and f gives for each holder a sum over its nodes: these add up.
-  pub over-sum : (holder : ℕ → ℕ) (f : ℕ → K) (n : ℕ)
+  pub over_sum : (holder : ℕ → ℕ) (f : ℕ → K) (n : ℕ)
       → ((u : ℕ) → u < n → IsSumOver (λ w. holder w ≡ u) (f u))
       → IsSumOver (λ w. holder w < n) (sum_from t.add t.none f n 0)
   unfolding sum_from
-  over-sum holder f zero each = over-none (λ w. holder w < 0)
-  over-sum holder f (suc n) each =
-      let one = over-sum holder f n (λ u l. each u (omega arith)) in
+  over_sum holder f zero each = over_none (λ w. holder w < 0)
+  over_sum holder f (suc n) each =
+      let one = over_sum holder f n (λ u l. each u (omega arith)) in
       let two = each n (omega arith) in
-      let both = over-both (λ w. holder w < n) (λ w. holder w ≡ n) (sum_from t.add t.none f n 0) (f n)
+      let both = over_both (λ w. holder w < n) (λ w. holder w ≡ n) (sum_from t.add t.none f n 0) (f n)
       (λ q l a b. omega (arith, a, b)) one two in
-      over-same (λ w. holder w < suc n) _ (sum_from t.add t.none f (suc n) 0)
+      over_same (λ w. holder w < suc n) _ (sum_from t.add t.none f (suc n) 0)
       (sym (sum_last t.Below t.add t.none laws.keys f n 0 n (omega arith)))
-      (over-more (λ q. (holder q < n) ⊎ (holder q ≡ n)) (λ w. holder w < suc n) _
+      (over_more (λ q. (holder q < n) ⊎ (holder q ≡ n)) (λ w. holder w < suc n) _
       (λ q l h. elim h [ inl x ↦ omega (arith, x) | inr x ↦ omega (arith, x) ]) both)

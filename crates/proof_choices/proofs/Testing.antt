@@ -6,19 +6,19 @@ use Rattle.join_tree.specs.Rerooting.{IsTree}
 use Rattle.join_tree.specs.declared.tree.JoinTree.{JoinTree}
 use Rattle.tdp_model.specs.KeyTuple.{KeyOf, key_add}
 use Rattle.tdp_core.specs.RawData.{IsRawFormed, raw_len}
-use Rattle.proof_bounds.specs.Bounded.{BoundedData, bound_ranks}
+use Rattle.proof_bounds.specs.BoundedRows.{BoundedData, bound_ranks}
 use Rattle.proof_answers.specs.Lows.{IsBoundedTree}
 use Rattle.proof_choices.specs.declared.branches.Branch.{Branch}
 use Rattle.proof_choices.specs.Levels.{AreBranches, AreLeast, FitsGroup, IsBranch, IsInGroup, IsLeftAfter, IsLeftBefore}
 use Rattle.proof_choices.specs.Levels.{HasLow, IsBase, IsGroupOf, IsNoBranch, IsPairAt, IsPast, IsTestable, IsWay, list_at}
-use Rattle.proof_choices.proofs.Branching.{branch-fits, not-left, one-base, one-group}
+use Rattle.proof_choices.proofs.Branching.{branch_fits, not_left, one_base, one_group}
 
 module _ {R : Type 0} (join : JoinTree) (tree : BoundedData R) (d : ℕ) (key : R → KeyOf d 16) (p : ℕ)
     (starts : List (List ℕ)) (branches : List (Option (Branch R)))
     (are : AreBranches join tree d key p starts branches) where
-  pub branch-at : (n : ℕ) (b : Branch R) → n < length branches → slice_index_or branches n None ≡ Some b
+  pub branch_at_lem : (n : ℕ) (b : Branch R) → n < length branches → slice_index_or branches n None ≡ Some b
       → IsBranch join tree d key p (list_at starts n) b
-  branch-at n b l e =
+  branch_at_lem n b l e =
       subst (λ o. MatchOption o (IsNoBranch join tree d key p (list_at starts n)) (IsBranch join tree d key p (list_at starts n)))
       e (are n l)
 
@@ -30,11 +30,11 @@ module _ {R : Type 0} (join : JoinTree) (tree : BoundedData R) (d : ℕ) (key : 
       → length least ≡ length (bound_ranks tree p) → (n : ℕ) (b : Branch R) → n < length branches
       → slice_index_or branches n None ≡ Some b → IsTestable join tree d key p least b
   testable known ordered long formed node count rows least is size n b l e =
-      let at = branch-at n b l e in
+      let at = branch_at_lem n b l e in
       let low = is.below n b l e in
       let from = is.one b.group low.0 low.1 in
       let other : Branch R = from.1.0 in
-      let its = branch-at from.0 other from.1.1 from.1.2 in
+      let its = branch_at_lem from.0 other from.1.1 from.1.2 in
       record {
         within = let h = at.within in omega (arith, size, h);
         known = low.0;
@@ -42,18 +42,18 @@ module _ {R : Type 0} (join : JoinTree) (tree : BoundedData R) (d : ℕ) (key : 
         less = low.2;
         fits_known = subst (λ g. FitsGroup join tree d key p g (key low.0)) from.1.3
             (subst (λ z. FitsGroup join tree d key p other.group (key z)) from.1.4
-            (branch-fits join tree d key p (list_at starts from.0) known ordered long formed node
+            (branch_fits join tree d key p (list_at starts from.0) known ordered long formed node
             (λ q. rows from.0 q (let h = from.1.1 in omega (arith, h, count))) other its));
-        fits_base = branch-fits join tree d key p (list_at starts n) known ordered long formed node
+        fits_base = branch_fits join tree d key p (list_at starts n) known ordered long formed node
             (λ q. rows n q (omega (arith, l, count))) b at;
       }
 
   module _ (pairs : List (ℕ × ℕ)) (last : Option (KeyOf d 16)) (count : length branches ≡ length starts) where
-    pub way-from : (n : ℕ) (b : Branch R) → n < length branches → slice_index_or branches n None ≡ Some b
+    pub way_from : (n : ℕ) (b : Branch R) → n < length branches → slice_index_or branches n None ≡ Some b
         → IsLeftBefore join tree d key p pairs n last b
         → (m : ℕ) × ((i : ℕ) × ((k : KeyOf d 16) × IsWay join tree d key p starts pairs m i k × (IsPast d last k → ⊥)))
-    way-from n b l e left =
-        let at = branch-at n b l e in (
+    way_from n b l e left =
+        let at = branch_at_lem n b l e in (
           n,
           (
             left.row,
@@ -77,10 +77,10 @@ module _ {R : Type 0} (join : JoinTree) (tree : BoundedData R) (d : ℕ) (key : 
           ),
         )
 
-    pub way-past : ((n : ℕ) (b : Branch R) → n < length branches → slice_index_or branches n None ≡ Some b
+    pub way_past : ((n : ℕ) (b : Branch R) → n < length branches → slice_index_or branches n None ≡ Some b
         → IsLeftAfter join tree d key p pairs n last b)
         → (n i : ℕ) (k : KeyOf d 16) → IsWay join tree d key p starts pairs n i k → IsPast d last k
-    way-past after n i k way =
+    way_past after n i k way =
         by (slice_index_or branches n None) refl (are n l) (λ b e. after n b l e) k way.group way.base way.low way.within
         way.is_group way.is_base way.row way.untaken way.has_low way.whole
       where
@@ -98,11 +98,11 @@ module _ {R : Type 0} (join : JoinTree) (tree : BoundedData R) (d : ℕ) (key : 
         by None e match after k g base low within group is row new has whole =
             let none = subst (λ o. MatchOption o (IsNoBranch join tree d key p (list_at starts n))
             (IsBranch join tree d key p (list_at starts n))) e match in
-            absurd (not-left join tree d key p (list_at starts n) g base none within group is)
+            absurd (not_left join tree d key p (list_at starts n) g base none within group is)
         by (Some b) e match after k g base low within group is row new has whole =
             let at = subst (λ o. MatchOption o (IsNoBranch join tree d key p (list_at starts n))
             (IsBranch join tree d key p (list_at starts n))) e match in
-            let same = one-group join tree d key p (list_at starts n) g b.group group at.group in
-            let equal = one-base join tree d key p (list_at starts n) base (key b.base) is at.base in
+            let same = one_group join tree d key p (list_at starts n) g b.group group at.group in
+            let equal = one_base join tree d key p (list_at starts n) base (key b.base) is at.base in
             subst (IsPast d last) (sym (whole ∙ ap (λ z. key_add d 16 z low) equal))
             (after b e i low (subst (λ z. IsInGroup join tree d key p z i) same row) new has)

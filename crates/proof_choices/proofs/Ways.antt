@@ -12,9 +12,9 @@ use Rattle.proof_model.specs.Laws.{IsProblem}
 use Rattle.proof_model.specs.Valid.{IsBoundOf, bound_at, bound_key}
 use Rattle.proof_model.proofs.Sums.{pick_eq, pick_ne, sum_none, sum_one, sum_parts}
 use Rattle.proof_model.proofs.Choices.{pick_le, pick_gt}
-use Rattle.proof_model.proofs.Completing.{top_of, top-unique}
+use Rattle.proof_model.proofs.Completing.{top_of, top_unique}
 use Rattle.proof_choices.proofs.Keys.{base_term, base_key, choice_term}
-use Rattle.proof_choices.proofs.Supported.{IsSumOver, over-none, over-row, over-solution, over-more, over-same, over-sum}
+use Rattle.proof_choices.proofs.Supported.{IsSumOver, over_none, over_row, over_solution, over_more, over_same, over_sum}
 
 module _ {K : Type 0} (t : Problem K) (laws : IsProblem t) (c : Certificate) (p : ℕ) (rows below : ℕ → ℕ) where
   abbrev kid : ℕ → K
@@ -23,11 +23,11 @@ module _ {K : Type 0} (t : Problem K) (laws : IsProblem t) (c : Certificate) (p 
   abbrev one : ℕ → K
   one q = cond (nat_eq q p) (t.key p (rows p)) t.none
 
-  kids-total : p < t.nodes
+  kids_total : p < t.nodes
       → sum_from t.add t.none kid t.nodes 0
       ≡ sum_from t.add t.none (kid_key t.none t.parent p (λ q. bound_key t c q (below q))) (t.nodes - suc p) (suc p)
   unfolding kid_key
-  kids-total l =
+  kids_total l =
       let size : suc p + (t.nodes - suc p) ≡ t.nodes = omega (arith, l) in
       ap (λ n. sum_from t.add t.none kid n 0) (sym size)
       ∙ sum_parts t.Below t.add t.none laws.keys kid (suc p) (t.nodes - suc p) 0 (suc p) (omega arith)
@@ -93,14 +93,14 @@ module _ {K : Type 0} (t : Problem K) (laws : IsProblem t) (c : Certificate) (p 
       ]
 
   -- the two parts are the key of the choice
-  pub base-and-low : p < t.nodes
+  pub base_and_low : p < t.nodes
       → t.add (base_key t c p rows below)
       (t.add (t.key p (rows p)) (sum_from t.add t.none
       (kid_key t.none t.parent p (λ q. bound_key t c q (below q))) (t.nodes - suc p) (suc p)))
       ≡ sum_from t.add t.none (choice_term t c p rows below) t.nodes 0
-  base-and-low l =
+  base_and_low l =
       ap (λ z. t.add (base_key t c p rows below) z)
-      (ap (λ z. t.add (t.key p (rows p)) z) (sym (kids-total l))
+      (ap (λ z. t.add (t.key p (rows p)) z) (sym (kids_total l))
       ∙ ap (λ z. t.add z (sum_from t.add t.none kid t.nodes 0))
       (sym (sum_one t.Below t.add t.none laws.keys (t.key p (rows p)) t.nodes 0 p (omega arith) (omega (arith, l))))
       ∙ sym (sum_add t.Below t.add t.none laws.keys one kid t.nodes 0))
@@ -112,18 +112,18 @@ module _ {K : Type 0} (t : Problem K) (laws : IsProblem t) (c : Certificate) (p 
   holder w = cond (nat_le w p) w (top_of t laws p w)
 
   module _ (solved : (q i : ℕ) → IsBoundOf t c q i → IsSolutionAt t q (bound_at t c i).rows) where
-    held-row : (q row : ℕ) → q < t.nodes → q ≤ p → t.IsRow q row → IsSumOver t laws (λ w. holder w ≡ q) (t.key q row)
-    held-row q row l h is =
-        over-more t laws (λ w. w ≡ q) (λ w. holder w ≡ q) (t.key q row)
-        (λ w _ e. pick_le w p w (top_of t laws p w) (omega (arith, e, h)) ∙ e) (over-row t laws q row l is)
+    held_row : (q row : ℕ) → q < t.nodes → q ≤ p → t.IsRow q row → IsSumOver t laws (λ w. holder w ≡ q) (t.key q row)
+    held_row q row l h is =
+        over_more t laws (λ w. w ≡ q) (λ w. holder w ≡ q) (t.key q row)
+        (λ w _ e. pick_le w p w (top_of t laws p w) (omega (arith, e, h)) ∙ e) (over_row t laws q row l is)
 
-    held-bound : (q i : ℕ) → q < t.nodes → p < q → t.parent q ≤ p → IsBoundOf t c q i
+    held_bound : (q i : ℕ) → q < t.nodes → p < q → t.parent q ≤ p → IsBoundOf t c q i
         → IsSumOver t laws (λ w. holder w ≡ q) (bound_key t c q i)
-    held-bound q i l past low is =
-        over-more t laws (λ w. is_below t.parent q w ≡ 1) (λ w. holder w ≡ q) (bound_key t c q i)
+    held_bound q i l past low is =
+        over_more t laws (λ w. is_below t.parent q w ≡ 1) (λ w. holder w ≡ q) (bound_key t c q i)
         (λ w lw e. pick_gt w p w (top_of t laws p w) (far w lw e)
-        ∙ top-unique t laws p w q w (omega arith) past low l lw (omega (arith, e)))
-        (over-solution t laws q (bound_at t c i).rows (solved q i is))
+        ∙ top_unique t laws p w q w (omega arith) past low l lw (omega (arith, e)))
+        (over_solution t laws q (bound_at t c i).rows (solved q i is))
       where
         far : (w : ℕ) → w < t.nodes → is_below t.parent q w ≡ 1 → p < w
         far w lw e = elim (cases_lt w q) [
@@ -132,44 +132,44 @@ module _ {K : Type 0} (t : Problem K) (laws : IsProblem t) (c : Certificate) (p 
         ]
 
     -- a beginning of what is known before the last row is a sum of rows' keys
-    pub base-over : (n : ℕ) → n ≤ t.nodes → ((q : ℕ) → q < p → q < t.nodes → t.IsRow q (rows q))
+    pub base_over : (n : ℕ) → n ≤ t.nodes → ((q : ℕ) → q < p → q < t.nodes → t.IsRow q (rows q))
         → ((q : ℕ) → p < q → q < n → t.parent q < p → IsBoundOf t c q (below q))
         → IsSumOver t laws (λ w. holder w < n) (sum_from t.add t.none (base_term t c p rows below) n 0)
-    base-over n l is bound = over-sum t laws holder (base_term t c p rows below) n (λ q h. elim (cases_lt q p) [
-      | inl less ↦ over-same t laws (λ w. holder w ≡ q) _ _ (sym (pick_le (suc q) p (t.key q (rows q)) _ less))
-          (held-row q (rows q) (omega arith) (omega (arith, less)) (is q less (omega arith)))
-      | inr more ↦ over-same t laws (λ w. holder w ≡ q) _ _
+    base_over n l is bound = over_sum t laws holder (base_term t c p rows below) n (λ q h. elim (cases_lt q p) [
+      | inl less ↦ over_same t laws (λ w. holder w ≡ q) _ _ (sym (pick_le (suc q) p (t.key q (rows q)) _ less))
+          (held_row q (rows q) (omega arith) (omega (arith, less)) (is q less (omega arith)))
+      | inr more ↦ over_same t laws (λ w. holder w ≡ q) _ _
           (sym (pick_gt (suc q) p (t.key q (rows q)) _ (omega (arith, more))))
           (elim (cases_lt p q) [
-            | inr at ↦ over-same t laws (λ w. holder w ≡ q) _ _ (sym (pick_le q p t.none _ at))
-                (over-none t laws (λ w. holder w ≡ q))
-            | inl past ↦ over-same t laws (λ w. holder w ≡ q) _ _ (sym (pick_gt q p t.none _ past))
+            | inr at ↦ over_same t laws (λ w. holder w ≡ q) _ _ (sym (pick_le q p t.none _ at))
+                (over_none t laws (λ w. holder w ≡ q))
+            | inl past ↦ over_same t laws (λ w. holder w ≡ q) _ _ (sym (pick_gt q p t.none _ past))
                 (elim (cases_lt (t.parent q) p) [
-                  | inl low ↦ over-same t laws (λ w. holder w ≡ q) _ _
+                  | inl low ↦ over_same t laws (λ w. holder w ≡ q) _ _
                       (sym (pick_le (suc (t.parent q)) p (bound_key t c q (below q)) t.none low))
-                      (held-bound q (below q) (omega arith) past (omega (arith, low)) (bound q past h low))
-                  | inr high ↦ over-same t laws (λ w. holder w ≡ q) _ _
+                      (held_bound q (below q) (omega arith) past (omega (arith, low)) (bound q past h low))
+                  | inr high ↦ over_same t laws (λ w. holder w ≡ q) _ _
                       (sym (pick_gt (suc (t.parent q)) p (bound_key t c q (below q)) t.none (omega (arith, high))))
-                      (over-none t laws (λ w. holder w ≡ q))
+                      (over_none t laws (λ w. holder w ≡ q))
                 ])
           ])
     ])
 
     -- so is the key of a choice
-    pub choice-over : p < t.nodes → ((q : ℕ) → q ≤ p → t.IsRow q (rows q))
+    pub choice_over : p < t.nodes → ((q : ℕ) → q ≤ p → t.IsRow q (rows q))
         → ((q : ℕ) → p < q → q < t.nodes → t.parent q ≤ p → IsBoundOf t c q (below q))
         → IsSumOver t laws (λ w. holder w < t.nodes) (sum_from t.add t.none (choice_term t c p rows below) t.nodes 0)
-    choice-over l is bound =
-        over-sum t laws holder (choice_term t c p rows below) t.nodes (λ q h. elim (cases_lt p q) [
-          | inr early ↦ over-same t laws (λ w. holder w ≡ q) _ _ (sym (pick_le q p (t.key q (rows q)) _ early))
-              (held-row q (rows q) h early (is q early))
-          | inl past ↦ over-same t laws (λ w. holder w ≡ q) _ _ (sym (pick_gt q p (t.key q (rows q)) _ past))
+    choice_over l is bound =
+        over_sum t laws holder (choice_term t c p rows below) t.nodes (λ q h. elim (cases_lt p q) [
+          | inr early ↦ over_same t laws (λ w. holder w ≡ q) _ _ (sym (pick_le q p (t.key q (rows q)) _ early))
+              (held_row q (rows q) h early (is q early))
+          | inl past ↦ over_same t laws (λ w. holder w ≡ q) _ _ (sym (pick_gt q p (t.key q (rows q)) _ past))
               (elim (cases_lt p (t.parent q)) [
-                | inr low ↦ over-same t laws (λ w. holder w ≡ q) _ _
+                | inr low ↦ over_same t laws (λ w. holder w ≡ q) _ _
                     (sym (pick_le (t.parent q) p (bound_key t c q (below q)) t.none low))
-                    (held-bound q (below q) h past low (bound q past h low))
-                | inl high ↦ over-same t laws (λ w. holder w ≡ q) _ _
+                    (held_bound q (below q) h past low (bound q past h low))
+                | inl high ↦ over_same t laws (λ w. holder w ≡ q) _ _
                     (sym (pick_gt (t.parent q) p (bound_key t c q (below q)) t.none high))
-                    (over-none t laws (λ w. holder w ≡ q))
+                    (over_none t laws (λ w. holder w ≡ q))
               ])
         ])

@@ -9,9 +9,9 @@ use Rattle.tdp_model.specs.KeyNumbers.{key_less}
 use Rattle.tdp_model.specs.Remains.{AtMost}
 use Rattle.tdp_model.specs.TreeProblem.{sum_from}
 use Rattle.tdp_core.specs.RawData.{raw_len, raw_number, raw_rank}
-use Rattle.proof_bounds.specs.Bounded.{BoundedData, bound_ranks, named_bound, own_bound, rank_of_bound}
+use Rattle.proof_bounds.specs.BoundedRows.{BoundedData, bound_ranks, named_bound, own_bound, rank_of_bound}
 use Rattle.proof_answers.specs.Lows.{IsLow, OfEach}
-use Rattle.proof_answers.specs.Placed.{place_at}
+use Rattle.proof_answers.specs.RowPlaces.{place_at}
 use Rattle.proof_choices.specs.declared.offers.Offer.{Offer}
 use Rattle.proof_choices.specs.declared.branches.Branch.{Branch}
 

@@ -4,7 +4,7 @@ ghost use Rattle.std.specs.Prelude.{MatchOption};
 ghost use Rattle.join_tree.specs.Rerooting.{IsTree};
 ghost use Rattle.tdp_core.specs.RawData.{raw_len};
 ghost use Rattle.proof_answers.specs.Lows.{IsBoundedTree};
-ghost use Rattle.proof_bounds.specs.Bounded.{bound_ranks, named_bound};
+ghost use Rattle.proof_bounds.specs.BoundedRows.{bound_ranks, named_bound};
 ghost use Rattle.proof_choices.specs.Levels.{IsBase, IsBranch, IsGroupOf, IsNoBranch, base_part};
 
 use join_tree::JoinTree;

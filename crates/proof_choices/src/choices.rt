@@ -1,13 +1,13 @@
 //! Open choices, node by node.
 ghost use Rattle.std.specs.Prelude.{◌≡◌, ◌≤◌, ◌<◌, ℕ, true, false, length, option_map, IfErr, IfOk, OnOk};
-ghost use Rattle.query_bind.specs.Weighed.{Fits};
-ghost use Rattle.query_shape.specs.Shown.{HasItems, HasStoredTree};
+ghost use Rattle.query_bind.specs.WeighedQuery.{Fits};
+ghost use Rattle.query_shape.specs.JoinTreeView.{HasItems, HasStoredTree};
 ghost use Rattle.join_tree.specs.Rerooting.{IsTree};
-ghost use Rattle.proof_text.specs.Seen.{seen_proof};
-ghost use Rattle.proof_bounds.specs.Bounded.{IsBounded};
+ghost use Rattle.proof_text.specs.ProofView.{seen_proof};
+ghost use Rattle.proof_bounds.specs.BoundedRows.{IsBounded};
 ghost use Rattle.tdp_core.specs.RawData.{raw_len};
 ghost use Rattle.proof_answers.specs.Lows.{IsBoundedTree};
-ghost use Rattle.proof_answers.specs.Placed.{ArePlaced, IsLastKey, place_at};
+ghost use Rattle.proof_answers.specs.RowPlaces.{ArePlaced, IsLastKey, place_at};
 ghost use Rattle.proof_choices.specs.Choices.{ArePassed, TellsMissed};
 ghost use Rattle.proof_choices.specs.Levels.{IsMissedAt, IsPassedAt};
 

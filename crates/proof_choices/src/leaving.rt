@@ -8,7 +8,7 @@ ghost use Rattle.tdp_model.specs.KeyTuple.{KeyOf, key_add, key_below};
 ghost use Rattle.tdp_model.specs.Remains.{AtMost};
 ghost use Rattle.tdp_core.specs.RawData.{IsRawFormed, raw_len};
 ghost use Rattle.proof_answers.specs.Lows.{IsBoundedTree};
-ghost use Rattle.proof_bounds.specs.Bounded.{bound_ranks};
+ghost use Rattle.proof_bounds.specs.BoundedRows.{bound_ranks};
 ghost use Rattle.proof_choices.specs.Levels.{AreBranches, AreGroups, AreLeast, AreLists, AreOffers, HasLow};
 ghost use Rattle.proof_choices.specs.Levels.{IsLeftAfter, IsLeftBefore, IsLesser, IsPast, IsTestable, IsWay};
 ghost use Rattle.proof_choices.specs.Levels.{list_at, own_bounds};

@@ -10,46 +10,46 @@ use Rattle.rankings.specs.Order.{BelowAll, IsAscending, IsMember}
 use Rattle.anyk_model.specs.Output.{cut}
 use Rattle.step_bounds.specs.Steps.{reaches}
 
-below-at : {K : Type 0} (Below : K → K → Type 0) (x : K) (xs : List K) (i : ℕ) (d : K) → BelowAll Below x xs
+below_at : {K : Type 0} (Below : K → K → Type 0) (x : K) (xs : List K) (i : ℕ) (d : K) → BelowAll Below x xs
     → i < length xs
     → Below x (get_or xs i d)
-below-at Below x [] i d h l = absurd (omega (arith, l))
-below-at Below x (y ∷ xs) zero d h l = h.0
-below-at Below x (y ∷ xs) (suc i) d h l = below-at Below x xs i d h.1 (omega (arith, l))
+below_at Below x [] i d h l = absurd (omega (arith, l))
+below_at Below x (y ∷ xs) zero d h l = h.0
+below_at Below x (y ∷ xs) (suc i) d h l = below_at Below x xs i d h.1 (omega (arith, l))
 
-pub ascending-at : {K : Type 0} (Below : K → K → Type 0) (xs : List K) (i j : ℕ) (d : K) → IsAscending Below xs
+pub ascending_at : {K : Type 0} (Below : K → K → Type 0) (xs : List K) (i j : ℕ) (d : K) → IsAscending Below xs
     → i < j → j < length xs
     → Below (get_or xs i d) (get_or xs j d)
-ascending-at Below [] i j d h less l = absurd (omega (arith, l))
-ascending-at Below (x ∷ xs) i zero d h less l = absurd (omega (arith, less))
-ascending-at Below (x ∷ xs) zero (suc j) d h less l = below-at Below x xs j d h.0 (omega (arith, l))
-ascending-at Below (x ∷ xs) (suc i) (suc j) d h less l = ascending-at Below xs i j d h.1 (omega (arith, less))
+ascending_at Below [] i j d h less l = absurd (omega (arith, l))
+ascending_at Below (x ∷ xs) i zero d h less l = absurd (omega (arith, less))
+ascending_at Below (x ∷ xs) zero (suc j) d h less l = below_at Below x xs j d h.0 (omega (arith, l))
+ascending_at Below (x ∷ xs) (suc i) (suc j) d h less l = ascending_at Below xs i j d h.1 (omega (arith, less))
     (omega (arith, l))
 
-pub place-at : {A : Type 0} (x : A) (xs : List A) (d : A) → IsMember x xs
+pub place_at : {A : Type 0} (x : A) (xs : List A) (d : A) → IsMember x xs
     → (i : ℕ) × (i < length xs) × (get_or xs i d ≡ x)
-place-at x [] d m = absurd m
-place-at x (y ∷ xs) d (inl e) = (0, omega arith, sym e)
-place-at x (y ∷ xs) d (inr m) = let r = place-at x xs d m in (suc r.0, omega (arith, r.1), r.2)
+place_at x [] d m = absurd m
+place_at x (y ∷ xs) d (inl e) = (0, omega arith, sym e)
+place_at x (y ∷ xs) d (inr m) = let r = place_at x xs d m in (suc r.0, omega (arith, r.1), r.2)
 
-pub member-of : {A : Type 0} (xs : List A) (i : ℕ) (d : A) → i < length xs → IsMember (get_or xs i d) xs
-member-of [] i d l = absurd (omega (arith, l))
-member-of (x ∷ xs) zero d l = inl refl
-member-of (x ∷ xs) (suc i) d l = inr (member-of xs i d (omega (arith, l)))
+pub member_of : {A : Type 0} (xs : List A) (i : ℕ) (d : A) → i < length xs → IsMember (get_or xs i d) xs
+member_of [] i d l = absurd (omega (arith, l))
+member_of (x ∷ xs) zero d l = inl refl
+member_of (x ∷ xs) (suc i) d l = inr (member_of xs i d (omega (arith, l)))
 
 -- what holds at each place holds of all
-pub all-from : {A : Type 0} (P : A → Type 0) (xs : List A) (d : A) → ((i : ℕ) → i < length xs → P (get_or xs i d))
+pub all_from : {A : Type 0} (P : A → Type 0) (xs : List A) (d : A) → ((i : ℕ) → i < length xs → P (get_or xs i d))
     → AllByRecursion P xs
-all-from P [] d h = tt
-all-from P (x ∷ xs) d h = (h 0 (omega arith), all-from P xs d (λ i l. h (suc i) (omega (arith, l))))
+all_from P [] d h = tt
+all_from P (x ∷ xs) d h = (h 0 (omega arith), all_from P xs d (λ i l. h (suc i) (omega (arith, l))))
 
 -- ---- limits
 
-le-yes : (a b : ℕ) → a ≤ b → nat_le a b ≡ true
-le-yes a b h = grind (arith, nat_tests)
+le_yes : (a b : ℕ) → a ≤ b → nat_le a b ≡ true
+le_yes a b h = grind (arith, nat_tests)
 
-le-no : (a b : ℕ) → b < a → nat_le a b ≡ false
-le-no a b h = grind (arith, nat_tests)
+le_no : (a b : ℕ) → b < a → nat_le a b ≡ false
+le_no a b h = grind (arith, nat_tests)
 
 module _ {A : Type 0} (xs : List A) (d : A) where
   -- the members that a limit leaves are the first ones
@@ -61,21 +61,21 @@ module _ {A : Type 0} (xs : List A) (d : A) where
         ⊎ (cut limit xs ≡ xs) × (reaches limit xs ≡ false)
     pub within : (n : ℕ) → limit ≡ Some n → length (cut limit xs) ≤ n
 
-  pub are-first : (limit : Option ℕ) → AreFirst limit
-  are-first None = record {
+  pub are_first : (limit : Option ℕ) → AreFirst limit
+  are_first None = record {
     fewer = omega arith;
     at = λ i l. refl;
     counted = inr (refl, refl);
     within = λ n e. cc;
   }
-  are-first (Some n) = elim (cases_lt (length xs) n) [
+  are_first (Some n) = elim (cases_lt (length xs) n) [
     | inl less ↦
         let all : take n xs ≡ xs = take_all n xs (omega (arith, less)) in
         let size = ap length all in
         record {
           fewer = omega (arith, size);
           at = λ i l. ap (λ ys. get_or ys i d) all;
-          counted = inr (all, le-no n (length xs) less);
+          counted = inr (all, le_no n (length xs) less);
           within = λ m e. let same : n ≡ m = cc in omega (arith, size, less, same);
         }
     | inr more ↦
@@ -83,7 +83,7 @@ module _ {A : Type 0} (xs : List A) (d : A) where
         record {
           fewer = omega (arith, size, more);
           at = λ i l. get_or-take n xs i d (omega (arith, size, l));
-          counted = inl (ap (λ (m : ℕ). Some m) (sym size), le-yes n (length xs) more);
+          counted = inl (ap (λ (m : ℕ). Some m) (sym size), le_yes n (length xs) more);
           within = λ m e. let same : n ≡ m = cc in omega (arith, size, same);
         }
   ]

@@ -9,7 +9,7 @@ use Rattle.tdp_model.proofs.Sums.{sum_same, sum_add, none_add}
 use Rattle.proof_model.specs.Problem.{Problem}
 use Rattle.proof_model.specs.Laws.{IsProblem, subtree_key}
 use Rattle.proof_model.proofs.Sums.{pick_eq, pick_ne, sum_none, sum_parts, sum_one}
-use Rattle.proof_model.proofs.Covering.{key-splits}
+use Rattle.proof_model.proofs.Covering.{key_splits}
 
 pub pick_le : {K : Type 0} (x y : ℕ) (a b : K) → x ≤ y → cond (nat_le x y) a b ≡ a
 pick_le x y a b e = grind (arith, nat_tests)
@@ -35,10 +35,10 @@ module _ {K : Type 0} (t : Problem K) (laws : IsProblem t) (s : ℕ → ℕ) whe
   abbrev kids : ℕ → ℕ → K
   kids p q = cond (nat_le (suc p) q) (cond (nat_eq (t.parent q) p) (whole q) t.none) t.none
 
-  kids-total : (p : ℕ) → p < t.nodes
+  kids_total : (p : ℕ) → p < t.nodes
       → total (kids p) ≡ sum_from t.add t.none (kid_key t.none t.parent p whole) (t.nodes - suc p) (suc p)
   unfolding kid_key
-  kids-total p l =
+  kids_total p l =
       let size : suc p + (t.nodes - suc p) ≡ t.nodes = omega (arith, l) in
       ap (λ n. sum_from t.add t.none (kids p) n 0) (sym size)
       ∙ sum_parts t.Below t.add t.none laws.keys (kids p) (suc p) (t.nodes - suc p) 0 (suc p) (omega arith)
@@ -53,23 +53,23 @@ module _ {K : Type 0} (t : Problem K) (laws : IsProblem t) (s : ℕ → ℕ) whe
   abbrev one : ℕ → K → ℕ → K
   one p x q = cond (nat_eq q p) x t.none
 
-  one-total : (p : ℕ) (x : K) → p < t.nodes → total (one p x) ≡ x
-  one-total p x l = sum_one t.Below t.add t.none laws.keys x t.nodes 0 p (omega arith) (omega (arith, l))
+  one_total : (p : ℕ) (x : K) → p < t.nodes → total (one p x) ≡ x
+  one_total p x l = sum_one t.Below t.add t.none laws.keys x t.nodes 0 p (omega arith) (omega (arith, l))
 
   -- the row of node p and its children are its subtree
-  split-total : (p : ℕ) → p < t.nodes → total (λ q. t.add (one p (own p) q) (kids p q)) ≡ whole p
-  split-total p l =
+  split_total : (p : ℕ) → p < t.nodes → total (λ q. t.add (one p (own p) q) (kids p q)) ≡ whole p
+  split_total p l =
       sum_add t.Below t.add t.none laws.keys (one p (own p)) (kids p) t.nodes 0
-      ∙ ap (λ z. t.add z (total (kids p))) (one-total p (own p) l)
-      ∙ ap (λ z. t.add (own p) z) (kids-total p l)
-      ∙ sym (key-splits t laws p s l)
+      ∙ ap (λ z. t.add z (total (kids p))) (one_total p (own p) l)
+      ∙ ap (λ z. t.add (own p) z) (kids_total p l)
+      ∙ sym (key_splits t laws p s l)
 
   add_none : (a : K) → t.add a t.none ≡ a
   add_none a = laws.keys.add_none a
 
   -- the first node alone
-  at-first : (q : ℕ) → part_at 0 q ≡ t.add (one 0 (own 0) q) (kids 0 q)
-  at-first q = elim (cases_eq q 0) [
+  at_first : (q : ℕ) → part_at 0 q ≡ t.add (one 0 (own 0) q) (kids 0 q)
+  at_first q = elim (cases_eq q 0) [
     | inl e ↦
         pick_le q 0 (own q) _ (omega arith)
         ∙ ap own e
@@ -93,13 +93,13 @@ module _ {K : Type 0} (t : Problem K) (laws : IsProblem t) (s : ℕ → ℕ) whe
   first : total (part_at 0) ≡ whole 0
   first =
       sum_same t.Below t.add t.none laws.keys (part_at 0) (λ q. t.add (one 0 (own 0) q) (kids 0 q)) t.nodes 0
-      (λ i a b. at-first i) ∙ split-total 0 laws.some
+      (λ i a b. at_first i) ∙ split_total 0 laws.some
 
   -- one node more
-  at-next : (p q : ℕ) → suc p < t.nodes
+  at_next : (p q : ℕ) → suc p < t.nodes
       → t.add (part_at (suc p) q) (one (suc p) (whole (suc p)) q) ≡ t.add (part_at p q)
       (t.add (one (suc p) (own (suc p)) q) (kids (suc p) q))
-  at-next p q l = elim (cases_eq q (suc p)) [
+  at_next p q l = elim (cases_eq q (suc p)) [
     | inl e ↦
         let up : t.parent q ≤ p = let d = laws.parents_first q (omega arith) (omega (arith, e, l)) in omega
         (arith, d, e) in
@@ -155,15 +155,15 @@ module _ {K : Type 0} (t : Problem K) (laws : IsProblem t) (s : ℕ → ℕ) whe
   next : (p : ℕ) → suc p < t.nodes → total (part_at (suc p)) ≡ total (part_at p)
   next p l =
       cancel t.Below t.add t.none laws.keys (total (part_at (suc p))) (total (part_at p)) (whole (suc p))
-      (ap (λ z. t.add (total (part_at (suc p))) z) (sym (one-total (suc p) (whole (suc p)) l))
+      (ap (λ z. t.add (total (part_at (suc p))) z) (sym (one_total (suc p) (whole (suc p)) l))
       ∙ sym (sum_add t.Below t.add t.none laws.keys (part_at (suc p)) (one (suc p) (whole (suc p))) t.nodes 0)
       ∙ sum_same t.Below t.add t.none laws.keys _
       (λ q. t.add (part_at p q) (t.add (one (suc p) (own (suc p)) q) (kids (suc p) q))) t.nodes 0
-      (λ i a b. at-next p i l)
+      (λ i a b. at_next p i l)
       ∙ sum_add t.Below t.add t.none laws.keys (part_at p)
       (λ q. t.add (one (suc p) (own (suc p)) q) (kids (suc p) q)) t.nodes 0
-      ∙ ap (λ z. t.add (total (part_at p)) z) (split-total (suc p) l))
+      ∙ ap (λ z. t.add (total (part_at p)) z) (split_total (suc p) l))
 
-  pub parts-whole : (at : ℕ) → at < t.nodes → total (part_at at) ≡ whole 0
-  parts-whole zero l = first
-  parts-whole (suc p) l = next p l ∙ parts-whole p (omega arith)
+  pub parts_whole : (at : ℕ) → at < t.nodes → total (part_at at) ≡ whole 0
+  parts_whole zero l = first
+  parts_whole (suc p) l = next p l ∙ parts_whole p (omega arith)

@@ -14,10 +14,10 @@ use Rattle.proof_model.specs.Full.{IsFull}
 use Rattle.proof_model.specs.Valid.{IsValid, IsBoundOf, IsCovered, IsPassed, OpenChoice, Begins, answer_key}
 use Rattle.proof_model.specs.Valid.{answer_row, bound_at, bound_key, bound_row, choice_key}
 use Rattle.proof_model.proofs.Sums.{pick_ne}
-use Rattle.proof_model.proofs.Covering.{key-splits}
-use Rattle.proof_model.proofs.Choices.{part_at, parts-whole, pick_le, pick_gt}
-use Rattle.proof_model.proofs.Soundness.{all-below}
-use Rattle.proof_model.proofs.Completing.{completed, kept, part-key, past-fits}
+use Rattle.proof_model.proofs.Covering.{key_splits}
+use Rattle.proof_model.proofs.Choices.{part_at, parts_whole, pick_le, pick_gt}
+use Rattle.proof_model.proofs.Soundness.{all_below}
+use Rattle.proof_model.proofs.Completing.{completed, kept, part_key, past_fits}
 
 module _ {K : Type 0} (t : Problem K) (laws : IsProblem t) (c : Certificate) (limit : Option ℕ)
     (full : IsFull t c limit) where
@@ -40,9 +40,9 @@ module _ {K : Type 0} (t : Problem K) (laws : IsProblem t) (c : Certificate) (li
   ]
 
   -- so a node below v whose parent is not past v is a child of v
-  child-of : (v q u : ℕ) → u < t.nodes → q < t.nodes → v < q → t.parent q ≤ v → is_below t.parent v u ≡ 1
+  child_of : (v q u : ℕ) → u < t.nodes → q < t.nodes → v < q → t.parent q ≤ v → is_below t.parent v u ≡ 1
       → is_below t.parent q u ≡ 1 → t.parent q ≡ v
-  child-of v q u l lq h low a b =
+  child_of v q u l lq h low a b =
       let at = chain u v q u (omega arith) l h a b in
       let up = below_parent t.nodes t.parent laws.parents_first v q (omega (arith, h)) lq (λ x. omega (arith, x, h)) in
       elim (cases_lt (t.parent q) v) [
@@ -54,8 +54,8 @@ module _ {K : Type 0} (t : Problem K) (laws : IsProblem t) (c : Certificate) (li
       ]
 
   -- a bound as a subtree solution
-  bound-part : (q i : ℕ) → IsBoundOf t c q i → IsSubtree t q (row_in t q (bound_at t c i).rows)
-  bound-part q i b =
+  bound_part : (q i : ℕ) → IsBoundOf t c q i → IsSubtree t q (row_in t q (bound_at t c i).rows)
+  bound_part q i b =
       let h = full.bounds i b.0 in
       let same : h.0 ≡ q = let e : suc h.0 ≡ suc q = sym h.1 ∙ b.1 in omega (arith, e) in
       subst (λ w. IsSubtree t w (row_in t w (bound_at t c i).rows)) same
@@ -71,17 +71,17 @@ module _ {K : Type 0} (t : Problem K) (laws : IsProblem t) (c : Certificate) (li
         node = l;
         first = subst (t.IsRow v) (sym own) is;
         others = λ u more lu under.
-            past-fits t laws v (λ _. row) parts u
+            past_fits t laws v (λ _. row) parts u
             (λ q past lq low b.
-            let up : t.parent q ≡ v = child-of v q u lu lq past low
+            let up : t.parent q ≡ v = child_of v q u lu lq past low
             (let z = once v u lu in omega (arith, z, under)) b in
-            let at = serve q past lq up in (bound-part q (below q) at.0, at.1))
+            let at = serve q past lq up in (bound_part q (below q) at.0, at.1))
             more lu;
       } in
       let found = full.least v s sub in
       let same : subtree_key t v s ≡ t.add (t.key v row)
       (sum_from t.add t.none (kid_key t.none t.parent v (λ q. bound_key t c q (below q))) (t.nodes - suc v) (suc v)) =
-      key-splits t laws v s l
+      key_splits t laws v s l
       ∙ ap (λ r. t.add (t.key v r)
       (sum_from t.add t.none (kid_key t.none t.parent v (λ q. subtree_key t q s)) (t.nodes - suc v) (suc v))) own
       ∙ ap (λ z. t.add (t.key v row) z)
@@ -89,7 +89,7 @@ module _ {K : Type 0} (t : Problem K) (laws : IsProblem t) (c : Certificate) (li
       (kid_key t.none t.parent v (λ q. bound_key t c q (below q))) (t.nodes - suc v) (suc v)
       (λ q a b. elim (cases_eq (t.parent q) v) [
         | inl e ↦ ap (λ z. cond (nat_eq (t.parent q) v) z t.none)
-            (part-key t laws v (λ _. row) parts q (omega (arith, a)) (omega (arith, e)) (omega (arith, b, l)))
+            (part_key t laws v (λ _. row) parts q (omega (arith, a)) (omega (arith, e)) (omega (arith, b, l)))
         | inr n ↦ pick_ne (t.parent q) v _ t.none n ∙ sym (pick_ne (t.parent q) v _ t.none n)
       ])) in (
         found.0,
@@ -109,8 +109,8 @@ module _ {K : Type 0} (t : Problem K) (laws : IsProblem t) (c : Certificate) (li
     whole = completed t laws o.at o.rows parts
 
     -- the rows before the choice begin an answer, and its own row fits
-    begun-first : t.IsRow 0 (o.rows 0)
-    begun-first = elim o.begun [
+    begun_first : t.IsRow 0 (o.rows 0)
+    begun_first = elim o.begun [
       | inl z ↦ subst (λ v. t.IsRow v (o.rows v)) z o.row
       | inr b ↦ elim (cases_eq o.at 0) [
         | inl z ↦ subst (λ v. t.IsRow v (o.rows v)) z o.row
@@ -118,8 +118,8 @@ module _ {K : Type 0} (t : Problem K) (laws : IsProblem t) (c : Certificate) (li
       ]
     ]
 
-    begun-fits : (u : ℕ) → 0 < u → u ≤ o.at → t.Fits u (o.rows (t.parent u)) (o.rows u)
-    begun-fits u p h = elim (cases_eq u o.at) [
+    begun_fits : (u : ℕ) → 0 < u → u ≤ o.at → t.Fits u (o.rows (t.parent u)) (o.rows u)
+    begun_fits u p h = elim (cases_eq u o.at) [
       | inl e ↦ elim o.fits [
         | inl z ↦ absurd (omega (arith, e, z))
         | inr x ↦ subst
@@ -130,30 +130,30 @@ module _ {K : Type 0} (t : Problem K) (laws : IsProblem t) (c : Certificate) (li
         | inr b ↦
             let l : u < t.nodes = let x = o.node in omega (arith, h, x) in
             let d : t.parent u < u = laws.parents_first u p l in
-            let under = all-below t laws u u (omega arith) l in
+            let under = all_below t laws u u (omega arith) l in
             subst (λ z. t.Fits u z (o.rows u)) (b.1.1 (t.parent u) (omega (arith, n)))
             (subst (t.Fits u (answer_row t c b.0 (t.parent u))) (b.1.1 u (omega (arith, n)))
             ((full.answers b.0 b.1.0).others u p l (omega (arith, under))))
       ]
     ]
 
-    whole-is : IsSubtree t 0 whole
-    whole-is = record {
+    whole_is : IsSubtree t 0 whole
+    whole_is = record {
       node = laws.some;
-      first = subst (t.IsRow 0) (sym (kept t laws o.at o.rows parts 0 (omega arith))) begun-first;
+      first = subst (t.IsRow 0) (sym (kept t laws o.at o.rows parts 0 (omega arith))) begun_first;
       others = λ u p l _. elim (cases_lt o.at u) [
-        | inl past ↦ past-fits t laws o.at o.rows parts u
-            (λ q more lq low _. let b = o.bound q more lq low in (bound-part q (o.below q) b.0, b.1)) past l
+        | inl past ↦ past_fits t laws o.at o.rows parts u
+            (λ q more lq low _. let b = o.bound q more lq low in (bound_part q (o.below q) b.0, b.1)) past l
         | inr early ↦
             let d : t.parent u < u = laws.parents_first u p l in
             subst (λ z. t.Fits u z (whole u)) (sym (kept t laws o.at o.rows parts (t.parent u) (omega arith)))
             (subst (t.Fits u (o.rows (t.parent u))) (sym (kept t laws o.at o.rows parts u early))
-            (begun-fits u p early))
+            (begun_fits u p early))
       ];
     }
 
-    whole-new : (i : ℕ) → Begins t c i whole t.nodes → ⊥
-    whole-new i b =
+    whole_new : (i : ℕ) → Begins t c i whole t.nodes → ⊥
+    whole_new i b =
         o.unlisted i (
           b.0,
           λ q l. b.1 q (let n = o.node in omega (arith, l, n)) ∙ kept t laws o.at o.rows parts q
@@ -161,8 +161,8 @@ module _ {K : Type 0} (t : Problem K) (laws : IsProblem t) (c : Certificate) (li
         )
         (b.1 o.at o.node ∙ kept t laws o.at o.rows parts o.at (omega arith))
 
-    whole-key : choice_key t c o ≡ subtree_key t 0 whole
-    whole-key =
+    whole_key : choice_key t c o ≡ subtree_key t 0 whole
+    whole_key =
         sum_same t.Below t.add t.none laws.keys _ (part_at t laws whole o.at) t.nodes 0
         (λ q _ l. elim (cases_lt o.at q) [
           | inr early ↦
@@ -176,24 +176,24 @@ module _ {K : Type 0} (t : Problem K) (laws : IsProblem t) (c : Certificate) (li
                     ∙ sym (pick_gt (t.parent q) o.at (subtree_key t q whole) t.none closed)
                 | inr low ↦
                     pick_le (t.parent q) o.at (bound_key t c q (o.below q)) t.none low
-                    ∙ sym (part-key t laws o.at o.rows parts q past low (omega (arith, l)))
+                    ∙ sym (part_key t laws o.at o.rows parts q past low (omega (arith, l)))
                     ∙ sym (pick_le (t.parent q) o.at (subtree_key t q whole) t.none low)
               ]
               ∙ sym (pick_gt q o.at (t.key q (whole q)) _ past)
         ])
-        ∙ parts-whole t laws whole o.at o.node
+        ∙ parts_whole t laws whole o.at o.node
 
     passed : IsPassed t c c.ended o
     passed = by c.ended refl
       where
         by : (ended : Bool) → c.ended ≡ ended → IsPassed t c ended o
-        by true e = let r = full.others whole whole-is whole-new in let x : true ≡ false = sym e ∙ r.0 in absurd (cc)
+        by true e = let r = full.others whole whole_is whole_new in let x : true ≡ false = sym e ∙ r.0 in absurd (cc)
         by false e =
-            λ some. subst (λ k. t.Below (answer_key t c (length c.answers - 1)) k) (sym whole-key)
-            ((full.others whole whole-is whole-new).1 some)
+            λ some. subst (λ k. t.Below (answer_key t c (length c.answers - 1)) k) (sym whole_key)
+            ((full.others whole whole_is whole_new).1 some)
 
-  pub full-valid : IsValid t c limit
-  full-valid = record {
+  pub full_valid : IsValid t c limit
+  full_valid = record {
     bounds = full.bounds;
     apart = full.apart;
     covered = covered;

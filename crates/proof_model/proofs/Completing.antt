@@ -16,14 +16,14 @@ module _ {K : Type 0} (t : Problem K) (laws : IsProblem t) (at : ℕ) where
   top zero u = u
   top (suc f) u = cond (nat_le (t.parent u) at) u (top f (t.parent u))
 
-  top-here : (f u : ℕ) → t.parent u ≤ at → top f u ≡ u
+  top_here : (f u : ℕ) → t.parent u ≤ at → top f u ≡ u
   unfolding top
-  top-here zero u h = refl
-  top-here (suc f) u h = pick_le (t.parent u) at u (top f (t.parent u)) h
+  top_here zero u h = refl
+  top_here (suc f) u h = pick_le (t.parent u) at u (top f (t.parent u)) h
 
-  top-up : (f u : ℕ) → at < t.parent u → top (suc f) u ≡ top f (t.parent u)
+  top_up : (f u : ℕ) → at < t.parent u → top (suc f) u ≡ top f (t.parent u)
   unfolding top
-  top-up f u h = pick_gt (t.parent u) at u (top f (t.parent u)) h
+  top_up f u h = pick_gt (t.parent u) at u (top f (t.parent u)) h
 
   pub record IsTop (u q : ℕ) : Type 0 where
     pub past : at < q
@@ -38,16 +38,16 @@ module _ {K : Type 0} (t : Problem K) (laws : IsProblem t) (at : ℕ) where
   enough zero g u a b p l = absurd (omega arith)
   enough (suc f) zero u a b p l = absurd (omega arith)
   enough (suc f) (suc g) u a b p l = elim (cases_lt at (t.parent u)) [
-    | inr h ↦ top-here (suc f) u h ∙ sym (top-here (suc g) u h)
+    | inr h ↦ top_here (suc f) u h ∙ sym (top_here (suc g) u h)
     | inl h ↦
         let d : t.parent u < u = laws.parents_first u (omega arith) l in
-        top-up f u h ∙ enough f g (t.parent u) (omega arith) (omega arith) h (omega arith) ∙ sym (top-up g u h)
+        top_up f u h ∙ enough f g (t.parent u) (omega arith) (omega arith) h (omega arith) ∙ sym (top_up g u h)
   ]
 
-  is-top : (f u : ℕ) → u ≤ f → at < u → u < t.nodes → IsTop u (top f u)
-  is-top zero u a p l = absurd (omega arith)
-  is-top (suc f) u a p l = elim (cases_lt at (t.parent u)) [
-    | inr h ↦ subst (IsTop u) (sym (top-here (suc f) u h))
+  is_top : (f u : ℕ) → u ≤ f → at < u → u < t.nodes → IsTop u (top f u)
+  is_top zero u a p l = absurd (omega arith)
+  is_top (suc f) u a p l = elim (cases_lt at (t.parent u)) [
+    | inr h ↦ subst (IsTop u) (sym (top_here (suc f) u h))
         (record {
           past = p;
           node = l;
@@ -56,13 +56,13 @@ module _ {K : Type 0} (t : Problem K) (laws : IsProblem t) (at : ℕ) where
         })
     | inl h ↦
         let d : t.parent u < u = laws.parents_first u (omega arith) l in
-        let r : IsTop (t.parent u) (top f (t.parent u)) = is-top f (t.parent u) (omega arith) h (omega arith) in
+        let r : IsTop (t.parent u) (top f (t.parent u)) = is_top f (t.parent u) (omega arith) h (omega arith) in
         let low : top f (t.parent u) ≤ t.parent u = elim (cases_lt (t.parent u) (top f (t.parent u))) [
           | inl x ↦ let z = below_less t.nodes t.parent laws.parents_first (top f (t.parent u)) (t.parent u)
               (omega arith) x in let w = r.under in absurd (omega (arith, z, w))
           | inr x ↦ x
         ] in
-        subst (IsTop u) (sym (top-up f u h)) (record {
+        subst (IsTop u) (sym (top_up f u h)) (record {
           past = r.past;
           node = r.node;
           open_here = r.open_here;
@@ -71,25 +71,25 @@ module _ {K : Type 0} (t : Problem K) (laws : IsProblem t) (at : ℕ) where
         })
   ]
 
-  pub top-is : (u : ℕ) → at < u → u < t.nodes → IsTop u (top_of u)
-  top-is u p l = is-top u u (omega arith) p l
+  pub top_is : (u : ℕ) → at < u → u < t.nodes → IsTop u (top_of u)
+  top_is u p l = is_top u u (omega arith) p l
 
-  pub top-child : (u : ℕ) → at < u → u < t.nodes → t.parent u ≤ at → top_of u ≡ u
-  top-child u p l h = top-here u u h
+  pub top_child : (u : ℕ) → at < u → u < t.nodes → t.parent u ≤ at → top_of u ≡ u
+  top_child u p l h = top_here u u h
 
-  pub top-same : (u : ℕ) → at < u → u < t.nodes → at < t.parent u → top_of u ≡ top_of (t.parent u)
-  top-same u p l h =
+  pub top_same : (u : ℕ) → at < u → u < t.nodes → at < t.parent u → top_of u ≡ top_of (t.parent u)
+  top_same u p l h =
       let d : t.parent u < u = laws.parents_first u (omega arith) l in
-      enough u (suc (u - 1)) u (omega arith) (omega arith) p l ∙ top-up (u - 1) u h
+      enough u (suc (u - 1)) u (omega arith) (omega arith) p l ∙ top_up (u - 1) u h
       ∙ enough (u - 1) (t.parent u) (t.parent u) (omega arith) (omega arith) h (omega arith)
 
   -- a node below an open one has it as its top
-  pub top-unique : (f q u : ℕ) → u ≤ f → at < q → t.parent q ≤ at → q < t.nodes → u < t.nodes
+  pub top_unique : (f q u : ℕ) → u ≤ f → at < q → t.parent q ≤ at → q < t.nodes → u < t.nodes
       → 0 < is_below t.parent q u → top_of u ≡ q
-  top-unique zero q u e p h lq lu b =
+  top_unique zero q u e p h lq lu b =
       let z = below_less t.nodes t.parent laws.parents_first q u lu (omega arith) in absurd (omega (arith, z, b))
-  top-unique (suc f) q u e p h lq lu b = elim (cases_eq u q) [
-    | inl x ↦ top-here u u (subst (λ z. t.parent z ≤ at) (sym x) h) ∙ x
+  top_unique (suc f) q u e p h lq lu b = elim (cases_eq u q) [
+    | inl x ↦ top_here u u (subst (λ z. t.parent z ≤ at) (sym x) h) ∙ x
     | inr n ↦ elim (cases_lt u q) [
       | inl less ↦ let z = below_less t.nodes t.parent laws.parents_first q u lu less in absurd (omega (arith, z, b))
       | inr more ↦
@@ -102,8 +102,8 @@ module _ {K : Type 0} (t : Problem K) (laws : IsProblem t) (at : ℕ) where
                 (omega (arith, z, up))
             | inr x ↦ x
           ] in
-          top-same u past lu (omega (arith, far, p))
-          ∙ top-unique f q (t.parent u) (omega arith) p h lq (omega arith) up
+          top_same u past lu (omega (arith, far, p))
+          ∙ top_unique f q (t.parent u) (omega arith) p h lq (omega arith) up
     ]
   ]
 
@@ -123,12 +123,12 @@ module _ {K : Type 0} (t : Problem K) (laws : IsProblem t) (at : ℕ) where
           | inr x ↦ omega (arith, x, p)
         ] in
         pick_gt u at (rows u) (parts (top_of u) u) past
-        ∙ ap (λ z. parts z u) (top-unique u q u (omega arith) p h lq lu b)
+        ∙ ap (λ z. parts z u) (top_unique u q u (omega arith) p h lq lu b)
 
     -- the subtree of an open node has its part's key
-    pub part-key : (q : ℕ) → at < q → t.parent q ≤ at → q < t.nodes
+    pub part_key : (q : ℕ) → at < q → t.parent q ≤ at → q < t.nodes
         → subtree_key t q completed ≡ subtree_key t q (parts q)
-    part-key q p h lq =
+    part_key q p h lq =
         sum_same t.Below t.add t.none laws.keys _
         (λ u. cond (nat_eq (is_below t.parent q u) 1) (t.key u (parts q u)) t.none) t.nodes 0
         (λ u a b. elim (cases_eq (is_below t.parent q u) 1) [
@@ -139,11 +139,11 @@ module _ {K : Type 0} (t : Problem K) (laws : IsProblem t) (at : ℕ) where
         ])
 
     -- a row past `at` fits the row above it
-    pub past-fits : (u : ℕ)
+    pub past_fits : (u : ℕ)
         → ((q : ℕ) → at < q → q < t.nodes → t.parent q ≤ at → is_below t.parent q u ≡ 1 → IsSubtree t q (parts q)
         × t.Fits q (rows (t.parent q)) (parts q q))
         → at < u → u < t.nodes → t.Fits u (completed (t.parent u)) (completed u)
-    past-fits u each p l = elim (cases_lt at (t.parent u)) [
+    past_fits u each p l = elim (cases_lt at (t.parent u)) [
       | inr h ↦
           let own : completed u ≡ parts u u = added u u p h l l
           (let b = below_itself t.nodes t.parent laws.parents_first u u refl in omega (arith, b)) in
@@ -153,9 +153,9 @@ module _ {K : Type 0} (t : Problem K) (laws : IsProblem t) (at : ℕ) where
       | inl h ↦
           let d : t.parent u < u = laws.parents_first u (omega arith) l in
           let q : ℕ = top_of u in
-          let r : IsTop u q = top-is u p l in
-          let up : IsTop (t.parent u) q = subst (IsTop (t.parent u)) (sym (top-same u p l h))
-          (top-is (t.parent u) h (omega arith)) in
+          let r : IsTop u q = top_is u p l in
+          let up : IsTop (t.parent u) q = subst (IsTop (t.parent u)) (sym (top_same u p l h))
+          (top_is (t.parent u) h (omega arith)) in
           let a : completed u ≡ parts q u = added q u r.past r.open_here r.node l
           (let w = r.under in omega (arith, w)) in
           let b : completed (t.parent u) ≡ parts q (t.parent u) = added q (t.parent u) r.past r.open_here r.node

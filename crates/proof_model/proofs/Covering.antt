@@ -34,17 +34,17 @@ module _ {K : Type 0} (t : Problem K) (laws : IsProblem t) where
       }
 
   -- the rows of a child's part fit
-  pub fits-child : (v q : ℕ) (s : ℕ → ℕ) → IsSubtree t v s → v < q → q < t.nodes → t.parent q ≡ v
+  pub fits_child : (v q : ℕ) (s : ℕ → ℕ) → IsSubtree t v s → v < q → q < t.nodes → t.parent q ≡ v
       → t.Fits q (s v) (s q)
-  fits-child v q s sub less l up =
+  fits_child v q s sub less l up =
       let at : (is_below t.parent v q ≡ 1) × (v < q) = child_below t.nodes t.parent laws.parents_first q v q q
       (omega arith) l less l up (itself q) in
       subst (λ p. t.Fits q (s p) (s q)) up (sub.others q less l (omega (arith, at.0)))
 
-  pub key-splits : (v : ℕ) (s : ℕ → ℕ) → v < t.nodes
+  pub key_splits : (v : ℕ) (s : ℕ → ℕ) → v < t.nodes
       → subtree_key t v s ≡ t.add (t.key v (s v))
       (sum_from t.add t.none (kid_key t.none t.parent v (λ q. subtree_key t q s)) (t.nodes - suc v) (suc v))
-  key-splits v s l =
+  key_splits v s l =
       within_split t.Below t.add t.none laws.keys t.nodes t.parent laws.parents_first (λ q. t.key q (s q)) v l
 
   -- sums over children, where each child of one is at most that of the other
@@ -69,8 +69,8 @@ module _ {K : Type 0} (t : Problem K) (laws : IsProblem t) where
     IsLow v s i = StandsFor t c v (s v) i × AtMost t.Below (bound_key t c v i) (subtree_key t v s)
 
     -- the row of a bound is a row of its node
-    pub bound-is-row : (v i : ℕ) → IsBoundOf t c v i → t.IsRow v (bound_row t c v i)
-    bound-is-row v i b =
+    pub bound_is_row : (v i : ℕ) → IsBoundOf t c v i → t.IsRow v (bound_row t c v i)
+    bound_is_row v i b =
         let h = valid.bounds i b.0 in
         let same : h.0 ≡ v = let e : suc h.0 ≡ suc v = sym h.1 ∙ b.1 in omega (arith, e) in
         subst (λ w. t.IsRow w (bound_row t c w i)) same h.2.first
@@ -78,7 +78,7 @@ module _ {K : Type 0} (t : Problem K) (laws : IsProblem t) where
     -- so it fits where a row of its group does
     pub serves : (q above row i : ℕ) → 0 < q → t.Fits q above row → StandsFor t c q row i → Serves t c q above i
     serves q above row i p fits stands =
-        (stands.0, laws.fits_grouped q above row (bound_row t c q i) p fits stands.1 (bound-is-row q i stands.0))
+        (stands.0, laws.fits_grouped q above row (bound_row t c q i) p fits stands.1 (bound_is_row q i stands.0))
 
     -- of one number for each child one function
     module _ (v : ℕ) (s : ℕ → ℕ) (each : (q : ℕ) → v < q → q < t.nodes → t.parent q ≡ v → (i : ℕ) × IsLow q s i) where
@@ -104,10 +104,10 @@ module _ {K : Type 0} (t : Problem K) (laws : IsProblem t) where
       over : IsSubtree t v s → (i : ℕ) × IsLow v s i
       over sub =
           let found = valid.covered v (s v) sub.node sub.first below
-          (λ q less l up. serves q (s v) (s q) (below q) (omega arith) (fits-child v q s sub less l up)
+          (λ q less l up. serves q (s v) (s q) (below q) (omega arith) (fits_child v q s sub less l up)
           (chosen q less l up).0) in
           let near : AtMost t.Below (bound_key t c v found.0) (subtree_key t v s) =
-          subst (λ k. AtMost t.Below (bound_key t c v found.0) k) (sym (key-splits v s sub.node))
+          subst (λ k. AtMost t.Below (bound_key t c v found.0) k) (sym (key_splits v s sub.node))
           (at_most_trans t.Below laws.keys.order _ _ _ found.2
           (add_at_most t.Below t.add t.none laws.keys _ _ _ _ (inr refl)
           (kids_at_most v (t.nodes - suc v) (suc v) (λ q. bound_key t c q (below q)) (λ q. subtree_key t q s)

@@ -17,38 +17,38 @@ module _ {K : Type 0} (Below : K → K → Type 0) (o : IsOrder K Below) where
       ])
 
   -- a member that is below x is not x
-  not-head : (x y : K) (ys : List K) → Below x y → IsMember y (x ∷ ys) → IsMember y ys
-  not-head x y ys less (inl e) = absurd (o.irreflexive x (subst (λ z. Below x z) e less))
-  not-head x y ys less (inr m) = m
+  not_head : (x y : K) (ys : List K) → Below x y → IsMember y (x ∷ ys) → IsMember y ys
+  not_head x y ys less (inl e) = absurd (o.irreflexive x (subst (λ z. Below x z) e less))
+  not_head x y ys less (inr m) = m
 
-  pub first-ones : (xs ks : List K) → IsAscending Below xs → IsAscending Below ks
+  pub first_ones : (xs ks : List K) → IsAscending Below xs → IsAscending Below ks
       → ((x : K) → IsMember x xs → IsMember x ks)
       → ((k : K) → IsMember k ks → IsMember k xs ⊎ ((x : K) → IsMember x xs → Below x k)) → xs ≡ take (length xs) ks
-  first-ones [] ks up rise there after = refl
-  first-ones (x ∷ xs) [] up rise there after = absurd (there x (inl refl))
-  first-ones (x ∷ xs) (k ∷ ks) up rise there after =
+  first_ones [] ks up rise there after = refl
+  first_ones (x ∷ xs) [] up rise there after = absurd (there x (inl refl))
+  first_ones (x ∷ xs) (k ∷ ks) up rise there after =
       let e : x ≡ k = heads x k xs ks up rise (there x (inl refl))
       (elim (after k (inl refl)) [ inl m ↦ inl m | inr all ↦ inr (all x (inl refl)) ]) in
-      let rest = first-ones xs ks up.1 rise.1
-      (λ y m. not-head k y ks (subst (λ z. Below z y) e (below_member Below x y xs up.0 m)) (there y (inr m)))
+      let rest = first_ones xs ks up.1 rise.1
+      (λ y m. not_head k y ks (subst (λ z. Below z y) e (below_member Below x y xs up.0 m)) (there y (inr m)))
       (λ y m. let more : Below x y = subst (λ z. Below z y) (sym e) (below_member Below k y ks rise.0 m) in
       elim (after y (inr m)) [
-        | inl n ↦ inl (not-head x y xs more n)
+        | inl n ↦ inl (not_head x y xs more n)
         | inr all ↦ inr (λ z n. all z (inr n))
       ]) in
       λ i. e i ∷ rest i
 
   -- if there are no others, it is the whole ranking
-  pub all-ones : (xs ks : List K) → IsAscending Below xs → IsAscending Below ks
+  pub all_ones : (xs ks : List K) → IsAscending Below xs → IsAscending Below ks
       → ((x : K) → IsMember x xs → IsMember x ks)
       → ((k : K) → IsMember k ks → IsMember k xs) → xs ≡ ks
-  all-ones [] [] up rise there back = refl
-  all-ones [] (k ∷ ks) up rise there back = absurd (back k (inl refl))
-  all-ones (x ∷ xs) [] up rise there back = absurd (there x (inl refl))
-  all-ones (x ∷ xs) (k ∷ ks) up rise there back =
+  all_ones [] [] up rise there back = refl
+  all_ones [] (k ∷ ks) up rise there back = absurd (back k (inl refl))
+  all_ones (x ∷ xs) [] up rise there back = absurd (there x (inl refl))
+  all_ones (x ∷ xs) (k ∷ ks) up rise there back =
       let e : x ≡ k = heads x k xs ks up rise (there x (inl refl)) (inl (back k (inl refl))) in
-      let rest = all-ones xs ks up.1 rise.1
-      (λ y m. not-head k y ks (subst (λ z. Below z y) e (below_member Below x y xs up.0 m)) (there y (inr m)))
-      (λ y m. not-head x y xs (subst (λ z. Below z y) (sym e) (below_member Below k y ks rise.0 m))
+      let rest = all_ones xs ks up.1 rise.1
+      (λ y m. not_head k y ks (subst (λ z. Below z y) e (below_member Below x y xs up.0 m)) (there y (inr m)))
+      (λ y m. not_head x y xs (subst (λ z. Below z y) (sym e) (below_member Below k y ks rise.0 m))
       (back y (inr m))) in
       λ i. e i ∷ rest i

@@ -4,32 +4,32 @@ use Rattle.rankings.specs.Order.{IsMember}
 use Rattle.anyk_model.specs.Table.{Table}
 use Rattle.anyk_model.specs.Query.{Query, Column, Equality}
 use Rattle.query_bind.specs.Classes.{AreVariables, HasVariable, IsLeast, IsShared, Linked, Passes, row_field, same, variable_at}
-use Rattle.query_bind.proofs.Least.{at-member, has-least, shared-along}
-use Rattle.query_bind.proofs.Witness.{linked-append, linked-back, texts-stable}
+use Rattle.query_bind.proofs.Least.{at_member, has_least, shared_along}
+use Rattle.query_bind.proofs.Witness.{linked_append, linked_back, texts_stable}
 use Rattle.proof_model.specs.QueryProblem.{RowsEqual, RowsMatch}
 
 abbrev column : ℕ → ℕ → Column
 column i p = record { item = i; place = p }
 
 -- the class of a column has a least one
-least-column : (es : List Equality) (c : Column) → ((d : Column) → Linked es c d → IsLeast es d → ⊥) → ⊥
-least-column es c none =
-    has-least (λ i. (p : ℕ) × Linked es c (column i p))
-    (λ i at low. has-least (λ p. Linked es c (column i p))
+least_column : (es : List Equality) (c : Column) → ((d : Column) → Linked es c d → IsLeast es d → ⊥) → ⊥
+least_column es c none =
+    has_least (λ i. (p : ℕ) × Linked es c (column i p))
+    (λ i at low. has_least (λ p. Linked es c (column i p))
     (λ p h small. none (column i p) h (λ d link before. elim before [
-      | inl item ↦ let l : i ≤ d.item = low d.item (d.place, linked-append h link) in absurd (omega (arith, l, item))
+      | inl item ↦ let l : i ≤ d.item = low d.item (d.place, linked_append h link) in absurd (omega (arith, l, item))
       | inr place ↦
-          let there : Linked es c (column i d.place) = subst (λ (n : ℕ). Linked es c (column n d.place)) place.0 (linked-append h link) in
+          let there : Linked es c (column i d.place) = subst (λ (n : ℕ). Linked es c (column n d.place)) place.0 (linked_append h link) in
           let l : p ≤ d.place = small d.place there in
           let less = place.1 in absurd (omega (arith, l, less))
     ]))
     at.0 at.1)
     c.item (c.place, same)
 
-number-at : (c : Column) (list : List Column) → IsMember c list → (n : ℕ) × (n < length list) × (variable_at list n ≡ c)
-number-at c [] m = absurd m
-number-at c (x ∷ list) (inl e) = (0, omega arith, sym e)
-number-at c (x ∷ list) (inr m) = let p = number-at c list m in let h = p.1 in (suc p.0, omega (arith, h), p.2)
+number_at : (c : Column) (list : List Column) → IsMember c list → (n : ℕ) × (n < length list) × (variable_at list n ≡ c)
+number_at c [] m = absurd m
+number_at c (x ∷ list) (inl e) = (0, omega arith, sym e)
+number_at c (x ∷ list) (inr m) = let p = number_at c list m in let h = p.1 in (suc p.0, omega (arith, h), p.2)
 
 -- a fact of a column of each of two items, that all columns of one class have alike
 module _ (es : List Equality) (variables : List Column) (known : AreVariables es variables) (i j : ℕ) (P : ℕ → ℕ → Type 0)
@@ -41,46 +41,46 @@ module _ (es : List Equality) (variables : List Column) (known : AreVariables es
   abbrev AtLeast : Type 0
   AtLeast = (number p q : ℕ) → HasVariable es variables i number p → HasVariable es variables j number q → P p q
 
-  to-least : InAll → AtLeast
-  to-least h n p q a b =
+  to_least : InAll → AtLeast
+  to_least h n p q a b =
       let c = variable_at variables n in
-      let s = ((known.members c).0 (at-member variables n a.known)).0 in
-      h p q (shared-along es c (column i p) a.linked s) (linked-append (linked-back a.linked) b.linked)
+      let s = ((known.members c).0 (at_member variables n a.known)).0 in
+      h p q (shared_along es c (column i p) a.linked s) (linked_append (linked_back a.linked) b.linked)
 
-  to-all : AtLeast → InAll
-  to-all h a b s link = stable a b (λ apart.
-      least-column es (column i a) (λ c lc least.
-      let m = number-at c variables ((known.members c).1 (shared-along es (column i a) c lc s, least)) in
-      let to_c : Linked es (variable_at variables m.0) (column i a) = subst (λ (d : Column). Linked es d (column i a)) (sym m.2) (linked-back lc) in
-      has-least (λ p. Linked es (column i a) (column i p)) (λ p lp small_p.
-      has-least (λ q. Linked es (column j b) (column j q)) (λ q lq small_q.
+  to_all : AtLeast → InAll
+  to_all h a b s link = stable a b (λ apart.
+      least_column es (column i a) (λ c lc least.
+      let m = number_at c variables ((known.members c).1 (shared_along es (column i a) c lc s, least)) in
+      let to_c : Linked es (variable_at variables m.0) (column i a) = subst (λ (d : Column). Linked es d (column i a)) (sym m.2) (linked_back lc) in
+      has_least (λ p. Linked es (column i a) (column i p)) (λ p lp small_p.
+      has_least (λ q. Linked es (column j b) (column j q)) (λ q lq small_q.
       apart (moved a b p q lp lq (h m.0 p q
-      (record { known = m.1; linked = linked-append to_c lp; least = λ k l. small_p k (linked-append lp l) })
-      (record { known = m.1; linked = linked-append to_c (linked-append link lq); least = λ k l. small_q k (linked-append lq l) }))))
+      (record { known = m.1; linked = linked_append to_c lp; least = λ k l. small_p k (linked_append lp l) })
+      (record { known = m.1; linked = linked_append to_c (linked_append link lq); least = λ k l. small_q k (linked_append lq l) }))))
       b same)
       a same))
 
 module _ (query : Query) (tables : List Table) (variables : List Column) (known : AreVariables query.equalities variables) (i j row other : ℕ) where
   -- a row of each of two items
-  pub match-iff : Passes query tables i row → Passes query tables j other
+  pub match_iff : Passes query tables i row → Passes query tables j other
       → RowsMatch query tables i j row other
       ↔ ((number p q : ℕ) → HasVariable query.equalities variables i number p → HasVariable query.equalities variables j number q
       → row_field query tables i row p ≡ row_field query tables j other q)
-  match-iff passes there =
+  match_iff passes there =
       let P : ℕ → ℕ → Type 0 = λ a b. row_field query tables i row a ≡ row_field query tables j other b in
-      let stable : (a b : ℕ) → ((P a b → ⊥) → ⊥) → P a b = λ a b. texts-stable (row_field query tables i row a) (row_field query tables j other b) in
+      let stable : (a b : ℕ) → ((P a b → ⊥) → ⊥) → P a b = λ a b. texts_stable (row_field query tables i row a) (row_field query tables j other b) in
       let moved : (a b p q : ℕ) → Linked query.equalities (column i a) (column i p) → Linked query.equalities (column j b) (column j q) → P p q → P a b =
       λ a b p q la lb e. passes.equal a p la ∙ e ∙ sym (there.equal b q lb) in
-      (to-least query.equalities variables known i j P stable moved, to-all query.equalities variables known i j P stable moved)
+      (to_least query.equalities variables known i j P stable moved, to_all query.equalities variables known i j P stable moved)
 
   -- two rows of one item, in the variables that another item has too
-  pub equal-iff : Passes query tables i row → Passes query tables i other
+  pub equal_iff : Passes query tables i row → Passes query tables i other
       → RowsEqual query tables i j row other
       ↔ ((number p q : ℕ) → HasVariable query.equalities variables i number p → HasVariable query.equalities variables j number q
       → row_field query tables i row p ≡ row_field query tables i other p)
-  equal-iff passes there =
+  equal_iff passes there =
       let P : ℕ → ℕ → Type 0 = λ a b. row_field query tables i row a ≡ row_field query tables i other a in
-      let stable : (a b : ℕ) → ((P a b → ⊥) → ⊥) → P a b = λ a b. texts-stable (row_field query tables i row a) (row_field query tables i other a) in
+      let stable : (a b : ℕ) → ((P a b → ⊥) → ⊥) → P a b = λ a b. texts_stable (row_field query tables i row a) (row_field query tables i other a) in
       let moved : (a b p q : ℕ) → Linked query.equalities (column i a) (column i p) → Linked query.equalities (column j b) (column j q) → P p q → P a b =
       λ a b p q la lb e. passes.equal a p la ∙ e ∙ sym (there.equal a p la) in
-      (to-least query.equalities variables known i j P stable moved, to-all query.equalities variables known i j P stable moved)
+      (to_least query.equalities variables known i j P stable moved, to_all query.equalities variables known i j P stable moved)

@@ -27,8 +27,8 @@ told wrong_count = refl
 told missed = refl
 
 module _ {K : Type 0} (t : Problem K) (c : Certificate) (limit : Option ℕ) where
-  pub one-flaw : (f g : Flaw) → IsFirst t c limit f → IsFirst t c limit g → f ≡ g
-  one-flaw f g a b = elim (cases_order (stage f) (stage g)) [
+  pub one_flaw : (f g : Flaw) → IsFirst t c limit f → IsFirst t c limit g → f ≡ g
+  one_flaw f g a b = elim (cases_order (stage f) (stage g)) [
     | inr (inl less) ↦ absurd (b.first f (inl less) a.holds)
     | inr (inr more) ↦ absurd (a.first g (inl more) b.holds)
     | inl s ↦ elim (cases_order (place f) (place g)) [

@@ -17,58 +17,58 @@ use Rattle.query_shape.specs.Shape.{HasTree}
 use Rattle.proof_model.specs.Problem.{Problem}
 use Rattle.proof_model.specs.QueryProblem.{problem_of}
 use Rattle.proof_model.specs.Laws.{IsProblem}
-use Rattle.proof_model.proofs.QueryLaws.{query-problem}
+use Rattle.proof_model.proofs.QueryLaws.{query_problem}
 use Rattle.proof_model.proofs.SolutionRows.{HasItems}
 
 module _ (query : Query) (tables : List Table) (atoms parents : List ℕ) (hung : HasTree query atoms parents) where
   abbrev t : Problem (KeyOf (length query.order) 16)
   t = problem_of query tables atoms parents
 
-  pub as-many : length atoms ≡ length query.items
-  as-many = hung.join_tree.nodes ∙ hung.of_query.atoms
+  pub as_many : length atoms ≡ length query.items
+  as_many = hung.join_tree.nodes ∙ hung.of_query.atoms
 
-  pub few-items : length query.items ≤ 16
-  few-items = let f = hung.of_query.is_graph.few in let n = hung.of_query.atoms in omega (arith, f, n)
+  pub few_items : length query.items ≤ 16
+  few_items = let f = hung.of_query.is_graph.few in let n = hung.of_query.atoms in omega (arith, f, n)
 
-  pub some-nodes : 0 < length atoms
-  some-nodes = let s = hung.of_query.is_graph.some in let n = hung.join_tree.nodes in omega (arith, s, n)
+  pub some_nodes : 0 < length atoms
+  some_nodes = let s = hung.of_query.is_graph.some in let n = hung.join_tree.nodes in omega (arith, s, n)
 
-  pub parents-earlier : (k : ℕ) → 0 < k → k < length atoms → slice_index parents k < k
-  parents-earlier k some l =
+  pub parents_earlier : (k : ℕ) → 0 < k → k < length atoms → slice_index parents k < k
+  parents_earlier k some l =
       let n = hung.join_tree.nodes in
       let p = hung.join_tree.has_parents in
       hung.join_tree.first.earlier k some (omega (arith, l, n, p))
 
-  pub tree-problem : IsProblem (problem_of query tables atoms parents)
-  tree-problem = query-problem query tables atoms parents some-nodes parents-earlier
+  pub tree_problem : IsProblem (problem_of query tables atoms parents)
+  tree_problem = query_problem query tables atoms parents some_nodes parents_earlier
 
-  pub item-within : (u : ℕ) → u < length atoms → slice_index atoms u < length query.items
-  item-within u l =
+  pub item_within : (u : ℕ) → u < length atoms → slice_index atoms u < length query.items
+  item_within u l =
       let h = hung.join_tree.within u l in
       let n = hung.of_query.atoms in
       omega (arith, h, n)
 
-  pub node-items : HasItems (problem_of query tables atoms parents) (length query.items)
-  node-items = record { within = item-within; apart = hung.join_tree.distinct }
+  pub node_items : HasItems (problem_of query tables atoms parents) (length query.items)
+  node_items = record { within = item_within; apart = hung.join_tree.distinct }
 
-  pub node-of : (a : ℕ) → a < length query.items → (k : ℕ) × (k < length atoms) × (slice_index atoms k ≡ a)
-  node-of a l = let n = hung.of_query.atoms in hung.join_tree.each a (omega (arith, l, n))
+  pub node_of : (a : ℕ) → a < length query.items → (k : ℕ) × (k < length atoms) × (slice_index atoms k ≡ a)
+  node_of a l = let n = hung.of_query.atoms in hung.join_tree.each a (omega (arith, l, n))
 
   -- each row's key has its number in the slot of its item, and 0 in the others
-  pub keys-hold : IsTieFree (KeyOf (length query.order) 16) (key_add (length query.order) 16)
+  pub keys_hold : IsTieFree (KeyOf (length query.order) 16) (key_add (length query.order) 16)
       (key_none (length query.order) 16) (length atoms)
       t.key (λ q r. []) (slice_index atoms) (λ v r. r) (slot_of (length query.order) 16)
-  keys-hold = record {
+  keys_hold = record {
     slot_add = slot_of_add (length query.order) 16;
     slot_none = slot_of_none (length query.order) 16;
     slot_own = λ v r l.
-        let w = item-within v l in
-        let f = few-items in
+        let w = item_within v l in
+        let f = few_items in
         at v r (slice_index atoms v) (omega (arith, w, f))
         ∙ get_or-set_at (replicate 16 0) (slice_index atoms v) (slice_index atoms v) r 0 refl (omega (arith, w, f));
     slot_other = λ u v r lu lv n.
-        let w = item-within u lu in
-        let f = few-items in
+        let w = item_within u lu in
+        let f = few_items in
         let differ : slice_index atoms u ≢ slice_index atoms v = λ e. n (same u v lu lv e) in
         at v r (slice_index atoms u) (omega (arith, w, f))
         ∙ get_or-set_other {A = ℕ} (replicate 16 0) (slice_index atoms v) (slice_index atoms u) r 0 differ

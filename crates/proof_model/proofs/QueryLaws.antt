@@ -11,10 +11,10 @@ use Rattle.proof_model.specs.Laws.{IsProblem}
 use Rattle.proof_model.specs.Valid.{IsValid, Flaw, no_solution, bound_twice, weak, no_answer, not_in_order}
 use Rattle.proof_model.specs.Valid.{wrong_count, missed, Holds, answer_key}
 
-pub query-problem : (query : Query) (tables : List Table) (atoms parents : List ℕ) → 0 < length atoms
+pub query_problem : (query : Query) (tables : List Table) (atoms parents : List ℕ) → 0 < length atoms
     → ((k : ℕ) → 0 < k → k < length atoms → slice_index parents k < k)
     → IsProblem (problem_of query tables atoms parents)
-query-problem query tables atoms parents some first = record {
+query_problem query tables atoms parents some first = record {
   keys = tuple_keys (length query.order) 16;
   some = some;
   parents_first = first;
@@ -29,16 +29,16 @@ query-problem query tables atoms parents some first = record {
 }
 
 module _ {K : Type 0} (t : Problem K) (c : Certificate) (limit : Option ℕ) (valid : IsValid t c limit) where
-  pub no-flaw : (f : Flaw) → Holds t c limit f → ⊥
-  no-flaw (no_solution i) h = let b = valid.bounds i h.0 in h.1 b.0 b.1 b.2
-  no-flaw (bound_twice j) h = valid.apart h.0 h.1 j h.2 h.3 h.4 h.5
-  no-flaw (weak v) h = h.3 (valid.covered v h.0 h.1 h.2)
-  no-flaw (no_answer i) h = h.1 (valid.answers i h.0)
-  no-flaw (not_in_order i) h =
+  pub no_flaw : (f : Flaw) → Holds t c limit f → ⊥
+  no_flaw (no_solution i) h = let b = valid.bounds i h.0 in h.1 b.0 b.1 b.2
+  no_flaw (bound_twice j) h = valid.apart h.0 h.1 j h.2 h.3 h.4 h.5
+  no_flaw (weak v) h = h.3 (valid.covered v h.0 h.1 h.2)
+  no_flaw (no_answer i) h = h.1 (valid.answers i h.0)
+  no_flaw (not_in_order i) h =
       let some = h.0 in
       let l = h.1 in
       let e : i - 1 + 1 ≡ i = omega (arith, some) in
       h.2 (subst (λ z. t.Below (answer_key t c (i - 1)) (answer_key t c z)) e
       (valid.ascending (i - 1) (omega (arith, e, l))))
-  no-flaw wrong_count h = h valid.count
-  no-flaw missed h = h.1 (valid.passed h.0)
+  no_flaw wrong_count h = h valid.count
+  no_flaw missed h = h.1 (valid.passed h.0)

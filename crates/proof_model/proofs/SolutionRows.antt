@@ -10,7 +10,7 @@ use Rattle.tdp_model.proofs.Sums.{sum_same}
 use Rattle.tdp_model.proofs.Ties.{slot_at}
 use Rattle.proof_model.specs.Problem.{Problem, IsSolutionAt, key_at, place_in, row_in, size}
 use Rattle.proof_model.specs.Laws.{IsProblem, IsSubtree, subtree_key}
-use Rattle.proof_model.proofs.ItemPlaces.{place-each, place-inside, place-tells}
+use Rattle.proof_model.proofs.ItemPlaces.{place_each, place_inside, place_tells}
 use Rattle.proof_model.proofs.Sums.{pick_eq, pick_ne}
 
 -- a list of numbers with a property at each place below n
@@ -43,43 +43,43 @@ module _ {K : Type 0} (t : Problem K) (laws : IsProblem t) (most : ℕ) (items :
   once : (v u : ℕ) → u < t.nodes → below v u ≤ 1
   once v u l = below_once t.nodes t.parent laws.parents_first u v u (omega arith) l
 
-  is-one : (v u : ℕ) → u < t.nodes → 0 < below v u → below v u ≡ 1
-  is-one v u l some = let o = once v u l in omega (arith, o, some)
+  is_one : (v u : ℕ) → u < t.nodes → 0 < below v u → below v u ≡ 1
+  is_one v u l some = let o = once v u l in omega (arith, o, some)
 
   -- the node itself is below it
-  pub own-below : (v : ℕ) → below v v ≡ 1
-  own-below v = below_itself t.nodes t.parent laws.parents_first v v refl
+  pub own_below : (v : ℕ) → below v v ≡ 1
+  own_below v = below_itself t.nodes t.parent laws.parents_first v v refl
 
   -- and the parent of another one
-  pub parent-below : (v q : ℕ) → v < q → q < t.nodes → 0 < below v q → below v (t.parent q) ≡ 1
-  parent-below v q less l some =
+  pub parent_below : (v q : ℕ) → v < q → q < t.nodes → 0 < below v q → below v (t.parent q) ≡ 1
+  parent_below v q less l some =
       sym (below_parent t.nodes t.parent laws.parents_first v q (omega (arith, less)) l (λ e. omega (arith, e, less)))
-      ∙ is-one v q l some
+      ∙ is_one v q l some
 
   -- the place of a node's row is in the list
-  pub row-inside : (v q : ℕ) → q < t.nodes → below v q ≡ 1 → place_in t v q < size t v
-  row-inside v q l one = place-inside t.nodes (below v) t.item most (once v) items.within items.apart q l
+  pub row_inside : (v q : ℕ) → q < t.nodes → below v q ≡ 1 → place_in t v q < size t v
+  row_inside v q l one = place_inside t.nodes (below v) t.item most (once v) items.within items.apart q l
       (omega (arith, one))
 
   -- ---- lists and functions
 
   -- lists with the same row for each node are the same
-  pub rows-same : (v : ℕ) (a b : List ℕ) → length a ≡ size t v → length b ≡ size t v
+  pub rows_same : (v : ℕ) (a b : List ℕ) → length a ≡ size t v → length b ≡ size t v
       → ((q : ℕ) → q < t.nodes → below v q ≡ 1 → row_in t v a q ≡ row_in t v b q) → a ≡ b
-  rows-same v a b of_a of_b same = same_number_lists a b (of_a ∙ sym of_b) (λ p l.
-      let at = place-each t.nodes (below v) t.item most (once v) items.within items.apart p (omega (arith, l, of_a)) in
-      subst (λ z. get_or a z 0 ≡ get_or b z 0) at.3 (same at.0 at.1 (is-one v at.0 at.1 at.2)))
+  rows_same v a b of_a of_b same = same_number_lists a b (of_a ∙ sym of_b) (λ p l.
+      let at = place_each t.nodes (below v) t.item most (once v) items.within items.apart p (omega (arith, l, of_a)) in
+      subst (λ z. get_or a z 0 ≡ get_or b z 0) at.3 (same at.0 at.1 (is_one v at.0 at.1 at.2)))
 
   -- each place of a list has the row of a node
-  pub node-at : (v : ℕ) (rows : List ℕ) → length rows ≡ size t v → (p : ℕ) → p < length rows
+  pub node_at : (v : ℕ) (rows : List ℕ) → length rows ≡ size t v → (p : ℕ) → p < length rows
       → (q : ℕ) × (q < t.nodes) × (below v q ≡ 1) × (row_in t v rows q ≡ get_or rows p 0)
-  node-at v rows count p l =
-      let at = place-each t.nodes (below v) t.item most (once v) items.within items.apart p (omega (arith, l, count)) in
-      (at.0, at.1, is-one v at.0 at.1 at.2, ap (λ z. get_or rows z 0) at.3)
+  node_at v rows count p l =
+      let at = place_each t.nodes (below v) t.item most (once v) items.within items.apart p (omega (arith, l, count)) in
+      (at.0, at.1, is_one v at.0 at.1 at.2, ap (λ z. get_or rows z 0) at.3)
 
   -- a node below another one is after it
-  pub below-after : (v q : ℕ) → q < t.nodes → below v q ≡ 1 → q ≢ v → v < q
-  below-after v q l one other = elim (cases_lt q v) [
+  pub below_after : (v q : ℕ) → q < t.nodes → below v q ≡ 1 → q ≢ v → v < q
+  below_after v q l one other = elim (cases_lt q v) [
     | inl less ↦ (let z = below_less t.nodes t.parent laws.parents_first v q l less in absurd (omega (arith, z, one)))
     | inr more ↦ omega (arith, more, other)
   ]
@@ -89,38 +89,38 @@ module _ {K : Type 0} (t : Problem K) (laws : IsProblem t) (most : ℕ) (items :
     pub count : length rows ≡ size t v
     pub row : (q : ℕ) → q < t.nodes → below v q ≡ 1 → row_in t v rows q ≡ s q
 
-  pub list-of : (v : ℕ) (s : ℕ → ℕ) → (rows : List ℕ) × IsListOf v s rows
-  list-of v s =
+  pub list_of : (v : ℕ) (s : ℕ → ℕ) → (rows : List ℕ) × IsListOf v s rows
+  list_of v s =
       let chosen = choose (size t v) (λ p x. (q : ℕ) × (q < t.nodes) × (0 < below v q) × (place_in t v q ≡ p)
       × (x ≡ s q))
-      (λ p l. let at = place-each t.nodes (below v) t.item most (once v) items.within items.apart p l in
+      (λ p l. let at = place_each t.nodes (below v) t.item most (once v) items.within items.apart p l in
       (s at.0, (at.0, at.1, at.2, at.3, refl))) in (
         chosen.list,
         record {
           count = chosen.count;
           row = λ q l one.
-              let at = chosen.each (place_in t v q) (row-inside v q l one) in
-              at.4 ∙ ap s (place-tells t.nodes (below v) t.item most
+              let at = chosen.each (place_in t v q) (row_inside v q l one) in
+              at.4 ∙ ap s (place_tells t.nodes (below v) t.item most
               (once v) items.within items.apart at.0 q at.1 l at.2
               (omega (arith, one)) at.3);
         },
       )
 
   -- a list of a solution's rows is a solution, with its key
-  pub list-solves : (v : ℕ) (s : ℕ → ℕ) (rows : List ℕ) → IsListOf v s rows → IsSubtree t v s → IsSolutionAt t v rows
-  list-solves v s rows list sub = record {
+  pub list_solves : (v : ℕ) (s : ℕ → ℕ) (rows : List ℕ) → IsListOf v s rows → IsSubtree t v s → IsSolutionAt t v rows
+  list_solves v s rows list sub = record {
     node = sub.node;
     count = list.count;
-    first = subst (t.IsRow v) (sym (list.row v sub.node (own-below v))) sub.first;
+    first = subst (t.IsRow v) (sym (list.row v sub.node (own_below v))) sub.first;
     others = λ q less l some.
         let p = laws.parents_first q (omega (arith, less)) l in
         subst (λ z. t.Fits q z (row_in t v rows q))
-        (sym (list.row (t.parent q) (omega (arith, p, l)) (parent-below v q less l some)))
-        (subst (λ z. t.Fits q (s (t.parent q)) z) (sym (list.row q l (is-one v q l some))) (sub.others q less l some));
+        (sym (list.row (t.parent q) (omega (arith, p, l)) (parent_below v q less l some)))
+        (subst (λ z. t.Fits q (s (t.parent q)) z) (sym (list.row q l (is_one v q l some))) (sub.others q less l some));
   }
 
-  pub list-key : (v : ℕ) (s : ℕ → ℕ) (rows : List ℕ) → IsListOf v s rows → key_at t v rows ≡ subtree_key t v s
-  list-key v s rows list =
+  pub list_key : (v : ℕ) (s : ℕ → ℕ) (rows : List ℕ) → IsListOf v s rows → key_at t v rows ≡ subtree_key t v s
+  list_key v s rows list =
       sum_same t.Below t.add t.none laws.keys (λ q. cond (nat_eq (below v q) 1) (t.key q (row_in t v rows q)) t.none)
       (λ q. cond (nat_eq (below v q) 1) (t.key q (s q)) t.none) t.nodes 0 (λ q a b. elim (cases_eq (below v q) 1) [
         | inl one ↦ ap (λ r. cond (nat_eq (below v q) 1) (t.key q r) t.none) (list.row q (omega (arith, b)) one)
@@ -128,16 +128,16 @@ module _ {K : Type 0} (t : Problem K) (laws : IsProblem t) (most : ℕ) (items :
       ])
 
   -- a solution as a function of the nodes
-  pub solution-subtree : (v : ℕ) (rows : List ℕ) → IsSolutionAt t v rows → IsSubtree t v (row_in t v rows)
-  solution-subtree v rows h = record { node = h.node; first = h.first; others = h.others }
+  pub solution_subtree : (v : ℕ) (rows : List ℕ) → IsSolutionAt t v rows → IsSubtree t v (row_in t v rows)
+  solution_subtree v rows h = record { node = h.node; first = h.first; others = h.others }
 
   -- ---- keys hold the rows
 
   module _ (slot : ℕ → K → ℕ)
       (free : IsTieFree K t.add t.none t.nodes t.key (λ q r. []) t.item (λ v r. r) slot) where
-    key-slot : (v u : ℕ) (rows : List ℕ) → u < t.nodes → below v u ≡ 1
+    key_slot : (v u : ℕ) (rows : List ℕ) → u < t.nodes → below v u ≡ 1
         → slot (t.item u) (key_at t v rows) ≡ row_in t v rows u
-    key-slot v u rows l one =
+    key_slot v u rows l one =
         let part : ℕ → K = λ q. cond (nat_eq (below v q) 1) (t.key q (row_in t v rows q)) t.none in
         slot_at t.add t.none t.nodes t.parent t.key (λ q r. []) t.item (λ w r. r) slot free (t.item u) u part t.nodes 0
         (omega arith) (omega (arith, l)) (λ j a b n. elim (cases_eq (below v j) 1) [
@@ -151,7 +151,7 @@ module _ {K : Type 0} (t : Problem K) (laws : IsProblem t) (most : ℕ) (items :
         ∙ free.slot_own u (row_in t v rows u) l
 
     -- two lists with one key are the same
-    pub keys-tell : (v : ℕ) (a b : List ℕ) → length a ≡ size t v → length b ≡ size t v → key_at t v a ≡ key_at t v b
+    pub keys_tell : (v : ℕ) (a b : List ℕ) → length a ≡ size t v → length b ≡ size t v → key_at t v a ≡ key_at t v b
         → a ≡ b
-    keys-tell v a b of_a of_b same = rows-same v a b of_a of_b (λ q l one.
-        sym (key-slot v q a l one) ∙ ap (slot (t.item q)) same ∙ key-slot v q b l one)
+    keys_tell v a b of_a of_b same = rows_same v a b of_a of_b (λ q l one.
+        sym (key_slot v q a l one) ∙ ap (slot (t.item q)) same ∙ key_slot v q b l one)

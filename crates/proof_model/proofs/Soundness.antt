@@ -13,43 +13,43 @@ use Rattle.proof_model.specs.Laws.{IsProblem, IsSubtree, subtree_key}
 use Rattle.proof_model.specs.Valid.{IsValid, IsPassed, OpenChoice, Begins, answer_key, answer_row, bound_key}
 use Rattle.proof_model.specs.Valid.{choice_key}
 use Rattle.proof_model.proofs.Covering.{IsLow, cover, serves}
-use Rattle.proof_model.proofs.Choices.{part_at, parts-whole, pick_le, pick_gt}
+use Rattle.proof_model.proofs.Choices.{part_at, parts_whole, pick_le, pick_gt}
 
 module _ {K : Type 0} (t : Problem K) (laws : IsProblem t) where
   -- each node is below the first
-  pub all-below : (f q : ℕ) → q ≤ f → q < t.nodes → is_below t.parent 0 q ≡ 1
-  all-below zero q e l = below_itself t.nodes t.parent laws.parents_first 0 q (omega arith)
-  all-below (suc f) q e l = elim (cases_eq q 0) [
+  pub all_below : (f q : ℕ) → q ≤ f → q < t.nodes → is_below t.parent 0 q ≡ 1
+  all_below zero q e l = below_itself t.nodes t.parent laws.parents_first 0 q (omega arith)
+  all_below (suc f) q e l = elim (cases_eq q 0) [
     | inl z ↦ below_itself t.nodes t.parent laws.parents_first 0 q z
     | inr n ↦
         let d : t.parent q < q = laws.parents_first q (omega (arith, n)) l in
         below_parent t.nodes t.parent laws.parents_first 0 q (omega (arith, n)) l n
-        ∙ all-below f (t.parent q) (omega arith) (omega arith)
+        ∙ all_below f (t.parent q) (omega arith) (omega arith)
   ]
 
   -- each row of a solution fits the row above it
-  fits-above : (s : ℕ → ℕ) → IsSubtree t 0 s → (q : ℕ) → 0 < q → q < t.nodes → t.Fits q (s (t.parent q)) (s q)
-  fits-above s sub q p l = sub.others q p l (let b = all-below q q (omega arith) l in omega (arith, b))
+  fits_above : (s : ℕ → ℕ) → IsSubtree t 0 s → (q : ℕ) → 0 < q → q < t.nodes → t.Fits q (s (t.parent q)) (s q)
+  fits_above s sub q p l = sub.others q p l (let b = all_below q q (omega arith) l in omega (arith, b))
 
-  is-row : (s : ℕ → ℕ) → IsSubtree t 0 s → (q : ℕ) → q < t.nodes → t.IsRow q (s q)
-  is-row s sub q l = elim (cases_eq q 0) [
+  is_row : (s : ℕ → ℕ) → IsSubtree t 0 s → (q : ℕ) → q < t.nodes → t.IsRow q (s q)
+  is_row s sub q l = elim (cases_eq q 0) [
     | inl z ↦ subst (λ v. t.IsRow v (s v)) (sym z) sub.first
-    | inr n ↦ laws.fits_row q (s (t.parent q)) (s q) (fits-above s sub q (omega (arith, n)) l)
+    | inr n ↦ laws.fits_row q (s (t.parent q)) (s q) (fits_above s sub q (omega (arith, n)) l)
   ]
 
   -- the part of a solution at a node
-  part-of : (s : ℕ → ℕ) → IsSubtree t 0 s → (q : ℕ) → q < t.nodes → IsSubtree t q s
-  part-of s sub q l =
+  part_of : (s : ℕ → ℕ) → IsSubtree t 0 s → (q : ℕ) → q < t.nodes → IsSubtree t q s
+  part_of s sub q l =
       record {
         node = l;
-        first = is-row s sub q l;
-        others = λ u more lu below. fits-above s sub u (omega (arith, more)) lu;
+        first = is_row s sub q l;
+        others = λ u more lu below. fits_above s sub u (omega (arith, more)) lu;
       }
 
   module _ (c : Certificate) (limit : Option ℕ) (valid : IsValid t c limit) (s : ℕ → ℕ) (sub : IsSubtree t 0 s) where
     -- a bound for each node's part
     low : (q : ℕ) → q < t.nodes → (i : ℕ) × IsLow t laws c limit valid q s i
-    low q l = cover t laws c limit valid t.nodes q s (omega arith) (part-of s sub q l)
+    low q l = cover t laws c limit valid t.nodes q s (omega arith) (part_of s sub q l)
 
     pick : (q : ℕ) → (i : ℕ) × (q < t.nodes → IsLow t laws c limit valid q s i)
     pick q = elim (cases_lt q t.nodes) [
@@ -95,8 +95,8 @@ module _ {K : Type 0} (t : Problem K) (laws : IsProblem t) where
       ]
     ]
 
-    low-at : (q : ℕ) → q < t.nodes → IsLow t laws c limit valid q s (pick q).0
-    low-at q l = (pick q).1 l
+    low_at : (q : ℕ) → q < t.nodes → IsLow t laws c limit valid q s (pick q).0
+    low_at q l = (pick q).1 l
 
     abbrev low_part : ℕ → ℕ → K
     low_part n q = cond (nat_le q n) (t.key q (s q)) (cond (nat_le (t.parent q) n) (bound_key t c q (pick q).0) t.none)
@@ -111,8 +111,8 @@ module _ {K : Type 0} (t : Problem K) (laws : IsProblem t) where
         below = λ q. (pick q).0;
         node = l;
         begun = begun;
-        row = is-row s sub n l;
-        fits = elim (cases_eq n 0) [ inl z ↦ inl z | inr x ↦ inr (fits-above s sub n (omega (arith, x)) l) ];
+        row = is_row s sub n l;
+        fits = elim (cases_eq n 0) [ inl z ↦ inl z | inr x ↦ inr (fits_above s sub n (omega (arith, x)) l) ];
         unlisted = λ i b e. unlisted i (
           b.0,
           λ q h. elim (cases_lt q n) [
@@ -121,9 +121,9 @@ module _ {K : Type 0} (t : Problem K) (laws : IsProblem t) where
           ],
         );
         bound = λ q more h _. serves t laws c limit valid q (s (t.parent q)) (s q) (pick q).0 (omega arith)
-            (fits-above s sub q (omega arith) h) (low-at q h).0;
+            (fits_above s sub q (omega arith) h) (low_at q h).0;
       },
-      subst (λ k. AtMost t.Below (sum_from t.add t.none (low_part n) t.nodes 0) k) (parts-whole t laws s n l)
+      subst (λ k. AtMost t.Below (sum_from t.add t.none (low_part n) t.nodes 0) k) (parts_whole t laws s n l)
           (sum_at_most t.Below t.add t.none laws.keys (low_part n) (part_at t laws s n) t.nodes 0
           (λ q a b. each q (omega (arith, b)))),
     )
@@ -144,7 +144,7 @@ module _ {K : Type 0} (t : Problem K) (laws : IsProblem t) where
                     subst (λ z. AtMost t.Below z (cond (nat_le (t.parent q) n) (subtree_key t q s) t.none))
                     (sym (pick_le (t.parent q) n (bound_key t c q (pick q).0) t.none open'))
                     (subst (λ z. AtMost t.Below (bound_key t c q (pick q).0) z)
-                    (sym (pick_le (t.parent q) n (subtree_key t q s) t.none open')) (low-at q h).1)
+                    (sym (pick_le (t.parent q) n (subtree_key t q s) t.none open')) (low_at q h).1)
               ]))
         ]
 
@@ -171,16 +171,16 @@ module _ {K : Type 0} (t : Problem K) (laws : IsProblem t) where
     after : IsOpened → ComesAfter
     after o = by c.ended refl (valid.passed o.0)
       where
-        below-most : (a b k : K) → t.Below a b → AtMost t.Below b k → t.Below a k
-        below-most a b k p (inl q) = laws.keys.order.transitive a b k p q
-        below-most a b k p (inr e) = subst (λ z. t.Below a z) e p
+        below_most : (a b k : K) → t.Below a b → AtMost t.Below b k → t.Below a k
+        below_most a b k p (inl q) = laws.keys.order.transitive a b k p q
+        below_most a b k p (inr e) = subst (λ z. t.Below a z) e p
 
         by : (ended : Bool) → c.ended ≡ ended → IsPassed t c ended o.0 → ComesAfter
         by true e h = absurd h
-        by false e h = (e, λ some. below-most _ _ _ (h some) o.1)
+        by false e h = (e, λ some. below_most _ _ _ (h some) o.1)
 
-    pub listed-or-after : IsListed ⊎ ComesAfter
-    listed-or-after = elim (search t.nodes (omega arith)) [
+    pub listed_or_after : IsListed ⊎ ComesAfter
+    listed_or_after = elim (search t.nodes (omega arith)) [
       | inr o ↦ inr (after o)
       | inl begun ↦ elim begun [
         | inl z ↦ let n = laws.some in absurd (omega (arith, z, n))

@@ -20,14 +20,14 @@ use Rattle.rank_key.specs.Keys.{IsInRange}
 use Rattle.anyk_model.specs.Table.{Table, most_rows, table_at}
 use Rattle.anyk_model.specs.Query.{OrderKey}
 use Rattle.csv_tables.specs.Tables.{IsSound}
-use Rattle.csv_tables.proofs.Places.{sound-few_rows}
+use Rattle.csv_tables.proofs.Places.{sound_few_rows}
 use Rattle.query_bind.specs.Parts.{sum_of_all}
-use Rattle.query_bind.specs.Weighed.{BoundQuery, Fits}
+use Rattle.query_bind.specs.WeighedQuery.{BoundQuery, Fits}
 use Rattle.query_bind.specs.Weights.{cap_of, key_at, part_of}
-use Rattle.query_bind.proofs.Parts.{nat_abs-add, part-capped}
-use Rattle.query_bind.proofs.Range.{caps-fit}
+use Rattle.query_bind.proofs.Parts.{nat_abs_add, part_capped}
+use Rattle.query_bind.proofs.Range.{caps_fit}
 use Rattle.query_shape.specs.Shape.{HasTree}
-use Rattle.step_bounds.proofs.NodeSums.{AreApart, fewer-nodes, over, sum-range}
+use Rattle.step_bounds.proofs.NodeSums.{AreApart, fewer_nodes, over, sum_range}
 use Rattle.proof_model.specs.Problem.{Problem}
 use Rattle.proof_model.specs.QueryProblem.{problem_of}
 use Rattle.proof_model.specs.Parts.{HaveFewRows, IsPart}
@@ -36,11 +36,11 @@ use Rattle.proof_model.specs.Wide.{wide}
 -- ---- wide keys
 
 -- a wide key is in range if its sums and its slots are
-pub wide-fits : (few d : ℕ) (k : KeyOf few 16) → few ≤ d
+pub wide_fits : (few d : ℕ) (k : KeyOf few 16) → few ≤ d
     → ((i : ℕ) → i < few → unsigned_abs (sum_of few 16 i k) < 2 ^ 127)
     → ((i : ℕ) → i < 16 → slot_of few 16 i k < 2 ^ 32)
     → IsInRange d (wide few d 16 k)
-wide-fits few d k less sums slots = (
+wide_fits few d k less sums slots = (
   λ i l. fits_signed_from_abs w128 (sum_of d 16 i (wide few d 16 k)) (at few d k i less sums l),
   λ i l. subst (λ (n : ℕ). n < 2 ^ 32) (sym (slot few d k i less)) (slots i l),
 )
@@ -64,9 +64,9 @@ wide-fits few d k less sums slots = (
 
 -- ---- the parts of the nodes of a query
 
-slot-small : (slot row i : ℕ) → i < 16 → row < 2 ^ 32
+slot_small : (slot row i : ℕ) → i < 16 → row < 2 ^ 32
     → get_or (set (replicate 16 0) slot row) i 0 ≤ cond (slot == i) (2 ^ 32 - 1) 0
-slot-small slot row i inside less = elim (cases_eq i slot) [
+slot_small slot row i inside less = elim (cases_eq i slot) [
   | inl same ↦
       let at : get_or (set (replicate 16 0) slot row) i 0 ≡ row =
       get_or-set_at (replicate 16 0) slot i row 0 same (omega arith) in
@@ -80,15 +80,15 @@ slot-small slot row i inside less = elim (cases_eq i slot) [
   )
 ]
 
-pub few-rows-at : (tables : List Table) (i : ℕ) → HaveFewRows tables → length (table_at tables i).rows ≤ most_rows
-few-rows-at [] i h = omega arith
-few-rows-at (t ∷ ts) zero h = h.0
-few-rows-at (t ∷ ts) (suc i) h = few-rows-at ts i h.1
+pub few_rows_at : (tables : List Table) (i : ℕ) → HaveFewRows tables → length (table_at tables i).rows ≤ most_rows
+few_rows_at [] i h = omega arith
+few_rows_at (t ∷ ts) zero h = h.0
+few_rows_at (t ∷ ts) (suc i) h = few_rows_at ts i h.1
 
 -- tables without a flaw have few rows
-pub sound-few : (tables : List Table) → AllByRecursion IsSound tables → HaveFewRows tables
-sound-few [] h = tt
-sound-few (t ∷ ts) h = (sound-few_rows t h.0, sound-few ts h.1)
+pub sound_few : (tables : List Table) → AllByRecursion IsSound tables → HaveFewRows tables
+sound_few [] h = tt
+sound_few (t ∷ ts) h = (sound_few_rows t h.0, sound_few ts h.1)
 
 module _ (bound : BoundQuery) (tables : List Table) (atoms parents : List ℕ) (fits : Fits bound tables)
     (few : HaveFewRows tables) (hung : HasTree bound.query atoms parents) where
@@ -110,10 +110,10 @@ module _ (bound : BoundQuery) (tables : List Table) (atoms parents : List ℕ) (
     differ = λ u v a b c. hung.join_tree.distinct u v b (omega (arith, c));
   }
 
-  row-small : (q row : ℕ) → t.IsRow q row → row < 2 ^ 32
-  row-small q row h =
+  row_small : (q row : ℕ) → t.IsRow q row → row < 2 ^ 32
+  row_small q row h =
       let l = h.1 in
-      let f = few-rows-at tables
+      let f = few_rows_at tables
       ((get_or bound.query.items (item q) (record { table = 0; alias = [] })).table) few in
       omega (arith, l, f)
 
@@ -124,48 +124,48 @@ module _ (bound : BoundQuery) (tables : List Table) (atoms parents : List ℕ) (
   abbrev weight : ℕ → KeyOf (length bound.query.order) 16 → ℕ
   weight i k = unsigned_abs (sum_of d 16 i k)
 
-  weight-add : (i : ℕ) (a b : KeyOf (length bound.query.order) 16)
+  weight_add : (i : ℕ) (a b : KeyOf (length bound.query.order) 16)
       → weight i (key_add d 16 a b) ≤ weight i a + weight i b
-  weight-add i a b =
+  weight_add i a b =
       subst (λ z. unsigned_abs z ≤ weight i a + weight i b) (sym (sum_of_add d 16 i a b))
-      (nat_abs-add (sum_of d 16 i a) (sum_of d 16 i b))
+      (nat_abs_add (sum_of d 16 i a) (sum_of d 16 i b))
 
-  weight-none : (i : ℕ) → weight i (key_none d 16) ≡ 0
-  weight-none i = ap unsigned_abs (sum_of_none d 16 i)
+  weight_none : (i : ℕ) → weight i (key_none d 16) ≡ 0
+  weight_none i = ap unsigned_abs (sum_of_none d 16 i)
 
-  row-weight : (i q row : ℕ) → i < d → weight i (t.key q row) ≤ sum_cap i (item q)
-  row-weight i q row l =
+  row_weight : (i q row : ℕ) → i < d → weight i (t.key q row) ≤ sum_cap i (item q)
+  row_weight i q row l =
       let part : OrderKey → ℤ = part_of tables bound.query.items (item q) row in
       let at : sum_of d 16 i (t.key q row) ≡ part (key_at bound.query.order i) =
       sum_of_lists d 16 i (map part bound.query.order) (set (replicate 16 0) (item q) row) l
       ∙ get_or-map part bound.query.order i (record { terms = []; descending = false }) (pos 0) l in
-      let small = part-capped tables bound.query.items row (item q) (key_at bound.query.order i) in
+      let small = part_capped tables bound.query.items row (item q) (key_at bound.query.order i) in
       subst (λ z. unsigned_abs z ≤ sum_cap i (item q)) (sym at) small
 
   abbrev slot_cap : ℕ → ℕ → ℕ
   slot_cap i item = cond (item == i) (2 ^ 32 - 1) 0
 
-  row-slot : (i q row : ℕ) → i < 16 → t.IsRow q row → slot_of d 16 i (t.key q row) ≤ slot_cap i (item q)
-  row-slot i q row l h =
+  row_slot : (i q row : ℕ) → i < 16 → t.IsRow q row → slot_of d 16 i (t.key q row) ≤ slot_cap i (item q)
+  row_slot i q row l h =
       let at = slot_of_lists d 16 i (map (part_of tables bound.query.items (item q) row) bound.query.order)
       (set (replicate 16 0) (item q) row) l in
-      let small = slot-small (item q) row i l (row-small q row h) in
+      let small = slot_small (item q) row i l (row_small q row h) in
       omega (arith, at, small)
 
-  slot-add : (i : ℕ) (a b : KeyOf (length bound.query.order) 16)
+  slot_add : (i : ℕ) (a b : KeyOf (length bound.query.order) 16)
       → slot_of d 16 i (key_add d 16 a b) ≤ slot_of d 16 i a + slot_of d 16 i b
-  slot-add i a b = let h = slot_of_add d 16 i a b in omega (arith, h)
+  slot_add i a b = let h = slot_of_add d 16 i a b in omega (arith, h)
 
   -- the slots of all items: each number is the slot of one item at most
-  slots-all : (i : ℕ) → over (slot_cap i) (length bound.query.items) ≤ 2 ^ 32 - 1
-  slots-all i = from (length bound.query.items) 0
+  slots_all : (i : ℕ) → over (slot_cap i) (length bound.query.items) ≤ 2 ^ 32 - 1
+  slots_all i = from (length bound.query.items) 0
     where
-      none-before : (n a : ℕ) → i < a → sum_of_all (map (slot_cap i) (range_with_len a n)) ≡ 0
-      none-before zero a h = refl
-      none-before (suc n) a h =
+      none_before : (n a : ℕ) → i < a → sum_of_all (map (slot_cap i) (range_with_len a n)) ≡ 0
+      none_before zero a h = refl
+      none_before (suc n) a h =
           let miss : (a == i) ≡ false = by (a == i) refl in
           let here : slot_cap i a ≡ 0 = ap (λ (b : Bool). cond {A = ℕ} b (2 ^ 32 - 1) 0) miss in
-          let rest = none-before n (a + 1) (omega (arith, h)) in
+          let rest = none_before n (a + 1) (omega (arith, h)) in
           omega (arith, here, rest)
         where
           by : (b : Bool) → (a == i) ≡ b → b ≡ false
@@ -180,7 +180,7 @@ module _ (bound : BoundQuery) (tables : List Table) (atoms parents : List ℕ) (
               → cond {A = ℕ} b (2 ^ 32 - 1) 0 + sum_of_all (map (slot_cap i) (range_with_len (a + 1) n)) ≤ 2 ^ 32 - 1
           by true e later =
               let s = (Decides-eqb a i).0 e in
-              let rest = none-before n (a + 1) (omega (arith, s)) in
+              let rest = none_before n (a + 1) (omega (arith, s)) in
               omega (arith, rest)
           by false e later = omega (arith, later)
 
@@ -189,38 +189,38 @@ module _ (bound : BoundQuery) (tables : List Table) (atoms parents : List ℕ) (
     abbrev whole : KeyOf (length bound.query.order) 16
     whole = sum_from (key_add d 16) (key_none d 16) part (length atoms) 0
 
-    part-weight : (i q : ℕ) → i < d → q < length atoms → weight i (part q) ≤ sum_cap i (item q)
-    part-weight i q l h = elim (parts q h) [
-      | inl none ↦ let e = ap (weight i) none in let z = weight-none i in omega (arith, e, z)
-      | inr row ↦ let e = ap (weight i) row.2 in let small = row-weight i q row.0 l in omega (arith, e, small)
+    part_weight : (i q : ℕ) → i < d → q < length atoms → weight i (part q) ≤ sum_cap i (item q)
+    part_weight i q l h = elim (parts q h) [
+      | inl none ↦ let e = ap (weight i) none in let z = weight_none i in omega (arith, e, z)
+      | inr row ↦ let e = ap (weight i) row.2 in let small = row_weight i q row.0 l in omega (arith, e, small)
     ]
 
-    part-slot : (i q : ℕ) → i < 16 → q < length atoms → slot_of d 16 i (part q) ≤ slot_cap i (item q)
-    part-slot i q l h = elim (parts q h) [
+    part_slot : (i q : ℕ) → i < 16 → q < length atoms → slot_of d 16 i (part q) ≤ slot_cap i (item q)
+    part_slot i q l h = elim (parts q h) [
       | inl none ↦ let e = ap (slot_of d 16 i) none in let z = slot_of_none d 16 i in omega (arith, e, z)
-      | inr row ↦ let e = ap (slot_of d 16 i) row.2 in let small = row-slot i q row.0 l row.1 in omega (arith, e, small)
+      | inr row ↦ let e = ap (slot_of d 16 i) row.2 in let small = row_slot i q row.0 l row.1 in omega (arith, e, small)
     ]
 
-    sums-small : (i : ℕ) → i < d → weight i whole < 2 ^ 127
-    sums-small i l =
-        let a = ranges.weight_sum (key_add d 16) (key_none d 16) (weight i) (weight-add i) (weight-none i) part
-        (λ v. sum_cap i (item v)) (length atoms) 0 (λ q _ b. part-weight i q l (omega (arith, b))) in
-        let e = sum-range (λ v. sum_cap i (item v)) (length atoms) 0 in
-        let b = fewer-nodes (length bound.query.items) item (length atoms) (sum_cap i) apart in
+    sums_small : (i : ℕ) → i < d → weight i whole < 2 ^ 127
+    sums_small i l =
+        let a = ranges.weight_sum (key_add d 16) (key_none d 16) (weight i) (weight_add i) (weight_none i) part
+        (λ v. sum_cap i (item v)) (length atoms) 0 (λ q _ b. part_weight i q l (omega (arith, b))) in
+        let e = sum_range (λ v. sum_cap i (item v)) (length atoms) 0 in
+        let b = fewer_nodes (length bound.query.items) item (length atoms) (sum_cap i) apart in
         let c : over (sum_cap i) (length bound.query.items) ≤ 170141183460469231731687303715884105727 =
-        caps-fit bound tables i fits l in
+        caps_fit bound tables i fits l in
         omega (arith, a, b, c, e)
 
-    slots-small : (i : ℕ) → i < 16 → slot_of d 16 i whole < 2 ^ 32
-    slots-small i l =
-        let a = ranges.weight_sum (key_add d 16) (key_none d 16) (slot_of d 16 i) (slot-add i)
+    slots_small : (i : ℕ) → i < 16 → slot_of d 16 i whole < 2 ^ 32
+    slots_small i l =
+        let a = ranges.weight_sum (key_add d 16) (key_none d 16) (slot_of d 16 i) (slot_add i)
         (slot_of_none d 16 i) part
-        (λ v. slot_cap i (item v)) (length atoms) 0 (λ q _ b. part-slot i q l (omega (arith, b))) in
-        let e = sum-range (λ v. slot_cap i (item v)) (length atoms) 0 in
-        let b = fewer-nodes (length bound.query.items) item (length atoms) (slot_cap i) apart in
-        let c = slots-all i in
+        (λ v. slot_cap i (item v)) (length atoms) 0 (λ q _ b. part_slot i q l (omega (arith, b))) in
+        let e = sum_range (λ v. slot_cap i (item v)) (length atoms) 0 in
+        let b = fewer_nodes (length bound.query.items) item (length atoms) (slot_cap i) apart in
+        let c = slots_all i in
         omega (arith, a, b, c, e)
 
-    pub sums-fit : (more : ℕ) → length bound.query.order ≤ more
+    pub sums_fit_lem : (more : ℕ) → length bound.query.order ≤ more
         → IsInRange more (wide (length bound.query.order) more 16 whole)
-    sums-fit more less = wide-fits (length bound.query.order) more whole less sums-small slots-small
+    sums_fit_lem more less = wide_fits (length bound.query.order) more whole less sums_small slots_small

@@ -9,4 +9,4 @@ pub mod QueryProblem
 pub mod Theorems
 pub mod Valid
 pub mod Wide
-pub mod Written
+pub mod WrittenProofs

@@ -9,7 +9,7 @@ use Rattle.step_bounds.specs.Steps.{reaches}
 use Rattle.proof_text.specs.Certificate.{Certificate}
 use Rattle.proof_text.specs.Writing.{proof_text}
 use Rattle.proof_model.specs.QueryProblem.{problem_of}
-use Rattle.proof_model.specs.Written.{IsWritten}
+use Rattle.proof_model.specs.WrittenProofs.{IsWritten}
 
 -- the text of the certificate for the query's ranking; it says `more` if the limit's number of answers was given
 abbrev pub IsProofText : Query → List Table → List ℕ → Type 0

@@ -1,12 +1,12 @@
 //! The bounds of a certificate beside the rows of a query.
 ghost use Rattle.std.specs.Prelude.{◌≡◌, ◌≤◌, ◌<◌, ℕ, length, IfErr, IfOk};
-ghost use Rattle.query_bind.specs.Weighed.{Fits};
-ghost use Rattle.query_shape.specs.Shown.{HasItems, HasStoredTree};
+ghost use Rattle.query_bind.specs.WeighedQuery.{Fits};
+ghost use Rattle.query_shape.specs.JoinTreeView.{HasItems, HasStoredTree};
 ghost use Rattle.join_tree.specs.Rerooting.{IsTree};
 ghost use Rattle.node_build.specs.Nodes.{CapsBelow};
-ghost use Rattle.proof_text.specs.Seen.{seen_proof};
+ghost use Rattle.proof_text.specs.ProofView.{seen_proof};
 ghost use Rattle.proof_model.specs.Faults.{TellsFlaw};
-ghost use Rattle.proof_bounds.specs.Bounded.{IsBounded};
+ghost use Rattle.proof_bounds.specs.BoundedRows.{IsBounded};
 
 use crate::rows::query_rows;
 use csv_tables::Tables;

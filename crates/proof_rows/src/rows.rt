@@ -1,12 +1,12 @@
 //! The rows of the nodes of a query that pass.
 ghost use Rattle.std.specs.Prelude.{◌≡◌, ◌≤◌, length, IfErr, IfOk, OnOk, Ok};
-ghost use Rattle.query_bind.specs.Weighed.{Fits};
+ghost use Rattle.query_bind.specs.WeighedQuery.{Fits};
 ghost use Rattle.query_shape.specs.Shape.{IsShape, Shape};
-ghost use Rattle.query_shape.specs.Shown.{HasStoredTree};
+ghost use Rattle.query_shape.specs.JoinTreeView.{HasStoredTree};
 ghost use Rattle.node_build.specs.Nodes.{CapsBelow};
 ghost use Rattle.proof_text.specs.Certificate.{Certificate};
 ghost use Rattle.proof_model.specs.Faults.{TellsFlaw};
-ghost use Rattle.proof_bounds.specs.Bounded.{HasProblemRows};
+ghost use Rattle.proof_bounds.specs.BoundedRows.{HasProblemRows};
 
 use csv_tables::Tables;
 use join_tree::JoinTree;

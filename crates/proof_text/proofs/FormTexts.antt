@@ -17,10 +17,10 @@ use Rattle.text_lines.specs.Parts.{parts}
 use Rattle.text_lines.proofs.Cuts.{lines_cut}
 use Rattle.proof_text.specs.Forms.{LineForm, bound, answer, last, bound_line, answer_line, numbers_line, numbers_of}
 use Rattle.proof_text.specs.Forms.{line_of, line_of_parts}
-use Rattle.proof_text.specs.Numbered.{IsShort, AreRows}
+use Rattle.proof_text.specs.NumberedProofs.{IsShort, AreRows}
 use Rattle.proof_text.specs.Writing.{spaced}
-use Rattle.proof_text.proofs.Numbers.{ink-decimal, numbers-written, numbers-read}
-use Rattle.proof_text.proofs.Turns.{many-parts}
+use Rattle.proof_text.proofs.Numbers.{ink_decimal, numbers_written, numbers_read}
+use Rattle.proof_text.proofs.Turns.{many_parts}
 
 abbrev pub form_text : LineForm → List ℕ
 form_text (bound node rows) = codes "bound" ++ spaced (node ∷ rows)
@@ -35,71 +35,71 @@ IsForm (last ended) = Unit {0}
 
 -- ---- the parts of a line that is written
 
-pub parts-spaced : (w : List ℕ) (ns : List ℕ) → All (λ b. 32 < b) w → AllByRecursion IsShort ns
+pub parts_spaced : (w : List ℕ) (ns : List ℕ) → All (λ b. 32 < b) w → AllByRecursion IsShort ns
     → parts (w ++ spaced ns) ≡ w ∷ map decimal ns
-parts-spaced w [] ink h =
+parts_spaced w [] ink h =
     ap parts (append-nil w)
     ∙ slice_split_none (λ b. eqb b 32) w
     (All-weaker (λ b. 32 < b) (λ b. eqb b 32 ≡ false) (λ b l. ne_eqb b 32 (λ e. omega (arith, e, l))) w ink)
-parts-spaced w (n ∷ ns) ink h =
+parts_spaced w (n ∷ ns) ink h =
     slice_split_at (λ b. eqb b 32) w 32 (decimal n ++ spaced ns)
     (All-weaker (λ b. 32 < b) (λ b. eqb b 32 ≡ false) (λ b l. ne_eqb b 32 (λ e. omega (arith, e, l))) w ink) refl
-    ∙ ap (λ (ps : List (List ℕ)). w ∷ ps) (parts-spaced (decimal n) ns (ink-decimal n h.0) h.1)
+    ∙ ap (λ (ps : List (List ℕ)). w ∷ ps) (parts_spaced (decimal n) ns (ink_decimal n h.0) h.1)
 
 joined : (w : List ℕ) (ns : List ℕ) → join_with_byte 32 (w ∷ map decimal ns) ≡ w ++ spaced ns
 joined w [] = sym (append-nil w)
 joined w (n ∷ ns) = ap (λ (t : List ℕ). w ++ 32 ∷ t) (joined (decimal n) ns)
 
-word-line : (w : List ℕ) (ns : List ℕ) → All (λ b. 32 < b) w → AllByRecursion IsShort ns → 0 < length ns
+word_line : (w : List ℕ) (ns : List ℕ) → All (λ b. 32 < b) w → AllByRecursion IsShort ns → 0 < length ns
     → line_of (w ++ spaced ns) ≡ numbers_line w (map decimal ns)
-word-line w ns ink h some =
-    ap line_of_parts (parts-spaced w ns ink h)
-    ∙ many-parts w (map decimal ns) (omega (arith, length-map ns decimal, some))
+word_line w ns ink h some =
+    ap line_of_parts (parts_spaced w ns ink h)
+    ∙ many_parts w (map decimal ns) (omega (arith, length-map ns decimal, some))
 
 -- all bytes of a text are greater than n
 pub above : (n : ℕ) (w : List ℕ) → list_all (λ b. ltb n b) w ≡ true → All (λ b. n < b) w
 above n w h =
     All-weaker (λ b. ltb n b ≡ true) (λ b. n < b) (λ b e. ltb-true n b e) w (AllPass-from_list_all (λ b. ltb n b) w h)
 
-ink-bound : All (λ b. 32 < b) (codes "bound")
-ink-bound = above 32 (codes "bound") refl
+ink_bound : All (λ b. 32 < b) (codes "bound")
+ink_bound = above 32 (codes "bound") refl
 
-ink-answer : All (λ b. 32 < b) (codes "answer")
-ink-answer = above 32 (codes "answer") refl
+ink_answer : All (λ b. 32 < b) (codes "answer")
+ink_answer = above 32 (codes "answer") refl
 
-bound-again : (node : ℕ) (rows : List ℕ) → 0 < length rows → bound_line (node ∷ rows) ≡ Some (bound node rows)
-bound-again node [] h = absurd (omega arith)
-bound-again node (r ∷ rows) h = refl
+bound_again : (node : ℕ) (rows : List ℕ) → 0 < length rows → bound_line (node ∷ rows) ≡ Some (bound node rows)
+bound_again node [] h = absurd (omega arith)
+bound_again node (r ∷ rows) h = refl
 
-answer-again : (rows : List ℕ) → 0 < length rows → answer_line rows ≡ Some (answer rows)
-answer-again [] h = absurd (omega arith)
-answer-again (r ∷ rows) h = refl
+answer_again : (rows : List ℕ) → 0 < length rows → answer_line rows ≡ Some (answer rows)
+answer_again [] h = absurd (omega arith)
+answer_again (r ∷ rows) h = refl
 
-last-again : (ended : Bool) → line_of (form_text (last ended)) ≡ Some (last ended)
+last_again : (ended : Bool) → line_of (form_text (last ended)) ≡ Some (last ended)
 unfolding line_of_parts
-last-again true = refl
-last-again false = refl
+last_again true = refl
+last_again false = refl
 
 -- what is written is read
-pub form-read : (f : LineForm) → IsForm f → line_of (form_text f) ≡ Some f
-form-read (bound node rows) h =
-    word-line (codes "bound") (node ∷ rows) ink-bound (h.0, h.1.1) (omega arith)
-    ∙ ap (λ (o : Option (List ℕ)). option_and_then bound_line o) (numbers-written (node ∷ rows) (h.0, h.1.1))
-    ∙ bound-again node rows h.1.0
-form-read (answer rows) h =
-    word-line (codes "answer") rows ink-answer h.1 h.0
-    ∙ ap (λ (o : Option (List ℕ)). option_and_then answer_line o) (numbers-written rows h.1)
-    ∙ answer-again rows h.0
-form-read (last ended) h = last-again ended
+pub form_read : (f : LineForm) → IsForm f → line_of (form_text f) ≡ Some f
+form_read (bound node rows) h =
+    word_line (codes "bound") (node ∷ rows) ink_bound (h.0, h.1.1) (omega arith)
+    ∙ ap (λ (o : Option (List ℕ)). option_and_then bound_line o) (numbers_written (node ∷ rows) (h.0, h.1.1))
+    ∙ bound_again node rows h.1.0
+form_read (answer rows) h =
+    word_line (codes "answer") rows ink_answer h.1 h.0
+    ∙ ap (λ (o : Option (List ℕ)). option_and_then answer_line o) (numbers_written rows h.1)
+    ∙ answer_again rows h.0
+form_read (last ended) h = last_again ended
 
 -- ---- what is read is written
 
-last-by : (more over : Bool) (f : LineForm)
+last_by : (more over : Bool) (f : LineForm)
     → cond more (Some (last false)) (cond over (Some (last true)) None) ≡ Some f
     → ((more ≡ true) × (f ≡ last false)) ⊎ ((over ≡ true) × (f ≡ last true))
-last-by true over f h = inl (refl, cc)
-last-by false true f h = inr (refl, cc)
-last-by false false f h = absurd cc
+last_by true over f h = inl (refl, cc)
+last_by false true f h = inr (refl, cc)
+last_by false false f h = absurd cc
 
 record Numbers (first : Bool) (o : Option (List ℕ)) (form : List ℕ → Option LineForm) (f : LineForm) : Type 0 where
   is : first ≡ true
@@ -107,89 +107,89 @@ record Numbers (first : Bool) (o : Option (List ℕ)) (form : List ℕ → Optio
   are : o ≡ Some numbers
   formed : form numbers ≡ Some f
 
-numbers-by : (b a : Bool) (o : Option (List ℕ)) (f : LineForm)
+numbers_by : (b a : Bool) (o : Option (List ℕ)) (f : LineForm)
     → cond b (option_and_then bound_line o) (cond a (option_and_then answer_line o) None) ≡ Some f
     → Numbers b o bound_line f ⊎ Numbers a o answer_line f
-numbers-by true a (Some ns) f h = inl (record { is = refl; numbers = ns; are = refl; formed = h })
-numbers-by true a None f h = absurd cc
-numbers-by false true (Some ns) f h = inr (record { is = refl; numbers = ns; are = refl; formed = h })
-numbers-by false true None f h = absurd cc
-numbers-by false false o f h = absurd cc
+numbers_by true a (Some ns) f h = inl (record { is = refl; numbers = ns; are = refl; formed = h })
+numbers_by true a None f h = absurd cc
+numbers_by false true (Some ns) f h = inr (record { is = refl; numbers = ns; are = refl; formed = h })
+numbers_by false true None f h = absurd cc
+numbers_by false false o f h = absurd cc
 
-bound-by : (ns : List ℕ) (f : LineForm) → bound_line ns ≡ Some f → AllByRecursion IsShort ns
+bound_by : (ns : List ℕ) (f : LineForm) → bound_line ns ≡ Some f → AllByRecursion IsShort ns
     → IsForm f × (codes "bound" ++ spaced ns ≡ form_text f)
-bound-by [] f h all = absurd cc
-bound-by (n ∷ []) f h all = absurd cc
-bound-by (n ∷ r ∷ rs) f h all =
+bound_by [] f h all = absurd cc
+bound_by (n ∷ []) f h all = absurd cc
+bound_by (n ∷ r ∷ rs) f h all =
     let e : bound n (r ∷ rs) ≡ f = cc in
     subst (λ g. IsForm g × (codes "bound" ++ spaced (n ∷ r ∷ rs) ≡ form_text g)) e
     ((all.0, (omega arith, all.1)), refl)
 
-answer-by : (ns : List ℕ) (f : LineForm) → answer_line ns ≡ Some f → AllByRecursion IsShort ns
+answer_by : (ns : List ℕ) (f : LineForm) → answer_line ns ≡ Some f → AllByRecursion IsShort ns
     → IsForm f × (codes "answer" ++ spaced ns ≡ form_text f)
-answer-by [] f h all = absurd cc
-answer-by (r ∷ rs) f h all =
+answer_by [] f h all = absurd cc
+answer_by (r ∷ rs) f h all =
     let e : answer (r ∷ rs) ≡ f = cc in
     subst (λ g. IsForm g × (codes "answer" ++ spaced (r ∷ rs) ≡ form_text g)) e ((omega arith, all), refl)
 
-word-is : (w v : List ℕ) → bytes_eq w v ≡ true → w ≡ v
-word-is w v h = search (rules, bytes_eq-Decides)
+word_is : (w v : List ℕ) → bytes_eq w v ≡ true → w ≡ v
+word_is w v h = search (rules, bytes_eq-Decides)
 
-said-by : (ps : List (List ℕ)) (f : LineForm) → line_of_parts ps ≡ Some f
+said_by : (ps : List (List ℕ)) (f : LineForm) → line_of_parts ps ≡ Some f
     → IsForm f × (join_with_byte 32 ps ≡ form_text f)
 unfolding line_of_parts
-said-by [] f h = absurd cc
-said-by (w ∷ []) f h = elim (last-by (bytes_eq w (codes "more")) (bytes_eq w (codes "end")) f h) [
-  | inl m ↦ subst (λ g. IsForm g × (w ≡ form_text g)) (sym m.1) (tt, word-is w (codes "more") m.0)
-  | inr m ↦ subst (λ g. IsForm g × (w ≡ form_text g)) (sym m.1) (tt, word-is w (codes "end") m.0)
+said_by [] f h = absurd cc
+said_by (w ∷ []) f h = elim (last_by (bytes_eq w (codes "more")) (bytes_eq w (codes "end")) f h) [
+  | inl m ↦ subst (λ g. IsForm g × (w ≡ form_text g)) (sym m.1) (tt, word_is w (codes "more") m.0)
+  | inr m ↦ subst (λ g. IsForm g × (w ≡ form_text g)) (sym m.1) (tt, word_is w (codes "end") m.0)
 ]
-said-by (w ∷ p ∷ ps) f h =
-    elim (numbers-by (bytes_eq w (codes "bound")) (bytes_eq w (codes "answer")) (numbers_of (p ∷ ps)) f h) [
+said_by (w ∷ p ∷ ps) f h =
+    elim (numbers_by (bytes_eq w (codes "bound")) (bytes_eq w (codes "answer")) (numbers_of (p ∷ ps)) f h) [
       | inl m ↦
-          let r = numbers-read (p ∷ ps) m.numbers m.are in
-          let b = bound-by m.numbers f m.formed r.1 in (
+          let r = numbers_read (p ∷ ps) m.numbers m.are in
+          let b = bound_by m.numbers f m.formed r.1 in (
             b.0,
             ap (λ (ts : List (List ℕ)). join_with_byte 32 (w ∷ ts)) r.0 ∙ joined w m.numbers
-                ∙ ap (λ (v : List ℕ). v ++ spaced m.numbers) (word-is w (codes "bound") m.is) ∙ b.1,
+                ∙ ap (λ (v : List ℕ). v ++ spaced m.numbers) (word_is w (codes "bound") m.is) ∙ b.1,
           )
       | inr m ↦
-          let r = numbers-read (p ∷ ps) m.numbers m.are in
-          let b = answer-by m.numbers f m.formed r.1 in (
+          let r = numbers_read (p ∷ ps) m.numbers m.are in
+          let b = answer_by m.numbers f m.formed r.1 in (
             b.0,
             ap (λ (ts : List (List ℕ)). join_with_byte 32 (w ∷ ts)) r.0 ∙ joined w m.numbers
-                ∙ ap (λ (v : List ℕ). v ++ spaced m.numbers) (word-is w (codes "answer") m.is) ∙ b.1,
+                ∙ ap (λ (v : List ℕ). v ++ spaced m.numbers) (word_is w (codes "answer") m.is) ∙ b.1,
           )
     ]
 
-pub form-said : (text : List ℕ) (f : LineForm) → line_of text ≡ Some f → IsForm f × (text ≡ form_text f)
-form-said text f h =
-    let s = said-by (parts text) f h in
+pub form_said : (text : List ℕ) (f : LineForm) → line_of text ≡ Some f → IsForm f × (text ≡ form_text f)
+form_said text f h =
+    let s = said_by (parts text) f h in
     (s.0, sym (join_with_byte-slice_split 32 text) ∙ s.1)
 
 -- ---- lines
 
-clean-spaced : (ns : List ℕ) → AllByRecursion IsShort ns → All (λ b. 31 < b) (spaced ns)
-clean-spaced [] h = All-nil (λ b. 31 < b)
-clean-spaced (n ∷ ns) h =
+clean_spaced : (ns : List ℕ) → AllByRecursion IsShort ns → All (λ b. 31 < b) (spaced ns)
+clean_spaced [] h = All-nil (λ b. 31 < b)
+clean_spaced (n ∷ ns) h =
     All-cons (λ b. 31 < b) 32 (decimal n ++ spaced ns) (omega arith)
     (All-append (λ b. 31 < b) (decimal n) (spaced ns)
-    (All-weaker (λ b. 32 < b) (λ b. 31 < b) (λ b l. omega (arith, l)) (decimal n) (ink-decimal n h.0))
-    (clean-spaced ns h.1))
+    (All-weaker (λ b. 32 < b) (λ b. 31 < b) (λ b l. omega (arith, l)) (decimal n) (ink_decimal n h.0))
+    (clean_spaced ns h.1))
 
-clean-word : (w : List ℕ) (ns : List ℕ) → All (λ b. 32 < b) w → AllByRecursion IsShort ns
+clean_word : (w : List ℕ) (ns : List ℕ) → All (λ b. 32 < b) w → AllByRecursion IsShort ns
     → All (λ b. 31 < b) (w ++ spaced ns)
-clean-word w ns ink h =
+clean_word w ns ink h =
     All-append (λ b. 31 < b) w (spaced ns) (All-weaker (λ b. 32 < b) (λ b. 31 < b) (λ b l. omega (arith, l)) w ink)
-    (clean-spaced ns h)
+    (clean_spaced ns h)
 
-clean-last : (ended : Bool) → All (λ b. 31 < b) (form_text (last ended))
-clean-last true = above 31 (codes "end") refl
-clean-last false = above 31 (codes "more") refl
+clean_last : (ended : Bool) → All (λ b. 31 < b) (form_text (last ended))
+clean_last true = above 31 (codes "end") refl
+clean_last false = above 31 (codes "more") refl
 
 clean : (f : LineForm) → IsForm f → All (λ b. 31 < b) (form_text f)
-clean (bound node rows) h = clean-word (codes "bound") (node ∷ rows) ink-bound (h.0, h.1.1)
-clean (answer rows) h = clean-word (codes "answer") rows ink-answer h.1
-clean (last ended) h = clean-last ended
+clean (bound node rows) h = clean_word (codes "bound") (node ∷ rows) ink_bound (h.0, h.1.1)
+clean (answer rows) h = clean_word (codes "answer") rows ink_answer h.1
+clean (last ended) h = clean_last ended
 
 kept : (x : List ℕ) → All (λ b. 31 < b) x → strip_carriage_return x ≡ x
 kept [] h = refl
@@ -198,13 +198,13 @@ kept (b ∷ bs) h =
     let at : 31 < get_or x (length x - 1) 0 = All-get_or (λ c. 31 < c) x (length x - 1) 0 (omega arith) h in
     cond-false _ _ _ (ne_eqb (slice_index x (length x - 1)) 13 (λ e. omega (arith, e, at)))
 
-pub lines-line : (x rest : List ℕ) → All (λ b. 31 < b) x → lines (x ++ 10 ∷ rest) ≡ x ∷ lines rest
-lines-line x rest h =
+pub lines_line : (x rest : List ℕ) → All (λ b. 31 < b) x → lines (x ++ 10 ∷ rest) ≡ x ∷ lines rest
+lines_line x rest h =
     ap lines_of_parts (slice_split_at (λ b. eqb b 10) x 10 rest
     (All-weaker (λ b. 31 < b) (λ b. eqb b 10 ≡ false) (λ b l. ne_eqb b 10 (λ e. omega (arith, e, l))) x h) refl)
     ∙ lines_cut x (slice_split (λ b. eqb b 10) rest) (omega (arith, length-slice_split (λ b. eqb b 10) rest))
     ∙ ap (λ (y : List ℕ). y ∷ lines rest) (kept x h)
 
-pub lines-form : (f : LineForm) (rest : List ℕ) → IsForm f
+pub lines_form : (f : LineForm) (rest : List ℕ) → IsForm f
     → lines (form_text f ++ 10 ∷ rest) ≡ form_text f ∷ lines rest
-lines-form f rest h = lines-line (form_text f) rest (clean f h)
+lines_form f rest h = lines_line (form_text f) rest (clean f h)

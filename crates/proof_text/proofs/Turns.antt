@@ -12,36 +12,36 @@ use Rattle.proof_text.specs.Certificate.{Certificate}
 use Rattle.proof_text.specs.Forms.{last_line, line_of, line_of_parts, numbers_line}
 use Rattle.proof_text.specs.Reading.{Lines, Fails, by_line, no_lines, proof_of, proof_of_lines, read_from}
 
-pub one-part : (text word : List ℕ) → parts text ≡ word ∷ [] → line_of text ≡ last_line word
+pub one_part : (text word : List ℕ) → parts text ≡ word ∷ [] → line_of text ≡ last_line word
 unfolding line_of_parts
-one-part text word e = ap line_of_parts e
+one_part text word e = ap line_of_parts e
 
-pub many-parts : (word : List ℕ) (ps : List (List ℕ)) → 0 < length ps
+pub many_parts : (word : List ℕ) (ps : List (List ℕ)) → 0 < length ps
     → line_of_parts (word ∷ ps) ≡ numbers_line word ps
 unfolding line_of_parts
-many-parts word [] h = absurd (omega arith)
-many-parts word (p ∷ ps) h = refl
+many_parts word [] h = absurd (omega arith)
+many_parts word (p ∷ ps) h = refl
 
-pub some-parts : (text word rest : List ℕ) → parts text ≡ word ∷ parts rest
+pub some_parts : (text word rest : List ℕ) → parts text ≡ word ∷ parts rest
     → line_of text ≡ numbers_line word (parts rest)
-some-parts text word rest e =
-    ap line_of_parts e ∙ many-parts word (parts rest) (omega (arith, length-slice_split (λ b. eqb b 32) rest))
+some_parts text word rest e =
+    ap line_of_parts e ∙ many_parts word (parts rest) (omega (arith, length-slice_split (λ b. eqb b 32) rest))
 
 pub turn : (n : ℕ) (read : Lines) (lines : List (List ℕ)) (text : List ℕ) (more : List (List ℕ)) → lines ≡ text ∷ more
     → read_from n read lines ≡ by_line n read (line_of text) more (λ after. read_from (n + 1) after more)
 unfolding read_from
 turn n read lines text more e = ap (read_from n read) e
 
-pub no-turn : (n : ℕ) (read : Lines) (lines : List (List ℕ)) → lines ≡ [] → read_from n read lines ≡ Err (BadLine n)
+pub no_turn : (n : ℕ) (read : Lines) (lines : List (List ℕ)) → lines ≡ [] → read_from n read lines ≡ Err (BadLine n)
 unfolding read_from
-no-turn n read lines e = ap (read_from n read) e
+no_turn n read lines e = ap (read_from n read) e
 
-pub fails-so : (r all : Result Certificate ProofFault) (e : ProofFault) → r ≡ all → Fails r e → Fails all e
-fails-so r all e same h = subst (λ z. Fails z e) same h
+pub fails_so : (r all : Result Certificate ProofFault) (e : ProofFault) → r ≡ all → Fails r e → Fails all e
+fails_so r all e same h = subst (λ z. Fails z e) same h
 
-pub after-header : (bytes first : List ℕ) (more : List (List ℕ)) → lines bytes ≡ first ∷ more
+pub after_header : (bytes first : List ℕ) (more : List (List ℕ)) → lines bytes ≡ first ∷ more
     → bytes_eq first (codes "anyk-proof 1") ≡ true
     → proof_of bytes ≡ read_from 2 no_lines more
-after-header bytes first more e h =
+after_header bytes first more e h =
     ap proof_of_lines e ∙ cond-true (bytes_eq first (codes "anyk-proof 1")) (read_from 2 no_lines more)
     (Err BadHeader) h

@@ -1,6 +1,6 @@
 pub mod Certificate
 pub mod Forms
-pub mod Numbered
+pub mod NumberedProofs
 pub mod Reading
-pub mod Seen
+pub mod ProofView
 pub mod Writing

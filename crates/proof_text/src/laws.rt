@@ -2,7 +2,7 @@
 
 ghost use Rattle.std.specs.Prelude.{◌≡◌, Ok};
 ghost use Rattle.proof_text.specs.Certificate.{Certificate};
-ghost use Rattle.proof_text.specs.Numbered.{IsNumbered};
+ghost use Rattle.proof_text.specs.NumberedProofs.{IsNumbered};
 ghost use Rattle.proof_text.specs.Reading.{proof_of};
 ghost use Rattle.proof_text.specs.Writing.{proof_text};
 

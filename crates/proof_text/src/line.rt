@@ -4,7 +4,7 @@ ghost use Rattle.std.specs.Prelude.{◌≡◌, option_map, IfOk};
 ghost use Rattle.std.specs.Str.{bytes_eq};
 ghost use Rattle.text_lines.specs.Parts.{parts};
 ghost use Rattle.proof_text.specs.Forms.{answer_line, bound_line, last_line, line_of, numbers_line};
-ghost use Rattle.proof_text.specs.Seen.{seen_line};
+ghost use Rattle.proof_text.specs.ProofView.{seen_line};
 
 use crate::number::read_numbers;
 use std::alloc::{AllocFailed, Global};

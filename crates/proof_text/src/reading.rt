@@ -7,9 +7,9 @@ ghost use Rattle.proof_text.specs.declared.fault.ProofFault.{ProofFault};
 ghost use Rattle.proof_text.specs.declared.fault.ProofFault.TheVariants.{NoMemory};
 ghost use Rattle.proof_text.specs.Certificate.{Certificate};
 ghost use Rattle.proof_text.specs.Forms.{line_of};
-ghost use Rattle.proof_text.specs.Numbered.{IsNumbered};
+ghost use Rattle.proof_text.specs.NumberedProofs.{IsNumbered};
 ghost use Rattle.proof_text.specs.Reading.{Lines, Fails, at_last, by_line, no_lines, proof_of, read_from};
-ghost use Rattle.proof_text.specs.Seen.{lines_of, seen_proof};
+ghost use Rattle.proof_text.specs.ProofView.{lines_of, seen_proof};
 ghost use Rattle.proof_text.specs.Writing.{proof_text};
 
 use crate::fault::ProofFault;

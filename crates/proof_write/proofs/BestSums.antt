@@ -18,7 +18,7 @@ use Rattle.tdp_core.proofs.TreeFacts.{best_least}
 use Rattle.proof_model.proofs.Splitting.{within_split}
 use Rattle.proof_model.proofs.Sums.{pick_eq, pick_ne}
 use Rattle.proof_write.specs.Firsts.{IsFirst, IsUnder}
-use Rattle.proof_write.proofs.NodeBounds.{early, itself, row-there}
+use Rattle.proof_write.proofs.NodeBounds.{early, itself, row_there}
 
 module _ {R : Type 0} (d : ℕ) (key : R → KeyOf d 16) (tree : List (NodeData R)) (formed : IsFormed d key tree) where
   -- the sum of the keys of the chosen rows of the subtree of node v
@@ -34,9 +34,9 @@ module _ {R : Type 0} (d : ℕ) (key : R → KeyOf d 16) (tree : List (NodeData 
       (parent tree) (early d key tree formed) (λ q. rank tree d key q (chosen q)) v l
 
   -- a child of a node of the subtree is in the subtree
-  kid-under : (v w q : ℕ) → v ≤ w → w < q → q < length tree → parent tree q ≡ w → 0 < is_below (parent tree) v w
+  kid_under : (v w q : ℕ) → v ≤ w → w < q → q < length tree → parent tree q ≡ w → 0 < is_below (parent tree) v w
       → 0 < is_below (parent tree) v q
-  kid-under v w q from less l up under =
+  kid_under v w q from less l up under =
       let same = below_parent (length tree) (parent tree) (early d key tree formed) v q (omega (arith, less)) l
       (λ e. omega (arith, e, less, from)) in
       let there = ap (is_below (parent tree) v) up in
@@ -46,15 +46,15 @@ module _ {R : Type 0} (d : ℕ) (key : R → KeyOf d 16) (tree : List (NodeData 
 
   module _ (v g : ℕ) (node : v < length tree) (there : g < group_count tree v) (numbers : List ℕ)
       (first : IsFirst tree v g numbers) where
-    kid-same : (w q : ℕ) → v ≤ w → w < q → q < length tree → 0 < is_below (parent tree) v w
+    kid_same : (w q : ℕ) → v ≤ w → w < q → q < length tree → 0 < is_below (parent tree) v w
         → (parent tree q ≡ w → chosen_key first.chosen q ≡ best tree d key q (first.chosen q))
         → kid_part (key_add d 16) (key_none d 16) (length tree) (parent tree) (rank tree d key) (group tree)
         (best tree d key) w (first.chosen w) q
         ≡ kid_key (key_none d 16) (parent tree) w (chosen_key first.chosen) q
     unfolding kid_part kid_key
-    kid-same w q from less l under same = elim (cases_eq (parent tree q) w) [
+    kid_same w q from less l under same = elim (cases_eq (parent tree q) w) [
       | inl e ↦
-          let u : IsUnder tree v q = (l, kid-under v w q from less l e under) in
+          let u : IsUnder tree v q = (l, kid_under v w q from less l e under) in
           let own : first.chosen q ≡ get_or (group tree q (first.chosen w)) 0 0 =
           first.named q (omega (arith, from, less)) u ∙ ap (λ p. get_or (group tree q (first.chosen p)) 0 0) e in
           pick_eq (parent tree q) w (best tree d key q (get_or (group tree q (first.chosen w)) 0 0)) (key_none d 16) e
@@ -65,10 +65,10 @@ module _ {R : Type 0} (d : ℕ) (key : R → KeyOf d 16) (tree : List (NodeData 
           ∙ sym (pick_ne (parent tree q) w (chosen_key first.chosen q) (key_none d 16) n)
     ]
 
-    best-sum : (f w : ℕ) → length tree ≤ f + w → v ≤ w → IsUnder tree v w
+    best_sum : (f w : ℕ) → length tree ≤ f + w → v ≤ w → IsUnder tree v w
         → chosen_key first.chosen w ≡ best tree d key w (first.chosen w)
-    best-sum zero w e from u = let l = u.0 in absurd (omega (arith, e, l))
-    best-sum (suc f) w e from u =
+    best_sum zero w e from u = let l = u.0 in absurd (omega (arith, e, l))
+    best_sum (suc f) w e from u =
         splits first.chosen w u.0
         ∙ ap (λ k. key_add d 16 (rank tree d key w (first.chosen w)) k)
         (sym (sum_same (key_below d 16) (key_add d 16) (key_none d 16) (tuple_keys d 16)
@@ -77,28 +77,28 @@ module _ {R : Type 0} (d : ℕ) (key : R → KeyOf d 16) (tree : List (NodeData 
         (kid_key (key_none d 16) (parent tree) w (chosen_key first.chosen)) (length tree - suc w) (suc w)
         (λ q a b.
         let l : q < length tree = (let lw = u.0 in omega (arith, a, b, lw)) in
-        kid-same w q from (omega (arith, a)) l u.1 (λ up.
-        best-sum f q (omega (arith, e, a)) (omega (arith, from, a))
-        (l, kid-under v w q from (omega (arith, a)) l up u.1)))))
-        ∙ sym (formed.bests w (first.chosen w) u.0 (row-there d key tree formed v node g there numbers first w u))
+        kid_same w q from (omega (arith, a)) l u.1 (λ up.
+        best_sum f q (omega (arith, e, a)) (omega (arith, from, a))
+        (l, kid_under v w q from (omega (arith, a)) l up u.1)))))
+        ∙ sym (formed.bests w (first.chosen w) u.0 (row_there d key tree formed v node g there numbers first w u))
 
     -- has the least key of the group's first row
-    pub first-sum : chosen_key first.chosen v ≡ best tree d key v (get_or (members tree v g) 0 0)
-    first-sum = best-sum (length tree) v (omega arith) (omega arith) (itself d key tree formed v node)
+    pub first_sum : chosen_key first.chosen v ≡ best tree d key v (get_or (members tree v g) 0 0)
+    first_sum = best_sum (length tree) v (omega arith) (omega arith) (itself d key tree formed v node)
         ∙ ap (best tree d key v) first.top
 
   -- ---- any solution of a subtree
 
   module _ (v : ℕ) (chosen : ℕ → ℕ)
       (linked : (q : ℕ) → v < q → IsUnder tree v q → Contains (group tree q (chosen (parent tree q))) (chosen q)) where
-    has-sum : (depth w : ℕ) → length tree ≤ depth + w → v ≤ w → IsUnder tree v w
+    has_sum : (depth w : ℕ) → length tree ≤ depth + w → v ≤ w → IsUnder tree v w
         → RowHas (key_add d 16) (key_none d 16) (length tree) (parent tree) (rank tree d key) (group tree) depth w
         (chosen w) (chosen_key chosen w)
-    has-sum zero w e from u = let l = u.0 in absurd (omega (arith, e, l))
-    has-sum (suc depth) w e from u = (
+    has_sum zero w e from u = let l = u.0 in absurd (omega (arith, e, l))
+    has_sum (suc depth) w e from u = (
       chosen_key chosen,
       λ q less l up.
-          let under : IsUnder tree v q = (l, kid-under v w q from less l up u.1) in
+          let under : IsUnder tree v q = (l, kid_under v w q from less l up u.1) in
           let c = linked q (omega (arith, from, less)) under in
           let i : ℕ = c.0 in
           let inside : i < length (group tree q (chosen (parent tree q))) = c.1 in
@@ -109,23 +109,23 @@ module _ {R : Type 0} (d : ℕ) (key : R → KeyOf d 16) (tree : List (NodeData 
             subst (λ x. RowHas (key_add d 16) (key_none d 16) (length tree) (parent tree) (rank tree d key)
                 (group tree) depth q x (chosen_key chosen q))
                 (sym (subst (λ p. get_or (group tree q (chosen p)) i 0 ≡ chosen q) up at))
-                (has-sum depth q (omega (arith, e, less)) (omega (arith, from, less)) under),
+                (has_sum depth q (omega (arith, e, less)) (omega (arith, from, less)) under),
           ),
       splits chosen w u.0,
     )
 
     -- has no lesser key than the best of its first row
-    pub sum-least : (node : v < length tree) → chosen v < rows tree v
+    pub sum_least : (node : v < length tree) → chosen v < rows tree v
         → AtMost (key_below d 16) (best tree d key v (chosen v)) (chosen_key chosen v)
-    sum-least node row =
+    sum_least node row =
         best_least d key tree formed (length tree) v (chosen v) (chosen_key chosen v) node row
-        (has-sum (length tree) v (omega arith) (omega arith) (itself d key tree formed v node))
+        (has_sum (length tree) v (omega arith) (omega arith) (itself d key tree formed v node))
 
   -- the first row of a group has the least best
-  pub first-best : (v g i : ℕ) → v < length tree → i < length (members tree v g)
+  pub first_best : (v g i : ℕ) → v < length tree → i < length (members tree v g)
       → AtMost (key_below d 16) (best tree d key v (get_or (members tree v g) 0 0))
       (best tree d key v (get_or (members tree v g) i 0))
-  first-best v g i l inside =
+  first_best v g i l inside =
       climbs_ordered (λ x y. AtMost (key_below d 16) (best tree d key v (get_or (members tree v g) x 0))
       (best tree d key v (get_or (members tree v g) y 0))) (length (members tree v g))
       (λ x. inr refl) (λ x y z p s. at_most_trans (key_below d 16) (tuple_keys d 16).order _ _ _ p s)

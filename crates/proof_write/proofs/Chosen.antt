@@ -31,15 +31,15 @@ pub record HasChosen {R : Type 0} (tree : List (NodeData R)) (v g n : ℕ) (chos
   pub own : (q : ℕ) → q < n → IsUnder tree v q → slice_index numbers (item tree q) ≡ number tree q (row_at chosen q)
   pub others : (i : ℕ) → ((q : ℕ) → q < n → IsUnder tree v q → item tree q ≢ i) → slice_index numbers i ≡ 0
 
-none-at : (k q : ℕ) → get_or {A = Option ℕ} (replicate k None) q None ≡ None
-none-at k q = elim (cases_lt q k) [
+none_at : (k q : ℕ) → get_or {A = Option ℕ} (replicate k None) q None ≡ None
+none_at k q = elim (cases_lt q k) [
   | inl inside ↦ get_or-replicate k q None None inside
   | inr past ↦ let none : Option ℕ = None in get_or_past (replicate k none) q none
       (let n = length-replicate k none in omega (arith, n, past))
 ]
 
-zero-at : (k q : ℕ) → get_or {A = ℕ} (replicate k 0) q 0 ≡ 0
-zero-at k q = elim (cases_lt q k) [
+zero_at : (k q : ℕ) → get_or {A = ℕ} (replicate k 0) q 0 ≡ 0
+zero_at k q = elim (cases_lt q k) [
   | inl inside ↦ get_or-replicate k q 0 0 inside
   | inr past ↦ let none : ℕ = 0 in get_or_past (replicate k none) q none
       (let n = length-replicate k none in omega (arith, n, past))
@@ -51,8 +51,8 @@ module _ {R : Type 0} (d : ℕ) (key : R → KeyOf d 16) (tree : List (NodeData 
   early = formed.shaped.parents_first
 
   -- a node is in the subtree or not
-  pub is-under : (q : ℕ) → q < length tree → IsUnder tree v q ⊎ (is_below (parent tree) v q ≡ 0)
-  is-under q l = elim (cases_lt 0 (is_below (parent tree) v q)) [
+  pub is_under : (q : ℕ) → q < length tree → IsUnder tree v q ⊎ (is_below (parent tree) v q ≡ 0)
+  is_under q l = elim (cases_lt 0 (is_below (parent tree) v q)) [
     | inl some ↦ inl (l, some)
     | inr none ↦ inr (omega (arith, none))
   ]
@@ -60,16 +60,16 @@ module _ {R : Type 0} (d : ℕ) (key : R → KeyOf d 16) (tree : List (NodeData 
   itself : IsUnder tree v v
   itself = (node, (let b = below_itself (length tree) (parent tree) early v v refl in omega (arith, b)))
 
-  under-from : (q : ℕ) → IsUnder tree v q → v ≤ q
-  under-from q u = elim (cases_lt q v) [
+  under_from : (q : ℕ) → IsUnder tree v q → v ≤ q
+  under_from q u = elim (cases_lt q v) [
     | inl less ↦ let z = below_less (length tree) (parent tree) early v q u.0 less in let s = u.1 in absurd
         (omega (arith, z, s))
     | inr more ↦ more
   ]
 
   -- a node after v is in the subtree if and only if its parent is
-  under-up : (q : ℕ) → v < q → IsUnder tree v q → IsUnder tree v (parent tree q)
-  under-up q after u =
+  under_up : (q : ℕ) → v < q → IsUnder tree v q → IsUnder tree v (parent tree q)
+  under_up q after u =
       let low = early q (omega (arith, after)) u.0 in
       let l = u.0 in
       let s = u.1 in
@@ -77,8 +77,8 @@ module _ {R : Type 0} (d : ℕ) (key : R → KeyOf d 16) (tree : List (NodeData 
       (λ e. omega (arith, e, after)) in
       (omega (arith, low, l), omega (arith, same, s))
 
-  under-down : (q : ℕ) → v < q → q < length tree → IsUnder tree v (parent tree q) → IsUnder tree v q
-  under-down q after l u =
+  under_down : (q : ℕ) → v < q → q < length tree → IsUnder tree v (parent tree q) → IsUnder tree v q
+  under_down q after l u =
       let s = u.1 in
       let same = below_parent (length tree) (parent tree) early v q (omega (arith, after)) l
       (λ e. omega (arith, e, after)) in
@@ -91,9 +91,9 @@ module _ {R : Type 0} (d : ℕ) (key : R → KeyOf d 16) (tree : List (NodeData 
   zeros = replicate 16 0
 
   -- at first only v has a row
-  pub chosen-start : (row : ℕ) → row ≡ slice_index (members tree v g) 0 → row < rows tree v
+  pub chosen_start : (row : ℕ) → row ≡ slice_index (members tree v g) 0 → row < rows tree v
       → HasChosen tree v g (v + 1) (set nones v (Some row)) (set zeros (item tree v) (number tree v row))
-  chosen-start row is inside =
+  chosen_start row is inside =
       let few = formed.shaped.few_nodes in
       let room : v < length nones = (let n = length-replicate 16 (let none : Option ℕ = None in none) in omega
       (arith, n, few, node)) in
@@ -102,7 +102,7 @@ module _ {R : Type 0} (d : ℕ) (key : R → KeyOf d 16) (tree : List (NodeData 
       (arith, n, i)) in
       let here : get_or (set nones v (Some row)) v None ≡ Some row = get_or-set_same nones v (Some row) None room in
       let only : (q : ℕ) → q < v + 1 → IsUnder tree v q
-      → q ≡ v = λ q low u. (let from = under-from q u in omega (arith, low, from)) in
+      → q ≡ v = λ q low u. (let from = under_from q u in omega (arith, low, from)) in
       record {
         long = length-set nones v (Some row) ∙ length-replicate 16 (let none : Option ℕ = None in none);
         count = length-set zeros (item tree v) (number tree v row) ∙ length-replicate 16 (let none : ℕ = 0 in none);
@@ -113,7 +113,7 @@ module _ {R : Type 0} (d : ℕ) (key : R → KeyOf d 16) (tree : List (NodeData 
         );
         elsewhere = λ q gone. elim (cases_eq q v) [
           | inl e ↦ absurd (gone (omega (arith, e)) (subst (IsUnder tree v) (sym e) itself))
-          | inr other ↦ get_or-set_other nones v q (Some row) None other ∙ none-at 16 q
+          | inr other ↦ get_or-set_other nones v q (Some row) None other ∙ none_at 16 q
         ];
         top = ap (λ o. unwrap_or o 0) here ∙ is;
         named = λ q after low u. absurd (omega (arith, after, low));
@@ -124,14 +124,14 @@ module _ {R : Type 0} (d : ℕ) (key : R → KeyOf d 16) (tree : List (NodeData 
             ∙ sym (ap (λ o. number tree v (unwrap_or o 0)) here));
         others = λ i none.
             get_or-set_other zeros (item tree v) i (number tree v row) 0 (λ e. none v (omega arith) itself (sym e))
-            ∙ zero-at 16 i;
+            ∙ zero_at 16 i;
       }
 
   module _ (n : ℕ) (chosen : List (Option ℕ)) (numbers : List ℕ) (so_far : HasChosen tree v g n chosen numbers) where
     -- a row that is chosen is one of its node, which is in the subtree
-    pub chosen-under : (q row : ℕ) → q < n → q < length tree → get_or chosen q None ≡ Some row
+    pub chosen_under : (q row : ℕ) → q < n → q < length tree → get_or chosen q None ≡ Some row
         → IsUnder tree v q × (row < rows tree q)
-    chosen-under q row low l is = elim (is-under q l) [
+    chosen_under q row low l is = elim (is_under q l) [
       | inl u ↦
           let found = so_far.under q low u in
           let same : row ≡ found.0 = (let e : Some row ≡ Some found.0 = sym is ∙ found.1 in cc) in
@@ -143,17 +143,17 @@ module _ {R : Type 0} (d : ℕ) (key : R → KeyOf d 16) (tree : List (NodeData 
     ]
 
     module _ (after : v < n) (l : n < length tree) where
-      pub up-early : parent tree n < n
-      up-early = early n (omega (arith, after)) l
+      pub up_early : parent tree n < n
+      up_early = early n (omega (arith, after)) l
 
-      up-inside : parent tree n < length tree
-      up-inside = let low = up-early in omega (arith, low, l)
+      up_inside : parent tree n < length tree
+      up_inside = let low = up_early in omega (arith, low, l)
 
       -- if its parent has no row, node n has none
-      pub chosen-none : get_or chosen (parent tree n) None ≡ None → HasChosen tree v g (n + 1) chosen numbers
-      chosen-none none =
+      pub chosen_none : get_or chosen (parent tree n) None ≡ None → HasChosen tree v g (n + 1) chosen numbers
+      chosen_none none =
           let not_under : IsUnder tree v n → ⊥ = λ u.
-          (let found = so_far.under (parent tree n) up-early (under-up n after u) in
+          (let found = so_far.under (parent tree n) up_early (under_up n after u) in
           let e : None ≡ Some found.0 = sym none ∙ found.1 in absurd (cc)) in
           let low : (q : ℕ) → q < n + 1 → IsUnder tree v q → q < n = λ q h u. elim (cases_eq q n) [
             | inl e ↦ absurd (not_under (subst (IsUnder tree v) e u))
@@ -173,8 +173,8 @@ module _ {R : Type 0} (d : ℕ) (key : R → KeyOf d 16) (tree : List (NodeData 
       -- else it has the first row of the group that its parent's row names
       module _ (above row : ℕ) (at_parent : get_or chosen (parent tree n) None ≡ Some above)
           (is : row ≡ slice_index (group tree n above) 0) (inside : row < rows tree n) where
-        under-n : IsUnder tree v n
-        under-n = under-down n after l ((chosen-under (parent tree n) above up-early up-inside at_parent).0)
+        under_n : IsUnder tree v n
+        under_n = under_down n after l ((chosen_under (parent tree n) above up_early up_inside at_parent).0)
 
         here : get_or (set chosen n (Some row)) n None ≡ Some row
         here = get_or-set_same chosen n (Some row) None
@@ -183,11 +183,11 @@ module _ {R : Type 0} (d : ℕ) (key : R → KeyOf d 16) (tree : List (NodeData 
         kept : (q : ℕ) → q ≢ n → get_or (set chosen n (Some row)) q None ≡ get_or chosen q None
         kept q other = get_or-set_other chosen n q (Some row) None other
 
-        kept-row : (q : ℕ) → q ≢ n → row_at (set chosen n (Some row)) q ≡ row_at chosen q
-        kept-row q other = ap (λ o. unwrap_or o 0) (kept q other)
+        kept_row : (q : ℕ) → q ≢ n → row_at (set chosen n (Some row)) q ≡ row_at chosen q
+        kept_row q other = ap (λ o. unwrap_or o 0) (kept q other)
 
-        item-apart : (q : ℕ) → q < n → item tree q ≢ item tree n
-        item-apart q low e =
+        item_apart : (q : ℕ) → q < n → item tree q ≢ item tree n
+        item_apart q low e =
             let same = formed.shaped.items_apart q n (omega (arith, low, l)) l e in omega (arith, same, low)
 
         under2 : (q : ℕ) → q < n + 1 → IsUnder tree v q
@@ -208,18 +208,18 @@ module _ {R : Type 0} (d : ℕ) (key : R → KeyOf d 16) (tree : List (NodeData 
             ≡ slice_index (group tree q (row_at (set chosen n (Some row)) (parent tree q))) 0
         named2 q a h u = elim (cases_eq q n) [
           | inl e ↦
-              let low = up-early in
+              let low = up_early in
               let at : row_at (set chosen n (Some row)) (parent tree n) ≡ above =
-              kept-row (parent tree n) (λ x. omega (arith, x, low)) ∙ ap (λ o. unwrap_or o 0) at_parent in
+              kept_row (parent tree n) (λ x. omega (arith, x, low)) ∙ ap (λ o. unwrap_or o 0) at_parent in
               subst (λ z. row_at (set chosen n (Some row)) z
               ≡ slice_index (group tree z (row_at (set chosen n (Some row)) (parent tree z))) 0) (sym e)
               (ap (λ o. unwrap_or o 0) here ∙ is ∙ ap (λ r. slice_index (group tree n r) 0) (sym at))
           | inr other ↦
               let low : q < n = omega (arith, h, other) in
               let higher = early q (omega (arith, a)) u.0 in
-              kept-row q other ∙ so_far.named q a low u
+              kept_row q other ∙ so_far.named q a low u
               ∙ ap (λ r. slice_index (group tree q r) 0)
-              (sym (kept-row (parent tree q) (λ x. omega (arith, x, higher, low))))
+              (sym (kept_row (parent tree q) (λ x. omega (arith, x, higher, low))))
         ]
 
         own2 : (q : ℕ) → q < n + 1 → IsUnder tree v q
@@ -234,57 +234,57 @@ module _ {R : Type 0} (d : ℕ) (key : R → KeyOf d 16) (tree : List (NodeData 
               ∙ sym (ap (λ o. number tree n (unwrap_or o 0)) here))
           | inr other ↦
               let low : q < n = omega (arith, h, other) in
-              get_or-set_other numbers (item tree n) (item tree q) (number tree n row) 0 (item-apart q low)
-              ∙ so_far.own q low u ∙ ap (number tree q) (sym (kept-row q other))
+              get_or-set_other numbers (item tree n) (item tree q) (number tree n row) 0 (item_apart q low)
+              ∙ so_far.own q low u ∙ ap (number tree q) (sym (kept_row q other))
         ]
 
-        pub chosen-more : HasChosen tree v g (n + 1) (set chosen n (Some row))
+        pub chosen_more : HasChosen tree v g (n + 1) (set chosen n (Some row))
             (set numbers (item tree n) (number tree n row))
-        chosen-more = record {
+        chosen_more = record {
           long = length-set chosen n (Some row) ∙ so_far.long;
           count = length-set numbers (item tree n) (number tree n row) ∙ so_far.count;
           under = under2;
           elsewhere = λ q none.
-              let other : q ≢ n = λ e. none (omega (arith, e)) (subst (IsUnder tree v) (sym e) under-n) in
+              let other : q ≢ n = λ e. none (omega (arith, e)) (subst (IsUnder tree v) (sym e) under_n) in
               kept q other ∙ so_far.elsewhere q (λ low u. none (omega (arith, low)) u);
-          top = kept-row v (λ e. omega (arith, e, after)) ∙ so_far.top;
+          top = kept_row v (λ e. omega (arith, e, after)) ∙ so_far.top;
           named = named2;
           own = own2;
           others = λ i none.
-              get_or-set_other numbers (item tree n) i (number tree n row) 0 (λ e. none n (omega arith) under-n (sym e))
+              get_or-set_other numbers (item tree n) i (number tree n row) 0 (λ e. none n (omega arith) under_n (sym e))
               ∙ so_far.others i (λ q low u. none q (omega (arith, low)) u);
         }
 
     -- node n has a row if its parent has one
     module _ (after : v < n) (l : n < length tree) (result : Option ℕ)
         (is : result ≡ option_map (λ row. slice_index (group tree n row) 0) (get_or chosen (parent tree n) None)) where
-      by-none : (o : Option ℕ) → get_or chosen (parent tree n) None ≡ o
+      by_none : (o : Option ℕ) → get_or chosen (parent tree n) None ≡ o
           → result ≡ option_map (λ row. slice_index (group tree n row) 0) o → result ≡ None
           → HasChosen tree v g (n + 1) chosen numbers
-      by-none None e f none = chosen-none after l e
-      by-none (Some above) e f none = (let x : None ≡ Some (slice_index (group tree n above) 0) = sym none
+      by_none None e f none = chosen_none after l e
+      by_none (Some above) e f none = (let x : None ≡ Some (slice_index (group tree n above) 0) = sym none
           ∙ f in absurd (cc))
 
-      pub next-none : result ≡ None → HasChosen tree v g (n + 1) chosen numbers
-      next-none none = by-none (get_or chosen (parent tree n) None) refl is none
+      pub next_none : result ≡ None → HasChosen tree v g (n + 1) chosen numbers
+      next_none none = by_none (get_or chosen (parent tree n) None) refl is none
 
-      by-some : (row : ℕ) (o : Option ℕ) → get_or chosen (parent tree n) None ≡ o
+      by_some : (row : ℕ) (o : Option ℕ) → get_or chosen (parent tree n) None ≡ o
           → result ≡ option_map (λ r. slice_index (group tree n r) 0) o → result ≡ Some row
           → row < rows tree n → HasChosen tree v g (n + 1) (set chosen n (Some row))
           (set numbers (item tree n) (number tree n row))
-      by-some row None e f some inside = (let x : Some row ≡ None = sym some ∙ f in absurd (cc))
-      by-some row (Some above) e f some inside =
+      by_some row None e f some inside = (let x : Some row ≡ None = sym some ∙ f in absurd (cc))
+      by_some row (Some above) e f some inside =
           let x : Some row ≡ Some (slice_index (group tree n above) 0) = sym some ∙ f in
           let same : row ≡ slice_index (group tree n above) 0 = cc in
-          chosen-more after l above row e same inside
+          chosen_more after l above row e same inside
 
-      pub next-some : (row : ℕ) → result ≡ Some row → row < rows tree n
+      pub next_some : (row : ℕ) → result ≡ Some row → row < rows tree n
           → HasChosen tree v g (n + 1) (set chosen n (Some row)) (set numbers (item tree n) (number tree n row))
-      next-some row some inside = by-some row (get_or chosen (parent tree n) None) refl is some inside
+      next_some row some inside = by_some row (get_or chosen (parent tree n) None) refl is some inside
 
     -- all nodes have their rows
-    pub chosen-all : n ≡ length tree → IsFirst tree v g numbers
-    chosen-all all =
+    pub chosen_all : n ≡ length tree → IsFirst tree v g numbers
+    chosen_all all =
         let low : (q : ℕ) → IsUnder tree v q → q < n = λ q u. (let l = u.0 in omega (arith, l, all)) in
         record {
           count = so_far.count;

@@ -18,10 +18,10 @@ pub record HasListed (all : List (List ℕ)) (i : ℕ) (rest : List (List ℕ)) 
 module _ (all : List (List ℕ)) (i : ℕ) (rest : List (List ℕ)) (old new : List ℕ)
     (h : HasListed all i rest old new) where
   -- one more
-  pub listed-more : (rows : List ℕ) (later : List (List ℕ)) (text : List ℕ) → rest ≡ rows ∷ later
+  pub listed_more : (rows : List ℕ) (later : List (List ℕ)) (text : List ℕ) → rest ≡ rows ∷ later
       → text ≡ new ++ answer_text rows
       → HasListed all (i + 1) later old text
-  listed-more rows later text is more = record {
+  listed_more rows later text is more = record {
     given = h.given ++ rows ∷ [];
     split = h.split ∙ ap (λ l. h.given ++ l) is ∙ sym (append_assoc h.given (rows ∷ []) later);
     count = let n = h.count in let m = length-append h.given (rows ∷ []) in omega (arith, n, m);
@@ -33,29 +33,29 @@ module _ (all : List (List ℕ)) (i : ℕ) (rest : List (List ℕ)) (old new : L
     whole : all ≡ h.given
     whole = h.split ∙ ap (λ l. h.given ++ l) none ∙ append-nil h.given
 
-    cut-all : (limit : Option ℕ) → IfSome limit (λ n. i < n) → cut limit all ≡ h.given
-    cut-all None low = whole
-    cut-all (Some n) low = ap (take n) whole ∙ take_all n h.given (let c = h.count in omega (arith, c, low))
+    cut_all : (limit : Option ℕ) → IfSome limit (λ n. i < n) → cut limit all ≡ h.given
+    cut_all None low = whole
+    cut_all (Some n) low = ap (take n) whole ∙ take_all n h.given (let c = h.count in omega (arith, c, low))
 
-    pub ended-text : (limit : Option ℕ) → IfSome limit (λ n. i < n) → new ≡ old ++ flat_map answer_text (cut limit all)
-    ended-text limit low = h.text ∙ ap (λ l. old ++ flat_map answer_text l) (sym (cut-all limit low))
+    pub ended_text : (limit : Option ℕ) → IfSome limit (λ n. i < n) → new ≡ old ++ flat_map answer_text (cut limit all)
+    ended_text limit low = h.text ∙ ap (λ l. old ++ flat_map answer_text l) (sym (cut_all limit low))
 
-    pub ended-early : (limit : Option ℕ) → IfSome limit (λ n. i < n) → true ≡ not (reaches limit all)
-    ended-early None low = cc
-    ended-early (Some n) low =
+    pub ended_early : (limit : Option ℕ) → IfSome limit (λ n. i < n) → true ≡ not (reaches limit all)
+    ended_early None low = cc
+    ended_early (Some n) low =
         let short : length all ≡ i = ap length whole ∙ h.count in
         let past : nat_le n (length all) ≡ false = grind (arith, nat_tests, short, low) in
         sym (ap not past)
 
   -- the limit was reached
   module _ (limit : Option ℕ) (met : limit ≡ Some i) where
-    pub met-text : new ≡ old ++ flat_map answer_text (cut limit all)
-    met-text =
+    pub met_text : new ≡ old ++ flat_map answer_text (cut limit all)
+    met_text =
         h.text ∙ ap (λ l. old ++ flat_map answer_text l)
         (sym (ap (λ o. cut o all) met ∙ ap (take i) h.split ∙ take_at h.given rest i h.count))
 
-    pub met-limit : false ≡ not (reaches limit all)
-    met-limit =
+    pub met_limit : false ≡ not (reaches limit all)
+    met_limit =
         let c = h.count in
         let s = ap length h.split in
         let m = length-append h.given rest in

@@ -8,27 +8,27 @@ use Rattle.std.proofs.lemmas.Bool.{cases_eq, cases_lt}
 use Rattle.std.proofs.lemmas.Int.{ints}
 use Rattle.std.proofs.lemmas.Bool.Decides.{nat_tests}
 use Rattle.anyk_model.specs.Ranking.{IsBefore}
-use Rattle.proof_model.proofs.ItemPlaces.{all, all-before, before, before-next, here, here-node, here-some, none-before}
+use Rattle.proof_model.proofs.ItemPlaces.{all, all_before, before, before_next, here, here_node, here_some, none_before}
 use Rattle.proof_write.specs.Firsts.{listed}
 
 -- 1 if the number is not 0
 abbrev pub some : ℕ → ℕ
 some x = cond (nat_lt 0 x) 1 0
 
-some-is : (x : ℕ) → 0 < x → some x ≡ 1
-some-is x h = grind (arith, nat_tests)
+some_is : (x : ℕ) → 0 < x → some x ≡ 1
+some_is x h = grind (arith, nat_tests)
 
-some-not : (x : ℕ) → x ≡ 0 → some x ≡ 0
-some-not x h = grind (arith, nat_tests)
+some_not : (x : ℕ) → x ≡ 0 → some x ≡ 0
+some_not x h = grind (arith, nat_tests)
 
-lists-some : (x : ℕ) (xs : List ℕ) → 0 < x → listed (x ∷ xs) ≡ x ∷ listed xs
-lists-some x xs h = by (nat_lt 0 x) (grind (arith, nat_tests))
+lists_some : (x : ℕ) (xs : List ℕ) → 0 < x → listed (x ∷ xs) ≡ x ∷ listed xs
+lists_some x xs h = by (nat_lt 0 x) (grind (arith, nat_tests))
   where
     by : (b : Bool) → b ≡ true → cond b (x ∷ listed xs) (listed xs) ≡ x ∷ listed xs
     by b e = ap (λ z. cond z (x ∷ listed xs) (listed xs)) e
 
-lists-none : (x : ℕ) (xs : List ℕ) → x ≡ 0 → listed (x ∷ xs) ≡ listed xs
-lists-none x xs h = by (nat_lt 0 x) (grind (arith, nat_tests))
+lists_none : (x : ℕ) (xs : List ℕ) → x ≡ 0 → listed (x ∷ xs) ≡ listed xs
+lists_none x xs h = by (nat_lt 0 x) (grind (arith, nat_tests))
   where
     by : (b : Bool) → b ≡ false → cond b (x ∷ listed xs) (listed xs) ≡ listed xs
     by b e = ap (λ z. cond z (x ∷ listed xs) (listed xs)) e
@@ -39,41 +39,41 @@ counted [] i = 0
 counted (x ∷ xs) zero = 0
 counted (x ∷ xs) (suc i) = some x + counted xs i
 
-counted-next : (xs : List ℕ) (i : ℕ) → i < length xs → counted xs (suc i) ≡ counted xs i + some (get_or xs i 0)
-counted-next [] i l = absurd (omega (arith, l))
-counted-next (x ∷ []) zero l = omega arith
-counted-next (x ∷ (y ∷ ys)) zero l = omega arith
-counted-next (x ∷ xs) (suc i) l = let rest = counted-next xs i (omega (arith, l)) in omega (arith, rest)
+counted_next : (xs : List ℕ) (i : ℕ) → i < length xs → counted xs (suc i) ≡ counted xs i + some (get_or xs i 0)
+counted_next [] i l = absurd (omega (arith, l))
+counted_next (x ∷ []) zero l = omega arith
+counted_next (x ∷ (y ∷ ys)) zero l = omega arith
+counted_next (x ∷ xs) (suc i) l = let rest = counted_next xs i (omega (arith, l)) in omega (arith, rest)
 
-counted-none : (xs : List ℕ) → counted xs 0 ≡ 0
-counted-none [] = refl
-counted-none (x ∷ xs) = refl
+counted_none : (xs : List ℕ) → counted xs 0 ≡ 0
+counted_none [] = refl
+counted_none (x ∷ xs) = refl
 
-counted-all : (xs : List ℕ) → length (listed xs) ≡ counted xs (length xs)
-counted-all [] = refl
-counted-all (x ∷ xs) = elim (cases_lt 0 x) [
-  | inl h ↦ let e = ap length (lists-some x xs h) in let s = some-is x h in let r = counted-all xs in omega
+counted_all : (xs : List ℕ) → length (listed xs) ≡ counted xs (length xs)
+counted_all [] = refl
+counted_all (x ∷ xs) = elim (cases_lt 0 x) [
+  | inl h ↦ let e = ap length (lists_some x xs h) in let s = some_is x h in let r = counted_all xs in omega
       (arith, e, s, r)
   | inr h ↦ let z : x ≡ 0 = omega (arith, h) in let e = ap length
-      (lists-none x xs z) in let s = some-not x z in let r = counted-all xs in omega (arith, e, s, r)
+      (lists_none x xs z) in let s = some_not x z in let r = counted_all xs in omega (arith, e, s, r)
 ]
 
 -- a number that is not 0 is listed at the place that the count of those before it says
-listed-at : (xs : List ℕ) (i : ℕ) → 0 < get_or xs i 0 → get_or (listed xs) (counted xs i) 0 ≡ get_or xs i 0
-listed-at [] i h = absurd (omega (arith, h))
-listed-at (x ∷ xs) zero h = ap (λ l. get_or l 0 0) (lists-some x xs h)
-listed-at (x ∷ xs) (suc i) h = elim (cases_lt 0 x) [
+listed_at : (xs : List ℕ) (i : ℕ) → 0 < get_or xs i 0 → get_or (listed xs) (counted xs i) 0 ≡ get_or xs i 0
+listed_at [] i h = absurd (omega (arith, h))
+listed_at (x ∷ xs) zero h = ap (λ l. get_or l 0 0) (lists_some x xs h)
+listed_at (x ∷ xs) (suc i) h = elim (cases_lt 0 x) [
   | inl p ↦
-      ap (λ l. get_or l (some x + counted xs i) 0) (lists-some x xs p)
+      ap (λ l. get_or l (some x + counted xs i) 0) (lists_some x xs p)
       ∙ ap (λ n. get_or (x ∷ listed xs) n 0)
-      (let s = some-is x p in let e : some x + counted xs i ≡ suc (counted xs i) = omega (arith, s) in e)
-      ∙ listed-at xs i h
+      (let s = some_is x p in let e : some x + counted xs i ≡ suc (counted xs i) = omega (arith, s) in e)
+      ∙ listed_at xs i h
   | inr p ↦
       let z : x ≡ 0 = omega (arith, p) in
-      ap (λ l. get_or l (some x + counted xs i) 0) (lists-none x xs z)
+      ap (λ l. get_or l (some x + counted xs i) 0) (lists_none x xs z)
       ∙ ap (λ n. get_or (listed xs) n 0)
-      (let s = some-not x z in let e : some x + counted xs i ≡ counted xs i = omega (arith, s) in e)
-      ∙ listed-at xs i h
+      (let s = some_not x z in let e : some x + counted xs i ≡ counted xs i = omega (arith, s) in e)
+      ∙ listed_at xs i h
 ]
 
 -- ---- the numbers of the items of some nodes
@@ -83,45 +83,45 @@ module _ (m : ℕ) (chosen item : ℕ → ℕ) (most : ℕ) (once : (u : ℕ) �
     (numbers : List ℕ) (count : length numbers ≡ most)
     (own : (u : ℕ) → u < m → 0 < chosen u → 0 < get_or numbers (item u) 0)
     (others : (i : ℕ) → ((u : ℕ) → u < m → 0 < chosen u → item u ≢ i) → get_or numbers i 0 ≡ 0) where
-  pub here-counted : (x : ℕ) → here m chosen item most once within apart x ≡ some (get_or numbers x 0)
-  here-counted x = elim (cases_lt 0 (here m chosen item most once within apart x)) [
+  pub here_counted : (x : ℕ) → here m chosen item most once within apart x ≡ some (get_or numbers x 0)
+  here_counted x = elim (cases_lt 0 (here m chosen item most once within apart x)) [
     | inl h ↦
-        let found = here-some m chosen item most once within apart x h in
-        let one = here-node m chosen item most once within apart x found.0 found.1 found.3 in
+        let found = here_some m chosen item most once within apart x h in
+        let one = here_node m chosen item most once within apart x found.0 found.1 found.3 in
         let few = once found.0 found.1 in
         let more = found.2 in
         let big : 0 < get_or numbers x 0 = subst (λ i. 0 < get_or numbers i 0) found.3 (own found.0 found.1 found.2) in
-        let s = some-is (get_or numbers x 0) big in
+        let s = some_is (get_or numbers x 0) big in
         omega (arith, one, few, more, s)
     | inr h ↦
-        let none = others x (λ u l c e. let one = here-node m chosen item most once within apart x u l e in omega
+        let none = others x (λ u l c e. let one = here_node m chosen item most once within apart x u l e in omega
         (arith, h, one, c)) in
-        let s = some-not (get_or numbers x 0) none in
+        let s = some_not (get_or numbers x 0) none in
         omega (arith, h, s)
   ]
 
-  counted-before : (x : ℕ) → x ≤ most → counted numbers x ≡ before m chosen item most once within apart x
-  counted-before zero l = counted-none numbers ∙ sym (none-before m chosen item most once within apart)
-  counted-before (suc x) l =
-      let rest = counted-before x (omega (arith, l)) in
-      let next = counted-next numbers x (omega (arith, l, count)) in
-      let more = before-next m chosen item most once within apart x in
-      let here' = here-counted x in
+  counted_before : (x : ℕ) → x ≤ most → counted numbers x ≡ before m chosen item most once within apart x
+  counted_before zero l = counted_none numbers ∙ sym (none_before m chosen item most once within apart)
+  counted_before (suc x) l =
+      let rest = counted_before x (omega (arith, l)) in
+      let next = counted_next numbers x (omega (arith, l, count)) in
+      let more = before_next m chosen item most once within apart x in
+      let here' = here_counted x in
       omega (arith, rest, next, more, here')
 
   -- as many numbers are listed as nodes are chosen
-  pub listed-count : length (listed numbers) ≡ all m chosen item most once within apart
-  listed-count =
-      counted-all numbers ∙ ap (counted numbers) count ∙ counted-before most (omega arith)
-      ∙ all-before m chosen item most once within apart most (omega arith)
+  pub listed_count : length (listed numbers) ≡ all m chosen item most once within apart
+  listed_count =
+      counted_all numbers ∙ ap (counted numbers) count ∙ counted_before most (omega arith)
+      ∙ all_before m chosen item most once within apart most (omega arith)
 
   -- the number of a node is listed at the place of its item
-  pub listed-place : (q : ℕ) → q < m → 0 < chosen q
+  pub listed_place : (q : ℕ) → q < m → 0 < chosen q
       → get_or (listed numbers) (before m chosen item most once within apart (item q)) 0 ≡ get_or numbers (item q) 0
-  listed-place q l some' =
+  listed_place q l some' =
       let w = within q l in
-      ap (λ n. get_or (listed numbers) n 0) (sym (counted-before (item q) (omega (arith, w))))
-      ∙ listed-at numbers (item q) (own q l some')
+      ap (λ n. get_or (listed numbers) n 0) (sym (counted_before (item q) (omega (arith, w))))
+      ∙ listed_at numbers (item q) (own q l some')
 
 -- ---- order
 
@@ -132,31 +132,31 @@ AreAlike [] (y ∷ ys) = ⊥
 AreAlike (x ∷ xs) [] = ⊥
 AreAlike (x ∷ xs) (y ∷ ys) = (((0 < x) × (0 < y)) ⊎ ((x ≡ 0) × (y ≡ 0))) × AreAlike xs ys
 
-pub alike-from : (xs ys : List ℕ) → length xs ≡ length ys
+pub alike_from : (xs ys : List ℕ) → length xs ≡ length ys
     → ((i : ℕ) → i < length xs → some (get_or xs i 0) ≡ some (get_or ys i 0)) → AreAlike xs ys
-alike-from [] [] e h = tt
-alike-from [] (y ∷ ys) e h = absurd (omega (arith, e))
-alike-from (x ∷ xs) [] e h = absurd (omega (arith, e))
-alike-from (x ∷ xs) (y ∷ ys) e h = (
+alike_from [] [] e h = tt
+alike_from [] (y ∷ ys) e h = absurd (omega (arith, e))
+alike_from (x ∷ xs) [] e h = absurd (omega (arith, e))
+alike_from (x ∷ xs) (y ∷ ys) e h = (
   elim (cases_lt 0 x) [
     | inl p ↦ elim (cases_lt 0 y) [
       | inl q ↦ inl (p, q)
-      | inr q ↦ let s = h 0 (omega arith) in let a = some-is x p in let z : y
-          ≡ 0 = omega (arith, q) in let b = some-not y z in absurd (omega (arith, s, a, b))
+      | inr q ↦ let s = h 0 (omega arith) in let a = some_is x p in let z : y
+          ≡ 0 = omega (arith, q) in let b = some_not y z in absurd (omega (arith, s, a, b))
     ]
     | inr p ↦ elim (cases_lt 0 y) [
-      | inl q ↦ let s = h 0 (omega arith) in let b = some-is y q in let z : x
-          ≡ 0 = omega (arith, p) in let a = some-not x z in absurd (omega (arith, s, a, b))
+      | inl q ↦ let s = h 0 (omega arith) in let b = some_is y q in let z : x
+          ≡ 0 = omega (arith, p) in let a = some_not x z in absurd (omega (arith, s, a, b))
       | inr q ↦ inr (omega (arith, p), omega (arith, q))
     ]
   ],
-  alike-from xs ys (omega (arith, e)) (λ i l. h (suc i) (omega (arith, l))),
+  alike_from xs ys (omega (arith, e)) (λ i l. h (suc i) (omega (arith, l))),
 )
 
 -- if a number is not less than another in a sort's order, it is greater, or what follows decides
-not-less : (x y : ℕ) (o : Ordering) → is_lt (ordering_then (nat_cmp y x) o) ≡ false
+not_less : (x y : ℕ) (o : Ordering) → is_lt (ordering_then (nat_cmp y x) o) ≡ false
     → (x < y) ⊎ ((x ≡ y) × (is_lt o ≡ false))
-not-less x y o h = elim (cases_lt y x) [
+not_less x y o h = elim (cases_lt y x) [
   | inl less ↦
       let c : nat_cmp y x ≡ Less = grind (arith, nat_tests) in
       let e : true ≡ false = ap (λ r. is_lt (ordering_then r o)) (sym c) ∙ h in
@@ -170,26 +170,26 @@ not-less x y o h = elim (cases_lt y x) [
 ]
 
 -- lists of numbers that differ, with 0 at the same places, are in the order of their numbers that are not 0
-pub listed-before : (xs ys : List ℕ) → AreAlike xs ys → (xs ≡ ys → ⊥) → is_lt (slice_cmp nat_cmp ys xs) ≡ false
+pub listed_before : (xs ys : List ℕ) → AreAlike xs ys → (xs ≡ ys → ⊥) → is_lt (slice_cmp nat_cmp ys xs) ≡ false
     → IsBefore (map pos (listed xs)) (map pos (listed ys))
-listed-before [] [] a n h = absurd (n refl)
-listed-before [] (y ∷ ys) a n h = absurd a
-listed-before (x ∷ xs) [] a n h = absurd a
-listed-before (x ∷ xs) (y ∷ ys) (inl both, a) n h =
-    subst (λ l. IsBefore (map pos l) (map pos (listed (y ∷ ys)))) (sym (lists-some x xs both.0))
-    (subst (λ l. IsBefore (map pos (x ∷ listed xs)) (map pos l)) (sym (lists-some y ys both.1))
-    (elim (not-less x y (slice_cmp nat_cmp ys xs) h) [
+listed_before [] [] a n h = absurd (n refl)
+listed_before [] (y ∷ ys) a n h = absurd a
+listed_before (x ∷ xs) [] a n h = absurd a
+listed_before (x ∷ xs) (y ∷ ys) (inl both, a) n h =
+    subst (λ l. IsBefore (map pos l) (map pos (listed (y ∷ ys)))) (sym (lists_some x xs both.0))
+    (subst (λ l. IsBefore (map pos (x ∷ listed xs)) (map pos l)) (sym (lists_some y ys both.1))
+    (elim (not_less x y (slice_cmp nat_cmp ys xs) h) [
       | inl less ↦ inl (grind (arith, ints))
       | inr same ↦ inr (
         ap pos same.0,
-        listed-before xs ys a
+        listed_before xs ys a
             (λ e. n (ap (λ z. z ∷ xs) same.0 ∙ ap (λ z. y ∷ z) e)) same.1,
       )
     ]))
-listed-before (x ∷ xs) (y ∷ ys) (inr none, a) n h =
-    subst (λ l. IsBefore (map pos l) (map pos (listed (y ∷ ys)))) (sym (lists-none x xs none.0))
-    (subst (λ l. IsBefore (map pos (listed xs)) (map pos l)) (sym (lists-none y ys none.1))
-    (elim (not-less x y (slice_cmp nat_cmp ys xs) h) [
+listed_before (x ∷ xs) (y ∷ ys) (inr none, a) n h =
+    subst (λ l. IsBefore (map pos l) (map pos (listed (y ∷ ys)))) (sym (lists_none x xs none.0))
+    (subst (λ l. IsBefore (map pos (listed xs)) (map pos l)) (sym (lists_none y ys none.1))
+    (elim (not_less x y (slice_cmp nat_cmp ys xs) h) [
       | inl less ↦ let a = none.0 in let b = none.1 in absurd (omega (arith, a, b, less))
-      | inr same ↦ listed-before xs ys a (λ e. n (ap (λ z. z ∷ xs) same.0 ∙ ap (λ z. y ∷ z) e)) same.1
+      | inr same ↦ listed_before xs ys a (λ e. n (ap (λ z. z ∷ xs) same.0 ∙ ap (λ z. y ∷ z) e)) same.1
     ]))

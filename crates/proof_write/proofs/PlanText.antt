@@ -6,41 +6,41 @@ use Rattle.std.proofs.Math.Path.{fun_ext}
 use Rattle.std.proofs.lemmas.Bool.{cases_lt}
 use Rattle.std.proofs.lemmas.List.{get_or_past}
 use Rattle.tdp_model.specs.KeyTuple.{KeyOf}
-use Rattle.tdp_core.specs.Seen.{Seen, answers_of}
+use Rattle.tdp_core.specs.SeenAnswers.{Seen, answers_of}
 use Rattle.tdp_core.specs.Solutions.{IsTreeRanking}
 use Rattle.tdp_core.specs.TreeData.{NodeData, item, node_at, parent}
 use Rattle.tdp_core.specs.WellFormed.{IsFormed}
 use Rattle.anyk_model.specs.Table.{Table}
 use Rattle.anyk_model.specs.Output.{cut}
 use Rattle.anyk_model.specs.Ranking.{ranking_of}
-use Rattle.query_bind.specs.Weighed.{BoundQuery, Fits}
+use Rattle.query_bind.specs.WeighedQuery.{BoundQuery, Fits}
 use Rattle.query_shape.specs.Shape.{HasTree, Shape}
 use Rattle.step_bounds.specs.Steps.{reaches}
 use Rattle.witness_key.specs.WitnessKey.{combinations_in}
-use Rattle.witness_key.proofs.Combinations.{ranking-tells}
+use Rattle.witness_key.proofs.Combinations.{ranking_tells}
 use Rattle.plan_build.specs.Plan.{IsPlan, PlanData}
-use Rattle.plan_build.proofs.AnswersAgree.{answers-agree}
+use Rattle.plan_build.proofs.AnswersAgree.{answers_agree}
 use Rattle.proof_text.specs.Certificate.{BoundLine, Certificate}
 use Rattle.proof_text.specs.Writing.{answer_text, bound_text, header_text, last_text, proof_text}
 use Rattle.proof_model.specs.Laws.{IsProblem}
 use Rattle.proof_model.specs.ProofTexts.{IsProofText}
-use Rattle.proof_model.specs.Written.{IsWritten}
-use Rattle.proof_model.proofs.QueryItems.{as-many, few-items, tree-problem}
+use Rattle.proof_model.specs.WrittenProofs.{IsWritten}
+use Rattle.proof_model.proofs.QueryItems.{as_many, few_items, tree_problem}
 use Rattle.proof_write.specs.Firsts.{AreBounds}
 use Rattle.proof_write.proofs.PlanProblem.{problem_with}
-use Rattle.proof_write.proofs.Writes.{answer_lines, answers-text, is-written}
+use Rattle.proof_write.proofs.Writes.{answer_lines, answers_text, is_written}
 
 -- the text, part by part
-pub text-parts : (bounds : List BoundLine) (list : List (List ℕ)) (ended : Bool) (one two three text : List ℕ)
+pub text_parts : (bounds : List BoundLine) (list : List (List ℕ)) (ended : Bool) (one two three text : List ℕ)
     → one ≡ header_text → two ≡ one ++ flat_map (λ (b : BoundLine). bound_text b.node b.rows) bounds
     → three ≡ two ++ flat_map answer_text list → text ≡ three ++ last_text ended
     → text ≡ proof_text (record { bounds = bounds; answers = answer_lines (length bounds + 2) list; ended = ended })
-text-parts bounds list ended one two three text head middle later end =
+text_parts bounds list ended one two three text head middle later end =
     let b = flat_map (λ (b : BoundLine). bound_text b.node b.rows) bounds in
     let a = flat_map answer_text list in
     end ∙ ap (λ l. l ++ last_text ended) (later ∙ ap (λ l. l ++ a) (middle ∙ ap (λ l. l ++ b) head))
     ∙ append_assoc (header_text ++ b) a (last_text ended) ∙ append_assoc header_text b (a ++ last_text ended)
-    ∙ ap (λ l. header_text ++ (b ++ (l ++ last_text ended))) (sym (answers-text (length bounds + 2) list))
+    ∙ ap (λ l. header_text ++ (b ++ (l ++ last_text ended))) (sym (answers_text (length bounds + 2) list))
 
 module _ {R : Type 0} (d : ℕ) (key : R → KeyOf d 16) (bound : BoundQuery) (tables : List Table)
     (fits : Fits bound tables) (plan : PlanData R)
@@ -51,10 +51,10 @@ module _ {R : Type 0} (d : ℕ) (key : R → KeyOf d 16) (bound : BoundQuery) (t
   hung : HasTree bound.query is.whole.shape.atoms is.whole.shape.parents
   hung = is.whole.is_shape.0.hung
 
-  nodes-same : length plan.tree ≡ length is.whole.shape.atoms
-  nodes-same = is.whole.nodes ∙ sym (as-many bound.query tables is.whole.shape.atoms is.whole.shape.parents hung)
+  nodes_same : length plan.tree ≡ length is.whole.shape.atoms
+  nodes_same = is.whole.nodes ∙ sym (as_many bound.query tables is.whole.shape.atoms is.whole.shape.parents hung)
 
-  past-node : (v : ℕ) → length plan.tree ≤ v
+  past_node : (v : ℕ) → length plan.tree ≤ v
       → node_at plan.tree v ≡ record {
         shape = record { parent = 0; item = 0; caps = [] };
         rows = [];
@@ -62,58 +62,58 @@ module _ {R : Type 0} (d : ℕ) (key : R → KeyOf d 16) (bound : BoundQuery) (t
         groups = [];
         best = [];
       }
-  past-node v h = get_or_past plan.tree v _ h
+  past_node v h = get_or_past plan.tree v _ h
 
-  parents-same : parent plan.tree ≡ slice_index is.whole.shape.parents
-  parents-same = fun_ext (λ v. elim (cases_lt v (length plan.tree)) [
+  parents_same : parent plan.tree ≡ slice_index is.whole.shape.parents
+  parents_same = fun_ext (λ v. elim (cases_lt v (length plan.tree)) [
     | inl inside ↦ is.parents v inside
     | inr past ↦
-        ap (λ (n : NodeData R). n.shape.parent) (past-node v past)
+        ap (λ (n : NodeData R). n.shape.parent) (past_node v past)
         ∙ sym (get_or_past is.whole.shape.parents v 0
-        (let n = nodes-same in let a = hung.join_tree.nodes in let p = hung.join_tree.has_parents in omega
+        (let n = nodes_same in let a = hung.join_tree.nodes in let p = hung.join_tree.has_parents in omega
         (arith, n, a, p, past)))
   ])
 
-  items-same : item plan.tree ≡ slice_index is.whole.shape.atoms
-  items-same = fun_ext (λ v. elim (cases_lt v (length plan.tree)) [
+  items_same : item plan.tree ≡ slice_index is.whole.shape.atoms
+  items_same = fun_ext (λ v. elim (cases_lt v (length plan.tree)) [
     | inl inside ↦ is.items v inside
     | inr past ↦
-        ap (λ (n : NodeData R). n.shape.item) (past-node v past)
-        ∙ sym (get_or_past is.whole.shape.atoms v 0 (let n = nodes-same in omega (arith, n, past)))
+        ap (λ (n : NodeData R). n.shape.item) (past_node v past)
+        ∙ sym (get_or_past is.whole.shape.atoms v 0 (let n = nodes_same in omega (arith, n, past)))
   ])
 
   -- what holds of the tree's nodes holds of the shape's, and the other way round
-  onto-shape : (F : ℕ → (ℕ → ℕ) → (ℕ → ℕ) → Type 0) → F (length plan.tree) (parent plan.tree) (item plan.tree)
+  onto_shape : (F : ℕ → (ℕ → ℕ) → (ℕ → ℕ) → Type 0) → F (length plan.tree) (parent plan.tree) (item plan.tree)
       → F (length is.whole.shape.atoms) (slice_index is.whole.shape.parents) (slice_index is.whole.shape.atoms)
-  onto-shape F f =
-      subst (λ i. F (length is.whole.shape.atoms) (slice_index is.whole.shape.parents) i) items-same
-      (subst (λ p. F (length is.whole.shape.atoms) p (item plan.tree)) parents-same
-      (subst (λ n. F n (parent plan.tree) (item plan.tree)) nodes-same f))
+  onto_shape F f =
+      subst (λ i. F (length is.whole.shape.atoms) (slice_index is.whole.shape.parents) i) items_same
+      (subst (λ p. F (length is.whole.shape.atoms) p (item plan.tree)) parents_same
+      (subst (λ n. F n (parent plan.tree) (item plan.tree)) nodes_same f))
 
-  from-shape : (F : ℕ → (ℕ → ℕ) → (ℕ → ℕ) → Type 0)
+  from_shape : (F : ℕ → (ℕ → ℕ) → (ℕ → ℕ) → Type 0)
       → F (length is.whole.shape.atoms) (slice_index is.whole.shape.parents) (slice_index is.whole.shape.atoms)
       → F (length plan.tree) (parent plan.tree) (item plan.tree)
-  from-shape F f =
-      subst (λ i. F (length plan.tree) (parent plan.tree) i) (sym items-same)
-      (subst (λ p. F (length plan.tree) p (slice_index is.whole.shape.atoms)) (sym parents-same)
-      (subst (λ n. F n (slice_index is.whole.shape.parents) (slice_index is.whole.shape.atoms)) (sym nodes-same) f))
+  from_shape F f =
+      subst (λ i. F (length plan.tree) (parent plan.tree) i) (sym items_same)
+      (subst (λ p. F (length plan.tree) p (slice_index is.whole.shape.atoms)) (sym parents_same)
+      (subst (λ n. F n (slice_index is.whole.shape.parents) (slice_index is.whole.shape.atoms)) (sym nodes_same) f))
 
   laws : IsProblem (problem_with bound.query tables (length plan.tree) (parent plan.tree) (item plan.tree))
   laws =
-      from-shape (λ n p i. IsProblem (problem_with bound.query tables n p i))
-      (tree-problem bound.query tables is.whole.shape.atoms is.whole.shape.parents hung)
+      from_shape (λ n p i. IsProblem (problem_with bound.query tables n p i))
+      (tree_problem bound.query tables is.whole.shape.atoms is.whole.shape.parents hung)
 
   -- the engine has the answers of the ranking left
-  left-ranking : (ks : List (KeyOf d 16)) → IsTreeRanking plan.tree d key ks → (rest : List Seen)
+  left_ranking : (ks : List (KeyOf d 16)) → IsTreeRanking plan.tree d key ks → (rest : List Seen)
       → rest ≡ answers_of d ks
       → combinations_in bound.query rest ≡ ranking_of bound.query tables
-  left-ranking ks ranking rest left =
+  left_ranking ks ranking rest left =
       ap (combinations_in bound.query) (left
-      ∙ answers-agree d bound.query tables (ranking_of bound.query tables) ks (is.whole.ranking ks ranking))
-      ∙ (ranking-tells d bound.query tables
-      (few-items bound.query tables is.whole.shape.atoms is.whole.shape.parents hung)).0
+      ∙ answers_agree d bound.query tables (ranking_of bound.query tables) ks (is.whole.ranking ks ranking))
+      ∙ (ranking_tells d bound.query tables
+      (few_items bound.query tables is.whole.shape.atoms is.whole.shape.parents hung)).0
 
-  pub plan-text : (ks : List (KeyOf d 16)) → IsTreeRanking plan.tree d key ks → (rest : List Seen)
+  pub plan_text : (ks : List (KeyOf d 16)) → IsTreeRanking plan.tree d key ks → (rest : List Seen)
       → rest ≡ answers_of d ks
       → (bounds : List BoundLine) → AreBounds plan.tree (length plan.tree) bounds → (ended : Bool)
       → ended ≡ not (reaches bound.query.limit (combinations_in bound.query rest))
@@ -125,8 +125,8 @@ module _ {R : Type 0} (d : ℕ) (key : R → KeyOf d 16) (bound : BoundQuery) (t
         ended = ended;
       })
       → IsProofText bound.query tables text
-  plan-text ks ranking rest left bounds are ended early text same =
-      let listed = left-ranking ks ranking rest left in
+  plan_text ks ranking rest left bounds are ended early text same =
+      let listed = left_ranking ks ranking rest left in
       let c : Certificate = record {
         bounds = bounds;
         answers = answer_lines (length bounds + 2)
@@ -136,11 +136,11 @@ module _ {R : Type 0} (d : ℕ) (key : R → KeyOf d 16) (bound : BoundQuery) (t
         is.whole.shape,
         is.whole.is_shape,
         c,
-        onto-shape (λ n p i. IsWritten (problem_with bound.query tables n p i) c
+        onto_shape (λ n p i. IsWritten (problem_with bound.query tables n p i) c
             (cut bound.query.limit (ranking_of bound.query tables)))
             (subst (λ list. IsWritten (problem_with bound.query tables (length plan.tree) (parent plan.tree)
             (item plan.tree)) c (cut bound.query.limit list)) listed
-            (is-written d key bound tables plan.tree formed is.whole.reduced fits.variables is.whole.keys
+            (is_written d key bound tables plan.tree formed is.whole.reduced fits.variables is.whole.keys
             is.whole.ranks laws bounds are
             (cut bound.query.limit (combinations_in bound.query rest)) ended)),
         early ∙ ap (λ list. not (reaches bound.query.limit list)) listed,

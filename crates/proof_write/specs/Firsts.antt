@@ -7,7 +7,7 @@ use Rattle.std.specs.Cmp.Lexicographic.{slice_cmp}
 use Rattle.tdp_model.specs.Below.{is_below}
 use Rattle.tdp_core.specs.TreeData.{NodeData, group, group_count, item, members, number, parent, rows}
 use Rattle.proof_text.specs.Certificate.{BoundLine}
-use Rattle.proof_model.specs.Written.{BoundBefore}
+use Rattle.proof_model.specs.WrittenProofs.{BoundBefore}
 
 -- the rows that there are, if rows count from 1 and 0 stands for none
 abbrev pub listed : List ℕ → List ℕ

@@ -1,9 +1,9 @@
 //! The text of a certificate.
 ghost use Rattle.std.specs.Prelude.{◌≡◌, List, IfOk};
 ghost use Rattle.anyk_model.specs.Table.{Table};
-ghost use Rattle.query_bind.specs.Weighed.{Fits};
+ghost use Rattle.query_bind.specs.WeighedQuery.{Fits};
 ghost use Rattle.tdp_model.specs.KeyTuple.{KeyOf};
-ghost use Rattle.tdp_core.specs.Seen.{answers_of};
+ghost use Rattle.tdp_core.specs.SeenAnswers.{answers_of};
 ghost use Rattle.tdp_core.specs.Solutions.{IsTreeRanking};
 ghost use Rattle.plan_build.specs.Plan.{IsPlan, PlanData};
 ghost use Rattle.proof_model.specs.ProofTexts.{IsProofText};

@@ -7,42 +7,42 @@ use Rattle.std.proofs.lemmas.List.FromFn.{length-map-range_with_len}
 use Rattle.anyk_model.specs.Table.{Table, table_at}
 use Rattle.anyk_model.specs.Query.{Query, Item, Column, Equality, Side}
 use Rattle.rankings.specs.Order.{IsAscending, IsMember}
-use Rattle.rankings.proofs.Members.{all-member}
+use Rattle.rankings.proofs.Members.{all_member}
 use Rattle.query_bind.specs.Binding.{columns_from, item_columns}
 use Rattle.query_bind.specs.Classes.{AreVariables, AreVariablesOf, ColumnBefore, HasVariable, IsShared, Linked, same, forth, back, variable_at}
 use Rattle.csv_tables.specs.Tables.{IsSound}
-use Rattle.csv_tables.proofs.Places.{sound-few_columns}
+use Rattle.csv_tables.proofs.Places.{sound_few_columns}
 use Rattle.query_bind.specs.Inside.{HasTable, EqualityInside, IsInside, IsWithin, SideInside}
 use Rattle.query_bind.specs.Labels.{IsFirstPlace, IsLabelling, least_in}
-use Rattle.query_bind.specs.Stored.{column_shown, equality_shown, item_shown, items_shown}
+use Rattle.query_bind.specs.StoredParts.{column_shown, equality_shown, item_shown, items_shown}
 use Rattle.query_bind.specs.Variables.{HasVariables, HavePlaces, HavePlacesEach, is_variable, lists_shown, width_in}
-use Rattle.query_bind.specs.Weighed.{variables_at}
+use Rattle.query_bind.specs.WeighedQuery.{variables_at}
 use Rattle.query_bind.specs.declared.bound.BoundEquality.{BoundEquality}
 use Rattle.query_bind.specs.declared.bound.BoundItem.{BoundItem}
 use Rattle.query_bind.specs.declared.classes.Member.{Member}
-use Rattle.query_bind.proofs.Least.{at-member, shared-along}
-use Rattle.query_bind.proofs.Lists.{ascending-append, below-all, member-either, member-left, member-right}
-use Rattle.query_bind.proofs.Order.{same-columns}
-use Rattle.query_bind.proofs.Search.{all-at}
-use Rattle.query_bind.proofs.VariablesFound.{least-labelled, variables-found}
+use Rattle.query_bind.proofs.Least.{at_member, shared_along}
+use Rattle.query_bind.proofs.Lists.{ascending_append, below_all, member_either, member_left, member_right}
+use Rattle.query_bind.proofs.Order.{same_columns}
+use Rattle.query_bind.proofs.Search.{all_at}
+use Rattle.query_bind.proofs.VariablesFound.{least_labelled, variables_found}
 
 -- ---- a list with one more element
 
-pub at-left : {A : Type 0} (xs : List A) (y d : A) (i : ℕ) → i < length xs → get_or (xs ++ y ∷ []) i d ≡ get_or xs i d
-at-left [] y d i h = absurd (omega arith)
-at-left (x ∷ xs) y d zero h = refl
-at-left (x ∷ xs) y d (suc i) h = at-left xs y d i (omega (arith, h))
+pub at_left : {A : Type 0} (xs : List A) (y d : A) (i : ℕ) → i < length xs → get_or (xs ++ y ∷ []) i d ≡ get_or xs i d
+at_left [] y d i h = absurd (omega arith)
+at_left (x ∷ xs) y d zero h = refl
+at_left (x ∷ xs) y d (suc i) h = at_left xs y d i (omega (arith, h))
 
-pub at-last : {A : Type 0} (xs : List A) (y d : A) → get_or (xs ++ y ∷ []) (length xs) d ≡ y
-at-last [] y d = refl
-at-last (x ∷ xs) y d = at-last xs y d
+pub at_last : {A : Type 0} (xs : List A) (y d : A) → get_or (xs ++ y ∷ []) (length xs) d ≡ y
+at_last [] y d = refl
+at_last (x ∷ xs) y d = at_last xs y d
 
-pub length-last : {A : Type 0} (xs : List A) (y : A) → length (xs ++ y ∷ []) ≡ length xs + 1
-length-last xs y = length-append xs (y ∷ [])
+pub length_last : {A : Type 0} (xs : List A) (y : A) → length (xs ++ y ∷ []) ≡ length xs + 1
+length_last xs y = length-append xs (y ∷ [])
 
-pub fewer-kept : {A : Type 0} (test : A → Bool) (xs : List A) → length (filter test xs) ≤ length xs
-fewer-kept test [] = omega arith
-fewer-kept test (x ∷ xs) = by_test (test x) (fewer-kept test xs)
+pub fewer_kept : {A : Type 0} (test : A → Bool) (xs : List A) → length (filter test xs) ≤ length xs
+fewer_kept test [] = omega arith
+fewer_kept test (x ∷ xs) = by_test (test x) (fewer_kept test xs)
   where
     by_test : (b : Bool) → length (filter test xs) ≤ length xs → length (cond b (x ∷ filter test xs) (filter test xs)) ≤ suc (length xs)
     by_test true h = omega (arith, h)
@@ -54,66 +54,66 @@ module _ (item : ℕ) where
   abbrev columns : ℕ → ℕ → List Column
   columns start n = map (λ p. record { item = item; place = p }) (range_with_len start n)
 
-  columns-member : (p start n : ℕ) → start ≤ p → p < start + n → IsMember (record { item = item; place = p }) (columns start n)
-  columns-member p start zero low high = absurd (omega (arith, low, high))
-  columns-member p start (suc n) low high = elim (cases_eq p start) [
+  columns_member : (p start n : ℕ) → start ≤ p → p < start + n → IsMember (record { item = item; place = p }) (columns start n)
+  columns_member p start zero low high = absurd (omega (arith, low, high))
+  columns_member p start (suc n) low high = elim (cases_eq p start) [
     | inl e ↦ inl (λ i. record { item = item; place = e i })
-    | inr ne ↦ inr (columns-member p (start + 1) n (omega (arith, low, ne)) (omega (arith, high)))
+    | inr ne ↦ inr (columns_member p (start + 1) n (omega (arith, low, ne)) (omega (arith, high)))
   ]
 
-  columns-of : (c : Column) (start n : ℕ) → IsMember c (columns start n) → (c.item ≡ item) × (start ≤ c.place)
-  columns-of c start zero m = absurd m
-  columns-of c start (suc n) (inl e) = (ap (λ (z : Column). z.item) e, (let p : c.place ≡ start = ap (λ (z : Column). z.place) e in omega (arith, p)))
-  columns-of c start (suc n) (inr m) = let p = columns-of c (start + 1) n m in let l = p.1 in (p.0, omega (arith, l))
+  columns_of : (c : Column) (start n : ℕ) → IsMember c (columns start n) → (c.item ≡ item) × (start ≤ c.place)
+  columns_of c start zero m = absurd m
+  columns_of c start (suc n) (inl e) = (ap (λ (z : Column). z.item) e, (let p : c.place ≡ start = ap (λ (z : Column). z.place) e in omega (arith, p)))
+  columns_of c start (suc n) (inr m) = let p = columns_of c (start + 1) n m in let l = p.1 in (p.0, omega (arith, l))
 
-  columns-ascending : (start n : ℕ) → IsAscending ColumnBefore (columns start n)
-  columns-ascending start zero = tt
-  columns-ascending start (suc n) = (
-    below-all ColumnBefore (record { item = item; place = start }) (columns (start + 1) n)
-        (λ y m. let p = columns-of y (start + 1) n m in let l = p.1 in inr (sym p.0, omega (arith, l))),
-    columns-ascending (start + 1) n,
+  columns_ascending : (start n : ℕ) → IsAscending ColumnBefore (columns start n)
+  columns_ascending start zero = tt
+  columns_ascending start (suc n) = (
+    below_all ColumnBefore (record { item = item; place = start }) (columns (start + 1) n)
+        (λ y m. let p = columns_of y (start + 1) n m in let l = p.1 in inr (sym p.0, omega (arith, l))),
+    columns_ascending (start + 1) n,
   )
 
 module _ (tables : List Table) where
-  from-item : (c : Column) (items : List Item) (n : ℕ) → IsMember c (columns_from n tables items) → n ≤ c.item
-  from-item c [] n m = absurd m
-  from-item c (item ∷ items) n m = elim (member-either c (item_columns n (length (table_at tables item.table).names)) (columns_from (n + 1) tables items) m) [
-    | inl own ↦ let e = (columns-of n c 0 (length (table_at tables item.table).names) own).0 in omega (arith, e)
-    | inr later ↦ let l = from-item c items (n + 1) later in omega (arith, l)
+  from_item : (c : Column) (items : List Item) (n : ℕ) → IsMember c (columns_from n tables items) → n ≤ c.item
+  from_item c [] n m = absurd m
+  from_item c (item ∷ items) n m = elim (member_either c (item_columns n (length (table_at tables item.table).names)) (columns_from (n + 1) tables items) m) [
+    | inl own ↦ let e = (columns_of n c 0 (length (table_at tables item.table).names) own).0 in omega (arith, e)
+    | inr later ↦ let l = from_item c items (n + 1) later in omega (arith, l)
   ]
 
-  pub from-ascending : (items : List Item) (n : ℕ) → IsAscending ColumnBefore (columns_from n tables items)
-  from-ascending [] n = tt
-  from-ascending (item ∷ items) n =
-      ascending-append ColumnBefore (item_columns n (length (table_at tables item.table).names)) (columns_from (n + 1) tables items)
-      (columns-ascending n 0 (length (table_at tables item.table).names)) (from-ascending items (n + 1))
+  pub from_ascending : (items : List Item) (n : ℕ) → IsAscending ColumnBefore (columns_from n tables items)
+  from_ascending [] n = tt
+  from_ascending (item ∷ items) n =
+      ascending_append ColumnBefore (item_columns n (length (table_at tables item.table).names)) (columns_from (n + 1) tables items)
+      (columns_ascending n 0 (length (table_at tables item.table).names)) (from_ascending items (n + 1))
       (λ x y m k.
-      let e = (columns-of n x 0 (length (table_at tables item.table).names) m).0 in
-      let l = from-item y items (n + 1) k in
+      let e = (columns_of n x 0 (length (table_at tables item.table).names) m).0 in
+      let l = from_item y items (n + 1) k in
       inl (omega (arith, e, l)))
 
-  from-member : (c : Column) (items : List Item) (n k : ℕ) → c.item ≡ n + k → k < length items
+  from_member : (c : Column) (items : List Item) (n k : ℕ) → c.item ≡ n + k → k < length items
       → c.place < length (table_at tables (get_or items k (record { table = 0; alias = [] })).table).names → IsMember c (columns_from n tables items)
-  from-member c [] n k e h inside = absurd (omega (arith, h))
-  from-member c (item ∷ items) n zero e h inside =
-      let here : c ≡ record { item = n; place = c.place } = same-columns c (record { item = n; place = c.place }) (omega (arith, e)) refl in
+  from_member c [] n k e h inside = absurd (omega (arith, h))
+  from_member c (item ∷ items) n zero e h inside =
+      let here : c ≡ record { item = n; place = c.place } = same_columns c (record { item = n; place = c.place }) (omega (arith, e)) refl in
       subst (λ (z : Column). IsMember z (columns_from n tables (item ∷ items))) (sym here)
-      (member-left (record { item = n; place = c.place }) (item_columns n (length (table_at tables item.table).names)) (columns_from (n + 1) tables items)
-      (columns-member n c.place 0 (length (table_at tables item.table).names) (omega arith) (omega (arith, inside))))
-  from-member c (item ∷ items) n (suc k) e h inside =
-      member-right c (item_columns n (length (table_at tables item.table).names)) (columns_from (n + 1) tables items)
-      (from-member c items (n + 1) k (omega (arith, e)) (omega (arith, h)) inside)
+      (member_left (record { item = n; place = c.place }) (item_columns n (length (table_at tables item.table).names)) (columns_from (n + 1) tables items)
+      (columns_member n c.place 0 (length (table_at tables item.table).names) (omega arith) (omega (arith, inside))))
+  from_member c (item ∷ items) n (suc k) e h inside =
+      member_right c (item_columns n (length (table_at tables item.table).names)) (columns_from (n + 1) tables items)
+      (from_member c items (n + 1) k (omega (arith, e)) (omega (arith, h)) inside)
 
-  pub inside-member : (items : List Item) (c : Column) → IsInside tables items c → IsMember c (columns_from 0 tables items)
-  inside-member items c h = from-member c items 0 c.item (omega arith) h.item h.place
+  pub inside_member : (items : List Item) (c : Column) → IsInside tables items c → IsMember c (columns_from 0 tables items)
+  inside_member items c h = from_member c items 0 c.item (omega arith) h.item h.place
 
-  pub from-few : (items : List Item) (n : ℕ) → AllByRecursion (λ (i : Item). length (table_at tables i.table).names ≤ 64) items
+  pub from_few : (items : List Item) (n : ℕ) → AllByRecursion (λ (i : Item). length (table_at tables i.table).names ≤ 64) items
       → length (columns_from n tables items) ≤ 64 * length items
-  from-few [] n h = omega arith
-  from-few (item ∷ items) n h =
+  from_few [] n h = omega arith
+  from_few (item ∷ items) n h =
       let w = length (table_at tables item.table).names in
       let narrow = h.0 in
-      let rest = from-few items (n + 1) h.1 in
+      let rest = from_few items (n + 1) h.1 in
       let size = length-append (item_columns n w) (columns_from (n + 1) tables items) in
       let own : length (item_columns n w) ≡ w = length-map-range_with_len {X = Column} (λ (p : ℕ). record { item = n; place = p }) 0 w in
       omega (arith, narrow, rest, size, own)
@@ -122,14 +122,14 @@ module _ (tables : List Table) where
 
 module _ (tables : List Table) (items : List Item) (es : List Equality) (all : AllByRecursion (EqualityInside tables items) es) where
   -- a column that is linked to another one exists
-  pub linked-inside : (c d : Column) → Linked es c d → (c ≡ d) ⊎ IsInside tables items c
-  linked-inside c d same = inl refl
-  linked-inside c d (forth {e = e} {b = b} m is h) = inr (all-member (EqualityInside tables items) e es all m).left
-  linked-inside c d (back {e = e} {b = b} m is h) =
-      inr (subst (λ (s : Side). SideInside tables items s) is (all-member (EqualityInside tables items) e es all m).right)
+  pub linked_inside : (c d : Column) → Linked es c d → (c ≡ d) ⊎ IsInside tables items c
+  linked_inside c d same = inl refl
+  linked_inside c d (forth {e = e} {b = b} m is h) = inr (all_member (EqualityInside tables items) e es all m).left
+  linked_inside c d (back {e = e} {b = b} m is h) =
+      inr (subst (λ (s : Side). SideInside tables items s) is (all_member (EqualityInside tables items) e es all m).right)
 
-  pub shared-inside : (c : Column) → IsShared es c → IsInside tables items c
-  shared-inside c s = elim (linked-inside c s.other s.linked) [
+  pub shared_inside : (c : Column) → IsShared es c → IsInside tables items c
+  shared_inside c s = elim (linked_inside c s.other s.linked) [
     | inl e ↦ absurd (s.elsewhere (ap (λ (z : Column). z.item) (sym e)))
     | inr h ↦ h
   ]
@@ -138,18 +138,18 @@ module _ (tables : List Table) (items : List Item) (es : List Equality) (all : A
 
 module _ (es : List Equality) (label : Column → Column) (known : IsLabelling es label) (variables : List Column) (are : AreVariables es variables)
     (item width : ℕ) (wide : (place : ℕ) → IsShared es (record { item = item; place = place }) → place < width) where
-  least-of : (number : ℕ) → number < length variables → label (variable_at variables number) ≡ variable_at variables number
-  least-of number h = least-labelled es label known (variable_at variables number) ((are.members (variable_at variables number)).0 (at-member variables number h)).1
+  least_of : (number : ℕ) → number < length variables → label (variable_at variables number) ≡ variable_at variables number
+  least_of number h = least_labelled es label known (variable_at variables number) ((are.members (variable_at variables number)).0 (at_member variables number h)).1
 
-  pub places-variables : (list : List (ℕ × ℕ)) → HavePlaces label variables item width (length variables) list → AreVariablesOf es variables item list
-  places-variables list h = record {
+  pub places_variables : (list : List (ℕ × ℕ)) → HavePlaces label variables item width (length variables) list → AreVariablesOf es variables item list
+  places_variables list h = record {
     ascending = h.ascending;
     members = λ v. (
       λ m.
           let p = (h.members v).0 m in
           record {
             known = p.0;
-            linked = known.sound (variable_at variables v.0) (record { item = item; place = v.1 }) (least-of v.0 p.0 ∙ sym p.1.labelled);
+            linked = known.sound (variable_at variables v.0) (record { item = item; place = v.1 }) (least_of v.0 p.0 ∙ sym p.1.labelled);
             least = λ other link. elim (cases_lt other v.1) [
               | inl less ↦ absurd (p.1.first other less (sym (known.complete (record { item = item; place = v.1 }) (record { item = item; place = other }) link) ∙ p.1.labelled))
               | inr more ↦ more
@@ -158,8 +158,8 @@ module _ (es : List Equality) (label : Column → Column) (known : IsLabelling e
       λ (k : HasVariable es variables item v.0 v.1).
           let variable = variable_at variables v.0 in
           let here : Column = record { item = item; place = v.1 } in
-          let shared : IsShared es here = shared-along es variable here k.linked ((are.members variable).0 (at-member variables v.0 k.known)).0 in
-          let labelled : label here ≡ variable = sym (known.complete variable here k.linked) ∙ least-of v.0 k.known in
+          let shared : IsShared es here = shared_along es variable here k.linked ((are.members variable).0 (at_member variables v.0 k.known)).0 in
+          let labelled : label here ≡ variable = sym (known.complete variable here k.linked) ∙ least_of v.0 k.known in
           let first : IsFirstPlace label item width variable v.1 = record {
             inside = wide v.1 shared;
             labelled = labelled;
@@ -173,15 +173,15 @@ module _ (es : List Equality) (label : Column → Column) (known : IsLabelling e
 
 -- ---- the variables of all items
 
-pub each-none : (label : Column → Column) (variables : List Column) (tables : List Table) (items : List Item) → HavePlacesEach label variables tables items 0 []
-each-none label variables tables items = record { count = refl; each = λ i h. absurd (omega (arith, h)) }
+pub each_none : (label : Column → Column) (variables : List Column) (tables : List Table) (items : List Item) → HavePlacesEach label variables tables items 0 []
+each_none label variables tables items = record { count = refl; each = λ i h. absurd (omega (arith, h)) }
 
-pub each-more : (label : Column → Column) (variables : List (ℕ × ℕ)) (tables : List Table) (items : List BoundItem) (n width : ℕ) (d : BoundItem)
+pub each_more : (label : Column → Column) (variables : List (ℕ × ℕ)) (tables : List Table) (items : List BoundItem) (n width : ℕ) (d : BoundItem)
     (lists : List (Vec (ℕ × ℕ) Global)) (v : Vec (ℕ × ℕ) Global) → n < length items → width ≡ length (table_at tables (get_or items n d).table).names
     → HavePlacesEach label (map column_shown variables) tables (items_shown items) n (lists_shown lists)
     → HavePlaces label (map column_shown variables) n width (length variables) v.items
     → HavePlacesEach label (map column_shown variables) tables (items_shown items) (n + 1) (lists_shown (lists ++ v ∷ []))
-each-more label variables tables items n width d lists v h wide known own =
+each_more label variables tables items n width d lists v h wide known own =
     let old = lists_shown lists in
     let more : lists_shown (lists ++ v ∷ []) ≡ old ++ v.items ∷ [] = map-append (λ (u : Vec (ℕ × ℕ) Global). u.items) lists (v ∷ []) in
     let shown = map column_shown variables in
@@ -192,54 +192,54 @@ each-more label variables tables items n width d lists v h wide known own =
     (subst (λ (k : ℕ). HavePlaces label shown n k (length variables) v.items) width_is own) in
     let count = known.count in
     subst (λ (l : List (List (ℕ × ℕ))). HavePlacesEach label shown tables (items_shown items) (n + 1) l) (sym more) (record {
-      count = length-last old v.items ∙ ap (λ (k : ℕ). k + 1) known.count;
+      count = length_last old v.items ∙ ap (λ (k : ℕ). k + 1) known.count;
       each = λ i less. elim (cases_eq i n) [
         | inl e ↦
-            let last : get_or (old ++ v.items ∷ []) i [] ≡ v.items = ap (λ (k : ℕ). get_or (old ++ v.items ∷ []) k []) (e ∙ sym count) ∙ at-last old v.items [] in
+            let last : get_or (old ++ v.items ∷ []) i [] ≡ v.items = ap (λ (k : ℕ). get_or (old ++ v.items ∷ []) k []) (e ∙ sym count) ∙ at_last old v.items [] in
             subst (λ (l : List (ℕ × ℕ)). HavePlaces label shown i (width_in tables (items_shown items) i) (length shown) l) (sym last)
             (subst (λ (k : ℕ). HavePlaces label shown k (width_in tables (items_shown items) k) (length shown) v.items) (sym e) here)
         | inr ne ↦
             subst (λ (l : List (ℕ × ℕ)). HavePlaces label shown i (width_in tables (items_shown items) i) (length shown) l)
-            (sym (at-left old v.items [] i (omega (arith, less, ne, count)))) (known.each i (omega (arith, less, ne)))
+            (sym (at_left old v.items [] i (omega (arith, less, ne, count)))) (known.each i (omega (arith, less, ne)))
       ];
     })
 
 -- what is found for a query that fits its tables
-pub has-variables : (query : Query) (tables : List Table) (label : Column → Column) (variables : List Column) (lists : List (List (ℕ × ℕ))) → IsWithin query tables
+pub has_variables : (query : Query) (tables : List Table) (label : Column → Column) (variables : List Column) (lists : List (List (ℕ × ℕ))) → IsWithin query tables
     → IsLabelling query.equalities label → AreVariables query.equalities variables → length variables ≤ 1024
     → HavePlacesEach label variables tables query.items (length query.items) lists → HasVariables query variables lists
-has-variables query tables label variables lists within known are few each = record {
+has_variables query tables label variables lists within known are few each = record {
   variables = are;
   few = few;
   listed = each.count;
-  lists = λ item inside. places-variables query.equalities label known variables are item (width_in tables query.items item)
-      (λ place s. (shared-inside tables query.items query.equalities within.equalities (record { item = item; place = place }) s).place)
+  lists = λ item inside. places_variables query.equalities label known variables are item (width_in tables query.items item)
+      (λ place s. (shared_inside tables query.items query.equalities within.equalities (record { item = item; place = place }) s).place)
       (variables_at lists item) (each.each item inside);
 }
 
 -- ---- the variables that are found for a stored query
-with-table : (tables : List Table) (items : List BoundItem) → AllByRecursion (HasTable tables) (items_shown items) → AllByRecursion (λ (i : BoundItem). i.table < length tables) items
-with-table tables [] h = tt
-with-table tables (i ∷ items) h = (h.0, with-table tables items h.1)
+with_table : (tables : List Table) (items : List BoundItem) → AllByRecursion (HasTable tables) (items_shown items) → AllByRecursion (λ (i : BoundItem). i.table < length tables) items
+with_table tables [] h = tt
+with_table tables (i ∷ items) h = (h.0, with_table tables items h.1)
 
-narrow-items : (tables : List Table) (items : List Item) → AllByRecursion IsSound tables → AllByRecursion (HasTable tables) items
+narrow_items : (tables : List Table) (items : List Item) → AllByRecursion IsSound tables → AllByRecursion (HasTable tables) items
     → AllByRecursion (λ (i : Item). length (table_at tables i.table).names ≤ 64) items
-narrow-items tables [] sound h = tt
-narrow-items tables (i ∷ items) sound h =
-    (sound-few_columns (table_at tables i.table) (all-at IsSound tables i.table (record { names = []; rows = [] }) sound h.0), narrow-items tables items sound h.1)
+narrow_items tables [] sound h = tt
+narrow_items tables (i ∷ items) sound h =
+    (sound_few_columns (table_at tables i.table) (all_at IsSound tables i.table (record { names = []; rows = [] }) sound h.0), narrow_items tables items sound h.1)
 
 module _ (query : Query) (tables : List Table) (within : IsWithin query tables) (sound : AllByRecursion IsSound tables)
     (items : List BoundItem) (items_are : items_shown items ≡ query.items) (few : length items ≤ 16) where
-  pub items-known : AllByRecursion (λ (i : BoundItem). i.table < length tables) items
-  items-known = with-table tables items (subst (λ (l : List Item). AllByRecursion (HasTable tables) l) (sym items_are) within.items)
+  pub items_known : AllByRecursion (λ (i : BoundItem). i.table < length tables) items
+  items_known = with_table tables items (subst (λ (l : List Item). AllByRecursion (HasTable tables) l) (sym items_are) within.items)
 
   module _ (columns least : List (ℕ × ℕ)) (all : map column_shown columns ≡ columns_from 0 tables (items_shown items)) (test : ℕ × ℕ → Bool)
       (found : least ≡ filter test columns) where
-    pub few-variables : length least ≤ 1024
-    few-variables =
-        let narrow = narrow-items tables (items_shown items) sound (subst (λ (l : List Item). AllByRecursion (HasTable tables) l) (sym items_are) within.items) in
-        let kept : length least ≤ length columns = subst (λ (l : List (ℕ × ℕ)). length l ≤ length columns) (sym found) (fewer-kept test columns) in
-        omega (arith, kept, length-map columns column_shown, ap length all, from-few tables (items_shown items) 0 narrow, length-map items item_shown, few)
+    pub few_variables : length least ≤ 1024
+    few_variables =
+        let narrow = narrow_items tables (items_shown items) sound (subst (λ (l : List Item). AllByRecursion (HasTable tables) l) (sym items_are) within.items) in
+        let kept : length least ≤ length columns = subst (λ (l : List (ℕ × ℕ)). length l ≤ length columns) (sym found) (fewer_kept test columns) in
+        omega (arith, kept, length-map columns column_shown, ap length all, from_few tables (items_shown items) 0 narrow, length-map items item_shown, few)
 
   pub structure : (ms : List Member) (eqs : List BoundEquality) (columns least : List (ℕ × ℕ)) (lists : List (List (ℕ × ℕ))) → map equality_shown eqs ≡ query.equalities
       → IsLabelling (map equality_shown eqs) (least_in ms) → map column_shown columns ≡ columns_from 0 tables (items_shown items)
@@ -249,17 +249,17 @@ module _ (query : Query) (tables : List Table) (within : IsWithin query tables) 
       let label = least_in ms in
       let shared : (c : Column) → IsShared (map equality_shown eqs) c → IsMember c (map column_shown columns) =
       λ c s. subst (λ (l : List Column). IsMember c l) (sym all)
-      (inside-member tables (items_shown items) c
+      (inside_member tables (items_shown items) c
       (subst (λ (l : List Item). IsInside tables l c) (sym items_are)
-      (shared-inside tables query.items query.equalities within.equalities c (subst (λ (es : List Equality). IsShared es c) eqs_are s)))) in
+      (shared_inside tables query.items query.equalities within.equalities c (subst (λ (es : List Equality). IsShared es c) eqs_are s)))) in
       let ascending : IsAscending ColumnBefore (map column_shown columns) =
-      subst (λ (l : List Column). IsAscending ColumnBefore l) (sym all) (from-ascending tables (items_shown items) 0) in
+      subst (λ (l : List Column). IsAscending ColumnBefore l) (sym all) (from_ascending tables (items_shown items) 0) in
       let are : AreVariables (map equality_shown eqs) (map column_shown least) =
-      subst (λ (l : List (ℕ × ℕ)). AreVariables (map equality_shown eqs) (map column_shown l)) (sym found) (variables-found ms eqs known columns ascending shared) in
+      subst (λ (l : List (ℕ × ℕ)). AreVariables (map equality_shown eqs) (map column_shown l)) (sym found) (variables_found ms eqs known columns ascending shared) in
       let few_least : length (map column_shown least) ≤ 1024 =
-      omega (arith, length-map least column_shown, few-variables columns least all (λ c. is_variable ms eqs (column_shown c)) found) in
+      omega (arith, length-map least column_shown, few_variables columns least all (λ c. is_variable ms eqs (column_shown c)) found) in
       let count : length items ≡ length query.items = sym (length-map items item_shown) ∙ ap length items_are in
-      has-variables query tables label (map column_shown least) lists within
+      has_variables query tables label (map column_shown least) lists within
       (subst (λ (es : List Equality). IsLabelling es label) eqs_are known)
       (subst (λ (es : List Equality). AreVariables es (map column_shown least)) eqs_are are) few_least
       (subst (λ (n : ℕ). HavePlacesEach label (map column_shown least) tables query.items n lists) count

@@ -14,11 +14,11 @@ use Rattle.query_bind.specs.FilterViews.{constant_shown}
 use Rattle.query_bind.specs.Filters.{HasConstants, HasEqual, HaveConstants, HavePairs, IsFilterOf, ItemFilter, Reaches}
 use Rattle.query_bind.specs.Inside.{IsInside}
 use Rattle.query_bind.specs.Labels.{HasNoPlace, IsFirstPlace, IsLabelling}
-use Rattle.query_bind.specs.Stored.{equality_shown}
+use Rattle.query_bind.specs.StoredParts.{equality_shown}
 use Rattle.query_bind.specs.declared.bound.BoundEquality.{BoundEquality}
 use Rattle.query_bind.specs.declared.filters.Constant.{Constant}
-use Rattle.query_bind.proofs.Lists.{member-last, member-left, member-map, member-parts, member-unmap, or-parts}
-use Rattle.query_bind.proofs.Witness.{linked-back}
+use Rattle.query_bind.proofs.Lists.{member_last, member_left, member_map, member_parts, member_unmap, or_parts}
+use Rattle.query_bind.proofs.Witness.{linked_back}
 
 abbrev column : ℕ → ℕ → Column
 column item place = record { item = item; place = place }
@@ -26,24 +26,24 @@ column item place = record { item = item; place = place }
 -- ---- pairs
 
 module _ (label : Column → Column) (item : ℕ) where
-  pub pairs-none : HavePairs label item 0 []
-  pairs-none = record { sound = λ v m. absurd m; found = λ q h. absurd (omega (arith, h)) }
+  pub pairs_none : HavePairs label item 0 []
+  pairs_none = record { sound = λ v m. absurd m; found = λ q h. absurd (omega (arith, h)) }
 
-  pub pairs-more : (n p : ℕ) (list : List (ℕ × ℕ)) → HavePairs label item n list → IsFirstPlace label item n (label (column item n)) p
+  pub pairs_more : (n p : ℕ) (list : List (ℕ × ℕ)) → HavePairs label item n list → IsFirstPlace label item n (label (column item n)) p
       → HavePairs label item (n + 1) (list ++ (p, n) ∷ [])
-  pairs-more n p list known here = record {
-    sound = λ v m. elim (member-parts v (p, n) list m) [
+  pairs_more n p list known here = record {
+    sound = λ v m. elim (member_parts v (p, n) list m) [
       | inl old ↦ known.sound v old
       | inr e ↦ subst (λ (z : ℕ × ℕ). IsFirstPlace label item z.1 (label (column item z.1)) z.0) (sym e) here
     ];
     found = λ q h. elim (cases_eq q n) [
-      | inl e ↦ inr (p, subst (λ (z : ℕ). IsMember (p, z) (list ++ (p, n) ∷ [])) (sym e) (member-last (p, n) list))
-      | inr ne ↦ elim (known.found q (omega (arith, h, ne))) [ inl none ↦ inl none | inr f ↦ inr (f.0, member-left (f.0, q) list ((p, n) ∷ []) f.1) ]
+      | inl e ↦ inr (p, subst (λ (z : ℕ). IsMember (p, z) (list ++ (p, n) ∷ [])) (sym e) (member_last (p, n) list))
+      | inr ne ↦ elim (known.found q (omega (arith, h, ne))) [ inl none ↦ inl none | inr f ↦ inr (f.0, member_left (f.0, q) list ((p, n) ∷ []) f.1) ]
     ];
   }
 
-  pub pairs-skip : (n : ℕ) (list : List (ℕ × ℕ)) → HavePairs label item n list → HasNoPlace label item n (label (column item n)) → HavePairs label item (n + 1) list
-  pairs-skip n list known none = record {
+  pub pairs_skip : (n : ℕ) (list : List (ℕ × ℕ)) → HavePairs label item n list → HasNoPlace label item n (label (column item n)) → HavePairs label item (n + 1) list
+  pairs_skip n list known none = record {
     sound = known.sound;
     found = λ q h. elim (cases_eq q n) [
       | inl e ↦ inl (subst (λ (z : ℕ). HasNoPlace label item z (label (column item z))) (sym e) none)
@@ -57,14 +57,14 @@ module _ (label : Column → Column) (item : ℕ) where
     pub labelled : label (column item root) ≡ label (column item place)
     pub first : (other : ℕ) → other < root → label (column item other) ≡ label (column item place) → ⊥
 
-  pub root-of : (n : ℕ) (pairs : List (ℕ × ℕ)) → HavePairs label item n pairs → (place : ℕ) → place < n → (root : ℕ) × IsRoot pairs place root
-  root-of n pairs known place h = elim (known.found place h) [
+  pub root_of : (n : ℕ) (pairs : List (ℕ × ℕ)) → HavePairs label item n pairs → (place : ℕ) → place < n → (root : ℕ) × IsRoot pairs place root
+  root_of n pairs known place h = elim (known.found place h) [
     | inl none ↦ (place, record { reaches = inl refl; labelled = refl; first = none })
     | inr f ↦ let p = known.sound (f.0, place) f.1 in (f.0, record { reaches = inr f.1; labelled = p.labelled; first = p.first })
   ]
 
-  pub one-root : (pairs : List (ℕ × ℕ)) (a b p q : ℕ) → IsRoot pairs a p → IsRoot pairs b q → label (column item a) ≡ label (column item b) → p ≡ q
-  one-root pairs a b p q x y same = elim (cases_order p q) [
+  pub one_root_lem : (pairs : List (ℕ × ℕ)) (a b p q : ℕ) → IsRoot pairs a p → IsRoot pairs b q → label (column item a) ≡ label (column item b) → p ≡ q
+  one_root_lem pairs a b p q x y same = elim (cases_order p q) [
     | inl e ↦ e
     | inr (inl l) ↦ absurd (y.first p l (x.labelled ∙ same))
     | inr (inr g) ↦ absurd (x.first q g (y.labelled ∙ sym same))
@@ -73,39 +73,39 @@ module _ (label : Column → Column) (item : ℕ) where
 -- ---- constants
 
 module _ (label : Column → Column) (item width : ℕ) where
-  pub constants-none : HaveConstants label item width [] []
-  constants-none = record { sound = λ v m. absurd m; found = λ e bytes m is. absurd m }
+  pub constants_none : HaveConstants label item width [] []
+  constants_none = record { sound = λ v m. absurd m; found = λ e bytes m is. absurd m }
 
-  pub constants-more : (es : List Equality) (e : Equality) (bytes : List ℕ) (p : ℕ) (list : List (ℕ × List ℕ)) → HaveConstants label item width es list
+  pub constants_more : (es : List Equality) (e : Equality) (bytes : List ℕ) (p : ℕ) (list : List (ℕ × List ℕ)) → HaveConstants label item width es list
       → e.right ≡ of_constant bytes → IsFirstPlace label item width (label e.left) p → HaveConstants label item width (es ++ e ∷ []) (list ++ (p, bytes) ∷ [])
-  constants-more es e bytes p list known is here = record {
-    sound = λ v m. elim (member-parts v (p, bytes) list m) [
-      | inl old ↦ let k = known.sound v old in (k.0, member-left k.0 es (e ∷ []) k.1, k.2, k.3)
+  constants_more es e bytes p list known is here = record {
+    sound = λ v m. elim (member_parts v (p, bytes) list m) [
+      | inl old ↦ let k = known.sound v old in (k.0, member_left k.0 es (e ∷ []) k.1, k.2, k.3)
       | inr at ↦
           let own : (q : Equality) × IsMember q (es ++ e ∷ []) × (q.right ≡ of_constant bytes) × IsFirstPlace label item width (label q.left) p =
-          (e, member-last e es, is, here) in
+          (e, member_last e es, is, here) in
           subst (λ (z : ℕ × List ℕ). (q : Equality) × IsMember q (es ++ e ∷ []) × (q.right ≡ of_constant z.1) × IsFirstPlace label item width (label q.left) z.0) (sym at) own
     ];
-    found = λ q b m at. elim (member-parts q e es m) [
-      | inl old ↦ elim (known.found q b old at) [ inl none ↦ inl none | inr k ↦ inr (k.0, member-left (k.0, b) list ((p, bytes) ∷ []) k.1, k.2) ]
+    found = λ q b m at. elim (member_parts q e es m) [
+      | inl old ↦ elim (known.found q b old at) [ inl none ↦ inl none | inr k ↦ inr (k.0, member_left (k.0, b) list ((p, bytes) ∷ []) k.1, k.2) ]
       | inr new ↦
           let sides : of_constant b ≡ of_constant bytes = sym at ∙ ap (λ (z : Equality). z.right) new ∙ is in
           let same : b ≡ bytes = cc in
           inr (
             p,
-            subst (λ (z : List ℕ). IsMember (p, z) (list ++ (p, bytes) ∷ [])) (sym same) (member-last (p, bytes) list),
+            subst (λ (z : List ℕ). IsMember (p, z) (list ++ (p, bytes) ∷ [])) (sym same) (member_last (p, bytes) list),
             subst (λ (z : Equality). IsFirstPlace label item width (label z.left) p) (sym new) here,
           )
     ];
   }
 
   -- a constant that is in the list already
-  pub constants-again : (es : List Equality) (e : Equality) (bytes : List ℕ) (p : ℕ) (list : List (ℕ × List ℕ)) → HaveConstants label item width es list
+  pub constants_again : (es : List Equality) (e : Equality) (bytes : List ℕ) (p : ℕ) (list : List (ℕ × List ℕ)) → HaveConstants label item width es list
       → e.right ≡ of_constant bytes → IsFirstPlace label item width (label e.left) p → IsMember (p, bytes) list
       → HaveConstants label item width (es ++ e ∷ []) list
-  constants-again es e bytes p list known is here there = record {
-    sound = λ v m. let k = known.sound v m in (k.0, member-left k.0 es (e ∷ []) k.1, k.2, k.3);
-    found = λ q b m at. elim (member-parts q e es m) [
+  constants_again es e bytes p list known is here there = record {
+    sound = λ v m. let k = known.sound v m in (k.0, member_left k.0 es (e ∷ []) k.1, k.2, k.3);
+    found = λ q b m at. elim (member_parts q e es m) [
       | inl old ↦ known.found q b old at
       | inr new ↦
           let sides : of_constant b ≡ of_constant bytes = sym at ∙ ap (λ (z : Equality). z.right) new ∙ is in
@@ -118,33 +118,33 @@ module _ (label : Column → Column) (item width : ℕ) where
     ];
   }
 
-  pub constants-skip : (es : List Equality) (e : Equality) (list : List (ℕ × List ℕ)) → HaveConstants label item width es list
+  pub constants_skip : (es : List Equality) (e : Equality) (list : List (ℕ × List ℕ)) → HaveConstants label item width es list
       → ((bytes : List ℕ) → e.right ≡ of_constant bytes → HasNoPlace label item width (label e.left)) → HaveConstants label item width (es ++ e ∷ []) list
-  constants-skip es e list known none = record {
-    sound = λ v m. let k = known.sound v m in (k.0, member-left k.0 es (e ∷ []) k.1, k.2, k.3);
-    found = λ q b m at. elim (member-parts q e es m) [
+  constants_skip es e list known none = record {
+    sound = λ v m. let k = known.sound v m in (k.0, member_left k.0 es (e ∷ []) k.1, k.2, k.3);
+    found = λ q b m at. elim (member_parts q e es m) [
       | inl old ↦ known.found q b old at
       | inr new ↦ inl (subst (λ (z : Equality). HasNoPlace label item width (label z.left)) (sym new) (none b (sym (ap (λ (z : Equality). z.right) new) ∙ at)))
     ];
   }
 
-pub listed-member : (place : ℕ) (bytes : List ℕ) (xs : List Constant) → list_any (λ (c : Constant). (c.place == place) && bytes_eq c.bytes bytes) xs ≡ true
+pub listed_member : (place : ℕ) (bytes : List ℕ) (xs : List Constant) → list_any (λ (c : Constant). (c.place == place) && bytes_eq c.bytes bytes) xs ≡ true
     → IsMember (place, bytes) (map constant_shown xs)
-listed-member place bytes [] h = absurd (cc)
-listed-member place bytes (x ∷ xs) h =
-    elim (or-parts ((x.place == place) && bytes_eq x.bytes bytes) (list_any (λ (c : Constant). (c.place == place) && bytes_eq c.bytes bytes) xs) h) [
+listed_member place bytes [] h = absurd (cc)
+listed_member place bytes (x ∷ xs) h =
+    elim (or_parts ((x.place == place) && bytes_eq x.bytes bytes) (list_any (λ (c : Constant). (c.place == place) && bytes_eq c.bytes bytes) xs) h) [
       | inl t ↦
           let p = and_parts (x.place == place) (bytes_eq x.bytes bytes) t in
           let a : place ≡ x.place = sym ((Decides-eqb x.place place).0 p.0) in
           let b : bytes ≡ x.bytes = sym ((bytes_eq-Decides x.bytes bytes).0 p.1) in
           inl (λ j. (a j, b j))
-      | inr r ↦ inr (listed-member place bytes xs r)
+      | inr r ↦ inr (listed_member place bytes xs r)
     ]
 
 -- the first i equalities, and one more
-pub equalities-more : (es : List BoundEquality) (i : ℕ) (e : BoundEquality) → i < length es → e ≡ get_or es i e
+pub equalities_more : (es : List BoundEquality) (i : ℕ) (e : BoundEquality) → i < length es → e ≡ get_or es i e
     → map equality_shown (take i es) ++ equality_shown e ∷ [] ≡ map equality_shown (take (i + 1) es)
-equalities-more es i e h is =
+equalities_more es i e h is =
     let more : take (i + 1) es ≡ take i es ++ e ∷ [] = take_more es i e h ∙ ap (λ (z : BoundEquality). take i es ++ z ∷ []) (sym is) in
     sym (ap (map equality_shown) more ∙ map-append equality_shown (take i es) (e ∷ []))
 
@@ -153,56 +153,56 @@ equalities-more es i e h is =
 module _ (tables : List Table) (items : List Item) (es : List Equality) (inside : (c d : Column) → Linked es c d → (c ≡ d) ⊎ IsInside tables items c)
     (there : (e : Equality) → IsMember e es → IsInside tables items e.left)
     (label : Column → Column) (known : IsLabelling es label) (item width : ℕ) (wide : (place : ℕ) → IsInside tables items (column item place) → place < width) where
-  joined-by : (f : ItemFilter) → HavePairs label item width f.pairs → (a b : ℕ) → Linked es (column item a) (column item b)
+  joined_by : (f : ItemFilter) → HavePairs label item width f.pairs → (a b : ℕ) → Linked es (column item a) (column item b)
       → (a ≡ b) ⊎ ((first : ℕ) × Reaches f.pairs first a × Reaches f.pairs first b)
-  joined-by f pairs a b link = elim (inside (column item a) (column item b) link) [
+  joined_by f pairs a b link = elim (inside (column item a) (column item b) link) [
     | inl e ↦ inl (ap (λ (c : Column). c.place) e)
-    | inr ia ↦ elim (inside (column item b) (column item a) (linked-back link)) [
+    | inr ia ↦ elim (inside (column item b) (column item a) (linked_back link)) [
       | inl e ↦ inl (sym (ap (λ (c : Column). c.place) e))
       | inr ib ↦
-          let x = root-of label item width f.pairs pairs a (wide a ia) in
-          let y = root-of label item width f.pairs pairs b (wide b ib) in
-          let one : x.0 ≡ y.0 = one-root label item f.pairs a b x.0 y.0 x.1 y.1 (known.complete (column item a) (column item b) link) in
+          let x = root_of label item width f.pairs pairs a (wide a ia) in
+          let y = root_of label item width f.pairs pairs b (wide b ib) in
+          let one : x.0 ≡ y.0 = one_root_lem label item f.pairs a b x.0 y.0 x.1 y.1 (known.complete (column item a) (column item b) link) in
           inr (x.0, x.1.reaches, subst (λ (z : ℕ). Reaches f.pairs z b) (sym one) y.1.reaches)
     ]
   ]
 
-  fixed-inside : (a : ℕ) (bytes : List ℕ) → IsFixedTo es (column item a) bytes → IsInside tables items (column item a)
-  fixed-inside a bytes f = elim (inside (column item a) f.equality.left f.linked) [
+  fixed_inside : (a : ℕ) (bytes : List ℕ) → IsFixedTo es (column item a) bytes → IsInside tables items (column item a)
+  fixed_inside a bytes f = elim (inside (column item a) f.equality.left f.linked) [
     | inl e ↦ subst (λ (c : Column). IsInside tables items c) (sym e) (there f.equality f.member)
     | inr h ↦ h
   ]
 
-  constants-by : (f : ItemFilter) → HavePairs label item width f.pairs → HaveConstants label item width es f.constants → (a : ℕ) (bytes : List ℕ)
+  constants_by : (f : ItemFilter) → HavePairs label item width f.pairs → HaveConstants label item width es f.constants → (a : ℕ) (bytes : List ℕ)
       → IsFixedTo es (column item a) bytes → (first : ℕ) × Reaches f.pairs first a × IsMember (first, bytes) f.constants
-  constants-by f pairs constants a bytes k =
-      let h : a < width = wide a (fixed-inside a bytes k) in
+  constants_by f pairs constants a bytes k =
+      let h : a < width = wide a (fixed_inside a bytes k) in
       let same : label (column item a) ≡ label k.equality.left = known.complete (column item a) k.equality.left k.linked in
       elim (constants.found k.equality bytes k.member k.constant) [
         | inl none ↦ absurd (none a h same)
         | inr p ↦
-            let x = root-of label item width f.pairs pairs a h in
+            let x = root_of label item width f.pairs pairs a h in
             let own : IsRoot label item f.pairs p.0 p.0 = record {
               reaches = inl refl;
               labelled = refl;
               first = λ other less is. p.2.first other less (is ∙ p.2.labelled);
             } in
-            let one : x.0 ≡ p.0 = one-root label item f.pairs a p.0 x.0 p.0 x.1 own (same ∙ sym p.2.labelled) in
+            let one : x.0 ≡ p.0 = one_root_lem label item f.pairs a p.0 x.0 p.0 x.1 own (same ∙ sym p.2.labelled) in
             (p.0, subst (λ (z : ℕ). Reaches f.pairs z a) one x.1.reaches, p.1)
       ]
 
-  pub filter-of : (f : ItemFilter) → HavePairs label item width f.pairs → HaveConstants label item width es f.constants → IsFilterOf es item f
-  filter-of f pairs constants = record {
+  pub filter_of : (f : ItemFilter) → HavePairs label item width f.pairs → HaveConstants label item width es f.constants → IsFilterOf es item f
+  filter_of f pairs constants = record {
     apart = λ v m. (pairs.sound v m).inside;
     linked = λ v m. known.sound (column item v.0) (column item v.1) (pairs.sound v m).labelled;
-    joined = joined-by f pairs;
+    joined = joined_by f pairs;
     fixed = λ v m. let k = constants.sound v m in record {
       equality = k.0;
       member = k.1;
       constant = k.2;
       linked = known.sound (column item v.0) k.0.left k.3.labelled;
     };
-    constants = constants-by f pairs constants;
+    constants = constants_by f pairs constants;
   }
 
 -- ---- what the tests decide
@@ -216,8 +216,8 @@ module _ (query : Query) (tables : List Table) (item row : ℕ) (f : ItemFilter)
   reached h first place (inr m) = h (first, place) m
 
   -- a row that has equal fields in pairs and the constants passes
-  stands-passes : HasEqual field f.pairs → HasConstants field f.constants → Passes query tables item row
-  stands-passes h k = record {
+  stands_passes : HasEqual field f.pairs → HasConstants field f.constants → Passes query tables item row
+  stands_passes h k = record {
     equal = λ a b link. elim (known.joined a b link) [
       | inl e ↦ ap field e
       | inr p ↦ sym (reached h p.0 a p.1) ∙ reached h p.0 b p.2
@@ -225,31 +225,31 @@ module _ (query : Query) (tables : List Table) (item row : ℕ) (f : ItemFilter)
     constant = λ a bytes fixed. let p = known.constants a bytes fixed in sym (reached h p.0 a p.1) ∙ k (p.0, bytes) p.2;
   }
 
-  pub passes-iff : (HasEqual field f.pairs × HasConstants field f.constants) ↔ Passes query tables item row
-  passes-iff = (
-    λ h. stands-passes h.0 h.1,
+  pub passes_iff : (HasEqual field f.pairs × HasConstants field f.constants) ↔ Passes query tables item row
+  passes_iff = (
+    λ h. stands_passes h.0 h.1,
     λ p. (λ v m. p.equal v.0 v.1 (known.linked v m), λ v m. p.constant v.0 v.1 (known.fixed v m)),
   )
 
 -- ---- stored tests
 
-pub texts-differ : (a b : List ℕ) → not (bytes_eq a b) ≡ true → a ≡ b → ⊥
-texts-differ a b h e =
+pub texts_differ : (a b : List ℕ) → not (bytes_eq a b) ≡ true → a ≡ b → ⊥
+texts_differ a b h e =
     let t : true ≡ false = sym ((bytes_eq-Decides a b).1 e) ∙ not-true (bytes_eq a b) h in
     absurd (cc)
 
-pub texts-same : (a b : List ℕ) → not (bytes_eq a b) ≡ false → a ≡ b
-texts-same a b h = (bytes_eq-Decides a b).0 (not-false (bytes_eq a b) h)
+pub texts_same : (a b : List ℕ) → not (bytes_eq a b) ≡ false → a ≡ b
+texts_same a b h = (bytes_eq-Decides a b).0 (not-false (bytes_eq a b) h)
 
-pub constants-each : (field : ℕ → List ℕ) (xs : List Constant) → ((y : Constant) → IsMember y xs → field y.place ≡ y.bytes) → HasConstants field (map constant_shown xs)
-constants-each field xs h v m =
-    let p = member-unmap constant_shown v xs m in
+pub constants_each : (field : ℕ → List ℕ) (xs : List Constant) → ((y : Constant) → IsMember y xs → field y.place ≡ y.bytes) → HasConstants field (map constant_shown xs)
+constants_each field xs h v m =
+    let p = member_unmap constant_shown v xs m in
     subst (λ (z : ℕ × List ℕ). field z.0 ≡ z.1) (sym p.2) (h p.0 p.1)
 
-pub constants-one : (field : ℕ → List ℕ) (xs : List Constant) → HasConstants field (map constant_shown xs) → (y : Constant) → IsMember y xs → field y.place ≡ y.bytes
-constants-one field xs h y m = h (constant_shown y) (member-map constant_shown y xs m)
+pub constants_one : (field : ℕ → List ℕ) (xs : List Constant) → HasConstants field (map constant_shown xs) → (y : Constant) → IsMember y xs → field y.place ≡ y.bytes
+constants_one field xs h y m = h (constant_shown y) (member_map constant_shown y xs m)
 
-pub at-any : {A : Type 0} (xs : List A) (i : ℕ) (d e : A) → i < length xs → get_or xs i d ≡ get_or xs i e
-at-any [] i d e h = absurd (omega arith)
-at-any (x ∷ xs) zero d e h = refl
-at-any (x ∷ xs) (suc i) d e h = at-any xs i d e (omega (arith, h))
+pub at_any : {A : Type 0} (xs : List A) (i : ℕ) (d e : A) → i < length xs → get_or xs i d ≡ get_or xs i e
+at_any [] i d e h = absurd (omega arith)
+at_any (x ∷ xs) zero d e h = refl
+at_any (x ∷ xs) (suc i) d e h = at_any xs i d e (omega (arith, h))

@@ -12,11 +12,11 @@ use Rattle.anyk_model.specs.Query.{Column}
 use Rattle.query_bind.specs.Classes.{HasVariable, IsShared, variable_at}
 use Rattle.query_bind.specs.Graph.{AreItemSets, IsGraphOf, IsItemSet, has_number}
 use Rattle.query_bind.specs.Inside.{IsInside}
-use Rattle.query_bind.specs.Weighed.{BoundQuery, Fits, variables_at}
-use Rattle.query_bind.proofs.AllVariables.{at-last, at-left, length-last, shared-inside}
-use Rattle.query_bind.proofs.Filtering.{at-any}
-use Rattle.query_bind.proofs.Least.{at-member, shared-along}
-use Rattle.query_bind.proofs.Lists.{any-member, member-any}
+use Rattle.query_bind.specs.WeighedQuery.{BoundQuery, Fits, variables_at}
+use Rattle.query_bind.proofs.AllVariables.{at_last, at_left, length_last, shared_inside}
+use Rattle.query_bind.proofs.Filtering.{at_any}
+use Rattle.query_bind.proofs.Least.{at_member, shared_along}
+use Rattle.query_bind.proofs.Lists.{any_member, member_any}
 
 -- ---- one more item in a set
 
@@ -37,70 +37,70 @@ in_with set item a h = (
 
 -- ---- the sets of variables, one after another
 
-pub sets-more : (lists : List (List (ℕ × ℕ))) (items n set : ℕ) (sets more : List ℕ) → more ≡ sets ++ set ∷ []
+pub sets_more : (lists : List (List (ℕ × ℕ))) (items n set : ℕ) (sets more : List ℕ) → more ≡ sets ++ set ∷ []
     → AreItemSets lists items n sets → IsItemSet lists n items set → AreItemSets lists items (n + 1) more
-sets-more lists items n set sets more e known own =
+sets_more lists items n set sets more e known own =
     let count = known.count in
     subst (λ (l : List ℕ). AreItemSets lists items (n + 1) l) (sym e) (record {
-      count = length-last sets set ∙ ap (λ (k : ℕ). k + 1) count;
+      count = length_last sets set ∙ ap (λ (k : ℕ). k + 1) count;
       each = λ number less. elim (cases_eq number n) [
         | inl is ↦
-            let last : get_or (sets ++ set ∷ []) number 0 ≡ set = ap (λ (k : ℕ). get_or (sets ++ set ∷ []) k 0) (is ∙ sym count) ∙ at-last sets set 0 in
+            let last : get_or (sets ++ set ∷ []) number 0 ≡ set = ap (λ (k : ℕ). get_or (sets ++ set ∷ []) k 0) (is ∙ sym count) ∙ at_last sets set 0 in
             subst (λ (k : ℕ). IsItemSet lists number items k) (sym last) (subst (λ (k : ℕ). IsItemSet lists k items set) (sym is) own)
         | inr ne ↦
-            subst (λ (k : ℕ). IsItemSet lists number items k) (sym (at-left sets set 0 number (omega (arith, less, ne, count)))) (known.each number (omega (arith, less, ne)))
+            subst (λ (k : ℕ). IsItemSet lists number items k) (sym (at_left sets set 0 number (omega (arith, less, ne, count)))) (known.each number (omega (arith, less, ne)))
       ];
     })
 
 -- ---- the graph
 
-pub same-sets : (lists others : List (List (ℕ × ℕ))) (n m count number : ℕ) (sets slice : List ℕ) → lists ≡ others → n ≡ m → count ≡ number → sets ≡ slice
+pub same_sets : (lists others : List (List (ℕ × ℕ))) (n m count number : ℕ) (sets slice : List ℕ) → lists ≡ others → n ≡ m → count ≡ number → sets ≡ slice
     → AreItemSets lists n count sets → AreItemSets others m number slice
-same-sets lists others n m count number sets slice p q r s h =
+same_sets lists others n m count number sets slice p q r s h =
     subst (λ (l : List (List (ℕ × ℕ))). AreItemSets l m number slice) p (subst (λ (k : ℕ). AreItemSets lists k number slice) q
     (subst (λ (k : ℕ). AreItemSets lists n k slice) r (subst (λ (l : List ℕ). AreItemSets lists n count l) s h)))
 
 module _ (bound : BoundQuery) (tables : List Table) (fits : Fits bound tables) where
   -- an item that has a variable exists
-  item-there : (a number place : ℕ) → HasVariable bound.query.equalities bound.variables a number place → a < length bound.query.items
-  item-there a number place h =
+  item_there : (a number place : ℕ) → HasVariable bound.query.equalities bound.variables a number place → a < length bound.query.items
+  item_there a number place h =
       let here : Column = record { item = a; place = place } in
       let variable = variable_at bound.variables number in
       let shared : IsShared bound.query.equalities here =
-      shared-along bound.query.equalities variable here h.linked ((fits.variables.members variable).0 (at-member bound.variables number h.known)).0 in
-      let i : IsInside tables bound.query.items here = shared-inside tables bound.query.items bound.query.equalities fits.within.equalities here shared in
+      shared_along bound.query.equalities variable here h.linked ((fits.variables.members variable).0 (at_member bound.variables number h.known)).0 in
+      let i : IsInside tables bound.query.items here = shared_inside tables bound.query.items bound.query.equalities fits.within.equalities here shared in
       i.item
 
-  number-has : (a number : ℕ) → a < length bound.query.items → has_number (variables_at bound.lists a) number ≡ true
+  number_has : (a number : ℕ) → a < length bound.query.items → has_number (variables_at bound.lists a) number ≡ true
       → (place : ℕ) × HasVariable bound.query.equalities bound.variables a number place
-  number-has a number h is =
-      let found = any-member (λ (p : ℕ × ℕ). p.0 == number) (variables_at bound.lists a) is in
+  number_has a number h is =
+      let found = any_member (λ (p : ℕ × ℕ). p.0 == number) (variables_at bound.lists a) is in
       let same : found.0.0 ≡ number = (Decides-eqb found.0.0 number).0 found.2 in
       (found.0.1, subst (λ (n : ℕ). HasVariable bound.query.equalities bound.variables a n found.0.1) same (((fits.lists a h).members found.0).0 found.1))
 
-  has-number : (a number place : ℕ) → a < length bound.query.items → HasVariable bound.query.equalities bound.variables a number place
+  has_number_lem : (a number place : ℕ) → a < length bound.query.items → HasVariable bound.query.equalities bound.variables a number place
       → has_number (variables_at bound.lists a) number ≡ true
-  has-number a number place h v =
-      member-any (λ (p : ℕ × ℕ). p.0 == number) (number, place) (variables_at bound.lists a) (((fits.lists a h).members (number, place)).1 v) ((Decides-eqb number number).1 refl)
+  has_number_lem a number place h v =
+      member_any (λ (p : ℕ × ℕ). p.0 == number) (number, place) (variables_at bound.lists a) (((fits.lists a h).members (number, place)).1 v) ((Decides-eqb number number).1 refl)
 
-  pub sets-within : (n count : ℕ) (sets : List ℕ) → AreItemSets bound.lists n count sets → All (λ set. set < 2 ^ n) sets
-  sets-within n count sets known k d h =
+  pub sets_within : (n count : ℕ) (sets : List ℕ) → AreItemSets bound.lists n count sets → All (λ set. set < 2 ^ n) sets
+  sets_within n count sets known k d h =
       let count_is = known.count in
       let l : slice_index sets k < 2 ^ n = (known.each k (omega (arith, h, count_is))).within in
-      subst (λ (z : ℕ). z < 2 ^ n) (at-any sets k 0 d h) l
+      subst (λ (z : ℕ). z < 2 ^ n) (at_any sets k 0 d h) l
 
-  pub graph-of : (n : ℕ) (sets : List ℕ) → n ≡ length bound.query.items → 1 ≤ n → n ≤ 16 → AreItemSets bound.lists n (length bound.variables) sets
+  pub graph_of : (n : ℕ) (sets : List ℕ) → n ≡ length bound.query.items → 1 ≤ n → n ≤ 16 → AreItemSets bound.lists n (length bound.variables) sets
       → IsGraphOf bound.query (record { atoms = n; vars = sets })
-  graph-of n sets atoms some few known = record {
-    is_graph = record { some = some; few = few; within = sets-within n (length bound.variables) sets known };
+  graph_of n sets atoms some few known = record {
+    is_graph = record { some = some; few = few; within = sets_within n (length bound.variables) sets known };
     atoms = atoms;
     variables = bound.variables;
     are_variables = fits.variables;
     numbered = known.count;
     has = λ v a h. (
-      λ i. let m = ((known.each v h).members a).0 i in let l = m.0 in number-has a v (omega (arith, l, atoms)) m.1,
+      λ i. let m = ((known.each v h).members a).0 i in let l = m.0 in number_has a v (omega (arith, l, atoms)) m.1,
       λ p.
-          let there : a < length bound.query.items = item-there a v p.0 p.1 in
-          ((known.each v h).members a).1 (omega (arith, there, atoms), has-number a v p.0 there p.1),
+          let there : a < length bound.query.items = item_there a v p.0 p.1 in
+          ((known.each v h).members a).1 (omega (arith, there, atoms), has_number_lem a v p.0 there p.1),
     );
   }

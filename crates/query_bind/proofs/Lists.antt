@@ -6,52 +6,52 @@ use Rattle.rankings.specs.Order.{BelowAll, IsAscending, IsMember}
 
 -- ---- tests
 
-pub or-parts : (a b : Bool) → (a || b) ≡ true → (a ≡ true) ⊎ (b ≡ true)
-or-parts true b h = inl refl
-or-parts false b h = inr h
+pub or_parts : (a b : Bool) → (a || b) ≡ true → (a ≡ true) ⊎ (b ≡ true)
+or_parts true b h = inl refl
+or_parts false b h = inr h
 
-pub or-right : (a b : Bool) → b ≡ true → (a || b) ≡ true
-or-right true b h = refl
-or-right false b h = h
+pub or_right : (a b : Bool) → b ≡ true → (a || b) ≡ true
+or_right true b h = refl
+or_right false b h = h
 
-pub or-left : (a b : Bool) → a ≡ true → (a || b) ≡ true
-or-left a b h = ap (λ (x : Bool). x || b) h
+pub or_left : (a b : Bool) → a ≡ true → (a || b) ≡ true
+or_left a b h = ap (λ (x : Bool). x || b) h
 
 -- ---- members
 
-pub member-left : {A : Type 0} (x : A) (xs ys : List A) → IsMember x xs → IsMember x (xs ++ ys)
-member-left x [] ys m = absurd m
-member-left x (y ∷ xs) ys (inl e) = inl e
-member-left x (y ∷ xs) ys (inr m) = inr (member-left x xs ys m)
+pub member_left : {A : Type 0} (x : A) (xs ys : List A) → IsMember x xs → IsMember x (xs ++ ys)
+member_left x [] ys m = absurd m
+member_left x (y ∷ xs) ys (inl e) = inl e
+member_left x (y ∷ xs) ys (inr m) = inr (member_left x xs ys m)
 
-pub member-right : {A : Type 0} (x : A) (xs ys : List A) → IsMember x ys → IsMember x (xs ++ ys)
-member-right x [] ys m = m
-member-right x (y ∷ xs) ys m = inr (member-right x xs ys m)
+pub member_right : {A : Type 0} (x : A) (xs ys : List A) → IsMember x ys → IsMember x (xs ++ ys)
+member_right x [] ys m = m
+member_right x (y ∷ xs) ys m = inr (member_right x xs ys m)
 
-pub member-last : {A : Type 0} (x : A) (xs : List A) → IsMember x (xs ++ x ∷ [])
-member-last x [] = inl refl
-member-last x (y ∷ xs) = inr (member-last x xs)
+pub member_last : {A : Type 0} (x : A) (xs : List A) → IsMember x (xs ++ x ∷ [])
+member_last x [] = inl refl
+member_last x (y ∷ xs) = inr (member_last x xs)
 
-pub member-parts : {A : Type 0} (x y : A) (xs : List A) → IsMember x (xs ++ y ∷ []) → IsMember x xs ⊎ (x ≡ y)
-member-parts x y [] (inl e) = inr e
-member-parts x y [] (inr m) = absurd m
-member-parts x y (z ∷ xs) (inl e) = inl (inl e)
-member-parts x y (z ∷ xs) (inr m) = elim (member-parts x y xs m) [ inl a ↦ inl (inr a) | inr b ↦ inr b ]
+pub member_parts : {A : Type 0} (x y : A) (xs : List A) → IsMember x (xs ++ y ∷ []) → IsMember x xs ⊎ (x ≡ y)
+member_parts x y [] (inl e) = inr e
+member_parts x y [] (inr m) = absurd m
+member_parts x y (z ∷ xs) (inl e) = inl (inl e)
+member_parts x y (z ∷ xs) (inr m) = elim (member_parts x y xs m) [ inl a ↦ inl (inr a) | inr b ↦ inr b ]
 
-pub member-either : {A : Type 0} (x : A) (xs ys : List A) → IsMember x (xs ++ ys) → IsMember x xs ⊎ IsMember x ys
-member-either x [] ys m = inr m
-member-either x (z ∷ xs) ys (inl e) = inl (inl e)
-member-either x (z ∷ xs) ys (inr m) = elim (member-either x xs ys m) [ inl a ↦ inl (inr a) | inr b ↦ inr b ]
+pub member_either : {A : Type 0} (x : A) (xs ys : List A) → IsMember x (xs ++ ys) → IsMember x xs ⊎ IsMember x ys
+member_either x [] ys m = inr m
+member_either x (z ∷ xs) ys (inl e) = inl (inl e)
+member_either x (z ∷ xs) ys (inr m) = elim (member_either x xs ys m) [ inl a ↦ inl (inr a) | inr b ↦ inr b ]
 
-pub member-map : {A B : Type 0} (f : A → B) (x : A) (xs : List A) → IsMember x xs → IsMember (f x) (map f xs)
-member-map f x [] m = absurd m
-member-map f x (y ∷ xs) (inl e) = inl (ap f e)
-member-map f x (y ∷ xs) (inr m) = inr (member-map f x xs m)
+pub member_map : {A B : Type 0} (f : A → B) (x : A) (xs : List A) → IsMember x xs → IsMember (f x) (map f xs)
+member_map f x [] m = absurd m
+member_map f x (y ∷ xs) (inl e) = inl (ap f e)
+member_map f x (y ∷ xs) (inr m) = inr (member_map f x xs m)
 
-pub member-unmap : {A B : Type 0} (f : A → B) (y : B) (xs : List A) → IsMember y (map f xs) → (x : A) × IsMember x xs × (y ≡ f x)
-member-unmap f y [] m = absurd m
-member-unmap f y (x ∷ xs) (inl e) = (x, inl refl, e)
-member-unmap f y (x ∷ xs) (inr m) = let p = member-unmap f y xs m in (p.0, inr p.1, p.2)
+pub member_unmap : {A B : Type 0} (f : A → B) (y : B) (xs : List A) → IsMember y (map f xs) → (x : A) × IsMember x xs × (y ≡ f x)
+member_unmap f y [] m = absurd m
+member_unmap f y (x ∷ xs) (inl e) = (x, inl refl, e)
+member_unmap f y (x ∷ xs) (inr m) = let p = member_unmap f y xs m in (p.0, inr p.1, p.2)
 
 pub member-index : {A : Type 0} (xs : List A) (i : ℕ) (d : A) → i < length xs → IsMember (get_or xs i d) xs
 member-index [] i d h = absurd (omega arith)
@@ -59,46 +59,46 @@ member-index (x ∷ xs) zero d h = inl refl
 member-index (x ∷ xs) (suc i) d h = inr (member-index xs i d (omega (arith, h)))
 
 -- what holds for the first i elements, and for one more
-pub each-further : {A : Type 0} (P : A → Type 0) (xs : List A) (i : ℕ) (x : A) → i < length xs → x ≡ get_or xs i x
+pub each_further : {A : Type 0} (P : A → Type 0) (xs : List A) (i : ℕ) (x : A) → i < length xs → x ≡ get_or xs i x
     → ((v : A) → IsMember v (take i xs) → P v) → P x → (v : A) → IsMember v (take (i + 1) xs) → P v
-each-further {A = A} P xs i x h is known here v m =
+each_further {A = A} P xs i x h is known here v m =
     let more : take (i + 1) xs ≡ take i xs ++ x ∷ [] = take_more xs i x h ∙ ap (λ (z : A). take i xs ++ z ∷ []) (sym is) in
-    elim (member-parts v x (take i xs) (subst (λ (l : List A). IsMember v l) more m)) [ inl old ↦ known v old | inr e ↦ subst P (sym e) here ]
+    elim (member_parts v x (take i xs) (subst (λ (l : List A). IsMember v l) more m)) [ inl old ↦ known v old | inr e ↦ subst P (sym e) here ]
 
-pub each-all : {A : Type 0} (P : A → Type 0) (xs : List A) (i : ℕ) → length xs ≤ i → ((v : A) → IsMember v (take i xs) → P v) → (v : A) → IsMember v xs → P v
-each-all {A = A} P xs i h known v m = known v (subst (λ (l : List A). IsMember v l) (sym (take_all i xs h)) m)
+pub each_all : {A : Type 0} (P : A → Type 0) (xs : List A) (i : ℕ) → length xs ≤ i → ((v : A) → IsMember v (take i xs) → P v) → (v : A) → IsMember v xs → P v
+each_all {A = A} P xs i h known v m = known v (subst (λ (l : List A). IsMember v l) (sym (take_all i xs h)) m)
 
 -- an element at an index is a member
-pub member-item : {A : Type 0} (xs : List A) (i : ℕ) (x : A) → i < length xs → x ≡ get_or xs i x → IsMember x xs
-member-item {A = A} xs i x h is = subst (λ (z : A). IsMember z xs) (sym is) (member-index xs i x h)
+pub member_item : {A : Type 0} (xs : List A) (i : ℕ) (x : A) → i < length xs → x ≡ get_or xs i x → IsMember x xs
+member_item {A = A} xs i x h is = subst (λ (z : A). IsMember z xs) (sym is) (member-index xs i x h)
 
-pub any-member : {A : Type 0} (test : A → Bool) (xs : List A) → list_any test xs ≡ true → (x : A) × IsMember x xs × (test x ≡ true)
-any-member test [] h = absurd (let e : false ≡ true = h in cc)
-any-member test (x ∷ xs) h = elim (or-parts (test x) (list_any test xs) h) [
+pub any_member : {A : Type 0} (test : A → Bool) (xs : List A) → list_any test xs ≡ true → (x : A) × IsMember x xs × (test x ≡ true)
+any_member test [] h = absurd (let e : false ≡ true = h in cc)
+any_member test (x ∷ xs) h = elim (or_parts (test x) (list_any test xs) h) [
   | inl p ↦ (x, inl refl, p)
-  | inr p ↦ let q = any-member test xs p in (q.0, inr q.1, q.2)
+  | inr p ↦ let q = any_member test xs p in (q.0, inr q.1, q.2)
 ]
 
-pub member-any : {A : Type 0} (test : A → Bool) (x : A) (xs : List A) → IsMember x xs → test x ≡ true → list_any test xs ≡ true
-member-any test x [] m h = absurd m
-member-any test x (y ∷ xs) (inl e) h = or-left (test y) (list_any test xs) (ap test (sym e) ∙ h)
-member-any test x (y ∷ xs) (inr m) h = or-right (test y) (list_any test xs) (member-any test x xs m h)
+pub member_any : {A : Type 0} (test : A → Bool) (x : A) (xs : List A) → IsMember x xs → test x ≡ true → list_any test xs ≡ true
+member_any test x [] m h = absurd m
+member_any test x (y ∷ xs) (inl e) h = or_left (test y) (list_any test xs) (ap test (sym e) ∙ h)
+member_any test x (y ∷ xs) (inr m) h = or_right (test y) (list_any test xs) (member_any test x xs m h)
 
 -- ---- the elements that pass a test
 
-pub member-kept : {A : Type 0} (test : A → Bool) (x : A) (xs : List A) → IsMember x xs → test x ≡ true → IsMember x (filter test xs)
-member-kept test x [] m h = absurd m
-member-kept {A = A} test x (y ∷ xs) (inl e) h =
+pub member_kept : {A : Type 0} (test : A → Bool) (x : A) (xs : List A) → IsMember x xs → test x ≡ true → IsMember x (filter test xs)
+member_kept test x [] m h = absurd m
+member_kept {A = A} test x (y ∷ xs) (inl e) h =
     subst (λ (l : List A). IsMember x l) (sym (ap (λ (b : Bool). cond b (y ∷ filter test xs) (filter test xs)) (ap test (sym e) ∙ h))) (inl e)
-member-kept test x (y ∷ xs) (inr m) h = by_test (test y) (member-kept test x xs m h)
+member_kept test x (y ∷ xs) (inr m) h = by_test (test y) (member_kept test x xs m h)
   where
     by_test : (b : Bool) → IsMember x (filter test xs) → IsMember x (cond b (y ∷ filter test xs) (filter test xs))
     by_test true k = inr k
     by_test false k = k
 
-pub kept-member : {A : Type 0} (test : A → Bool) (x : A) (xs : List A) → IsMember x (filter test xs) → IsMember x xs × (test x ≡ true)
-kept-member test x [] m = absurd m
-kept-member {A = A} test x (y ∷ xs) m = by_test (test y) refl m (kept-member test x xs)
+pub kept_member : {A : Type 0} (test : A → Bool) (x : A) (xs : List A) → IsMember x (filter test xs) → IsMember x xs × (test x ≡ true)
+kept_member test x [] m = absurd m
+kept_member {A = A} test x (y ∷ xs) m = by_test (test y) refl m (kept_member test x xs)
   where
     by_test : (b : Bool) → test y ≡ b → IsMember x (cond b (y ∷ filter test xs) (filter test xs)) → (IsMember x (filter test xs) → IsMember x xs × (test x ≡ true))
         → IsMember x (y ∷ xs) × (test x ≡ true)
@@ -106,9 +106,9 @@ kept-member {A = A} test x (y ∷ xs) m = by_test (test y) refl m (kept-member t
     by_test true e (inr n) k = let p = k n in (inr p.0, p.1)
     by_test false e n k = let p = k n in (inr p.0, p.1)
 
-pub map-filter : {A B : Type 0} (f : A → B) (test : B → Bool) (xs : List A) → map f (filter (λ x. test (f x)) xs) ≡ filter test (map f xs)
-map-filter f test [] = refl
-map-filter {A = A} {B = B} f test (x ∷ xs) = by_test (test (f x)) ∙ ap (λ (l : List B). cond (test (f x)) (f x ∷ l) l) (map-filter f test xs)
+pub map_filter : {A B : Type 0} (f : A → B) (test : B → Bool) (xs : List A) → map f (filter (λ x. test (f x)) xs) ≡ filter test (map f xs)
+map_filter f test [] = refl
+map_filter {A = A} {B = B} f test (x ∷ xs) = by_test (test (f x)) ∙ ap (λ (l : List B). cond (test (f x)) (f x ∷ l) l) (map_filter f test xs)
   where
     by_test : (b : Bool) → map f (cond b (x ∷ filter (λ y. test (f y)) xs) (filter (λ y. test (f y)) xs))
         ≡ cond b (f x ∷ map f (filter (λ y. test (f y)) xs)) (map f (filter (λ y. test (f y)) xs))
@@ -118,27 +118,27 @@ map-filter {A = A} {B = B} f test (x ∷ xs) = by_test (test (f x)) ∙ ap (λ (
 -- ---- ascending lists
 
 module _ {A : Type 0} (Below : A → A → Type 0) where
-  pub below-all : (x : A) (ys : List A) → ((y : A) → IsMember y ys → Below x y) → BelowAll Below x ys
-  below-all x [] h = tt
-  below-all x (y ∷ ys) h = (h y (inl refl), below-all x ys (λ z m. h z (inr m)))
+  pub below_all : (x : A) (ys : List A) → ((y : A) → IsMember y ys → Below x y) → BelowAll Below x ys
+  below_all x [] h = tt
+  below_all x (y ∷ ys) h = (h y (inl refl), below_all x ys (λ z m. h z (inr m)))
 
-  pub below-each : (x : A) (ys : List A) (y : A) → BelowAll Below x ys → IsMember y ys → Below x y
-  below-each x [] y h m = absurd m
-  below-each x (z ∷ ys) y h (inl e) = subst (λ (w : A). Below x w) (sym e) h.0
-  below-each x (z ∷ ys) y h (inr m) = below-each x ys y h.1 m
+  pub below_each : (x : A) (ys : List A) (y : A) → BelowAll Below x ys → IsMember y ys → Below x y
+  below_each x [] y h m = absurd m
+  below_each x (z ∷ ys) y h (inl e) = subst (λ (w : A). Below x w) (sym e) h.0
+  below_each x (z ∷ ys) y h (inr m) = below_each x ys y h.1 m
 
-  pub ascending-append : (xs ys : List A) → IsAscending Below xs → IsAscending Below ys → ((x y : A) → IsMember x xs → IsMember y ys → Below x y)
+  pub ascending_append : (xs ys : List A) → IsAscending Below xs → IsAscending Below ys → ((x y : A) → IsMember x xs → IsMember y ys → Below x y)
       → IsAscending Below (xs ++ ys)
-  ascending-append [] ys p q h = q
-  ascending-append (x ∷ xs) ys p q h = (
-    below-all x (xs ++ ys) (λ y m. elim (member-either y xs ys m) [ inl n ↦ below-each x xs y p.0 n | inr n ↦ h x y (inl refl) n ]),
-    ascending-append xs ys p.1 q (λ a b m n. h a b (inr m) n),
+  ascending_append [] ys p q h = q
+  ascending_append (x ∷ xs) ys p q h = (
+    below_all x (xs ++ ys) (λ y m. elim (member_either y xs ys m) [ inl n ↦ below_each x xs y p.0 n | inr n ↦ h x y (inl refl) n ]),
+    ascending_append xs ys p.1 q (λ a b m n. h a b (inr m) n),
   )
 
-  pub ascending-filter : (test : A → Bool) (xs : List A) → IsAscending Below xs → IsAscending Below (filter test xs)
-  ascending-filter test [] p = tt
-  ascending-filter test (x ∷ xs) p = by_test (test x) (ascending-filter test xs p.1)
+  pub ascending_filter : (test : A → Bool) (xs : List A) → IsAscending Below xs → IsAscending Below (filter test xs)
+  ascending_filter test [] p = tt
+  ascending_filter test (x ∷ xs) p = by_test (test x) (ascending_filter test xs p.1)
     where
       by_test : (b : Bool) → IsAscending Below (filter test xs) → IsAscending Below (cond b (x ∷ filter test xs) (filter test xs))
-      by_test true k = (below-all x (filter test xs) (λ y m. below-each x xs y p.0 (kept-member test y xs m).0), k)
+      by_test true k = (below_all x (filter test xs) (λ y m. below_each x xs y p.0 (kept_member test y xs m).0), k)
       by_test false k = k

@@ -6,23 +6,23 @@ use Rattle.anyk_model.specs.Query.{Column}
 use Rattle.query_bind.specs.Classes.{ColumnBefore}
 use Rattle.query_bind.specs.Labels.{is_same}
 
-pub before-asym : (a b : Column) → ColumnBefore a b → ColumnBefore b a → ⊥
-before-asym a b (inl x) (inl y) = omega (arith, x, y)
-before-asym a b (inl x) (inr y) = omega (arith, x, y.0)
-before-asym a b (inr x) (inl y) = omega (arith, x.0, y)
-before-asym a b (inr x) (inr y) = omega (arith, x.1, y.1)
+pub before_asym : (a b : Column) → ColumnBefore a b → ColumnBefore b a → ⊥
+before_asym a b (inl x) (inl y) = omega (arith, x, y)
+before_asym a b (inl x) (inr y) = omega (arith, x, y.0)
+before_asym a b (inr x) (inl y) = omega (arith, x.0, y)
+before_asym a b (inr x) (inr y) = omega (arith, x.1, y.1)
 
-pub before-self : (a : Column) → ColumnBefore a a → ⊥
-before-self a h = before-asym a a h h
+pub before_self : (a : Column) → ColumnBefore a a → ⊥
+before_self a h = before_asym a a h h
 
 -- a column before one that is no later than another is before that one
-pub before-until : (a b c : Column) → ColumnBefore a b → (ColumnBefore c b → ⊥) → ColumnBefore a c
-before-until a b c (inl x) not = elim (cases_order a.item c.item) [
+pub before_until : (a b c : Column) → ColumnBefore a b → (ColumnBefore c b → ⊥) → ColumnBefore a c
+before_until a b c (inl x) not = elim (cases_order a.item c.item) [
   | inl e ↦ absurd (not (inl (omega (arith, x, e))))
   | inr (inl l) ↦ inl l
   | inr (inr g) ↦ absurd (not (inl (omega (arith, x, g))))
 ]
-before-until a b c (inr x) not = elim (cases_order a.item c.item) [
+before_until a b c (inr x) not = elim (cases_order a.item c.item) [
   | inl e ↦ elim (cases_order a.place c.place) [
     | inl p ↦ absurd (not (inr (sym e ∙ x.0, omega (arith, x.1, p))))
     | inr (inl l) ↦ inr (e, l)
@@ -32,23 +32,23 @@ before-until a b c (inr x) not = elim (cases_order a.item c.item) [
   | inr (inr g) ↦ absurd (not (inl (omega (arith, x.0, g))))
 ]
 
-pub same-columns : (a b : Column) → a.item ≡ b.item → a.place ≡ b.place → a ≡ b
-same-columns a b p q = λ i. record { item = p i; place = q i }
+pub same_columns : (a b : Column) → a.item ≡ b.item → a.place ≡ b.place → a ≡ b
+same_columns a b p q = λ i. record { item = p i; place = q i }
 
 -- what the test of two columns says
-pub same-tells : (a b : Column) → ((is_same a b ≡ true) × (a ≡ b)) ⊎ ((is_same a b ≡ false) × (a ≡ b → ⊥))
-same-tells a b = elim (eqb_tells a.item b.item) [
+pub same_tells : (a b : Column) → ((is_same a b ≡ true) × (a ≡ b)) ⊎ ((is_same a b ≡ false) × (a ≡ b → ⊥))
+same_tells a b = elim (eqb_tells a.item b.item) [
   | inl (t, e) ↦ elim (eqb_tells a.place b.place) [
-    | inl (u, f) ↦ inl (ap (λ (x : Bool). x && (a.place == b.place)) t ∙ u, same-columns a b e f)
+    | inl (u, f) ↦ inl (ap (λ (x : Bool). x && (a.place == b.place)) t ∙ u, same_columns a b e f)
     | inr (u, n) ↦ inr (ap (λ (x : Bool). x && (a.place == b.place)) t ∙ u, λ h. n (ap (λ (c : Column). c.place) h))
   ]
   | inr (t, n) ↦ inr (ap (λ (x : Bool). x && (a.place == b.place)) t, λ h. n (ap (λ (c : Column). c.item) h))
 ]
 
-pub before-neither : (a b : Column) → (ColumnBefore a b → ⊥) → (ColumnBefore b a → ⊥) → a ≡ b
-before-neither a b p q = elim (cases_order a.item b.item) [
+pub before_neither : (a b : Column) → (ColumnBefore a b → ⊥) → (ColumnBefore b a → ⊥) → a ≡ b
+before_neither a b p q = elim (cases_order a.item b.item) [
   | inl e ↦ elim (cases_order a.place b.place) [
-    | inl f ↦ same-columns a b e f
+    | inl f ↦ same_columns a b e f
     | inr (inl l) ↦ absurd (p (inr (e, l)))
     | inr (inr g) ↦ absurd (q (inr (sym e, g)))
   ]
@@ -56,8 +56,8 @@ before-neither a b p q = elim (cases_order a.item b.item) [
   | inr (inr g) ↦ absurd (q (inl g))
 ]
 
-pub same-true : (a b : Column) → is_same a b ≡ true → a ≡ b
-same-true a b h = elim (same-tells a b) [ inl p ↦ p.1 | inr p ↦ absurd (let e : true ≡ false = sym h ∙ p.0 in cc) ]
+pub same_true : (a b : Column) → is_same a b ≡ true → a ≡ b
+same_true a b h = elim (same_tells a b) [ inl p ↦ p.1 | inr p ↦ absurd (let e : true ≡ false = sym h ∙ p.0 in cc) ]
 
-pub true-same : (a b : Column) → a ≡ b → is_same a b ≡ true
-true-same a b h = elim (same-tells a b) [ inl p ↦ p.0 | inr p ↦ absurd (p.1 h) ]
+pub true_same : (a b : Column) → a ≡ b → is_same a b ≡ true
+true_same a b h = elim (same_tells a b) [ inl p ↦ p.0 | inr p ↦ absurd (p.1 h) ]

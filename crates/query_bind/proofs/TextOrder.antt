@@ -6,7 +6,7 @@ use Rattle.query_select.specs.TextOrder.{AreInTextOrder, columns_of}
 use Rattle.anyk_model.specs.Table.{Table}
 use Rattle.anyk_model.specs.Query.{Item, OrderKey, Term}
 use Rattle.rankings.specs.Order.{IsMember}
-use Rattle.rankings.proofs.Members.{all-member}
+use Rattle.rankings.proofs.Members.{all_member}
 use Rattle.query_bind.specs.declared.fault.BindFault.{BindFault}
 use Rattle.query_bind.specs.declared.fault.BindFault.TheVariants as fault
 use Rattle.query_bind.specs.Answers.{Tells}
@@ -17,8 +17,8 @@ use Rattle.query_bind.specs.TextOrder.{IsFirstFailing, IsReferenceFault}
 use Rattle.query_bind.specs.Weights.{key_fault, range_fault, weight_fault, weights_fault}
 
 module _ (tables : List Table) (items : List Item) (e : BindFault) where
-  head-first : (x : ColumnRef) (xs : List ColumnRef) → AreInTextOrder (x ∷ xs) → ref_fault tables items x ≡ Some e → IsFirstFailing tables items (x ∷ xs) e
-  head-first x xs order fails = record {
+  head_first : (x : ColumnRef) (xs : List ColumnRef) → AreInTextOrder (x ∷ xs) → ref_fault tables items x ≡ Some e → IsFirstFailing tables items (x ∷ xs) e
+  head_first x xs order fails = record {
     ref = x;
     member = inl refl;
     fails = fails;
@@ -27,10 +27,10 @@ module _ (tables : List Table) (items : List Item) (e : BindFault) where
     where
       before : (other : ColumnRef) → IsMember other (x ∷ xs) → other.at < x.at → ref_fault tables items other ≡ None
       before other (inl same) less = let p : other.at ≡ x.at = ap (λ (r : ColumnRef). r.at) same in absurd (omega (arith, p, less))
-      before other (inr m) less = let p : x.at < other.at = all-member (λ (r : ColumnRef). x.at < r.at) other xs order.0 m in absurd (omega (arith, p, less))
+      before other (inr m) less = let p : x.at < other.at = all_member (λ (r : ColumnRef). x.at < r.at) other xs order.0 m in absurd (omega (arith, p, less))
 
-  tail-first : (x : ColumnRef) (xs : List ColumnRef) → ref_fault tables items x ≡ None → IsFirstFailing tables items xs e → IsFirstFailing tables items (x ∷ xs) e
-  tail-first x xs none h = record {
+  tail_first : (x : ColumnRef) (xs : List ColumnRef) → ref_fault tables items x ≡ None → IsFirstFailing tables items xs e → IsFirstFailing tables items (x ∷ xs) e
+  tail_first x xs none h = record {
     ref = h.ref;
     member = inr h.member;
     fails = h.fails;
@@ -41,54 +41,54 @@ module _ (tables : List Table) (items : List Item) (e : BindFault) where
       before other (inl same) less = ap (ref_fault tables items) same ∙ none
       before other (inr m) less = h.earlier other m less
 
-  pub first-in-text : (refs : List ColumnRef) → AreInTextOrder refs → first_of (ref_fault tables items) refs ≡ Some e → IsFirstFailing tables items refs e
-  first-in-text [] order h = cc
-  first-in-text (x ∷ xs) order h = by_fault (ref_fault tables items x) refl h (first-in-text xs order.1)
+  pub first_in_text : (refs : List ColumnRef) → AreInTextOrder refs → first_of (ref_fault tables items) refs ≡ Some e → IsFirstFailing tables items refs e
+  first_in_text [] order h = cc
+  first_in_text (x ∷ xs) order h = by_fault (ref_fault tables items x) refl h (first_in_text xs order.1)
     where
       by_fault : (o : Option BindFault) → ref_fault tables items x ≡ o → or_else o (first_of (ref_fault tables items) xs) ≡ Some e
           → (first_of (ref_fault tables items) xs ≡ Some e → IsFirstFailing tables items xs e) → IsFirstFailing tables items (x ∷ xs) e
-      by_fault None is g rest = tail-first x xs is (rest g)
-      by_fault (Some f) is g rest = head-first x xs order (is ∙ g)
+      by_fault None is g rest = tail_first x xs is (rest g)
+      by_fault (Some f) is g rest = head_first x xs order (is ∙ g)
 
 -- ---- which of the faults of binding are those of references
 
-either-fault : (a b : Option BindFault) (e : BindFault) → or_else a b ≡ Some e → (a ≡ Some e) ⊎ (b ≡ Some e)
-either-fault (Some f) b e h = inl h
-either-fault None b e h = inr h
+either_fault : (a b : Option BindFault) (e : BindFault) → or_else a b ≡ Some e → (a ≡ Some e) ⊎ (b ≡ Some e)
+either_fault (Some f) b e h = inl h
+either_fault None b e h = inr h
 
 abbrev IsNoReference : BindFault → Type 0
 IsNoReference e = IsReferenceFault e → ⊥
 
-mapped-other : (f : ℕ → BindFault) → ((n : ℕ) → IsNoReference (f n)) → (o : Option ℕ) (e : BindFault) → option_map f o ≡ Some e → IsNoReference e
-mapped-other f other None e h = cc
-mapped-other f other (Some n) e h = let same : f n ≡ e = cc in subst IsNoReference same (other n)
+mapped_other : (f : ℕ → BindFault) → ((n : ℕ) → IsNoReference (f n)) → (o : Option ℕ) (e : BindFault) → option_map f o ≡ Some e → IsNoReference e
+mapped_other f other None e h = cc
+mapped_other f other (Some n) e h = let same : f n ≡ e = cc in subst IsNoReference same (other n)
 
-first-other : {A : Type 0} (fault_at : A → Option BindFault) → ((x : A) (e : BindFault) → fault_at x ≡ Some e → IsNoReference e)
+first_other : {A : Type 0} (fault_at : A → Option BindFault) → ((x : A) (e : BindFault) → fault_at x ≡ Some e → IsNoReference e)
     → (xs : List A) (e : BindFault) → first_of fault_at xs ≡ Some e → IsNoReference e
-first-other fault_at each [] e h = cc
-first-other fault_at each (x ∷ xs) e h = elim (either-fault (fault_at x) (first_of fault_at xs) e h) [
+first_other fault_at each [] e h = cc
+first_other fault_at each (x ∷ xs) e h = elim (either_fault (fault_at x) (first_of fault_at xs) e h) [
   | inl here ↦ each x e here
-  | inr later ↦ first-other fault_at each xs e later
+  | inr later ↦ first_other fault_at each xs e later
 ]
 
-alias-other : (items : List Item) (e : BindFault) → alias_fault items ≡ Some e → IsNoReference e
-alias-other items e h = mapped-other (λ n. fault.DuplicateAlias n) (λ n r. r) _ e h
+alias_other : (items : List Item) (e : BindFault) → alias_fault items ≡ Some e → IsNoReference e
+alias_other items e h = mapped_other (λ n. fault.DuplicateAlias n) (λ n r. r) _ e h
 
 module _ (tables : List Table) (items : List Item) (order : List OrderKey) (e : BindFault) where
-  weight-other : (t : Term) (f : BindFault) → weight_fault tables items t ≡ Some f → IsNoReference f
-  weight-other t f h = mapped-other (λ n. fault.BadWeight (t.column.item + 1) (n + 1) (t.column.place + 1)) (λ n r. r) _ f h
+  weight_other : (t : Term) (f : BindFault) → weight_fault tables items t ≡ Some f → IsNoReference f
+  weight_other t f h = mapped_other (λ n. fault.BadWeight (t.column.item + 1) (n + 1) (t.column.place + 1)) (λ n r. r) _ f h
 
-  weights-other : weights_fault tables items order ≡ Some e → IsNoReference e
-  weights-other h =
-      first-other (key_fault tables items) (λ (k : OrderKey) f g. first-other (weight_fault tables items) weight-other k.terms f g) order e h
+  weights_other : weights_fault tables items order ≡ Some e → IsNoReference e
+  weights_other h =
+      first_other (key_fault tables items) (λ (k : OrderKey) f g. first_other (weight_fault tables items) weight_other k.terms f g) order e h
 
-  range-other : range_fault tables items order ≡ Some e → IsNoReference e
-  range-other h = mapped-other (λ n. fault.RankRange n) (λ n r. r) _ e h
+  range_other : range_fault tables items order ≡ Some e → IsNoReference e
+  range_other h = mapped_other (λ n. fault.RankRange n) (λ n r. r) _ e h
 
-  later-other : or_else (weights_fault tables items order) (range_fault tables items order) ≡ Some e → IsNoReference e
-  later-other h = elim (either-fault (weights_fault tables items order) (range_fault tables items order) e h) [
-    | inl w ↦ weights-other w
-    | inr r ↦ range-other r
+  later_other : or_else (weights_fault tables items order) (range_fault tables items order) ≡ Some e → IsNoReference e
+  later_other h = elim (either_fault (weights_fault tables items order) (range_fault tables items order) e h) [
+    | inl w ↦ weights_other w
+    | inr r ↦ range_other r
   ]
 
 -- a fault of a reference is that of the first one in the text that fails
@@ -98,10 +98,10 @@ earliest select tables which e (inl memory) kind order = absurd (subst IsReferen
 earliest select tables which e (inr h) kind order =
     let items = items_of select.items which in
     let keys = map (bound_key tables items) select.keys in
-    elim (either-fault (names_fault tables items select) (or_else (weights_fault tables items keys) (range_fault tables items keys)) e h) [
-      | inl name ↦ elim (either-fault (alias_fault items) (first_of (ref_fault tables items) (columns_of select)) e name) [
-        | inl alias ↦ absurd (alias-other items e alias kind)
-        | inr ref ↦ first-in-text tables items e (columns_of select) order ref
+    elim (either_fault (names_fault tables items select) (or_else (weights_fault tables items keys) (range_fault tables items keys)) e h) [
+      | inl name ↦ elim (either_fault (alias_fault items) (first_of (ref_fault tables items) (columns_of select)) e name) [
+        | inl alias ↦ absurd (alias_other items e alias kind)
+        | inr ref ↦ first_in_text tables items e (columns_of select) order ref
       ]
-      | inr later ↦ absurd (later-other tables items keys e later kind)
+      | inr later ↦ absurd (later_other tables items keys e later kind)
     ]

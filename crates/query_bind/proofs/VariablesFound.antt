@@ -7,34 +7,34 @@ use Rattle.anyk_model.specs.Query.{Column, Equality, Side, of_column, of_constan
 use Rattle.rankings.specs.Order.{IsAscending, IsMember}
 use Rattle.query_bind.specs.Classes.{AreVariables, ColumnBefore, IsFixedTo, IsLeast, IsShared, NumberBefore, variable_at}
 use Rattle.query_bind.specs.Labels.{HasNoPlace, IsFirstPlace, IsLabelling, is_same, least_in, listed}
-use Rattle.query_bind.specs.Stored.{column_shown, equality_shown}
+use Rattle.query_bind.specs.StoredParts.{column_shown, equality_shown}
 use Rattle.query_bind.specs.Variables.{HavePlaces, is_constant, is_elsewhere, is_fixed, is_fixing, is_other, is_variable}
 use Rattle.query_bind.specs.declared.bound.BoundEquality.{BoundEquality}
 use Rattle.query_bind.specs.declared.classes.Member.{Member}
-use Rattle.query_bind.proofs.Lists.{any-member, ascending-append, ascending-filter, kept-member, map-filter, member-any, member-kept, member-last, member-left, member-map, member-parts, member-unmap}
-use Rattle.query_bind.proofs.Order.{before-neither, same-tells, same-true, true-same}
+use Rattle.query_bind.proofs.Lists.{any_member, ascending_append, ascending_filter, kept_member, map_filter, member_any, member_kept, member_last, member_left, member_map, member_parts, member_unmap}
+use Rattle.query_bind.proofs.Order.{before_neither, same_tells, same_true, true_same}
 
-constant-is : (s : Side) → is_constant s ≡ true → (bytes : List ℕ) × (s ≡ of_constant bytes)
-constant-is (of_column c) h = absurd (let e : false ≡ true = h in cc)
-constant-is (of_constant bytes) h = (bytes, refl)
+constant_is : (s : Side) → is_constant s ≡ true → (bytes : List ℕ) × (s ≡ of_constant bytes)
+constant_is (of_column c) h = absurd (let e : false ≡ true = h in cc)
+constant_is (of_constant bytes) h = (bytes, refl)
 
 -- a column is not listed, or a member has it
-listed-or : (ms : List Member) (c none : Column) → (listed ms c none ≡ none) ⊎ ((m : Member) × IsMember m ms × (column_shown m.column ≡ c))
-listed-or [] c none = inl refl
-listed-or (m ∷ ms) c none = elim (same-tells (column_shown m.column) c) [
+listed_or : (ms : List Member) (c none : Column) → (listed ms c none ≡ none) ⊎ ((m : Member) × IsMember m ms × (column_shown m.column ≡ c))
+listed_or [] c none = inl refl
+listed_or (m ∷ ms) c none = elim (same_tells (column_shown m.column) c) [
   | inl p ↦ inr (m, inl refl, p.1)
   | inr p ↦
       let miss = ap (λ (b : Bool). if b then column_shown m.least else listed ms c none) p.0 in
-      elim (listed-or ms c none) [ inl e ↦ inl (miss ∙ e) | inr q ↦ inr (q.0, inr q.1, q.2) ]
+      elim (listed_or ms c none) [ inl e ↦ inl (miss ∙ e) | inr q ↦ inr (q.0, inr q.1, q.2) ]
 ]
 
 module _ (es : List Equality) (label : Column → Column) (known : IsLabelling es label) where
   -- the least columns are those that are their own labels
-  pub least-labelled : (c : Column) → IsLeast es c → label c ≡ c
-  least-labelled c h = before-neither (label c) c (h (label c) (known.own c)) (known.least c)
+  pub least_labelled : (c : Column) → IsLeast es c → label c ≡ c
+  least_labelled c h = before_neither (label c) c (h (label c) (known.own c)) (known.least c)
 
-  pub labelled-least : (c : Column) → label c ≡ c → IsLeast es c
-  labelled-least c is d link before =
+  pub labelled_least : (c : Column) → label c ≡ c → IsLeast es c
+  labelled_least c is d link before =
       let at : c ≡ label d = sym is ∙ known.complete c d link in
       known.least d (subst (λ (z : Column). ColumnBefore d z) at before)
 
@@ -45,114 +45,114 @@ module _ (ms : List Member) (stored : List BoundEquality) (known : IsLabelling (
   abbrev label : Column → Column
   label = least_in ms
 
-  fixed-not-free : (c : Column) → label c ≡ c → is_fixed ms stored c ≡ true → ((bytes : List ℕ) → IsFixedTo es c bytes → ⊥) → ⊥
-  fixed-not-free c own h free =
-      let found = any-member (λ (e : BoundEquality). is_fixing label c (equality_shown e)) stored h in
+  fixed_not_free : (c : Column) → label c ≡ c → is_fixed ms stored c ≡ true → ((bytes : List ℕ) → IsFixedTo es c bytes → ⊥) → ⊥
+  fixed_not_free c own h free =
+      let found = any_member (λ (e : BoundEquality). is_fixing label c (equality_shown e)) stored h in
       let e = equality_shown found.0 in
       let parts = and_parts (is_constant e.right) (is_same (label e.left) c) found.2 in
-      let constant = constant-is e.right parts.0 in
+      let constant = constant_is e.right parts.0 in
       free constant.0 (record {
         equality = e;
-        member = member-map equality_shown found.0 stored found.1;
+        member = member_map equality_shown found.0 stored found.1;
         constant = constant.1;
-        linked = known.sound c e.left (own ∙ sym (same-true (label e.left) c parts.1));
+        linked = known.sound c e.left (own ∙ sym (same_true (label e.left) c parts.1));
       })
 
-  fixing-found : (c : Column) (bytes : List ℕ) → label c ≡ c → IsFixedTo es c bytes → is_fixed ms stored c ≡ true
-  fixing-found c bytes own f =
-      let e = member-unmap equality_shown f.equality stored f.member in
+  fixing_found : (c : Column) (bytes : List ℕ) → label c ≡ c → IsFixedTo es c bytes → is_fixed ms stored c ≡ true
+  fixing_found c bytes own f =
+      let e = member_unmap equality_shown f.equality stored f.member in
       let shown : equality_shown e.0 ≡ f.equality = sym e.2 in
       let link : label f.equality.left ≡ c = sym (known.complete c f.equality.left f.linked) ∙ own in
-      member-any (λ (x : BoundEquality). is_fixing label c (equality_shown x)) e.0 stored e.1
+      member_any (λ (x : BoundEquality). is_fixing label c (equality_shown x)) e.0 stored e.1
       (ap (is_fixing label c) shown
-      ∙ and_from (is_constant f.equality.right) (is_same (label f.equality.left) c) (ap is_constant f.constant) (true-same (label f.equality.left) c link))
+      ∙ and_from (is_constant f.equality.right) (is_same (label f.equality.left) c) (ap is_constant f.constant) (true_same (label f.equality.left) c link))
 
-  variable-sound : (c : Column) → is_variable ms stored c ≡ true → IsShared es c × IsLeast es c
-  variable-sound c h =
+  variable_sound : (c : Column) → is_variable ms stored c ≡ true → IsShared es c × IsLeast es c
+  variable_sound c h =
       let outer = and_parts (is_same (label c) c && is_elsewhere ms c) (not (is_fixed ms stored c)) h in
       let inner = and_parts (is_same (label c) c) (is_elsewhere ms c) outer.0 in
-      let own : label c ≡ c = same-true (label c) c inner.0 in
+      let own : label c ≡ c = same_true (label c) c inner.0 in
       let unfixed : is_fixed ms stored c ≡ false = not-true (is_fixed ms stored c) outer.1 in
-      let found = any-member (λ (m : Member). is_other label c (column_shown m.column)) ms inner.1 in
+      let found = any_member (λ (m : Member). is_other label c (column_shown m.column)) ms inner.1 in
       let other = column_shown found.0.column in
       let tests = and_parts (is_same (label other) c) (not (other.item == c.item)) found.2 in (
         record {
-          free = λ bytes f. let e : true ≡ false = sym (fixing-found c bytes own f) ∙ unfixed in absurd (cc);
+          free = λ bytes f. let e : true ≡ false = sym (fixing_found c bytes own f) ∙ unfixed in absurd (cc);
           other = other;
-          linked = known.sound c other (own ∙ sym (same-true (label other) c tests.0));
+          linked = known.sound c other (own ∙ sym (same_true (label other) c tests.0));
           elsewhere = λ e. elim (eqb_tells other.item c.item) [
             | inl p ↦ let q : false ≡ true = sym (not-true (other.item == c.item) tests.1) ∙ p.0 in absurd (cc)
             | inr p ↦ p.1 e
           ];
         },
-        labelled-least es label known c own,
+        labelled_least es label known c own,
       )
 
-  variable-found : (c : Column) → IsShared es c → IsLeast es c → is_variable ms stored c ≡ true
-  variable-found c s least =
-      let own : label c ≡ c = least-labelled es label known c least in
+  variable_found : (c : Column) → IsShared es c → IsLeast es c → is_variable ms stored c ≡ true
+  variable_found c s least =
+      let own : label c ≡ c = least_labelled es label known c least in
       let there : label s.other ≡ c = sym (known.complete c s.other s.linked) ∙ own in
-      let unfixed : is_fixed ms stored c ≡ false = false_from_ne_true (is_fixed ms stored c) (λ h. fixed-not-free c own h s.free) in
+      let unfixed : is_fixed ms stored c ≡ false = false_from_ne_true (is_fixed ms stored c) (λ h. fixed_not_free c own h s.free) in
       let apart : not (s.other.item == c.item) ≡ true = not_from_false (s.other.item == c.item) (elim (eqb_tells s.other.item c.item) [ inl p ↦ absurd (s.elsewhere p.1) | inr p ↦ p.0 ]) in
-      let test : is_other label c s.other ≡ true = and_from (is_same (label s.other) c) (not (s.other.item == c.item)) (true-same (label s.other) c there) apart in
-      let elsewhere : is_elsewhere ms c ≡ true = elim (listed-or ms s.other s.other) [
+      let test : is_other label c s.other ≡ true = and_from (is_same (label s.other) c) (not (s.other.item == c.item)) (true_same (label s.other) c there) apart in
+      let elsewhere : is_elsewhere ms c ≡ true = elim (listed_or ms s.other s.other) [
         | inl e ↦ absurd (s.elsewhere (ap (λ (z : Column). z.item) (sym e ∙ there)))
-        | inr p ↦ member-any (λ (m : Member). is_other label c (column_shown m.column)) p.0 ms p.1 (ap (is_other label c) p.2 ∙ test)
+        | inr p ↦ member_any (λ (m : Member). is_other label c (column_shown m.column)) p.0 ms p.1 (ap (is_other label c) p.2 ∙ test)
       ] in
-      and_from (is_same (label c) c && is_elsewhere ms c) (not (is_fixed ms stored c)) (and_from (is_same (label c) c) (is_elsewhere ms c) (true-same (label c) c own) elsewhere)
+      and_from (is_same (label c) c && is_elsewhere ms c) (not (is_fixed ms stored c)) (and_from (is_same (label c) c) (is_elsewhere ms c) (true_same (label c) c own) elsewhere)
       (not_from_false (is_fixed ms stored c) unfixed)
 
   -- the variables, among ascending columns that include all columns of variables
-  pub variables-found : (columns : List (ℕ × ℕ)) → IsAscending ColumnBefore (map column_shown columns) → ((c : Column) → IsShared es c → IsMember c (map column_shown columns))
+  pub variables_found : (columns : List (ℕ × ℕ)) → IsAscending ColumnBefore (map column_shown columns) → ((c : Column) → IsShared es c → IsMember c (map column_shown columns))
       → AreVariables es (map column_shown (filter (λ c. is_variable ms stored (column_shown c)) columns))
-  variables-found columns ascending all =
+  variables_found columns ascending all =
       let same : map column_shown (filter (λ c. is_variable ms stored (column_shown c)) columns) ≡ filter (is_variable ms stored) (map column_shown columns) =
-      map-filter column_shown (is_variable ms stored) columns in
+      map_filter column_shown (is_variable ms stored) columns in
       subst (λ (l : List Column). AreVariables es l) (sym same) (record {
-        ascending = ascending-filter ColumnBefore (is_variable ms stored) (map column_shown columns) ascending;
+        ascending = ascending_filter ColumnBefore (is_variable ms stored) (map column_shown columns) ascending;
         members = λ c. (
-          λ m. variable-sound c (kept-member (is_variable ms stored) c (map column_shown columns) m).1,
-          λ h. member-kept (is_variable ms stored) c (map column_shown columns) (all c h.0) (variable-found c h.0 h.1),
+          λ m. variable_sound c (kept_member (is_variable ms stored) c (map column_shown columns) m).1,
+          λ h. member_kept (is_variable ms stored) c (map column_shown columns) (all c h.0) (variable_found c h.0 h.1),
         );
       })
 
 -- ---- the variables of an item
 
-one-place : (label : Column → Column) (item width : ℕ) (least : Column) (p q : ℕ) → IsFirstPlace label item width least p → IsFirstPlace label item width least q → p ≡ q
-one-place label item width least p q a b = elim (cases_order p q) [
+one_place : (label : Column → Column) (item width : ℕ) (least : Column) (p q : ℕ) → IsFirstPlace label item width least p → IsFirstPlace label item width least q → p ≡ q
+one_place label item width least p q a b = elim (cases_order p q) [
   | inl e ↦ e
   | inr (inl l) ↦ absurd (b.first p l a.labelled)
   | inr (inr g) ↦ absurd (a.first q g b.labelled)
 ]
 
 module _ (label : Column → Column) (variables : List Column) (item width : ℕ) where
-  pub places-none : HavePlaces label variables item width 0 []
-  places-none = record { ascending = tt; members = λ v. (λ m. absurd m, λ h. absurd (let l = h.0 in omega (arith, l))) }
+  pub places_none : HavePlaces label variables item width 0 []
+  places_none = record { ascending = tt; members = λ v. (λ m. absurd m, λ h. absurd (let l = h.0 in omega (arith, l))) }
 
-  pub places-more : (n place : ℕ) (list : List (ℕ × ℕ)) → HavePlaces label variables item width n list → IsFirstPlace label item width (variable_at variables n) place
+  pub places_more : (n place : ℕ) (list : List (ℕ × ℕ)) → HavePlaces label variables item width n list → IsFirstPlace label item width (variable_at variables n) place
       → HavePlaces label variables item width (n + 1) (list ++ (n, place) ∷ [])
-  places-more n place list known here = record {
-    ascending = ascending-append NumberBefore list ((n, place) ∷ []) known.ascending (tt, tt)
+  places_more n place list known here = record {
+    ascending = ascending_append NumberBefore list ((n, place) ∷ []) known.ascending (tt, tt)
         (λ x y m k. elim k [ inl e ↦ subst (λ (z : ℕ). x.0 < z) (sym (ap (λ (z : ℕ × ℕ). z.0) e)) ((known.members x).0 m).0 | inr none ↦ absurd none ]);
     members = λ v. (
-      λ m. elim (member-parts v (n, place) list m) [
+      λ m. elim (member_parts v (n, place) list m) [
         | inl old ↦ let p = (known.members v).0 old in let l = p.0 in (omega (arith, l), p.1)
         | inr e ↦ subst (λ (z : ℕ × ℕ). (z.0 < n + 1) × IsFirstPlace label item width (variable_at variables z.0) z.1) (sym e) (omega arith, here)
       ],
       λ h. elim (cases_eq v.0 n) [
         | inl e ↦
             let first : IsFirstPlace label item width (variable_at variables n) v.1 = subst (λ (z : ℕ). IsFirstPlace label item width (variable_at variables z) v.1) e h.1 in
-            let q : v.1 ≡ place = one-place label item width (variable_at variables n) v.1 place first here in
+            let q : v.1 ≡ place = one_place label item width (variable_at variables n) v.1 place first here in
             let is : (n, place) ≡ v = λ i. (sym e i, sym q i) in
-            subst (λ (z : ℕ × ℕ). IsMember z (list ++ (n, place) ∷ [])) is (member-last (n, place) list)
-        | inr ne ↦ let l = h.0 in member-left v list ((n, place) ∷ []) ((known.members v).1 (omega (arith, l, ne), h.1))
+            subst (λ (z : ℕ × ℕ). IsMember z (list ++ (n, place) ∷ [])) is (member_last (n, place) list)
+        | inr ne ↦ let l = h.0 in member_left v list ((n, place) ∷ []) ((known.members v).1 (omega (arith, l, ne), h.1))
       ],
     );
   }
 
-  pub places-skip : (n : ℕ) (list : List (ℕ × ℕ)) → HavePlaces label variables item width n list → HasNoPlace label item width (variable_at variables n)
+  pub places_skip : (n : ℕ) (list : List (ℕ × ℕ)) → HavePlaces label variables item width n list → HasNoPlace label item width (variable_at variables n)
       → HavePlaces label variables item width (n + 1) list
-  places-skip n list known none = record {
+  places_skip n list known none = record {
     ascending = known.ascending;
     members = λ v. (
       λ m. let p = (known.members v).0 m in let l = p.0 in (omega (arith, l), p.1),
@@ -166,5 +166,5 @@ module _ (label : Column → Column) (variables : List Column) (item width : ℕ
   }
 
 -- a variable among stored ones
-pub variable-shown : (vs : List (ℕ × ℕ)) (n : ℕ) (d : ℕ × ℕ) → n < length vs → column_shown (get_or vs n d) ≡ variable_at (map column_shown vs) n
-variable-shown vs n d h = sym (get_or-map column_shown vs n d (record { item = 0; place = 0 }) h)
+pub variable_shown : (vs : List (ℕ × ℕ)) (n : ℕ) (d : ℕ × ℕ) → n < length vs → column_shown (get_or vs n d) ≡ variable_at (map column_shown vs) n
+variable_shown vs n d h = sym (get_or-map column_shown vs n d (record { item = 0; place = 0 }) h)

@@ -7,31 +7,31 @@ use Rattle.std.proofs.lemmas.Slice.Eq.{bytes_eq-Decides}
 use Rattle.anyk_model.specs.Table.{Table}
 use Rattle.anyk_model.specs.Query.{Query, Column, Equality, Side, of_column, of_constant, Holds, IsCombination, IsWitness, row_counts, side_value, value_of}
 use Rattle.rankings.specs.Order.{IsMember}
-use Rattle.rankings.proofs.Members.{all-member}
+use Rattle.rankings.proofs.Members.{all_member}
 use Rattle.query_bind.specs.Classes.{IsFixedTo, Linked, PassAndAgree, same, forth, back}
 use Rattle.query_bind.specs.Inside.{EqualityInside, IsInside, SideInside, IsWithin}
 
 -- the equality of two texts follows by contradiction
-pub texts-stable : (xs ys : List ℕ) → ((xs ≡ ys → ⊥) → ⊥) → xs ≡ ys
-texts-stable xs ys h = by_test (bytes_eq xs ys) refl
+pub texts_stable : (xs ys : List ℕ) → ((xs ≡ ys → ⊥) → ⊥) → xs ≡ ys
+texts_stable xs ys h = by_test (bytes_eq xs ys) refl
   where
     by_test : (b : Bool) → bytes_eq xs ys ≡ b → xs ≡ ys
     by_test true e = (bytes_eq-Decides xs ys).0 e
     by_test false e = absurd (h (λ p. let t : bytes_eq xs ys ≡ true = (bytes_eq-Decides xs ys).1 p in cc))
 
-pub all-of-members : {A : Type 0} (P : A → Type 0) (xs : List A) → ((x : A) → IsMember x xs → P x) → AllByRecursion P xs
-all-of-members P [] h = tt
-all-of-members P (x ∷ xs) h = (h x (inl refl), all-of-members P xs (λ y m. h y (inr m)))
+pub all_of_members : {A : Type 0} (P : A → Type 0) (xs : List A) → ((x : A) → IsMember x xs → P x) → AllByRecursion P xs
+all_of_members P [] h = tt
+all_of_members P (x ∷ xs) h = (h x (inl refl), all_of_members P xs (λ y m. h y (inr m)))
 
-pub linked-append : {es : List Equality} {a b c : Column} → Linked es a b → Linked es b c → Linked es a c
-linked-append same k = k
-linked-append (forth m e h) k = forth m e (linked-append h k)
-linked-append (back m e h) k = back m e (linked-append h k)
+pub linked_append : {es : List Equality} {a b c : Column} → Linked es a b → Linked es b c → Linked es a c
+linked_append same k = k
+linked_append (forth m e h) k = forth m e (linked_append h k)
+linked_append (back m e h) k = back m e (linked_append h k)
 
-pub linked-back : {es : List Equality} {a b : Column} → Linked es a b → Linked es b a
-linked-back same = same
-linked-back (forth m e h) = linked-append (linked-back h) (back m e same)
-linked-back (back m e h) = linked-append (linked-back h) (forth m e same)
+pub linked_back : {es : List Equality} {a b : Column} → Linked es a b → Linked es b a
+linked_back same = same
+linked_back (forth m e h) = linked_append (linked_back h) (back m e same)
+linked_back (back m e h) = linked_append (linked_back h) (forth m e same)
 
 module _ (query : Query) (tables : List Table) (rows : List ℕ) where
   abbrev value : Column → List ℕ
@@ -40,49 +40,49 @@ module _ (query : Query) (tables : List Table) (rows : List ℕ) where
   abbrev AllHold : Type 0
   AllHold = AllByRecursion (Holds query tables rows) query.equalities
 
-  holds-column : AllHold → (e : Equality) (b : Column) → IsMember e query.equalities → e.right ≡ of_column b → value e.left ≡ value b
-  holds-column all e b m is =
-      let h : value e.left ≡ side_value query tables rows e.right = all-member (Holds query tables rows) e query.equalities all m in
+  holds_column : AllHold → (e : Equality) (b : Column) → IsMember e query.equalities → e.right ≡ of_column b → value e.left ≡ value b
+  holds_column all e b m is =
+      let h : value e.left ≡ side_value query tables rows e.right = all_member (Holds query tables rows) e query.equalities all m in
       subst (λ (s : Side). value e.left ≡ side_value query tables rows s) is h
 
-  holds-constant : AllHold → (e : Equality) (bytes : List ℕ) → IsMember e query.equalities → e.right ≡ of_constant bytes → value e.left ≡ bytes
-  holds-constant all e bytes m is =
-      let h : value e.left ≡ side_value query tables rows e.right = all-member (Holds query tables rows) e query.equalities all m in
+  holds_constant : AllHold → (e : Equality) (bytes : List ℕ) → IsMember e query.equalities → e.right ≡ of_constant bytes → value e.left ≡ bytes
+  holds_constant all e bytes m is =
+      let h : value e.left ≡ side_value query tables rows e.right = all_member (Holds query tables rows) e query.equalities all m in
       subst (λ (s : Side). value e.left ≡ side_value query tables rows s) is h
 
-  linked-value : AllHold → {a b : Column} → Linked query.equalities a b → value a ≡ value b
-  linked-value all same = refl
-  linked-value all (forth {e = e} {b = b} m is h) = holds-column all e b m is ∙ linked-value all h
-  linked-value all (back {e = e} {b = b} m is h) = sym (holds-column all e b m is) ∙ linked-value all h
+  linked_value : AllHold → {a b : Column} → Linked query.equalities a b → value a ≡ value b
+  linked_value all same = refl
+  linked_value all (forth {e = e} {b = b} m is h) = holds_column all e b m is ∙ linked_value all h
+  linked_value all (back {e = e} {b = b} m is h) = sym (holds_column all e b m is) ∙ linked_value all h
 
-  fixed-value : AllHold → (c : Column) (bytes : List ℕ) → IsFixedTo query.equalities c bytes → value c ≡ bytes
-  fixed-value all c bytes f = linked-value all f.linked ∙ holds-constant all f.equality bytes f.member f.constant
+  fixed_value : AllHold → (c : Column) (bytes : List ℕ) → IsFixedTo query.equalities c bytes → value c ≡ bytes
+  fixed_value all c bytes f = linked_value all f.linked ∙ holds_constant all f.equality bytes f.member f.constant
 
-  pub witness-passes : AllHold → PassAndAgree query tables rows
-  witness-passes all = record {
+  pub witness_passes : AllHold → PassAndAgree query tables rows
+  witness_passes all = record {
     pass = λ i inside. record {
-      equal = λ a b h. linked-value all h;
-      constant = λ a bytes f. fixed-value all (record { item = i; place = a }) bytes f;
+      equal = λ a b h. linked_value all h;
+      constant = λ a bytes f. fixed_value all (record { item = i; place = a }) bytes f;
     };
-    agree = λ i j _ _ a b shared h. linked-value all h;
+    agree = λ i j _ _ a b shared h. linked_value all h;
   }
 
   module _ (pairs : PassAndAgree query tables rows) where
-    same-item : (a b : Column) → a.item < length query.items → Linked query.equalities a b → a.item ≡ b.item → value a ≡ value b
-    same-item a b inside h is =
+    same_item : (a b : Column) → a.item < length query.items → Linked query.equalities a b → a.item ≡ b.item → value a ≡ value b
+    same_item a b inside h is =
         let P : ℕ → Type 0 = λ n. Linked query.equalities a (record { item = n; place = b.place }) → value a ≡ value (record { item = n; place = b.place }) in
         subst P is ((pairs.pass a.item inside).equal a.place b.place) h
 
-    not-different : (a b : Column) → a.item < length query.items → b.item < length query.items → Linked query.equalities a b → (value a ≡ value b → ⊥) → ⊥
-    not-different a b ia ib h differ = elim (cases_eq a.item b.item) [
-      | inl is ↦ differ (same-item a b ia h is)
+    not_different : (a b : Column) → a.item < length query.items → b.item < length query.items → Linked query.equalities a b → (value a ≡ value b → ⊥) → ⊥
+    not_different a b ia ib h differ = elim (cases_eq a.item b.item) [
+      | inl is ↦ differ (same_item a b ia h is)
       | inr other ↦ differ (pairs.agree a.item b.item ia ib a.place b.place (record {
         free = λ bytes f. differ ((pairs.pass a.item ia).constant a.place bytes f
             ∙ sym ((pairs.pass b.item ib).constant b.place bytes (record {
               equality = f.equality;
               member = f.member;
               constant = f.constant;
-              linked = linked-append (linked-back h) f.linked;
+              linked = linked_append (linked_back h) f.linked;
             })));
         other = b;
         linked = h;
@@ -90,31 +90,31 @@ module _ (query : Query) (tables : List Table) (rows : List ℕ) where
       }) h)
     ]
 
-    column-holds : (e : Equality) (b : Column) → IsMember e query.equalities → e.right ≡ of_column b
+    column_holds : (e : Equality) (b : Column) → IsMember e query.equalities → e.right ≡ of_column b
         → e.left.item < length query.items → b.item < length query.items → value e.left ≡ value b
-    column-holds e b m is ia ib =
+    column_holds e b m is ia ib =
         let h : Linked query.equalities e.left b = forth m is same in
-        texts-stable (value e.left) (value b) (not-different e.left b ia ib h)
+        texts_stable (value e.left) (value b) (not_different e.left b ia ib h)
 
-    constant-holds : (e : Equality) (bytes : List ℕ) → IsMember e query.equalities → e.right ≡ of_constant bytes
+    constant_holds : (e : Equality) (bytes : List ℕ) → IsMember e query.equalities → e.right ≡ of_constant bytes
         → e.left.item < length query.items → value e.left ≡ bytes
-    constant-holds e bytes m is ia =
+    constant_holds e bytes m is ia =
         (pairs.pass e.left.item ia).constant e.left.place bytes (record { equality = e; member = m; constant = is; linked = same })
 
-    side-holds : (e : Equality) (s : Side) → IsMember e query.equalities → e.right ≡ s → IsInside tables query.items e.left → SideInside tables query.items s
+    side_holds : (e : Equality) (s : Side) → IsMember e query.equalities → e.right ≡ s → IsInside tables query.items e.left → SideInside tables query.items s
         → value e.left ≡ side_value query tables rows s
-    side-holds e (of_column b) m is left right = column-holds e b m is left.item right.item
-    side-holds e (of_constant bytes) m is left right = constant-holds e bytes m is left.item
+    side_holds e (of_column b) m is left right = column_holds e b m is left.item right.item
+    side_holds e (of_constant bytes) m is left right = constant_holds e bytes m is left.item
 
-    pub pass-witness : IsWithin query tables → AllHold
-    pass-witness within = all-of-members (Holds query tables rows) query.equalities (λ e m.
-        let inside = all-member (EqualityInside tables query.items) e query.equalities within.equalities m in
-        side-holds e e.right m refl inside.left inside.right)
+    pub pass_witness : IsWithin query tables → AllHold
+    pass_witness within = all_of_members (Holds query tables rows) query.equalities (λ e m.
+        let inside = all_member (EqualityInside tables query.items) e query.equalities within.equalities m in
+        side_holds e e.right m refl inside.left inside.right)
 
 -- The law, for the crates above.
-pub witness-iff : (query : Query) (tables : List Table) (rows : List ℕ) → IsWithin query tables
+pub witness_iff : (query : Query) (tables : List Table) (rows : List ℕ) → IsWithin query tables
     → IsWitness query tables rows ↔ (IsCombination (row_counts query.items tables) rows × PassAndAgree query tables rows)
-witness-iff query tables rows within = (
-  λ w. (w.0, witness-passes query tables rows w.1),
-  λ p. (p.0, pass-witness query tables rows p.1 within),
+witness_iff query tables rows within = (
+  λ w. (w.0, witness_passes query tables rows w.1),
+  λ p. (p.0, pass_witness query tables rows p.1 within),
 )

@@ -4,7 +4,7 @@ use Rattle.std.specs.List.{list_any}
 use Rattle.hyper_graph.specs.Graph.{Hypergraph, IsGraph, HasVar, IsIn}
 use Rattle.anyk_model.specs.Query.{Query, Column}
 use Rattle.query_bind.specs.Classes.{AreVariables, HasVariable}
-use Rattle.query_bind.specs.Weighed.{variables_at}
+use Rattle.query_bind.specs.WeighedQuery.{variables_at}
 
 -- the atoms are the items, and each variable has the items in which its class has a column
 pub record IsGraphOf (query : Query) (graph : Hypergraph) : Type 0 where

@@ -2,7 +2,7 @@
 use Rattle.std.specs.Prelude.{◌≡◌, ◌==◌, ◌&&◌, ℕ, ◌<◌, Bool, if◌then◌else◌, List, [], ◌∷◌}
 use Rattle.anyk_model.specs.Query.{Column, Equality}
 use Rattle.query_bind.specs.Classes.{Linked, ColumnBefore}
-use Rattle.query_bind.specs.Stored.{column_shown}
+use Rattle.query_bind.specs.StoredParts.{column_shown}
 use Rattle.query_bind.specs.declared.classes.Member.{Member}
 
 -- each column has the least of its class as its label

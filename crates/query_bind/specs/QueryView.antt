@@ -2,8 +2,8 @@
 use Rattle.std.specs.Prelude.{ℕ, map, Vec}
 use Rattle.std.specs.Global.{Global}
 use Rattle.query_bind.specs.FilterViews.{filter_shown}
-use Rattle.query_bind.specs.Stored.{column_shown}
-use Rattle.query_bind.specs.Weighed.{BoundQuery}
+use Rattle.query_bind.specs.StoredParts.{column_shown}
+use Rattle.query_bind.specs.WeighedQuery.{BoundQuery}
 use Rattle.query_bind.specs.WeighedView.{weighed_shown}
 use Rattle.query_bind.specs.declared.query.Query.TheInside.{Inside}
 

@@ -7,8 +7,8 @@ use Rattle.anyk_model.specs.Query.{Query, Item, Column, Equality, Side, of_colum
 use Rattle.rankings.specs.Order.{IsAscending, IsMember}
 use Rattle.query_bind.specs.Classes.{AreVariables, AreVariablesOf, NumberBefore, variable_at}
 use Rattle.query_bind.specs.Labels.{IsFirstPlace, is_same, least_in}
-use Rattle.query_bind.specs.Stored.{column_shown, equality_shown}
-use Rattle.query_bind.specs.Weighed.{variables_at}
+use Rattle.query_bind.specs.StoredParts.{column_shown, equality_shown}
+use Rattle.query_bind.specs.WeighedQuery.{variables_at}
 use Rattle.query_bind.specs.Weights.{table_in}
 use Rattle.query_bind.specs.declared.bound.BoundEquality.{BoundEquality}
 use Rattle.query_bind.specs.declared.classes.Member.{Member}

@@ -9,10 +9,10 @@ ghost use Rattle.query_bind.specs.Inside.{IsWithin};
 ghost use Rattle.query_bind.specs.Names.{items_of, names_fault, or_else};
 ghost use Rattle.query_bind.specs.FilterViews.{HasFilters, filter_shown};
 ghost use Rattle.query_bind.specs.Labels.{IsLabelling, least_in};
-ghost use Rattle.query_bind.specs.Stored.{column_shown};
+ghost use Rattle.query_bind.specs.StoredParts.{column_shown};
 ghost use Rattle.query_bind.specs.TextOrder.{IsFirstFailing, IsReferenceFault};
 ghost use Rattle.query_bind.specs.Variables.{HasVariables, lists_shown};
-ghost use Rattle.query_bind.specs.Weighed.{Fits, key_parts};
+ghost use Rattle.query_bind.specs.WeighedQuery.{Fits, key_parts};
 ghost use Rattle.query_bind.specs.WeighedView.{weighed_shown};
 ghost use Rattle.query_bind.specs.Weights.{range_fault, weights_fault};
 

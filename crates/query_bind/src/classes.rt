@@ -3,8 +3,8 @@ ghost use Rattle.std.specs.Prelude.{◌≡◌, ◌↔◌, ◌⊎◌, ◌++◌, �
 ghost use Rattle.anyk_model.specs.Query.{Equality, of_column};
 ghost use Rattle.query_bind.specs.Classes.{ColumnBefore};
 ghost use Rattle.query_bind.specs.Labels.{HasNoPlace, IsFirstPlace, IsLabelling, least_in, replaced};
-ghost use Rattle.query_bind.specs.Stored.{column_shown, equality_shown};
-ghost use Rattle.query_bind.specs.Relabelled.{with_least};
+ghost use Rattle.query_bind.specs.StoredParts.{column_shown, equality_shown};
+ghost use Rattle.query_bind.specs.Relabelling.{with_least};
 
 use crate::bound::{BoundEquality, BoundSide};
 use std::alloc::{AllocError, Global};

@@ -8,7 +8,7 @@ ghost use Rattle.anyk_model.specs.Table.{field_at, table_at};
 ghost use Rattle.query_bind.specs.Filters.{HasConstants, HasEqual, HaveConstants, HavePairs};
 ghost use Rattle.query_bind.specs.FilterViews.{HaveFilters, constant_shown, filter_shown};
 ghost use Rattle.query_bind.specs.Labels.{least_in};
-ghost use Rattle.query_bind.specs.Stored.{equality_shown, items_shown};
+ghost use Rattle.query_bind.specs.StoredParts.{equality_shown, items_shown};
 
 use crate::bound::{BoundEquality, BoundItem, BoundSide};
 use crate::classes::{Member, first_place, least_of};

@@ -3,9 +3,9 @@ ghost use Rattle.std.specs.Prelude.{◌≡◌, ◌↔◌, IsTrue, ◌<◌, ◌�
 ghost use Rattle.anyk_model.specs.Table.{Table};
 ghost use Rattle.query_bind.specs.Names.{item_at};
 ghost use Rattle.query_bind.specs.Graph.{IsGraphOf};
-ghost use Rattle.query_bind.specs.Stored.{column_shown, equality_shown};
+ghost use Rattle.query_bind.specs.StoredParts.{column_shown, equality_shown};
 ghost use Rattle.query_bind.specs.Classes.{AreVariablesOf, Passes};
-ghost use Rattle.query_bind.specs.Weighed.{Fits, variables_at};
+ghost use Rattle.query_bind.specs.WeighedQuery.{Fits, variables_at};
 ghost use Rattle.query_bind.specs.Weights.{cap_of, key_at, part_of, table_in};
 
 use crate::bound::{BoundEquality, ItemWeights};
@@ -32,7 +32,7 @@ pub struct Query {
 }
 
 impl Model for Query {
-    ghost use Rattle.query_bind.specs.Weighed.{BoundQuery};
+    ghost use Rattle.query_bind.specs.WeighedQuery.{BoundQuery};
 
     ghost Value = { BoundQuery };
 

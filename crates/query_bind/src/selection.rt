@@ -2,7 +2,7 @@
 ghost use Rattle.std.specs.Prelude.{◌≡◌, ◌<◌, ◌≤◌, length, map, IfOk};
 ghost use Rattle.query_bind.specs.Labels.{IsLabelling, least_in};
 ghost use Rattle.query_bind.specs.Names.{item_at};
-ghost use Rattle.query_bind.specs.Stored.{column_shown, equality_shown};
+ghost use Rattle.query_bind.specs.StoredParts.{column_shown, equality_shown};
 ghost use Rattle.query_bind.specs.Weights.{key_at};
 
 use crate::bound::{BoundEquality, BoundItem, BoundKey};

@@ -4,7 +4,7 @@
 ghost use Rattle.std.specs.Prelude.{◌≡◌, ◌<◌, ◌+◌, ◌^◌, ◌++◌, ◌∷◌, [], List, map, length, get_or, IfOk, OnOk, IfSome, IfNone};
 ghost use Rattle.anyk_model.specs.Query.{Term};
 ghost use Rattle.query_bind.specs.Parts.{sum_of_all};
-ghost use Rattle.query_bind.specs.Stored.{term_shown};
+ghost use Rattle.query_bind.specs.StoredParts.{term_shown};
 ghost use Rattle.query_bind.specs.Tallies.{AreTallies, StandOnce, columns_of, tally_size, with_one};
 ghost use Rattle.rankings.specs.Order.{IsMember};
 

@@ -3,7 +3,7 @@ ghost use Rattle.std.specs.Prelude.{◌≡◌, ◌<◌, ◌≤◌, ◌^◌, filt
 ghost use Rattle.std.specs.List.{AllByRecursion};
 ghost use Rattle.query_bind.specs.declared.bound.BoundItem.{BoundItem};
 ghost use Rattle.query_bind.specs.Labels.{least_in};
-ghost use Rattle.query_bind.specs.Stored.{column_shown, equality_shown, items_shown};
+ghost use Rattle.query_bind.specs.StoredParts.{column_shown, equality_shown, items_shown};
 ghost use Rattle.query_bind.specs.Variables.{HavePlaces, HavePlacesEach, lists_shown, is_elsewhere, is_fixed, is_fixing, is_other, is_variable};
 
 use crate::bound::{BoundEquality, BoundItem, BoundSide};

@@ -19,10 +19,10 @@ module _ (many : Bool) where
   walk_by c [] = ended c.may_end
   walk_by c (t ∷ ts) = stepped (λ q. walk many q ts) (c.step t.kind) t ts
 
-  pub walk-is : (p : Place) (ts : List Lexeme) → walk many p ts ≡ walk_by (choice_of many p) ts
+  pub walk_is : (p : Place) (ts : List Lexeme) → walk many p ts ≡ walk_by (choice_of many p) ts
   unfolding walk walk_by
-  walk-is p [] = refl
-  walk-is p (t ∷ ts) = refl
+  walk_is p [] = refl
+  walk_is p (t ∷ ts) = refl
 
   -- Reading from choice c gives a thing x, and the next choice is d x; or it stops where the walk
   -- stops.
@@ -38,7 +38,7 @@ module _ (many : Bool) where
   taken_by : (k : Kind) (p : Place) (c : Choice) (t : Lexeme) (ts : List Lexeme) (b : Bool) → b ≡ same t.kind k
       → Taken k p c (t ∷ ts) (cond b (Some t, ts) (None, t ∷ ts))
   unfolding walk_by
-  taken_by k p c t ts true e = present (one (same_true t.kind k (sym e))) (rw (← e) (walk-is p ts))
+  taken_by k p c t ts true e = present (one (same_true t.kind k (sym e))) (rw (← e) (walk_is p ts))
   taken_by k p c t ts false e = absent (rw (← e) refl)
 
   pub taken : (k : Kind) (p : Place) (c : Choice) (ts : List Lexeme) → Taken k p c ts (optional_at k ts)
@@ -49,7 +49,7 @@ module _ (many : Bool) where
   expected_by : (k : Kind) (p : Place) (t : Lexeme) (ts : List Lexeme) (b : Bool) → b ≡ same t.kind k
       → Out (One k) (on k p nothing) (λ _. choice_of many p) (t ∷ ts) (cond b (Ok (t, ts)) (Err (t ∷ ts)))
   unfolding walk_by
-  expected_by k p t ts true e = good (one (same_true t.kind k (sym e))) (rw (← e) (walk-is p ts))
+  expected_by k p t ts true e = good (one (same_true t.kind k (sym e))) (rw (← e) (walk_is p ts))
   expected_by k p t ts false e = bad (rw (← e) refl)
 
   pub expected : (k : Kind) (p : Place) (ts : List Lexeme) → Out (One k) (on k p nothing) (λ _. choice_of many p) ts (expect_at k ts)

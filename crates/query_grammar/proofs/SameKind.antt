@@ -11,12 +11,12 @@ kinds = kind.Select ∷ kind.From ∷ kind.Where ∷ kind.And ∷ kind.Order ∷
 abbrev kind_at : ℕ → Kind
 kind_at n = get_or kinds n kind.Stray
 
-kind_at-number : (k : Kind) → kind_at (number_of k) ≡ k
-kind_at-number kind.Select = refl
-kind_at-number _ = refl
+kind_at_number : (k : Kind) → kind_at (number_of k) ≡ k
+kind_at_number kind.Select = refl
+kind_at_number _ = refl
 
 pub same_true : (a b : Kind) → same a b ≡ true → a ≡ b
-same_true a b e = sym (kind_at-number a) ∙ ap kind_at (eqb-true (number_of a) (number_of b) e) ∙ kind_at-number b
+same_true a b e = sym (kind_at_number a) ∙ ap kind_at (eqb-true (number_of a) (number_of b) e) ∙ kind_at_number b
 
 pub same_self : (k : Kind) → same k k ≡ true
 same_self kind.Select = refl

@@ -8,7 +8,7 @@ use Rattle.query_grammar.specs.Grammar.{IsQueries, AreQueries}
 use Rattle.query_grammar.specs.Places as place
 use Rattle.query_grammar.specs.Places.{Place, Clause, on_clause, where_clause, Use, listed, on_left, on_right, ranked, Item, plain, joined, choice_of, Walked, ended, stepped, walk, completing}
 use Rattle.query_grammar.specs.FirstFault.{Stops, IsFirstFault}
-use Rattle.query_grammar.proofs.Outcomes.{walk-is}
+use Rattle.query_grammar.proofs.Outcomes.{walk_is}
 use Rattle.query_grammar.proofs.Rules.{QueriesOut, are_queries, no_queries, queries_out}
 use Rattle.query_grammar.proofs.Again.{queries_again}
 
@@ -113,16 +113,16 @@ module _ (many : Bool) where
 
   -- what was read is a query, and the walk over it ends
   read_ok : {ts : List Lexeme} {r : Result Branches (List Lexeme)} (x : Branches) → QueriesOut many (choice_of many place.start) ts r → r ≡ Ok x → IsQueries many ts x × (whole ts ≡ Ok tt)
-  read_ok {ts} x (are_queries {x = y} q h) e = let same_clauses : y ≡ x = cc in (subst (IsQueries many ts) same_clauses q, walk-is many place.start ts ∙ h)
+  read_ok {ts} x (are_queries {x = y} q h) e = let same_clauses : y ≡ x = cc in (subst (IsQueries many ts) same_clauses q, walk_is many place.start ts ∙ h)
   read_ok x (no_queries h) e = absurd cc
 
   read_err : {ts : List Lexeme} {r : Result Branches (List Lexeme)} (left : List Lexeme) → QueriesOut many (choice_of many place.start) ts r → r ≡ Err left → whole ts ≡ Err left
   read_err left (are_queries q h) e = absurd cc
-  read_err {ts} left (no_queries {left = l} h) e = let same_left : l ≡ left = cc in walk-is many place.start ts ∙ h ∙ ap (λ (x : List Lexeme). Err x) same_left
+  read_err {ts} left (no_queries {left = l} h) e = let same_left : l ≡ left = cc in walk_is many place.start ts ∙ h ∙ ap (λ (x : List Lexeme). Err x) same_left
 
   walked_queries : {ts : List Lexeme} {r : Result Branches (List Lexeme)} → QueriesOut many (choice_of many place.start) ts r → whole ts ≡ Ok tt → (x : Branches) × IsQueries many ts x
   walked_queries (are_queries q h) e = (_, q)
-  walked_queries {ts} (no_queries h) e = let f = walk-is many place.start ts ∙ h in absurd cc
+  walked_queries {ts} (no_queries h) e = let f = walk_is many place.start ts ∙ h in absurd cc
 
   pub queries_found : (ts : List Lexeme) (x : Branches) → queries_at many ts ≡ Ok x → IsQueries many ts x
   queries_found ts x e = (read_ok x (queries_out many ts) e).0

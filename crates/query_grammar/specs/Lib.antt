@@ -4,6 +4,6 @@ pub mod Grammar
 pub mod Places
 pub mod FirstFault
 pub mod Tokens
-pub mod Scanned
+pub mod Scans
 pub mod Parse
 pub mod Text

@@ -5,7 +5,7 @@ ghost use Rattle.std.specs.List.{prefix_len, position};
 ghost use Rattle.std.specs.Str.{bytes_eq};
 ghost use Rattle.std.specs.Char.{is_ascii_digit, to_ascii_lowercase};
 ghost use Rattle.query_grammar.specs.Lexeme.{lexemes};
-ghost use Rattle.query_grammar.specs.Scanned.{scan_view};
+ghost use Rattle.query_grammar.specs.Scans.{scan_view};
 ghost use Rattle.query_grammar.specs.Tokens.{is_blank, is_letter, is_word_byte, kind_of_word, kind_of_sign, closing, scan_of, quoted_scan, tokens_of};
 
 use crate::token::{Kind, Token};

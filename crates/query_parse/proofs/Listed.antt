@@ -10,8 +10,8 @@ rest_of xs = take (length xs - 1) (drop 1 xs)
 
 module _ {A : Type 0} (f : A → List ℕ) (before : List ℕ) (xs : List A) (i : ℕ) (text : List ℕ) (so_far : text ≡ before ++ flat_map f (take i xs)) where
   -- the text of one more element
-  pub one-more : (x : A) (new : List ℕ) → i < length xs → x ≡ get_or xs i x → new ≡ text ++ f x → new ≡ before ++ flat_map f (take (i + 1) xs)
-  one-more x new inside is more =
+  pub one_more : (x : A) (new : List ℕ) → i < length xs → x ≡ get_or xs i x → new ≡ text ++ f x → new ≡ before ++ flat_map f (take (i + 1) xs)
+  one_more x new inside is more =
       let one : flat_map f (take i xs ++ get_or xs i x ∷ []) ≡ flat_map f (take i xs) ++ f x =
       flat_map-append f (take i xs) (get_or xs i x ∷ []) ∙ ap (λ (l : List ℕ). flat_map f (take i xs) ++ l) (append-nil (f (get_or xs i x)) ∙ ap f (sym is)) in
       more ∙ ap (λ (l : List ℕ). l ++ f x) so_far ∙ append_assoc before (flat_map f (take i xs)) (f x)

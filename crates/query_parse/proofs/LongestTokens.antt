@@ -116,8 +116,8 @@ none_by : (bytes : List ℕ) (s : Scan) → ScansLongest bytes s → s ≡ stray
 none_by bytes s (inl (none, _)) e = none
 none_by bytes s (inr l) e = absurd (token_known s.kind s.body l.front l.token.form (ap (λ (x : Scan). x.kind) e))
 
-pub stray-iff : (bytes : List ℕ) → NoToken bytes ↔ (scan_of bytes ≡ stray)
-stray-iff bytes = (λ none. stray_is bytes (scan_of bytes) none (scans_longest bytes), λ e. none_by bytes (scan_of bytes) (scans_longest bytes) e)
+pub stray_iff : (bytes : List ℕ) → NoToken bytes ↔ (scan_of bytes ≡ stray)
+stray_iff bytes = (λ none. stray_is bytes (scan_of bytes) none (scans_longest bytes), λ e. none_by bytes (scan_of bytes) (scans_longest bytes) e)
 
-pub tokens-iff : (bytes : List ℕ) (tokens : List Lexeme) → AreTokens 0 bytes tokens ↔ (tokens ≡ tokens_of bytes)
-tokens-iff bytes tokens = (are_those 0 bytes tokens, λ e. subst (AreTokens 0 bytes) (sym e) (are_tokens (length bytes) 0 bytes (omega arith)))
+pub tokens_iff : (bytes : List ℕ) (tokens : List Lexeme) → AreTokens 0 bytes tokens ↔ (tokens ≡ tokens_of bytes)
+tokens_iff bytes tokens = (are_those 0 bytes tokens, λ e. subst (AreTokens 0 bytes) (sym e) (are_tokens (length bytes) 0 bytes (omega arith)))

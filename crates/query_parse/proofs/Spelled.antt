@@ -20,7 +20,7 @@ use Rattle.query_grammar.specs.Text.{name_text_of}
 use Rattle.query_parse.specs.Text.{constant_text, alias_text, column_text, more_columns_text, columns_text, list_text, item_text, more_items_text, items_text, side_text, equality_text, more_equalities_text, where_text, first_term_text, term_text, terms_text, key_text, more_keys_text, order_text}
 use Rattle.query_select.specs.Same.{placeless_column, placeless_list, placeless_item, placeless_side, placeless_equality, placeless_term, placeless_key}
 use Rattle.query_grammar.proofs.ScanLength.{tokens_at_blank}
-use Rattle.query_parse.proofs.TextScan.{undoubled-doubled}
+use Rattle.query_parse.proofs.TextScan.{undoubled_doubled}
 use Rattle.query_parse.proofs.Plain.{Each, EachOfSome, PlainAlias, PlainColumn, PlainItem, PlainSide, PlainEquality, PlainTerm, PlainKey, PlainList}
 use Rattle.query_parse.proofs.Written.{Ends, HasNoQuote, after_blank, word_written, name_written, constant_written, comma_written, dot_written, equals_written, plus_written, minus_written, star_written}
 
@@ -177,7 +177,7 @@ equality_by left (Constant bytes) pl pr rest ends at =
     let l = column_reads left pl (32 ∷ 61 ∷ 32 ∷ behind) (blank_ends (61 ∷ 32 ∷ behind)) at in
     let e = after_blank (equals_written (32 ∷ behind)) l.next in
     let t = after_blank (constant_written bytes rest ends) e.next in
-    let same_bytes : undoubled t.token.body ≡ bytes = ap undoubled t.body_is ∙ undoubled-doubled bytes in
+    let same_bytes : undoubled t.token.body ≡ bytes = ap undoubled t.body_is ∙ undoubled_doubled bytes in
     record { value = record { left = l.value; right = Constant (undoubled t.token.body) }; next = t.next; same = rw (l.same, same_bytes) refl; found = constant_right l.found e.found (text t.found) }
 
 pub equality_reads : (e : Equality) → PlainEquality e → (rest : List ℕ) → Ends rest → (at : ℕ) → Reads IsCondition placeless_equality (placeless_equality e) (equality_text e ++ rest) rest at

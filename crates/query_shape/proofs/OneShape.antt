@@ -11,7 +11,7 @@ use Rattle.join_tree.proofs.FromRemoval as removing
 use Rattle.anyk_model.specs.Table.{Table}
 use Rattle.anyk_model.specs.Query.{Query, Column, Equality}
 use Rattle.rankings.specs.Order.{IsMember, IsAscending}
-use Rattle.rankings.proofs.Unique.{ascending-unique}
+use Rattle.rankings.proofs.Unique.{ascending_unique_lem}
 use Rattle.query_bind.specs.Classes.{AreVariables, ColumnBefore, HasVariable}
 use Rattle.query_bind.specs.Graph.{IsGraphOf}
 use Rattle.query_bind.specs.Parts.{sum_of_all}
@@ -25,7 +25,7 @@ before_asym a b (inr x) (inl y) = omega (arith, x.0, y)
 before_asym a b (inr x) (inr y) = omega (arith, x.1, y.1)
 
 one_variables : (es : List Equality) (a b : List Column) → AreVariables es a → AreVariables es b → a ≡ b
-one_variables es a b x y = ascending-unique ColumnBefore before_asym a b x.ascending y.ascending
+one_variables es a b x y = ascending_unique_lem ColumnBefore before_asym a b x.ascending y.ascending
     (λ c m. (y.members c).1 ((x.members c).0 m)) (λ c m. (x.members c).1 ((y.members c).0 m))
 
 numbers_asym : (a b : ℕ) → a < b → b < a → ⊥
@@ -33,7 +33,7 @@ numbers_asym a b x y = omega (arith, x, y)
 
 one_list : (P : ℕ → Type 0) (a b : List ℕ) → IsAscending (λ x y. x < y) a → IsAscending (λ x y. x < y) b
     → ((x : ℕ) → IsMember x a ↔ P x) → ((x : ℕ) → IsMember x b ↔ P x) → a ≡ b
-one_list P a b x y m n = ascending-unique (λ p q. p < q) numbers_asym a b x y (λ c h. (n c).1 ((m c).0 h)) (λ c h. (m c).1 ((n c).0 h))
+one_list P a b x y m n = ascending_unique_lem (λ p q. p < q) numbers_asym a b x y (λ c h. (n c).1 ((m c).0 h)) (λ c h. (m c).1 ((n c).0 h))
 
 has_same : (query : Query) (g h : Hypergraph) → IsGraphOf query g → IsGraphOf query h → (v a : ℕ) → HasVar g v a → HasVar h v a
 has_same query g h x y v a has =
@@ -70,7 +70,7 @@ module _ (query : Query) (a b : List ℕ) (x : IsCyclic query a) (y : IsCyclic q
   core_from = core_same y.graph x.graph y.parent y.order x.parent x.order y.removed x.removed y.core x.core (sym atoms) from to y.removal.run x.removal.run (sym removed_same)
 
   pub one_core : a ≡ b
-  one_core = ascending-unique (λ p q. p < q) numbers_asym a b x.ascending y.ascending
+  one_core = ascending_unique_lem (λ p q. p < q) numbers_asym a b x.ascending y.ascending
       (λ c m. (y.members c).1 (moved ((x.members c).0 m))) (λ c m. (x.members c).1 (moved_back ((y.members c).0 m)))
     where
       moved : {c : ℕ} → IsInCore x.core c → IsInCore y.core c

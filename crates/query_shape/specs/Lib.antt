@@ -1,3 +1,3 @@
 pub mod Shape
-pub mod Shown
+pub mod JoinTreeView
 pub mod Report

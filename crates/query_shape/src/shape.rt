@@ -2,8 +2,8 @@
 ghost use Rattle.std.specs.Prelude.{◌≡◌, IfErr, IfOk, List, length};
 ghost use Rattle.anyk_model.specs.Table.{Table};
 ghost use Rattle.join_tree.specs.Rerooting.{IsTree};
-ghost use Rattle.query_bind.specs.Weighed.{Fits};
-ghost use Rattle.query_shape.specs.Shown.{HasItems, HasStoredTree, TellsCycle};
+ghost use Rattle.query_bind.specs.WeighedQuery.{Fits};
+ghost use Rattle.query_shape.specs.JoinTreeView.{HasItems, HasStoredTree, TellsCycle};
 
 use crate::fault::ShapeFault;
 use join_tree::{JoinTree, ears, tree_of};

@@ -1,7 +1,7 @@
 //! What queries are bound to, and why some cannot be bound.
 ghost use Rattle.std.specs.Prelude.{◌≡◌, ◌<◌, ◌≤◌, length};
 ghost use Rattle.std.specs.List.{AllByRecursion};
-ghost use Rattle.query_bind.specs.Weighed.{Fits};
+ghost use Rattle.query_bind.specs.WeighedQuery.{Fits};
 
 use crate::fixtures::{R, S, parse_small, read_two};
 use csv_tables::Tables;

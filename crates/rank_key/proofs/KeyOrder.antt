@@ -3,7 +3,7 @@ use Rattle.std.proofs.Common.{◌≡◌, ℕ, Bool, true, false, refl, sym, subs
 use Rattle.tdp_model.specs.KeyTuple.{KeyOf, key_below, key_add, key_none}
 use Rattle.tdp_model.specs.KeyNumbers.{key_less}
 use Rattle.tdp_model.proofs.KeyTuples.{tuple_keys}
-use Rattle.tdp_model.proofs.KeyNumbers.{key_less-below, below-key_less, not_less-at_most, at_most-not_less, key_cancel}
+use Rattle.tdp_model.proofs.KeyNumbers.{key_less_below, below_key_less, not_less_at_most, at_most_not_less, key_cancel}
 
 module _ (d e : ℕ) where
   pub below_irreflexive : (a : KeyOf d e) → key_below d e a a → ⊥
@@ -17,20 +17,20 @@ module _ (d e : ℕ) where
 
   -- no key is before itself
   pub less_itself : (a : KeyOf d e) → key_less d e a a ≡ false
-  less_itself a = at_most-not_less d e a a (inr refl)
+  less_itself a = at_most_not_less d e a a (inr refl)
 
   -- of two keys at most one is before the other
   pub less_back : (a b : KeyOf d e) → key_less d e a b ≡ true → key_less d e b a ≡ false
-  less_back a b h = at_most-not_less d e b a (inl (key_less-below d e a b h))
+  less_back a b h = at_most_not_less d e b a (inl (key_less_below d e a b h))
 
   pub less_transitive : (a b c : KeyOf d e) → key_less d e a b ≡ true → key_less d e b c ≡ true → key_less d e a c ≡ true
-  less_transitive a b c h k = below-key_less d e a c (below_transitive a b c (key_less-below d e a b h) (key_less-below d e b c k))
+  less_transitive a b c h k = below_key_less d e a c (below_transitive a b c (key_less_below d e a b h) (key_less_below d e b c k))
 
   -- keys of which neither is before the other are the same
   pub same_key : (a b : KeyOf d e) → key_less d e a b ≡ false → key_less d e b a ≡ false → a ≡ b
-  same_key a b h k = elim (not_less-at_most d e a b h) [
+  same_key a b h k = elim (not_less_at_most d e a b h) [
     | inr same ↦ sym same
-    | inl back ↦ elim (not_less-at_most d e b a k) [
+    | inl back ↦ elim (not_less_at_most d e b a k) [
       | inr same ↦ same
       | inl there ↦ absurd (below_irreflexive a (below_transitive a b a there back))
     ]
@@ -70,10 +70,10 @@ module _ (d e : ℕ) where
   same_answers false false f g = refl
 
   -- adding the same to both changes no answer
-  pub key_less-add_right : (a b c : KeyOf d e) → key_less d e (key_add d e a c) (key_add d e b c) ≡ key_less d e a b
-  key_less-add_right a b c = same_answers _ _
-      (λ h. below-key_less d e a b (below_cancel_right a b c (key_less-below d e (key_add d e a c) (key_add d e b c) h)))
-      (λ h. below-key_less d e (key_add d e a c) (key_add d e b c) (below_add_right a b c (key_less-below d e a b h)))
+  pub key_less_add_right : (a b c : KeyOf d e) → key_less d e (key_add d e a c) (key_add d e b c) ≡ key_less d e a b
+  key_less_add_right a b c = same_answers _ _
+      (λ h. below_key_less d e a b (below_cancel_right a b c (key_less_below d e (key_add d e a c) (key_add d e b c) h)))
+      (λ h. below_key_less d e (key_add d e a c) (key_add d e b c) (below_add_right a b c (key_less_below d e a b h)))
 
   -- `rest` is all that a total is beside its part `old`
   pub rest_is : (rest other old : KeyOf d e) → key_add d e rest old ≡ key_add d e other old → rest ≡ other

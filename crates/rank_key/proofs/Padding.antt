@@ -20,10 +20,10 @@ padded zero us = []
 padded (suc e) [] = 0 ∷ padded e []
 padded (suc e) (u ∷ us) = u ∷ padded e us
 
-pub length-padded : (e : ℕ) (us : List ℕ) → length (padded e us) ≡ e
-length-padded zero us = refl
-length-padded (suc e) [] = ap suc (length-padded e [])
-length-padded (suc e) (u ∷ us) = ap suc (length-padded e us)
+pub length_padded : (e : ℕ) (us : List ℕ) → length (padded e us) ≡ e
+length_padded zero us = refl
+length_padded (suc e) [] = ap suc (length_padded e [])
+length_padded (suc e) (u ∷ us) = ap suc (length_padded e us)
 
 slots_of_padded : (e : ℕ) (us : List ℕ) → slots_of_list e (padded e us) ≡ slots_of_list e us
 slots_of_padded zero us = refl
@@ -62,38 +62,38 @@ module _ (f : ℤ → ℤ → ℤ) (keeps_none : f (pos 0) (pos 0) ≡ pos 0) wh
   unfolding rest_of
   rest_same x y xs ys e = ap rest_of e
 
-  pub padded-each_with : (e : ℕ) (us vs ws : List ℕ) → length us ≡ length vs → map pos ws ≡ each_with f (map pos us) (map pos vs)
+  pub padded_each_with : (e : ℕ) (us vs ws : List ℕ) → length us ≡ length vs → map pos ws ≡ each_with f (map pos us) (map pos vs)
       → map pos (padded e ws) ≡ each_with f (map pos (padded e us)) (map pos (padded e vs))
-  padded-each_with zero us vs ws len h = refl
-  padded-each_with (suc e) [] [] [] len h = cons_same _ _ _ _ (sym keeps_none) (padded-each_with e [] [] [] refl refl)
-  padded-each_with (suc e) [] [] (w ∷ ws) len h = let never : ⊥ = cc in absurd never
-  padded-each_with (suc e) [] (v ∷ vs) ws len h = absurd (omega arith)
-  padded-each_with (suc e) (u ∷ us) [] ws len h = absurd (omega arith)
-  padded-each_with (suc e) (u ∷ us) (v ∷ vs) [] len h = let never : ⊥ = cc in absurd never
-  padded-each_with (suc e) (u ∷ us) (v ∷ vs) (w ∷ ws) len h =
-      cons_same _ _ _ _ (first_same _ _ _ _ h) (padded-each_with e us vs ws (omega arith) (rest_same _ _ _ _ h))
+  padded_each_with zero us vs ws len h = refl
+  padded_each_with (suc e) [] [] [] len h = cons_same _ _ _ _ (sym keeps_none) (padded_each_with e [] [] [] refl refl)
+  padded_each_with (suc e) [] [] (w ∷ ws) len h = let never : ⊥ = cc in absurd never
+  padded_each_with (suc e) [] (v ∷ vs) ws len h = absurd (omega arith)
+  padded_each_with (suc e) (u ∷ us) [] ws len h = absurd (omega arith)
+  padded_each_with (suc e) (u ∷ us) (v ∷ vs) [] len h = let never : ⊥ = cc in absurd never
+  padded_each_with (suc e) (u ∷ us) (v ∷ vs) (w ∷ ws) len h =
+      cons_same _ _ _ _ (first_same _ _ _ _ h) (padded_each_with e us vs ws (omega arith) (rest_same _ _ _ _ h))
 
   none_joined : (u v w : ℕ) → pos w ≡ f (pos u) (pos v) → u ≡ 0 → v ≡ 0 → w ≡ 0
   none_joined u v w h p q =
       let same : pos w ≡ pos 0 = h ∙ ap (λ a. f (pos a) (pos v)) p ∙ ap (λ b. f (pos 0) (pos b)) q ∙ keeps_none in omega (arith, ints, same)
 
   -- where both lists are 0, the joined one is
-  pub none_after-each_with : (e : ℕ) (us vs ws : List ℕ) → length us ≡ length vs → map pos ws ≡ each_with f (map pos us) (map pos vs)
+  pub none_after_each_with : (e : ℕ) (us vs ws : List ℕ) → length us ≡ length vs → map pos ws ≡ each_with f (map pos us) (map pos vs)
       → NoneAfter e us → NoneAfter e vs → NoneAfter e ws
-  none_after-each_with e us vs [] len h none nil = λ i past. refl
-  none_after-each_with e [] [] (w ∷ ws) len h none nil = let never : ⊥ = cc in absurd never
-  none_after-each_with e [] (v ∷ vs) (w ∷ ws) len h none nil = absurd (omega arith)
-  none_after-each_with e (u ∷ us) [] (w ∷ ws) len h none nil = absurd (omega arith)
-  none_after-each_with zero (u ∷ us) (v ∷ vs) (w ∷ ws) len h none nil =
-      let rest = none_after-each_with zero us vs ws (omega arith) (rest_same _ _ _ _ h) (none_rest u us none) (none_rest v vs nil) in
+  none_after_each_with e us vs [] len h none nil = λ i past. refl
+  none_after_each_with e [] [] (w ∷ ws) len h none nil = let never : ⊥ = cc in absurd never
+  none_after_each_with e [] (v ∷ vs) (w ∷ ws) len h none nil = absurd (omega arith)
+  none_after_each_with e (u ∷ us) [] (w ∷ ws) len h none nil = absurd (omega arith)
+  none_after_each_with zero (u ∷ us) (v ∷ vs) (w ∷ ws) len h none nil =
+      let rest = none_after_each_with zero us vs ws (omega arith) (rest_same _ _ _ _ h) (none_rest u us none) (none_rest v vs nil) in
       let first = none_joined u v w (first_same _ _ _ _ h) (none_first u us none) (none_first v vs nil) in
       λ i past. from_both w ws first rest i
     where
       from_both : (w : ℕ) (ws : List ℕ) → w ≡ 0 → NoneAfter 0 ws → (i : ℕ) → get_or (w ∷ ws) i 0 ≡ 0
       from_both w ws first rest zero = first
       from_both w ws first rest (suc i) = rest i (omega arith)
-  none_after-each_with (suc e) (u ∷ us) (v ∷ vs) (w ∷ ws) len h none nil =
-      let rest = none_after-each_with e us vs ws (omega arith) (rest_same _ _ _ _ h) (none_tail e u us none) (none_tail e v vs nil) in
+  none_after_each_with (suc e) (u ∷ us) (v ∷ vs) (w ∷ ws) len h none nil =
+      let rest = none_after_each_with e us vs ws (omega arith) (rest_same _ _ _ _ h) (none_tail e u us none) (none_tail e v vs nil) in
       λ i past. from_rest e w ws rest i past
     where
       from_rest : (e w : ℕ) (ws : List ℕ) → NoneAfter e ws → (i : ℕ) → suc e ≤ i → get_or (w ∷ ws) i 0 ≡ 0
@@ -123,36 +123,36 @@ module _ (f : ℤ → ℤ → ℤ) (keeps_none : f (pos 0) (pos 0) ≡ pos 0) wh
 none_tied : (u v : ℕ) → u ≡ 0 → v ≡ 0 → nat_cmp u v ≡ Equal
 none_tied u v p q = grind (arith, nat_tests)
 
-pub slice_cmp-padded : (e : ℕ) (us vs : List ℕ) → length us ≡ length vs → NoneAfter e us → NoneAfter e vs
+pub slice_cmp_padded : (e : ℕ) (us vs : List ℕ) → length us ≡ length vs → NoneAfter e us → NoneAfter e vs
     → slice_cmp nat_cmp (padded e us) (padded e vs) ≡ slice_cmp nat_cmp us vs
-slice_cmp-padded zero [] [] len none nil = refl
-slice_cmp-padded e [] (v ∷ vs) len none nil = absurd (omega arith)
-slice_cmp-padded e (u ∷ us) [] len none nil = absurd (omega arith)
-slice_cmp-padded zero (u ∷ us) (v ∷ vs) len none nil =
-    slice_cmp-padded zero us vs (omega arith) (none_rest u us none) (none_rest v vs nil)
+slice_cmp_padded zero [] [] len none nil = refl
+slice_cmp_padded e [] (v ∷ vs) len none nil = absurd (omega arith)
+slice_cmp_padded e (u ∷ us) [] len none nil = absurd (omega arith)
+slice_cmp_padded zero (u ∷ us) (v ∷ vs) len none nil =
+    slice_cmp_padded zero us vs (omega arith) (none_rest u us none) (none_rest v vs nil)
     ∙ ap (λ o. ordering_then o (slice_cmp nat_cmp us vs)) (sym (none_tied u v (none_first u us none) (none_first v vs nil)))
-slice_cmp-padded (suc e) [] [] len none nil =
+slice_cmp_padded (suc e) [] [] len none nil =
     ap (λ o. ordering_then o (slice_cmp nat_cmp (padded e []) (padded e []))) (none_tied 0 0 refl refl)
-    ∙ slice_cmp-padded e [] [] refl (λ i h. refl) (λ i h. refl)
-slice_cmp-padded (suc e) (u ∷ us) (v ∷ vs) len none nil =
-    ap (ordering_then (nat_cmp u v)) (slice_cmp-padded e us vs (omega arith) (none_tail e u us none) (none_tail e v vs nil))
+    ∙ slice_cmp_padded e [] [] refl (λ i h. refl) (λ i h. refl)
+slice_cmp_padded (suc e) (u ∷ us) (v ∷ vs) len none nil =
+    ap (ordering_then (nat_cmp u v)) (slice_cmp_padded e us vs (omega arith) (none_tail e u us none) (none_tail e v vs nil))
 
-pub padded-set : (e : ℕ) (us : List ℕ) (i x : ℕ) → i < length us → padded e (set us i x) ≡ set (padded e us) i x
-padded-set zero us i x h = refl
-padded-set (suc e) [] i x h = absurd (omega arith)
-padded-set (suc e) (u ∷ us) zero x h = refl
-padded-set (suc e) (u ∷ us) (suc i) x h = ap (λ l. u ∷ l) (padded-set e us i x (omega (arith, h)))
+pub padded_set : (e : ℕ) (us : List ℕ) (i x : ℕ) → i < length us → padded e (set us i x) ≡ set (padded e us) i x
+padded_set zero us i x h = refl
+padded_set (suc e) [] i x h = absurd (omega arith)
+padded_set (suc e) (u ∷ us) zero x h = refl
+padded_set (suc e) (u ∷ us) (suc i) x h = ap (λ l. u ∷ l) (padded_set e us i x (omega (arith, h)))
 
-pub padded-replicate : (e m : ℕ) → padded e (replicate m 0) ≡ replicate e 0
-padded-replicate zero m = refl
-padded-replicate (suc e) zero = ap (λ l. 0 ∷ l) (padded-replicate e zero)
-padded-replicate (suc e) (suc m) = ap (λ l. 0 ∷ l) (padded-replicate e m)
+pub padded_replicate : (e m : ℕ) → padded e (replicate m 0) ≡ replicate e 0
+padded_replicate zero m = refl
+padded_replicate (suc e) zero = ap (λ l. 0 ∷ l) (padded_replicate e zero)
+padded_replicate (suc e) (suc m) = ap (λ l. 0 ∷ l) (padded_replicate e m)
 
-pub none_after-set : (e : ℕ) (us : List ℕ) (i x : ℕ) → i < e → NoneAfter e us → NoneAfter e (set us i x)
-none_after-set e us i x h none = λ j past. get_or-set_other {A = ℕ} us i j x 0 (λ same. absurd (omega arith)) ∙ none j past
+pub none_after_set : (e : ℕ) (us : List ℕ) (i x : ℕ) → i < e → NoneAfter e us → NoneAfter e (set us i x)
+none_after_set e us i x h none = λ j past. get_or-set_other {A = ℕ} us i j x 0 (λ same. absurd (omega arith)) ∙ none j past
 
-pub none_after-replicate : (e m : ℕ) → NoneAfter e (replicate m 0)
-none_after-replicate e m = λ i past. elim (cases_lt i m) [
+pub none_after_replicate : (e m : ℕ) → NoneAfter e (replicate m 0)
+none_after_replicate e m = λ i past. elim (cases_lt i m) [
   | inl within ↦ get_or-replicate {A = ℕ} m i 0 0 within
   | inr past ↦ get_or_past (replicate m 0) i 0 (omega (arith, length-replicate {A = ℕ} m 0))
 ]

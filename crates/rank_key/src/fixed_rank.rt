@@ -5,7 +5,7 @@ ghost use Rattle.std.specs.Ordering.{int_cmp};
 ghost use Rattle.std.specs.Cmp.Lexicographic.{slice_cmp};
 ghost use Rattle.tdp_model.specs.KeyNumbers.{plus, key_of_lists};
 ghost use Rattle.std.proofs.Common.{rules};
-ghost use Rattle.rank_key.specs.KeyLists.{sums_of, slots_of, length-sums, length-slots, slots-end, key-of_lists};
+ghost use Rattle.rank_key.specs.KeyLists.{sums_of, slots_of, length_sums, length_slots, slots_end, key_of_lists_lem};
 ghost use Rattle.rank_key.specs.Keys.{NoneAfter, minus};
 
 use crate::rank::Rank;
@@ -184,11 +184,11 @@ impl<const N: usize, const M: usize> Rank for FixedRank<N, M> {
       record {
         sums = sums_of N M k;
         slots = slots_of N M k;
-        sums_len = length-sums N M k;
-        slots_len = length-slots N M k;
-        none_after = slots-end N M (2 ^ 127) (2 ^ 32) k within;
+        sums_len = length_sums N M k;
+        slots_len = length_slots N M k;
+        none_after = slots_end N M (2 ^ 127) (2 ^ 32) k within;
       },
-      key-of_lists N M (2 ^ 127) (2 ^ 32) k within,
+      key_of_lists_lem N M (2 ^ 127) (2 ^ 32) k within,
     ) };
 
     ghost rows_held = { Prim.search rules };

@@ -15,7 +15,7 @@ pub struct Sum {
 
 impl Model for Sum {
     ghost use Rattle.std.specs.Prelude.{ℤ, ◌<◌, ◌^◌};
-    ghost use Rattle.rank_key.specs.Sums.{number_of, halves_of, halves_of-number};
+    ghost use Rattle.rank_key.specs.Sums.{number_of, halves_of, halves_of_number};
 
     ghost Value = { ℤ };
 
@@ -25,7 +25,7 @@ impl Model for Sum {
 
     ghost inverse = { halves_of };
 
-    ghost inverse_ok = { halves_of-number };
+    ghost inverse_ok = { halves_of_number };
 }
 
 impl Sum {

@@ -10,46 +10,46 @@ below_member Below x k (y ∷ ys) all (inl e) = subst (λ z. Below x z) (sym e) 
 below_member Below x k (y ∷ ys) all (inr m) = below_member Below x k ys all.1 m
 
 -- what holds of each element holds of a member
-pub all-member : {K : Type 0} (P : K → Type 0) (x : K) (xs : List K) → AllByRecursion P xs → IsMember x xs → P x
-all-member P x [] all m = absurd m
-all-member P x (y ∷ ys) all (inl e) = subst P (sym e) all.0
-all-member P x (y ∷ ys) all (inr m) = all-member P x ys all.1 m
+pub all_member : {K : Type 0} (P : K → Type 0) (x : K) (xs : List K) → AllByRecursion P xs → IsMember x xs → P x
+all_member P x [] all m = absurd m
+all_member P x (y ∷ ys) all (inl e) = subst P (sym e) all.0
+all_member P x (y ∷ ys) all (inr m) = all_member P x ys all.1 m
 
 -- membership by recursion is membership by index
-pub member-contains : {K : Type 0} (x : K) (xs : List K) → IsMember x xs → Contains xs x
-member-contains x [] m = absurd m
-member-contains x (y ∷ xs) (inl e) = (0, omega arith, sym e)
-member-contains x (y ∷ xs) (inr m) = let c = member-contains x xs m in (suc c.0, omega (arith, c.1), c.2)
+pub member_contains : {K : Type 0} (x : K) (xs : List K) → IsMember x xs → Contains xs x
+member_contains x [] m = absurd m
+member_contains x (y ∷ xs) (inl e) = (0, omega arith, sym e)
+member_contains x (y ∷ xs) (inr m) = let c = member_contains x xs m in (suc c.0, omega (arith, c.1), c.2)
 
-pub contains-member : {K : Type 0} (x : K) (xs : List K) (k : ℕ) → k < length xs → get_or xs k x ≡ x → IsMember x xs
-contains-member x [] k inside at = absurd (omega arith)
-contains-member x (y ∷ xs) zero inside at = inl (sym at)
-contains-member x (y ∷ xs) (suc k) inside at = inr (contains-member x xs k (omega arith) at)
+pub contains_member : {K : Type 0} (x : K) (xs : List K) (k : ℕ) → k < length xs → get_or xs k x ≡ x → IsMember x xs
+contains_member x [] k inside at = absurd (omega arith)
+contains_member x (y ∷ xs) zero inside at = inl (sym at)
+contains_member x (y ∷ xs) (suc k) inside at = inr (contains_member x xs k (omega arith) at)
 
 -- # Members of an appended list
 
-pub member-left : {K : Type 0} (x : K) (xs ys : List K) → IsMember x xs → IsMember x (xs ++ ys)
-member-left x [] ys m = absurd m
-member-left x (y ∷ xs) ys (inl e) = inl e
-member-left x (y ∷ xs) ys (inr m) = inr (member-left x xs ys m)
+pub member_left : {K : Type 0} (x : K) (xs ys : List K) → IsMember x xs → IsMember x (xs ++ ys)
+member_left x [] ys m = absurd m
+member_left x (y ∷ xs) ys (inl e) = inl e
+member_left x (y ∷ xs) ys (inr m) = inr (member_left x xs ys m)
 
-pub member-right : {K : Type 0} (x : K) (xs ys : List K) → IsMember x ys → IsMember x (xs ++ ys)
-member-right x [] ys m = m
-member-right x (y ∷ xs) ys m = inr (member-right x xs ys m)
+pub member_right : {K : Type 0} (x : K) (xs ys : List K) → IsMember x ys → IsMember x (xs ++ ys)
+member_right x [] ys m = m
+member_right x (y ∷ xs) ys m = inr (member_right x xs ys m)
 
-pub member-either : {K : Type 0} (x : K) (xs ys : List K) → IsMember x (xs ++ ys) → IsMember x xs ⊎ IsMember x ys
-member-either x [] ys m = inr m
-member-either x (y ∷ xs) ys (inl e) = inl (inl e)
-member-either x (y ∷ xs) ys (inr m) = elim (member-either x xs ys m) [ inl n ↦ inl (inr n) | inr n ↦ inr n ]
+pub member_either : {K : Type 0} (x : K) (xs ys : List K) → IsMember x (xs ++ ys) → IsMember x xs ⊎ IsMember x ys
+member_either x [] ys m = inr m
+member_either x (y ∷ xs) ys (inl e) = inl (inl e)
+member_either x (y ∷ xs) ys (inr m) = elim (member_either x xs ys m) [ inl n ↦ inl (inr n) | inr n ↦ inr n ]
 
 -- # Members of a mapped list
 
-pub member-map : {X K : Type 0} (f : X → K) (x : X) (xs : List X) → IsMember x xs → IsMember (f x) (map f xs)
-member-map f x [] m = absurd m
-member-map f x (y ∷ xs) (inl e) = inl (ap f e)
-member-map f x (y ∷ xs) (inr m) = inr (member-map f x xs m)
+pub member_map : {X K : Type 0} (f : X → K) (x : X) (xs : List X) → IsMember x xs → IsMember (f x) (map f xs)
+member_map f x [] m = absurd m
+member_map f x (y ∷ xs) (inl e) = inl (ap f e)
+member_map f x (y ∷ xs) (inr m) = inr (member_map f x xs m)
 
-pub member-unmap : {X K : Type 0} (f : X → K) (k : K) (xs : List X) → IsMember k (map f xs) → (x : X) × IsMember x xs × (k ≡ f x)
-member-unmap f k [] m = absurd m
-member-unmap f k (y ∷ xs) (inl e) = (y, inl refl, e)
-member-unmap f k (y ∷ xs) (inr m) = let r = member-unmap f k xs m in (r.0, inr r.1, r.2)
+pub member_unmap : {X K : Type 0} (f : X → K) (k : K) (xs : List X) → IsMember k (map f xs) → (x : X) × IsMember x xs × (k ≡ f x)
+member_unmap f k [] m = absurd m
+member_unmap f k (y ∷ xs) (inl e) = (y, inl refl, e)
+member_unmap f k (y ∷ xs) (inr m) = let r = member_unmap f k xs m in (r.0, inr r.1, r.2)

@@ -9,53 +9,53 @@ use Rattle.hyper_graph.specs.Graph.{is_in}
 use Rattle.hyper_graph.specs.Items.{items_below}
 use Rattle.refusal_lines.specs.Reason.{spaced}
 use Rattle.refusal_lines.specs.Core.{item_text}
-use Rattle.refusal_lines.specs.Sent.{Sent}
+use Rattle.refusal_lines.specs.SinkText.{Sent}
 use Rattle.refusal_lines.specs.SinkState.{SinkState}
 use Rattle.refusal_lines.proofs.Pieces.{Sent-cut}
 
 -- what one place adds, whether it is kept or left out
-place-text : (b : Bool) (place : ℕ) (places : List ℕ)
+place_text : (b : Bool) (place : ℕ) (places : List ℕ)
     → (if b then codes " " ++ decimal (place + 1) else []) ++ spaced (map (λ p. p + 1) places) ≡ spaced (map (λ p. p + 1) (cond b (place ∷ places) places))
-place-text true place places = refl
-place-text false place places = refl
+place_text true place places = refl
+place_text false place places = refl
 
-kept-text : (core : ℕ) (places : List ℕ) → flat_map (item_text core) places ≡ spaced (map (λ p. p + 1) (filter (is_in core) places))
-kept-text core [] = refl
-kept-text core (place ∷ places) =
-    ap (λ l. item_text core place ++ l) (kept-text core places) ∙ place-text (is_in core place) place (filter (is_in core) places)
+kept_text : (core : ℕ) (places : List ℕ) → flat_map (item_text core) places ≡ spaced (map (λ p. p + 1) (filter (is_in core) places))
+kept_text core [] = refl
+kept_text core (place ∷ places) =
+    ap (λ l. item_text core place ++ l) (kept_text core places) ∙ place_text (is_in core place) place (filter (is_in core) places)
 
 -- the texts of all places are the items with their spaces
-core-text : (core n : ℕ) → flat_map (item_text core) (range_with_len 0 n) ≡ spaced (items_below core n)
+core_text : (core n : ℕ) → flat_map (item_text core) (range_with_len 0 n) ≡ spaced (items_below core n)
 unfolding items_below
-core-text core n = kept-text core (range_with_len 0 n)
+core_text core n = kept_text core (range_with_len 0 n)
 
-same-list : (xs : List ℕ) → map (λ x. x) xs ≡ xs
-same-list [] = refl
-same-list (x ∷ xs) = ap (λ l. x ∷ l) (same-list xs)
+same_list : (xs : List ℕ) → map (λ x. x) xs ≡ xs
+same_list [] = refl
+same_list (x ∷ xs) = ap (λ l. x ∷ l) (same_list xs)
 
-range-more : (n : ℕ) → range_with_len 0 (n + 1) ≡ range_with_len 0 n ++ n ∷ []
-range-more n =
-    sym (same-list (range_with_len 0 (n + 1))) ∙ map-range_with_len_more (λ x. x) 0 n n (omega arith) ∙ ap (λ l. l ++ n ∷ []) (same-list (range_with_len 0 n))
+range_more : (n : ℕ) → range_with_len 0 (n + 1) ≡ range_with_len 0 n ++ n ∷ []
+range_more n =
+    sym (same_list (range_with_len 0 (n + 1))) ∙ map-range_with_len_more (λ x. x) 0 n n (omega arith) ∙ ap (λ l. l ++ n ∷ []) (same_list (range_with_len 0 n))
 
-range-first : (n k : ℕ) → k ≤ n → take k (range_with_len 0 n) ≡ range_with_len 0 k
-range-first n k few =
-    ap (take k) (sym (same-list (range_with_len 0 n))) ∙ take-map-range_with_len (λ x. x) 0 n k few ∙ same-list (range_with_len 0 k)
+range_first : (n k : ℕ) → k ≤ n → take k (range_with_len 0 n) ≡ range_with_len 0 k
+range_first n k few =
+    ap (take k) (sym (same_list (range_with_len 0 n))) ∙ take-map-range_with_len (λ x. x) 0 n k few ∙ same_list (range_with_len 0 k)
 
 -- one more place was sent
-pub places-more : (core place : ℕ) (a b c : Option (List ℕ)) → Appends a b (flat_map (item_text core) (range_with_len 0 place)) → Appends b c (item_text core place)
+pub places_more : (core place : ℕ) (a b c : Option (List ℕ)) → Appends a b (flat_map (item_text core) (range_with_len 0 place)) → Appends b c (item_text core place)
     → Appends a c (flat_map (item_text core) (range_with_len 0 (place + 1)))
-places-more core place a b c before here =
+places_more core place a b c before here =
     subst (λ text. Appends a c text)
-    (sym (ap (flat_map (item_text core)) (range-more place) ∙ flat_map-append (item_text core) (range_with_len 0 place) (place ∷ [])
+    (sym (ap (flat_map (item_text core)) (range_more place) ∙ flat_map-append (item_text core) (range_with_len 0 place) (place ∷ [])
     ∙ ap (λ l. flat_map (item_text core) (range_with_len 0 place) ++ l) (append-nil (item_text core place))))
     (Appends-trans a b c _ _ before here)
 
 -- all places were sent
-pub places-sent : {E : Type 0} (core place count : ℕ) (a b : SinkState) → place ≡ count
+pub places_sent : {E : Type 0} (core place count : ℕ) (a b : SinkState) → place ≡ count
     → Appends a.written b.written (flat_map (item_text core) (range_with_len 0 place)) → a.faults ≤ b.faults
     → Sent {E = E} a b (spaced (items_below core count)) (Ok tt)
-places-sent core place count a b all sent later =
-    let whole : Appends a.written b.written (spaced (items_below core count)) = subst (λ text. Appends a.written b.written text) (core-text core place ∙ ap (λ p. spaced (items_below core p)) all) sent in
+places_sent core place count a b all sent later =
+    let whole : Appends a.written b.written (spaced (items_below core count)) = subst (λ text. Appends a.written b.written text) (core_text core place ∙ ap (λ p. spaced (items_below core p)) all) sent in
     record {
       whole = whole;
       prefix = (spaced (items_below core count), whole, ([], sym (append-nil (spaced (items_below core count)))));
@@ -64,12 +64,12 @@ places-sent core place count a b all sent later =
     }
 
 -- the text of one place was cut short
-pub places-cut : {E : Type 0} (core place count : ℕ) (a b c : SinkState) (e : E) → place < count
+pub places_cut : {E : Type 0} (core place count : ℕ) (a b c : SinkState) (e : E) → place < count
     → Appends a.written b.written (flat_map (item_text core) (range_with_len 0 place)) → a.faults ≤ b.faults → Sent b c (item_text core place) (Err e)
     → Sent a c (spaced (items_below core count)) (Err e)
-places-cut core place count a b c e inside before earlier cut =
-    let first : take place (range_with_len 0 count) ≡ range_with_len 0 place = range-first count place (omega arith) in
+places_cut core place count a b c e inside before earlier cut =
+    let first : take place (range_with_len 0 count) ≡ range_with_len 0 place = range_first count place (omega arith) in
     let here : get_or (range_with_len 0 count) place 0 ≡ place = get_or-range_with_len 0 count place 0 inside ∙ omega arith in
-    subst (λ text. Sent a c text (Err e)) (core-text core count)
+    subst (λ text. Sent a c text (Err e)) (core_text core count)
     (Sent-cut (item_text core) a b c (range_with_len 0 count) place 0 e (subst (λ l. Appends a.written b.written (flat_map (item_text core) l)) (sym first) before) earlier
     (omega (arith, length-range_with_len 0 count, inside)) (subst (λ p. Sent b c (item_text core p) (Err e)) (sym here) cut))

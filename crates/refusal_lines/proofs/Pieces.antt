@@ -3,7 +3,7 @@ use Rattle.std.proofs.Common.{◌≡◌, ◌≤◌, ◌<◌, ◌+◌, ℕ, List,
 use Rattle.std.specs.Io.KnownBytes.{Appends}
 use Rattle.std.proofs.lemmas.List.{take_more}
 use Rattle.std.proofs.lemmas.Grind.{flat_map-append}
-use Rattle.refusal_lines.specs.Sent.{Sent}
+use Rattle.refusal_lines.specs.SinkText.{Sent}
 use Rattle.refusal_lines.specs.SinkState.{SinkState}
 use Rattle.refusal_lines.proofs.Sending.{Sent-then, Sent-stopped}
 

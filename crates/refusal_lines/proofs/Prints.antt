@@ -8,13 +8,13 @@ use Rattle.refusal_lines.specs.declared.refusal.Refusal.{Refusal}
 use Rattle.refusal_lines.specs.declared.refusal.Refusal.TheVariants as refusal
 use Rattle.refusal_lines.specs.Reason as reason
 use Rattle.refusal_lines.specs.Reason.{Reason}
-use Rattle.refusal_lines.specs.Refused.{reason_of}
-use Rattle.refusal_lines.specs.Printed.{GotBeginning, IsBroken, IsPrintCause, Printed, PrintedSome}
+use Rattle.refusal_lines.specs.RefusalReasons.{reason_of}
+use Rattle.refusal_lines.specs.Printing.{GotBeginning, IsBroken, IsPrintCause, Printed, PrintedSome}
 use Rattle.refusal_lines.specs.SinkState.{SinkState}
 
-pub appends-nothing : (x : Option (List ℕ)) → Appends x x []
-appends-nothing None = tt
-appends-nothing (Some xs) = sym (append-nil xs)
+pub appends_nothing : (x : Option (List ℕ)) → Appends x x []
+appends_nothing None = tt
+appends_nothing (Some xs) = sym (append-nil xs)
 
 -- one call of `write_all`
 pub written : (old new : SinkState) (bytes : List ℕ) → Appends old.written new.written bytes → old.faults ≤ new.faults → Printed old new bytes (Ok tt)
@@ -31,17 +31,17 @@ unwritten old new n bytes part cause later = record {
 
 -- memory ran out before anything was printed
 pub unprinted : (s : SinkState) (text : List ℕ) → Printed s s text (Err refusal.NoMemory)
-unprinted s text = record { whole = tt; prefix = ([], appends-nothing s.written, (text, refl)); cause = tt; later = omega arith }
+unprinted s text = record { whole = tt; prefix = ([], appends_nothing s.written, (text, refl)); cause = tt; later = omega arith }
 
-later-cause : (m n k : ℕ) (e : Reason) → m ≤ n → IsPrintCause n k e → IsPrintCause m k e
-later-cause m n k reason.WriteFault h cause = Rose-after m n k h cause
-later-cause m n k reason.NoMemory h cause = tt
-later-cause m n k e h cause = absurd cause
+later_cause : (m n k : ℕ) (e : Reason) → m ≤ n → IsPrintCause n k e → IsPrintCause m k e
+later_cause m n k reason.WriteFault h cause = Rose-after m n k h cause
+later_cause m n k reason.NoMemory h cause = tt
+later_cause m n k e h cause = absurd cause
 
 -- a text after one that was printed whole
-pub printed-then : (a b c : SinkState) (xs ys : List ℕ) (r : Result (Unit {0}) Refusal)
+pub printed_then : (a b c : SinkState) (xs ys : List ℕ) (r : Result (Unit {0}) Refusal)
     → Appends a.written b.written xs → a.faults ≤ b.faults → Printed b c ys r → Printed a c (xs ++ ys) r
-printed-then a b c xs ys r first earlier second = record {
+printed_then a b c xs ys r first earlier second = record {
   whole = by_whole r second.whole;
   prefix = let part = second.prefix in
       (xs ++ part.0, Appends-trans a.written b.written c.written xs part.0 first part.1, (part.2.0, ap (λ l. xs ++ l) part.2.1 ∙ sym (append_assoc xs part.0 part.2.0)));
@@ -56,11 +56,11 @@ printed-then a b c xs ys r first earlier second = record {
     by_cause : (r : Result (Unit {0}) Refusal) → IfErr r (λ refusal. IsPrintCause b.faults c.faults (reason_of refusal))
         → IfErr r (λ refusal. IsPrintCause a.faults c.faults (reason_of refusal))
     by_cause (Ok x) cause = tt
-    by_cause (Err e) cause = later-cause a.faults b.faults c.faults (reason_of e) earlier cause
+    by_cause (Err e) cause = later_cause a.faults b.faults c.faults (reason_of e) earlier cause
 
 -- a text after one that was cut short is not printed
-pub printed-stopped : (a b : SinkState) (xs ys : List ℕ) (e : Refusal) → Printed a b xs (Err e) → Printed a b (xs ++ ys) (Err e)
-printed-stopped a b xs ys e first = record {
+pub printed_stopped : (a b : SinkState) (xs ys : List ℕ) (e : Refusal) → Printed a b xs (Err e) → Printed a b (xs ++ ys) (Err e)
+printed_stopped a b xs ys e first = record {
   whole = tt;
   prefix = let part = first.prefix in (part.0, part.1, (part.2.0 ++ ys, ap (λ l. l ++ ys) part.2.1 ∙ append_assoc part.0 part.2.0 ys));
   cause = first.cause;
@@ -75,11 +75,11 @@ module _ (IsText : List ℕ → Type 0) where
   broken old new e got = got
 
   -- a text that is such a text was printed
-  pub printed-some : (old new : SinkState) (text : List ℕ) (r : Result (Unit {0}) Refusal) → IsText text → Printed old new text r
+  pub printed_some : (old new : SinkState) (text : List ℕ) (r : Result (Unit {0}) Refusal) → IsText text → Printed old new text r
       → PrintedSome IsText old new r
-  printed-some old new text (Ok done) is printed =
+  printed_some old new text (Ok done) is printed =
       record { whole = (text, is, printed.whole); part = tt; cause = tt; later = printed.later }
-  printed-some old new text (Err e) is printed = record {
+  printed_some old new text (Err e) is printed = record {
     whole = tt;
     part = broken old new (reason_of e) (text, is, printed.prefix);
     cause = printed.cause;
@@ -87,5 +87,5 @@ module _ (IsText : List ℕ → Type 0) where
   }
 
   -- memory ran out before anything was printed
-  pub none-printed : (s : SinkState) → PrintedSome IsText s s (Err refusal.NoMemory)
-  none-printed s = record { whole = tt; part = inl (appends-nothing s.written); cause = tt; later = omega arith }
+  pub none_printed : (s : SinkState) → PrintedSome IsText s s (Err refusal.NoMemory)
+  none_printed s = record { whole = tt; part = inl (appends_nothing s.written); cause = tt; later = omega arith }

@@ -5,7 +5,7 @@ use Rattle.std.proofs.KnownBytes.{Appends-trans}
 use Rattle.outer_io.specs.Counts.{Rose}
 use Rattle.outer_io.specs.declared.writing.Unwritten.{Unwritten}
 use Rattle.outer_io.proofs.Counting.{Rose-after}
-use Rattle.refusal_lines.specs.Sent.{Sent}
+use Rattle.refusal_lines.specs.SinkText.{Sent}
 use Rattle.refusal_lines.specs.SinkState.{SinkState}
 
 -- what one call of `write_all` does

@@ -1,7 +1,7 @@
 pub mod Reason
 pub mod Core
 pub mod Pieces
-pub mod Refused
+pub mod RefusalReasons
 pub mod SinkState
-pub mod Sent
-pub mod Printed
+pub mod SinkText
+pub mod Printing

@@ -4,8 +4,8 @@ ghost use Rattle.refusal_lines.specs.Reason.{BadWeight, branch_text, DuplicateNa
 ghost use Rattle.hyper_graph.specs.Graph.{is_in};
 ghost use Rattle.hyper_graph.specs.Items.{items_of};
 ghost use Rattle.refusal_lines.specs.Core.{item_text};
-ghost use Rattle.refusal_lines.specs.Refused.{reason_of};
-ghost use Rattle.refusal_lines.specs.Sent.{Sent};
+ghost use Rattle.refusal_lines.specs.RefusalReasons.{reason_of};
+ghost use Rattle.refusal_lines.specs.SinkText.{Sent};
 ghost use Rattle.refusal_lines.specs.SinkState.{state_of};
 
 use crate::piece::{Piece, write_pieces, write_text};

@@ -1,7 +1,7 @@
 //! Writing a text in pieces, as far as a sink takes it.
 ghost use Rattle.std.specs.Prelude.{◌≡◌};
 ghost use Rattle.refusal_lines.specs.Pieces.{text_of_piece, text_of_pieces};
-ghost use Rattle.refusal_lines.specs.Sent.{Sent};
+ghost use Rattle.refusal_lines.specs.SinkText.{Sent};
 ghost use Rattle.refusal_lines.specs.SinkState.{state_of};
 
 use number_text::write_digits;

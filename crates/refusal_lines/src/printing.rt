@@ -1,5 +1,5 @@
 //! Printing a text by one write, where a failure is a refusal.
-ghost use Rattle.refusal_lines.specs.Printed.{Printed};
+ghost use Rattle.refusal_lines.specs.Printing.{Printed};
 ghost use Rattle.refusal_lines.specs.SinkState.{state_of};
 
 use crate::refusal::Refusal;

@@ -1,7 +1,7 @@
 //! Why a run ended before its output was complete.
 ghost use Rattle.std.specs.Prelude.{◌≡◌};
 ghost use Rattle.refusal_lines.specs.Reason.{branch_of, status_of};
-ghost use Rattle.refusal_lines.specs.Refused.{reason_of};
+ghost use Rattle.refusal_lines.specs.RefusalReasons.{reason_of};
 
 /// Why a run ended before its output was complete. Branches, items, keys, columns, rows, the nodes of
 /// the join tree, and the lines of a script and of a certificate count from 1. The branch is given only

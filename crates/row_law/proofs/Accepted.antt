@@ -6,7 +6,7 @@ use Rattle.query_grammar.proofs.OneQuery.{one_branch}
 use Rattle.step_bounds.specs.Steps.{calls_for, cost}
 use Rattle.step_bounds.proofs.Rising.{calls_few, cost_rises}
 use Rattle.verdict.specs.Bound.{IsBounded}
-use Rattle.verdict.specs.Found.{Found, found_of}
+use Rattle.verdict.specs.AcceptedInput.{Found, found_of}
 use Rattle.verdict.specs.Loading.{Loaded, no_certificate, with_steps}
 use Rattle.verdict.specs.Output.{asked_list}
 use Rattle.verdict.specs.Stages.{followed}

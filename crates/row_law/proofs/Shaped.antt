@@ -11,7 +11,7 @@ use Rattle.join_tree.specs.Removal.{HasOne, IsLive, IsRun, IsStep, IsTreeOf}
 use Rattle.join_tree.proofs.FromRemoval.{removal_done, tree_from_removal}
 use Rattle.query_bind.specs.Classes.{AreVariables, ColumnBefore, HasVariable, IsFixedTo, IsLeast, IsShared, Linked, Passes, back, forth, row_field, same}
 use Rattle.query_bind.specs.Graph.{IsGraphOf}
-use Rattle.query_bind.proofs.Order.{before-self}
+use Rattle.query_bind.proofs.Order.{before_self}
 use Rattle.query_shape.specs.Shape.{HasNodeRows, HasTree, IsShape, Shape}
 use Rattle.row_law.proofs.Loaded.{column, row_equality, row_query, row_tables}
 
@@ -83,9 +83,9 @@ back_across = back {e = row_equality} {b = column 1 0} (inl refl) refl same
 left_least : IsLeast links (column 0 1)
 unfolding AreNear
 left_least d linked before = elim (near linked) [
-  | inl e ↦ before-self d (subst (λ (x : Column). ColumnBefore d x) e before)
+  | inl e ↦ before_self d (subst (λ (x : Column). ColumnBefore d x) e before)
   | inr s ↦ elim s.1 [
-    | inl e ↦ before-self d (subst (λ (x : Column). ColumnBefore d x) (sym e) before)
+    | inl e ↦ before_self d (subst (λ (x : Column). ColumnBefore d x) (sym e) before)
     | inr e ↦ not_before (subst (λ (x : Column). ColumnBefore x (column 0 1)) e before)
   ]
 ]

@@ -4,10 +4,10 @@ use Rattle.std.specs.Prelude.{codes}
 use Rattle.rankings.specs.Order.{put_in, ranked}
 use Rattle.rank_key.specs.Bits.{bit_length, bits_within}
 use Rattle.step_bounds.specs.Steps.{cost}
-use Rattle.union_list.specs.Tagged.{Tagged}
+use Rattle.union_list.specs.TaggedRows.{Tagged}
 use Rattle.union_list.specs.Union.{members_in}
 use Rattle.verdict.specs.Bound.{IsBounded}
-use Rattle.verdict.specs.Found.{Found, found_of}
+use Rattle.verdict.specs.AcceptedInput.{Found, found_of}
 use Rattle.verdict.specs.Loading.{Loaded, no_certificate, with_steps}
 use Rattle.verdict.specs.Output.{tagged_of}
 use Rattle.verdict.specs.Stages.{followed}

@@ -7,7 +7,7 @@ ghost use Rattle.std.specs.Prelude.{◌≤◌, ◌+◌, ℕ, Some, Ok};
 ghost use Rattle.row_law.specs.Row.{row_asked, row_files};
 ghost use Rattle.row_law.specs.UnionRow.{union_files};
 ghost use Rattle.verdict.specs.Bound.{IsBounded};
-ghost use Rattle.verdict.specs.Found.{Found};
+ghost use Rattle.verdict.specs.AcceptedInput.{Found};
 ghost use Rattle.verdict.specs.Verdict.{IsVerdict};
 
 /// The row is accepted.

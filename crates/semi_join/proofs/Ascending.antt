@@ -8,13 +8,13 @@ use Rattle.std.proofs.lemmas.List.Kept.{IsStrictlyIncreasing-filter}
 use Rattle.tdp_core.specs.RawData.{RawData, raw_len}
 use Rattle.semi_join.specs.Reduction.{kept_rows, has_partners}
 
-range-rises : (n : ℕ) → IsStrictlyIncreasing (range_with_len 0 n)
-range-rises n = λ k h.
+range_rises : (n : ℕ) → IsStrictlyIncreasing (range_with_len 0 n)
+range_rises n = λ k h.
     let within : k + 1 < n = omega (arith, h, length-range_with_len 0 n) in
     omega (arith, get_or-range_with_len 0 n k 0 (omega (arith, within)), get_or-range_with_len 0 n (k + 1) 0 within)
 
-pub kept-ascends : {R : Type 0} (raw : RawData R) (v : ℕ) (later : List (List ℕ)) → IsStrictlyIncreasing (kept_rows raw v later)
-kept-ascends raw v later = IsStrictlyIncreasing-filter (has_partners raw v later) (range_with_len 0 (raw_len raw v)) (range-rises (raw_len raw v))
+pub kept_ascends : {R : Type 0} (raw : RawData R) (v : ℕ) (later : List (List ℕ)) → IsStrictlyIncreasing (kept_rows raw v later)
+kept_ascends raw v later = IsStrictlyIncreasing-filter (has_partners raw v later) (range_with_len 0 (raw_len raw v)) (range_rises (raw_len raw v))
 
 rises : (xs : List ℕ) → IsStrictlyIncreasing xs → (i k : ℕ) → i + suc k < length xs → get_or xs i 0 < get_or xs (i + suc k) 0
 rises xs up i zero h = let next : i + 1 < length xs = omega arith in up i next
@@ -25,8 +25,8 @@ rises xs up i (suc k) h =
     omega (arith, before, next, ap (λ j. get_or xs j 0) same)
 
 -- so no row stands there twice
-pub places-apart : (xs : List ℕ) → IsStrictlyIncreasing xs → (i j : ℕ) → i < length xs → j < length xs → get_or xs i 0 ≡ get_or xs j 0 → i ≡ j
-places-apart xs up i j hi hj e = elim (cases_eq i j) [
+pub places_apart : (xs : List ℕ) → IsStrictlyIncreasing xs → (i j : ℕ) → i < length xs → j < length xs → get_or xs i 0 ≡ get_or xs j 0 → i ≡ j
+places_apart xs up i j hi hj e = elim (cases_eq i j) [
   | inl same ↦ same
   | inr not ↦ elim (cases_lt i j) [
     | inl l ↦

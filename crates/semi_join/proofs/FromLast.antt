@@ -17,14 +17,14 @@ module _ {R : Type 0} (raw : RawData R) where
     pub size : length parts ≡ n
     pub node : (k : ℕ) (part : NodeData R) → k < n → part ≡ get_or parts k part → IsReducedNode raw (length raw.shapes - n + k) (links_last (n - suc k)) part
 
-pub rows-more : {X : Type 0} (rows : List (List X)) (v : ℕ) → v < length rows → sum_by length (drop v rows) ≡ length (get_or rows v []) + sum_by length (drop (suc v) rows)
-rows-more [] v h = absurd (omega arith)
-rows-more (n ∷ rows) zero h = sum_by-cons length n rows
-rows-more (n ∷ rows) (suc v) h = let less : v < length rows = omega arith in rows-more rows v less
+pub rows_more : {X : Type 0} (rows : List (List X)) (v : ℕ) → v < length rows → sum_by length (drop v rows) ≡ length (get_or rows v []) + sum_by length (drop (suc v) rows)
+rows_more [] v h = absurd (omega arith)
+rows_more (n ∷ rows) zero h = sum_by-cons length n rows
+rows_more (n ∷ rows) (suc v) h = let less : v < length rows = omega arith in rows_more rows v less
 
 module _ {R : Type 0} (raw : RawData R) where
-  pub from-more : (n v : ℕ) (part : NodeData R) (parts : List (NodeData R)) → v + suc n ≡ length raw.shapes → AreReducedLast raw n parts → IsReducedNode raw v (links_last raw n) part → AreReducedLast raw (suc n) (part ∷ parts)
-  from-more n v part parts s later here = record {
+  pub from_more : (n v : ℕ) (part : NodeData R) (parts : List (NodeData R)) → v + suc n ≡ length raw.shapes → AreReducedLast raw n parts → IsReducedNode raw v (links_last raw n) part → AreReducedLast raw (suc n) (part ∷ parts)
+  from_more n v part parts s later here = record {
     size = ap suc later.size;
     node = at;
   }
@@ -40,31 +40,31 @@ module _ {R : Type 0} (raw : RawData R) where
           let two : n - suc k ≡ suc n - suc (suc k) = omega arith in
           subst (λ u. IsReducedNode raw u (links_last raw (suc n - suc (suc k))) p) one (subst (λ l. IsReducedNode raw (length raw.shapes - n + k) (links_last raw l) p) two (later.node k p less e))
 
-  pub links-more : (n v : ℕ) (links : List ℕ) (later : List (List ℕ)) → v + suc n ≡ length raw.shapes → later ≡ links_last raw n → links ≡ group_links raw v later → (links ∷ later) ≡ links_last raw (suc n)
-  links-more n v links later s e k =
+  pub links_more : (n v : ℕ) (links : List ℕ) (later : List (List ℕ)) → v + suc n ≡ length raw.shapes → later ≡ links_last raw n → links ≡ group_links raw v later → (links ∷ later) ≡ links_last raw (suc n)
+  links_more n v links later s e k =
       let one : length raw.shapes - suc n ≡ v = omega arith in
       ap (λ l. links ∷ l) e ∙ ap (λ x. x ∷ links_last raw n) (k ∙ ap (group_links raw v) e ∙ ap (λ u. group_links raw u (links_last raw n)) (sym one))
 
-pub few-more : (links : List ℕ) (later : List (List ℕ)) → length links ≤ 4194304 → AreFew later → AreFew (links ∷ later)
-few-more links later h few = at
+pub few_more : (links : List ℕ) (later : List (List ℕ)) → length links ≤ 4194304 → AreFew later → AreFew (links ∷ later)
+few_more links later h few = at
   where
     at : (k : ℕ) (d : List ℕ) → k < length (links ∷ later) → length (get_or (links ∷ later) k d) ≤ 4194304
     at zero d l = h
     at (suc k) d l = let less : k < length later = omega arith in few k d less
 
-pub rows-all : {X : Type 0} (rows : List (List X)) (v : ℕ) → sum_by length (drop v rows) ≤ sum_by length rows
-rows-all [] zero = omega arith
-rows-all [] (suc v) = omega arith
-rows-all (n ∷ rows) zero = omega arith
-rows-all (n ∷ rows) (suc v) = omega (arith, rows-all rows v, sum_by-cons length n rows)
+pub rows_all : {X : Type 0} (rows : List (List X)) (v : ℕ) → sum_by length (drop v rows) ≤ sum_by length rows
+rows_all [] zero = omega arith
+rows_all [] (suc v) = omega arith
+rows_all (n ∷ rows) zero = omega arith
+rows_all (n ∷ rows) (suc v) = omega (arith, rows_all rows v, sum_by-cons length n rows)
 
 -- the steps of one more node
-pub steps-more : {X : Type 0} (rows : List (List X)) (v node m start s0 s1 : ℕ) → v < length rows → node ≡ suc v → s0 ≤ start + sum_by length (drop node rows) * m → s1 ≤ s0 + length (get_or rows v []) * m
+pub steps_more : {X : Type 0} (rows : List (List X)) (v node m start s0 s1 : ℕ) → v < length rows → node ≡ suc v → s0 ≤ start + sum_by length (drop node rows) * m → s1 ≤ s0 + length (get_or rows v []) * m
     → s1 ≤ start + sum_by length (drop v rows) * m
-steps-more rows v node m start s0 s1 less is before one =
-    let more = ap (λ x. x * m) (rows-more rows v less ∙ ap (λ k. length (get_or rows v []) + sum_by length (drop k rows)) (sym is)) in
+steps_more rows v node m start s0 s1 less is before one =
+    let more = ap (λ x. x * m) (rows_more rows v less ∙ ap (λ k. length (get_or rows v []) + sum_by length (drop k rows)) (sym is)) in
     omega (arith, more, before, one)
 
 -- and they are few
-pub steps-few : {X : Type 0} (rows : List (List X)) (v m start s : ℕ) → s ≤ start + sum_by length (drop v rows) * m → s ≤ start + 2 * m * (1 + sum_by length rows)
-steps-few rows v m start s h = let most = mul-le-mul_left m (rows-all rows v) in omega (arith, h, most)
+pub steps_few : {X : Type 0} (rows : List (List X)) (v m start s : ℕ) → s ≤ start + sum_by length (drop v rows) * m → s ≤ start + 2 * m * (1 + sum_by length rows)
+steps_few rows v m start s h = let most = mul-le-mul_left m (rows_all rows v) in omega (arith, h, most)

@@ -31,20 +31,20 @@ module _ {R : Type 0} (v : ℕ) (later : List (List ℕ)) where
   links shapes rows = map (λ i. cond (nat_eq v 0) 0 (get_or (map (λ x. x.own) rows) i 0)) (stay shapes rows)
 
   module _ (t u : RawData R) (shapes : t.shapes ≡ u.shapes) (same : rows_at t v ≡ rows_at u v) where
-    by-both : (F : List NodeShape → List (RawRowData R) → Type 0) → F t.shapes (rows_at t v) → F u.shapes (rows_at u v)
-    by-both F h = subst (λ rs. F u.shapes rs) same (subst (λ ss. F ss (rows_at t v)) shapes h)
+    by_both : (F : List NodeShape → List (RawRowData R) → Type 0) → F t.shapes (rows_at t v) → F u.shapes (rows_at u v)
+    by_both F h = subst (λ rs. F u.shapes rs) same (subst (λ ss. F ss (rows_at t v)) shapes h)
 
-    pub reduced-same : (part : NodeData R) → IsReducedNode t v later part → IsReducedNode u v later part
-    reduced-same part h = record {
-      shape = by-both (λ ss rs. part.shape ≡ shape_at ss v) h.shape;
-      rows = by-both (λ ss rs. map Some part.rows ≡ map (λ r. slice_get (map (λ x. x.row) rs) r) (stay ss rs)) h.rows;
-      to_child = by-both (λ ss rs. part.to_child ≡ map (named ss rs) (stay ss rs)) h.to_child;
-      grouping = by-both (λ ss rs. IsGrouping (links ss rs) (insert_all nat_eq [] (links ss rs)) part.groups) h.grouping;
+    pub reduced_same : (part : NodeData R) → IsReducedNode t v later part → IsReducedNode u v later part
+    reduced_same part h = record {
+      shape = by_both (λ ss rs. part.shape ≡ shape_at ss v) h.shape;
+      rows = by_both (λ ss rs. map Some part.rows ≡ map (λ r. slice_get (map (λ x. x.row) rs) r) (stay ss rs)) h.rows;
+      to_child = by_both (λ ss rs. part.to_child ≡ map (named ss rs) (stay ss rs)) h.to_child;
+      grouping = by_both (λ ss rs. IsGrouping (links ss rs) (insert_all nat_eq [] (links ss rs)) part.groups) h.grouping;
       best = h.best;
     }
 
-    pub links-same : group_links t v later ≡ group_links u v later
-    links-same = ap (λ ss. insert_all nat_eq [] (links ss (rows_at t v))) shapes ∙ ap (λ rs. insert_all nat_eq [] (links u.shapes rs)) same
+    pub links_same : group_links t v later ≡ group_links u v later
+    links_same = ap (λ ss. insert_all nat_eq [] (links ss (rows_at t v))) shapes ∙ ap (λ rs. insert_all nat_eq [] (links u.shapes rs)) same
 
-    pub steps-same : (s0 s1 : ℕ) → s1 ≤ s0 + raw_len t v * length t.shapes → s1 ≤ s0 + raw_len u v * length u.shapes
-    steps-same s0 s1 h = by-both (λ ss rs. s1 ≤ s0 + length rs * length ss) h
+    pub steps_same : (s0 s1 : ℕ) → s1 ≤ s0 + raw_len t v * length t.shapes → s1 ≤ s0 + raw_len u v * length u.shapes
+    steps_same s0 s1 h = by_both (λ ss rs. s1 ≤ s0 + length rs * length ss) h

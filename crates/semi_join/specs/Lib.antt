@@ -1,3 +1,3 @@
-pub mod Grouped
-pub mod Reduced
+pub mod GroupedTrees
+pub mod ReducedTrees
 pub mod Reduction

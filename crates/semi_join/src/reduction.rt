@@ -2,7 +2,7 @@
 ghost use Rattle.std.specs.Prelude.{◌+◌, ◌*◌, ◌≤◌, length, IfOk};
 ghost use Rattle.tdp_core.specs.RawData.{row_total};
 ghost use Rattle.tdp_core.specs.TreeData.{tree_data};
-ghost use Rattle.semi_join.specs.Reduced.{IsReduced};
+ghost use Rattle.semi_join.specs.ReducedTrees.{IsReduced};
 
 use crate::group_links::GroupLinks;
 use crate::node::reduce_node;

@@ -10,71 +10,71 @@ use Rattle.query_bind.proofs.Parts.{counts}
 
 -- ---- sums node by node
 
-pub sum-none : (f : ℕ → ℕ) → sum_from ◌+◌ 0 f 0 0 ≡ 0
+pub sum_none : (f : ℕ → ℕ) → sum_from ◌+◌ 0 f 0 0 ≡ 0
 unfolding sum_from
-sum-none f = refl
+sum_none f = refl
 
-pub sum-same : (f g : ℕ → ℕ) (n q : ℕ) → ((u : ℕ) → q ≤ u → u < q + n → f u ≡ g u)
+pub sum_same : (f g : ℕ → ℕ) (n q : ℕ) → ((u : ℕ) → q ≤ u → u < q + n → f u ≡ g u)
     → sum_from ◌+◌ 0 f n q ≡ sum_from ◌+◌ 0 g n q
 unfolding sum_from
-sum-same f g zero q h = refl
-sum-same f g (suc n) q h =
+sum_same f g zero q h = refl
+sum_same f g (suc n) q h =
     omega (
       arith,
       h q (omega arith) (omega arith),
-      sum-same f g n (suc q) (λ u a b. h u (omega arith) (omega arith)),
+      sum_same f g n (suc q) (λ u a b. h u (omega arith) (omega arith)),
     )
 
 -- if each node has at most this many, so have all together
-pub sum-fewer : (few many : ℕ → ℕ) (n q : ℕ) → ((u : ℕ) → q ≤ u → u < q + n → few u ≤ many u)
+pub sum_fewer : (few many : ℕ → ℕ) (n q : ℕ) → ((u : ℕ) → q ≤ u → u < q + n → few u ≤ many u)
     → sum_from ◌+◌ 0 few n q ≤ sum_from ◌+◌ 0 many n q
 unfolding sum_from
-sum-fewer few many zero q h = omega arith
-sum-fewer few many (suc n) q h =
+sum_fewer few many zero q h = omega arith
+sum_fewer few many (suc n) q h =
     omega (
       arith,
       h q (omega arith) (omega arith),
-      sum-fewer few many n (suc q) (λ u a b. h u (omega arith) (omega arith)),
+      sum_fewer few many n (suc q) (λ u a b. h u (omega arith) (omega arith)),
     )
 
 -- the sums of ranges
-pub sum-range : (f : ℕ → ℕ) (n q : ℕ) → ranges.sum_of f n q ≡ sum_from ◌+◌ 0 f n q
+pub sum_range : (f : ℕ → ℕ) (n q : ℕ) → ranges.sum_of f n q ≡ sum_from ◌+◌ 0 f n q
 unfolding ranges.sum_of sum_from
-sum-range f zero q = refl
-sum-range f (suc n) q = ap (λ z. f q + z) (sum-range f n (suc q))
+sum_range f zero q = refl
+sum_range f (suc n) q = ap (λ z. f q + z) (sum_range f n (suc q))
 
 -- ---- the lengths of lists, by node
 
-pub sum-of-lengths : {X : Type 0} (xss : List (List X)) → sum_of_all (map length xss) ≡ sum_by length xss
-sum-of-lengths [] = refl
-sum-of-lengths (xs ∷ xss) = omega (arith, sum-of-lengths xss, sum_by-cons length xs xss)
+pub sum_of_lengths : {X : Type 0} (xss : List (List X)) → sum_of_all (map length xss) ≡ sum_by length xss
+sum_of_lengths [] = refl
+sum_of_lengths (xs ∷ xss) = omega (arith, sum_of_lengths xss, sum_by-cons length xs xss)
 
-lengths-from : {X : Type 0} (xss : List (List X)) (all : ℕ → ℕ) (q : ℕ)
+lengths_from : {X : Type 0} (xss : List (List X)) (all : ℕ → ℕ) (q : ℕ)
     → ((v : ℕ) → v < length xss → all (q + v) ≡ length (slice_index_or xss v []))
     → sum_from ◌+◌ 0 all (length xss) q ≡ sum_by length xss
 unfolding sum_from
-lengths-from [] all q h = refl
-lengths-from (xs ∷ xss) all q h =
+lengths_from [] all q h = refl
+lengths_from (xs ∷ xss) all q h =
     let none : q + 0 ≡ q = omega arith in
     let here : all q ≡ length xs = ap all (sym none) ∙ h 0 (omega arith) in
-    let rest = lengths-from xss all (suc q)
+    let rest = lengths_from xss all (suc q)
     (λ v l. let move : suc q + v ≡ q + suc v = omega arith in ap all move ∙ h (suc v) (omega (arith, l))) in
     omega (arith, here, rest, sum_by-cons length xs xss)
 
-pub lengths-in-all : {X : Type 0} (xss : List (List X))
+pub lengths_in_all : {X : Type 0} (xss : List (List X))
     → sum_from ◌+◌ 0 (λ v. length (slice_index_or xss v [])) (length xss) 0 ≡ sum_by length xss
-lengths-in-all xss = lengths-from xss (λ v. length (slice_index_or xss v [])) 0
+lengths_in_all xss = lengths_from xss (λ v. length (slice_index_or xss v [])) 0
     (λ v l. let none : 0 + v ≡ v = omega arith in ap (λ w. length (slice_index_or xss w [])) none)
 
-pub lengths-fewer : {X : Type 0} (xss : List (List X)) (m : ℕ) (all : ℕ → ℕ) → length xss ≡ m
+pub lengths_fewer : {X : Type 0} (xss : List (List X)) (m : ℕ) (all : ℕ → ℕ) → length xss ≡ m
     → ((v : ℕ) → v < m → length (slice_index_or xss v []) ≤ all v) → sum_by length xss ≤ sum_from ◌+◌ 0 all m 0
-lengths-fewer xss m all count h =
+lengths_fewer xss m all count h =
     let long : ℕ → ℕ = λ v. length (slice_index_or xss v []) in
     omega (
       arith,
-      lengths-in-all xss,
+      lengths_in_all xss,
       ap (λ n. sum_from ◌+◌ 0 long n 0) count,
-      sum-fewer long all m 0 (λ v a b. h v (omega (arith, b))),
+      sum_fewer long all m 0 (λ v a b. h v (omega (arith, b))),
     )
 
 -- ---- nodes whose items differ
@@ -87,24 +87,24 @@ over f n = sum_of_all (map f (range_with_len 0 n))
 abbrev without : ℕ → (ℕ → ℕ) → ℕ → ℕ
 without i f k = cond (i == k) 0 (f k)
 
-sum-ap : (f g : ℕ → ℕ) (ns : List ℕ) → ((i : ℕ) → f i ≡ g i) → sum_of_all (map f ns) ≡ sum_of_all (map g ns)
-sum-ap f g [] e = refl
-sum-ap f g (n ∷ ns) e = (λ j. e n j + sum-ap f g ns e j)
+sum_ap : (f g : ℕ → ℕ) (ns : List ℕ) → ((i : ℕ) → f i ≡ g i) → sum_of_all (map f ns) ≡ sum_of_all (map g ns)
+sum_ap f g [] e = refl
+sum_ap f g (n ∷ ns) e = (λ j. e n j + sum_ap f g ns e j)
 
-split-at : (i : ℕ) (f : ℕ → ℕ) (k : ℕ) → f k ≡ cond (i == k) (f k + without i f k) (without i f k)
-split-at i f k = by (i == k)
+split_at : (i : ℕ) (f : ℕ → ℕ) (k : ℕ) → f k ≡ cond (i == k) (f k + without i f k) (without i f k)
+split_at i f k = by (i == k)
   where
     by : (b : Bool) → f k ≡ cond b (f k + cond {A = ℕ} b 0 (f k)) (cond {A = ℕ} b 0 (f k))
     by true = omega arith
     by false = refl
 
-take-out : (i n : ℕ) (f : ℕ → ℕ) → i < n → over f n ≡ f i + over (without i f) n
-take-out i n f inside =
-    sum-ap f (λ k. cond (i == k) (f k + without i f k) (without i f k)) (range_with_len 0 n) (split-at i f)
+take_out : (i n : ℕ) (f : ℕ → ℕ) → i < n → over f n ≡ f i + over (without i f) n
+take_out i n f inside =
+    sum_ap f (λ k. cond (i == k) (f k + without i f k) (without i f k)) (range_with_len 0 n) (split_at i f)
     ∙ counts i f (without i f) 0 n (omega arith) (omega (arith, inside))
 
-without-other : (i k : ℕ) (f : ℕ → ℕ) → i ≢ k → without i f k ≡ f k
-without-other i k f other = by (i == k) refl
+without_other : (i k : ℕ) (f : ℕ → ℕ) → i ≢ k → without i f k ≡ f k
+without_other i k f other = by (i == k) refl
   where
     by : (b : Bool) → (i == k) ≡ b → cond {A = ℕ} b 0 (f k) ≡ f k
     by true e = absurd (other ((Decides-eqb i k).0 e))
@@ -116,21 +116,21 @@ module _ (n : ℕ) (item : ℕ → ℕ) where
     pub within : (v : ℕ) → q ≤ v → v < q + k → item v < n
     pub differ : (u v : ℕ) → q ≤ u → u < v → v < q + k → item u ≢ item v
 
-  fewer-from : (k q : ℕ) (f : ℕ → ℕ) → AreApart k q → sum_from ◌+◌ 0 (λ v. f (item v)) k q ≤ over f n
+  fewer_from : (k q : ℕ) (f : ℕ → ℕ) → AreApart k q → sum_from ◌+◌ 0 (λ v. f (item v)) k q ≤ over f n
   unfolding sum_from
-  fewer-from zero q f apart = omega arith
-  fewer-from (suc k) q f apart =
+  fewer_from zero q f apart = omega arith
+  fewer_from (suc k) q f apart =
       let i = item q in
-      let out = take-out i n f (apart.within q (omega arith) (omega arith)) in
+      let out = take_out i n f (apart.within q (omega arith) (omega arith)) in
       let later : AreApart k (suc q) = record {
         within = λ v a b. apart.within v (omega (arith, a)) (omega (arith, b));
         differ = λ u v a b c. apart.differ u v (omega (arith, a)) b (omega (arith, c));
       } in
-      let rest = fewer-from k (suc q) (without i f) later in
-      let same = sum-same (λ v. f (item v)) (λ v. without i f (item v)) k (suc q)
-      (λ v a b. sym (without-other i (item v) f (apart.differ q v (omega arith) (omega (arith, a)) (omega (arith, b))))) in
+      let rest = fewer_from k (suc q) (without i f) later in
+      let same = sum_same (λ v. f (item v)) (λ v. without i f (item v)) k (suc q)
+      (λ v a b. sym (without_other i (item v) f (apart.differ q v (omega arith) (omega (arith, a)) (omega (arith, b))))) in
       omega (arith, out, rest, same)
 
   -- a sum over the nodes is at most the sum over all items
-  pub fewer-nodes : (m : ℕ) (f : ℕ → ℕ) → AreApart m 0 → sum_from ◌+◌ 0 (λ v. f (item v)) m 0 ≤ over f n
-  fewer-nodes m f apart = fewer-from m 0 f apart
+  pub fewer_nodes : (m : ℕ) (f : ℕ → ℕ) → AreApart m 0 → sum_from ◌+◌ 0 (λ v. f (item v)) m 0 ≤ over f n
+  fewer_nodes m f apart = fewer_from m 0 f apart

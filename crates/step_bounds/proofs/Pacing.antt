@@ -13,12 +13,12 @@ use Rattle.step_bounds.specs.Steps.{Paced, calls_for, steps_for, whole_lines}
 -- ---- steps of calls
 
 module _ (share : ℕ → ℕ) (rises : (c d : ℕ) → c ≤ d → share c ≤ share d) where
-  pub steps-more : (m n : ℕ) → m ≤ n → steps_for share m ≤ steps_for share n
-  steps-more m n h = mul-le m (share (m - 1)) n (share (n - 1)) h (rises (m - 1) (n - 1) (omega (arith, h)))
+  pub steps_more : (m n : ℕ) → m ≤ n → steps_for share m ≤ steps_for share n
+  steps_more m n h = mul-le m (share (m - 1)) n (share (n - 1)) h (rises (m - 1) (n - 1) (omega (arith, h)))
 
   -- one call more
-  pub steps-next : (i before now later : ℕ) → now ≤ before + steps_for share i → later ≤ now + share i → later ≤ before + steps_for share (i + 1)
-  steps-next i before now later so_far one =
+  pub steps_next : (i before now later : ℕ) → now ≤ before + steps_for share i → later ≤ now + share i → later ≤ before + steps_for share (i + 1)
+  steps_next i before now later so_far one =
       let low : i * share (i - 1) ≤ i * share i = mul-le i (share (i - 1)) i (share i) (omega arith) (rises (i - 1) i (omega arith)) in
       let same : share (i + 1 - 1) ≡ share i = ap share (omega arith) in
       let whole : steps_for share (i + 1) ≡ (i + 1) * share i = ap (λ s. (i + 1) * s) same in
@@ -26,17 +26,17 @@ module _ (share : ℕ → ℕ) (rises : (c d : ℕ) → c ≤ d → share c ≤ 
 
 -- ---- how many calls
 
-pub calls-same : {A : Type 0} (limit : Option ℕ) (list : List A) (i : ℕ) → i ≤ length list → IfSome limit (λ n. i ≤ n) → i ≤ calls_for limit list
-calls-same None list i within low = omega (arith, within)
-calls-same (Some n) list i within low = by (cases_lt n (length list))
+pub calls_same : {A : Type 0} (limit : Option ℕ) (list : List A) (i : ℕ) → i ≤ length list → IfSome limit (λ n. i ≤ n) → i ≤ calls_for limit list
+calls_same None list i within low = omega (arith, within)
+calls_same (Some n) list i within low = by (cases_lt n (length list))
   where
     by : (n < length list) ⊎ (length list ≤ n) → i ≤ length (take n list) + (if nat_le n (length list) then 0 else 1)
     by (inl inside) = let long = length-take-le n list (omega (arith, inside)) in omega (arith, long, low)
     by (inr past) = let long = ap length (take_all n list past) in omega (arith, long, within)
 
-pub calls-more : {A : Type 0} (limit : Option ℕ) (list : List A) (i : ℕ) → i ≤ length list → IfSome limit (λ n. i < n) → i + 1 ≤ calls_for limit list
-calls-more None list i within low = omega (arith, within)
-calls-more (Some n) list i within low = by (nat_le n (length list)) refl
+pub calls_more : {A : Type 0} (limit : Option ℕ) (list : List A) (i : ℕ) → i ≤ length list → IfSome limit (λ n. i < n) → i + 1 ≤ calls_for limit list
+calls_more None list i within low = omega (arith, within)
+calls_more (Some n) list i within low = by (nat_le n (length list)) refl
   where
     by : (b : Bool) → nat_le n (length list) ≡ b → i + 1 ≤ length (take n list) + (if b then 0 else 1)
     by true e = let long = length-take-le n list (leb-true n (length list) e) in omega (arith, long, low)
@@ -44,23 +44,23 @@ calls-more (Some n) list i within low = by (nat_le n (length list)) refl
 
 -- ---- texts at the front of a text
 
-whole-one : (line : List ℕ) (lines : List (List ℕ)) (part rest : List ℕ) (n : ℕ) → part ≡ line ++ rest → n ≤ whole_lines lines rest
+whole_one : (line : List ℕ) (lines : List (List ℕ)) (part rest : List ℕ) (n : ℕ) → part ≡ line ++ rest → n ≤ whole_lines lines rest
     → suc n ≤ whole_lines (line ∷ lines) part
 unfolding whole_lines
-whole-one line lines part rest n is h =
+whole_one line lines part rest n is h =
     let long = ap length is ∙ length-append line rest in
     let fits : nat_le (length line) (length part) ≡ true = le-leb (length line) (length part) (omega (arith, long)) in
     let left : drop (length line) part ≡ rest = ap (drop (length line)) is ∙ drop-append_seam line rest in
     rw (fits, left) (omega (arith, h))
 
 -- a text that begins with the texts of n members has that many whole texts
-pub whole-front : {A : Type 0} (f : A → List ℕ) (xs : List A) (n : ℕ) (extra : List ℕ) → n ≤ length xs
+pub whole_front : {A : Type 0} (f : A → List ℕ) (xs : List A) (n : ℕ) (extra : List ℕ) → n ≤ length xs
     → n ≤ whole_lines (map f xs) (flat_map f (take n xs) ++ extra)
-whole-front f xs zero extra within = omega arith
-whole-front f [] (suc n) extra within = omega (arith, within)
-whole-front f (x ∷ xs) (suc n) extra within =
-    whole-one (f x) (map f xs) ((f x ++ flat_map f (take n xs)) ++ extra) (flat_map f (take n xs) ++ extra) n (append_assoc (f x) (flat_map f (take n xs)) extra)
-    (whole-front f xs n extra (omega (arith, within)))
+whole_front f xs zero extra within = omega arith
+whole_front f [] (suc n) extra within = omega (arith, within)
+whole_front f (x ∷ xs) (suc n) extra within =
+    whole_one (f x) (map f xs) ((f x ++ flat_map f (take n xs)) ++ extra) (flat_map f (take n xs) ++ extra) n (append_assoc (f x) (flat_map f (take n xs)) extra)
+    (whole_front f xs n extra (omega (arith, within)))
 
 -- ---- the two together
 
@@ -83,15 +83,15 @@ module _ {A : Type 0} (f : A → List ℕ) (list : List A) (limit : Option ℕ) 
       → now ≤ before + steps_for share k → (old mid new : Option (List ℕ)) (extra : List ℕ) → Appends old mid (flat_map f (take i list)) → Appends mid new extra
       → Paced share (map f (cut limit list)) (calls_for limit list) old new before now
   paced share rises k before now few most spent old mid new extra first next = record {
-    bounded = let more = steps-more share rises k (calls_for limit list) most in omega (arith, spent, more);
+    bounded = let more = steps_more share rises k (calls_for limit list) most in omega (arith, spent, more);
     prompt = λ start part is_old is_new.
         let all : Appends old new (flat_map f (take i list) ++ extra) = Appends-trans old mid new (flat_map f (take i list)) extra first next in
         let told : start ++ part ≡ start ++ (flat_map f (take i list) ++ extra) = tell start part old new is_old is_new (flat_map f (take i list) ++ extra) all in
         let same : part ≡ flat_map f (take i list) ++ extra = append_cancel_left start part (flat_map f (take i list) ++ extra) told in
         let front : flat_map f (take i (cut limit list)) ++ extra ≡ part = ap (λ xs. flat_map f xs ++ extra) among.0 ∙ sym same in
         let whole : i ≤ whole_lines (map f (cut limit list)) part =
-        subst (λ (t : List ℕ). i ≤ whole_lines (map f (cut limit list)) t) front (whole-front f (cut limit list) i extra among.1) in
-        let more = steps-more share rises k (whole_lines (map f (cut limit list)) part + 1) (omega (arith, few, whole)) in
+        subst (λ (t : List ℕ). i ≤ whole_lines (map f (cut limit list)) t) front (whole_front f (cut limit list) i extra among.1) in
+        let more = steps_more share rises k (whole_lines (map f (cut limit list)) part + 1) (omega (arith, few, whole)) in
         omega (arith, spent, more);
   }
     where
@@ -103,10 +103,10 @@ module _ {A : Type 0} (f : A → List ℕ) (list : List A) (limit : Option ℕ) 
           given
 
 -- a text before them that was written whole, and calls only after it
-pub paced-after : (share : ℕ → ℕ) (lines : List (List ℕ)) (most : ℕ) (old mid new : Option (List ℕ)) (before now : ℕ) (head rest : List ℕ) → Appends old mid head
+pub paced_after : (share : ℕ → ℕ) (lines : List (List ℕ)) (most : ℕ) (old mid new : Option (List ℕ)) (before now : ℕ) (head rest : List ℕ) → Appends old mid head
     → Appends mid new rest → Paced share lines most mid new before now → (start part : List ℕ) → old ≡ Some start → new ≡ Some (start ++ part)
     → now ≤ before + steps_for share (whole_lines lines (drop (length head) part) + 1)
-paced-after share lines most old mid new before now head rest first next paced start part is_old is_new =
+paced_after share lines most old mid new before now head rest first next paced start part is_old is_new =
     by mid (subst (λ (o : Option (List ℕ)). Appends o mid head) is_old first) (subst (λ (o : Option (List ℕ)). Appends mid o rest) is_new next)
     (λ begin more is same. paced.prompt begin more is (is_new ∙ ap Some same))
   where

@@ -4,7 +4,7 @@ use Rattle.std.proofs.lemmas.Bool.{leb-false, leb-true}
 use Rattle.std.proofs.lemmas.List.{length-take-le, take_all}
 use Rattle.std.proofs.lemmas.Nat.{mul-le}
 use Rattle.rank_key.specs.Bits.{bit_length}
-use Rattle.rank_key.proofs.BitLemmas.{bit_length-rises}
+use Rattle.rank_key.proofs.BitLemmas.{bit_length_rises}
 use Rattle.step_bounds.specs.Steps.{calls_for, cost}
 
 pub calls_few : {A : Type 0} (n : ℕ) (list : List A) → calls_for (Some n) list ≤ n
@@ -17,6 +17,6 @@ calls_few n list = by (nat_le n (length list)) refl
 pub cost_rises : (l a b c d : ℕ) → a ≤ b → c ≤ d → cost l a c ≤ cost l b d
 cost_rises l a b c d rows calls =
     let reach = mul-le c l d l calls (omega arith) in
-    let digits = bit_length-rises (a + c * l) (b + d * l) (omega (arith, rows, reach)) in
+    let digits = bit_length_rises (a + c * l) (b + d * l) (omega (arith, rows, reach)) in
     let each = mul-le c (1 + bit_length (a + c * l)) d (1 + bit_length (b + d * l)) calls (omega (arith, digits)) in
     mul-le (64 * (l * l)) (1 + a + c * (1 + bit_length (a + c * l))) (64 * (l * l)) (1 + b + d * (1 + bit_length (b + d * l))) (omega arith) (omega (arith, rows, each))

@@ -4,7 +4,7 @@ use Rattle.std.proofs.lemmas.Bool.{cases_eq}
 use Rattle.rankings.specs.Order.{IsRanking}
 use Rattle.tdp_model.specs.KeyLaws.{IsKeys}
 use Rattle.tdp_model.specs.Remains.{Remains, total}
-use Rattle.tdp_model.specs.Staged.{IsDistinct}
+use Rattle.tdp_model.specs.StagedProblem.{IsDistinct}
 use Rattle.tdp_model.specs.Product.{Pair, is_run, run_key}
 use Rattle.tdp_model.specs.TreeProblem.{sum_from, kid_key, RowHas, GroupHas, IsTieFree}
 use Rattle.tdp_model.proofs.Removal.{Remains-same}

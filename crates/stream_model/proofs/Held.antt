@@ -8,12 +8,12 @@ use Rattle.std.proofs.lemmas.List.Elements.{All-cons, All-head, All-tail}
 use Rattle.rankings.specs.Order.{IsMember}
 use Rattle.tdp_model.specs.Remains.{AtMost, total}
 use Rattle.tdp_model.specs.KeyTuple.{KeyOf, key_below}
-use Rattle.tdp_model.proofs.KeyNumbers.{not_less-at_most}
+use Rattle.tdp_model.proofs.KeyNumbers.{not_less_at_most}
 use Rattle.take2_heap.specs.declared.entry.Entry.{Entry}
 use Rattle.take2_heap.specs.Order.{IsLeast}
 use Rattle.stream_model.specs.Offers.{offers}
 use Rattle.stream_model.specs.Ahead.{AllInside, NoneBelow}
-use Rattle.stream_model.specs.Held.{IsHeld, places}
+use Rattle.stream_model.specs.QueueEntries.{IsHeld, places}
 
 -- what an entry that may be offered counts for
 abbrev pub maybe_count : {E : Type 0} → (E → ℕ) → Option E → ℕ
@@ -45,7 +45,7 @@ module _ {R T X : Type 0} (d : ℕ) (rank_key : R → KeyOf d 16) (key_at : X �
   pub held_least : (x : Entry R T) (es : List (Entry R T)) → All (IsHeld d rank_key key_at InRange at) es → IsLeast d rank_key x es → IsHeld d rank_key key_at InRange at x → NoneBelow (key_below d 16) key_at (key_at (at x.tag)) (places at es)
   held_least x [] a l h = tt
   held_least x (e ∷ es) a l h =
-      let p : AtMost (key_below d 16) (rank_key x.rank) (rank_key e.rank) = not_less-at_most d 16 (rank_key e.rank) (rank_key x.rank) l.0 in
+      let p : AtMost (key_below d 16) (rank_key x.rank) (rank_key e.rank) = not_less_at_most d 16 (rank_key e.rank) (rank_key x.rank) l.0 in
       (subst (λ z. AtMost (key_below d 16) z (key_at (at e.tag))) h.1 (subst (λ z. AtMost (key_below d 16) (rank_key x.rank) z) (All-head (IsHeld d rank_key key_at InRange at) e es a).1 p), held_least x es (All-tail (IsHeld d rank_key key_at InRange at) e es a) l.1 h)
 
   pub held_member : (es : List (Entry R T)) (i : ℕ) (e : Entry R T) → i < length es → IsMember (at (get_or es i e).tag) (places at es)

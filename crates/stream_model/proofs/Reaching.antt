@@ -12,7 +12,7 @@ use Rattle.tdp_model.proofs.Keys.{at_most_trans, ascending_at_most}
 use Rattle.tdp_model.proofs.KeyTuples.{tuple_keys}
 use Rattle.tdp_model.proofs.Runs.{run_divided, runs_none}
 use Rattle.stream_model.specs.Ahead.{AllInside}
-use Rattle.stream_model.specs.Held.{InRuns}
+use Rattle.stream_model.specs.QueueEntries.{InRuns}
 use Rattle.stream_model.specs.Reaches.{reaches, AreHeapOrdered}
 
 -- a later solution stands for the rest of its member's list

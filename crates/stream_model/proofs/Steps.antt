@@ -14,7 +14,7 @@ use Rattle.take2_heap.specs.declared.entry.Entry.{Entry}
 use Rattle.take2_heap.specs.Order.{IsLeast}
 use Rattle.stream_model.specs.Offers.{offers}
 use Rattle.stream_model.specs.Ahead.{IsAhead}
-use Rattle.stream_model.specs.Held.{IsHeld, places, InProduct, InRuns}
+use Rattle.stream_model.specs.QueueEntries.{IsHeld, places, InProduct, InRuns}
 use Rattle.stream_model.specs.Reaches.{reaches, AreHeapOrdered}
 use Rattle.stream_model.proofs.Held.{MaybeHolds, maybe_count, held_inside, held_least, held_member, held_moved, moved_total}
 use Rattle.stream_model.proofs.Reaching.{reaches_split, reaches_least, reaches_past, later_none}

@@ -11,7 +11,7 @@ use Rattle.tdp_model.specs.Product.{Pair, run_key}
 use Rattle.tdp_core.specs.TreeData.{NodeData, rows, members, group_count, group_named, child_count}
 use Rattle.tdp_core.specs.WellFormed.{IsFormed, IsTieFreeTree}
 use Rattle.stream_model.specs.Ahead.{IsAhead}
-use Rattle.stream_model.specs.Held.{IsHeld, places, InRuns}
+use Rattle.stream_model.specs.QueueEntries.{IsHeld, places, InRuns}
 use Rattle.stream_model.specs.Reaches.{reaches}
 use Rattle.stream_model.specs.Links.{owned, place_in, IsLinkedAt}
 use Rattle.suffix_streams.specs.declared.stream.Found.{Found}
@@ -27,7 +27,7 @@ use Rattle.suffix_streams.proofs.BeginFirsts.{group_head}
 use Rattle.suffix_streams.proofs.Rankings.{kid, named_in, group_is_ranking, row_is_ranking}
 use Rattle.suffix_streams.proofs.BeginQueues.{first_ahead}
 use Rattle.suffix_streams.proofs.BeginOwners.{owned_within, only_one}
-use Rattle.suffix_streams.proofs.ViewEntries.{stream-length, stream-at}
+use Rattle.suffix_streams.proofs.ViewEntries.{stream_length, stream_at}
 
 module _ {R : Type 0} (d : ℕ) (key : R → KeyOf d 16) (t : List (NodeData R)) (es : List (Linked (Found R))) (nodes : List (NodeLists R)) (b : IsBegun d key t es nodes) where
   nodes_groups : length (node_list es) ≡ length (group_list_of es)
@@ -80,9 +80,9 @@ module _ {R : Type 0} (d : ℕ) (key : R → KeyOf d 16) (t : List (NodeData R))
   stream_is : (q h : ℕ) (a : Entry R Source) → q < length t → h < length (lists_of nodes q).streams → (e : Linked (Found R)) → a ≡ (get_or es (stream_of nodes q h).head e).value.solution → stream es q h ≡ a ∷ []
   stream_is q h a l lh e s =
       let x = b.begun q h l lh in
-      only_one (stream es q h) a (stream-length es q h ∙ owned_one d key t es nodes b q h lh)
+      only_one (stream es q h) a (stream_length es q h ∙ owned_one d key t es nodes b q h lh)
       (ap (λ p. get_or (stream es q h) p a) (sym (place_first d key t es nodes b q h (stream_of nodes q h).head lh x.head_in x.node x.group))
-      ∙ stream-at es q h (stream_of nodes q h).head e a x.head_in x.node x.group ∙ sym s)
+      ∙ stream_at es q h (stream_of nodes q h).head e a x.head_in x.node x.group ∙ sym s)
 
   one_taken : (ks : List (KeyOf d 16)) (k n : KeyOf d 16) → 0 < length ks → get_or ks 0 n ≡ k → k ∷ [] ≡ take 1 ks
   one_taken [] k n l e = absurd (omega arith)

@@ -3,17 +3,17 @@ use Rattle.std.proofs.Common.{◌≡◌, ◌≢◌, ℕ, zero, suc, ◌+◌, ◌
 use Rattle.std.proofs.lemmas.Bool.{cases_lt, cases_eq}
 use Rattle.std.proofs.lemmas.Bool.Decides.{nat_tests}
 use Rattle.tdp_core.specs.TreeData.{NodeData, parent, child_count, child_place, kids_below}
-use Rattle.tdp_core.proofs.Children.{kids_below-first, kids_below-child, kids_below-other}
+use Rattle.tdp_core.proofs.Children.{kids_below_first, kids_below_child, kids_below_other}
 use Rattle.suffix_streams.specs.Rankings.{child_among, child}
 
 kids_at : (parent : ℕ → ℕ) (v n : ℕ) → 0 < n → parent n ≡ v → kids_below parent v (suc n) ≡ kids_below parent v n + 1
-kids_at parent v n some e = let next : suc n ≡ n + 1 = omega arith in ap (kids_below parent v) next ∙ kids_below-child parent v n some e
+kids_at parent v n some e = let next : suc n ≡ n + 1 = omega arith in ap (kids_below parent v) next ∙ kids_below_child parent v n some e
 
 kids_past : (parent : ℕ → ℕ) (v n : ℕ) → parent n ≢ v → kids_below parent v (suc n) ≡ kids_below parent v n
-kids_past parent v n e = let next : suc n ≡ n + 1 = omega arith in ap (kids_below parent v) next ∙ kids_below-other parent v n e
+kids_past parent v n e = let next : suc n ≡ n + 1 = omega arith in ap (kids_below parent v) next ∙ kids_below_other parent v n e
 
 kids_of_one : (parent : ℕ → ℕ) (v n : ℕ) → n ≡ 0 → kids_below parent v (suc n) ≡ 0
-kids_of_one parent v n z = ap (λ k. kids_below parent v (suc k)) z ∙ kids_below-first parent v
+kids_of_one parent v n z = ap (λ k. kids_below parent v (suc k)) z ∙ kids_below_first parent v
 
 -- a node has no children among the nodes up to itself
 pub no_kids_before : (parent : ℕ → ℕ) (m v n : ℕ) → ((q : ℕ) → 0 < q → q < m → parent q < q) → n ≤ suc v → n ≤ m → kids_below parent v n ≡ 0
@@ -72,11 +72,11 @@ module _ {R : Type 0} (t : List (NodeData R)) where
       → (length (children ++ (n ∷ [])) ≡ kids_below (parent t) v (n + 1)) × ((c : ℕ) → c < kids_below (parent t) v (n + 1) → get_or (children ++ (n ∷ [])) c 0 ≡ child_among (parent t) v c (n + 1))
   each_more v n children count some e each =
       let next : n + 1 ≡ suc n = omega arith in (
-        length_more children n ∙ ap (λ z. z + 1) count ∙ sym (kids_below-child (parent t) v n some e),
+        length_more children n ∙ ap (λ z. z + 1) count ∙ sym (kids_below_child (parent t) v n some e),
         (λ c l. elim (cases_lt c (kids_below (parent t) v n)) [
           | inl before ↦ front children n c (omega (arith, count, before)) ∙ each c before ∙ sym (ap (child_among (parent t) v c) next ∙ among_before (parent t) v c n before)
           | inr g ↦
-              let here : kids_below (parent t) v n ≡ c = omega (arith, g, l, kids_below-child (parent t) v n some e) in
+              let here : kids_below (parent t) v n ≡ c = omega (arith, g, l, kids_below_child (parent t) v n some e) in
               end children n c (sym (count ∙ here)) ∙ sym (ap (child_among (parent t) v c) next ∙ among_here (parent t) v c n some e here)
         ]),
       )
@@ -101,8 +101,8 @@ module _ {R : Type 0} (t : List (NodeData R)) where
       → (length children ≡ kids_below (parent t) v (n + 1)) × ((c : ℕ) → c < kids_below (parent t) v (n + 1) → get_or children c 0 ≡ child_among (parent t) v c (n + 1))
   each_other v n children count other each =
       let next : n + 1 ≡ suc n = omega arith in (
-        count ∙ sym (kids_below-other (parent t) v n other),
+        count ∙ sym (kids_below_other (parent t) v n other),
         (λ c l.
-            let before : c < kids_below (parent t) v n = omega (arith, l, kids_below-other (parent t) v n other) in
+            let before : c < kids_below (parent t) v n = omega (arith, l, kids_below_other (parent t) v n other) in
             each c before ∙ sym (ap (child_among (parent t) v c) next ∙ among_before (parent t) v c n before)),
       )

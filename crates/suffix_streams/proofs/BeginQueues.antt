@@ -13,7 +13,7 @@ use Rattle.tdp_core.specs.TreeData.{NodeData, parent, item, number, members, gro
 use Rattle.tdp_core.specs.WellFormed.{IsFormed, IsTieFreeTree}
 use Rattle.tdp_core.proofs.TreeFacts.{member_is_row, members_apart, tie_free_of}
 use Rattle.stream_model.specs.Ahead.{IsAhead}
-use Rattle.stream_model.specs.Held.{IsHeld, places, InRuns}
+use Rattle.stream_model.specs.QueueEntries.{IsHeld, places, InRuns}
 use Rattle.stream_model.specs.Reaches.{reaches}
 use Rattle.stream_model.proofs.Held.{held_inside}
 use Rattle.stream_model.proofs.Begins.{members_begin}

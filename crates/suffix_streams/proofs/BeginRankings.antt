@@ -23,9 +23,9 @@ module _ {R : Type 0} (d : ℕ) (key : R → KeyOf d 16) (t : List (NodeData R))
   no_group none g = get_or_past (node_at t 0).groups g [] (omega (arith, none))
 
   -- without solutions the ranking is empty
-  pub root_list-empty : group_count t 0 ≡ 0 → group_list d key t 0 0 ≡ []
+  pub root_list_empty : group_count t 0 ≡ 0 → group_list d key t 0 0 ≡ []
   unfolding group_list ranked
-  root_list-empty none = ap (λ ms. ranked (key_below d 16) (tuple_keys d 16).order (gather (solution_keys d key t 0) ms)) (no_group none 0)
+  root_list_empty none = ap (λ ms. ranked (key_below d 16) (tuple_keys d 16).order (gather (solution_keys d key t 0) ms)) (no_group none 0)
 
   nothing_stands : (r : ℕ) (xs : List ℕ) → xs ≡ [] → stands r xs ≡ 0
   unfolding stands place_of
@@ -62,7 +62,7 @@ module _ {R : Type 0} (d : ℕ) (key : R → KeyOf d 16) (t : List (NodeData R))
           (group_is_ranking d key t 0 0 (omega (arith, some))))
 
       of_dead : group_count t 0 ≡ 0 → IsTreeRanking t d key (group_list d key t 0 0)
-      of_dead none = subst (λ ks. IsTreeRanking t d key ks) (sym (root_list-empty none)) (record {
+      of_dead none = subst (λ ks. IsTreeRanking t d key ks) (sym (root_list_empty none)) (record {
         ascending = tt;
         sound = λ k h. absurd h;
         complete = λ k h. absurd (none_solved none (omega (arith, some)) h.0 h.1);

@@ -8,11 +8,11 @@ use Rattle.take2_heap.specs.Order.{IsLeast}
 use Rattle.rankings.specs.Order.{IsAscending}
 use Rattle.tdp_model.specs.Remains.{Remains, total}
 use Rattle.tdp_model.specs.KeyTuple.{KeyOf, key_below, key_add, key_none}
-use Rattle.tdp_model.proofs.KeyNumbers.{at_most-not_less}
+use Rattle.tdp_model.proofs.KeyNumbers.{at_most_not_less}
 use Rattle.tdp_model.specs.Product.{Pair, pair_key, stands_for, run_key}
 use Rattle.stream_model.specs.Offers.{offers}
 use Rattle.stream_model.specs.Ahead.{IsAhead}
-use Rattle.stream_model.specs.Held.{IsHeld, places, InProduct, InRuns}
+use Rattle.stream_model.specs.QueueEntries.{IsHeld, places, InProduct, InRuns}
 use Rattle.stream_model.specs.Reaches.{reaches, AreHeapOrdered}
 use Rattle.stream_model.proofs.Held.{MaybeHolds, held_inside}
 use Rattle.stream_model.proofs.Reaching.{few_entries}
@@ -88,7 +88,7 @@ module _ {R T : Type 0} (d : ℕ) (key : R → KeyOf d 16) (xs ys zs : List (Key
       let held : All (IsHeld d key (pair_key (key_add d 16) (key_none d 16) xs ys) (InProduct d xs ys) at) (entry ∷ []) = All-cons (IsHeld d key (pair_key (key_add d 16) (key_none d 16) xs ys) (InProduct d xs ys) at) entry [] own (All-nil (IsHeld d key (pair_key (key_add d 16) (key_none d 16) xs ys) (InProduct d xs ys) at)) in
       let s : (0 < length zs) × (get_or zs 0 (key_none d 16) ≡ key entry.rank)
       × IsAhead Pair (KeyOf d 16) (key_below d 16) (pair_key (key_add d 16) (key_none d 16) xs ys) (stands_for (length xs) (length ys)) (InProduct d xs ys) zs 1 (places at (entry ∷ [])) =
-      product_shows d key xs ys at ax ay zs 0 entry (entry ∷ []) held (omega arith) refl (at_most-not_less d 16 (key entry.rank) (key entry.rank) (inr refl), tt)
+      product_shows d key xs ys at ax ay zs 0 entry (entry ∷ []) held (omega arith) refl (at_most_not_less d 16 (key entry.rank) (key entry.rank) (inr refl), tt)
       (subst (λ p. Remains Pair (KeyOf d 16) (key_below d 16) (pair_key (key_add d 16) (key_none d 16) xs ys) (total (stands_for (length xs) (length ys)) (p ∷ [])) zs) (sym place) q) in (
         s.1,
         record {

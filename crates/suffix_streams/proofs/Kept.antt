@@ -8,7 +8,7 @@ use Rattle.tdp_core.specs.TreeData.{NodeData, members, group_named, child_count}
 use Rattle.tdp_model.specs.KeyTuple.{KeyOf, key_below, key_add, key_none}
 use Rattle.tdp_model.specs.Product.{Pair, pair_key, stands_for}
 use Rattle.stream_model.specs.Ahead.{IsAhead}
-use Rattle.stream_model.specs.Held.{InProduct}
+use Rattle.stream_model.specs.QueueEntries.{InProduct}
 use Rattle.stream_cells.specs.declared.cell.Cell.{Cell}
 use Rattle.stream_cells.specs.declared.source.Source.{Source}
 use Rattle.suffix_streams.specs.declared.stream.Found.{Found}

@@ -17,7 +17,7 @@ use Rattle.tdp_model.specs.Remains.{AtMost}
 use Rattle.tdp_model.specs.KeyTuple.{KeyOf, key_below, key_none}
 use Rattle.tdp_model.specs.Product.{Pair, run_key}
 use Rattle.stream_model.specs.Offers.{offers}
-use Rattle.stream_model.specs.Held.{IsHeld, InRuns}
+use Rattle.stream_model.specs.QueueEntries.{IsHeld, InRuns}
 use Rattle.stream_model.specs.Links.{IsLinked}
 use Rattle.stream_model.specs.Reaches.{AreHeapOrdered}
 use Rattle.stream_model.proofs.Held.{MaybeHolds, all_offers, held_moved}

@@ -9,7 +9,7 @@ use Rattle.tdp_core.specs.WellFormed.{IsTieFreeTree}
 use Rattle.tdp_core.proofs.TreeFacts.{member_is_row}
 use Rattle.tdp_model.specs.KeyTuple.{KeyOf, key_add, key_none}
 use Rattle.tdp_model.specs.Product.{pair_key, run_key}
-use Rattle.stream_model.specs.Held.{IsHeld, InProduct, InRuns}
+use Rattle.stream_model.specs.QueueEntries.{IsHeld, InProduct, InRuns}
 use Rattle.stream_cells.specs.declared.cell.Cell.{Cell}
 use Rattle.stream_cells.specs.declared.source.Source.{Source}
 use Rattle.suffix_streams.specs.declared.stream.Found.{Found}
@@ -19,7 +19,7 @@ use Rattle.suffix_streams.specs.StreamsData.{IsKnownPart, IsSumOf, HasOwnParts, 
 use Rattle.suffix_streams.proofs.Stores.{node_value, group_value}
 use Rattle.suffix_streams.proofs.Firsts.{first_by_at}
 use Rattle.suffix_streams.proofs.FirstSums.{first_known, head_first, first_sum_of}
-use Rattle.suffix_streams.proofs.ViewEntries.{entry-at}
+use Rattle.suffix_streams.proofs.ViewEntries.{entry_at}
 use Rattle.suffix_streams.proofs.ViewPrefixes.{place_in_stream, entry_solution}
 
 -- the solution of entry i, of group g of node v, is the one of a member that its source names
@@ -62,7 +62,7 @@ module _ {R : Type 0} (d : ℕ) (key : R → KeyOf d 16) (t : List (NodeData R))
       let x : Linked (Found R) = record { value = f; next = None } in
       let s = h.streams (node_of es i) (group_of es i) own.0 own.1 in
       let within = place_in_stream d key t es nodes h i l in
-      let same : get_or (stream es (node_of es i) (group_of es i)) (place_of es i) f.solution ≡ f.solution = entry-at es i x f.solution l ∙ ap (λ z. z.solution) (value x) in
+      let same : get_or (stream es (node_of es i) (group_of es i)) (place_of es i) f.solution ≡ f.solution = entry_at es i x f.solution l ∙ ap (λ z. z.solution) (value x) in
       let known : Known (node_of es i) (group_of es i) f.solution = subst (Known (node_of es i) (group_of es i)) same (All-get_or (Known (node_of es i) (group_of es i)) (stream es (node_of es i) (group_of es i)) (place_of es i) f.solution within s.found_known) in
       let held : Held (node_of es i) (group_of es i) f.solution = subst (Held (node_of es i) (group_of es i)) same (All-get_or (Held (node_of es i) (group_of es i)) (stream es (node_of es i) (group_of es i)) (place_of es i) f.solution within s.merge.kept) in
       let parts : HasOwnParts d key t es nodes (node_of es i) (group_of es i) f.solution.tag =

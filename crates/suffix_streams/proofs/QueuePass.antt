@@ -11,7 +11,7 @@ use Rattle.tdp_core.specs.WellFormed.{IsTieFreeTree}
 use Rattle.tdp_model.specs.KeyTuple.{KeyOf, key_none}
 use Rattle.tdp_model.specs.Product.{run_key}
 use Rattle.stream_model.specs.Offers.{offers}
-use Rattle.stream_model.specs.Held.{IsHeld, InRuns}
+use Rattle.stream_model.specs.QueueEntries.{IsHeld, InRuns}
 use Rattle.stream_model.specs.Links.{IsLinked}
 use Rattle.stream_cells.specs.declared.source.Source.{Source}
 use Rattle.suffix_streams.specs.declared.stream.Found.{Found}

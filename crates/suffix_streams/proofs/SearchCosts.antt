@@ -3,7 +3,7 @@ use Rattle.std.proofs.Common.{◌≡◌, ◌≢◌, ℕ, suc, ◌+◌, ◌*◌, 
 use Rattle.std.proofs.lemmas.Bool.{cases_lt, cases_eq}
 use Rattle.std.proofs.lemmas.Bool.Decides.{nat_tests}
 use Rattle.rank_key.specs.Bits.{bit_length}
-use Rattle.rank_key.proofs.BitLemmas.{bit_length-is, bit_length-rises}
+use Rattle.rank_key.proofs.BitLemmas.{bit_length_is, bit_length_rises}
 use Rattle.tdp_core.specs.TreeData.{NodeData, parent, child_count}
 use Rattle.tdp_core.specs.WellFormed.{IsFormed}
 use Rattle.tdp_model.specs.Below.{is_below}
@@ -18,8 +18,8 @@ use Rattle.suffix_streams.proofs.Searching.{no_queue}
 
 pub some_bits : (k b : ℕ) → 1 ≤ k → bit_length (k + 1) ≤ b → 1 ≤ b
 some_bits k b l h =
-    let one : bit_length 1 ≡ 1 = bit_length-is 1 1 (omega arith) (λ z. omega arith) in
-    omega (arith, h, one, bit_length-rises 1 (k + 1) (omega arith))
+    let one : bit_length 1 ≡ 1 = bit_length_is 1 1 (omega arith) (λ z. omega arith) in
+    omega (arith, h, one, bit_length_rises 1 (k + 1) (omega arith))
 
 pub much : (s b : ℕ) → 20 * s ≤ 20 * s * (1 + b)
 much s b = grind arith

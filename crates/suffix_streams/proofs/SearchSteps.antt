@@ -3,7 +3,7 @@ use Rattle.std.proofs.Common.{◌≡◌, ℕ, suc, ◌+◌, ◌*◌, ◌≢◌, 
 use Rattle.std.proofs.lemmas.Bool.{cases_lt, cases_eq}
 use Rattle.stream_store.specs.declared.entry.Linked.{Linked}
 use Rattle.rank_key.specs.Bits.{bit_length}
-use Rattle.rank_key.proofs.BitLemmas.{bit_length-rises}
+use Rattle.rank_key.proofs.BitLemmas.{bit_length_rises}
 use Rattle.tdp_core.specs.TreeData.{NodeData, parent, rows, child_count, group_named}
 use Rattle.tdp_model.specs.Below.{is_below}
 use Rattle.tdp_model.specs.KeyTuple.{KeyOf}
@@ -54,7 +54,7 @@ module _ {R : Type 0} (d : ℕ) (key : R → KeyOf d 16) (t : List (NodeData R))
       → IsWithinSteps t n (λ w. below_kids t v (suc c) w + cond (nat_eq w v) 1 0) (λ b. 20 * kids_size t v (suc c) * (1 + b)) s0 (s4 + 6 * suc c)
   search_within s0 s1 s2 s3 s4 grown call read search step k b one bits few queues =
       let own : length (product_of n v r c).frontier ≤ k = queues v r c (omega (arith, same_is v v refl)) in
-      let digits : bit_length (length (product_of n v r c).frontier + 1) ≤ b = omega (arith, bits, bit_length-rises (length (product_of n v r c).frontier + 1) (k + 1) (omega (arith, own))) in
+      let digits : bit_length (length (product_of n v r c).frontier + 1) ≤ b = omega (arith, bits, bit_length_rises (length (product_of n v r c).frontier + 1) (k + 1) (omega (arith, own))) in
       let called : s1 ≤ s0 + (12 + 4 * b + 20 * kids_size t (child t v c) (child_count t (child t v c)) * (1 + b)) = call k b one bits few (λ w s j l. queues w s j (omega (arith, l))) in
       let searched : s3 + 6 * c ≤ s2 + 20 * kids_size t v c * (1 + b) = search k b one bits few (queues_apart d key t h.tree v c k n m h1.all_nodes in_tree in_kids one grown queues) in
       child_within d key t h.tree v c b s0 s1 s3 s4 in_tree in_kids (some_bits k b one bits) called (omega (arith, searched, read)) (omega (arith, step, digits))

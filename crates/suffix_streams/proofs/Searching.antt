@@ -14,7 +14,7 @@ use Rattle.stream_model.specs.Reaches.{reaches}
 use Rattle.tdp_model.specs.Remains.{total}
 use Rattle.tdp_model.proofs.Removal.{none_left}
 use Rattle.stream_model.specs.Ahead.{IsAhead}
-use Rattle.stream_model.specs.Held.{IsHeld, places, InProduct, InRuns}
+use Rattle.stream_model.specs.QueueEntries.{IsHeld, places, InProduct, InRuns}
 use Rattle.stream_model.specs.Links.{IsLinkedAt}
 use Rattle.stream_model.proofs.Linking.{place_once}
 use Rattle.stream_cells.specs.declared.cell.Cell.{Cell}

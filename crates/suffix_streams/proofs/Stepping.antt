@@ -12,7 +12,7 @@ use Rattle.tdp_core.specs.TreeData.{NodeData, rows, child_count, group_named}
 use Rattle.tdp_model.specs.KeyTuple.{KeyOf, key_add, key_none}
 use Rattle.tdp_model.specs.Product.{Pair, pair_key}
 use Rattle.stream_model.specs.Offers.{offers}
-use Rattle.stream_model.specs.Held.{IsHeld, InProduct}
+use Rattle.stream_model.specs.QueueEntries.{IsHeld, InProduct}
 use Rattle.stream_model.specs.Links.{IsLinkedAt}
 use Rattle.stream_model.proofs.Held.{MaybeHolds, all_offers, held_moved}
 use Rattle.stream_model.proofs.Linking.{place_once}

@@ -3,8 +3,8 @@ use Rattle.std.proofs.Common.{◌≡◌, ℕ, zero, suc, ◌+◌, ◌-◌, ◌*�
 use Rattle.std.proofs.lemmas.Bool.{cases_lt}
 use Rattle.stream_store.specs.declared.entry.Linked.{Linked}
 use Rattle.rank_key.specs.Bits.{bit_length}
-use Rattle.rank_key.proofs.BitLemmas.{bit_length-rises}
-use Rattle.tdp_core.specs.Seen.{counted}
+use Rattle.rank_key.proofs.BitLemmas.{bit_length_rises}
+use Rattle.tdp_core.specs.SeenAnswers.{counted}
 use Rattle.tdp_core.specs.TreeData.{NodeData, parent, rows, child_count, members, group_count, node_at, row_count}
 use Rattle.tdp_core.specs.WellFormed.{IsFormed}
 use Rattle.tdp_core.proofs.TreeFacts.{group_rows_within, term_within}
@@ -73,8 +73,8 @@ module _ {R : Type 0} (d : ℕ) (key : R → KeyOf d 16) (t : List (NodeData R))
         let n : ℕ = row_count t + (calls + 1) * length t in
         let b : ℕ = bit_length n in
         let much : calls + 1 ≤ (calls + 1) * length t = product_above (calls + 1) (length t) m in
-        let w = within (calls + 1) b (omega arith) (bit_length-rises (calls + 1 + 1) n (omega (arith, much, some)))
-        (λ v g. bit_length-rises (length (members t v g) + 1) n (omega (arith, members_within formed v g, much))) (λ v r c h. few v r c) in
+        let w = within (calls + 1) b (omega arith) (bit_length_rises (calls + 1 + 1) n (omega (arith, much, some)))
+        (λ v g. bit_length_rises (length (members t v g) + 1) n (omega (arith, members_within formed v g, much))) (λ v r c h. few v r c) in
         omega (arith, w, share (subtree_size t (node_of es e)) (length t) b (subtree_within (node_of es e)))
       where
         product_above : (a k : ℕ) → 1 ≤ k → a ≤ a * k

@@ -23,20 +23,20 @@ picked_head v h q g x d xs a b = let s : cond (nat_eq v q) (cond (nat_eq h g) (x
 
 module _ {R : Type 0} where
   -- a stream has as many solutions as it owns entries
-  pub stream-length : (es : List (Linked (Found R))) (q g : ℕ) → length (stream es q g) ≡ owned (node_list es) (group_list_of es) q g
+  pub stream_length : (es : List (Linked (Found R))) (q g : ℕ) → length (stream es q g) ≡ owned (node_list es) (group_list_of es) q g
   unfolding stream owned
-  stream-length [] q g = refl
-  stream-length (e ∷ es) q g = picked_length (nat_eq e.value.node q) (nat_eq e.value.group g) e.value.solution (stream es q g) _ (stream-length es q g)
+  stream_length [] q g = refl
+  stream_length (e ∷ es) q g = picked_length (nat_eq e.value.node q) (nat_eq e.value.group g) e.value.solution (stream es q g) _ (stream_length es q g)
 
   -- an entry's solution is at the entry's place of its stream
-  pub stream-at : (es : List (Linked (Found R))) (q g i : ℕ) (e : Linked (Found R)) (a : Entry R Source) → i < length es → node_of es i ≡ q → group_of es i ≡ g
+  pub stream_at : (es : List (Linked (Found R))) (q g i : ℕ) (e : Linked (Found R)) (a : Entry R Source) → i < length es → node_of es i ≡ q → group_of es i ≡ g
       → get_or (stream es q g) (owned (take i (node_list es)) (take i (group_list_of es)) q g) a ≡ (get_or es i e).value.solution
   unfolding stream owned
-  stream-at [] q g i e a l n h = absurd (omega arith)
-  stream-at (x ∷ es) q g zero e a l n h = picked_head x.value.node x.value.group q g x.value.solution a (stream es q g) n h
-  stream-at (x ∷ es) q g (suc i) e a l n h =
+  stream_at [] q g i e a l n h = absurd (omega arith)
+  stream_at (x ∷ es) q g zero e a l n h = picked_head x.value.node x.value.group q g x.value.solution a (stream es q g) n h
+  stream_at (x ∷ es) q g (suc i) e a l n h =
       picked_at (nat_eq x.value.node q) (nat_eq x.value.group g) x.value.solution ((get_or es i e).value.solution) a (stream es q g) (owned (take i (node_list es)) (take i (group_list_of es)) q g)
-      (stream-at es q g i e a (omega arith) n h)
+      (stream_at es q g i e a (omega arith) n h)
 
-  pub entry-at : (es : List (Linked (Found R))) (i : ℕ) (e : Linked (Found R)) (a : Entry R Source) → i < length es → get_or (stream es (node_of es i) (group_of es i)) (place_of es i) a ≡ (get_or es i e).value.solution
-  entry-at es i e a l = stream-at es (node_of es i) (group_of es i) i e a l refl refl
+  pub entry_at : (es : List (Linked (Found R))) (i : ℕ) (e : Linked (Found R)) (a : Entry R Source) → i < length es → get_or (stream es (node_of es i) (group_of es i)) (place_of es i) a ≡ (get_or es i e).value.solution
+  entry_at es i e a l = stream_at es (node_of es i) (group_of es i) i e a l refl refl

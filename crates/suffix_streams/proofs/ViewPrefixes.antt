@@ -17,7 +17,7 @@ use Rattle.suffix_streams.specs.Frontiers.{AreFirst}
 use Rattle.suffix_streams.specs.StreamsData.{node_list, group_list_of, node_of, group_of, place_of, next_of, stream, IsStreams}
 use Rattle.suffix_streams.proofs.BeginOwners.{owned_within}
 use Rattle.suffix_streams.proofs.Rankings.{group_is_ranking}
-use Rattle.suffix_streams.proofs.ViewEntries.{stream-length, entry-at}
+use Rattle.suffix_streams.proofs.ViewEntries.{stream_length, entry_at}
 
 module _ {R : Type 0} (d : ℕ) (key : R → KeyOf d 16) where
   get_taken : {K : Type 0} (n i : ℕ) (ks : List K) (k : K) → i < n → get_or (take n ks) i k ≡ get_or ks i k
@@ -47,7 +47,7 @@ module _ {R : Type 0} (d : ℕ) (key : R → KeyOf d 16) where
         omega (
           arith,
           owned_within (node_list es) (group_list_of es) i (node_of es i) (group_of es i) (length-map es (λ e. e.value.node) ∙ sym (length-map es (λ e. e.value.group))) (omega (arith, l, length-map es (λ e. e.value.node))) refl refl,
-          stream-length es (node_of es i) (group_of es i),
+          stream_length es (node_of es i) (group_of es i),
         )
 
     -- the solution that an entry stands for
@@ -57,7 +57,7 @@ module _ {R : Type 0} (d : ℕ) (key : R → KeyOf d 16) where
     entry_solution i f l value =
         let o = s.owners i l in
         let x : Linked (Found R) = record { value = f; next = None } in
-        let same : get_or (stream es (node_of es i) (group_of es i)) (place_of es i) f.solution ≡ f.solution = entry-at es i x f.solution l ∙ ap (λ v. v.solution) (value x) in
+        let same : get_or (stream es (node_of es i) (group_of es i)) (place_of es i) f.solution ≡ f.solution = entry_at es i x f.solution l ∙ ap (λ v. v.solution) (value x) in
         let p = prefix_at (stream es (node_of es i) (group_of es i)) (group_list d key t (node_of es i) (group_of es i)) (place_of es i) f.solution (s.streams (node_of es i) (group_of es i) o.0 o.1).merge.prefix (place_in_stream i l) in
         (p.0, subst (λ a. key a.rank ≡ get_or (group_list d key t (node_of es i) (group_of es i)) (place_of es i) (key_none d 16)) same p.1)
 

@@ -5,7 +5,7 @@ use Rattle.take2_heap.specs.declared.entry.Entry.{Entry}
 use Rattle.tdp_model.specs.KeyTuple.{KeyOf, key_below, key_add, key_none}
 use Rattle.tdp_model.specs.Product.{Pair, pair_key, stands_for, run_key}
 use Rattle.stream_model.specs.Ahead.{IsAhead}
-use Rattle.stream_model.specs.Held.{IsHeld, places, InProduct, InRuns}
+use Rattle.stream_model.specs.QueueEntries.{IsHeld, places, InProduct, InRuns}
 use Rattle.stream_model.specs.Reaches.{reaches}
 
 -- some of the ranking's first members, by their keys

@@ -3,7 +3,7 @@ ghost use Rattle.std.specs.Prelude.{◌≡◌, ◌≢◌, ℕ, ◌+◌, ◌-◌,
 ghost use Rattle.rank_key.specs.Bits.{bit_length};
 ghost use Rattle.tdp_core.specs.TreeData.{group_count, row_count};
 ghost use Rattle.tdp_core.specs.WellFormed.{IsTieFreeTree};
-ghost use Rattle.tdp_core.specs.Seen.{rows_of_key, counted};
+ghost use Rattle.tdp_core.specs.SeenAnswers.{rows_of_key, counted};
 ghost use Rattle.suffix_streams.specs.StreamsView.{IsStreamsView, entry_node, entry_group, entry_place, entry_key, size_of_node, ArePrefixes, AreKept, IsEntry, Follows};
 ghost use Rattle.suffix_streams.specs.StreamsData.{next_of};
 

@@ -12,13 +12,13 @@ use Rattle.outer_io.specs.Files.{Files}
 use Rattle.query_shape.specs.Shape.{Shape}
 use Rattle.refusal_lines.specs.Reason.{Reason}
 use Rattle.verdict.specs.SessionCalls.{session_reach}
-use Rattle.union_list.specs.Tagged.{Tagged, branch_at}
+use Rattle.union_list.specs.TaggedRows.{Tagged, branch_at}
 use Rattle.union_list.specs.Union.{union_of}
 use Rattle.union_list.specs.UnionOutput.{union_output_of}
-use Rattle.query_bind.specs.Weighed.{BoundQuery}
+use Rattle.query_bind.specs.WeighedQuery.{BoundQuery}
 use Rattle.input_load.specs.Input.{InputData, loaded_of, queries_in}
 use Rattle.verdict.specs.Bound.{IsBounded, IsPaced, IsPrompt, IsWithin, cost_of}
-use Rattle.verdict.specs.Found.{Found, found_of, is_union, query_of, structure_of}
+use Rattle.verdict.specs.AcceptedInput.{Found, found_of, is_union, query_of, structure_of}
 use Rattle.verdict.specs.Loading.{are_several}
 use Rattle.verdict.specs.Output.{answers_text, asked_list, style_of, tagged_of}
 use Rattle.verdict.specs.Stages.{followed}
@@ -27,134 +27,134 @@ use Rattle.verdict.specs.Verdict.{IsStructured, IsVerdict}
 use Rattle.verdict.specs.Words.{Asked, Command, Words, no_command, built, run, plan, session, load, prove, verify}
 use Rattle.verdict.proofs.One.{one_verdict}
 use Rattle.verdict.proofs.Structure.{shapes_had}
-use Rattle.task_plan.specs.Planned.{ArePrepared, IsEarlyFor, IsEarlyWithin, preparation_of}
-use Rattle.task_print.proofs.Prepared.{prepared-over, union-prepared}
+use Rattle.task_plan.specs.Plans.{ArePrepared, IsEarlyFor, IsEarlyWithin, preparation_of}
+use Rattle.task_print.proofs.Prepared.{prepared_over, union_prepared}
 use Rattle.task_answer.proofs.Ends.{Accepts}
-use Rattle.task_plan.proofs.Judging.{verdict-structured}
+use Rattle.task_plan.proofs.Judging.{verdict_structured}
 
 -- known files have one verdict
-found-is : (command : Command) (files : Files) (found other : Found) → Accepts command (Some files) found
+found_is : (command : Command) (files : Files) (found other : Found) → Accepts command (Some files) found
     → IsVerdict (built command) files (Ok other) → found ≡ other
-found-is command files found other accepts verdict = let e =
+found_is command files found other accepts verdict = let e =
     one_verdict (built command) files (Ok found) (Ok other) accepts verdict in cc
 
 -- no step was taken
-within-still : (command : Command) (found : Found) (n : ℕ) → IsWithin command found n n
-within-still (run words) found n = omega arith
-within-still (plan words) found n = omega arith
-within-still (session script words) found n = omega arith
-within-still (load number rows) found n = omega arith
-within-still (prove words) found n = tt
-within-still (verify proof words) found n = tt
+within_still : (command : Command) (found : Found) (n : ℕ) → IsWithin command found n n
+within_still (run words) found n = omega arith
+within_still (plan words) found n = omega arith
+within_still (session script words) found n = omega arith
+within_still (load number rows) found n = omega arith
+within_still (prove words) found n = tt
+within_still (verify proof words) found n = tt
 
-pub bounded-still : (asked : Asked) (told : Option Files) (n : ℕ) → IsBounded asked told n n
-bounded-still no_command told n = tt
-bounded-still (built command) None n = tt
-bounded-still (built command) (Some files) n = λ found verdict. within-still command found n
+pub bounded_still : (asked : Asked) (told : Option Files) (n : ℕ) → IsBounded asked told n n
+bounded_still no_command told n = tt
+bounded_still (built command) None n = tt
+bounded_still (built command) (Some files) n = λ found verdict. within_still command found n
 
-paced-still : (command : Command) (found : Found) (old new : Option (List ℕ)) (n : ℕ)
+paced_still : (command : Command) (found : Found) (old new : Option (List ℕ)) (n : ℕ)
     → IsPaced command found old new n n
-paced-still (run words) found old new n = λ start part is_old is_new. omega arith
-paced-still (plan words) found old new n = tt
-paced-still (session script words) found old new n = tt
-paced-still (load number rows) found old new n = tt
-paced-still (prove words) found old new n = tt
-paced-still (verify proof words) found old new n = tt
+paced_still (run words) found old new n = λ start part is_old is_new. omega arith
+paced_still (plan words) found old new n = tt
+paced_still (session script words) found old new n = tt
+paced_still (load number rows) found old new n = tt
+paced_still (prove words) found old new n = tt
+paced_still (verify proof words) found old new n = tt
 
-pub prompt-still : (asked : Asked) (told : Option Files) (old new : Option (List ℕ)) (n : ℕ)
+pub prompt_still : (asked : Asked) (told : Option Files) (old new : Option (List ℕ)) (n : ℕ)
     → IsPrompt asked told old new n n
-prompt-still no_command told old new n = tt
-prompt-still (built command) None old new n = tt
-prompt-still (built command) (Some files) old new n = λ found verdict. paced-still command found old new n
+prompt_still no_command told old new n = tt
+prompt_still (built command) None old new n = tt
+prompt_still (built command) (Some files) old new n = λ found verdict. paced_still command found old new n
 
 -- the steps for the input that is accepted
-pub bounded-found : (command : Command) (told : Option Files) (found : Found) (before now : ℕ)
+pub bounded_found : (command : Command) (told : Option Files) (found : Found) (before now : ℕ)
     → Accepts command told found → IsWithin command found before now
     → IsBounded (built command) told before now
-bounded-found command None found before now accepts h = tt
-bounded-found command (Some files) found before now accepts h = λ other verdict.
-    subst (λ f. IsWithin command f before now) (found-is command files found other accepts verdict) h
+bounded_found command None found before now accepts h = tt
+bounded_found command (Some files) found before now accepts h = λ other verdict.
+    subst (λ f. IsWithin command f before now) (found_is command files found other accepts verdict) h
 
-pub prompt-found : (command : Command) (told : Option Files) (found : Found) (old new : Option (List ℕ))
+pub prompt_found : (command : Command) (told : Option Files) (found : Found) (old new : Option (List ℕ))
     (before now : ℕ) → Accepts command told found
     → IsPaced command found old new before now → IsPrompt (built command) told old new before now
-prompt-found command None found old new before now accepts h = tt
-prompt-found command (Some files) found old new before now accepts h = λ other verdict.
-    subst (λ f. IsPaced command f old new before now) (found-is command files found other accepts verdict) h
+prompt_found command None found old new before now accepts h = tt
+prompt_found command (Some files) found old new before now accepts h = λ other verdict.
+    subst (λ f. IsPaced command f old new before now) (found_is command files found other accepts verdict) h
 
 -- ---- the steps of a preparation
 
-at-most-one : (queries : List Query) (tables : List Table) → length queries ≤ 1
+at_most_one : (queries : List Query) (tables : List Table) → length queries ≤ 1
     → sum_by (preparation_of tables) queries ≤ preparation_of tables (branch_at queries 0)
-at-most-one [] tables few = omega arith
-at-most-one (query ∷ []) tables few = let sum = sum_by-cons (preparation_of tables) query [] in omega (arith, sum)
-at-most-one (query ∷ other ∷ queries) tables few = absurd (omega (arith, few))
+at_most_one [] tables few = omega arith
+at_most_one (query ∷ []) tables few = let sum = sum_by-cons (preparation_of tables) query [] in omega (arith, sum)
+at_most_one (query ∷ other ∷ queries) tables few = absurd (omega (arith, few))
 
 -- the steps of a run, whether it has several queries or not
-run-prepared : (found : Found) (list : List Tagged) (before now calls : ℕ)
+run_prepared : (found : Found) (list : List Tagged) (before now calls : ℕ)
     → HaveShapes found.tables found.queries found.shapes
     → ArePrepared found.queries found.tables before now
     → now ≤ before + (if is_union found then union_cost found.tables list 0 found.queries found.shapes else cost_of
     found calls)
-run-prepared found list before now calls have h = by (is_union found) refl
+run_prepared found list before now calls have h = by (is_union found) refl
   where
     by : (b : Bool) → is_union found ≡ b
         → now ≤ before + (if b then union_cost found.tables list 0 found.queries found.shapes else cost_of found calls)
-    by true several = let more = union-prepared found.tables list 0 found.queries found.shapes have in
+    by true several = let more = union_prepared found.tables list 0 found.queries found.shapes have in
         omega (arith, h, more)
     by false one =
         let few = ltb-false 1 (length found.queries) one in
-        let own = at-most-one found.queries found.tables (omega (arith, few)) in
-        prepared-over (query_of found) found.tables (structure_of found) before now calls (omega (arith, h, own))
+        let own = at_most_one found.queries found.tables (omega (arith, few)) in
+        prepared_over (query_of found) found.tables (structure_of found) before now calls (omega (arith, h, own))
 
-within-prepared : (command : Command) (found : Found) (before now : ℕ)
+within_prepared : (command : Command) (found : Found) (before now : ℕ)
     → HaveShapes found.tables found.queries found.shapes → IsEarlyFor command found before now
     → IsWithin command found before now
-within-prepared (run words) found before now have h = run-prepared found (tagged_of found) before now _ have h
-within-prepared (plan words) found before now have h =
-    prepared-over (query_of found) found.tables (structure_of found) before now 0 h
-within-prepared (session script words) found before now have h =
-    let least = prepared-over (query_of found) found.tables (structure_of found) before now
+within_prepared (run words) found before now have h = run_prepared found (tagged_of found) before now _ have h
+within_prepared (plan words) found before now have h =
+    prepared_over (query_of found) found.tables (structure_of found) before now 0 h
+within_prepared (session script words) found before now have h =
+    let least = prepared_over (query_of found) found.tables (structure_of found) before now
     (session_reach (query_of found).limit (asked_list found) found.steps) h in
     omega (arith, least)
-within-prepared (load number rows) found before now have h =
-    prepared-over (query_of found) found.tables (structure_of found) before now _ h
-within-prepared (prove words) found before now have h = tt
-within-prepared (verify proof words) found before now have h = tt
+within_prepared (load number rows) found before now have h =
+    prepared_over (query_of found) found.tables (structure_of found) before now _ h
+within_prepared (prove words) found before now have h = tt
+within_prepared (verify proof words) found before now have h = tt
 
-paced-prepared : (command : Command) (found : Found) (old new : Option (List ℕ)) (before now : ℕ)
+paced_prepared : (command : Command) (found : Found) (old new : Option (List ℕ)) (before now : ℕ)
     → HaveShapes found.tables found.queries found.shapes
     → IsEarlyFor command found before now → IsPaced command found old new before now
-paced-prepared (run words) found old new before now have h =
-    λ start part is_old is_new. run-prepared found _ before now _ have h
-paced-prepared (plan words) found old new before now have h = tt
-paced-prepared (session script words) found old new before now have h = tt
-paced-prepared (load number rows) found old new before now have h = tt
-paced-prepared (prove words) found old new before now have h = tt
-paced-prepared (verify proof words) found old new before now have h = tt
+paced_prepared (run words) found old new before now have h =
+    λ start part is_old is_new. run_prepared found _ before now _ have h
+paced_prepared (plan words) found old new before now have h = tt
+paced_prepared (session script words) found old new before now have h = tt
+paced_prepared (load number rows) found old new before now have h = tt
+paced_prepared (prove words) found old new before now have h = tt
+paced_prepared (verify proof words) found old new before now have h = tt
 
-same-found : {a b : Found} → ◌≡◌ {A = Result Found Reason} (Ok a) (Ok b) → a ≡ b
-same-found e = cc
+same_found : {a b : Found} → ◌≡◌ {A = Result Found Reason} (Ok a) (Ok b) → a ≡ b
+same_found e = cc
 
 -- what is accepted has a structure for each query
-found-shaped : (asked : Asked) (files : Files) (found : Found) → IsStructured asked files (Ok found)
+found_shaped : (asked : Asked) (files : Files) (found : Found) → IsStructured asked files (Ok found)
     → HaveShapes found.tables found.queries found.shapes
-found-shaped asked files found (followed {a = loaded} loads (followed {a = shapes} are same)) =
-    subst (λ (f : Found). HaveShapes f.tables f.queries f.shapes) (sym (same-found same))
+found_shaped asked files found (followed {a = loaded} loads (followed {a = shapes} are same)) =
+    subst (λ (f : Found). HaveShapes f.tables f.queries f.shapes) (sym (same_found same))
     (shapes_had (are_several loaded.queries) 1 loaded.tables loaded.queries shapes are)
 
-pub bounded-early : (command : Command) (told : Option Files) (before now : ℕ) → IsEarlyWithin command told before now
+pub bounded_early : (command : Command) (told : Option Files) (before now : ℕ) → IsEarlyWithin command told before now
     → IsBounded (built command) told before now
-bounded-early command None before now h = tt
-bounded-early command (Some files) before now h = λ found verdict.
-    within-prepared command found before now (found-shaped (built command) files found (verdict-structured command files found verdict)) (h found verdict)
+bounded_early command None before now h = tt
+bounded_early command (Some files) before now h = λ found verdict.
+    within_prepared command found before now (found_shaped (built command) files found (verdict_structured command files found verdict)) (h found verdict)
 
-pub prompt-early : (command : Command) (told : Option Files) (old new : Option (List ℕ)) (before now : ℕ)
+pub prompt_early : (command : Command) (told : Option Files) (old new : Option (List ℕ)) (before now : ℕ)
     → IsEarlyWithin command told before now
     → IsPrompt (built command) told old new before now
-prompt-early command None old new before now h = tt
-prompt-early command (Some files) old new before now h = λ found verdict.
-    paced-prepared command found old new before now (found-shaped (built command) files found (verdict-structured command files found verdict)) (h found verdict)
+prompt_early command None old new before now h = tt
+prompt_early command (Some files) old new before now h = λ found verdict.
+    paced_prepared command found old new before now (found_shaped (built command) files found (verdict_structured command files found verdict)) (h found verdict)
 
 -- # Several queries
 
@@ -162,36 +162,36 @@ chosen : {A : Type 0} (b : Bool) (x y : A) → b ≡ true → (if b then x else 
 chosen true x y e = refl
 chosen false x y e = absurd (false≢true e)
 
-are-union : (input : InputData) (shapes : List Shape) → 1 < length input.queries
+are_union : (input : InputData) (shapes : List Shape) → 1 < length input.queries
     → is_union (found_of (loaded_of input) shapes) ≡ true
-are-union input shapes more =
+are_union input shapes more =
     let count = length-map input.queries (λ (q : BoundQuery). q.query) in
     lt-ltb 1 (length (queries_in input.queries)) (omega (arith, count, more))
 
-pub several-output : (words : Words) (input : InputData) (shapes : List Shape) → 1 < length input.queries
+pub several_output : (words : Words) (input : InputData) (shapes : List Shape) → 1 < length input.queries
     → answers_text words (found_of (loaded_of input) shapes)
     ≡ union_output_of (queries_in input.queries) input.tables (style_of words)
     (cut (branch_at (queries_in input.queries) 0).limit (union_of (queries_in input.queries) input.tables))
-several-output words input shapes more =
-    chosen (is_union (found_of (loaded_of input) shapes)) _ _ (are-union input shapes more)
+several_output words input shapes more =
+    chosen (is_union (found_of (loaded_of input) shapes)) _ _ (are_union input shapes more)
 
-pub several-within : (words : Words) (input : InputData) (shapes : List Shape) (before now : ℕ)
+pub several_within : (words : Words) (input : InputData) (shapes : List Shape) (before now : ℕ)
     → 1 < length input.queries
     → now ≤ before + union_cost input.tables (tagged_of (found_of (loaded_of input) shapes)) 0
     (queries_in input.queries) shapes
     → IsWithin (run words) (found_of (loaded_of input) shapes) before now
-several-within words input shapes before now more h =
+several_within words input shapes before now more h =
     subst (λ (most : ℕ). now ≤ before + most)
-    (sym (chosen (is_union (found_of (loaded_of input) shapes)) _ _ (are-union input shapes more))) h
+    (sym (chosen (is_union (found_of (loaded_of input) shapes)) _ _ (are_union input shapes more))) h
 
-pub several-paced : (words : Words) (input : InputData) (shapes : List Shape) (old new : Option (List ℕ))
+pub several_paced : (words : Words) (input : InputData) (shapes : List Shape) (old new : Option (List ℕ))
     (before now : ℕ) → 1 < length input.queries
     → ((start part : List ℕ) → old ≡ Some start → new ≡ Some (start ++ part) → now ≤ before + union_cost input.tables
     (take (union_records (queries_in input.queries) input.tables (tagged_of (found_of (loaded_of input) shapes))
     (style_of words) part + 1)
     (tagged_of (found_of (loaded_of input) shapes))) 0 (queries_in input.queries) shapes)
     → IsPaced (run words) (found_of (loaded_of input) shapes) old new before now
-several-paced words input shapes old new before now more h = λ start part is_old is_new.
+several_paced words input shapes old new before now more h = λ start part is_old is_new.
     subst (λ (most : ℕ). now ≤ before + most)
-    (sym (chosen (is_union (found_of (loaded_of input) shapes)) _ _ (are-union input shapes more)))
+    (sym (chosen (is_union (found_of (loaded_of input) shapes)) _ _ (are_union input shapes more)))
     (h start part is_old is_new)

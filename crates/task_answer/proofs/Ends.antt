@@ -7,42 +7,42 @@ use Rattle.rankings.specs.Order.{IsMember}
 use Rattle.refusal_lines.specs.declared.refusal.Refusal.{Refusal}
 use Rattle.refusal_lines.specs.Reason as reason
 use Rattle.refusal_lines.specs.Reason.{Reason}
-use Rattle.refusal_lines.specs.Refused.{reason_of}
+use Rattle.refusal_lines.specs.RefusalReasons.{reason_of}
 use Rattle.refusal_lines.specs.SinkState.{SinkState}
 use Rattle.input_load.specs.Turns.{IsTurn as IsLoadTurn}
-use Rattle.verdict.specs.Found.{Found}
+use Rattle.verdict.specs.AcceptedInput.{Found}
 use Rattle.verdict.specs.Loading.{all_items, files_read, first_uses, unknown_table}
 use Rattle.verdict.specs.Outcome.{GotAccepted, GotNothing, IsReason, IsCaused, IsComplete, IsCut, IsTurn, IsTurnOf, Outside, query_turn, aside_turn, table_turn}
-use Rattle.verdict.specs.Made.{known_to}
+use Rattle.verdict.specs.MadeFiles.{known_to}
 use Rattle.verdict.specs.Output.{HasOutput}
-use Rattle.verdict.specs.Staged.{Fits, Pure, Shelved, Staged, first_turn, second_turn}
+use Rattle.verdict.specs.StageResults.{Fits, Pure, Shelved, Staged, first_turn, second_turn}
 use Rattle.verdict.specs.Stages.{unless}
 use Rattle.verdict.specs.Verdict.{IsVerdict}
 use Rattle.verdict.specs.Words.{Asked, Command, Sought, built, run, plan, session, load, prove, verify, sought_by}
-use Rattle.task_plan.specs.Judged.{IsJudged}
-use Rattle.refusal_lines.specs.Printed.{GotBeginning, IsBroken, IsPrintCause}
+use Rattle.task_plan.specs.Judgement.{IsJudged}
+use Rattle.refusal_lines.specs.Printing.{GotBeginning, IsBroken, IsPrintCause}
 
 -- ---- how reading and planning the input end
 
-unless-ok : {A : Type 0} (o : Option Reason) (a k : A) → Ok k ≡ unless o a → (o ≡ None) × (k ≡ a)
-unless-ok None a k e = (refl, cc)
-unless-ok (Some reason) a k e = cc
+unless_ok : {A : Type 0} (o : Option Reason) (a k : A) → Ok k ≡ unless o a → (o ≡ None) × (k ≡ a)
+unless_ok None a k e = (refl, cc)
+unless_ok (Some reason) a k e = cc
 
 -- a file that a stage reads is one that is read for this input
-turn-of : (sought : Sought) (files : Files) (name : List ℕ) → IsLoadTurn sought files name → IsTurnOf sought files name
-turn-of sought files name (first_turn is) = query_turn is
-turn-of sought files name (second_turn read (first_turn no_turn)) = absurd no_turn
-turn-of sought files name (second_turn read (second_turn {a = selects} parsed (first_turn is))) = aside_turn selects (sym read) parsed is
-turn-of sought files name (second_turn read (second_turn parsed (second_turn said (first_turn no_turn)))) = absurd no_turn
-turn-of sought files name (second_turn read (second_turn {a = selects} parsed (second_turn said (second_turn {a = known} all_known (first_turn member))))) =
-    let h = unless-ok (unknown_table sought.named (all_items selects)) selects known all_known in
+turn_of : (sought : Sought) (files : Files) (name : List ℕ) → IsLoadTurn sought files name → IsTurnOf sought files name
+turn_of sought files name (first_turn is) = query_turn is
+turn_of sought files name (second_turn read (first_turn no_turn)) = absurd no_turn
+turn_of sought files name (second_turn read (second_turn {a = selects} parsed (first_turn is))) = aside_turn selects (sym read) parsed is
+turn_of sought files name (second_turn read (second_turn parsed (second_turn said (first_turn no_turn)))) = absurd no_turn
+turn_of sought files name (second_turn read (second_turn {a = selects} parsed (second_turn said (second_turn {a = known} all_known (first_turn member))))) =
+    let h = unless_ok (unknown_table sought.named (all_items selects)) selects known all_known in
     let P : List Select → Type 0 = λ s. IsMember name (files_read files sought.named (first_uses (all_items s))) in
     table_turn selects (sym read) parsed (sym said) h.0 (subst P h.1 member)
-turn-of sought files name (second_turn read (second_turn parsed (second_turn said (second_turn known (second_turn tables no_turn))))) = absurd no_turn
+turn_of sought files name (second_turn read (second_turn parsed (second_turn said (second_turn known (second_turn tables no_turn))))) = absurd no_turn
 
-turn-told : (sought : Sought) (told : Option Files) (name : List ℕ) → IfSome told (λ files. IsLoadTurn sought files name) → IfSome told (λ files. IsTurnOf sought files name)
-turn-told sought None name h = tt
-turn-told sought (Some files) name h = turn-of sought files name h
+turn_told : (sought : Sought) (told : Option Files) (name : List ℕ) → IfSome told (λ files. IsLoadTurn sought files name) → IfSome told (λ files. IsTurnOf sought files name)
+turn_told sought None name h = tt
+turn_told sought (Some files) name h = turn_of sought files name h
 
 -- if the files are known, this is the verdict
 abbrev pub Accepts : Command → Option Files → Found → Type 0
@@ -51,164 +51,164 @@ Accepts command told found = IfSome told (λ files. IsVerdict (built command) fi
 abbrev Refuses : Command → Option Files → Reason → Type 0
 Refuses command told a = IfSome told (λ files. IsVerdict (built command) files (Err a))
 
-pub judged-accepts : (command : Command) (old new : Shelved) (found : Found) → IsJudged command old new (Ok found)
+pub judged_accepts : (command : Command) (old new : Shelved) (found : Found) → IsJudged command old new (Ok found)
     → Accepts command (known_to (built command) old.files) found
-judged-accepts (run words) old new found h = h.fits
-judged-accepts (plan words) old new found h = h.fits
-judged-accepts (session script words) old new found h = h.fits
-judged-accepts (prove words) old new found h = h.fits
-judged-accepts (verify proof words) old new found h = h.fits
-judged-accepts (load number rows) old new found h = h.0
+judged_accepts (run words) old new found h = h.fits
+judged_accepts (plan words) old new found h = h.fits
+judged_accepts (session script words) old new found h = h.fits
+judged_accepts (prove words) old new found h = h.fits
+judged_accepts (verify proof words) old new found h = h.fits
+judged_accepts (load number rows) old new found h = h.0
 
 -- a refusal that does not speak of the outside is the verdict
-fits-reason : (asked : Asked) (G : Files → Result Found Reason → Type 0) (T : Files → List ℕ → Type 0) (told : Option Files) (a : Reason)
+fits_reason : (asked : Asked) (G : Files → Result Found Reason → Type 0) (T : Files → List ℕ → Type 0) (told : Option Files) (a : Reason)
     → (IfSome told (λ files. G files (Err a)) → IfSome told (λ files. IsVerdict asked files (Err a)))
     → ((name : List ℕ) → IfSome told (λ files. T files name) → IsTurn asked told name) → Fits G T told (Err a) → IsReason asked told a
-fits-reason asked G T told reason.Usage gives turns h = absurd h
-fits-reason asked G T told (reason.ReadFault name) gives turns h = turns name h
-fits-reason asked G T told reason.WriteFault gives turns h = absurd h
-fits-reason asked G T told reason.NoMemory gives turns h = tt
-fits-reason asked G T told a gives turns h = gives h
+fits_reason asked G T told reason.Usage gives turns h = absurd h
+fits_reason asked G T told (reason.ReadFault name) gives turns h = turns name h
+fits_reason asked G T told reason.WriteFault gives turns h = absurd h
+fits_reason asked G T told reason.NoMemory gives turns h = tt
+fits_reason asked G T told a gives turns h = gives h
 
-pure-reason : (asked : Asked) (G : Result Found Reason → Type 0) (told : Option Files) (a : Reason)
+pure_reason : (asked : Asked) (G : Result Found Reason → Type 0) (told : Option Files) (a : Reason)
     → (G (Err a) → IfSome told (λ files. IsVerdict asked files (Err a))) → Pure G (Err a) → IsReason asked told a
-pure-reason asked G told reason.Usage gives h = absurd h
-pure-reason asked G told (reason.NoFile name) gives h = absurd h
-pure-reason asked G told (reason.ReadFault name) gives h = absurd h
-pure-reason asked G told (reason.TooLarge name) gives h = absurd h
-pure-reason asked G told reason.WriteFault gives h = absurd h
-pure-reason asked G told reason.NoMemory gives h = tt
-pure-reason asked G told a gives h = gives h
+pure_reason asked G told reason.Usage gives h = absurd h
+pure_reason asked G told (reason.NoFile name) gives h = absurd h
+pure_reason asked G told (reason.ReadFault name) gives h = absurd h
+pure_reason asked G told (reason.TooLarge name) gives h = absurd h
+pure_reason asked G told reason.WriteFault gives h = absurd h
+pure_reason asked G told reason.NoMemory gives h = tt
+pure_reason asked G told a gives h = gives h
 
-staged-reason : (command : Command) (told : Option Files) (a : Reason)
+staged_reason : (command : Command) (told : Option Files) (a : Reason)
     → ((name : List ℕ) → IfSome told (λ files. IsTurnOf (sought_by command) files name) → IsTurn (built command) told name)
     → Fits (IsVerdict (built command)) (IsLoadTurn (sought_by command)) told (Err a) → IsReason (built command) told a
-staged-reason command told a turns h =
-    fits-reason (built command) (IsVerdict (built command)) (IsLoadTurn (sought_by command)) told a (λ g. g)
-    (λ name turn. turns name (turn-told (sought_by command) told name turn)) h
+staged_reason command told a turns h =
+    fits_reason (built command) (IsVerdict (built command)) (IsLoadTurn (sought_by command)) told a (λ g. g)
+    (λ name turn. turns name (turn_told (sought_by command) told name turn)) h
 
-pub judged-reason : (command : Command) (old new : Shelved) (a : Reason) → IsJudged command old new (Err a)
+pub judged_reason : (command : Command) (old new : Shelved) (a : Reason) → IsJudged command old new (Err a)
     → IsReason (built command) (known_to (built command) old.files) a
-judged-reason (run words) old new a h = staged-reason (run words) old.files a (λ name turn. turn) h.fits
-judged-reason (plan words) old new a h = staged-reason (plan words) old.files a (λ name turn. turn) h.fits
-judged-reason (session script words) old new a h = staged-reason (session script words) old.files a (λ name turn. turn) h.fits
-judged-reason (prove words) old new a h = staged-reason (prove words) old.files a (λ name turn. turn) h.fits
-judged-reason (verify proof words) old new a h = staged-reason (verify proof words) old.files a (λ name turn. turn) h.fits
-judged-reason (load number rows) old new a h =
-    pure-reason (built (load number rows)) (IsVerdict (built (load number rows)) []) (Some []) a (λ g. g) h.0
+judged_reason (run words) old new a h = staged_reason (run words) old.files a (λ name turn. turn) h.fits
+judged_reason (plan words) old new a h = staged_reason (plan words) old.files a (λ name turn. turn) h.fits
+judged_reason (session script words) old new a h = staged_reason (session script words) old.files a (λ name turn. turn) h.fits
+judged_reason (prove words) old new a h = staged_reason (prove words) old.files a (λ name turn. turn) h.fits
+judged_reason (verify proof words) old new a h = staged_reason (verify proof words) old.files a (λ name turn. turn) h.fits
+judged_reason (load number rows) old new a h =
+    pure_reason (built (load number rows)) (IsVerdict (built (load number rows)) []) (Some []) a (λ g. g) h.0
 
 -- the counts of the shelf, as the outside has them
 abbrev shelf_of : Option Files → Outside → Shelved
 shelf_of files outside =
     record { files = files; misses = outside.misses; faults = outside.read_faults; taken = outside.taken }
 
-staged-caused : (G : Files → Result Found Reason → Type 0) (T : Files → List ℕ → Type 0) (old new : Outside) (files files' : Option Files) (a : Reason)
+staged_caused : (G : Files → Result Found Reason → Type 0) (T : Files → List ℕ → Type 0) (old new : Outside) (files files' : Option Files) (a : Reason)
     → Staged G T (shelf_of files old) (shelf_of files' new) (Err a) → IsCaused old new a
-staged-caused G T old new files files' reason.WriteFault h = absurd h.fits
-staged-caused G T old new files files' (reason.NoFile name) h = h.caused
-staged-caused G T old new files files' (reason.ReadFault name) h = h.caused
-staged-caused G T old new files files' (reason.TooLarge name) h = h.caused
-staged-caused G T old new files files' a h = tt
+staged_caused G T old new files files' reason.WriteFault h = absurd h.fits
+staged_caused G T old new files files' (reason.NoFile name) h = h.caused
+staged_caused G T old new files files' (reason.ReadFault name) h = h.caused
+staged_caused G T old new files files' (reason.TooLarge name) h = h.caused
+staged_caused G T old new files files' a h = tt
 
-pure-caused : (G : Result Found Reason → Type 0) (old new : Outside) (a : Reason) → Pure G (Err a) → IsCaused old new a
-pure-caused G old new reason.WriteFault h = absurd h
-pure-caused G old new (reason.NoFile name) h = absurd h
-pure-caused G old new (reason.ReadFault name) h = absurd h
-pure-caused G old new (reason.TooLarge name) h = absurd h
-pure-caused G old new a h = tt
+pure_caused : (G : Result Found Reason → Type 0) (old new : Outside) (a : Reason) → Pure G (Err a) → IsCaused old new a
+pure_caused G old new reason.WriteFault h = absurd h
+pure_caused G old new (reason.NoFile name) h = absurd h
+pure_caused G old new (reason.ReadFault name) h = absurd h
+pure_caused G old new (reason.TooLarge name) h = absurd h
+pure_caused G old new a h = tt
 
-pub judged-caused : (command : Command) (old new : Outside) (files files' : Option Files) (a : Reason) → IsJudged command (shelf_of files old) (shelf_of files' new) (Err a) → IsCaused old new a
-judged-caused (run words) old new files files' a h =
-    staged-caused (IsVerdict (built (run words))) (IsLoadTurn (sought_by (run words))) old new files files' a h
-judged-caused (plan words) old new files files' a h =
-    staged-caused (IsVerdict (built (plan words))) (IsLoadTurn (sought_by (plan words))) old new files files' a h
-judged-caused (session script words) old new files files' a h =
-    staged-caused (IsVerdict (built (session script words))) (IsLoadTurn (sought_by (session script words))) old new files files' a h
-judged-caused (prove words) old new files files' a h =
-    staged-caused (IsVerdict (built (prove words))) (IsLoadTurn (sought_by (prove words))) old new files files' a h
-judged-caused (verify proof words) old new files files' a h =
-    staged-caused (IsVerdict (built (verify proof words))) (IsLoadTurn (sought_by (verify proof words))) old new files files' a h
-judged-caused (load number rows) old new files files' a h =
-    pure-caused (IsVerdict (built (load number rows)) []) old new a h.0
+pub judged_caused : (command : Command) (old new : Outside) (files files' : Option Files) (a : Reason) → IsJudged command (shelf_of files old) (shelf_of files' new) (Err a) → IsCaused old new a
+judged_caused (run words) old new files files' a h =
+    staged_caused (IsVerdict (built (run words))) (IsLoadTurn (sought_by (run words))) old new files files' a h
+judged_caused (plan words) old new files files' a h =
+    staged_caused (IsVerdict (built (plan words))) (IsLoadTurn (sought_by (plan words))) old new files files' a h
+judged_caused (session script words) old new files files' a h =
+    staged_caused (IsVerdict (built (session script words))) (IsLoadTurn (sought_by (session script words))) old new files files' a h
+judged_caused (prove words) old new files files' a h =
+    staged_caused (IsVerdict (built (prove words))) (IsLoadTurn (sought_by (prove words))) old new files files' a h
+judged_caused (verify proof words) old new files files' a h =
+    staged_caused (IsVerdict (built (verify proof words))) (IsLoadTurn (sought_by (verify proof words))) old new files files' a h
+judged_caused (load number rows) old new files files' a h =
+    pure_caused (IsVerdict (built (load number rows)) []) old new a h.0
 
 -- nothing was written
-fits-cut : (asked : Asked) (G : Files → Result Found Reason → Type 0) (T : Files → List ℕ → Type 0) (told : Option Files) (old new : Outside) (a : Reason)
+fits_cut : (asked : Asked) (G : Files → Result Found Reason → Type 0) (T : Files → List ℕ → Type 0) (told : Option Files) (old new : Outside) (a : Reason)
     → Fits G T told (Err a) → GotNothing old new → IsCut asked told old new a
-fits-cut asked G T told old new reason.WriteFault h nothing = absurd h
-fits-cut asked G T told old new reason.NoMemory h nothing = inl nothing
-fits-cut asked G T told old new a h nothing = nothing
+fits_cut asked G T told old new reason.WriteFault h nothing = absurd h
+fits_cut asked G T told old new reason.NoMemory h nothing = inl nothing
+fits_cut asked G T told old new a h nothing = nothing
 
-pure-cut : (asked : Asked) (G : Result Found Reason → Type 0) (told : Option Files) (old new : Outside) (a : Reason) → Pure G (Err a) → GotNothing old new → IsCut asked told old new a
-pure-cut asked G told old new reason.WriteFault h nothing = absurd h
-pure-cut asked G told old new reason.NoMemory h nothing = inl nothing
-pure-cut asked G told old new a h nothing = nothing
+pure_cut : (asked : Asked) (G : Result Found Reason → Type 0) (told : Option Files) (old new : Outside) (a : Reason) → Pure G (Err a) → GotNothing old new → IsCut asked told old new a
+pure_cut asked G told old new reason.WriteFault h nothing = absurd h
+pure_cut asked G told old new reason.NoMemory h nothing = inl nothing
+pure_cut asked G told old new a h nothing = nothing
 
-pub judged-cut : (command : Command) (s t : Shelved) (old new : Outside) (a : Reason) → IsJudged command s t (Err a) → GotNothing old new
+pub judged_cut : (command : Command) (s t : Shelved) (old new : Outside) (a : Reason) → IsJudged command s t (Err a) → GotNothing old new
     → IsCut (built command) (known_to (built command) s.files) old new a
-judged-cut (run words) s t old new a h =
-    fits-cut (built (run words)) (IsVerdict (built (run words))) (IsLoadTurn (sought_by (run words))) s.files old new a h.fits
-judged-cut (plan words) s t old new a h =
-    fits-cut (built (plan words)) (IsVerdict (built (plan words))) (IsLoadTurn (sought_by (plan words))) s.files old new a h.fits
-judged-cut (session script words) s t old new a h =
-    fits-cut (built (session script words)) (IsVerdict (built (session script words))) (IsLoadTurn (sought_by (session script words))) s.files old new a h.fits
-judged-cut (prove words) s t old new a h =
-    fits-cut (built (prove words)) (IsVerdict (built (prove words))) (IsLoadTurn (sought_by (prove words))) s.files old new a h.fits
-judged-cut (verify proof words) s t old new a h =
-    fits-cut (built (verify proof words)) (IsVerdict (built (verify proof words))) (IsLoadTurn (sought_by (verify proof words))) s.files old new a h.fits
-judged-cut (load number rows) s t old new a h =
-    pure-cut (built (load number rows)) (IsVerdict (built (load number rows)) []) (Some []) old new a h.0
+judged_cut (run words) s t old new a h =
+    fits_cut (built (run words)) (IsVerdict (built (run words))) (IsLoadTurn (sought_by (run words))) s.files old new a h.fits
+judged_cut (plan words) s t old new a h =
+    fits_cut (built (plan words)) (IsVerdict (built (plan words))) (IsLoadTurn (sought_by (plan words))) s.files old new a h.fits
+judged_cut (session script words) s t old new a h =
+    fits_cut (built (session script words)) (IsVerdict (built (session script words))) (IsLoadTurn (sought_by (session script words))) s.files old new a h.fits
+judged_cut (prove words) s t old new a h =
+    fits_cut (built (prove words)) (IsVerdict (built (prove words))) (IsLoadTurn (sought_by (prove words))) s.files old new a h.fits
+judged_cut (verify proof words) s t old new a h =
+    fits_cut (built (verify proof words)) (IsVerdict (built (verify proof words))) (IsLoadTurn (sought_by (verify proof words))) s.files old new a h.fits
+judged_cut (load number rows) s t old new a h =
+    pure_cut (built (load number rows)) (IsVerdict (built (load number rows)) []) (Some []) old new a h.0
 
 -- ---- how printing ends
 
 -- the whole output was printed
-pub printed-complete : (command : Command) (told : Option Files) (old new : Outside) (found : Found) (r : Result (Unit {0}) Refusal) → Accepts command told found
+pub printed_complete : (command : Command) (told : Option Files) (old new : Outside) (found : Found) (r : Result (Unit {0}) Refusal) → Accepts command told found
     → OnOk r ((text : List ℕ) × HasOutput command found text × Appends old.output new.output text) → OnOk r (IsComplete (built command) told old new)
-printed-complete command None old new found (Ok done) accepts whole = tt
-printed-complete command (Some files) old new found (Ok done) accepts (text, is_output, whole) = (found, accepts, text, is_output, whole)
-printed-complete command told old new found (Err e) accepts whole = tt
+printed_complete command None old new found (Ok done) accepts whole = tt
+printed_complete command (Some files) old new found (Ok done) accepts (text, is_output, whole) = (found, accepts, text, is_output, whole)
+printed_complete command told old new found (Err e) accepts whole = tt
 
-reason-fits : (command : Command) (told : Option Files) (before now : ℕ) (found : Found) (a : Reason) → Accepts command told found → IsPrintCause before now a
+reason_fits : (command : Command) (told : Option Files) (before now : ℕ) (found : Found) (a : Reason) → Accepts command told found → IsPrintCause before now a
     → IsReason (built command) told a
-reason-fits command None before now found reason.WriteFault accepts cause = tt
-reason-fits command (Some files) before now found reason.WriteFault accepts cause = (found, accepts)
-reason-fits command told before now found reason.NoMemory accepts cause = tt
-reason-fits command told before now found a accepts cause = absurd cause
+reason_fits command None before now found reason.WriteFault accepts cause = tt
+reason_fits command (Some files) before now found reason.WriteFault accepts cause = (found, accepts)
+reason_fits command told before now found reason.NoMemory accepts cause = tt
+reason_fits command told before now found a accepts cause = absurd cause
 
-reason-caused : (old new : Outside) (a : Reason) → IsPrintCause old.write_faults new.write_faults a → IsCaused old new a
-reason-caused old new reason.WriteFault cause = cause
-reason-caused old new reason.NoMemory cause = tt
-reason-caused old new a cause = absurd cause
+reason_caused : (old new : Outside) (a : Reason) → IsPrintCause old.write_faults new.write_faults a → IsCaused old new a
+reason_caused old new reason.WriteFault cause = cause
+reason_caused old new reason.NoMemory cause = tt
+reason_caused old new a cause = absurd cause
 
 -- the sink for the output
 abbrev output_of : Outside → SinkState
 output_of outside = record { written = outside.output; faults = outside.write_faults }
 
-got-accepted : (command : Command) (told : Option Files) (old new : Outside) (found : Found) → Accepts command told found
+got_accepted : (command : Command) (told : Option Files) (old new : Outside) (found : Found) → Accepts command told found
     → GotBeginning (HasOutput command found) (output_of old) (output_of new) → GotAccepted (built command) told old new
-got-accepted command None old new found accepts got = tt
-got-accepted command (Some files) old new found accepts (text, is_output, prefix) = (found, accepts, text, is_output, prefix)
+got_accepted command None old new found accepts got = tt
+got_accepted command (Some files) old new found accepts (text, is_output, prefix) = (found, accepts, text, is_output, prefix)
 
-reason-cut : (command : Command) (told : Option Files) (old new : Outside) (found : Found) (a : Reason) → Accepts command told found
+reason_cut : (command : Command) (told : Option Files) (old new : Outside) (found : Found) (a : Reason) → Accepts command told found
     → IsPrintCause old.write_faults new.write_faults a → IsBroken (HasOutput command found) (output_of old) (output_of new) a
     → IsCut (built command) told old new a
-reason-cut command told old new found reason.WriteFault accepts cause got = got-accepted command told old new found accepts got
-reason-cut command told old new found reason.NoMemory accepts cause (inl nothing) = inl nothing
-reason-cut command told old new found reason.NoMemory accepts cause (inr got) = inr (got-accepted command told old new found accepts got)
-reason-cut command told old new found a accepts cause got = absurd cause
+reason_cut command told old new found reason.WriteFault accepts cause got = got_accepted command told old new found accepts got
+reason_cut command told old new found reason.NoMemory accepts cause (inl nothing) = inl nothing
+reason_cut command told old new found reason.NoMemory accepts cause (inr got) = inr (got_accepted command told old new found accepts got)
+reason_cut command told old new found a accepts cause got = absurd cause
 
 module _ (command : Command) (told : Option Files) (old new : Outside) (found : Found) (accepts : Accepts command told found) where
-  pub printed-fits : (r : Result (Unit {0}) Refusal) → IfErr r (λ refusal. IsPrintCause old.write_faults new.write_faults (reason_of refusal))
+  pub printed_fits : (r : Result (Unit {0}) Refusal) → IfErr r (λ refusal. IsPrintCause old.write_faults new.write_faults (reason_of refusal))
       → IfErr r (λ refusal. IsReason (built command) told (reason_of refusal))
-  printed-fits (Ok done) cause = tt
-  printed-fits (Err e) cause = reason-fits command told old.write_faults new.write_faults found (reason_of e) accepts cause
+  printed_fits (Ok done) cause = tt
+  printed_fits (Err e) cause = reason_fits command told old.write_faults new.write_faults found (reason_of e) accepts cause
 
-  pub printed-caused : (r : Result (Unit {0}) Refusal) → IfErr r (λ refusal. IsPrintCause old.write_faults new.write_faults (reason_of refusal))
+  pub printed_caused : (r : Result (Unit {0}) Refusal) → IfErr r (λ refusal. IsPrintCause old.write_faults new.write_faults (reason_of refusal))
       → IfErr r (λ refusal. IsCaused old new (reason_of refusal))
-  printed-caused (Ok done) cause = tt
-  printed-caused (Err e) cause = reason-caused old new (reason_of e) cause
+  printed_caused (Ok done) cause = tt
+  printed_caused (Err e) cause = reason_caused old new (reason_of e) cause
 
-  pub printed-cut : (r : Result (Unit {0}) Refusal) → IfErr r (λ refusal. IsPrintCause old.write_faults new.write_faults (reason_of refusal))
+  pub printed_cut : (r : Result (Unit {0}) Refusal) → IfErr r (λ refusal. IsPrintCause old.write_faults new.write_faults (reason_of refusal))
       → IfErr r (λ refusal. IsBroken (HasOutput command found) (output_of old) (output_of new) (reason_of refusal))
       → IfErr r (λ refusal. IsCut (built command) told old new (reason_of refusal))
-  printed-cut (Ok done) cause part = tt
-  printed-cut (Err e) cause part = reason-cut command told old new found (reason_of e) accepts cause part
+  printed_cut (Ok done) cause part = tt
+  printed_cut (Err e) cause part = reason_cut command told old new found (reason_of e) accepts cause part

@@ -3,8 +3,8 @@ ghost use Rattle.std.specs.Prelude.{None, List};
 ghost use Rattle.anyk_model.specs.Table.{Table};
 ghost use Rattle.plan_build.specs.Plan.{IsPlan};
 ghost use Rattle.proof_model.specs.ProofTexts.{IsProofText};
-ghost use Rattle.query_bind.specs.Weighed.{Fits};
-ghost use Rattle.refusal_lines.specs.Printed.{PrintedSome};
+ghost use Rattle.query_bind.specs.WeighedQuery.{Fits};
+ghost use Rattle.refusal_lines.specs.Printing.{PrintedSome};
 ghost use Rattle.refusal_lines.specs.SinkState.{state_of};
 
 use bumpalo::Bump;

@@ -1,5 +1,5 @@
 -- An input, as contracts see it, from its parts.
-use Rattle.proof_text.specs.Seen.{seen_proof}
+use Rattle.proof_text.specs.ProofView.{seen_proof}
 use Rattle.input_load.specs.Input.{InputData}
 use Rattle.input_load.specs.declared.binding.Input.TheInside.{Inside}
 

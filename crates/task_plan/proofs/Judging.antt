@@ -6,17 +6,17 @@ use Rattle.std.proofs.lemmas.List.Sums.{sum_by-cons}
 use Rattle.anyk_model.specs.Query.{Query}
 use Rattle.anyk_model.specs.Table.{Table}
 use Rattle.outer_io.specs.Files.{Files}
-use Rattle.query_bind.specs.Weighed.{BoundQuery}
+use Rattle.query_bind.specs.WeighedQuery.{BoundQuery}
 use Rattle.query_shape.specs.Shape.{Shape}
-use Rattle.union_list.specs.Tagged.{branch_at}
+use Rattle.union_list.specs.TaggedRows.{branch_at}
 use Rattle.input_load.specs.Input.{InputData, loaded_of, queries_in}
 use Rattle.input_load.specs.Turns.{IsTurn}
 use Rattle.refusal_lines.specs.Reason.{Reason}
-use Rattle.step_bounds.specs.Bounded.{IsPrepared}
-use Rattle.verdict.specs.Found.{Found, found_of}
+use Rattle.step_bounds.specs.RunBounds.{IsPrepared}
+use Rattle.verdict.specs.AcceptedInput.{Found, found_of}
 use Rattle.verdict.specs.Loading.{Loaded}
-use Rattle.verdict.specs.Made.{known_to, made_files}
-use Rattle.verdict.specs.Staged.{NoTurn, Pure, Shelved}
+use Rattle.verdict.specs.MadeFiles.{known_to, made_files}
+use Rattle.verdict.specs.StageResults.{NoTurn, Pure, Shelved}
 use Rattle.verdict.specs.Stages.{refused, followed}
 use Rattle.verdict.specs.Verdict.{IsLoaded, IsLoadedOn, IsShaped, IsStructured, IsVerdict}
 use Rattle.verdict.specs.Words.{Command, built, run, plan, session, load, prove, verify, sought_by}
@@ -25,65 +25,65 @@ use Rattle.verdict.proofs.Staging.{found_within, pure_found, pure_refused, pure_
 use Rattle.task_plan.specs.Tasks.{command_of}
 use Rattle.task_plan.specs.declared.task.Task.{Task}
 use Rattle.task_plan.specs.declared.task.Task.TheVariants as task
-use Rattle.task_plan.specs.Judged.{HasOne, IsJudged, IsJudgedOn, IsLooked, IsLookedUp, IsUnnamed}
-use Rattle.task_plan.specs.Planned.{ArePrepared, IsEarlyFor, IsEarlyWithin, preparation_of}
+use Rattle.task_plan.specs.Judgement.{HasOne, IsJudged, IsJudgedOn, IsLooked, IsLookedUp, IsUnnamed}
+use Rattle.task_plan.specs.Plans.{ArePrepared, IsEarlyFor, IsEarlyWithin, preparation_of}
 
 -- a refusal while the input is read is that of the verdict
-up-refused : (command : Command) (old new : Shelved) (a : Reason)
+up_refused : (command : Command) (old new : Shelved) (a : Reason)
     → ((files : Files) → IsLoadedOn (sought_by command) files (Err a) → IsVerdict (built command) files (Err a))
     → IsLookedUp (sought_by command) old new (Err a) → IsJudgedOn command old new (Err a)
-up-refused command old new a gives h =
+up_refused command old new a gives h =
     refusal_within (IsLoadedOn (sought_by command)) (IsTurn (sought_by command)) (IsVerdict (built command))
     (IsTurn (sought_by command)) old new a
     gives (λ files name turn. turn) h
 
-pub looked-refused : (command : Command) (old new : Shelved) (a : Reason) → IsLooked command old new (Err a)
+pub looked_refused : (command : Command) (old new : Shelved) (a : Reason) → IsLooked command old new (Err a)
     → IsJudged command old new (Err a)
-looked-refused (run words) old new a h = up-refused (run words) old new a (λ files g. refused g) h
-looked-refused (plan words) old new a h = up-refused (plan words) old new a (λ files g. refused g) h
-looked-refused (session script words) old new a h = up-refused (session script words) old new a (λ files g. refused g) h
-looked-refused (prove words) old new a h = up-refused (prove words) old new a (λ files g. refused g) h
-looked-refused (verify proof words) old new a h = up-refused (verify proof words) old new a (λ files g. refused (refused g)) h
-looked-refused (load number rows) old new a h =
+looked_refused (run words) old new a h = up_refused (run words) old new a (λ files g. refused g) h
+looked_refused (plan words) old new a h = up_refused (plan words) old new a (λ files g. refused g) h
+looked_refused (session script words) old new a h = up_refused (session script words) old new a (λ files g. refused g) h
+looked_refused (prove words) old new a h = up_refused (prove words) old new a (λ files g. refused g) h
+looked_refused (verify proof words) old new a h = up_refused (verify proof words) old new a (λ files g. refused (refused g)) h
+looked_refused (load number rows) old new a h =
     (pure_refused (IsLoadedOn (sought_by (load number rows)) (made_files number rows)) IsShaped a h.0, h.1)
 
 -- what is loaded and then has a structure has that verdict
-up-then : (command : Command) (old new : Shelved) (loaded : Loaded) (r : Result Found Reason)
+up_then : (command : Command) (old new : Shelved) (loaded : Loaded) (r : Result Found Reason)
     → ((files : Files) → IsLoadedOn (sought_by command) files (Ok loaded) → IsShaped loaded r
     → IsVerdict (built command) files r)
     → IsLookedUp (sought_by command) old new (Ok loaded) → Pure (IsShaped loaded) r → IsJudgedOn command old new r
-up-then command old new loaded r gives h shaped =
+up_then command old new loaded r gives h shaped =
     found_within (IsLoadedOn (sought_by command)) (IsTurn (sought_by command)) (λ files. IsShaped loaded) NoTurn
     (IsVerdict (built command)) (IsTurn (sought_by command)) old new new loaded r
     gives (λ files name g no_turn. absurd no_turn) h (pure_staged (IsShaped loaded) new r shaped)
 
-pub looked-then : (made : Task) (old new : Shelved) (loaded : Loaded) (r : Result Found Reason)
+pub looked_then : (made : Task) (old new : Shelved) (loaded : Loaded) (r : Result Found Reason)
     → IsLooked (command_of made) old new (Ok loaded) → Pure (IsShaped loaded) r → IsJudged (command_of made) old new r
-looked-then (task.Run words) old new loaded r h shaped =
-    up-then (command_of (task.Run words)) old new loaded r (λ files g s. followed g s) h shaped
-looked-then (task.Plan words) old new loaded r h shaped =
-    up-then (command_of (task.Plan words)) old new loaded r (λ files g s. followed g s) h shaped
-looked-then (task.Session script words) old new loaded r h shaped =
-    up-then (command_of (task.Session script words)) old new loaded r (λ files g s. followed g s) h shaped
-looked-then (task.Load engine made) old new loaded r h shaped =
+looked_then (task.Run words) old new loaded r h shaped =
+    up_then (command_of (task.Run words)) old new loaded r (λ files g s. followed g s) h shaped
+looked_then (task.Plan words) old new loaded r h shaped =
+    up_then (command_of (task.Plan words)) old new loaded r (λ files g s. followed g s) h shaped
+looked_then (task.Session script words) old new loaded r h shaped =
+    up_then (command_of (task.Session script words)) old new loaded r (λ files g s. followed g s) h shaped
+looked_then (task.Load engine made) old new loaded r h shaped =
     (pure_found (IsLoadedOn (sought_by (load made.number made.rows)) (made_files made.number made.rows)) IsShaped loaded r h.0 shaped, h.1)
-looked-then (task.Prove words) old new loaded r h shaped =
-    up-then (command_of (task.Prove words)) old new loaded r (λ files g s. followed g s) h shaped
+looked_then (task.Prove words) old new loaded r h shaped =
+    up_then (command_of (task.Prove words)) old new loaded r (λ files g s. followed g s) h shaped
 
 -- ---- the steps for an input that was read
 
-looked-loads : (command : Command) (old new : Shelved) (loaded : Loaded) → IsLooked command old new (Ok loaded)
+looked_loads : (command : Command) (old new : Shelved) (loaded : Loaded) → IsLooked command old new (Ok loaded)
     → IfSome (known_to (built command) old.files) (λ files. IsLoaded (built command) files (Ok loaded))
-looked-loads (run words) old new loaded h = h.fits
-looked-loads (plan words) old new loaded h = h.fits
-looked-loads (session script words) old new loaded h = h.fits
-looked-loads (prove words) old new loaded h = h.fits
-looked-loads (verify proof words) old new loaded h = h.fits
-looked-loads (load number rows) old new loaded h = h.0
+looked_loads (run words) old new loaded h = h.fits
+looked_loads (plan words) old new loaded h = h.fits
+looked_loads (session script words) old new loaded h = h.fits
+looked_loads (prove words) old new loaded h = h.fits
+looked_loads (verify proof words) old new loaded h = h.fits
+looked_loads (load number rows) old new loaded h = h.0
 
-pub early-still : (command : Command) (told : Option Files) (n : ℕ) → IsEarlyWithin command told n n
-early-still command None n = tt
-early-still command (Some files) n = λ found verdict. still command found
+pub early_still : (command : Command) (told : Option Files) (n : ℕ) → IsEarlyWithin command told n n
+early_still command None n = tt
+early_still command (Some files) n = λ found verdict. still command found
   where
     still : (command : Command) (found : Found) → IsEarlyFor command found n n
     still (run words) found = omega arith
@@ -94,77 +94,77 @@ early-still command (Some files) n = λ found verdict. still command found
     still (verify proof words) found = tt
 
 -- the preparation of the only query
-one-prepared : (queries : List Query) (tables : List Table) (before now : ℕ) → length queries ≡ 1
+one_prepared : (queries : List Query) (tables : List Table) (before now : ℕ) → length queries ≡ 1
     → ArePrepared queries tables before now
     → IsPrepared (branch_at queries 0) tables before now
-one-prepared [] tables before now one h = absurd (omega (arith, one))
-one-prepared (query ∷ []) tables before now one h =
+one_prepared [] tables before now one h = absurd (omega (arith, one))
+one_prepared (query ∷ []) tables before now one h =
     let sum = sum_by-cons (preparation_of tables) query [] in omega (arith, h, sum)
-one-prepared (query ∷ other ∷ queries) tables before now one h = absurd (omega (arith, one))
+one_prepared (query ∷ other ∷ queries) tables before now one h = absurd (omega (arith, one))
 
-count-queries : (input : InputData) → length input.queries ≡ 1 → length (queries_in input.queries) ≡ 1
-count-queries input one = length-map input.queries (λ (q : BoundQuery). q.query) ∙ one
+count_queries : (input : InputData) → length input.queries ≡ 1 → length (queries_in input.queries) ≡ 1
+count_queries input one = length-map input.queries (λ (q : BoundQuery). q.query) ∙ one
 
-input-prepared : (command : Command) (input : InputData) (shapes : List Shape) (before now : ℕ) → HasOne command input
+input_prepared : (command : Command) (input : InputData) (shapes : List Shape) (before now : ℕ) → HasOne command input
     → ArePrepared (queries_in input.queries) input.tables before now
     → IsEarlyFor command (found_of (loaded_of input) shapes) before now
-input-prepared (run words) input shapes before now one h = h
-input-prepared (plan words) input shapes before now one h =
-    one-prepared (queries_in input.queries) input.tables before now (count-queries input one) h
-input-prepared (session script words) input shapes before now one h =
-    one-prepared (queries_in input.queries) input.tables before now (count-queries input one) h
-input-prepared (prove words) input shapes before now one h = tt
-input-prepared (verify proof words) input shapes before now one h = tt
-input-prepared (load number rows) input shapes before now one h =
-    one-prepared (queries_in input.queries) input.tables before now (count-queries input one) h
+input_prepared (run words) input shapes before now one h = h
+input_prepared (plan words) input shapes before now one h =
+    one_prepared (queries_in input.queries) input.tables before now (count_queries input one) h
+input_prepared (session script words) input shapes before now one h =
+    one_prepared (queries_in input.queries) input.tables before now (count_queries input one) h
+input_prepared (prove words) input shapes before now one h = tt
+input_prepared (verify proof words) input shapes before now one h = tt
+input_prepared (load number rows) input shapes before now one h =
+    one_prepared (queries_in input.queries) input.tables before now (count_queries input one) h
 
-same-loaded : {a b : Loaded} → ◌≡◌ {A = Result Loaded Reason} (Ok a) (Ok b) → a ≡ b
-same-loaded e = cc
+same_loaded : {a b : Loaded} → ◌≡◌ {A = Result Loaded Reason} (Ok a) (Ok b) → a ≡ b
+same_loaded e = cc
 
-same-found : {a b : Found} → ◌≡◌ {A = Result Found Reason} (Ok a) (Ok b) → a ≡ b
-same-found e = cc
+same_found : {a b : Found} → ◌≡◌ {A = Result Found Reason} (Ok a) (Ok b) → a ≡ b
+same_found e = cc
 
 -- what is accepted was structured
-pub verdict-structured : (command : Command) (files : Files) (found : Found) → IsVerdict (built command) files (Ok found)
+pub verdict_structured : (command : Command) (files : Files) (found : Found) → IsVerdict (built command) files (Ok found)
     → IsStructured (built command) files (Ok found)
-verdict-structured (run words) files found h = h
-verdict-structured (plan words) files found h = h
-verdict-structured (session script words) files found h = h
-verdict-structured (load number rows) files found h = h
-verdict-structured (prove words) files found h = h
-verdict-structured (verify proof words) files found (followed {a = other} h (followed valid same)) =
-    subst (λ (f : Found). IsStructured (built (verify proof words)) files (Ok f)) (sym (same-found same)) h
+verdict_structured (run words) files found h = h
+verdict_structured (plan words) files found h = h
+verdict_structured (session script words) files found h = h
+verdict_structured (load number rows) files found h = h
+verdict_structured (prove words) files found h = h
+verdict_structured (verify proof words) files found (followed {a = other} h (followed valid same)) =
+    subst (λ (f : Found). IsStructured (built (verify proof words)) files (Ok f)) (sym (same_found same)) h
 
-accepted-prepared : (command : Command) (files : Files) (input : InputData) (before now : ℕ)
+accepted_prepared : (command : Command) (files : Files) (input : InputData) (before now : ℕ)
     → IsLoaded (built command) files (Ok (loaded_of input))
     → HasOne command input → ArePrepared (queries_in input.queries) input.tables before now
     → (found : Found) → IsStructured (built command) files (Ok found) → IsEarlyFor command found before now
-accepted-prepared command files input before now h one prepared found
+accepted_prepared command files input before now h one prepared found
     (followed {a = loaded} loads (followed {a = shapes} are same)) =
-    let is_input = same-loaded (one_loading (built command) files (Ok (loaded_of input)) (Ok loaded) h loads) in
+    let is_input = same_loaded (one_loading (built command) files (Ok (loaded_of input)) (Ok loaded) h loads) in
     let whole : found_of (loaded_of input) shapes ≡ found =
-    ap (λ (l : Loaded). found_of l shapes) is_input ∙ sym (same-found same) in
+    ap (λ (l : Loaded). found_of l shapes) is_input ∙ sym (same_found same) in
     subst (λ (f : Found). IsEarlyFor command f before now) whole
-    (input-prepared command input shapes before now one prepared)
+    (input_prepared command input shapes before now one prepared)
 
-pub early-prepared : (command : Command) (old new : Shelved) (input : InputData) (before now : ℕ)
+pub early_prepared : (command : Command) (old new : Shelved) (input : InputData) (before now : ℕ)
     → IsLooked command old new (Ok (loaded_of input))
     → HasOne command input → ArePrepared (queries_in input.queries) input.tables before now
     → IsEarlyWithin command (known_to (built command) old.files) before now
-early-prepared command old new input before now h one prepared =
-    by (known_to (built command) old.files) (looked-loads command old new (loaded_of input) h)
+early_prepared command old new input before now h one prepared =
+    by (known_to (built command) old.files) (looked_loads command old new (loaded_of input) h)
   where
     by : (told : Option Files) → IfSome told (λ files. IsLoaded (built command) files (Ok (loaded_of input)))
         → IsEarlyWithin command told before now
     by None loads = tt
     by (Some files) loads = λ found verdict.
-        accepted-prepared command files input before now loads one prepared found (verdict-structured command files found verdict)
+        accepted_prepared command files input before now loads one prepared found (verdict_structured command files found verdict)
 
 -- what is known of the item whose rows are asked for
-pub unnamed-of : (command : Command) (input : InputData) → HasOne command input → IsUnnamed command input.best
-unnamed-of (run words) input one = tt
-unnamed-of (plan words) input one = tt
-unnamed-of (session script words) input one = tt
-unnamed-of (load number rows) input one = tt
-unnamed-of (prove words) input one = one.1
-unnamed-of (verify proof words) input one = one.1
+pub unnamed_of : (command : Command) (input : InputData) → HasOne command input → IsUnnamed command input.best
+unnamed_of (run words) input one = tt
+unnamed_of (plan words) input one = tt
+unnamed_of (session script words) input one = tt
+unnamed_of (load number rows) input one = tt
+unnamed_of (prove words) input one = one.1
+unnamed_of (verify proof words) input one = one.1

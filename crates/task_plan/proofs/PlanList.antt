@@ -16,85 +16,85 @@ use Rattle.plan_build.specs.declared.fault.PlanFault.{PlanFault}
 use Rattle.plan_build.specs.declared.fault.PlanFault.TheVariants as fault
 use Rattle.plan_build.specs.declared.ranked_plan.RankedPlan.{RankedPlan}
 use Rattle.plan_build.specs.declared.ranked_plan.RankedPlan.TheVariants.{Lex, MiddleSum, Packed, SmallLex, Sum}
-use Rattle.plan_build.proofs.Rooted.{whole-of}
-use Rattle.plan_build.proofs.ShapeIs.{plan-shape}
+use Rattle.plan_build.proofs.Rooted.{whole_of}
+use Rattle.plan_build.proofs.ShapeIs.{plan_shape}
 use Rattle.node_build.specs.Nodes.{CapsBelow}
-use Rattle.node_build.proofs.Shaped.{caps-small}
-use Rattle.query_bind.specs.Weighed.{BoundQuery, Fits}
+use Rattle.node_build.proofs.Shaped.{caps_small}
+use Rattle.query_bind.specs.WeighedQuery.{BoundQuery, Fits}
 use Rattle.query_shape.specs.Shape.{Flaw, IsShape, Shape, cyclic, too_many_rows}
 use Rattle.refusal_lines.specs.Reason.{Reason}
 use Rattle.session_script.specs.declared.step.Step.{Step}
-use Rattle.step_bounds.specs.Bounded.{IsPrepared}
+use Rattle.step_bounds.specs.RunBounds.{IsPrepared}
 use Rattle.tdp_model.specs.KeyTuple.{KeyOf}
-use Rattle.union_list.specs.Tagged.{HaveKeys}
+use Rattle.union_list.specs.TaggedRows.{HaveKeys}
 use Rattle.input_load.specs.Input.{InputData, loaded_of, queries_in}
 use Rattle.verdict.specs.Faults.{of_shape}
-use Rattle.verdict.specs.Found.{found_of}
+use Rattle.verdict.specs.AcceptedInput.{found_of}
 use Rattle.verdict.specs.Loading.{are_several}
-use Rattle.verdict.specs.Staged.{Pure}
+use Rattle.verdict.specs.StageResults.{Pure}
 use Rattle.verdict.specs.UnionBound.{HaveShapes}
 use Rattle.verdict.specs.Verdict.{AreStructures, IsFlawed, IsShaped, IsStructure}
 use Rattle.verdict.proofs.Staging.{pure_refused}
 use Rattle.verdict.proofs.Structure.{shapes_found, structures_refused}
-use Rattle.task_plan.specs.Planned.{ArePrepared, HavePlans, IsOnePlanOf, found_by, plan_reason, preparation_of, shapes_of}
-use Rattle.task_plan.specs.Planned.{shown_shape}
+use Rattle.task_plan.specs.Plans.{ArePrepared, HavePlans, IsOnePlanOf, found_by, plan_reason, preparation_of, shapes_of}
+use Rattle.task_plan.specs.Plans.{shown_shape}
 
 -- # One query
 
-plan-structured : {R : Type 0} (d : ℕ) (key : R → KeyOf d 16) (query : BoundQuery) (tables : List Table)
+plan_structured : {R : Type 0} (d : ℕ) (key : R → KeyOf d 16) (query : BoundQuery) (tables : List Table)
     (best : Option ℕ) (made : PlanData R)
     → IsPlanOf d key query tables best made → IsShape query.query tables (Ok (shape_of made))
-plan-structured d key query tables best made is =
-    plan-shape d key query tables made (whole-of d key query tables best made is)
+plan_structured d key query tables best made is =
+    plan_shape d key query tables made (whole_of d key query tables best made is)
 
-pub planned-shown : (query : BoundQuery) (tables : List Table) (best : Option ℕ) (made : RankedPlan)
+pub planned_shown : (query : BoundQuery) (tables : List Table) (best : Option ℕ) (made : RankedPlan)
     → IsRankedPlan query tables best made
     → Pure (IsStructure None tables query.query) (shown_shape (Ok made))
-planned-shown query tables best (Packed made) is = plan-structured 1 key_of_packed query tables best made is
-planned-shown query tables best (MiddleSum made) is = plan-structured 1 (fixed_key 1 8) query tables best made is
-planned-shown query tables best (Sum made) is = plan-structured 1 (fixed_key 1 16) query tables best made is
-planned-shown query tables best (SmallLex made) is = plan-structured 2 (fixed_key 2 4) query tables best made is
-planned-shown query tables best (Lex made) is = plan-structured 8 (fixed_key 8 16) query tables best made is
+planned_shown query tables best (Packed made) is = plan_structured 1 key_of_packed query tables best made is
+planned_shown query tables best (MiddleSum made) is = plan_structured 1 (fixed_key 1 8) query tables best made is
+planned_shown query tables best (Sum made) is = plan_structured 1 (fixed_key 1 16) query tables best made is
+planned_shown query tables best (SmallLex made) is = plan_structured 2 (fixed_key 2 4) query tables best made is
+planned_shown query tables best (Lex made) is = plan_structured 8 (fixed_key 8 16) query tables best made is
 
-pub flawed-shown : (query : Query) (tables : List Table) (fault : PlanFault) → TellsFlaw query tables fault
+pub flawed_shown : (query : Query) (tables : List Table) (fault : PlanFault) → TellsFlaw query tables fault
     → Pure (IsStructure None tables query) (Err (plan_reason None fault))
-flawed-shown query tables fault.NoMemory tells = tt
-flawed-shown query tables (fault.Cyclic core) tells =
+flawed_shown query tables fault.NoMemory tells = tt
+flawed_shown query tables (fault.Cyclic core) tells =
     record { flaw = cyclic (items_of core); is_flaw = tells; told = refl }
-flawed-shown query tables (fault.TooManyRows most) tells =
+flawed_shown query tables (fault.TooManyRows most) tells =
     record { flaw = too_many_rows; is_flaw = tells.1; told = refl }
 
 -- # Several queries
 
 -- one more pair
-pub zip-push : {X Y : Type 0} (P : X → Y → Type 0) (xs : List X) (ys : List Y) (x : X) (y : Y) → AllZip P xs ys → P x y
+pub zip_push : {X Y : Type 0} (P : X → Y → Type 0) (xs : List X) (ys : List Y) (x : X) (y : Y) → AllZip P xs ys → P x y
     → AllZip P (xs ++ x ∷ []) (ys ++ y ∷ [])
-zip-push P [] [] x y all one = (one, tt)
-zip-push P [] (b ∷ ys) x y all one = absurd all
-zip-push P (a ∷ xs) [] x y all one = absurd all
-zip-push P (a ∷ xs) (b ∷ ys) x y all one = (all.0, zip-push P xs ys x y all.1 one)
+zip_push P [] [] x y all one = (one, tt)
+zip_push P [] (b ∷ ys) x y all one = absurd all
+zip_push P (a ∷ xs) [] x y all one = absurd all
+zip_push P (a ∷ xs) (b ∷ ys) x y all one = (all.0, zip_push P xs ys x y all.1 one)
 
 module _ {R : Type 0} (d : ℕ) (key : R → KeyOf d 16) (tables : List Table) where
-  pub plans-shaped : (queries : List BoundQuery) (plans : List (PlanData R)) → HavePlans d key tables queries plans
+  pub plans_shaped : (queries : List BoundQuery) (plans : List (PlanData R)) → HavePlans d key tables queries plans
       → HaveShapes tables (queries_in queries) (shapes_of plans)
-  plans-shaped [] [] h = tt
-  plans-shaped [] (plan ∷ plans) h = absurd h
-  plans-shaped (query ∷ queries) [] h = absurd h
-  plans-shaped (query ∷ queries) (plan ∷ plans) h =
-      (plan-structured d key query tables None plan h.0, plans-shaped queries plans h.1)
+  plans_shaped [] [] h = tt
+  plans_shaped [] (plan ∷ plans) h = absurd h
+  plans_shaped (query ∷ queries) [] h = absurd h
+  plans_shaped (query ∷ queries) (plan ∷ plans) h =
+      (plan_structured d key query tables None plan h.0, plans_shaped queries plans h.1)
 
-  plans-counted : (queries : List BoundQuery) (plans : List (PlanData R)) → HavePlans d key tables queries plans
+  plans_counted : (queries : List BoundQuery) (plans : List (PlanData R)) → HavePlans d key tables queries plans
       → length plans ≡ length queries
-  plans-counted [] [] h = refl
-  plans-counted [] (plan ∷ plans) h = absurd h
-  plans-counted (query ∷ queries) [] h = absurd h
-  plans-counted (query ∷ queries) (plan ∷ plans) h = let same = plans-counted queries plans h.1 in omega (arith, same)
+  plans_counted [] [] h = refl
+  plans_counted [] (plan ∷ plans) h = absurd h
+  plans_counted (query ∷ queries) [] h = absurd h
+  plans_counted (query ∷ queries) (plan ∷ plans) h = let same = plans_counted queries plans h.1 in omega (arith, same)
 
-  refused-list : (before : List BoundQuery) (query : BoundQuery) (later : List BoundQuery) (plans : List (PlanData R))
+  refused_list : (before : List BoundQuery) (query : BoundQuery) (later : List BoundQuery) (plans : List (PlanData R))
       (place : ℕ) (flaw : Flaw)
       → HavePlans d key tables before plans → place ≡ 1 + length before → IsShape query.query tables (Err flaw)
       → AreStructures true 1 tables (queries_in (before ++ query ∷ later)) (Err (of_shape (Some place) flaw))
-  refused-list before query later plans place flaw h at is =
+  refused_list before query later plans place flaw h at is =
       let flawed : IsFlawed (Some place) query.query tables (of_shape (Some place) flaw) =
       record { flaw = flaw; is_flaw = is; told = refl } in
       let count = length-map before (λ (q : BoundQuery). q.query) in
@@ -102,17 +102,17 @@ module _ {R : Type 0} (d : ℕ) (key : R → KeyOf d 16) (tables : List Table) w
       (sym (map-append (λ (q : BoundQuery). q.query) before (query ∷ later)))
       (structures_refused true 1 place tables (queries_in before) query.query (queries_in later) (shapes_of plans)
       (of_shape (Some place) flaw)
-      (plans-shaped before plans h) (omega (arith, at, count)) flawed)
+      (plans_shaped before plans h) (omega (arith, at, count)) flawed)
 
-  flawed-list : (before : List BoundQuery) (query : BoundQuery) (later : List BoundQuery) (plans : List (PlanData R))
+  flawed_list : (before : List BoundQuery) (query : BoundQuery) (later : List BoundQuery) (plans : List (PlanData R))
       (place : ℕ) (fault : PlanFault)
       → HavePlans d key tables before plans → place ≡ 1 + length before → TellsFlaw query.query tables fault
       → Pure (AreStructures true 1 tables (queries_in (before ++ query ∷ later))) (Err (plan_reason (Some place) fault))
-  flawed-list before query later plans place fault.NoMemory h at tells = tt
-  flawed-list before query later plans place (fault.Cyclic core) h at tells =
-      refused-list before query later plans place (cyclic (items_of core)) h at tells
-  flawed-list before query later plans place (fault.TooManyRows most) h at tells =
-      refused-list before query later plans place too_many_rows h at tells.1
+  flawed_list before query later plans place fault.NoMemory h at tells = tt
+  flawed_list before query later plans place (fault.Cyclic core) h at tells =
+      refused_list before query later plans place (cyclic (items_of core)) h at tells
+  flawed_list before query later plans place (fault.TooManyRows most) h at tells =
+      refused_list before query later plans place too_many_rows h at tells.1
 
   -- the plans of the first queries, and the steps of their preparation
   pub record HasPlanned (queries : List BoundQuery) (n : ℕ) (plans : List (PlanData R)) (before now : ℕ) : Type 0 where
@@ -120,74 +120,74 @@ module _ {R : Type 0} (d : ℕ) (key : R → KeyOf d 16) (tables : List Table) w
     pub count : length plans ≡ n
     pub cost : now ≤ before + sum_by (λ (q : BoundQuery). preparation_of tables q.query) (take n queries)
 
-  pub none-planned : (queries : List BoundQuery) (before : ℕ) → HasPlanned queries 0 [] before before
-  none-planned queries before = record { made = tt; count = refl; cost = omega arith }
+  pub none_planned : (queries : List BoundQuery) (before : ℕ) → HasPlanned queries 0 [] before before
+  none_planned queries before = record { made = tt; count = refl; cost = omega arith }
 
-  pub planned-more : (queries : List BoundQuery) (n : ℕ) (plans : List (PlanData R)) (before now new : ℕ)
+  pub planned_more : (queries : List BoundQuery) (n : ℕ) (plans : List (PlanData R)) (before now new : ℕ)
       (query : BoundQuery) (plan : PlanData R)
       → HasPlanned queries n plans before now → n < length queries → query ≡ get_or queries n query
       → IsPlanOf d key query tables None plan → IsPrepared query.query tables now new
       → HasPlanned queries (n + 1) (plans ++ plan ∷ []) before new
-  planned-more queries n plans before now new query plan was inside at is cost =
+  planned_more queries n plans before now new query plan was inside at is cost =
       let taken : take (n + 1) queries ≡ take n queries ++ query ∷ [] =
       take_more queries n query inside ∙ ap (λ (q : BoundQuery). take n queries ++ q ∷ []) (sym at) in
-      let more = zip-push (λ (q : BoundQuery) (p : PlanData R). IsPlanOf d key q tables None p) (take n queries) plans
+      let more = zip_push (λ (q : BoundQuery) (p : PlanData R). IsPlanOf d key q tables None p) (take n queries) plans
       query plan was.made is in
       let all : HavePlans d key tables (take (n + 1) queries) (plans ++ plan ∷ []) =
       subst (λ (qs : List BoundQuery). HavePlans d key tables qs (plans ++ plan ∷ [])) (sym taken) more in
-      let counted = plans-counted (take (n + 1) queries) (plans ++ plan ∷ []) all in
+      let counted = plans_counted (take (n + 1) queries) (plans ++ plan ∷ []) all in
       let length_taken = length-take-le (n + 1) queries (omega (arith, inside)) in
       let sum = sum_by_more (λ (q : BoundQuery). preparation_of tables q.query) queries n query inside in
       let own = ap (λ (q : BoundQuery). preparation_of tables q.query) at in
       let spent = was.cost in
       record { made = all; count = counted ∙ length_taken; cost = omega (arith, sum, own, spent, cost) }
 
-  sum-queries : (queries : List BoundQuery)
+  sum_queries : (queries : List BoundQuery)
       → sum_by (λ (q : BoundQuery). preparation_of tables q.query) queries ≡ sum_by (preparation_of tables)
       (queries_in queries)
-  sum-queries [] = refl
-  sum-queries (query ∷ queries) =
-      let rest = sum-queries queries in
+  sum_queries [] = refl
+  sum_queries (query ∷ queries) =
+      let rest = sum_queries queries in
       let left = sum_by-cons (λ (q : BoundQuery). preparation_of tables q.query) query queries in
       let right = sum_by-cons (preparation_of tables) query.query (queries_in queries) in
       omega (arith, rest, left, right)
 
-  pub all-planned : (queries : List BoundQuery) (n : ℕ) (plans : List (PlanData R)) (before now : ℕ)
+  pub all_planned : (queries : List BoundQuery) (n : ℕ) (plans : List (PlanData R)) (before now : ℕ)
       → HasPlanned queries n plans before now → n ≡ length queries
       → HavePlans d key tables queries plans
-  all-planned queries n plans before now was at =
+  all_planned queries n plans before now was at =
       subst (λ (qs : List BoundQuery). HavePlans d key tables qs plans)
       (ap (λ (k : ℕ). take k queries) at ∙ take-length queries) was.made
 
-  pub all-prepared : (queries : List BoundQuery) (n : ℕ) (plans : List (PlanData R)) (before now : ℕ)
+  pub all_prepared : (queries : List BoundQuery) (n : ℕ) (plans : List (PlanData R)) (before now : ℕ)
       → HasPlanned queries n plans before now → n ≡ length queries
       → ArePrepared (queries_in queries) tables before now
-  all-prepared queries n plans before now was at =
+  all_prepared queries n plans before now was at =
       let whole = ap (λ (qs : List BoundQuery). sum_by (λ (q : BoundQuery). preparation_of tables q.query) qs)
       (ap (λ (k : ℕ). take k queries) at ∙ take-length queries) in
-      let sum = sum-queries queries in
+      let sum = sum_queries queries in
       let spent = was.cost in
       omega (arith, whole, sum, spent)
 
   -- after one more query
-  pub some-prepared : (queries : List BoundQuery) (n : ℕ) (plans : List (PlanData R)) (before now new : ℕ)
+  pub some_prepared : (queries : List BoundQuery) (n : ℕ) (plans : List (PlanData R)) (before now new : ℕ)
       (query : BoundQuery)
       → HasPlanned queries n plans before now → n < length queries → query ≡ get_or queries n query
       → IsPrepared query.query tables now new
       → ArePrepared (queries_in queries) tables before new
-  some-prepared queries n plans before now new query was inside at cost =
+  some_prepared queries n plans before now new query was inside at cost =
       let more = sum_by_more_le (λ (q : BoundQuery). preparation_of tables q.query) queries n query inside in
       let own = ap (λ (q : BoundQuery). preparation_of tables q.query) at in
-      let sum = sum-queries queries in
+      let sum = sum_queries queries in
       let spent = was.cost in
       omega (arith, more, own, sum, spent, cost)
 
-  pub next-flawed : (queries : List BoundQuery) (n : ℕ) (plans : List (PlanData R)) (before now place : ℕ)
+  pub next_flawed : (queries : List BoundQuery) (n : ℕ) (plans : List (PlanData R)) (before now place : ℕ)
       (query : BoundQuery) (fault : PlanFault)
       → HasPlanned queries n plans before now → n < length queries → query ≡ get_or queries n query → place ≡ n + 1
       → TellsFlaw query.query tables fault
       → Pure (AreStructures true 1 tables (queries_in queries)) (Err (plan_reason (Some place) fault))
-  next-flawed queries n plans before now place query fault was inside at is tells =
+  next_flawed queries n plans before now place query fault was inside at is tells =
       let length_taken = length-take-le n queries (omega (arith, inside)) in
       let taken : take (n + 1) queries ≡ take n queries ++ query ∷ [] =
       take_more queries n query inside ∙ ap (λ (q : BoundQuery). take n queries ++ q ∷ []) (sym at) in
@@ -196,26 +196,26 @@ module _ {R : Type 0} (d : ℕ) (key : R → KeyOf d 16) (tables : List Table) w
       (λ (l : List BoundQuery). l ++ drop (n + 1) queries) (sym taken) ∙ take-append-drop (n + 1) queries in
       subst (λ (qs : List BoundQuery). Pure (AreStructures true 1 tables (queries_in qs))
       (Err (plan_reason (Some place) fault))) whole
-      (flawed-list (take n queries) query (drop (n + 1) queries) plans place fault was.made
+      (flawed_list (take n queries) query (drop (n + 1) queries) plans place fault was.made
       (omega (arith, is, length_taken)) tells)
 
 -- # The queries of an input
 
-pub only-one : {X : Type 0} (xs : List X) (x : X) → length xs ≡ 1 → x ≡ get_or xs 0 x → xs ≡ x ∷ []
-only-one [] x one at = absurd (omega (arith, one))
-only-one (y ∷ []) x one at = ap (λ z. z ∷ []) (sym at)
-only-one (y ∷ other ∷ ys) x one at = absurd (omega (arith, one))
+pub only_one : {X : Type 0} (xs : List X) (x : X) → length xs ≡ 1 → x ≡ get_or xs 0 x → xs ≡ x ∷ []
+only_one [] x one at = absurd (omega (arith, one))
+only_one (y ∷ []) x one at = ap (λ z. z ∷ []) (sym at)
+only_one (y ∷ other ∷ ys) x one at = absurd (omega (arith, one))
 
-pub one-found : (input : InputData) (query : BoundQuery) (shape : Shape) → input.queries ≡ query ∷ []
+pub one_found : (input : InputData) (query : BoundQuery) (shape : Shape) → input.queries ≡ query ∷ []
     → IsShape query.query input.tables (Ok shape)
     → IsShaped (loaded_of input) (Ok (found_of (loaded_of input) (shape ∷ [])))
-one-found input query shape only is =
+one_found input query shape only is =
     shapes_found (loaded_of input) (shape ∷ [])
     (subst (λ (qs : List BoundQuery). HaveShapes input.tables (queries_in qs) (shape ∷ [])) (sym only) (is, tt))
 
-pub one-refused : (input : InputData) (query : BoundQuery) (refusal : Reason) → input.queries ≡ query ∷ []
+pub one_refused : (input : InputData) (query : BoundQuery) (refusal : Reason) → input.queries ≡ query ∷ []
     → Pure (IsStructure None input.tables query.query) (Err refusal) → Pure (IsShaped (loaded_of input)) (Err refusal)
-one-refused input query refusal only h =
+one_refused input query refusal only h =
     let loaded = λ (qs : List BoundQuery). loaded_of (record input { queries = qs }) in
     let first : Pure (AreStructures false 1 input.tables (query.query ∷ [])) (Err refusal) =
     pure_refused (IsStructure None input.tables query.query) _ refusal h in
@@ -223,16 +223,16 @@ one-refused input query refusal only h =
     pure_refused (AreStructures false 1 input.tables (query.query ∷ [])) _ refusal first in
     subst (λ (qs : List BoundQuery). Pure (IsShaped (loaded qs)) (Err refusal)) (sym only) whole
 
-pub several-found : {R : Type 0} (d : ℕ) (key : R → KeyOf d 16) (input : InputData) (plans : List (PlanData R))
+pub several_found : {R : Type 0} (d : ℕ) (key : R → KeyOf d 16) (input : InputData) (plans : List (PlanData R))
     → HavePlans d key input.tables input.queries plans
     → IsShaped (loaded_of input) (Ok (found_of (loaded_of input) (shapes_of plans)))
-several-found d key input plans have =
-    shapes_found (loaded_of input) (shapes_of plans) (plans-shaped d key input.tables input.queries plans have)
+several_found d key input plans have =
+    shapes_found (loaded_of input) (shapes_of plans) (plans_shaped d key input.tables input.queries plans have)
 
-pub several-refused : (input : InputData) (refusal : Reason) → 1 < length input.queries
+pub several_refused : (input : InputData) (refusal : Reason) → 1 < length input.queries
     → Pure (AreStructures true 1 input.tables (queries_in input.queries)) (Err refusal)
     → Pure (IsShaped (loaded_of input)) (Err refusal)
-several-refused input refusal more h =
+several_refused input refusal more h =
     let count = length-map input.queries (λ (q : BoundQuery). q.query) in
     let several = lt-ltb 1 (length (queries_in input.queries)) (omega (arith, count, more)) in
     pure_refused (AreStructures (are_several (queries_in input.queries)) 1 input.tables (queries_in input.queries)) _
@@ -241,28 +241,28 @@ several-refused input refusal more h =
     (sym several) h)
 
 -- as many keys as the first one has
-each-within : (keys most : ℕ) → keys ≤ most → (queries : List BoundQuery) → HaveKeys keys (queries_in queries)
+each_within : (keys most : ℕ) → keys ≤ most → (queries : List BoundQuery) → HaveKeys keys (queries_in queries)
     → AllByRecursion (λ (q : BoundQuery). length q.query.order ≤ most) queries
-each-within keys most few [] have = tt
-each-within keys most few (query ∷ queries) have = let own = have.0 in
-    (omega (arith, own, few), each-within keys most few queries have.1)
+each_within keys most few [] have = tt
+each_within keys most few (query ∷ queries) have = let own = have.0 in
+    (omega (arith, own, few), each_within keys most few queries have.1)
 
-pub keys-within : (keys most : ℕ) (queries : List BoundQuery) (first : BoundQuery)
+pub keys_within : (keys most : ℕ) (queries : List BoundQuery) (first : BoundQuery)
     → HaveKeys keys (queries_in queries) → first ≡ get_or queries 0 first
     → 1 ≤ length queries → length first.query.order ≤ most
     → All (λ (q : BoundQuery). length q.query.order ≤ most) queries
-keys-within keys most [] first have at some few = absurd (omega (arith, some))
-keys-within keys most (query ∷ queries) first have at some few =
+keys_within keys most [] first have at some few = absurd (omega (arith, some))
+keys_within keys most (query ∷ queries) first have at some few =
     let same = ap (λ (q : BoundQuery). length q.query.order) at in
     let own = have.0 in
     All-from_recursion (λ (q : BoundQuery). length q.query.order ≤ most) (query ∷ queries)
-    (each-within keys most (omega (arith, same, own, few)) (query ∷ queries) have)
+    (each_within keys most (omega (arith, same, own, few)) (query ∷ queries) have)
 
 -- what is found of the one query
-pub one-printed : (input : InputData) (query : BoundQuery) (script : List Step) (shape : Shape)
+pub one_printed : (input : InputData) (query : BoundQuery) (script : List Step) (shape : Shape)
     → input.queries ≡ query ∷ [] → input.steps ≡ script
     → found_of (loaded_of input) (shape ∷ []) ≡ found_by query input.tables input.best script input.proof shape
-one-printed input query script shape only steps =
+one_printed input query script shape only steps =
     (λ i. record {
       queries = queries_in (only i);
       tables = input.tables;
@@ -272,9 +272,9 @@ one-printed input query script shape only steps =
       proof = input.proof;
     })
 
-pub one-cost : (input : InputData) (query : BoundQuery) → input.queries ≡ query ∷ [] → (before now : ℕ)
+pub one_cost : (input : InputData) (query : BoundQuery) → input.queries ≡ query ∷ [] → (before now : ℕ)
     → ArePrepared (queries_in input.queries) input.tables before now → IsPrepared query.query input.tables before now
-one-cost input query only before now h =
+one_cost input query only before now h =
     let own : ArePrepared (query.query ∷ []) input.tables before now =
     subst (λ (qs : List BoundQuery). ArePrepared (queries_in qs) input.tables before now) only h in
     let sum = sum_by-cons (preparation_of input.tables) query.query [] in
@@ -284,19 +284,19 @@ one-cost input query only before now h =
 module _ {R : Type 0} (d : ℕ) (key : R → KeyOf d 16) (input : InputData) (made : PlanData R) (query : BoundQuery)
     (is : IsOnePlanOf d key input.queries input.tables input.best made) (first : query ≡ get_or input.queries 0 query)
   where
-    first-same : query ≡ is.query
-    first-same = first ∙ ap (λ (l : List BoundQuery). get_or l 0 query) is.only
+    first_same : query ≡ is.query
+    first_same = first ∙ ap (λ (l : List BoundQuery). get_or l 0 query) is.only
 
-    pub first-planned : IsPlanOf d key query input.tables input.best made
-    first-planned =
-        subst (λ (q : BoundQuery). IsPlanOf d key q input.tables input.best made) (sym first-same) is.is_plan
+    pub first_planned : IsPlanOf d key query input.tables input.best made
+    first_planned =
+        subst (λ (q : BoundQuery). IsPlanOf d key q input.tables input.best made) (sym first_same) is.is_plan
 
-    pub first-only : input.queries ≡ query ∷ []
-    first-only = is.only ∙ ap (λ (q : BoundQuery). q ∷ []) (sym first-same)
+    pub first_only : input.queries ≡ query ∷ []
+    first_only = is.only ∙ ap (λ (q : BoundQuery). q ∷ []) (sym first_same)
 
 -- the caps of each query add up to a sum that fits
-pub caps-each : (tables : List Table) (queries : List BoundQuery) → All (λ (q : BoundQuery). Fits q tables) queries
+pub caps_each : (tables : List Table) (queries : List BoundQuery) → All (λ (q : BoundQuery). Fits q tables) queries
     → All (λ (q : BoundQuery). CapsBelow (2 ^ 127) q tables) queries
-caps-each tables queries fits =
+caps_each tables queries fits =
     All-weaker (λ (q : BoundQuery). Fits q tables) (λ (q : BoundQuery). CapsBelow (2 ^ 127) q tables)
-    (λ q fit. caps-small q tables fit) queries fits
+    (λ q fit. caps_small q tables fit) queries fits

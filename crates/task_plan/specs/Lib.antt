@@ -1,3 +1,3 @@
 pub mod Tasks
-pub mod Judged
-pub mod Planned
+pub mod Judgement
+pub mod Plans

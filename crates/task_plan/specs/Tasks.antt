@@ -1,5 +1,5 @@
 -- The commands that plan their queries, as their verdicts name them.
-use Rattle.cmd_words.specs.Said.{WordsSaid, seen_words}
+use Rattle.cmd_words.specs.ArgumentMeaning.{WordsSaid, seen_words}
 use Rattle.std.specs.Prelude.{string_bytes}
 use Rattle.verdict.specs.Words.{Command, Words, run, plan, session, load, prove}
 use Rattle.task_plan.specs.declared.task.Task.{Task}

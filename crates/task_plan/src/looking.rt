@@ -1,12 +1,12 @@
 //! The input of a command.
 ghost use Rattle.std.specs.Prelude.{◌≡◌, None, false, IfOk, Option, length, option_map};
 ghost use Rattle.std.specs.String.{string_bytes};
-ghost use Rattle.cmd_words.specs.Said.{seen_words};
-ghost use Rattle.input_load.specs.Shown.{shown_input};
+ghost use Rattle.cmd_words.specs.ArgumentMeaning.{seen_words};
+ghost use Rattle.input_load.specs.StageViews.{shown_input};
 ghost use Rattle.input_load.specs.Sought.{aside_shown};
-ghost use Rattle.verdict.specs.Staged.{shelved};
+ghost use Rattle.verdict.specs.StageResults.{shelved};
 ghost use Rattle.task_plan.specs.Tasks.{words_of};
-ghost use Rattle.task_plan.specs.Judged.{HasOne, IsLooked, IsLookedUp, sought_in};
+ghost use Rattle.task_plan.specs.Judgement.{HasOne, IsLooked, IsLookedUp, sought_in};
 ghost use Rattle.task_plan.specs.Tasks.{command_of};
 
 use crate::task::Task;

@@ -4,12 +4,12 @@ use Rattle.std.specs.List.{AllZip, sum_by}
 use Rattle.anyk_model.specs.Table.{Table}
 use Rattle.anyk_model.specs.Query.{Query}
 use Rattle.best_list.specs.BestList.{list_of}
-use Rattle.engine_choice.specs.Chosen.{calls_of, rest_of, tree_of}
+use Rattle.engine_choice.specs.Engines.{calls_of, rest_of, tree_of}
 use Rattle.engine_choice.specs.declared.engine.ChosenEngine.{ChosenEngine}
 use Rattle.plan_build.specs.Plan.{IsPlanOf, PlanData}
-use Rattle.query_bind.specs.Weighed.{BoundQuery}
+use Rattle.query_bind.specs.WeighedQuery.{BoundQuery}
 use Rattle.tdp_model.specs.KeyTuple.{KeyOf}
-use Rattle.tdp_core.specs.Seen.{Seen}
+use Rattle.tdp_core.specs.SeenAnswers.{Seen}
 use Rattle.tdp_core.specs.TreeData.{row_count}
 use Rattle.witness_key.specs.WitnessKey.{AreCombinations, combinations_in}
 

@@ -1,10 +1,10 @@
 //! The engine over a plan.
 ghost use Rattle.std.specs.Prelude.{◌≡◌, ◌+◌, ◌*◌, ◌≤◌, IfOk, List, None, length};
 ghost use Rattle.anyk_model.specs.Table.{Table};
-ghost use Rattle.engine_choice.specs.Chosen.{calls_of, rest_of, tree_of};
+ghost use Rattle.engine_choice.specs.Engines.{calls_of, rest_of, tree_of};
 ghost use Rattle.plan_build.specs.Plan.{IsPlanOf};
-ghost use Rattle.query_bind.specs.Weighed.{BoundQuery};
-ghost use Rattle.tdp_core.specs.Seen.{answers_of};
+ghost use Rattle.query_bind.specs.WeighedQuery.{BoundQuery};
+ghost use Rattle.tdp_core.specs.SeenAnswers.{answers_of};
 ghost use Rattle.tdp_core.specs.Solutions.{IsTreeRanking};
 ghost use Rattle.tdp_core.specs.TreeData.{row_count};
 ghost use Rattle.tdp_model.specs.KeyTuple.{KeyOf};

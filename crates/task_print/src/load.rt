@@ -3,10 +3,10 @@ ghost use Rattle.std.specs.Prelude.{ℕ};
 ghost use Rattle.anyk_model.specs.Output.{cut};
 ghost use Rattle.best_list.specs.BestList.{list_of};
 ghost use Rattle.plan_build.specs.Plan.{IsPlanOf};
-ghost use Rattle.query_bind.specs.Weighed.{Fits};
-ghost use Rattle.refusal_lines.specs.Printed.{Printed};
+ghost use Rattle.query_bind.specs.WeighedQuery.{Fits};
+ghost use Rattle.refusal_lines.specs.Printing.{Printed};
 ghost use Rattle.refusal_lines.specs.SinkState.{state_of};
-ghost use Rattle.step_bounds.specs.Bounded.{IsPrepared, KeepsBound};
+ghost use Rattle.step_bounds.specs.RunBounds.{IsPrepared, KeepsBound};
 ghost use Rattle.verdict.specs.Summary.{summary_text};
 
 use crate::engine::engine_over;

@@ -1,7 +1,7 @@
 //! The command `plan`.
 ghost use Rattle.plan_build.specs.Plan.{IsPlanFor, shape_of};
 ghost use Rattle.query_shape.specs.Report.{report_of};
-ghost use Rattle.refusal_lines.specs.Printed.{Printed};
+ghost use Rattle.refusal_lines.specs.Printing.{Printed};
 ghost use Rattle.refusal_lines.specs.SinkState.{state_of};
 
 use csv_tables::Tables;

@@ -2,12 +2,12 @@
 ghost use Rattle.std.specs.Prelude.{ℕ};
 ghost use Rattle.anyk_model.specs.Output.{cut, output_of};
 ghost use Rattle.best_list.specs.BestList.{list_of};
-ghost use Rattle.cmd_words.specs.Said.{seen_words};
+ghost use Rattle.cmd_words.specs.ArgumentMeaning.{seen_words};
 ghost use Rattle.plan_build.specs.Plan.{IsPlanOf};
-ghost use Rattle.query_bind.specs.Weighed.{Fits};
-ghost use Rattle.refusal_lines.specs.Printed.{Printed};
+ghost use Rattle.query_bind.specs.WeighedQuery.{Fits};
+ghost use Rattle.refusal_lines.specs.Printing.{Printed};
 ghost use Rattle.refusal_lines.specs.SinkState.{state_of};
-ghost use Rattle.step_bounds.specs.Bounded.{IsPrepared, KeepsBound, KeepsPace};
+ghost use Rattle.step_bounds.specs.RunBounds.{IsPrepared, KeepsBound, KeepsPace};
 ghost use Rattle.verdict.specs.Output.{style_of};
 ghost use Rattle.task_plan.specs.Tasks.{words_of};
 

@@ -2,20 +2,20 @@
 ghost use Rattle.std.specs.Prelude.{◌≡◌, ◌≤◌, ◌+◌, None, IfOk, length, vec_len, ℕ};
 ghost use Rattle.std.specs.List.{All};
 ghost use Rattle.anyk_model.specs.Output.{cut};
-ghost use Rattle.cmd_words.specs.Said.{seen_words};
+ghost use Rattle.cmd_words.specs.ArgumentMeaning.{seen_words};
 ghost use Rattle.input_load.specs.Input.{queries_in};
-ghost use Rattle.query_bind.specs.Weighed.{Fits};
-ghost use Rattle.refusal_lines.specs.Printed.{Printed};
+ghost use Rattle.query_bind.specs.WeighedQuery.{Fits};
+ghost use Rattle.refusal_lines.specs.Printing.{Printed};
 ghost use Rattle.refusal_lines.specs.SinkState.{state_of};
 ghost use Rattle.tdp_core.specs.WellFormed.{IsTieFreeTree};
-ghost use Rattle.union_list.specs.Tagged.{branch_at};
+ghost use Rattle.union_list.specs.TaggedRows.{branch_at};
 ghost use Rattle.union_list.specs.Union.{union_of};
 ghost use Rattle.union_list.specs.UnionOutput.{union_output_of};
 ghost use Rattle.verdict.specs.Output.{style_of};
 ghost use Rattle.verdict.specs.UnionBound.{KeepsUnionBound, KeepsUnionPace};
 ghost use Rattle.task_plan.specs.Tasks.{words_of};
 ghost use Rattle.task_print.specs.Begun.{AreStarted, starts_of};
-ghost use Rattle.task_plan.specs.Planned.{ArePrepared, HavePlans};
+ghost use Rattle.task_plan.specs.Plans.{ArePrepared, HavePlans};
 
 use crate::engine::engine_over;
 use answer_print::Style;

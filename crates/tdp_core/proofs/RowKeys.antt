@@ -16,13 +16,13 @@ one_slot slot row i l h = elim (cases_eq i slot) [
   | inr n ↦ get_or-set_other (replicate 16 0) slot i row 0 n ∙ get_or-replicate 16 i 0 0 h ∙ sym (cond-false (nat_eq i slot) row 0 (ne_eqb i slot n))
 ]
 
-pub row_key-slot : (d : ℕ) (sums : List ℤ) (slot row i : ℕ) → slot < 16 → i < 16 → slot_of d 16 i (row_key d sums slot row) ≡ cond (nat_eq i slot) row 0
-row_key-slot d sums slot row i l h = slot_of_lists d 16 i sums (set (replicate 16 0) slot row) h ∙ one_slot slot row i l h
+pub row_key_slot : (d : ℕ) (sums : List ℤ) (slot row i : ℕ) → slot < 16 → i < 16 → slot_of d 16 i (row_key d sums slot row) ≡ cond (nat_eq i slot) row 0
+row_key_slot d sums slot row i l h = slot_of_lists d 16 i sums (set (replicate 16 0) slot row) h ∙ one_slot slot row i l h
 
-pub row_key-fits : (d : ℕ) (sums : List ℤ) (item row : ℕ) (cap : ℕ → ℕ) → item < 16 → row < 2 ^ 21 → ((i : ℕ) → i < d → unsigned_abs (get_or sums i (pos 0)) ≤ cap i)
+pub row_key_fits : (d : ℕ) (sums : List ℤ) (item row : ℕ) (cap : ℕ → ℕ) → item < 16 → row < 2 ^ 21 → ((i : ℕ) → i < d → unsigned_abs (get_or sums i (pos 0)) ≤ cap i)
     → RowFits d item cap row (row_key d sums item row)
-row_key-fits d sums item row cap l few within = (
+row_key_fits d sums item row cap l few within = (
   few,
   (λ i h. subst (λ z. unsigned_abs z ≤ cap i) (sym (sum_of_lists d 16 i sums (set (replicate 16 0) item row) h)) (within i h)),
-  (λ i h. row_key-slot d sums item row i l h),
+  (λ i h. row_key_slot d sums item row i l h),
 )

@@ -3,7 +3,7 @@ pub mod RawData
 pub mod RawRows
 pub mod RisingShares
 pub mod RowGroups
-pub mod Seen
+pub mod SeenAnswers
 pub mod Shares
 pub mod Solutions
 pub mod TreeData

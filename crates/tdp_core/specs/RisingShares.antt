@@ -1,7 +1,7 @@
 -- The bound on the steps of one answer never falls.
 use Rattle.std.proofs.Common.{ℕ, ◌+◌, ◌*◌, ◌≤◌, Bool, true, false, cond, nat_lt, List, get_or, arith}
 use Rattle.rank_key.specs.Bits.{bit_length}
-use Rattle.rank_key.proofs.BitLemmas.{bit_length-rises}
+use Rattle.rank_key.proofs.BitLemmas.{bit_length_rises}
 use Rattle.tdp_core.specs.Shares.{share_of}
 
 pub at_most_itself : (n : ℕ) → n ≤ n
@@ -20,7 +20,7 @@ shares_rise s c d h =
     let n : ℕ = get_or s 1 0 in
     let more : (c + 1) * m ≤ (d + 1) * m = grind arith in
     let digits : bit_length (n + (c + 1) * m)
-    ≤ bit_length (n + (d + 1) * m) = bit_length-rises _ _ (omega arith) in
+    ≤ bit_length (n + (d + 1) * m) = bit_length_rises _ _ (omega arith) in
     cond_more (nat_lt 0 (get_or s 2 0)) _ _
     (let p : m * (1 + bit_length (n + (c + 1) * m))
     ≤ m * (1 + bit_length (n + (d + 1) * m)) = times_more m _ _ (omega arith) in omega arith)

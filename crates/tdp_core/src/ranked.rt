@@ -1,7 +1,7 @@
 //! Answers, and what an engine is.
 ghost use Rattle.std.specs.Prelude.{◌≡◌, ℕ, ◌+◌, ◌≤◌, List, [], ◌∷◌, IfOk, IfSome, IfNone, OnErr};
 ghost use Rattle.tdp_model.specs.KeyNumbers.{numbers};
-ghost use Rattle.tdp_core.specs.Seen.{Seen, counted};
+ghost use Rattle.tdp_core.specs.SeenAnswers.{Seen, counted};
 
 use rank_key::Rank;
 use std::sync::ledger::Ledger;

@@ -1,7 +1,7 @@
 -- The subtree solutions of a group are finitely many, so that their ranking exists.
 use Rattle.std.proofs.Common.{◌≡◌, ℕ, zero, suc, ◌+◌, ◌-◌, ◌<◌, List, [], ◌∷◌, map, length, get_or, refl, sym, subst, inl, inr, arith}
 use Rattle.rankings.specs.Order.{IsMember, IsRanking, ranked}
-use Rattle.rankings.proofs.Members.{member-left, member-right, member-either, member-map, member-unmap}
+use Rattle.rankings.proofs.Members.{member_left, member_right, member_either, member_map, member_unmap}
 use Rattle.tdp_model.specs.KeyLaws.{IsKeys}
 use Rattle.tdp_model.specs.TreeProblem.{RowHas, GroupHas, PartHas, all_sums, gather, part_keys, row_keys}
 use Rattle.tdp_model.proofs.Subtrees.{cases_eq}
@@ -11,24 +11,24 @@ use Rattle.tdp_model.proofs.Parts.{pick_at, pick_off, part_first, part_first_onl
 
 sums_member : {K : Type 0} (add : K → K → K) (a b : K) (xs ys : List K) → IsMember a xs → IsMember b ys → IsMember (add a b) (all_sums add xs ys)
 sums_member add a b [] ys m n = absurd m
-sums_member add a b (x ∷ xs) ys (inl e) n = member-left (add a b) (map (λ y. add x y) ys) (all_sums add xs ys) (subst (λ z. IsMember (add z b) (map (λ y. add x y) ys)) (sym e) (member-map (λ y. add x y) b ys n))
-sums_member add a b (x ∷ xs) ys (inr m) n = member-right (add a b) (map (λ y. add x y) ys) (all_sums add xs ys) (sums_member add a b xs ys m n)
+sums_member add a b (x ∷ xs) ys (inl e) n = member_left (add a b) (map (λ y. add x y) ys) (all_sums add xs ys) (subst (λ z. IsMember (add z b) (map (λ y. add x y) ys)) (sym e) (member_map (λ y. add x y) b ys n))
+sums_member add a b (x ∷ xs) ys (inr m) n = member_right (add a b) (map (λ y. add x y) ys) (all_sums add xs ys) (sums_member add a b xs ys m n)
 
 member_sums : {K : Type 0} (add : K → K → K) (k : K) (xs ys : List K) → IsMember k (all_sums add xs ys) → (a : K) × (b : K) × IsMember a xs × IsMember b ys × (k ≡ add a b)
 member_sums add k [] ys m = absurd m
-member_sums {K} add k (x ∷ xs) ys m = elim (member-either k (map (λ y. add x y) ys) (all_sums add xs ys) m) [
-  | inl n ↦ let r : (y : K) × IsMember y ys × (k ≡ add x y) = member-unmap (λ y. add x y) k ys n in (x, r.0, inl refl, r.1, r.2)
+member_sums {K} add k (x ∷ xs) ys m = elim (member_either k (map (λ y. add x y) ys) (all_sums add xs ys) m) [
+  | inl n ↦ let r : (y : K) × IsMember y ys × (k ≡ add x y) = member_unmap (λ y. add x y) k ys n in (x, r.0, inl refl, r.1, r.2)
   | inr n ↦ let r : (a : K) × (b : K) × IsMember a xs × IsMember b ys × (k ≡ add a b) = member_sums add k xs ys n in (r.0, r.1, inr r.2, r.3, r.4)
 ]
 
 pub gather_member : {K : Type 0} (f : ℕ → List K) (k : K) (rs : List ℕ) (i : ℕ) → i < length rs → IsMember k (f (get_or rs i 0)) → IsMember k (gather f rs)
 gather_member f k [] i l m = absurd (omega arith)
-gather_member f k (r ∷ rs) zero l m = member-left k (f r) (gather f rs) m
-gather_member f k (r ∷ rs) (suc i) l m = member-right k (f r) (gather f rs) (gather_member f k rs i (omega arith) m)
+gather_member f k (r ∷ rs) zero l m = member_left k (f r) (gather f rs) m
+gather_member f k (r ∷ rs) (suc i) l m = member_right k (f r) (gather f rs) (gather_member f k rs i (omega arith) m)
 
 pub member_gather : {K : Type 0} (f : ℕ → List K) (k : K) (rs : List ℕ) → IsMember k (gather f rs) → (i : ℕ) × (i < length rs) × IsMember k (f (get_or rs i 0))
 member_gather f k [] m = absurd m
-member_gather f k (r ∷ rs) m = elim (member-either k (f r) (gather f rs) m) [
+member_gather f k (r ∷ rs) m = elim (member_either k (f r) (gather f rs) m) [
   | inl n ↦ (0, omega arith, n)
   | inr n ↦ let s : (i : ℕ) × (i < length rs) × IsMember k (f (get_or rs i 0)) = member_gather f k rs n in (suc s.0, omega arith, s.2)
 ]

@@ -46,6 +46,6 @@ example = record {
     same_first : (i j : ℕ) → i < 1 → j < 1 → get_or {A = ℕ} (0 ∷ []) i 0 ≡ get_or {A = ℕ} (0 ∷ []) j 0
     same_first i j h g = let e : i ≡ j = omega arith in ap (λ z. get_or (0 ∷ []) z 0) e
 
-pub example-nodes : example.nodes ≡ 2
+pub example_nodes : example.nodes ≡ 2
 unfolding example
-example-nodes = refl
+example_nodes = refl

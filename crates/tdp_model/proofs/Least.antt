@@ -4,7 +4,7 @@ use Rattle.rankings.specs.Order.{IsOrder}
 use Rattle.tdp_model.specs.Remains.{AtMost}
 use Rattle.tdp_model.specs.Heap.{under}
 use Rattle.tdp_model.specs.Regions.{place_of, stands, completes, held, Region, in_region, completion, opening, best_of}
-use Rattle.tdp_model.specs.Staged.{IsStaged}
+use Rattle.tdp_model.specs.StagedProblem.{IsStaged}
 use Rattle.tdp_model.proofs.Subtrees.{climbs_ordered, climbs_all}
 use Rattle.tdp_model.proofs.Division.{get_place, stands_place, past_found, empty_found, append_nil, times_pos}
 

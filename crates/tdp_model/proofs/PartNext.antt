@@ -5,7 +5,7 @@ use Rattle.std.proofs.lemmas.Bool.Decides.{nat_tests}
 use Rattle.rankings.specs.Order.{IsOrder}
 use Rattle.tdp_model.specs.Remains.{AtMost, Remains}
 use Rattle.tdp_model.specs.Regions.{past, completes, held, deviations, exactly, Region, in_region, in_regions, opening, best_of, divided}
-use Rattle.tdp_model.specs.Staged.{IsStaged}
+use Rattle.tdp_model.specs.StagedProblem.{IsStaged}
 use Rattle.tdp_model.specs.Queue.{present, AllReached, whole_region, rank_of, IsOpen, AllOpen, IsLeast, IsQueue}
 use Rattle.tdp_model.proofs.Removal.{take_least, Remains-same}
 use Rattle.tdp_model.proofs.Division.{past_same, held_past_end, completes_held, exactly_at, exactly_only}

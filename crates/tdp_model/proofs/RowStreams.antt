@@ -4,7 +4,7 @@ use Rattle.std.proofs.lemmas.Bool.Decides.{nat_tests}
 use Rattle.rankings.specs.Order.{IsRanking}
 use Rattle.tdp_model.specs.KeyLaws.{IsKeys}
 use Rattle.tdp_model.specs.Remains.{Remains, total}
-use Rattle.tdp_model.specs.Staged.{IsDistinct}
+use Rattle.tdp_model.specs.StagedProblem.{IsDistinct}
 use Rattle.tdp_model.specs.Product.{Pair, pair_key, is_pair, stands_for, is_run, runs_to, run_key, run_heads}
 use Rattle.tdp_model.specs.TreeProblem.{RowHas, GroupHas, PartHas, IsTieFree}
 use Rattle.tdp_model.proofs.Removal.{Remains-same}

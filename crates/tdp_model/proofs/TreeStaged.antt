@@ -4,7 +4,7 @@ use Rattle.std.proofs.lemmas.Bool.{cases_lt}
 use Rattle.std.proofs.lemmas.Bool.Decides.{nat_tests}
 use Rattle.tdp_model.specs.KeyLaws.{IsKeys}
 use Rattle.tdp_model.specs.Remains.{AtMost}
-use Rattle.tdp_model.specs.Staged.{IsStaged}
+use Rattle.tdp_model.specs.StagedProblem.{IsStaged}
 use Rattle.tdp_model.specs.TreeProblem.{sum_from, least_of, kid_part, members_after, open_part, key_of, bound_of, IsAbove, IsTree, IsReached}
 use Rattle.tdp_model.proofs.Subtrees.{cases_eq}
 use Rattle.tdp_model.proofs.Keys.{add_at_most, cancel, cancel_at_most}

@@ -2,7 +2,7 @@ pub mod KeyLaws
 pub mod Remains
 pub mod Heap
 pub mod Regions
-pub mod Staged
+pub mod StagedProblem
 pub mod Queue
 pub mod Product
 pub mod TreeProblem

@@ -1,7 +1,7 @@
 //! Small tables, and small queries over them.
 ghost use Rattle.std.specs.Prelude.{◌≡◌, ◌<◌, [], IfSome, OnOk, length};
 ghost use Rattle.std.specs.List.{AllByRecursion};
-ghost use Rattle.query_bind.specs.Weighed.{Fits};
+ghost use Rattle.query_bind.specs.WeighedQuery.{Fits};
 
 use csv_tables::{TableFault, Tables};
 use query_bind::{Query, bind};

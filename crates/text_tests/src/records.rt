@@ -1,7 +1,7 @@
 //! Answers as records: the header and a line of worked examples.
 ghost use Rattle.std.specs.Prelude.{◌≡◌, IsTrue, length, take};
 ghost use Rattle.anyk_model.specs.Query.{IsCombination, row_counts};
-ghost use Rattle.query_bind.specs.Weighed.{Fits};
+ghost use Rattle.query_bind.specs.WeighedQuery.{Fits};
 
 use crate::fixtures::{R, S, query_of, read_two};
 use answer_print::{AnswerWriter, Style, header, line, write_line};

@@ -13,10 +13,10 @@ use Rattle.tdp_model.proofs.KeyTuples.{tuple_keys, slot_of_add, slot_of_none}
 use Rattle.tdp_model.proofs.Sums.{get_front, get_end, length_end, none_add, sum_same, sum_last}
 use Rattle.tdp_model.proofs.Ties.{slot_zero}
 use Rattle.tdp_model.proofs.TreeStaged.{tree_staged, other_of, bound_parts, bound_whole}
-use Rattle.tdp_core.specs.Seen.{rows_of_key}
+use Rattle.tdp_core.specs.SeenAnswers.{rows_of_key}
 use Rattle.tdp_core.specs.TreeData.{NodeData, node_at, parent, item, rows, number, group_count, group, rank, best}
 use Rattle.tdp_core.specs.WellFormed.{IsFormed, IsTieFreeTree}
-use Rattle.tdp_core.proofs.SeenFacts.{rows_of_key-length, rows_of_key-at}
+use Rattle.tdp_core.proofs.SeenFacts.{rows_of_key_length, rows_of_key_at}
 use Rattle.tdp_core.proofs.TreeFacts.{tree_of, tie_free_of, ranked_of}
 
 module _ {R : Type 0} (d : ℕ) (key : R → KeyOf d 16) (t : List (NodeData R)) where
@@ -32,8 +32,8 @@ module _ {R : Type 0} (d : ℕ) (key : R → KeyOf d 16) (t : List (NodeData R))
   unfolding sum_from
   no_slots i = slot_of_none d 16 i
 
-  key-push : (pre : List ℕ) (r : ℕ) → key_of_rows (pre ++ (r ∷ [])) ≡ key_add d 16 (key_of_rows pre) (rank t d key (length pre) r)
-  key-push pre r =
+  key_push : (pre : List ℕ) (r : ℕ) → key_of_rows (pre ++ (r ∷ [])) ≡ key_add d 16 (key_of_rows pre) (rank t d key (length pre) r)
+  key_push pre r =
       subst (λ n. sum_from (key_add d 16) (key_none d 16) (λ q. rank t d key q (get_or (pre ++ (r ∷ [])) q 0)) n 0 ≡ key_add d 16 (key_of_rows pre) (rank t d key (length pre) r)) (sym (length_end pre r))
       (sum_last (key_below d 16) (key_add d 16) (key_none d 16) (tuple_keys d 16) (λ q. rank t d key q (get_or (pre ++ (r ∷ [])) q 0)) (length pre) 0 (length pre) (omega arith)
       ∙ ap (λ z. key_add d 16 z (rank t d key (length pre) (get_or (pre ++ (r ∷ [])) (length pre) 0)))
@@ -83,8 +83,8 @@ module _ {R : Type 0} (d : ℕ) (key : R → KeyOf d 16) (t : List (NodeData R))
       taken : length (take q chosen) ≡ q
       taken = length-take-le q chosen (omega arith)
 
-      group-before : group t q (get_or (take q chosen) (parent t q) 0) ≡ group t q (get_or chosen (parent t q) 0)
-      group-before = elim (cases_lt 0 q) [
+      group_before : group t q (get_or (take q chosen) (parent t q) 0) ≡ group t q (get_or chosen (parent t q) 0)
+      group_before = elim (cases_lt 0 q) [
         | inl some ↦ ap (group t q) (get_or-take q chosen (parent t q) 0 (formed.shaped.parents_first q some inside))
         | inr none ↦
             let zero_is : 0 ≡ q = omega arith in
@@ -103,7 +103,7 @@ module _ {R : Type 0} (d : ℕ) (key : R → KeyOf d 16) (t : List (NodeData R))
             (λ p l. let below : p < q = omega (arith, taken, l) in subst (λ x. x < rows t p) (sym (get_or-take q chosen p 0 below)) (reached p below)),
           ) in
           let follows : members_after (key_add d 16) (key_none d 16) (length t) (parent t) (rank t d key) (group t) (best t d key) pre ≡ group t q (get_or chosen (parent t q) 0) =
-          ap (λ n. group t n (get_or pre (parent t n) 0)) taken ∙ group-before
+          ap (λ n. group t n (get_or pre (parent t n) 0)) taken ∙ group_before
           in
           let staged = tree_staged (key_below d 16) (key_add d 16) (key_none d 16) (tuple_keys d 16) (length t) (parent t) (rank t d key) (group t) (best t d key) (λ v r. r < rows t v) (tree_of d key t formed live) in
           ap least_with after ∙ ap (λ x. least_with (pre ++ x ∷ [])) (is ∙ ap (λ xs. get_or xs 0 0) (sym follows)) ∙ staged.first (length t - suc q) pre reach
@@ -114,9 +114,9 @@ module _ {R : Type 0} (d : ℕ) (key : R → KeyOf d 16) (t : List (NodeData R))
         | inr other ↦ subst (λ x. x < rows t p) (sym (get_or-set_other chosen q p row 0 other)) (so_far p (omega arith))
       ]
 
-      slot-row : (i : ℕ) → i < 16 → slot_of d 16 i (key_of_rows (take (q + 1) (set chosen q row))) ≡ slot_of d 16 i (key_of_rows (take q chosen)) + cond (nat_eq i (item t q)) (number t q row) 0
-      slot-row i l =
-          ap (λ xs. slot_of d 16 i (key_of_rows xs)) after ∙ ap (slot_of d 16 i) (key-push (take q chosen) row) ∙ slot_of_add d 16 i (key_of_rows (take q chosen)) (rank t d key (length (take q chosen)) row)
+      slot_row : (i : ℕ) → i < 16 → slot_of d 16 i (key_of_rows (take (q + 1) (set chosen q row))) ≡ slot_of d 16 i (key_of_rows (take q chosen)) + cond (nat_eq i (item t q)) (number t q row) 0
+      slot_row i l =
+          ap (λ xs. slot_of d 16 i (key_of_rows xs)) after ∙ ap (slot_of d 16 i) (key_push (take q chosen) row) ∙ slot_of_add d 16 i (key_of_rows (take q chosen)) (rank t d key (length (take q chosen)) row)
           ∙ ap (λ n. slot_of d 16 i (key_of_rows (take q chosen)) + slot_of d 16 i (rank t d key n row)) taken
           ∙ ap (λ n. slot_of d 16 i (key_of_rows (take q chosen)) + n) ((ranked_of d key t formed q row inside).2 i l)
 
@@ -132,10 +132,10 @@ module _ {R : Type 0} (d : ℕ) (key : R → KeyOf d 16) (t : List (NodeData R))
             in
             let own : cond {A = ℕ} (nat_eq i (item t q)) (number t q row) 0 ≡ number t q row = cond-true (nat_eq i (item t q)) (number t q row) 0 (eq-eqb i (item t q) e) in
             let here : get_or (set numbers (item t q) (number t q row)) (item t q) 0 ≡ number t q row = get_or-set_same numbers (item t q) (number t q row) 0 (omega arith) in
-            omega (arith, slot-row i l, own, ap (λ k. get_or (set numbers (item t q) (number t q row)) k 0) e, here, ap (λ k. slot_of d 16 k (key_of_rows (take q chosen))) e, none)
+            omega (arith, slot_row i l, own, ap (λ k. get_or (set numbers (item t q) (number t q row)) k 0) e, here, ap (λ k. slot_of d 16 k (key_of_rows (take q chosen))) e, none)
         | inr other ↦
             let own : cond {A = ℕ} (nat_eq i (item t q)) (number t q row) 0 ≡ 0 = cond-false (nat_eq i (item t q)) (number t q row) 0 (ne_eqb i (item t q) other) in
-            omega (arith, slot-row i l, own, get_or-set_other numbers (item t q) i (number t q row) 0 other, so_far i l)
+            omega (arith, slot_row i l, own, get_or-set_other numbers (item t q) i (number t q row) 0 other, so_far i l)
       ]
 
     module _ (live : 0 < group_count t 0) (chosen : List ℕ) (room : length t ≤ length chosen) (k : KeyOf d 16) (least : least_with (take (length t) chosen) ≡ k) where
@@ -145,5 +145,5 @@ module _ {R : Type 0} (d : ℕ) (key : R → KeyOf d 16) (t : List (NodeData R))
           let whole : key_of_rows (take (length t) chosen) ≡ k =
           sym (bound_whole (key_below d 16) (key_add d 16) (key_none d 16) (tuple_keys d 16) (length t) (parent t) (rank t d key) (group t) (best t d key) (λ v r. r < rows t v) (tree_of d key t formed live) (take (length t) chosen) (length-take-le (length t) chosen room)) ∙ least
           in
-          ext_get_or 0 numbers (rows_of_key d 16 k) (long ∙ sym (rows_of_key-length d 16 k))
-          (λ i l. slots i (omega arith) ∙ ap (slot_of d 16 i) whole ∙ sym (rows_of_key-at d 16 i k))
+          ext_get_or 0 numbers (rows_of_key d 16 k) (long ∙ sym (rows_of_key_length d 16 k))
+          (λ i l. slots i (omega arith) ∙ ap (slot_of d 16 i) whole ∙ sym (rows_of_key_at d 16 i k))

@@ -11,28 +11,28 @@ use Rattle.std.proofs.lemmas.List.{get_or-set_same, get_or-set_other}
 use Rattle.std.proofs.lemmas.List.Sorted.{IsPermutation-refl}
 
 -- a vector whose elements were written as a slice
-pub items-written : {X Z : Type 0} (v : Vec X Z) (new : List X) → length new ≡ length v.items → (with_items v new).items ≡ new
-items-written v new same =
+pub items_written : {X Z : Type 0} (v : Vec X Z) (new : List X) → length new ≡ length v.items → (with_items v new).items ≡ new
+items_written v new same =
     ap (λ n. take n (new ++ drop (length new) v.items)) (v.ok.0 ∙ sym same) ∙ take-append_seam new (drop (length new) v.items)
 
 -- the members of all groups from number n on
-pub members-from : (gs : List (List ℕ)) (n : ℕ) → n < length gs → length (concat (drop n gs)) ≡ length (get_or gs n []) + length (concat (drop (n + 1) gs))
-members-from [] n l = absurd (omega arith)
-members-from (x ∷ gs) zero l = length-append x (concat gs)
-members-from (x ∷ gs) (suc n) l =
+pub members_from : (gs : List (List ℕ)) (n : ℕ) → n < length gs → length (concat (drop n gs)) ≡ length (get_or gs n []) + length (concat (drop (n + 1) gs))
+members_from [] n l = absurd (omega arith)
+members_from (x ∷ gs) zero l = length-append x (concat gs)
+members_from (x ∷ gs) (suc n) l =
     let next : suc n + 1 ≡ suc (n + 1) = omega arith in
-    members-from gs n (omega arith) ∙ ap (λ k. length (get_or gs n []) + length (concat (drop k (x ∷ gs)))) (sym next)
+    members_from gs n (omega arith) ∙ ap (λ k. length (get_or gs n []) + length (concat (drop k (x ∷ gs)))) (sym next)
 
 -- each group, where one is put into another order
-pub same-members : (gs : List (List ℕ)) (n : ℕ) (new : List ℕ) → n < length gs → IsPermutation (get_or gs n []) new → (m : ℕ) → IsPermutation (get_or gs m []) (get_or (set gs n new) m [])
-same-members gs n new l moved m = elim (cases_eq m n) [
+pub same_members : (gs : List (List ℕ)) (n : ℕ) (new : List ℕ) → n < length gs → IsPermutation (get_or gs n []) new → (m : ℕ) → IsPermutation (get_or gs m []) (get_or (set gs n new) m [])
+same_members gs n new l moved m = elim (cases_eq m n) [
   | inl e ↦ subst (λ k. IsPermutation (get_or gs k []) (get_or (set gs n new) k [])) (sym e) (subst (IsPermutation (get_or gs n [])) (sym (get_or-set_same gs n new [] l)) moved)
   | inr other ↦ subst (IsPermutation (get_or gs m [])) (sym (get_or-set_other gs n m new [] other)) (IsPermutation-refl (get_or gs m []))
 ]
 
 -- what holds of the groups below number n, and of the group that is put there
-pub below-next : (P : List ℕ → Type 0) (gs : List (List ℕ)) (n : ℕ) (new : List ℕ) → n < length gs → ((m : ℕ) → m < n → P (get_or gs m [])) → P new → (m : ℕ) → m < n + 1 → P (get_or (set gs n new) m [])
-below-next P gs n new l earlier here m h = elim (cases_eq m n) [
+pub below_next : (P : List ℕ → Type 0) (gs : List (List ℕ)) (n : ℕ) (new : List ℕ) → n < length gs → ((m : ℕ) → m < n → P (get_or gs m [])) → P new → (m : ℕ) → m < n + 1 → P (get_or (set gs n new) m [])
+below_next P gs n new l earlier here m h = elim (cases_eq m n) [
   | inl e ↦ subst (λ k. P (get_or (set gs n new) k [])) (sym e) (subst P (sym (get_or-set_same gs n new [] l)) here)
   | inr other ↦ subst P (sym (get_or-set_other gs n m new [] other)) (earlier m (omega arith))
 ]

@@ -13,7 +13,7 @@ use Rattle.tdp_model.proofs.KeyNumbers.{sum_of_none}
 use Rattle.rank_key.specs.Keys.{KeyFits}
 use Rattle.tdp_core.specs.TreeData.{NodeData, node_at, parent, item, cap, rows, number, kids_below, child_place, group_count, members, group_named, group_number, group, rank, best}
 use Rattle.tdp_core.specs.WellFormed.{RowFits}
-use Rattle.tdp_core.proofs.Children.{kids_below-first, kids_below-other, child_place_within}
+use Rattle.tdp_core.proofs.Children.{kids_below_first, kids_below_other, child_place_within}
 use Rattle.tdp_core.proofs.GroupMembers.{member_below}
 use Rattle.tdp_core.proofs.KeyRanges.{part_fits}
 use Rattle.tdp_model.proofs.LeastKeys.{least_had}
@@ -23,12 +23,12 @@ use Rattle.tree_dp.proofs.FirstParts.{first_part}
 
 -- no node up to v is a child of v
 pub no_kids_yet : (parents : ℕ → ℕ) (m v n : ℕ) → ((q : ℕ) → 0 < q → q < m → parents q < q) → v < m → n ≤ v → kids_below parents v (n + 1) ≡ 0
-no_kids_yet parents m v zero first l h = kids_below-first parents v
+no_kids_yet parents m v zero first l h = kids_below_first parents v
 no_kids_yet parents m v (suc n) first l h =
     let next : suc n + 1 ≡ suc (n + 1) = omega arith in
     let last : suc n ≡ n + 1 = omega arith in
     let above = first (n + 1) (omega arith) (omega arith) in
-    ap (λ k. kids_below parents v (k + 1)) last ∙ kids_below-other parents v (n + 1) (λ e. omega (arith, above, e)) ∙ no_kids_yet parents m v n first l (omega arith)
+    ap (λ k. kids_below parents v (k + 1)) last ∙ kids_below_other parents v (n + 1) (λ e. omega (arith, above, e)) ∙ no_kids_yet parents m v n first l (omega arith)
 
 module _ {R : Type 0} (d : ℕ) (key : R → KeyOf d 16) (t : List (NodeData R)) (laid : IsLaidOut d key t) where
   pub member_row : (v g i : ℕ) → v < length t → i < length (members t v g) → get_or (members t v g) i 0 < rows t v
@@ -48,8 +48,8 @@ module _ {R : Type 0} (d : ℕ) (key : R → KeyOf d 16) (t : List (NodeData R))
       subst (λ n. kids_below (parent t) v q < n) (sym (laid.name_all v r up row)) (subst (λ p. kids_below (parent t) p q < kids_below (parent t) p (length t)) is below)
 
   -- the group that a row names for a child
-  pub group-is : (v r q : ℕ) → 0 < q → parent t q ≡ v → group t q r ≡ members t q (group_named t v r (kids_below (parent t) v q))
-  group-is v r q some is =
+  pub group_is : (v r q : ℕ) → 0 < q → parent t q ≡ v → group t q r ≡ members t q (group_named t v r (kids_below (parent t) v q))
+  group_is v r q some is =
       ap (members t q) (cond-false (nat_eq q 0) 0 (group_named t (parent t q) r (child_place t q)) (ne_eqb q 0 (λ e. omega arith)))
       ∙ ap (λ p. members t q (group_named t p r (kids_below (parent t) p q))) is
 
@@ -58,7 +58,7 @@ module _ {R : Type 0} (d : ℕ) (key : R → KeyOf d 16) (t : List (NodeData R))
       subst (λ p. group_named t p r (kids_below (parent t) p q) < group_count t q) is (laid.named q r some l (subst (λ p. r < rows t p) (sym is) row))
 
   group_inhabited : (v r q : ℕ) → 0 < q → q < length t → parent t q ≡ v → r < rows t v → 0 < length (group t q r)
-  group_inhabited v r q some l is row = subst (λ g. 0 < length g) (sym (group-is v r q some is)) (laid.inhabited q _ l (group_within v r q some l is row))
+  group_inhabited v r q some l is row = subst (λ g. 0 < length g) (sym (group_is v r q some is)) (laid.inhabited q _ l (group_within v r q some l is row))
 
   same_zero : (b : Bool) → cond {A = ℕ} b 0 0 ≡ 0
   same_zero true = refl
@@ -90,10 +90,10 @@ module _ {R : Type 0} (d : ℕ) (key : R → KeyOf d 16) (t : List (NodeData R))
         depth q r e l (after, row)
 
     -- a row with the least keys of its first children is the key of a part of a subtree solution, so it fits
-    pub first_part-fits : (r n : ℕ) → v < length t → n ≤ length t - suc v → r < rows t v
+    pub first_part_fits : (r n : ℕ) → v < length t → n ≤ length t - suc v → r < rows t v
         → KeyFits d key (first_part (key_below d 16) (key_add d 16) (key_none d 16) (tuple_keys d 16) (length t) (parent t) (rank t d key) (group t) (best t d key) v r n)
     unfolding kid_part kid_key
-    first_part-fits r n l few row =
+    first_part_fits r n l few row =
         part_fits d key (length t) (parent t) (item t) (cap t) (number t) (rank t d key) laid.shaped laid.held row_fits (group t) (length t) v r n
         (first_part (key_below d 16) (key_add d 16) (key_none d 16) (tuple_keys d 16) (length t) (parent t) (rank t d key) (group t) (best t d key) v r n)
         l few (

@@ -5,8 +5,8 @@ use Rattle.std.proofs.lemmas.Bool.{cases_eq}
 use Rattle.std.proofs.lemmas.List.{get_or-map, map-set, length-map, get_or-set_same, get_or-set_other}
 use Rattle.tdp_core.specs.declared.parts.NodeParts.{NodeParts}
 use Rattle.tdp_core.specs.TreeData.{NodeData, node_data, tree_data, node_at}
-use Rattle.tree_dp.specs.Solved.{IsReordered}
-use Rattle.tree_dp.proofs.Reordered.{reordered-refl}
+use Rattle.tree_dp.specs.SolvedTrees.{IsReordered}
+use Rattle.tree_dp.proofs.Reordered.{reordered_refl}
 
 -- what stands past the last node
 abbrev no_node : (R : Type 0) → NodeData R
@@ -31,5 +31,5 @@ module _ {R : Type 0} (parts : List (NodeParts R)) (v : ℕ) (new : NodeParts R)
     | inl e ↦ subst (λ k. IsReordered (node_at (tree_data parts) k) (node_at (tree_data (set parts v new)) k)) (sym e)
         (subst (λ n. IsReordered n (node_at (tree_data (set parts v new)) v)) (sym (read_node parts v none l))
         (subst (IsReordered (node_data (get_or parts v none))) (sym (written_here l)) same))
-    | inr other ↦ subst (IsReordered (node_at (tree_data parts) w)) (sym (written_elsewhere w other)) (reordered-refl (node_at (tree_data parts) w))
+    | inr other ↦ subst (IsReordered (node_at (tree_data parts) w)) (sym (written_elsewhere w other)) (reordered_refl (node_at (tree_data parts) w))
   ]

@@ -10,16 +10,16 @@ use Rattle.tdp_model.proofs.Division.{stands_place, times_pos}
 use Rattle.tdp_model.proofs.KeyTuples.{tuple_keys}
 use Rattle.tdp_model.proofs.Keys.{at_most_trans}
 use Rattle.tdp_model.proofs.Subtrees.{climbs_ordered, climbs_all}
-use Rattle.tdp_core.specs.Seen.{answer_of, answers_of}
+use Rattle.tdp_core.specs.SeenAnswers.{answer_of, answers_of}
 use Rattle.tdp_core.specs.TreeData.{NodeData, node_at, parent, group_count, members, group, rank, best}
 use Rattle.tdp_core.specs.Solutions.{IsTreeRanking}
 use Rattle.tdp_core.specs.WellFormed.{IsFormed}
 use Rattle.tdp_core.proofs.TreeFacts.{member_is_row, best_had, best_least}
 
-below-member : {K : Type 0} (Below : K → K → Type 0) (x y : K) (list : List K) → BelowAll Below x list → IsMember y list → Below x y
-below-member Below x y [] below m = absurd m
-below-member Below x y (z ∷ zs) below (inl e) = subst (Below x) (sym e) below.0
-below-member Below x y (z ∷ zs) below (inr m) = below-member Below x y zs below.1 m
+below_member : {K : Type 0} (Below : K → K → Type 0) (x y : K) (list : List K) → BelowAll Below x list → IsMember y list → Below x y
+below_member Below x y [] below m = absurd m
+below_member Below x y (z ∷ zs) below (inl e) = subst (Below x) (sym e) below.0
+below_member Below x y (z ∷ zs) below (inr m) = below_member Below x y zs below.1 m
 
 -- nothing is chosen from an empty first group
 none_chosen : (members : List ℕ → List ℕ) (n : ℕ) (s : List ℕ) → members [] ≡ [] → 0 < completes members (suc n) [] s → ⊥
@@ -88,7 +88,7 @@ module _ {R : Type 0} (d : ℕ) (key : R → KeyOf d 16) (t : List (NodeData R))
     top_first (k ∷ ks) ranking = elim (ranking.complete top (has_solution top top_had)) [
       | inl e ↦ (ks, ap (λ z. z ∷ ks) (sym e))
       | inr later ↦
-          let below : key_below d 16 k top = below-member (key_below d 16) k top ks ranking.ascending.0 later in
+          let below : key_below d 16 k top = below_member (key_below d 16) k top ks ranking.ascending.0 later in
           let order = (tuple_keys d 16).order in
           elim (top_least k (root_has k (ranking.sound k (inl refl)))) [
             | inl under ↦ absurd (order.irreflexive k (order.transitive k top k below under))

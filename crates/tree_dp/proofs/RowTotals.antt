@@ -6,9 +6,9 @@ use Rattle.tdp_model.specs.TreeProblem.{sum_from}
 abbrev pub total_from : (ℕ → ℕ) → ℕ → ℕ → ℕ
 total_from f m v = sum_from ◌+◌ 0 f (m - v) v
 
-pub total_from-before : (f : ℕ → ℕ) (m v : ℕ) → 0 < v → v ≤ m → total_from f m (v - 1) ≡ f (v - 1) + total_from f m v
+pub total_from_before : (f : ℕ → ℕ) (m v : ℕ) → 0 < v → v ≤ m → total_from f m (v - 1) ≡ f (v - 1) + total_from f m v
 unfolding sum_from
-total_from-before f m v some l =
+total_from_before f m v some l =
     let more : m - (v - 1) ≡ suc (m - v) = omega arith in
     let back : suc (v - 1) ≡ v = omega arith in
     ap (λ n. sum_from ◌+◌ 0 f n (v - 1)) more ∙ ap (λ q. f (v - 1) + sum_from ◌+◌ 0 f (m - v) q) back
@@ -24,8 +24,8 @@ sum_rest f n (suc k) q =
     let more : n + suc k ≡ suc (n + k) = omega arith in
     omega (arith, ap (sum_from ◌+◌ 0 f n) place, ap (λ j. sum_from ◌+◌ 0 f j q) more, sum_rest f n k (suc q))
 
-pub total_from-most : (f : ℕ → ℕ) (m v : ℕ) → v ≤ m → total_from f m v ≤ sum_from ◌+◌ 0 f m 0
-total_from-most f m v l =
+pub total_from_most : (f : ℕ → ℕ) (m v : ℕ) → v ≤ m → total_from f m v ≤ sum_from ◌+◌ 0 f m 0
+total_from_most f m v l =
     let place : 0 + v ≡ v = omega arith in
     let whole : (m - v) + v ≡ m = omega arith in
     omega (arith, sum_rest f (m - v) v 0, ap (sum_from ◌+◌ 0 f (m - v)) place, ap (λ n. sum_from ◌+◌ 0 f n 0) whole)

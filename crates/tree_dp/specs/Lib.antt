@@ -1,4 +1,4 @@
 pub mod BestRanking
 pub mod Orders
 pub mod Progress
-pub mod Solved
+pub mod SolvedTrees

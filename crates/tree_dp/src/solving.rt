@@ -2,9 +2,9 @@
 ghost use Rattle.std.specs.Prelude.{◌≡◌, ℕ, ◌+◌, ◌*◌, ◌<◌, ◌≤◌, ◌∷◌, length, map, OnOk, IfOk};
 ghost use Rattle.tdp_core.specs.TreeData.{tree_data, node_at, rows, row_count};
 ghost use Rattle.tdp_core.specs.WellFormed.{IsLaidOut};
-ghost use Rattle.semi_join.specs.Grouped.{IsGrouped};
+ghost use Rattle.semi_join.specs.GroupedTrees.{IsGrouped};
 ghost use Rattle.tree_dp.specs.Progress.{IsSolvedFrom, AreLeastsFrom};
-ghost use Rattle.tree_dp.specs.Solved.{IsReordered, IsSolved};
+ghost use Rattle.tree_dp.specs.SolvedTrees.{IsReordered, IsSolved};
 
 use crate::bests::bests_of;
 use crate::order::order_groups;

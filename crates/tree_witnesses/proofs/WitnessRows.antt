@@ -5,30 +5,30 @@ use Rattle.rankings.specs.Order.{IsMember}
 use Rattle.anyk_model.specs.Table.{Table, table_at}
 use Rattle.anyk_model.specs.Query.{Column, Equality, IsCombination, Item, Query, item_table, row_counts}
 use Rattle.query_bind.specs.Classes.{AreVariables, HasVariable, Linked, variable_at}
-use Rattle.query_bind.proofs.Least.{at-member}
+use Rattle.query_bind.proofs.Least.{at_member}
 
 -- ---- combinations
 
-combination-from : (counts rows : List ℕ) → length rows ≡ length counts
+combination_from : (counts rows : List ℕ) → length rows ≡ length counts
     → ((i : ℕ) → i < length counts → (1 ≤ get_or rows i 0) × (get_or rows i 0 ≤ get_or counts i 0)) → IsCombination counts rows
-combination-from [] [] same each = tt
-combination-from [] (row ∷ rows) same each = absurd (omega arith)
-combination-from (count ∷ counts) [] same each = absurd (omega arith)
-combination-from (count ∷ counts) (row ∷ rows) same each =
+combination_from [] [] same each = tt
+combination_from [] (row ∷ rows) same each = absurd (omega arith)
+combination_from (count ∷ counts) [] same each = absurd (omega arith)
+combination_from (count ∷ counts) (row ∷ rows) same each =
     let first = each 0 (omega arith) in
-    (first.0, first.1, combination-from counts rows (omega arith) (λ i l. each (suc i) (omega arith)))
+    (first.0, first.1, combination_from counts rows (omega arith) (λ i l. each (suc i) (omega arith)))
 
-combination-at : (counts rows : List ℕ) (i : ℕ) → IsCombination counts rows → i < length counts → (1 ≤ get_or rows i 0) × (get_or rows i 0 ≤ get_or counts i 0)
-combination-at [] rows i c inside = absurd (omega arith)
-combination-at (count ∷ counts) [] i c inside = absurd c
-combination-at (count ∷ counts) (row ∷ rows) zero c inside = (c.0, c.1)
-combination-at (count ∷ counts) (row ∷ rows) (suc i) c inside = combination-at counts rows i c.2 (omega arith)
+combination_at : (counts rows : List ℕ) (i : ℕ) → IsCombination counts rows → i < length counts → (1 ≤ get_or rows i 0) × (get_or rows i 0 ≤ get_or counts i 0)
+combination_at [] rows i c inside = absurd (omega arith)
+combination_at (count ∷ counts) [] i c inside = absurd c
+combination_at (count ∷ counts) (row ∷ rows) zero c inside = (c.0, c.1)
+combination_at (count ∷ counts) (row ∷ rows) (suc i) c inside = combination_at counts rows i c.2 (omega arith)
 
-combination-length : (counts rows : List ℕ) → IsCombination counts rows → length rows ≡ length counts
-combination-length [] [] c = refl
-combination-length [] (row ∷ rows) c = absurd c
-combination-length (count ∷ counts) [] c = absurd c
-combination-length (count ∷ counts) (row ∷ rows) c = ap suc (combination-length counts rows c.2)
+combination_length : (counts rows : List ℕ) → IsCombination counts rows → length rows ≡ length counts
+combination_length [] [] c = refl
+combination_length [] (row ∷ rows) c = absurd c
+combination_length (count ∷ counts) [] c = absurd c
+combination_length (count ∷ counts) (row ∷ rows) c = ap suc (combination_length counts rows c.2)
 
 module _ (query : Query) (tables : List Table) (rows : List ℕ) where
   abbrev rows_in : Item → ℕ
@@ -38,45 +38,45 @@ module _ (query : Query) (tables : List Table) (rows : List ℕ) where
   abbrev pub IsThere : ℕ → Type 0
   IsThere i = (1 ≤ get_or rows i 0) × (get_or rows i 0 ≤ length (item_table query tables i).rows)
 
-  count-at : (i : ℕ) → i < length query.items → get_or (row_counts query.items tables) i 0 ≡ length (item_table query tables i).rows
-  count-at i inside = get_or-map rows_in query.items i (record { table = 0; alias = [] }) 0 inside
+  count_at : (i : ℕ) → i < length query.items → get_or (row_counts query.items tables) i 0 ≡ length (item_table query tables i).rows
+  count_at i inside = get_or-map rows_in query.items i (record { table = 0; alias = [] }) 0 inside
 
-  counts-length : length (row_counts query.items tables) ≡ length query.items
-  counts-length = length-map query.items rows_in
+  counts_length : length (row_counts query.items tables) ≡ length query.items
+  counts_length = length-map query.items rows_in
 
-  pub combination-of_each : length rows ≡ length query.items → ((i : ℕ) → i < length query.items → IsThere i) → IsCombination (row_counts query.items tables) rows
-  combination-of_each same each =
-      let size = counts-length in
-      combination-from (row_counts query.items tables) rows (omega (arith, size, same)) (λ i l.
+  pub combination_of_each : length rows ≡ length query.items → ((i : ℕ) → i < length query.items → IsThere i) → IsCombination (row_counts query.items tables) rows
+  combination_of_each same each =
+      let size = counts_length in
+      combination_from (row_counts query.items tables) rows (omega (arith, size, same)) (λ i l.
       let inside : i < length query.items = omega (arith, size, l) in
       let there = each i inside in
-      (there.0, subst (λ m. get_or rows i 0 ≤ m) (sym (count-at i inside)) there.1))
+      (there.0, subst (λ m. get_or rows i 0 ≤ m) (sym (count_at i inside)) there.1))
 
-  pub each-of_combination : IsCombination (row_counts query.items tables) rows → (i : ℕ) → i < length query.items → IsThere i
-  each-of_combination c i inside =
-      let size = counts-length in
-      let at = combination-at (row_counts query.items tables) rows i c (omega (arith, size, inside)) in
-      (at.0, subst (λ m. get_or rows i 0 ≤ m) (count-at i inside) at.1)
+  pub each_of_combination : IsCombination (row_counts query.items tables) rows → (i : ℕ) → i < length query.items → IsThere i
+  each_of_combination c i inside =
+      let size = counts_length in
+      let at = combination_at (row_counts query.items tables) rows i c (omega (arith, size, inside)) in
+      (at.0, subst (λ m. get_or rows i 0 ≤ m) (count_at i inside) at.1)
 
-  pub length-of_combination : IsCombination (row_counts query.items tables) rows → length rows ≡ length query.items
-  length-of_combination c = let size = counts-length in let same = combination-length (row_counts query.items tables) rows c in omega (arith, size, same)
+  pub length_of_combination : IsCombination (row_counts query.items tables) rows → length rows ≡ length query.items
+  length_of_combination c = let size = counts_length in let same = combination_length (row_counts query.items tables) rows c in omega (arith, size, same)
 
 -- ---- variables
 
-number-at : (c : Column) (list : List Column) → IsMember c list → (n : ℕ) × (n < length list) × (variable_at list n ≡ c)
-number-at c [] m = absurd m
-number-at c (x ∷ list) (inl e) = (0, omega arith, sym e)
-number-at c (x ∷ list) (inr m) = let p = number-at c list m in let h = p.1 in (suc p.0, omega (arith, h), p.2)
+number_at : (c : Column) (list : List Column) → IsMember c list → (n : ℕ) × (n < length list) × (variable_at list n ≡ c)
+number_at c [] m = absurd m
+number_at c (x ∷ list) (inl e) = (0, omega arith, sym e)
+number_at c (x ∷ list) (inr m) = let p = number_at c list m in let h = p.1 in (suc p.0, omega (arith, h), p.2)
 
 module _ (es : List Equality) (variables others : List Column) (known : AreVariables es variables) (too : AreVariables es others) where
   -- a variable has a number in the other list
-  pub other-number : (n : ℕ) → n < length variables → (m : ℕ) × (m < length others) × (variable_at others m ≡ variable_at variables n)
-  other-number n l = number-at (variable_at variables n) others ((too.members (variable_at variables n)).1 ((known.members (variable_at variables n)).0 (at-member variables n l)))
+  pub other_number : (n : ℕ) → n < length variables → (m : ℕ) × (m < length others) × (variable_at others m ≡ variable_at variables n)
+  other_number n l = number_at (variable_at variables n) others ((too.members (variable_at variables n)).1 ((known.members (variable_at variables n)).0 (at_member variables n l)))
 
 -- it is a variable of the same items there
-pub numbered-again : (es : List Equality) (variables others : List Column) (n m i p : ℕ) → m < length others → variable_at others m ≡ variable_at variables n
+pub numbered_again : (es : List Equality) (variables others : List Column) (n m i p : ℕ) → m < length others → variable_at others m ≡ variable_at variables n
     → HasVariable es variables i n p → HasVariable es others i m p
-numbered-again es variables others n m i p inside same h = record {
+numbered_again es variables others n m i p inside same h = record {
   known = inside;
   linked = subst (λ (c : Column). Linked es c (record { item = i; place = p })) (sym same) h.linked;
   least = h.least;

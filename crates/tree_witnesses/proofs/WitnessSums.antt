@@ -9,11 +9,11 @@ use Rattle.query_bind.proofs.Parts.{picks}
 
 -- ---- tests of equal numbers
 
-pub equal-test : (a b : ℕ) → a ≡ b → (a == b) ≡ true
-equal-test a b e = (Decides-eqb a b).1 e
+pub equal_test : (a b : ℕ) → a ≡ b → (a == b) ≡ true
+equal_test a b e = (Decides-eqb a b).1 e
 
-pub other-test : (a b : ℕ) → a ≢ b → (a == b) ≡ false
-other-test a b ne = by_test (a == b) refl
+pub other_test : (a b : ℕ) → a ≢ b → (a == b) ≡ false
+other_test a b ne = by_test (a == b) refl
   where
     by_test : (t : Bool) → (a == b) ≡ t → (a == b) ≡ false
     by_test true e = absurd (ne ((Decides-eqb a b).0 e))
@@ -21,34 +21,34 @@ other-test a b ne = by_test (a == b) refl
 
 -- ---- sums over a range
 
-pub total-zeros : (a n : ℕ) → total (map (λ (i : ℕ). pos 0) (range_with_len a n)) ≡ pos 0
-total-zeros a zero = refl
-total-zeros a (suc n) = let h = total-zeros (a + 1) n in omega (arith, ints, h)
+pub total_zeros : (a n : ℕ) → total (map (λ (i : ℕ). pos 0) (range_with_len a n)) ≡ pos 0
+total_zeros a zero = refl
+total_zeros a (suc n) = let h = total_zeros (a + 1) n in omega (arith, ints, h)
 
 -- values that are equal on the range have equal sums
-total-within : (f g : ℕ → ℤ) (a n m : ℕ) → a + n ≡ m → ((i : ℕ) → i < m → f i ≡ g i) → total (map f (range_with_len a n)) ≡ total (map g (range_with_len a n))
-total-within f g a zero m at e = refl
-total-within f g a (suc n) m at e =
-    let h = total-within f g (a + 1) n m (omega arith) e in
+total_within : (f g : ℕ → ℤ) (a n m : ℕ) → a + n ≡ m → ((i : ℕ) → i < m → f i ≡ g i) → total (map f (range_with_len a n)) ≡ total (map g (range_with_len a n))
+total_within f g a zero m at e = refl
+total_within f g a (suc n) m at e =
+    let h = total_within f g (a + 1) n m (omega arith) e in
     let first = e a (omega arith) in
     omega (arith, ints, h, first)
 
-pub total-same : (f g : ℕ → ℤ) (n : ℕ) → ((i : ℕ) → i < n → f i ≡ g i) → total (map f (range_with_len 0 n)) ≡ total (map g (range_with_len 0 n))
-total-same f g n e = total-within f g 0 n n (omega arith) e
+pub total_same : (f g : ℕ → ℤ) (n : ℕ) → ((i : ℕ) → i < n → f i ≡ g i) → total (map f (range_with_len 0 n)) ≡ total (map g (range_with_len 0 n))
+total_same f g n e = total_within f g 0 n n (omega arith) e
 
-last-at : (f : ℕ → ℤ) (a n j : ℕ) → a + n ≡ j → total (map f (range_with_len a (suc n))) ≡ f j +ℤ total (map f (range_with_len a n))
-last-at f a zero j at = let e : f a ≡ f j = ap f (omega arith) in omega (arith, ints, e)
-last-at f a (suc n) j at = let h = last-at f (a + 1) n j (omega arith) in omega (arith, ints, h)
+last_at : (f : ℕ → ℤ) (a n j : ℕ) → a + n ≡ j → total (map f (range_with_len a (suc n))) ≡ f j +ℤ total (map f (range_with_len a n))
+last_at f a zero j at = let e : f a ≡ f j = ap f (omega arith) in omega (arith, ints, e)
+last_at f a (suc n) j at = let h = last_at f (a + 1) n j (omega arith) in omega (arith, ints, h)
 
 -- the sum of one number more
-pub total-last : (f : ℕ → ℤ) (n : ℕ) → total (map f (range_with_len 0 (suc n))) ≡ f n +ℤ total (map f (range_with_len 0 n))
-total-last f n = last-at f 0 n n (omega arith)
+pub total_last : (f : ℕ → ℤ) (n : ℕ) → total (map f (range_with_len 0 (suc n))) ≡ f n +ℤ total (map f (range_with_len 0 n))
+total_last f n = last_at f 0 n n (omega arith)
 
 -- the sum of a function that is 0 except at one number
-pub total-one : (m n : ℕ) (v : ℕ → ℤ) → m < n → total (map (λ (i : ℕ). cond (m == i) (v i +ℤ pos 0) (pos 0)) (range_with_len 0 n)) ≡ v m
-total-one m n v inside =
+pub total_one : (m n : ℕ) (v : ℕ → ℤ) → m < n → total (map (λ (i : ℕ). cond (m == i) (v i +ℤ pos 0) (pos 0)) (range_with_len 0 n)) ≡ v m
+total_one m n v inside =
     let h = picks m v (λ i. pos 0) 0 n (omega arith) (omega arith) in
-    let none = total-zeros 0 n in
+    let none = total_zeros 0 n in
     omega (arith, ints, h, none)
 
 -- ---- numbers below n in another order
@@ -65,43 +65,43 @@ module _ (n : ℕ) (item : ℕ → ℕ) (order : IsOrderOf n item) (g : ℕ → 
   met zero a = pos 0
   met (suc k) a = cond (item k == a) (g a +ℤ met k a) (met k a)
 
-  met-total : (k : ℕ) → (k < suc n) → total (map (λ v. g (item v)) (range_with_len 0 k)) ≡ total (map (met k) (range_with_len 0 n))
+  met_total : (k : ℕ) → (k < suc n) → total (map (λ v. g (item v)) (range_with_len 0 k)) ≡ total (map (met k) (range_with_len 0 n))
   unfolding met
-  met-total zero few = sym (total-zeros 0 n)
-  met-total (suc k) few =
+  met_total zero few = sym (total_zeros 0 n)
+  met_total (suc k) few =
       let inside : item k < n = order.within k (omega arith) in
-      let h = met-total k (omega arith) in
-      let more = total-last (λ v. g (item v)) k in
+      let h = met_total k (omega arith) in
+      let more = total_last (λ v. g (item v)) k in
       let p : total (map (met (suc k)) (range_with_len 0 n)) ≡ g (item k) +ℤ total (map (met k) (range_with_len 0 n)) = picks (item k) g (met k) 0 n (omega arith) (omega arith) in
       omega (arith, ints, h, more, p)
 
-  met-none : (k a : ℕ) → ((v : ℕ) → v < k → item v ≢ a) → met k a ≡ pos 0
+  met_none : (k a : ℕ) → ((v : ℕ) → v < k → item v ≢ a) → met k a ≡ pos 0
   unfolding met
-  met-none zero a none = refl
-  met-none (suc k) a none =
-      ap (λ (b : Bool). cond b (g a +ℤ met k a) (met k a)) (other-test (item k) a (none k (omega arith)))
-      ∙ met-none k a (λ v l. none v (omega arith))
+  met_none zero a none = refl
+  met_none (suc k) a none =
+      ap (λ (b : Bool). cond b (g a +ℤ met k a) (met k a)) (other_test (item k) a (none k (omega arith)))
+      ∙ met_none k a (λ v l. none v (omega arith))
 
-  met-one : (k a v : ℕ) → k < suc n → v < k → item v ≡ a → met k a ≡ g a
+  met_one : (k a v : ℕ) → k < suc n → v < k → item v ≡ a → met k a ≡ g a
   unfolding met
-  met-one zero a v few l e = absurd (omega arith)
-  met-one (suc k) a v few l e = elim (cases_eq v k) [
+  met_one zero a v few l e = absurd (omega arith)
+  met_one (suc k) a v few l e = elim (cases_eq v k) [
     | inl is ↦
         let here : item k ≡ a = ap item (sym is) ∙ e in
-        let rest : met k a ≡ pos 0 = met-none k a (λ u m s. order.distinct u k m (omega arith) (s ∙ sym here)) in
-        let step : met (suc k) a ≡ g a +ℤ met k a = ap (λ (b : Bool). cond b (g a +ℤ met k a) (met k a)) (equal-test (item k) a here) in
+        let rest : met k a ≡ pos 0 = met_none k a (λ u m s. order.distinct u k m (omega arith) (s ∙ sym here)) in
+        let step : met (suc k) a ≡ g a +ℤ met k a = ap (λ (b : Bool). cond b (g a +ℤ met k a) (met k a)) (equal_test (item k) a here) in
         omega (arith, ints, rest, step)
     | inr other ↦
         let below : v < k = omega (arith, other, l) in
         let there : item k ≢ a = λ s. order.distinct v k below (omega arith) (e ∙ sym s) in
-        ap (λ (b : Bool). cond b (g a +ℤ met k a) (met k a)) (other-test (item k) a there) ∙ met-one k a v (omega arith) below e
+        ap (λ (b : Bool). cond b (g a +ℤ met k a) (met k a)) (other_test (item k) a there) ∙ met_one k a v (omega arith) below e
   ]
 
   -- a sum over the places is the sum over the numbers
-  pub total-reordered : total (map (λ v. g (item v)) (range_with_len 0 n)) ≡ total (map g (range_with_len 0 n))
-  total-reordered =
-      met-total n (omega arith)
-      ∙ total-same (met n) g n (λ a l. let at = order.each a l in met-one n a at.0 (omega arith) at.1 at.2)
+  pub total_reordered : total (map (λ v. g (item v)) (range_with_len 0 n)) ≡ total (map g (range_with_len 0 n))
+  total_reordered =
+      met_total n (omega arith)
+      ∙ total_same (met n) g n (λ a l. let at = order.each a l in met_one n a at.0 (omega arith) at.1 at.2)
 
 -- ---- lists that are chosen place by place
 

@@ -6,28 +6,28 @@ use Rattle.std.proofs.lemmas.List.Elements.{All-from_get_or, All-get_or}
 use Rattle.std.proofs.lemmas.List.Sums.{sum_by_push}
 use Rattle.anyk_model.specs.Table.{Table}
 use Rattle.anyk_model.specs.Query.{Query}
-use Rattle.query_bind.specs.Weighed.{BoundQuery, Fits}
-use Rattle.tdp_core.specs.Seen.{Seen}
+use Rattle.query_bind.specs.WeighedQuery.{BoundQuery, Fits}
+use Rattle.tdp_core.specs.SeenAnswers.{Seen}
 use Rattle.witness_key.specs.WitnessKey.{combinations_in}
-use Rattle.union_all.specs.Merged.{AreBegun, AreBranches, AreLeft, BranchSeen, EngineSeen, HasCalled, rests_of}
+use Rattle.union_all.specs.Merge.{AreBegun, AreBranches, AreLeft, BranchSeen, EngineSeen, HasCalled, rests_of}
 
 abbrev pub queries_bound : List BoundQuery → List Query
 queries_bound bounds = map (λ (q : BoundQuery). q.query) bounds
 
-called-more : (olds news : List EngineSeen) (old new : EngineSeen) → AreBegun olds news → HasCalled old new → AreBegun (olds ++ old ∷ []) (news ++ new ∷ [])
-called-more [] [] old new all one = (one, tt)
-called-more [] (n ∷ news) old new all one = absurd all
-called-more (o ∷ olds) [] old new all one = absurd all
-called-more (o ∷ olds) (n ∷ news) old new all one = (all.0, called-more olds news old new all.1 one)
+called_more : (olds news : List EngineSeen) (old new : EngineSeen) → AreBegun olds news → HasCalled old new → AreBegun (olds ++ old ∷ []) (news ++ new ∷ [])
+called_more [] [] old new all one = (one, tt)
+called_more [] (n ∷ news) old new all one = absurd all
+called_more (o ∷ olds) [] old new all one = absurd all
+called_more (o ∷ olds) (n ∷ news) old new all one = (all.0, called_more olds news old new all.1 one)
 
 module _ {E : Type 0} (rest : E → List Seen) (seen : E → EngineSeen) (due : E → ℕ) where
-  rests-more : (queries : List Query) (engines : List E) (query : Query) (engine : E) → length queries ≡ length engines
+  rests_more : (queries : List Query) (engines : List E) (query : Query) (engine : E) → length queries ≡ length engines
       → rests_of rest (queries ++ query ∷ []) (engines ++ engine ∷ []) ≡ rests_of rest queries engines ++ combinations_in query (rest engine) ∷ []
-  rests-more [] [] query engine same = refl
-  rests-more [] (e ∷ engines) query engine same = absurd (omega (arith, same))
-  rests-more (q ∷ queries) [] query engine same = absurd (omega (arith, same))
-  rests-more (q ∷ queries) (e ∷ engines) query engine same =
-      ap (λ (l : List (List (List ℕ))). combinations_in q (rest e) ∷ l) (rests-more queries engines query engine (omega (arith, same)))
+  rests_more [] [] query engine same = refl
+  rests_more [] (e ∷ engines) query engine same = absurd (omega (arith, same))
+  rests_more (q ∷ queries) [] query engine same = absurd (omega (arith, same))
+  rests_more (q ∷ queries) (e ∷ engines) query engine same =
+      ap (λ (l : List (List (List ℕ))). combinations_in q (rest e) ∷ l) (rests_more queries engines query engine (omega (arith, same)))
 
   -- the branches of the engines so far, of all queries
   pub record HasBegun (bounds : List BoundQuery) (engines : List E) (branches : List BranchSeen) (before now : ℕ) : Type 0 where
@@ -37,14 +37,14 @@ module _ {E : Type 0} (rest : E → List Seen) (seen : E → EngineSeen) (due : 
     pub called : AreBegun (map seen engines) (map (λ (b : BranchSeen). b.engine) branches)
     pub cost : now ≤ before + sum_by due engines
 
-  pub none-begun : (bounds : List BoundQuery) (before : ℕ) → HasBegun bounds [] [] before before
-  none-begun bounds before = record { within = omega arith; bound = refl; left = refl; called = tt; cost = omega arith }
+  pub none_begun : (bounds : List BoundQuery) (before : ℕ) → HasBegun bounds [] [] before before
+  none_begun bounds before = record { within = omega arith; bound = refl; left = refl; called = tt; cost = omega arith }
 
-  pub begun-more : (bounds : List BoundQuery) (engines : List E) (branches : List BranchSeen) (before now new : ℕ) (q : BoundQuery) (engine : E) (branch : BranchSeen)
+  pub begun_more : (bounds : List BoundQuery) (engines : List E) (branches : List BranchSeen) (before now new : ℕ) (q : BoundQuery) (engine : E) (branch : BranchSeen)
       → HasBegun bounds engines branches before now → length engines < length bounds → get_or bounds (length engines) q ≡ q
       → branch.bound ≡ q → branch.left ≡ combinations_in q.query (rest engine) → HasCalled (seen engine) branch.engine → new ≤ now + due engine
       → HasBegun bounds (engines ++ engine ∷ []) (branches ++ branch ∷ []) before new
-  begun-more bounds engines branches before now new q engine branch was inside at bound left called cost =
+  begun_more bounds engines branches before now new q engine branch was inside at bound left called cost =
       let n = length engines in
       let more : length (engines ++ engine ∷ []) ≡ n + 1 = let h = length-append engines (engine ∷ []) in omega (arith, h) in
       let taken : take (length (engines ++ engine ∷ [])) bounds ≡ take n bounds ++ q ∷ [] =
@@ -59,23 +59,23 @@ module _ {E : Type 0} (rest : E → List Seen) (seen : E → EngineSeen) (due : 
             ∙ (λ i. was.bound i ++ bound i ∷ []) ∙ sym taken;
         left = map-append (λ (b : BranchSeen). b.left) branches (branch ∷ [])
             ∙ (λ i. was.left i ++ left i ∷ [])
-            ∙ sym (rests-more (queries_bound (take n bounds)) engines q.query engine same)
+            ∙ sym (rests_more (queries_bound (take n bounds)) engines q.query engine same)
             ∙ ap (λ (l : List Query). rests_of rest l (engines ++ engine ∷ [])) (sym (ap queries_bound taken ∙ map-append (λ (x : BoundQuery). x.query) (take n bounds) (q ∷ [])));
         called = subst (λ (l : List EngineSeen). AreBegun l (map (λ (b : BranchSeen). b.engine) (branches ++ branch ∷ []))) (sym (map-append seen engines (engine ∷ [])))
             (subst (λ (l : List EngineSeen). AreBegun (map seen engines ++ seen engine ∷ []) l) (sym (map-append (λ (b : BranchSeen). b.engine) branches (branch ∷ [])))
-            (called-more (map seen engines) (map (λ (b : BranchSeen). b.engine) branches) (seen engine) branch.engine was.called called));
+            (called_more (map seen engines) (map (λ (b : BranchSeen). b.engine) branches) (seen engine) branch.engine was.called called));
         cost = omega (arith, sums, spent, cost);
       }
 
 -- # Branches of all queries
 
-own-queries : (branches : List BranchSeen) → map (λ (b : BranchSeen). b.bound.query) branches ≡ queries_bound (map (λ (b : BranchSeen). b.bound) branches)
-own-queries [] = refl
-own-queries (b ∷ branches) = ap (λ (l : List Query). b.bound.query ∷ l) (own-queries branches)
+own_queries : (branches : List BranchSeen) → map (λ (b : BranchSeen). b.bound.query) branches ≡ queries_bound (map (λ (b : BranchSeen). b.bound) branches)
+own_queries [] = refl
+own_queries (b ∷ branches) = ap (λ (l : List Query). b.bound.query ∷ l) (own_queries branches)
 
-pub same-queries : (bounds : List BoundQuery) (branches : List BranchSeen) → map (λ (b : BranchSeen). b.bound) branches ≡ bounds
+pub same_queries : (bounds : List BoundQuery) (branches : List BranchSeen) → map (λ (b : BranchSeen). b.bound) branches ≡ bounds
     → map (λ (b : BranchSeen). b.bound.query) branches ≡ queries_bound bounds
-same-queries bounds branches each = own-queries branches ∙ ap queries_bound each
+same_queries bounds branches each = own_queries branches ∙ ap queries_bound each
 
 abbrev none : BranchSeen
 none = record {
@@ -84,10 +84,10 @@ none = record {
   engine = record { calls = 0; due = 0; size = [] };
 }
 
-pub all-branches : (tables : List Table) (bounds : List BoundQuery) (branches : List BranchSeen) (lists : List (List (List ℕ)))
+pub all_branches : (tables : List Table) (bounds : List BoundQuery) (branches : List BranchSeen) (lists : List (List (List ℕ)))
     → map (λ (b : BranchSeen). b.bound) branches ≡ bounds → map (λ (b : BranchSeen). b.left) branches ≡ lists → length bounds ≤ 8
     → All (λ (q : BoundQuery). Fits q tables) bounds → AreLeft (queries_bound bounds) tables lists → AreBranches tables branches
-all-branches tables bounds branches lists each left few fits are =
+all_branches tables bounds branches lists each left few fits are =
     let count : length branches ≡ length bounds = sym (length-map branches (λ (b : BranchSeen). b.bound)) ∙ ap length each in
     record {
       few = omega (arith, count, few);
@@ -95,6 +95,6 @@ all-branches tables bounds branches lists each left few fits are =
           let own = All-get_or (λ (q : BoundQuery). Fits q tables) bounds i none.bound (omega (arith, inside, count)) fits in
           let same : get_or bounds i none.bound ≡ (get_or branches i none).bound = ap (λ (l : List BoundQuery). get_or l i none.bound) (sym each) ∙ get_or-map (λ (b : BranchSeen). b.bound) branches i none none.bound inside in
           subst (λ (q : BoundQuery). Fits q tables) same own);
-      left = subst (λ (q : List Query). AreLeft q tables (map (λ (b : BranchSeen). b.left) branches)) (sym (same-queries bounds branches each))
+      left = subst (λ (q : List Query). AreLeft q tables (map (λ (b : BranchSeen). b.left) branches)) (sym (same_queries bounds branches each))
           (subst (λ (l : List (List (List ℕ))). AreLeft (queries_bound bounds) tables l) (sym left) are);
     }

@@ -5,45 +5,45 @@ use Rattle.std.proofs.lemmas.List.{get_or-map, get_or_read}
 use Rattle.anyk_model.specs.Table.{Table}
 use Rattle.anyk_model.specs.Query.{IsCombination, Query, rank_of, row_counts}
 use Rattle.anyk_model.specs.Ranking.{is_before}
-use Rattle.query_bind.specs.Weighed.{BoundQuery}
-use Rattle.union_list.specs.Tagged.{branch_at}
-use Rattle.union_all.specs.Merged.{AreBranches, BranchSeen, lists_of, queries_of}
+use Rattle.query_bind.specs.WeighedQuery.{BoundQuery}
+use Rattle.union_list.specs.TaggedRows.{branch_at}
+use Rattle.union_all.specs.Merge.{AreBranches, BranchSeen, lists_of, queries_of}
 
 -- the sums of the rows of a query's items as they are compared
 abbrev pub sums_in : List Table → List ℕ → Query → List ℤ
 sums_in tables rows query = map (rank_of query tables (take (length query.items) rows)) query.order
 
 -- the same comparison, of the same queries
-pub less-told : (tables : List Table) (rows others : List ℕ) (one two : Query) (other_one other_two : Query) (result : Bool)
+pub less_told : (tables : List Table) (rows others : List ℕ) (one two : Query) (other_one other_two : Query) (result : Bool)
     → result ≡ is_before (sums_in tables rows one) (sums_in tables others two) → one ≡ other_one → two ≡ other_two
     → result ≡ is_before (sums_in tables rows other_one) (sums_in tables others other_two)
-less-told tables rows others one two other_one other_two result is first second =
+less_told tables rows others one two other_one other_two result is first second =
     is ∙ (λ i. is_before (sums_in tables rows (first i)) (sums_in tables others (second i)))
 
 module _ (branches : List BranchSeen) (b : ℕ) (inside : b < length branches) (x : BranchSeen) (at : x ≡ get_or branches b x) where
   -- what is left of the branch
-  pub list-at : get_or (lists_of branches) b [] ≡ x.left
-  list-at = get_or-map (λ (s : BranchSeen). s.left) branches b x [] inside ∙ ap (λ (s : BranchSeen). s.left) (sym at)
+  pub list_at : get_or (lists_of branches) b [] ≡ x.left
+  list_at = get_or-map (λ (s : BranchSeen). s.left) branches b x [] inside ∙ ap (λ (s : BranchSeen). s.left) (sym at)
 
   -- its query
-  pub query-at : branch_at (queries_of branches) b ≡ x.bound.query
-  query-at =
+  pub query_at : branch_at (queries_of branches) b ≡ x.bound.query
+  query_at =
       get_or-map (λ (s : BranchSeen). s.bound.query) branches b x (record { items = []; equalities = []; order = []; list = []; limit = None }) inside
       ∙ ap (λ (s : BranchSeen). s.bound.query) (sym at)
 
   -- the same branch, read again
-  pub same-branch : (y : BranchSeen) → y ≡ get_or branches b y → x ≡ y
-  same-branch y again = get_or_read branches b x inside at y ∙ sym again
+  pub same_branch : (y : BranchSeen) → y ≡ get_or branches b y → x ≡ y
+  same_branch y again = get_or_read branches b x inside at y ∙ sym again
 
   -- its first combination
-  pub head-at : (rows : List ℕ) (later : List (List ℕ)) → x.left ≡ take (length x.bound.query.items) rows ∷ later
+  pub head_at : (rows : List ℕ) (later : List (List ℕ)) → x.left ≡ take (length x.bound.query.items) rows ∷ later
       → get_or (lists_of branches) b [] ≡ take (length (branch_at (queries_of branches) b).items) rows ∷ later
-  head-at rows later is = list-at ∙ is ∙ ap (λ (q : Query). take (length q.items) rows ∷ later) (sym query-at)
+  head_at rows later is = list_at ∙ is ∙ ap (λ (q : Query). take (length q.items) rows ∷ later) (sym query_at)
 
   -- is one of its rows
-  pub head-fits : (tables : List Table) → AreBranches tables branches → (rows : List ℕ) (later : List (List ℕ)) → x.left ≡ take (length x.bound.query.items) rows ∷ later
+  pub head_fits : (tables : List Table) → AreBranches tables branches → (rows : List ℕ) (later : List (List ℕ)) → x.left ≡ take (length x.bound.query.items) rows ∷ later
       → (y : BranchSeen) → y ≡ get_or branches b y → (q : BoundQuery) → q ≡ y.bound → IsCombination (row_counts q.query.items tables) (take (length q.query.items) rows)
-  head-fits tables all rows later is y again q bound =
-      let one = subst (λ (l : List (List ℕ)). AllByRecursion (IsCombination (row_counts (branch_at (queries_of branches) b).items tables)) l) (head-at rows later is) (all.left.combinations b) in
-      let own : branch_at (queries_of branches) b ≡ q.query = query-at ∙ ap (λ (s : BranchSeen). s.bound.query) (same-branch y again) ∙ ap (λ (s : BoundQuery). s.query) (sym bound) in
+  head_fits tables all rows later is y again q bound =
+      let one = subst (λ (l : List (List ℕ)). AllByRecursion (IsCombination (row_counts (branch_at (queries_of branches) b).items tables)) l) (head_at rows later is) (all.left.combinations b) in
+      let own : branch_at (queries_of branches) b ≡ q.query = query_at ∙ ap (λ (s : BranchSeen). s.bound.query) (same_branch y again) ∙ ap (λ (s : BoundQuery). s.query) (sym bound) in
       subst (λ (k : Query). IsCombination (row_counts k.items tables) (take (length k.items) rows)) own one.0

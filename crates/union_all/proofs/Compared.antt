@@ -7,11 +7,11 @@ use Rattle.anyk_model.specs.Table.{Table}
 use Rattle.anyk_model.specs.Query.{OrderKey, rank_of, sum_of}
 use Rattle.anyk_model.specs.Ranking.{is_before}
 use Rattle.query_bind.specs.Inside.{KeyInside}
-use Rattle.query_bind.specs.Weighed.{BoundQuery, Fits}
+use Rattle.query_bind.specs.WeighedQuery.{BoundQuery, Fits}
 use Rattle.query_bind.specs.Weights.{key_at}
-use Rattle.query_bind.proofs.Parts.{parts-add}
-use Rattle.query_bind.proofs.Search.{all-at, drop-step}
-use Rattle.answer_print.proofs.Sums.{sum-fits}
+use Rattle.query_bind.proofs.Parts.{parts_add}
+use Rattle.query_bind.proofs.Search.{all_at, drop_step}
+use Rattle.answer_print.proofs.Sums.{sum_fits}
 
 -- # One sum
 
@@ -24,15 +24,15 @@ module _ (bound : BoundQuery) (tables : List Table) (fits : Fits bound tables) (
   key = key_at bound.query.order k
 
   inside : KeyInside tables bound.query.items key
-  inside = all-at (KeyInside tables bound.query.items) bound.query.order k (record { terms = []; descending = false }) fits.within.order there
+  inside = all_at (KeyInside tables bound.query.items) bound.query.order k (record { terms = []; descending = false }) fits.within.order there
 
   -- if the key descends, its sum is compared with the other sign
-  pub descending-rank : (z : ℤ) → z ≡ sum_of bound.query tables rows key → key.descending ≡ true → pos 0 -ℤ z ≡ rank_of bound.query tables rows key
-  descending-rank z is down = negated key.descending (sum_of bound.query tables rows key) z is down
+  pub descending_rank : (z : ℤ) → z ≡ sum_of bound.query tables rows key → key.descending ≡ true → pos 0 -ℤ z ≡ rank_of bound.query tables rows key
+  descending_rank z is down = negated key.descending (sum_of bound.query tables rows key) z is down
 
   -- and it fits 128 bits as it is compared
-  pub rank-fits : (z : ℤ) → z ≡ rank_of bound.query tables rows key → FitsSigned w128 z
-  rank-fits z is = sum-fits bound tables fits rows k there (length bound.query.items) z (omega arith) (is ∙ sym (parts-add bound.query tables rows key inside))
+  pub rank_fits : (z : ℤ) → z ≡ rank_of bound.query tables rows key → FitsSigned w128 z
+  rank_fits z is = sum_fits bound tables fits rows k there (length bound.query.items) z (omega arith) (is ∙ sym (parts_add bound.query tables rows key inside))
 
 -- # Lists of sums
 
@@ -44,15 +44,15 @@ decided x y xs ys apart = by (int_lt x y) (int_lt y x) refl refl
     by false true p q = refl
     by false false p q = absurd (apart (grind (arith, ints)))
 
-none-less : (x y : ℤ) → x ≡ y → int_lt x y ≡ false
-none-less x y e = by (int_lt x y) refl
+none_less : (x y : ℤ) → x ≡ y → int_lt x y ≡ false
+none_less x y e = by (int_lt x y) refl
   where
     by : (l : Bool) → int_lt x y ≡ l → l ≡ false
     by true p = absurd (grind (arith, ints))
     by false p = refl
 
 pub passed : (x y : ℤ) (xs ys : List ℤ) → x ≡ y → is_before (x ∷ xs) (y ∷ ys) ≡ is_before xs ys
-passed x y xs ys e = by (int_lt x y) (int_lt y x) (none-less x y e) (none-less y x (sym e))
+passed x y xs ys e = by (int_lt x y) (int_lt y x) (none_less x y e) (none_less y x (sym e))
   where
     by : (l r : Bool) → l ≡ false → r ≡ false → (if l then true else if r then false else is_before xs ys) ≡ is_before xs ys
     by true r p q = absurd (cc p)
@@ -68,29 +68,29 @@ at-end (u ∷ us) (v ∷ vs) n m i eu ev (inl e) = absurd (omega (arith, e))
 at-end (u ∷ us) (v ∷ vs) n m i eu ev (inr e) = absurd (omega (arith, e))
 
 -- the sums from key k on
-pub sums-from : (f : OrderKey → ℤ) (order : List OrderKey) (k : ℕ) → k < length order → drop k (map f order) ≡ f (key_at order k) ∷ drop (k + 1) (map f order)
-sums-from f order k inside =
+pub sums_from : (f : OrderKey → ℤ) (order : List OrderKey) (k : ℕ) → k < length order → drop k (map f order) ≡ f (key_at order k) ∷ drop (k + 1) (map f order)
+sums_from f order k inside =
     let none : OrderKey = record { terms = []; descending = false } in
-    drop-step (map f order) k (f none) (omega (arith, inside, length-map order f)) ∙ ap (λ (x : ℤ). x ∷ drop (k + 1) (map f order)) (get_or-map f order k none (f none) inside)
+    drop_step (map f order) k (f none) (omega (arith, inside, length-map order f)) ∙ ap (λ (x : ℤ). x ∷ drop (k + 1) (map f order)) (get_or-map f order k none (f none) inside)
 
 module _ (f g : OrderKey → ℤ) (ks ls : List OrderKey) (k : ℕ) (ink : k < length ks) (inl_ : k < length ls)
     (so : is_before (map f ks) (map g ls) ≡ is_before (drop k (map f ks)) (drop k (map g ls))) where
-  at-key : is_before (map f ks) (map g ls) ≡ is_before (f (key_at ks k) ∷ drop (k + 1) (map f ks)) (g (key_at ls k) ∷ drop (k + 1) (map g ls))
-  at-key = so ∙ (λ i. is_before (sums-from f ks k ink i) (sums-from g ls k inl_ i))
+  at_key : is_before (map f ks) (map g ls) ≡ is_before (f (key_at ks k) ∷ drop (k + 1) (map f ks)) (g (key_at ls k) ∷ drop (k + 1) (map g ls))
+  at_key = so ∙ (λ i. is_before (sums_from f ks k ink i) (sums_from g ls k inl_ i))
 
   -- the sums of key k differ
-  pub key-decides : (x y : ℤ) → x ≡ f (key_at ks k) → y ≡ g (key_at ls k) → x ≢ y → is_before (map f ks) (map g ls) ≡ int_lt x y
-  key-decides x y ex ey apart =
-      at-key ∙ decided (f (key_at ks k)) (g (key_at ls k)) (drop (k + 1) (map f ks)) (drop (k + 1) (map g ls)) (λ e. apart (ex ∙ e ∙ sym ey)) ∙ ap (λ (z : ℤ). int_lt z (g (key_at ls k))) (sym ex) ∙ ap (λ (z : ℤ). int_lt x z) (sym ey)
+  pub key_decides : (x y : ℤ) → x ≡ f (key_at ks k) → y ≡ g (key_at ls k) → x ≢ y → is_before (map f ks) (map g ls) ≡ int_lt x y
+  key_decides x y ex ey apart =
+      at_key ∙ decided (f (key_at ks k)) (g (key_at ls k)) (drop (k + 1) (map f ks)) (drop (k + 1) (map g ls)) (λ e. apart (ex ∙ e ∙ sym ey)) ∙ ap (λ (z : ℤ). int_lt z (g (key_at ls k))) (sym ex) ∙ ap (λ (z : ℤ). int_lt x z) (sym ey)
 
   -- they do not
-  pub key-passes : (x y : ℤ) → x ≡ f (key_at ks k) → y ≡ g (key_at ls k) → x ≡ y → is_before (map f ks) (map g ls) ≡ is_before (drop (k + 1) (map f ks)) (drop (k + 1) (map g ls))
-  key-passes x y ex ey e = at-key ∙ passed (f (key_at ks k)) (g (key_at ls k)) (drop (k + 1) (map f ks)) (drop (k + 1) (map g ls)) (sym ex ∙ e ∙ ey)
+  pub key_passes : (x y : ℤ) → x ≡ f (key_at ks k) → y ≡ g (key_at ls k) → x ≡ y → is_before (map f ks) (map g ls) ≡ is_before (drop (k + 1) (map f ks)) (drop (k + 1) (map g ls))
+  key_passes x y ex ey e = at_key ∙ passed (f (key_at ks k)) (g (key_at ls k)) (drop (k + 1) (map f ks)) (drop (k + 1) (map g ls)) (sym ex ∙ e ∙ ey)
 
 -- all keys that both have are passed
-pub keys-end : (f g : OrderKey → ℤ) (ks ls : List OrderKey) (k n m : ℕ) → n ≡ length ks → m ≡ length ls → k ≤ length ks → k ≤ length ls → (length ks ≤ k) ⊎ (length ls ≤ k)
+pub keys_end : (f g : OrderKey → ℤ) (ks ls : List OrderKey) (k n m : ℕ) → n ≡ length ks → m ≡ length ls → k ≤ length ks → k ≤ length ls → (length ks ≤ k) ⊎ (length ls ≤ k)
     → is_before (map f ks) (map g ls) ≡ is_before (drop k (map f ks)) (drop k (map g ls)) → is_before (map f ks) (map g ls) ≡ nat_lt n m
-keys-end f g ks ls k n m en em ink inl_ ends so =
+keys_end f g ks ls k n m en em ink inl_ ends so =
     let a = length-drop k (map f ks) in
     let b = length-drop k (map g ls) in
     let c = length-map ks f in

@@ -1,3 +1,3 @@
-pub mod Merged
+pub mod Merge
 pub mod Firsts
 pub mod Rows

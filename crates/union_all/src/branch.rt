@@ -1,7 +1,7 @@
 //! One branch of a union, with the first of its answers at hand.
 ghost use Rattle.std.specs.Prelude.{◌≡◌, ◌+◌, ◌≤◌, ℕ, [], ◌∷◌, List, length, option_map, take, IfOk, IfSome, IfNone, MatchOption, OnErr};
 ghost use Rattle.witness_key.specs.WitnessKey.{combinations_in};
-ghost use Rattle.union_all.specs.Merged.{BranchSeen, HasCalled};
+ghost use Rattle.union_all.specs.Merge.{BranchSeen, HasCalled};
 
 use query_bind::Query;
 use rank_key::Rank;
@@ -22,7 +22,7 @@ pub(crate) struct Branch<'q, E: Ranked> {
 impl<'q, E: Ranked> Model for Branch<'q, E> {
     ghost use Rattle.std.specs.Prelude.{◌≡◌, ◌++◌, [], None, length};
     ghost use Rattle.witness_key.specs.WitnessKey.{combinations_in};
-    ghost use Rattle.union_all.specs.Merged.{BranchSeen, first_of};
+    ghost use Rattle.union_all.specs.Merge.{BranchSeen, first_of};
 
     ghost Value = { BranchSeen };
 

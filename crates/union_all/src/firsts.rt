@@ -1,7 +1,7 @@
 //! The branch that has the first answer of all that are left.
 ghost use Rattle.std.specs.Prelude.{◌≡◌, ◌+◌, ◌<◌, Some, if◌then◌else◌, length};
 ghost use Rattle.union_all.specs.Firsts.{IsFirst};
-ghost use Rattle.union_all.specs.Merged.{AreBranches, lists_of, queries_of};
+ghost use Rattle.union_all.specs.Merge.{AreBranches, lists_of, queries_of};
 
 use crate::branch::Branch;
 use crate::sums::has_less_sums;

@@ -2,8 +2,8 @@
 ghost use Rattle.std.specs.Prelude.{◌≡◌, ◌≤◌, ◌++◌, ◌∷◌, [], codes, if◌then◌else◌, length, map, string_bytes, IfOk};
 ghost use Rattle.std.specs.List.{All};
 ghost use Rattle.anyk_model.specs.Output.{numbered};
-ghost use Rattle.query_bind.specs.Weighed.{Fits};
-ghost use Rattle.answer_print.specs.Shown.{style_shown};
+ghost use Rattle.query_bind.specs.WeighedQuery.{Fits};
+ghost use Rattle.answer_print.specs.StyleView.{style_shown};
 ghost use Rattle.union_list.specs.UnionOutput as output;
 
 use answer_print::{

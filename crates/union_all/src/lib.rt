@@ -6,7 +6,7 @@ ghost use Rattle.std.specs.Prelude.{List, map};
 ghost use Rattle.anyk_model.specs.Table.{Table};
 ghost use Rattle.anyk_model.specs.Query.{Query};
 ghost use Rattle.anyk_model.specs.Ranking.{ranking_of};
-ghost use Rattle.union_all.specs.Merged.{AreLeft};
+ghost use Rattle.union_all.specs.Merge.{AreLeft};
 
 mod branch;
 mod fields;

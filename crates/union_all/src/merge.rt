@@ -1,11 +1,11 @@
 //! The members of a union, one by one.
 ghost use Rattle.std.specs.Prelude.{◌≡◌, ◌+◌, ◌≤◌, [], ◌∷◌, List, length, map, IfOk, IfSome, IfNone, OnErr};
 ghost use Rattle.std.specs.List.{All, sum_by};
-ghost use Rattle.query_bind.specs.Weighed.{Fits};
-ghost use Rattle.union_list.specs.Tagged as union;
+ghost use Rattle.query_bind.specs.WeighedQuery.{Fits};
+ghost use Rattle.union_list.specs.TaggedRows as union;
 ghost use Rattle.union_list.specs.Union.{left_of};
 ghost use Rattle.union_all.specs.Firsts.{tagged_shown};
-ghost use Rattle.union_all.specs.Merged.{AreBegun, AreLeft, IsCalled, rests_of};
+ghost use Rattle.union_all.specs.Merge.{AreBegun, AreLeft, IsCalled, rests_of};
 
 use crate::branch::Branch;
 use crate::firsts::first_branch;
@@ -28,7 +28,7 @@ pub struct Merge<'q, E: Ranked> {
 
 impl<'q, E: Ranked> Model for Merge<'q, E> {
     ghost use Rattle.union_list.specs.Union.{left_of};
-    ghost use Rattle.union_all.specs.Merged.{AreBranches, Merged, engines_of, lists_of, queries_of};
+    ghost use Rattle.union_all.specs.Merge.{AreBranches, Merged, engines_of, lists_of, queries_of};
 
     ghost Value = { Merged };
 

@@ -2,7 +2,7 @@
 ghost use Rattle.std.specs.Prelude.{◌≡◌, ◌<◌, length, map};
 ghost use Rattle.anyk_model.specs.Query.{rank_of};
 ghost use Rattle.anyk_model.specs.Ranking.{is_before};
-ghost use Rattle.query_bind.specs.Weighed.{Fits};
+ghost use Rattle.query_bind.specs.WeighedQuery.{Fits};
 ghost use Rattle.query_bind.specs.Weights.{key_at};
 ghost use Rattle.union_all.specs.Rows.{HasRows, rows_of};
 

@@ -1,4 +1,4 @@
-pub mod Tagged
+pub mod TaggedRows
 pub mod TaggedOrder
 pub mod Union
 pub mod UnionOutput

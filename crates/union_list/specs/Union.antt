@@ -4,7 +4,7 @@ use Rattle.rankings.specs.Order.{IsAscending, ranked}
 use Rattle.anyk_model.specs.Table.{Table}
 use Rattle.anyk_model.specs.Query.{Query}
 use Rattle.anyk_model.specs.Ranking.{Precedes, witnesses}
-use Rattle.union_list.specs.Tagged.{PrecedesTagged, Tagged, branch_at, tagged}
+use Rattle.union_list.specs.TaggedRows.{PrecedesTagged, Tagged, branch_at, tagged}
 use Rattle.union_list.specs.TaggedOrder.{tagged_order}
 
 -- combinations of several branches, a list for each, of which the first has the number b

@@ -5,7 +5,7 @@ use Rattle.std.specs.Fmt.{decimal}
 use Rattle.anyk_model.specs.Table.{Table}
 use Rattle.anyk_model.specs.Query.{Query}
 use Rattle.anyk_model.specs.Output.{Style, header_fields, line_fields, numbered, record_text}
-use Rattle.union_list.specs.Tagged.{Tagged, branch_at}
+use Rattle.union_list.specs.TaggedRows.{Tagged, branch_at}
 
 -- the number of items of the longest branch
 abbrev pub most_items : List Query → ℕ

@@ -6,7 +6,7 @@ ghost use Rattle.std.specs.Prelude.{◌≡◌, ◌↔◌, ◌<◌, [], ◌∷◌
 ghost use Rattle.anyk_model.specs.Table.{Table};
 ghost use Rattle.anyk_model.specs.Query.{Query};
 ghost use Rattle.anyk_model.specs.Ranking.{IsBefore, ranking_of};
-ghost use Rattle.union_list.specs.Tagged.{HaveKeys, IsUnionRanking, PrecedesTagged, Tagged, tagged, tagged_key};
+ghost use Rattle.union_list.specs.TaggedRows.{HaveKeys, IsUnionRanking, PrecedesTagged, Tagged, tagged, tagged_key};
 ghost use Rattle.union_list.specs.Union.{left_of, union_of};
 
 /// A union has at most one ranking.

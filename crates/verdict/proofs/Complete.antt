@@ -5,7 +5,7 @@ use Rattle.outer_io.specs.Files.{Files}
 use Rattle.refusal_lines.specs.Reason as reason
 use Rattle.refusal_lines.specs.Reason.{Reason, status_of}
 use Rattle.verdict.specs.Words.{Asked, no_command, built}
-use Rattle.verdict.specs.Found.{Found}
+use Rattle.verdict.specs.AcceptedInput.{Found}
 use Rattle.verdict.specs.Outcome.{Outside, Ended, GotAccepted, GotNothing, IsComplete, IsReason, IsCaused, IsCut, IsDoneWhereAccepted, IsRefusedWhereRefused, IsUnwrittenWhereRefused}
 use Rattle.verdict.specs.Verdict.{IsVerdict}
 use Rattle.verdict.proofs.One.{one_verdict, usage_verdict}

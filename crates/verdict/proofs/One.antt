@@ -11,18 +11,18 @@ use Rattle.query_shape.proofs.OneShape.{one_shape}
 use Rattle.anyk_model.specs.Query.{Query}
 use Rattle.anyk_model.specs.Table.{Table}
 use Rattle.refusal_lines.specs.Reason.{Reason, Usage}
-use Rattle.verdict.specs.Made.{files_of}
+use Rattle.verdict.specs.MadeFiles.{files_of}
 use Rattle.proof_text.specs.Certificate.{Certificate}
 use Rattle.proof_model.specs.QueryProblem.{problem_of}
 use Rattle.proof_model.specs.Faults.{fault_of}
 use Rattle.proof_model.specs.Valid.{Flaw as ProofFlaw}
-use Rattle.proof_model.proofs.OneFlaw.{one-flaw}
-use Rattle.proof_model.proofs.QueryLaws.{no-flaw}
+use Rattle.proof_model.proofs.OneFlaw.{one_flaw}
+use Rattle.proof_model.proofs.QueryLaws.{no_flaw}
 use Rattle.verdict.specs.Words.{Asked, Command, Sought, no_command, built, run, plan, session, load, prove, verify, sought_by}
 use Rattle.verdict.specs.Faults.{of_parse, of_proof, of_shape}
 use Rattle.verdict.specs.Laws.{OneLoading, OneVerdict}
 use Rattle.verdict.specs.Loading.{Beside, IsParse, IsParseAll, IsReading, Loaded, are_several, branches_of, loaded_in, told_branch}
-use Rattle.verdict.specs.Found.{Found, found_of, query_of, structure_of}
+use Rattle.verdict.specs.AcceptedInput.{Found, found_of, query_of, structure_of}
 use Rattle.verdict.specs.Stages.{Then, Is, refused, followed, AtMostOne}
 use Rattle.verdict.specs.Verdict.{AreStructures, IsAccompanied, IsBound, IsRead, IsSelected, IsShaped, IsStructure, IsStructured, IsTabled, IsVerdict, IsCertified, IsVerified}
 
@@ -162,11 +162,11 @@ one_certified : (query : Query) (tables : List Table) (shape : Shape) (proof : C
     → AtMostOne (IsCertified query tables shape proof)
 one_certified query tables shape proof (Ok a) (Ok b) h k = refl
 one_certified query tables shape proof (Ok a) (Err b) h k =
-    absurd (no-flaw (problem_of query tables shape.atoms shape.parents) proof query.limit h k.0 k.2.holds)
+    absurd (no_flaw (problem_of query tables shape.atoms shape.parents) proof query.limit h k.0 k.2.holds)
 one_certified query tables shape proof (Err a) (Ok b) h k =
-    absurd (no-flaw (problem_of query tables shape.atoms shape.parents) proof query.limit k h.0 h.2.holds)
+    absurd (no_flaw (problem_of query tables shape.atoms shape.parents) proof query.limit k h.0 h.2.holds)
 one_certified query tables shape proof (Err a) (Err b) h k =
-    let same = one-flaw (problem_of query tables shape.atoms shape.parents) proof query.limit h.0 k.0 h.2 k.2 in
+    let same = one_flaw (problem_of query tables shape.atoms shape.parents) proof query.limit h.0 k.0 h.2 k.2 in
     ap Err (h.1 ∙ ap (λ (flaw : ProofFlaw). of_proof (fault_of (problem_of query tables shape.atoms shape.parents) proof flaw)) same
     ∙ sym k.1)
 
@@ -191,10 +191,10 @@ one_verdict (built (prove words)) files = one_structured (built (prove words)) f
 abbrev Same : Asked → Asked → Type 0
 Same a b = a ≡ b
 
-differ-built-none : {A : Type 0} {k : Command} → Same (built k) no_command → A
-differ-built-none h = cc
+differ_built_none : {A : Type 0} {k : Command} → Same (built k) no_command → A
+differ_built_none h = cc
 
 pub usage_verdict : (files : Files) (asked : Asked) (result : Result Found Reason) → asked ≡ no_command → IsVerdict asked files result → result ≡ Err Usage
 usage_verdict files no_command _ e (refused h) = refused_same h
 usage_verdict files no_command result e (followed h k) = absurd (no_both (sym h))
-usage_verdict files (built command) result e v = differ-built-none e
+usage_verdict files (built command) result e v = differ_built_none e

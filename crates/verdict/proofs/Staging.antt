@@ -5,7 +5,7 @@ use Rattle.outer_io.specs.Files.{Files}
 use Rattle.outer_io.proofs.Counting.{Rose-after}
 use Rattle.refusal_lines.specs.Reason as reason
 use Rattle.refusal_lines.specs.Reason.{Reason}
-use Rattle.verdict.specs.Staged.{Shelved, Fits, Causes, Pure, Staged, NoTurn, EitherTurn, first_turn, second_turn}
+use Rattle.verdict.specs.StageResults.{Shelved, Fits, Causes, Pure, Staged, NoTurn, EitherTurn, first_turn, second_turn}
 use Rattle.verdict.specs.Loading.{most_bytes}
 use Rattle.verdict.specs.Stages.{Then, refused, followed}
 

@@ -5,9 +5,9 @@ use Rattle.anyk_model.specs.Table.{Table}
 use Rattle.query_shape.specs.Shape.{Flaw, IsShape, Shape, cyclic, too_many_rows}
 use Rattle.refusal_lines.specs.Reason.{Reason}
 use Rattle.verdict.specs.Faults.{of_shape}
-use Rattle.verdict.specs.Found.{found_of}
+use Rattle.verdict.specs.AcceptedInput.{found_of}
 use Rattle.verdict.specs.Loading.{Loaded, are_several, told_branch}
-use Rattle.verdict.specs.Staged.{Pure}
+use Rattle.verdict.specs.StageResults.{Pure}
 use Rattle.verdict.specs.Stages.{followed, refused}
 use Rattle.verdict.specs.UnionBound.{HaveShapes}
 use Rattle.verdict.specs.Verdict.{AreStructures, IsFlawed, IsShaped}

@@ -34,12 +34,12 @@ ended_outcome asked told old new a h usage = record {
 abbrev Same : Asked → Asked → Type 0
 Same a b = a ≡ b
 
-differ-none : {A : Type 0} {k : Command} → Same (built k) no_command → A
-differ-none h = cc
+differ_none : {A : Type 0} {k : Command} → Same (built k) no_command → A
+differ_none h = cc
 
 complete_command : {A : Type 0} (asked : Asked) (told : Option Files) (old new : Outside) → IsComplete asked told old new → asked ≡ no_command → A
 complete_command no_command told old new h e = absurd h
-complete_command (built command) told old new h e = differ-none e
+complete_command (built command) told old new h e = differ_none e
 
 zero_accepted : (asked : Asked) (told : Option Files) (old new : Outside) → IsDoneWhereAccepted asked told old new 0
 zero_accepted asked None old new = tt

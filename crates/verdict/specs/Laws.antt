@@ -1,6 +1,6 @@
 -- What holds for all inputs.
 use Rattle.outer_io.specs.Files.{Files}
-use Rattle.verdict.specs.Found.{Found}
+use Rattle.verdict.specs.AcceptedInput.{Found}
 use Rattle.verdict.specs.Output.{HasOutput}
 use Rattle.verdict.specs.Stages.{AtMostOne}
 use Rattle.verdict.specs.Verdict.{IsLoaded, IsVerdict}

@@ -1,9 +1,9 @@
 pub mod Stages
 pub mod Words
-pub mod Made
+pub mod MadeFiles
 pub mod Faults
 pub mod Loading
-pub mod Found
+pub mod AcceptedInput
 pub mod Verdict
 pub mod Output
 pub mod Session
@@ -14,4 +14,4 @@ pub mod Summary
 pub mod Outcome
 pub mod Bound
 pub mod Laws
-pub mod Staged
+pub mod StageResults

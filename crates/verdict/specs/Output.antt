@@ -5,10 +5,10 @@ use Rattle.best_list.specs.BestList.{list_of}
 use Rattle.query_shape.specs.Report.{report_of}
 use Rattle.proof_model.specs.ProofTexts.{IsProofText}
 use Rattle.verdict.specs.Words.{Words, Command, run, plan, session, load, prove, verify}
-use Rattle.union_list.specs.Tagged.{Tagged}
+use Rattle.union_list.specs.TaggedRows.{Tagged}
 use Rattle.union_list.specs.Union.{union_of}
 use Rattle.union_list.specs.UnionOutput.{union_output_of}
-use Rattle.verdict.specs.Found.{Found, is_union, query_of, structure_of}
+use Rattle.verdict.specs.AcceptedInput.{Found, is_union, query_of, structure_of}
 use Rattle.verdict.specs.Session.{session_text}
 use Rattle.verdict.specs.Summary.{summary_text}
 

@@ -4,9 +4,9 @@ use Rattle.anyk_model.specs.Output.{Style}
 use Rattle.anyk_model.specs.Table.{Table}
 use Rattle.anyk_model.specs.Query.{Query}
 use Rattle.query_shape.specs.Shape.{IsShape, Shape}
-use Rattle.step_bounds.specs.Bounded.{cost_over}
+use Rattle.step_bounds.specs.RunBounds.{cost_over}
 use Rattle.step_bounds.specs.Steps.{whole_lines}
-use Rattle.union_list.specs.Tagged.{Tagged}
+use Rattle.union_list.specs.TaggedRows.{Tagged}
 use Rattle.union_list.specs.Union.{members_in}
 use Rattle.union_list.specs.UnionOutput.{union_header_text, union_line_text}
 

@@ -12,11 +12,11 @@ use Rattle.proof_model.specs.QueryProblem.{problem_of}
 use Rattle.proof_model.specs.Faults.{fault_of}
 use Rattle.proof_model.specs.Valid.{Flaw as ProofFlaw, IsFirst, IsValid}
 use Rattle.verdict.specs.Faults.{of_proof, of_shape}
-use Rattle.verdict.specs.Made.{files_of}
+use Rattle.verdict.specs.MadeFiles.{files_of}
 use Rattle.verdict.specs.Words.{Asked, Sought, no_command, built, verify, sought_by}
 use Rattle.verdict.specs.Loading.{Beside, Loaded, IsReading, all_items, are_several, beside_in, file_in, told_branch}
 use Rattle.verdict.specs.Loading.{unknown_table, tables_in, first_uses, bound_in, loaded_in}
-use Rattle.verdict.specs.Found.{Found, found_of, query_of, structure_of}
+use Rattle.verdict.specs.AcceptedInput.{Found, found_of, query_of, structure_of}
 use Rattle.verdict.specs.Stages.{Then, Is, unless}
 
 -- ---- loading

@@ -4,7 +4,7 @@ use Rattle.std.specs.Prelude.{◌≡◌, ℕ, List, length, map, take}
 use Rattle.std.specs.List.{AllByRecursion}
 use Rattle.tdp_model.specs.KeyTuple.{KeyOf}
 use Rattle.tdp_model.specs.KeyNumbers.{key_of_lists}
-use Rattle.tdp_core.specs.Seen.{Seen, answer_of}
+use Rattle.tdp_core.specs.SeenAnswers.{Seen, answer_of}
 use Rattle.anyk_model.specs.Table.{Table}
 use Rattle.anyk_model.specs.Query.{Query, IsCombination, IsWitness, rank_of, row_counts}
 

@@ -1,6 +1,6 @@
-use Rattle.tree_witnesses.proofs.TreeWitnesses.{nodes-add}
+use Rattle.tree_witnesses.proofs.TreeWitnesses.{nodes_add}
 use Rattle.tree_witnesses.proofs.keys_add_up.Goals as goal
 
 pub returns : goal.returns
-returns c = λ query tables graph atoms parents rows d within of_query tree count. nodes-add query tables graph atoms
+returns c = λ query tables graph atoms parents rows d within of_query tree count. nodes_add query tables graph atoms
     parents of_query tree rows d within count

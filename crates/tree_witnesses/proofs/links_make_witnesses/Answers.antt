@@ -1,6 +1,6 @@
-use Rattle.tree_witnesses.proofs.TreeWitnesses.{links-iff}
+use Rattle.tree_witnesses.proofs.TreeWitnesses.{links_iff}
 use Rattle.tree_witnesses.proofs.links_make_witnesses.Goals as goal
 
 pub returns : goal.returns
-returns c = λ query tables graph atoms parents rows within of_query tree. links-iff query tables graph atoms parents
+returns c = λ query tables graph atoms parents rows within of_query tree. links_iff query tables graph atoms parents
     of_query tree rows within

@@ -1,5 +1,5 @@
-use Rattle.union_all.proofs.Rankings.{rankings-left}
+use Rattle.union_all.proofs.Rankings.{rankings_left}
 use Rattle.union_all.proofs.rankings_are_left.Goals as goal
 
 pub returns : goal.returns
-returns c = rankings-left
+returns c = rankings_left

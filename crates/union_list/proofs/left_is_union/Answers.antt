@@ -1,5 +1,5 @@
-use Rattle.union_list.proofs.Unions.{rankings-union}
+use Rattle.union_list.proofs.Unions.{rankings_union}
 use Rattle.union_list.proofs.left_is_union.Goals as goal
 
 pub returns : goal.returns
-returns c = rankings-union
+returns c = rankings_union

@@ -1,5 +1,5 @@
-use Rattle.witness_key.proofs.Rankings.{rankings-agree}
+use Rattle.witness_key.proofs.Rankings.{rankings_agree_lem}
 use Rattle.witness_key.proofs.rankings_agree.Goals as goal
 
 pub returns : goal.returns
-returns c = λ d query tables keys few items ranking. rankings-agree d query tables keys few items ranking
+returns c = λ d query tables keys few items ranking. rankings_agree_lem d query tables keys few items ranking

@@ -2,7 +2,7 @@ use Rattle.std.proofs.Common.{rules, ◌≡◌, ◌+◌, ◌<◌, ◌≤◌, Lis
 use Rattle.std.specs.List.Sorted.{IsPermutation}
 use Rattle.take2_heap.specs.declared.entry.Entry.{Entry}
 use Rattle.rank_key.specs.Bits.{bit_length}
-use Rattle.rank_key.proofs.BitLemmas.{bit_length-is}
+use Rattle.rank_key.proofs.BitLemmas.{bit_length_is}
 use Rattle.tdp_core.specs.Solutions.{IsTreeRanking}
 use Rattle.tdp_core.specs.TreeData.{members, rows, group_count}
 use Rattle.tdp_core.proofs.TreeFacts.{member_is_row}
@@ -41,5 +41,5 @@ pub returns-clause-cost : goal.returns-clause-cost
 returns-clause-cost g c =
     let formed = c.live.ensures.formed in
     let empty : length c.reserve.new.self.entries ≡ 0 = ap (λ (es : List (Entry g.row.R.Denot Candidate)). length es) (c.reserve.ensures.entries ∙ c.new-queue.ensures.entries) in
-    let one : bit_length (length c.reserve.new.self.entries + 1) ≡ 1 = ap (λ n. bit_length (n + 1)) empty ∙ bit_length-is 1 1 (omega arith) (λ _. omega arith) in
+    let one : bit_length (length c.reserve.new.self.entries + 1) ≡ 1 = ap (λ n. bit_length (n + 1)) empty ∙ bit_length_is 1 1 (omega arith) (λ _. omega arith) in
     omega (arith, c.push_reserved.ensures.cost, c.best-best.ensures.counted, c.member-row.ensures.counted, one, formed.shaped.some_node)

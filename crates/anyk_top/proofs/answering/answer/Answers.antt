@@ -1,7 +1,7 @@
 use Rattle.std.specs.String.{string_bytes}
-use Rattle.cmd_words.specs.Said.{seen_words}
+use Rattle.cmd_words.specs.ArgumentMeaning.{seen_words}
 use Rattle.task_plan.specs.Tasks.{words_of}
-use Rattle.anyk_top.proofs.Verifying.{verify-bounded, verify-prompt}
+use Rattle.anyk_top.proofs.Verifying.{verify_bounded, verify_prompt}
 use Rattle.anyk_top.proofs.answering.answer.Goals as goal
 
 pub returns-in-Planned-clause-done : goal.returns-in-Planned-clause-done
@@ -31,11 +31,11 @@ returns-in-Verify-clause-cut g c = rw c.in-Verify.is (rw c.as_str.ensures.value 
 pub returns-in-Verify-clause-bounded : goal.returns-in-Verify-clause-bounded
 returns-in-Verify-clause-bounded g c =
     rw c.in-Verify.is
-    (verify-bounded (string_bytes c.in-Verify.proof) (words_of (seen_words c.in-Verify.words)) (g.F.Shelf.files c.args.shelf.now)
+    (verify_bounded (string_bytes c.in-Verify.proof) (words_of (seen_words c.in-Verify.words)) (g.F.Shelf.files c.args.shelf.now)
     c.args.steps.now c.answer_verified.new.steps)
 
 pub returns-in-Verify-clause-prompt : goal.returns-in-Verify-clause-prompt
 returns-in-Verify-clause-prompt g c =
     rw c.in-Verify.is
-    (verify-prompt (string_bytes c.in-Verify.proof) (words_of (seen_words c.in-Verify.words)) (g.F.Shelf.files c.args.shelf.now)
+    (verify_prompt (string_bytes c.in-Verify.proof) (words_of (seen_words c.in-Verify.words)) (g.F.Shelf.files c.args.shelf.now)
     (g.S.Sink.written c.args.out.now) (g.S.Sink.written c.answer_verified.new.out) c.args.steps.now c.answer_verified.new.steps)

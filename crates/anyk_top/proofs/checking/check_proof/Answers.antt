@@ -1,7 +1,7 @@
 use Rattle.std.proofs.Common.{◌≡◌, Err, None, rules}
-use Rattle.node_build.proofs.Shaped.{caps-small}
-use Rattle.proof_text.specs.Seen.{seen_proof}
-use Rattle.refusal_lines.specs.Refused.{reason_of}
+use Rattle.node_build.proofs.Shaped.{caps_small}
+use Rattle.proof_text.specs.ProofView.{seen_proof}
+use Rattle.refusal_lines.specs.RefusalReasons.{reason_of}
 use Rattle.verdict.specs.Verdict.{IsCertified, IsStructure}
 use Rattle.verdict.proofs.Staging.{pure_refused}
 use Rattle.anyk_top.proofs.checking.check_proof.Goals as goal
@@ -15,7 +15,7 @@ returns-in_err-join-clause-checked g c =
     (reason_of c.in_err-join.field-0.0) (c.in_err-join.ensures.refusal tables))
 
 pub listed_answers-requires-clause-limit : goal.listed_answers-requires-clause-limit
-listed_answers-requires-clause-limit g c = caps-small c.args.query.now c.args.tables.now c.requires.fits
+listed_answers-requires-clause-limit g c = caps_small c.args.query.now c.args.tables.now c.requires.fits
 
 pub listed_answers-requires-else-keys-le1-clause-limit : goal.listed_answers-requires-else-keys-le1-clause-limit
-listed_answers-requires-else-keys-le1-clause-limit g c = caps-small c.args.query.now c.args.tables.now c.requires.fits
+listed_answers-requires-else-keys-le1-clause-limit g c = caps_small c.args.query.now c.args.tables.now c.requires.fits

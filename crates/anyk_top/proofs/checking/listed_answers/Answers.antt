@@ -1,13 +1,13 @@
 use Rattle.std.proofs.Common.{◌∙◌, take}
-use Rattle.proof_text.specs.Seen.{seen_proof}
+use Rattle.proof_text.specs.ProofView.{seen_proof}
 use Rattle.proof_laws.proofs.Ranked.{begins}
-use Rattle.anyk_top.proofs.Verifying.{flaw-checked, valid-checked}
+use Rattle.anyk_top.proofs.Verifying.{flaw_checked, valid_checked}
 use Rattle.anyk_top.proofs.checking.listed_answers.Goals as goal
 
 pub returns-in-Ok-clause-checked : goal.returns-in-Ok-clause-checked
 returns-in-Ok-clause-checked g c =
     let few = c.in-Ok.ensures.few in
-    valid-checked c.args.query.now.query c.args.tables.now c.args.join.now (seen_proof c.args.proof.now) c.requires.tree few.0 few.1
+    valid_checked c.args.query.now.query c.args.tables.now c.args.join.now (seen_proof c.args.proof.now) c.requires.tree few.0 few.1
     c.in-Ok.ensures.valid
 
 pub returns-in-Ok-clause-answers : goal.returns-in-Ok-clause-answers
@@ -20,5 +20,5 @@ returns-in-Ok-clause-answers g c =
 pub returns-in-Err-clause-checked : goal.returns-in-Err-clause-checked
 returns-in-Err-clause-checked g c =
     rw c.proof_refusal.ensures
-    (flaw-checked c.args.query.now.query c.args.tables.now c.args.join.now (seen_proof c.args.proof.now) c.requires.tree c.in-Err.fault
+    (flaw_checked c.args.query.now.query c.args.tables.now c.args.join.now (seen_proof c.args.proof.now) c.requires.tree c.in-Err.fault
     c.in-Err.ensures.fault)

@@ -1,16 +1,16 @@
 use Rattle.std.proofs.Common.{map}
 use Rattle.std.specs.String.{string_bytes}
 use Rattle.cmd_words.specs.Commands.{said_of}
-use Rattle.anyk_top.specs.Asked.{asked_of}
-use Rattle.task_answer.proofs.Bounds.{bounded-still, prompt-still}
-use Rattle.verdict.specs.Made.{known_to}
+use Rattle.anyk_top.specs.CommandLine.{asked_of}
+use Rattle.task_answer.proofs.Bounds.{bounded_still, prompt_still}
+use Rattle.verdict.specs.MadeFiles.{known_to}
 use Rattle.verdict.specs.Outcome.{Outside}
 use Rattle.verdict.specs.Words.{built}
 use Rattle.anyk_top.specs.Requests.{asked_by}
 use Rattle.task_answer.specs.Sides.{seen_by}
-use Rattle.anyk_top.proofs.Ends.{early-outcome, built-outcome}
+use Rattle.anyk_top.proofs.Ends.{early_outcome, built_outcome}
 use Rattle.refusal_lines.specs.SinkState.{state_of}
-use Rattle.refusal_lines.proofs.Prints.{appends-nothing}
+use Rattle.refusal_lines.proofs.Prints.{appends_nothing}
 use Rattle.anyk_top.proofs.top.run_keyed.Goals as goal
 
 pub returns-in-Ok-clause-outcome : goal.returns-in-Ok-clause-outcome
@@ -18,12 +18,12 @@ returns-in-Ok-clause-outcome g c =
     let old : Outside = seen_by g.F.Shelf g.S.Sink c.args.shelf.now c.args.out.now in
     let new : Outside = seen_by g.F.Shelf g.S.Sink c.answer.new.shelf c.answer.new.out in
     rw c.in-Ok.ensures.built
-    (built-outcome (asked_by c.in-Ok.request) (known_to (built (asked_by c.in-Ok.request)) (g.F.Shelf.files c.args.shelf.now)) old new
+    (built_outcome (asked_by c.in-Ok.request) (known_to (built (asked_by c.in-Ok.request)) (g.F.Shelf.files c.args.shelf.now)) old new
     (state_of g.E.Sink c.args.err.now) (state_of g.E.Sink c.finish.new.err)
     c.answer.result c.finish.result c.answer.ensures.done c.answer.ensures.fits c.answer.ensures.caused c.answer.ensures.cut c.finish.ensures)
 
 pub returns-in-Err-clause-outcome : goal.returns-in-Err-clause-outcome
-returns-in-Err-clause-outcome g c = early-outcome _ _ _ _ c.in-Err.refusal _ c.in-Err.ensures.early (appends-nothing _) c.finish-in-Err.ensures
+returns-in-Err-clause-outcome g c = early_outcome _ _ _ _ c.in-Err.refusal _ c.in-Err.ensures.early (appends_nothing _) c.finish-in-Err.ensures
 
 pub returns-in-Ok-clause-bounded : goal.returns-in-Ok-clause-bounded
 returns-in-Ok-clause-bounded g c = rw c.in-Ok.ensures.built c.answer.ensures.bounded
@@ -32,10 +32,10 @@ pub returns-in-Ok-clause-prompt : goal.returns-in-Ok-clause-prompt
 returns-in-Ok-clause-prompt g c = rw c.in-Ok.ensures.built c.answer.ensures.prompt
 
 pub returns-in-Err-clause-bounded : goal.returns-in-Err-clause-bounded
-returns-in-Err-clause-bounded g c = bounded-still (asked_of (said_of (map string_bytes c.args.words.now)))
+returns-in-Err-clause-bounded g c = bounded_still (asked_of (said_of (map string_bytes c.args.words.now)))
     (known_to (asked_of (said_of (map string_bytes c.args.words.now))) (g.F.Shelf.files c.args.shelf.now)) c.args.steps.now
 
 pub returns-in-Err-clause-prompt : goal.returns-in-Err-clause-prompt
 returns-in-Err-clause-prompt g c =
-    prompt-still (asked_of (said_of (map string_bytes c.args.words.now)))
+    prompt_still (asked_of (said_of (map string_bytes c.args.words.now)))
     (known_to (asked_of (said_of (map string_bytes c.args.words.now))) (g.F.Shelf.files c.args.shelf.now)) (g.S.Sink.written c.args.out.now) (g.S.Sink.written c.args.out.now) c.args.steps.now

@@ -1,9 +1,9 @@
 use Rattle.std.proofs.Common.{◌≡◌, ◌∙◌, ap, length, subst}
 use Rattle.input_load.specs.Input.{InputData, loaded_of}
-use Rattle.anyk_top.specs.Checked.{IsVerifiedIn}
+use Rattle.anyk_top.specs.Verifications.{IsVerifiedIn}
 use Rattle.task_plan.proofs.Inputs.{input_shown}
-use Rattle.task_plan.proofs.PlanList.{only-one}
-use Rattle.anyk_top.proofs.Verifying.{verified-in}
+use Rattle.task_plan.proofs.PlanList.{only_one}
+use Rattle.anyk_top.proofs.Verifying.{verified_in}
 use Rattle.anyk_top.proofs.verify.answers_in.Goals as goal
 
 pub returns-clause-verified : goal.returns-clause-verified
@@ -11,6 +11,6 @@ returns-clause-verified g c =
     let input = input_shown c.input.inside in
     let query = c.index-query.result.now in
     let one : length input.queries ≡ 1 = ap (λ (i : InputData). length i.queries) c.input.view_is ∙ c.requires.one in
-    let only = only-one input.queries query one c.index-query.ensures in
+    let only = only_one input.queries query one c.index-query.ensures in
     subst (λ (i : InputData). IsVerifiedIn (loaded_of i) c.check_proof.result) c.input.view_is
-    (verified-in input query only c.check_proof.result c.check_proof.ensures.checked)
+    (verified_in input query only c.check_proof.result c.check_proof.ensures.checked)

@@ -2,18 +2,18 @@ use Rattle.std.proofs.Common.{◌≡◌, ◌∷◌, ◌∙◌, [], List, ℕ, ap
 use Rattle.std.specs.List.{AllByRecursion}
 use Rattle.anyk_model.specs.Output.{output_of}
 use Rattle.anyk_model.specs.Query.{IsCombination, row_counts}
-use Rattle.cmd_words.specs.Said.{seen_words}
-use Rattle.proof_check.specs.Checked.{item_rows}
-use Rattle.query_bind.specs.Weighed.{BoundQuery}
+use Rattle.cmd_words.specs.ArgumentMeaning.{seen_words}
+use Rattle.proof_check.specs.RowLists.{item_rows}
+use Rattle.query_bind.specs.WeighedQuery.{BoundQuery}
 use Rattle.input_load.specs.Input.{InputData, loaded_of}
-use Rattle.refusal_lines.specs.Printed.{Printed}
+use Rattle.refusal_lines.specs.Printing.{Printed}
 use Rattle.refusal_lines.specs.SinkState.{state_of}
-use Rattle.verdict.specs.Found.{found_of}
+use Rattle.verdict.specs.AcceptedInput.{found_of}
 use Rattle.verdict.specs.Output.{answers_text, style_of}
 use Rattle.task_plan.specs.Tasks.{words_of}
-use Rattle.anyk_top.specs.Checked.{HasAnswers}
+use Rattle.anyk_top.specs.Verifications.{HasAnswers}
 use Rattle.task_plan.proofs.Inputs.{input_shown}
-use Rattle.anyk_top.proofs.Verifying.{answers-combine, answers-shown}
+use Rattle.anyk_top.proofs.Verifying.{answers_combine, answers_shown}
 use Rattle.anyk_top.proofs.verify.print_checked.Goals as goal
 
 pub print_listed-requires-clause-rows : goal.print_listed-requires-clause-rows
@@ -24,7 +24,7 @@ print_listed-requires-clause-rows g c =
     let query = c.index-query.result.now in
     let same : query ≡ h.query = c.index-query.ensures ∙ ap (λ (l : List BoundQuery). get_or l 0 query) h.only in
     subst (λ (q : BoundQuery). AllByRecursion (λ rows. IsCombination (row_counts q.query.items input.tables) (take (length q.query.items) rows)) answers)
-    (sym same) (answers-combine input answers h)
+    (sym same) (answers_combine input answers h)
 
 pub returns : goal.returns
 returns g c shape =
@@ -36,5 +36,5 @@ returns g c shape =
     let same : query ≡ h.query = c.index-query.ensures ∙ ap (λ (l : List BoundQuery). get_or l 0 query) h.only in
     let P = λ (text : List ℕ). Printed (state_of g.S.Sink c.args.out.now) (state_of g.S.Sink c.print_listed.new.out) text c.print_listed.result in
     subst (λ (i : InputData). P (answers_text words (found_of (loaded_of i) (shape ∷ [])))) c.input.view_is
-    (subst P (answers-shown words input shape answers h)
+    (subst P (answers_shown words input shape answers h)
     (subst (λ (q : BoundQuery). P (output_of q.query input.tables (style_of words) (item_rows q.query answers))) same c.print_listed.ensures))

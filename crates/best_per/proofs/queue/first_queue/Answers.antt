@@ -3,7 +3,7 @@ use Rattle.std.proofs.lemmas.List.{get_or_past}
 use Rattle.std.proofs.lemmas.List.Elements.{All-nil}
 use Rattle.take2_heap.specs.declared.entry.Entry.{Entry}
 use Rattle.rank_key.specs.Bits.{bit_length}
-use Rattle.rank_key.proofs.BitLemmas.{bit_length-is}
+use Rattle.rank_key.proofs.BitLemmas.{bit_length_is}
 use Rattle.tdp_model.specs.KeyTuple.{KeyOf}
 use Rattle.tdp_core.specs.TreeData.{NodeData, node_at, group_count}
 use Rattle.tdp_core.specs.WellFormed.{IsFormed, IsTieFreeTree}
@@ -52,5 +52,5 @@ returns-clause-best g c =
 pub returns-clause-cost : goal.returns-clause-cost
 returns-clause-cost g c =
     let empty : length c.reserve.new.self.entries ≡ 0 = ap (λ (es : List (Entry g.row.R.Denot ℕ)). length es) (c.reserve.ensures.entries ∙ c.new-queue.ensures.entries) in
-    let one : bit_length (length c.reserve.new.self.entries + 1) ≡ 1 = ap (λ n. bit_length (n + 1)) empty ∙ bit_length-is 1 1 (omega arith) (λ _. omega arith) in
+    let one : bit_length (length c.reserve.new.self.entries + 1) ≡ 1 = ap (λ n. bit_length (n + 1)) empty ∙ bit_length_is 1 1 (omega arith) (λ _. omega arith) in
     omega (arith, c.offer.ensures.cost, one, c.live.ensures.formed.shaped.some_node)

@@ -6,7 +6,7 @@ use Rattle.clap.specs.Faults.{is_simple_and_free}
 use Rattle.clap.specs.Matches.{found_of}
 use Rattle.clap.specs.Simple.{app_of, is_simple}
 use Rattle.clap.specs.Walk.{rows_of}
-use Rattle.cmd_words.specs.Said.{seen_texts}
+use Rattle.cmd_words.specs.ArgumentMeaning.{seen_texts}
 use Rattle.cmd_words.proofs.Taken.{same_error, prove_taken, prove_refused, prove_simple, prove_free}
 use Rattle.cmd_words.proofs.reading.read_prove.Goals as goal
 

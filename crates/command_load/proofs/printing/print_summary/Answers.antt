@@ -1,8 +1,8 @@
 use Rattle.std.proofs.Common.{◌≡◌, Err, length, sym, take, rules}
-use Rattle.tdp_core.specs.Seen.{Seen}
+use Rattle.tdp_core.specs.SeenAnswers.{Seen}
 use Rattle.refusal_lines.specs.declared.refusal.Refusal.TheVariants as refusal
 use Rattle.refusal_lines.proofs.Prints.{unprinted}
-use Rattle.command_load.proofs.Members.{calls-map, ends-text, first-rows, last-rows}
+use Rattle.command_load.proofs.Members.{calls_map, ends_text_lem, first_rows, last_rows}
 use Rattle.command_load.proofs.printing.print_summary.Goals as goal
 
 pub returns-in_err-ends-clause-printed : goal.returns-in_err-ends-clause-printed
@@ -12,22 +12,22 @@ returns-in_err-ends-clause-printed g c =
 
 pub summary-requires-clause-first : goal.summary-requires-clause-first
 summary-requires-clause-first g c =
-    first-rows c.args.query.now.query c.args.tables.now c.in_ok-ends.ends (g.E.Ranked.rest c.args.engine.now) c.requires.rows
+    first_rows c.args.query.now.query c.args.tables.now c.in_ok-ends.ends (g.E.Ranked.rest c.args.engine.now) c.requires.rows
     (rw c.limit.ensures at c.in_ok-ends.ensures.ends)
 
 pub summary-requires-clause-last : goal.summary-requires-clause-last
 summary-requires-clause-last g c =
-    last-rows c.args.query.now.query c.args.tables.now c.in_ok-ends.ends (g.E.Ranked.rest c.args.engine.now) c.requires.rows
+    last_rows c.args.query.now.query c.args.tables.now c.in_ok-ends.ends (g.E.Ranked.rest c.args.engine.now) c.requires.rows
     (rw c.limit.ensures at c.in_ok-ends.ensures.ends)
 
 pub returns-clause-printed : goal.returns-clause-printed
 returns-clause-printed g c =
-    let same = ends-text c.args.query.now.query c.args.tables.now c.in_ok-ends.ends (g.E.Ranked.rest c.args.engine.now) c.requires.rows
+    let same = ends_text_lem c.args.query.now.query c.args.tables.now c.in_ok-ends.ends (g.E.Ranked.rest c.args.engine.now) c.requires.rows
     (rw c.limit.ensures at c.in_ok-ends.ensures.ends) in
     rw (c.deref.ensures.value, c.in_ok-text.ensures, same) at c.print.ensures
 
 pub returns-clause-bounded : goal.returns-clause-bounded
 returns-clause-bounded g c =
     let query = c.args.query.now.query in
-    let calls = calls-map (λ (a : Seen). take (length query.items) a.rows) query.limit (g.E.Ranked.rest c.args.engine.now) in
+    let calls = calls_map (λ (a : Seen). take (length query.items) a.rows) query.limit (g.E.Ranked.rest c.args.engine.now) in
     rw (c.limit.ensures, sym calls) at c.take_ends.ensures.bounded

@@ -1,9 +1,9 @@
 use Rattle.std.proofs.Common.{length, take}
 use Rattle.anyk_model.specs.Output.{line_text}
 use Rattle.anyk_model.specs.Query.{IsCombination, row_counts}
-use Rattle.answer_print.specs.Shown.{style_shown}
+use Rattle.answer_print.specs.StyleView.{style_shown}
 use Rattle.refusal_lines.specs.SinkState.{state_of}
-use Rattle.tdp_core.specs.Seen.{Seen}
+use Rattle.tdp_core.specs.SeenAnswers.{Seen}
 use Rattle.witness_key.specs.WitnessKey.{combinations_in}
 use Rattle.command_run.proofs.Given.{HasPrinted}
 use Rattle.command_run.proofs.printing.print_answers.Given as goal

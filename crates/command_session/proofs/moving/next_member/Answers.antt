@@ -1,27 +1,27 @@
 use Rattle.std.proofs.Common.{◌+◌, inl, inr, Some, None, Ok, refl, arith}
-use Rattle.command_session.specs.Spent.{IsWithin, Spent}
-use Rattle.command_session.proofs.Costs.{paid-spent, spent-call, spent-places, within-call}
-use Rattle.command_session.proofs.Reach.{at-below, at-limit}
+use Rattle.command_session.specs.Costs.{IsWithin, Spent}
+use Rattle.command_session.proofs.Costs.{paid_spent, spent_call, spent_places, within_call}
+use Rattle.command_session.proofs.Reach.{at_below, at_limit}
 use Rattle.command_session.proofs.moving.next_member.Goals as goal
 
 pub returns-in-Ok-Some-clause-paid : goal.returns-in-Ok-Some-clause-paid
 returns-in-Ok-Some-clause-paid g c =
     let place = c.args.cursor.now.place in
     let given = rw c.requires.place at (rw c.in-Ok-Some.field-0-is at c.in-Ok-Some.ensures.some) in
-    paid-spent g.E.Ranked.share g.met.E.Ranked.share_rises c.args.set.now c.next.new.self _ _ c.args.steps.now c.next.new.steps (Ok (Some c.in-Ok-Some.answer))
-    (at-below (λ calls. Spent g.E.Ranked.share c.args.set.now c.next.new.self (place + calls) calls c.args.steps.now c.next.new.steps)
+    paid_spent g.E.Ranked.share g.met.E.Ranked.share_rises c.args.set.now c.next.new.self _ _ c.args.steps.now c.next.new.steps (Ok (Some c.in-Ok-Some.answer))
+    (at_below (λ calls. Spent g.E.Ranked.share c.args.set.now c.next.new.self (place + calls) calls c.args.steps.now c.next.new.steps)
     c.args.limit place (c.is_reached.ensures.within c.if-is_reached.false)
-    (spent-call g.E.Ranked.share g.met.E.Ranked.share_rises c.args.set.now c.next.new.self c.args.id.number place c.args.steps.now c.next.new.steps c.requires.place
+    (spent_call g.E.Ranked.share g.met.E.Ranked.share_rises c.args.set.now c.next.new.self c.args.id.number place c.args.steps.now c.next.new.steps c.requires.place
     c.next.ensures.kept c.next.ensures.grown c.next.ensures.known c.next.ensures.calls c.next.ensures.share (inl given.2)))
 
 pub returns-in-Ok-None-clause-paid : goal.returns-in-Ok-None-clause-paid
 returns-in-Ok-None-clause-paid g c =
     let place = c.args.cursor.now.place in
     let ended = rw c.in-Ok-None.field-0-is at c.in-Ok-None.ensures.end in
-    paid-spent g.E.Ranked.share g.met.E.Ranked.share_rises c.args.set.now c.next.new.self _ _ c.args.steps.now c.next.new.steps (Ok None)
-    (at-below (λ calls. Spent g.E.Ranked.share c.args.set.now c.next.new.self (place + calls) calls c.args.steps.now c.next.new.steps)
+    paid_spent g.E.Ranked.share g.met.E.Ranked.share_rises c.args.set.now c.next.new.self _ _ c.args.steps.now c.next.new.steps (Ok None)
+    (at_below (λ calls. Spent g.E.Ranked.share c.args.set.now c.next.new.self (place + calls) calls c.args.steps.now c.next.new.steps)
     c.args.limit place (c.is_reached.ensures.within c.if-is_reached.false)
-    (spent-call g.E.Ranked.share g.met.E.Ranked.share_rises c.args.set.now c.next.new.self c.args.id.number place c.args.steps.now c.next.new.steps c.requires.place
+    (spent_call g.E.Ranked.share g.met.E.Ranked.share_rises c.args.set.now c.next.new.self c.args.id.number place c.args.steps.now c.next.new.steps c.requires.place
     c.next.ensures.kept c.next.ensures.grown c.next.ensures.known c.next.ensures.calls c.next.ensures.share (inr ended.2)))
 
 pub returns-in-Err-clause-paid : goal.returns-in-Err-clause-paid
@@ -29,16 +29,16 @@ returns-in-Err-clause-paid g c =
     let place = c.args.cursor.now.place in
     record {
       spent = tt;
-      within = at-below (λ calls. IsWithin g.E.Ranked.share c.args.set.now (place + calls) calls c.args.steps.now c.next.new.steps)
+      within = at_below (λ calls. IsWithin g.E.Ranked.share c.args.set.now (place + calls) calls c.args.steps.now c.next.new.steps)
           c.args.limit place (c.is_reached.ensures.within c.if-is_reached.false)
-          (within-call g.E.Ranked.share g.met.E.Ranked.share_rises c.args.set.now c.next.new.self c.args.id.number place c.args.steps.now c.next.new.steps c.requires.place
+          (within_call g.E.Ranked.share g.met.E.Ranked.share_rises c.args.set.now c.next.new.self c.args.id.number place c.args.steps.now c.next.new.steps c.requires.place
           c.next.ensures.kept c.next.ensures.grown c.next.ensures.known c.next.ensures.calls c.next.ensures.share);
     }
 
 pub returns-then-is_reached-clause-paid : goal.returns-then-is_reached-clause-paid
 returns-then-is_reached-clause-paid g c =
     let place = c.args.cursor.now.place in
-    paid-spent g.E.Ranked.share g.met.E.Ranked.share_rises c.args.set.now c.args.set.now _ _ c.args.steps.now c.args.steps.now (Ok None)
-    (at-limit (λ calls. Spent g.E.Ranked.share c.args.set.now c.args.set.now (place + calls) calls c.args.steps.now c.args.steps.now)
+    paid_spent g.E.Ranked.share g.met.E.Ranked.share_rises c.args.set.now c.args.set.now _ _ c.args.steps.now c.args.steps.now (Ok None)
+    (at_limit (λ calls. Spent g.E.Ranked.share c.args.set.now c.args.set.now (place + calls) calls c.args.steps.now c.args.steps.now)
     c.args.limit place (c.is_reached.ensures.reached c.if-is_reached.true)
-    (spent-places g.E.Ranked.share g.met.E.Ranked.share_rises c.args.set.now c.args.set.now (place + 0) 0 c.args.steps.now c.args.steps.now refl (omega arith)))
+    (spent_places g.E.Ranked.share g.met.E.Ranked.share_rises c.args.set.now c.args.set.now (place + 0) 0 c.args.steps.now c.args.steps.now refl (omega arith)))

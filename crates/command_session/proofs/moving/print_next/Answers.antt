@@ -3,17 +3,17 @@ use Rattle.std.specs.Prelude.{codes, slice_set}
 use Rattle.std.proofs.lemmas.List.{set-get_or}
 use Rattle.anyk_model.specs.Output.{cut, line_text}
 use Rattle.anyk_model.specs.Query.{IsCombination, row_counts}
-use Rattle.answer_print.specs.Shown.{style_shown}
+use Rattle.answer_print.specs.StyleView.{style_shown}
 use Rattle.refusal_lines.specs.declared.refusal.Refusal.TheVariants as refusal
-use Rattle.refusal_lines.specs.Printed.{Printed}
+use Rattle.refusal_lines.specs.Printing.{Printed}
 use Rattle.refusal_lines.specs.SinkState.{state_of}
 use Rattle.verdict.specs.Session.{next_text, with_name}
-use Rattle.tdp_core.specs.Seen.{Seen}
+use Rattle.tdp_core.specs.SeenAnswers.{Seen}
 use Rattle.witness_key.specs.WitnessKey.{combinations_in}
-use Rattle.command_session.proofs.Follows.{always, cut-length, cut-within, given-all, given-less, next-done, next-ending, next-given, next-start, past-start, place-set, places-set, told-all, told-is, told-within}
-use Rattle.command_session.proofs.Costs.{paid-spent, spent-places}
-use Rattle.command_session.proofs.Reach.{given-done, given-more, given-spent, given-within}
-use Rattle.command_session.proofs.Left.{HasLeft, left-last, left-more, left-none, left-stopped, left-unprinted, left-whole}
+use Rattle.command_session.proofs.Follows.{always, cut-length, cut_within, given_all, given_less, next_done, next_ending, next_given, next_start, past_start, place_set, places_set, told_all, told_is, told_within}
+use Rattle.command_session.proofs.Costs.{paid_spent, spent_places}
+use Rattle.command_session.proofs.Reach.{given_done, given_more, given_spent, given_within}
+use Rattle.command_session.proofs.Left.{HasLeft, left_last, left_more, left_none, left_stopped, left_unprinted, left_whole}
 use Rattle.command_session.proofs.moving.print_next.Goals as goal
 
 pub loop-given-init : goal.loop-given-init
@@ -30,9 +30,9 @@ loop-given-init g c =
       answers = refl;
       places = sym (set-get_or c.args.set.now.places c.args.id.number None) ∙ ap (λ p. slice_set c.args.set.now.places c.args.id.number p) c.requires.place;
       here = c.requires.place;
-      left = next-start (λ left. HasLeft whole left (state_of g.S.Sink c.args.out.now) (state_of g.S.Sink c.args.out.now))
-          line ending members c.args.cursor.now.place c.args.count (left-whole whole (state_of g.S.Sink c.args.out.now));
-      spent = spent-places g.E.Ranked.share g.met.E.Ranked.share_rises c.args.set.now c.args.set.now (c.args.cursor.now.place + 0) 0 c.args.steps.now c.args.steps.now refl
+      left = next_start (λ left. HasLeft whole left (state_of g.S.Sink c.args.out.now) (state_of g.S.Sink c.args.out.now))
+          line ending members c.args.cursor.now.place c.args.count (left_whole whole (state_of g.S.Sink c.args.out.now));
+      spent = spent_places g.E.Ranked.share g.met.E.Ranked.share_rises c.args.set.now c.args.set.now (c.args.cursor.now.place + 0) 0 c.args.steps.now c.args.steps.now refl
           (omega arith);
     }
 
@@ -42,7 +42,7 @@ next_member-requires g c = record { place = c.loop-given.invariant.here }
 pub returns-in_err-answer-clause-printed : goal.returns-in_err-answer-clause-printed
 returns-in_err-answer-clause-printed g c =
     let e : c.from_residual.result ≡ Err refusal.NoMemory = search rules in
-    rw e (left-unprinted _ _ _ _ c.loop-given.invariant.left)
+    rw e (left_unprinted _ _ _ _ c.loop-given.invariant.left)
 
 pub returns-in_default-clause-printed : goal.returns-in_default-clause-printed
 returns-in_default-clause-printed g c =
@@ -65,10 +65,10 @@ returns-in_default-clause-printed g c =
     let at = c.loop-given.invariant.place in
     let short : length members ≤ start + given =
     omega (arith, at, ended.1, cut-length query.limit seen c.args.set.now.answers, ap (λ l. length (cut query.limit l)) same) in
-    let last : left ≡ ending = next-ending line ending members (start + given) _ _ short more in
+    let last : left ≡ ending = next_ending line ending members (start + given) _ _ short more in
     let P : List ℕ → Type 0 = λ text.
     Printed (state_of g.S.Sink c.loop-given.out) (state_of g.S.Sink c.print_end.new.out) text c.print_end.result in
-    left-last whole left _ _ _ c.loop-given.invariant.left c.print_end.result
+    left_last whole left _ _ _ c.loop-given.invariant.left c.print_end.result
     (subst P (sym last)
     (let Q : List ℕ → Type 0 = λ name. P (name ++ codes "\n") in subst Q (c.in_ok-answer.ensures.name ∙ c.loop-given.invariant.name) c.print_end.ensures))
 
@@ -96,13 +96,13 @@ returns-in_default-clause-moved g c =
     let at = c.loop-given.invariant.place in
     let short : length members ≤ start + given =
     omega (arith, at, ended.1, cut-length query.limit seen c.args.set.now.answers, ap (λ l. length (cut query.limit l)) same) in
-    let all = given-less members start given c.args.count c.loop-given.invariant.within less short in
+    let all = given_less members start given c.args.count c.loop-given.invariant.within less short in
     always c.print_end.result (omega (arith, ended.0, at, all))
 
 pub returns-in_default-clause-places : goal.returns-in_default-clause-places
 returns-in_default-clause-places g c =
     always c.print_end.result
-    (places-set c.args.set.now.places c.loop-given.set.places c.next_member.new.set.places c.args.id.number c.loop-given.cursor.place c.next_member.new.cursor.place
+    (places_set c.args.set.now.places c.loop-given.set.places c.next_member.new.set.places c.args.id.number c.loop-given.cursor.place c.next_member.new.cursor.place
     c.loop-given.invariant.places c.in_ok-answer.ensures.places)
 
 pub returns-in_default-clause-kept : goal.returns-in_default-clause-kept
@@ -113,7 +113,7 @@ print_answer-requires-clause-rows g c =
     let query = c.args.query.now.query in
     let found = rw c.limit.ensures at (rw c.in-Some.is at c.in_ok-answer.ensures.some) in
     let at_place = rw c.loop-given.invariant.answers at found.2 in
-    told-all (λ (a : Seen). IsCombination (row_counts query.items c.args.tables.now) (take (length query.items) a.rows)) c.args.set.now.answers
+    told_all (λ (a : Seen). IsCombination (row_counts query.items c.args.tables.now) (take (length query.items) a.rows)) c.args.set.now.answers
     c.loop-given.cursor.place _ c.requires.rows at_place
 
 pub returns-in_err-print_answer-clause-printed : goal.returns-in_err-print_answer-clause-printed
@@ -135,11 +135,11 @@ returns-in_err-print_answer-clause-printed g c =
     let found = rw c.limit.ensures at (rw c.in-Some.is at c.in_ok-answer.ensures.some) in
     let same = c.loop-given.invariant.answers in
     let at_place = rw same at found.2 in
-    let inside = told-within seen c.args.set.now.answers place _ at_place in
-    let rows : take (length query.items) c.in-Some.answer.rows ≡ get_or ranking place [] = told-is seen c.args.set.now.answers place _ [] at_place in
-    let split = next-given line ending query.limit ranking start given c.args.count place [] c.loop-given.invariant.place less found.0 inside in
+    let inside = told_within seen c.args.set.now.answers place _ at_place in
+    let rows : take (length query.items) c.in-Some.answer.rows ≡ get_or ranking place [] = told_is seen c.args.set.now.answers place _ [] at_place in
+    let split = next_given line ending query.limit ranking start given c.args.count place [] c.loop-given.invariant.place less found.0 inside in
     let e : c.from_residual-in_err-print_answer.result ≡ Err c.in_err-print_answer.field-0.0 = search rules in
-    rw e (left-stopped whole left _ _ _ c.loop-given.invariant.left _ _ c.in_err-print_answer.field-0.0 split (rw rows at c.in_err-print_answer.ensures))
+    rw e (left_stopped whole left _ _ _ c.loop-given.invariant.left _ _ c.in_err-print_answer.field-0.0 split (rw rows at c.in_err-print_answer.ensures))
 
 pub loop-given-preserved : goal.loop-given-preserved
 loop-given-preserved g c =
@@ -160,22 +160,22 @@ loop-given-preserved g c =
     let found = rw c.limit.ensures at (rw c.in-Some.is at c.in_ok-answer.ensures.some) in
     let same = c.loop-given.invariant.answers in
     let at_place = rw same at found.2 in
-    let inside = told-within seen c.args.set.now.answers place _ at_place in
-    let rows : take (length query.items) c.in-Some.answer.rows ≡ get_or ranking place [] = told-is seen c.args.set.now.answers place _ [] at_place in
-    let split = next-given line ending query.limit ranking start given c.args.count place [] c.loop-given.invariant.place less found.0 inside in
+    let inside = told_within seen c.args.set.now.answers place _ at_place in
+    let rows : take (length query.items) c.in-Some.answer.rows ≡ get_or ranking place [] = told_is seen c.args.set.now.answers place _ [] at_place in
+    let split = next_given line ending query.limit ranking start given c.args.count place [] c.loop-given.invariant.place less found.0 inside in
     let printed = rw rows at c.in_ok-print_answer.ensures in
     let at = c.loop-given.invariant.place in
     record {
       place = omega (arith, found.1, at);
       name = c.in_ok-answer.ensures.name ∙ c.loop-given.invariant.name;
-      within = past-start members start given place at (cut-within query.limit ranking place found.0 inside);
+      within = past_start members start given place at (cut_within query.limit ranking place found.0 inside);
       answers = c.in_ok-answer.ensures.kept ∙ c.loop-given.invariant.answers;
-      places = places-set c.args.set.now.places c.loop-given.set.places c.next_member.new.set.places c.args.id.number place c.next_member.new.cursor.place
+      places = places_set c.args.set.now.places c.loop-given.set.places c.next_member.new.set.places c.args.id.number place c.next_member.new.cursor.place
           c.loop-given.invariant.places c.in_ok-answer.ensures.places;
-      here = place-set c.loop-given.set.places c.next_member.new.set.places c.args.id.number place c.next_member.new.cursor.place c.loop-given.invariant.here
+      here = place_set c.loop-given.set.places c.next_member.new.set.places c.args.id.number place c.next_member.new.cursor.place c.loop-given.invariant.here
           c.in_ok-answer.ensures.places;
-      left = left-more whole left _ _ _ c.loop-given.invariant.left _ _ split printed.whole printed.later;
-      spent = given-more g.E.Ranked.share g.met.E.Ranked.share_rises query.limit ranking start given c.args.count place c.args.set.now c.loop-given.set
+      left = left_more whole left _ _ _ c.loop-given.invariant.left _ _ split printed.whole printed.later;
+      spent = given_more g.E.Ranked.share g.met.E.Ranked.share_rises query.limit ranking start given c.args.count place c.args.set.now c.loop-given.set
           c.args.steps.now c.loop-given.steps at c.loop-given.invariant.within c.loop-given.invariant.spent c.next_member.new.set c.next_member.new.steps found.0
           (rw c.limit.ensures at c.in_ok-answer.ensures.paid.spent);
     }
@@ -195,7 +195,7 @@ returns-clause-printed g c =
     let whole = next_text line ending (drop start members) c.args.count in
     let left = next_text line ending (drop (start + given) members) (c.args.count - given) in
     let over : c.args.count - given ≡ 0 = omega (arith, c.loop-given-test.false) in
-    left-none whole left _ _ c.loop-given.invariant.left (next-done line ending members (start + given) (c.args.count - given) over)
+    left_none whole left _ _ c.loop-given.invariant.left (next_done line ending members (start + given) (c.args.count - given) over)
 
 pub returns-clause-moved : goal.returns-clause-moved
 returns-clause-moved g c =
@@ -212,7 +212,7 @@ returns-clause-moved g c =
     let whole = next_text line ending (drop start members) c.args.count in
     let left = next_text line ending (drop (start + given) members) (c.args.count - given) in
     let full : given ≡ c.args.count = omega arith in
-    let all = given-all members start given c.args.count c.loop-given.invariant.within full in
+    let all = given_all members start given c.args.count c.loop-given.invariant.within full in
     omega (arith, c.loop-given.invariant.place, all)
 
 pub returns-in_err-answer-clause-paid : goal.returns-in_err-answer-clause-paid
@@ -227,7 +227,7 @@ returns-in_err-answer-clause-paid g c =
     let e : c.from_residual.result ≡ Err refusal.NoMemory = search rules in
     rw e (record {
       spent = tt;
-      within = given-within g.E.Ranked.share g.met.E.Ranked.share_rises query.limit ranking start given c.args.count place c.args.set.now c.loop-given.set
+      within = given_within g.E.Ranked.share g.met.E.Ranked.share_rises query.limit ranking start given c.args.count place c.args.set.now c.loop-given.set
           c.args.steps.now c.loop-given.steps at c.loop-given.invariant.within c.loop-given.invariant.spent c.next_member.new.steps less (rw c.limit.ensures at c.in_err-answer.ensures.paid.within);
     })
 
@@ -240,8 +240,8 @@ returns-in_default-clause-paid g c =
     let place = c.loop-given.cursor.place in
     let at = c.loop-given.invariant.place in
     let less : given < c.args.count = c.loop-given-test.true in
-    paid-spent g.E.Ranked.share g.met.E.Ranked.share_rises c.args.set.now c.next_member.new.set _ _ c.args.steps.now c.next_member.new.steps c.print_end.result
-    (given-spent g.E.Ranked.share g.met.E.Ranked.share_rises query.limit ranking start given c.args.count place c.args.set.now c.loop-given.set
+    paid_spent g.E.Ranked.share g.met.E.Ranked.share_rises c.args.set.now c.next_member.new.set _ _ c.args.steps.now c.next_member.new.steps c.print_end.result
+    (given_spent g.E.Ranked.share g.met.E.Ranked.share_rises query.limit ranking start given c.args.count place c.args.set.now c.loop-given.set
     c.args.steps.now c.loop-given.steps at c.loop-given.invariant.within c.loop-given.invariant.spent c.next_member.new.set c.next_member.new.steps
     less (rw c.limit.ensures at c.in_ok-answer.ensures.paid.spent))
 
@@ -254,9 +254,9 @@ returns-in_err-print_answer-clause-paid g c =
     let place = c.loop-given.cursor.place in
     let at = c.loop-given.invariant.place in
     let less : given < c.args.count = c.loop-given-test.true in
-    paid-spent g.E.Ranked.share g.met.E.Ranked.share_rises c.args.set.now c.next_member.new.set _ _ c.args.steps.now c.next_member.new.steps
+    paid_spent g.E.Ranked.share g.met.E.Ranked.share_rises c.args.set.now c.next_member.new.set _ _ c.args.steps.now c.next_member.new.steps
     c.from_residual-in_err-print_answer.result
-    (given-spent g.E.Ranked.share g.met.E.Ranked.share_rises query.limit ranking start given c.args.count place c.args.set.now c.loop-given.set
+    (given_spent g.E.Ranked.share g.met.E.Ranked.share_rises query.limit ranking start given c.args.count place c.args.set.now c.loop-given.set
     c.args.steps.now c.loop-given.steps at c.loop-given.invariant.within c.loop-given.invariant.spent c.next_member.new.set c.next_member.new.steps
     less (rw c.limit.ensures at c.in_ok-answer.ensures.paid.spent))
 
@@ -267,6 +267,6 @@ returns-clause-paid g c =
     let start = c.args.cursor.now.place in
     let given = c.loop-given._given in
     let place = c.loop-given.cursor.place in
-    paid-spent g.E.Ranked.share g.met.E.Ranked.share_rises c.args.set.now c.loop-given.set _ _ c.args.steps.now c.loop-given.steps (Ok tt)
-    (given-done g.E.Ranked.share g.met.E.Ranked.share_rises query.limit ranking start given c.args.count place c.args.set.now c.loop-given.set
+    paid_spent g.E.Ranked.share g.met.E.Ranked.share_rises c.args.set.now c.loop-given.set _ _ c.args.steps.now c.loop-given.steps (Ok tt)
+    (given_done g.E.Ranked.share g.met.E.Ranked.share_rises query.limit ranking start given c.args.count place c.args.set.now c.loop-given.set
     c.args.steps.now c.loop-given.steps c.loop-given.invariant.place c.loop-given.invariant.within c.loop-given.invariant.spent (omega arith))

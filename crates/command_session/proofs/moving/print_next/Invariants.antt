@@ -1,12 +1,12 @@
 use Rattle.std.proofs.Common.{◌≡◌, ◌+◌, ◌-◌, ◌≤◌, ◌++◌, Some, length, drop}
 use Rattle.std.specs.Prelude.{codes, slice_set}
 use Rattle.anyk_model.specs.Output.{cut, line_text}
-use Rattle.answer_print.specs.Shown.{style_shown}
+use Rattle.answer_print.specs.StyleView.{style_shown}
 use Rattle.cursor_set.specs.CursorSet.{place_of}
 use Rattle.refusal_lines.specs.SinkState.{state_of}
 use Rattle.verdict.specs.Session.{next_text, with_name}
 use Rattle.witness_key.specs.WitnessKey.{combinations_in}
-use Rattle.command_session.specs.Spent.{Spent}
+use Rattle.command_session.specs.Costs.{Spent}
 use Rattle.command_session.proofs.Left.{HasLeft}
 use Rattle.command_session.proofs.moving.print_next.Given as goal
 

@@ -1,18 +1,18 @@
 use Rattle.std.proofs.Common.{None, ap, sym, ◌∙◌}
 use Rattle.cursor_set.specs.CursorSet.{CursorSet}
-use Rattle.command_session.proofs.Moves.{found-named, held-moved, no-place, none-some, place-held, unknown-closed}
+use Rattle.command_session.proofs.Moves.{found_named, held_moved, no_place, none_some, place_held, unknown_closed}
 use Rattle.command_session.proofs.open_cursors.close.Goals as goal
 
 pub returns-in_default-clause-held : goal.returns-in_default-clause-held
-returns-in_default-clause-held g c = λ places held opened. unknown-closed c.args.set.now c.args.cursors.now places c.args.name.now c.in_default.ensures held opened
+returns-in_default-clause-held g c = λ places held opened. unknown_closed c.args.set.now c.args.cursors.now places c.args.name.now c.in_default.ensures held opened
 
 pub returns-in_default-close-clause-held : goal.returns-in_default-close-clause-held
 returns-in_default-close-clause-held g c = λ places held opened.
-    let found = found-named c.args.cursors.now c.in-Some.number c.args.name.now c.in-Some.ensures in
-    no-place (sym c.in_default-close.ensures.refused.1 ∙ place-held c.args.set.now c.args.set.now c.args.cursors.now places c.in-Some.number c.args.name.now found.cursor held found.within found.at found.is)
+    let found = found_named c.args.cursors.now c.in-Some.number c.args.name.now c.in-Some.ensures in
+    no_place (sym c.in_default-close.ensures.refused.1 ∙ place_held c.args.set.now c.args.set.now c.args.cursors.now places c.in-Some.number c.args.name.now found.cursor held found.within found.at found.is)
 
 pub returns-clause-held : goal.returns-clause-held
 returns-clause-held g c = λ places held opened.
-    let found = found-named c.args.cursors.now c.in-Some.number c.args.name.now c.in-Some.ensures in
-    held-moved c.args.set.now c.close.new.self c.args.cursors.now places c.in-Some.number c.args.name.now found.cursor held found.within found.at found.is None
-    (λ d is. none-some is) (ap (λ (s : CursorSet). s.places) c.in-Ok.ensures.closed.1)
+    let found = found_named c.args.cursors.now c.in-Some.number c.args.name.now c.in-Some.ensures in
+    held_moved c.args.set.now c.close.new.self c.args.cursors.now places c.in-Some.number c.args.name.now found.cursor held found.within found.at found.is None
+    (λ d is. none_some is) (ap (λ (s : CursorSet). s.places) c.in-Ok.ensures.closed.1)

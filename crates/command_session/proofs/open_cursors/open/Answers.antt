@@ -1,9 +1,9 @@
 use Rattle.std.proofs.Common.{ap}
 use Rattle.cursor_set.specs.CursorSet.{CursorSet}
-use Rattle.command_session.proofs.Moves.{held-new}
+use Rattle.command_session.proofs.Moves.{held_new}
 use Rattle.command_session.proofs.open_cursors.open.Goals as goal
 
 pub returns-clause-held : goal.returns-clause-held
 returns-clause-held g c = λ places held closed.
-    held-new c.args.set.now c.open.new.self c.args.cursors.now places c.in-Ok.id.number held c.in-Ok.ensures.opened.0 (record { name = c.args.name; place = 0 }) closed
+    held_new c.args.set.now c.open.new.self c.args.cursors.now places c.in-Ok.id.number held c.in-Ok.ensures.opened.0 (record { name = c.args.name; place = 0 }) closed
     (ap (λ (s : CursorSet). s.places) c.in-Ok.ensures.opened.1)

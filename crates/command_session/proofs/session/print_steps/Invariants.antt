@@ -1,6 +1,6 @@
 use Rattle.std.proofs.Common.{◌≡◌}
 use Rattle.anyk_model.specs.Output.{cut, line_text}
-use Rattle.answer_print.specs.Shown.{style_shown}
+use Rattle.answer_print.specs.StyleView.{style_shown}
 use Rattle.refusal_lines.specs.SinkState.{state_of}
 use Rattle.verdict.specs.Session.{with_name}
 use Rattle.verdict.specs.SessionCalls.{ends_by_itself}

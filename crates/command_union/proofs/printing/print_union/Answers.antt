@@ -1,17 +1,17 @@
 use Rattle.std.proofs.Common.{◌≡◌, Err, rules, arith}
-use Rattle.refusal_lines.proofs.Prints.{printed-stopped, printed-then}
-use Rattle.command_union.proofs.Pacing.{paced-after}
+use Rattle.refusal_lines.proofs.Prints.{printed_stopped, printed_then}
+use Rattle.command_union.proofs.Pacing.{paced_after}
 use Rattle.command_union.proofs.printing.print_union.Goals as goal
 
 pub returns-in_err-print_union_header-clause-printed : goal.returns-in_err-print_union_header-clause-printed
 returns-in_err-print_union_header-clause-printed g c =
     let e : c.from_residual.result ≡ Err c.in_err-print_union_header.field-0.0 = search rules in
-    rw e (printed-stopped _ _ _ _ c.in_err-print_union_header.field-0.0 c.in_err-print_union_header.ensures)
+    rw e (printed_stopped _ _ _ _ c.in_err-print_union_header.field-0.0 c.in_err-print_union_header.ensures)
 
 pub returns-clause-printed : goal.returns-clause-printed
 returns-clause-printed g c =
     let head = c.in_ok-print_union_header.ensures in
-    printed-then _ _ _ _ _ _ head.whole head.later c.print_members.ensures.printed
+    printed_then _ _ _ _ _ _ head.whole head.later c.print_members.ensures.printed
 
 pub returns-in_err-print_union_header-clause-bounded : goal.returns-in_err-print_union_header-clause-bounded
 returns-in_err-print_union_header-clause-bounded g c = omega arith
@@ -25,5 +25,5 @@ returns-clause-bounded g c = c.print_members.ensures.paced.bounded
 pub returns-clause-prompt : goal.returns-clause-prompt
 returns-clause-prompt g c start part is_old is_new =
     let rest = c.print_members.ensures.printed.prefix in
-    paced-after _ _ _ _ _ _ _ _ _ rest.0 c.in_ok-print_union_header.ensures.whole rest.1
+    paced_after _ _ _ _ _ _ _ _ _ rest.0 c.in_ok-print_union_header.ensures.whole rest.1
     c.print_members.ensures.paced start part is_old is_new

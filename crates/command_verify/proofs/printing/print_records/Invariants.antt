@@ -1,6 +1,6 @@
 use Rattle.std.proofs.Common.{List, ℕ, length, take}
 use Rattle.anyk_model.specs.Output.{line_text}
-use Rattle.answer_print.specs.Shown.{style_shown}
+use Rattle.answer_print.specs.StyleView.{style_shown}
 use Rattle.refusal_lines.specs.SinkState.{state_of}
 use Rattle.command_verify.proofs.Records.{HasPrinted}
 use Rattle.command_verify.proofs.printing.print_records.Given as goal

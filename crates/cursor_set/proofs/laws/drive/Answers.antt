@@ -1,5 +1,5 @@
 use Rattle.std.proofs.Common.{◌+◌, refl, ◌∙◌, arith}
-use Rattle.cursor_set.proofs.Driving.{start_of, IsDriven-none, IsDriven-place, IsDriven-more, counted-none}
+use Rattle.cursor_set.proofs.Driving.{start_of, IsDriven-none, IsDriven-place, IsDriven-more, counted_none}
 use Rattle.cursor_set.proofs.laws.drive.Goals as goal
 
 pub loop-given-init : goal.loop-given-init
@@ -8,7 +8,7 @@ loop-given-init g c = record {
   refused = omega arith;
   room = omega arith;
   driven = IsDriven-none c.args.cursors.now c.args.id.number c.requires.0 c.requires.1;
-  counted = counted-none c.args.cursors.now.refused (omega arith);
+  counted = counted_none c.args.cursors.now.refused (omega arith);
   covered = λ _. refl;
   after_end = λ _. refl;
 }

@@ -1,21 +1,21 @@
 use Rattle.std.proofs.Common.{lit<, rules}
-use Rattle.engine_tests.proofs.Held.{own-row-fits, two-rows-held}
+use Rattle.engine_tests.proofs.Held.{own_row_fits, two_rows_held}
 use Rattle.engine_tests.proofs.ranks.adds_and_exchanges.Goals as goal
 
 pub join-first-requires : goal.join-first-requires
 join-first-requires g c =
-    let held = two-rows-held g.R.Rank.key g.met.R.Rank.holds g.met.R.Rank.rows_held c.requires.slots c.requires.limit in
+    let held = two_rows_held g.R.Rank.key g.met.R.Rank.holds g.met.R.Rank.rows_held c.requires.slots c.requires.limit in
     rw (c.of_row-five.ensures, c.of_row-less_seven.ensures) (held _ _ 0 3 1 4 (search rules) (search rules) (lit< tt) (lit< tt) (lit< tt) (lit< tt))
 
 pub join-second-requires : goal.join-second-requires
 join-second-requires g c =
-    let held = two-rows-held g.R.Rank.key g.met.R.Rank.holds g.met.R.Rank.rows_held c.requires.slots c.requires.limit in
+    let held = two_rows_held g.R.Rank.key g.met.R.Rank.holds g.met.R.Rank.rows_held c.requires.slots c.requires.limit in
     rw (c.of_row-five.ensures, c.of_row-nine.ensures) (held _ _ 0 3 1 1 (search rules) (search rules) (lit< tt) (lit< tt) (lit< tt) (lit< tt))
 
 pub swap-exchanged-requires : goal.swap-exchanged-requires
 swap-exchanged-requires g c =
-    let held = two-rows-held g.R.Rank.key g.met.R.Rank.holds g.met.R.Rank.rows_held c.requires.slots c.requires.limit in
-    let own = own-row-fits g.R.Rank.key g.met.R.Rank.holds g.met.R.Rank.rows_held c.requires.slots c.requires.limit in
+    let held = two_rows_held g.R.Rank.key g.met.R.Rank.holds g.met.R.Rank.rows_held c.requires.slots c.requires.limit in
+    let own = own_row_fits g.R.Rank.key g.met.R.Rank.holds g.met.R.Rank.rows_held c.requires.slots c.requires.limit in
     record {
       rest = g.R.Rank.key c.of_row-five.result;
       whole = c.join-first.ensures.sum;

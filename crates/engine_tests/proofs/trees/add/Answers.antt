@@ -3,7 +3,7 @@ use Rattle.rank_key.specs.Keys.{row_key}
 use Rattle.tdp_core.specs.declared.parts.NodeShape.{NodeShape}
 use Rattle.tdp_core.specs.RawData.{shape_item, shape_cap}
 use Rattle.tdp_core.specs.WellFormed.{RowFits}
-use Rattle.tdp_core.proofs.RowKeys.{row_key-fits}
+use Rattle.tdp_core.proofs.RowKeys.{row_key_fits}
 use Rattle.engine_tests.proofs.trees.add.Goals as goal
 
 pub add_row-requires-clause-fits : goal.add_row-requires-clause-fits
@@ -16,6 +16,6 @@ add_row-requires-clause-fits g c =
     let below : shape_item shapes v < 16 = c.nodes-count.ensures.formed.shaped.items v c.requires.node in
     let fits : RowFits d (shape_item shapes v) (shape_cap shapes v) c.args.number (key c.of_row-rank.result) =
     subst (RowFits d (shape_item shapes v) (shape_cap shapes v) c.args.number) (sym (c.of_row-rank.ensures ∙ ap (λ i. row_key d [] i c.args.number) item))
-    (row_key-fits d [] (shape_item shapes v) c.args.number (shape_cap shapes v) below c.requires.number (λ i h. omega arith))
+    (row_key_fits d [] (shape_item shapes v) c.args.number (shape_cap shapes v) below c.requires.number (λ i h. omega arith))
     in
     (fits, c.requires.children)

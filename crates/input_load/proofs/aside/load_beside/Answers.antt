@@ -1,8 +1,8 @@
-use Rattle.input_load.proofs.Asides.{nothing-beside}
+use Rattle.input_load.proofs.Asides.{nothing_beside}
 use Rattle.input_load.proofs.aside.load_beside.Goals as goal
 
 pub returns-in-Nothing-clause-staged : goal.returns-in-Nothing-clause-staged
-returns-in-Nothing-clause-staged g c = rw c.in-Nothing.is (nothing-beside _ _ _ _ c.new.ensures.items c.no_proof.ensures)
+returns-in-Nothing-clause-staged g c = rw c.in-Nothing.is (nothing_beside _ _ _ _ c.new.ensures.items c.no_proof.ensures)
 
 pub returns-in-Script-clause-staged : goal.returns-in-Script-clause-staged
 returns-in-Script-clause-staged g c = rw c.in-Script.is c.load_script.ensures.staged

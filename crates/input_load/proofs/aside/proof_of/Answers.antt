@@ -1,4 +1,4 @@
-use Rattle.proof_text.specs.Seen.{seen_proof}
+use Rattle.proof_text.specs.ProofView.{seen_proof}
 use Rattle.input_load.proofs.Faults.{proof_refused, proof_told}
 use Rattle.input_load.proofs.aside.proof_of.Goals as goal
 

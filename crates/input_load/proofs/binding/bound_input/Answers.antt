@@ -1,13 +1,13 @@
 use Rattle.std.proofs.Common.{◌≡◌, Err, rules, arith}
-use Rattle.refusal_lines.specs.Refused.{reason_of}
+use Rattle.refusal_lines.specs.RefusalReasons.{reason_of}
 use Rattle.verdict.specs.Loading.{bound_in, loaded_in}
 use Rattle.verdict.specs.Stages.{Is, followed}
 use Rattle.verdict.proofs.Staging.{pure_found, pure_refused}
 use Rattle.input_load.specs.Input.{queries_in}
-use Rattle.input_load.specs.Shown.{seen_beside}
+use Rattle.input_load.specs.StageViews.{seen_beside}
 use Rattle.input_load.specs.Sought.{sought_shown}
-use Rattle.input_load.proofs.Best.{item-found, item-refused, shape-refused}
-use Rattle.input_load.proofs.Shapes.{keys-none-odd, odd-none}
+use Rattle.input_load.proofs.Best.{item_found, item_refused, shape_refused}
+use Rattle.input_load.proofs.Shapes.{keys_none_odd, odd_none}
 use Rattle.input_load.proofs.binding.bound_input.Goals as goal
 
 pub returns-in_err-queries-clause-bound : goal.returns-in_err-queries-clause-bound
@@ -27,7 +27,7 @@ returns-in_err-check_shapes-clause-bound c =
     let reason = reason_of c.in_err-check_shapes.field-0.0 in
     let e : c.from_residual-in_err-check_shapes.result ≡ Err c.in_err-check_shapes.field-0.0 = search rules in
     rw e (pure_found (Is (bound_in c.args.selects.now tables)) (λ queries. Is (loaded_in sought.best_of queries tables beside)) queries (Err reason) c.in_ok-queries.ensures.bound
-    (shape-refused queries tables beside sought.best_of reason (rw c.deref.ensures.value at c.in_err-check_shapes.ensures)))
+    (shape_refused queries tables beside sought.best_of reason (rw c.deref.ensures.value at c.in_err-check_shapes.ensures)))
 
 pub returns-in_err-best-clause-bound : goal.returns-in_err-best-clause-bound
 returns-in_err-best-clause-bound c =
@@ -38,7 +38,7 @@ returns-in_err-best-clause-bound c =
     let reason = reason_of c.in_err-best.field-0.0 in
     let e : c.from_residual-in_err-best.result ≡ Err c.in_err-best.field-0.0 = search rules in
     rw e (pure_found (Is (bound_in c.args.selects.now tables)) (λ queries. Is (loaded_in sought.best_of queries tables beside)) queries (Err reason) c.in_ok-queries.ensures.bound
-    (item-refused queries tables beside sought.best_of reason (rw c.deref.ensures.value at c.in_ok-check_shapes.ensures) (rw c.deref-2.ensures.value at c.in_err-best.ensures.best)))
+    (item_refused queries tables beside sought.best_of reason (rw c.deref.ensures.value at c.in_ok-check_shapes.ensures) (rw c.deref-2.ensures.value at c.in_err-best.ensures.best)))
 
 pub invariant_of-result : goal.invariant_of-result
 invariant_of-result c =
@@ -50,7 +50,7 @@ invariant_of-result c =
       some = omega (arith, as_many, some);
       few = omega (arith, as_many, few);
       fits = c.in_ok-queries.ensures.fits;
-      keys = keys-none-odd queries (odd-none queries (rw c.deref.ensures.value at c.in_ok-check_shapes.ensures));
+      keys = keys_none_odd queries (odd_none queries (rw c.deref.ensures.value at c.in_ok-check_shapes.ensures));
       item = rw c.deref-2.ensures.value at c.in_ok-best.ensures.item;
       rules = c.requires.rules;
     }
@@ -60,4 +60,4 @@ returns-clause-bound c =
     let sought = sought_shown c.args.sought.now in
     let queries = queries_in c.in_ok-queries.queries.items in
     followed {a = queries} c.in_ok-queries.ensures.bound
-    (item-found queries c.args.tables (seen_beside c.args.beside) sought.best_of c.in_ok-best.best (rw c.deref.ensures.value at c.in_ok-check_shapes.ensures) (rw c.deref-2.ensures.value at c.in_ok-best.ensures.best))
+    (item_found queries c.args.tables (seen_beside c.args.beside) sought.best_of c.in_ok-best.best (rw c.deref.ensures.value at c.in_ok-check_shapes.ensures) (rw c.deref-2.ensures.value at c.in_ok-best.ensures.best))

@@ -1,12 +1,12 @@
 use Rattle.std.proofs.Common.{◌≡◌, ◌∙◌, false, true, sym, rules, arith}
 use Rattle.std.proofs.lemmas.List.{length-map}
 use Rattle.input_load.specs.Input.{queries_in}
-use Rattle.input_load.proofs.FirstUses.{mapped-at, mapped-inside}
-use Rattle.input_load.proofs.Shapes.{odd-begins, shape-kept, shape-odd, shapes-same}
+use Rattle.input_load.proofs.FirstUses.{mapped_at, mapped_inside}
+use Rattle.input_load.proofs.Shapes.{odd_begins, shape_kept, shape_odd, shapes_same}
 use Rattle.input_load.proofs.binding.check_shapes.Goals as goal
 
 pub loop-branch-init : goal.loop-branch-init
-loop-branch-init c = odd-begins (queries_in c.args.queries.now)
+loop-branch-init c = odd_begins (queries_in c.args.queries.now)
 
 pub returns-then-not-have_one_shape : goal.returns-then-not-have_one_shape
 returns-then-not-have_one_shape c =
@@ -15,8 +15,8 @@ returns-then-not-have_one_shape c =
     let inside = c.loop-branch-test.true in
     let some = c.requires.some in
     let no : c.have_one_shape.result ≡ false = search rules in
-    shape-odd (queries_in queries) b _ _ (mapped-inside (λ q. q.query) queries b inside) (mapped-at (λ q. q.query) queries 0 c.index-queries-0.result (omega (arith, some)) c.index-queries-0.is)
-    (mapped-at (λ q. q.query) queries b c.index-queries-branch.result inside c.index-queries-branch.is) (sym c.have_one_shape.ensures ∙ no) c.loop-branch.invariant
+    shape_odd (queries_in queries) b _ _ (mapped_inside (λ q. q.query) queries b inside) (mapped_at (λ q. q.query) queries 0 c.index-queries-0.result (omega (arith, some)) c.index-queries-0.is)
+    (mapped_at (λ q. q.query) queries b c.index-queries-branch.result inside c.index-queries-branch.is) (sym c.have_one_shape.ensures ∙ no) c.loop-branch.invariant
 
 pub loop-branch-preserved : goal.loop-branch-preserved
 loop-branch-preserved c =
@@ -25,11 +25,11 @@ loop-branch-preserved c =
     let inside = c.loop-branch-test.true in
     let some = c.requires.some in
     let yes : c.have_one_shape.result ≡ true = search rules in
-    shape-kept (queries_in queries) b _ _ (mapped-inside (λ q. q.query) queries b inside) (mapped-at (λ q. q.query) queries 0 c.index-queries-0.result (omega (arith, some)) c.index-queries-0.is)
-    (mapped-at (λ q. q.query) queries b c.index-queries-branch.result inside c.index-queries-branch.is) (sym c.have_one_shape.ensures ∙ yes) c.loop-branch.invariant
+    shape_kept (queries_in queries) b _ _ (mapped_inside (λ q. q.query) queries b inside) (mapped_at (λ q. q.query) queries 0 c.index-queries-0.result (omega (arith, some)) c.index-queries-0.is)
+    (mapped_at (λ q. q.query) queries b c.index-queries-branch.result inside c.index-queries-branch.is) (sym c.have_one_shape.ensures ∙ yes) c.loop-branch.invariant
 
 pub returns : goal.returns
 returns c =
     let queries = c.args.queries.now in
     let longer = length-map queries (λ q. q.query) in
-    shapes-same (queries_in queries) c.loop-branch.branch (omega (arith, longer, c.loop-branch-test.false)) c.loop-branch.invariant
+    shapes_same (queries_in queries) c.loop-branch.branch (omega (arith, longer, c.loop-branch-test.false)) c.loop-branch.invariant

@@ -2,7 +2,7 @@ use Rattle.std.proofs.Common.{◌≡◌, ◌∙◌, None, ℕ, List, ap, sym, po
 use Rattle.std.specs.Str.{bytes_eq}
 use Rattle.anyk_model.specs.Query.{Item}
 use Rattle.verdict.specs.Loading.{known_item}
-use Rattle.input_load.proofs.Best.{best-one}
+use Rattle.input_load.proofs.Best.{best_one}
 use Rattle.input_load.proofs.binding.list_item.Goals as goal
 
 pub returns-in-None-clause-best : goal.returns-in-None-clause-best
@@ -13,4 +13,4 @@ returns-in-None-clause-best c =
     let found : None ≡ position (λ (item : Item). bytes_eq item.alias c.in-Some.alias.now) items =
     c.in-None.ensures.first ∙ ap (λ (alias : List ℕ). position (λ (item : Item). bytes_eq item.alias alias) items) c.as_bytes.ensures.value in
     rw c.in-Some.is
-    (ap known_item found ∙ sym (best-one c.in-Some.alias.now queries c.index-queries-0.result some (omega (arith)) c.index-queries-0.is))
+    (ap known_item found ∙ sym (best_one c.in-Some.alias.now queries c.index-queries-0.result some (omega (arith)) c.index-queries-0.is))

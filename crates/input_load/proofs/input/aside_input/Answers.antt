@@ -5,7 +5,7 @@ use Rattle.verdict.specs.Verdict.{IsSelected}
 use Rattle.verdict.specs.Words.{aside_name}
 use Rattle.verdict.proofs.Staging.{found_then, refusal_then}
 use Rattle.input_load.specs.Turns.{IsSelectedTurn}
-use Rattle.input_load.specs.Shown.{seen_beside}
+use Rattle.input_load.specs.StageViews.{seen_beside}
 use Rattle.input_load.specs.Sought.{sought_shown}
 use Rattle.input_load.proofs.input.aside_input.Goals as goal
 

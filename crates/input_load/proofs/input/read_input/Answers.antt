@@ -1,6 +1,6 @@
 use Rattle.std.proofs.Common.{◌≡◌, Err, rules}
 use Rattle.verdict.specs.Loading.{IsReading}
-use Rattle.verdict.specs.Staged.{NoTurn}
+use Rattle.verdict.specs.StageResults.{NoTurn}
 use Rattle.verdict.specs.Verdict.{IsAccompanied}
 use Rattle.verdict.proofs.Staging.{found_then, pure_staged, refusal_then}
 use Rattle.input_load.specs.Turns.{IsAccompaniedTurn}

@@ -1,11 +1,11 @@
 use Rattle.std.proofs.Common.{◌≡◌, Err, rules}
 use Rattle.verdict.specs.Loading.{all_items, unknown_table}
-use Rattle.verdict.specs.Staged.{NoTurn}
+use Rattle.verdict.specs.StageResults.{NoTurn}
 use Rattle.verdict.specs.Stages.{Is, unless}
 use Rattle.verdict.specs.Verdict.{IsTabled}
 use Rattle.verdict.proofs.Staging.{found_then, pure_staged, refusal_then}
 use Rattle.input_load.specs.Turns.{IsTabledTurn}
-use Rattle.input_load.specs.Shown.{seen_beside}
+use Rattle.input_load.specs.StageViews.{seen_beside}
 use Rattle.input_load.specs.Sought.{sought_shown}
 use Rattle.input_load.proofs.input.select_input.Goals as goal
 

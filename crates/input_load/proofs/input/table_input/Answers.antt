@@ -5,13 +5,13 @@ use Rattle.std.specs.Str.{bytes_eq}
 use Rattle.cmd_words.specs.NamedPairs.{named_pair}
 use Rattle.rankings.specs.Order.{IsMember}
 use Rattle.verdict.specs.Loading.{all_items, files_read, first_uses, first_uses_after, table_numbers, tables_in}
-use Rattle.verdict.specs.Staged.{NoTurn}
+use Rattle.verdict.specs.StageResults.{NoTurn}
 use Rattle.verdict.specs.Stages.{Is}
 use Rattle.verdict.proofs.Staging.{found_then, pure_staged, refusal_then}
 use Rattle.verdict.specs.Verdict.{IsBound}
 use Rattle.input_load.specs.Entries.{tables_of}
-use Rattle.input_load.proofs.FirstUses.{numbers-within}
-use Rattle.input_load.specs.Shown.{seen_beside}
+use Rattle.input_load.proofs.FirstUses.{numbers_within}
+use Rattle.input_load.specs.StageViews.{seen_beside}
 use Rattle.input_load.specs.Sought.{sought_shown}
 use Rattle.input_load.proofs.input.table_input.Goals as goal
 
@@ -40,7 +40,7 @@ bound_input-requires-clause-known g c =
     let count : length c.in_ok-tables.tables ≡ length (first_uses (all_items selects)) =
     c.in_ok-tables.ensures.count ∙ ap length c.deref-2.ensures.value ∙ sym (length-map c.in_ok-firsts.firsts.items (λ e. named_pair e.now))
     ∙ sym (length-map (map (λ e. named_pair e.now) c.in_ok-firsts.firsts.items) (λ (x : List ℕ × List ℕ). x.0)) ∙ ap length firsts in
-    rw numbers (subst (λ n. AllByRecursion (λ t. t < n) (table_numbers (first_uses (all_items selects)) (all_items selects))) (sym count) (numbers-within (all_items selects)))
+    rw numbers (subst (λ n. AllByRecursion (λ t. t < n) (table_numbers (first_uses (all_items selects)) (all_items selects))) (sym count) (numbers_within (all_items selects)))
 
 pub returns-clause-staged : goal.returns-clause-staged
 returns-clause-staged g c =

@@ -3,18 +3,18 @@ use Rattle.cmd_words.specs.NamedPairs.{named_pair}
 use Rattle.make_input.specs.Input.{query_file, table_files}
 use Rattle.outer_io.specs.Files.{Files}
 use Rattle.outer_io.specs.Holding.{Holding}
-use Rattle.verdict.specs.Made.{made_files}
-use Rattle.verdict.specs.Staged.{Fits, Shelved}
+use Rattle.verdict.specs.MadeFiles.{made_files}
+use Rattle.verdict.specs.StageResults.{Fits, Shelved}
 use Rattle.verdict.specs.Verdict.{IsLoadedOn}
 use Rattle.verdict.specs.Words.{Named, Sought, load, nothing, sought_by}
 use Rattle.input_load.specs.Turns.{IsTurn}
-use Rattle.input_load.specs.Shown.{shown_input}
-use Rattle.input_load.proofs.MadeShelf.{distinct-files}
-use Rattle.input_load.proofs.NoneRefused.{made-none, pure-told}
+use Rattle.input_load.specs.StageViews.{shown_input}
+use Rattle.input_load.proofs.MadeShelf.{distinct_files}
+use Rattle.input_load.proofs.NoneRefused.{made_none, pure_told}
 use Rattle.input_load.proofs.made.load_made.Goals as goal
 
 pub new-shelf-requires : goal.new-shelf-requires
-new-shelf-requires c = distinct-files _ c.args.made.now.number c.args.made.now.rows c.in_ok-made_shelf.ensures
+new-shelf-requires c = distinct_files _ c.args.made.now.number c.args.made.now.rows c.in_ok-made_shelf.ensures
 
 pub returns-clause-made : goal.returns-clause-made
 returns-clause-made c =
@@ -28,8 +28,8 @@ returns-clause-made c =
     let Q : Files → Type 0 = λ files. Fits (IsLoadedOn asked) (IsTurn asked) (Some files) (shown_input c.load_input.result) in
     let old : Shelved = record { files = Some c.new-shelf.result.files; misses = c.new-shelf.result.misses; faults = 0; taken = c.new-shelf.result.taken } in
     let new : Shelved = record { files = Some c.load_input.new.shelf.files; misses = c.load_input.new.shelf.misses; faults = 0; taken = c.load_input.new.shelf.taken } in
-    pure-told (IsLoadedOn asked) (IsTurn asked) (made_files number rows) old new (shown_input c.load_input.result)
-    (made-none number rows c.args.made.now.few_rows (shown_input c.load_input.result)) (subst Q held (subst P names c.load_input.ensures.staged.fits)) refl refl c.load_input.ensures.staged.caused
+    pure_told (IsLoadedOn asked) (IsTurn asked) (made_files number rows) old new (shown_input c.load_input.result)
+    (made_none number rows c.args.made.now.few_rows (shown_input c.load_input.result)) (subst Q held (subst P names c.load_input.ensures.staged.fits)) refl refl c.load_input.ensures.staged.caused
 
 pub returns-clause-alone : goal.returns-clause-alone
 returns-clause-alone c = c.load_input.ensures.alone refl

@@ -1,6 +1,6 @@
 use Rattle.std.proofs.Common.{◌≡◌, ◌∙◌, length, map, ap, arith, inl, inr, refl, ◌⊎◌}
 use Rattle.cmd_words.specs.NamedPairs.{named_pair}
-use Rattle.input_load.proofs.MadeShelf.{files-all, files-first, files-more}
+use Rattle.input_load.proofs.MadeShelf.{files_all, files_first, files_more}
 use Rattle.input_load.proofs.made.made_shelf.Goals as goal
 
 pub loop-named-init : goal.loop-named-init
@@ -10,13 +10,13 @@ loop-named-init c =
     let names : c.into_iter-named-iterator.result.a.rest.now ≡ c.args.made.now.named.items =
     ap (λ z. z.a.rest.now) both ∙ ap (λ a. a.rest.now) zipped.first ∙ c.iter.ensures.rest ∙ c.deref.ensures.value in
     let texts : c.into_iter-named-iterator.result.b.rest.items ≡ c.in_ok-tables.tables.items = ap (λ z. z.b.rest.items) both ∙ zipped.second.0 in
-    files-first c.push.new.self.items _ _ _ c.args.made.now.number c.args.made.now.rows (rw c.new-files.ensures.items at c.in_ok-push.ensures.items)
+    files_first c.push.new.self.items _ _ _ c.args.made.now.number c.args.made.now.rows (rw c.new-files.ensures.items at c.in_ok-push.ensures.items)
     c.in_ok-name.ensures.ok c.in_ok-bytes.ensures (ap (map named_pair) names ∙ c.args.made.now.names) (ap (map (λ f. f.items)) texts ∙ c.in_ok-tables.ensures)
 
 pub loop-named-preserved : goal.loop-named-preserved
 loop-named-preserved c =
     let steps = c.in-Some.ensures.steps in
-    files-more c.loop-named.files.items _ _ c.in-Some.named.now c.in-Some.bytes _ _ _ _ _ c.loop-named.invariant steps.0 steps.1.0 c.in_ok-push-2.ensures.items
+    files_more c.loop-named.files.items _ _ c.in-Some.named.now c.in-Some.bytes _ _ _ _ _ c.loop-named.invariant steps.0 steps.1.0 c.in_ok-push-2.ensures.items
     (c.in_ok-name-2.ensures.ok ∙ c.as_str.ensures.value) refl
 
 pub returns : goal.returns
@@ -24,4 +24,4 @@ returns c =
     let tables = c.loop-named.named-iterator.b.rest in
     let ended : (length c.loop-named.named-iterator.a.rest.now ≡ 0) ⊎ (length tables.items ≡ 0) =
     elim c.in-None.ensures.steps [ inl end ↦ inl end.1.0 | inr end ↦ inr (omega (arith, end.1.0, tables.ok.0)) ] in
-    files-all c.loop-named.files.items c.loop-named.named-iterator.a.rest.now tables.items _ c.loop-named.invariant ended
+    files_all c.loop-named.files.items c.loop-named.named-iterator.a.rest.now tables.items _ c.loop-named.invariant ended

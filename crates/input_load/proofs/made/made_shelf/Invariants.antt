@@ -1,7 +1,7 @@
 use Rattle.std.proofs.Common.{◌≡◌, ◌++◌, map, string_bytes}
 use Rattle.std.specs.List.{zip}
 use Rattle.outer_io.specs.Entries.{entry_of}
-use Rattle.verdict.specs.Made.{made_files}
+use Rattle.verdict.specs.MadeFiles.{made_files}
 use Rattle.input_load.proofs.made.made_shelf.Given as goal
 
 abbrev pub invariant-loop-named : goal.invariant-loop-named

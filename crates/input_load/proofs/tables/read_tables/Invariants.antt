@@ -3,7 +3,7 @@ use Rattle.std.specs.List.{AllByRecursion}
 use Rattle.cmd_words.specs.NamedPairs.{named_pair}
 use Rattle.rankings.specs.Order.{IsMember}
 use Rattle.verdict.specs.Loading.{files_read}
-use Rattle.verdict.specs.Staged.{Staged, shelved}
+use Rattle.verdict.specs.StageResults.{Staged, shelved}
 use Rattle.input_load.specs.Entries.{IsEntryOf, tables_of}
 use Rattle.input_load.proofs.Reading.{IsReached}
 use Rattle.input_load.proofs.tables.read_tables.Given as goal

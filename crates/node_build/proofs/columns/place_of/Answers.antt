@@ -1,7 +1,7 @@
 use Rattle.std.proofs.Common.{◌≡◌, ◌≤◌, ◌+◌, ℕ, List, [], ◌∷◌, ◌++◌, length, get_or, take, sym, ap, subst, inl, inr, arith}
 use Rattle.std.proofs.lemmas.List.{take_all, take_more}
 use Rattle.rankings.specs.Order.{IsMember}
-use Rattle.query_bind.proofs.Lists.{member-index, member-parts}
+use Rattle.query_bind.proofs.Lists.{member-index, member_parts}
 use Rattle.node_build.proofs.columns.place_of.Goals as goal
 
 pub returns-then-variable-number-clause-found : goal.returns-then-variable-number-clause-found
@@ -18,7 +18,7 @@ loop-variable-preserved c place m =
     let i = c.loop-variable.variable-index in
     let x : ℕ × ℕ = get_or xs i (0, 0) in
     let more : take (i + 1) xs ≡ take i xs ++ x ∷ [] = take_more xs i (0, 0) (omega arith) in
-    elim (member-parts (c.args.number, place) x (take i xs) (subst (λ (l : List (ℕ × ℕ)). IsMember (c.args.number, place) l) more m)) [
+    elim (member_parts (c.args.number, place) x (take i xs) (subst (λ (l : List (ℕ × ℕ)). IsMember (c.args.number, place) l) more m)) [
       | inl old ↦ c.loop-variable.invariant place old
       | inr e ↦ c.if-variable-number.false (ap (λ (p : ℕ × ℕ). p.0) (sym e))
     ]

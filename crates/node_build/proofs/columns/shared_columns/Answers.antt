@@ -1,7 +1,7 @@
 use Rattle.std.proofs.Common.{◌<◌, ◌≤◌, ◌+◌, ℕ, List, [], ◌∷◌, ◌++◌, length, get_or, take, sym, subst, arith}
-use Rattle.query_bind.proofs.Filtering.{at-any}
+use Rattle.query_bind.proofs.Filtering.{at_any}
 use Rattle.query_bind.proofs.Lists.{member-index}
-use Rattle.node_build.proofs.Sharing.{SoFar, shared-all, shared-more, shared-skip}
+use Rattle.node_build.proofs.Sharing.{SoFar, shared_all, shared_more, shared_skip}
 use Rattle.node_build.proofs.columns.shared_columns.Goals as goal
 
 pub loop-variable-preserved-in_default : goal.loop-variable-preserved-in_default
@@ -10,7 +10,7 @@ loop-variable-preserved-in_default c =
     let i = c.loop-variable.variable-index in
     let v : ℕ × ℕ = get_or xs i (0, 0) in
     let inside : i < length xs = omega arith in
-    shared-skip c.args.query.now c.args.item c.args.other xs i v c.loop-variable.columns.items c.loop-variable.other_columns.items inside (at-any xs i (0, 0) v inside)
+    shared_skip c.args.query.now c.args.item c.args.other xs i v c.loop-variable.columns.items c.loop-variable.other_columns.items inside (at_any xs i (0, 0) v inside)
     (λ q h. c.in_default.ensures.missing q ((c.variables_of-others.ensures.variables.members (v.0, q)).1 h)) c.loop-variable.invariant
 
 pub loop-variable-preserved : goal.loop-variable-preserved
@@ -19,7 +19,7 @@ loop-variable-preserved c =
     let i = c.loop-variable.variable-index in
     let v : ℕ × ℕ = get_or xs i (0, 0) in
     let inside : i < length xs = omega arith in
-    let here = shared-more c.args.query.now c.args.item c.args.other xs i v c.in-Some.place c.loop-variable.columns.items c.loop-variable.other_columns.items inside (at-any xs i (0, 0) v inside)
+    let here = shared_more c.args.query.now c.args.item c.args.other xs i v c.in-Some.place c.loop-variable.columns.items c.loop-variable.other_columns.items inside (at_any xs i (0, 0) v inside)
     ((c.variables_of-variable-items.ensures.variables.members v).0 (member-index xs i (0, 0) inside))
     ((c.variables_of-others.ensures.variables.members (v.0, c.in-Some.place)).0 c.in-Some.ensures.found) c.loop-variable.invariant in
     subst (λ (l : List ℕ). SoFar c.args.query.now c.args.item c.args.other (take (i + 1) xs) l c.push-in-loop-variable.new.self.items) (sym c.in_ok-push.ensures.items)
@@ -30,5 +30,5 @@ returns c =
     let xs = c.variables_of-variable-items.result.now in
     let i = c.loop-variable.variable-index in
     let all : length xs ≤ i = omega arith in
-    shared-all c.args.query.now c.args.item c.args.other xs i c.loop-variable.columns.items c.loop-variable.other_columns.items all
+    shared_all c.args.query.now c.args.item c.args.other xs i c.loop-variable.columns.items c.loop-variable.other_columns.items all
     (λ v h. (c.variables_of-variable-items.ensures.variables.members v).1 h) c.loop-variable.invariant

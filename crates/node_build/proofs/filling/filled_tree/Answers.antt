@@ -4,25 +4,25 @@ use Rattle.std.proofs.lemmas.List.Sums.{sum_by_more, sum_by_more_le}
 use Rattle.tdp_core.specs.declared.parts.NodeShape.{NodeShape}
 use Rattle.tdp_core.specs.RawData.{AreShapes, AreShapesHeld, rows_at}
 use Rattle.rankings.specs.Order.{IsMember}
-use Rattle.node_build.specs.Filled.{AreFilled, HasOnlyMore}
+use Rattle.node_build.specs.PartialTrees.{AreFilled, HasOnlyMore}
 use Rattle.node_build.specs.Links.{HasRowsOf}
 use Rattle.node_build.specs.Rows.{lists_of}
-use Rattle.node_build.proofs.Begun.{names-count, no-numbers, no-rows-yet}
-use Rattle.node_build.proofs.Growing.{filled-more}
-use Rattle.node_build.proofs.Held.{shapes-held}
-use Rattle.node_build.proofs.Naming.{list-at, lists-length}
-use Rattle.node_build.proofs.Shaped.{shapes-are}
+use Rattle.node_build.proofs.Begun.{names_count, no_numbers, no_rows_yet}
+use Rattle.node_build.proofs.Growing.{filled_more}
+use Rattle.node_build.proofs.Held.{shapes_held}
+use Rattle.node_build.proofs.Naming.{list_at, lists_length}
+use Rattle.node_build.proofs.Shaped.{shapes_are}
 use Rattle.node_build.proofs.filling.filled_tree.Goals as goal
 
 pub with_keys-requires-clause-shapes : goal.with_keys-requires-clause-shapes
 with_keys-requires-clause-shapes g c =
     subst AreShapes (sym c.as_slice.ensures.value)
-    (shapes-are c.args.query.now c.args.tables.now c.requires.fits c.args.join.now c.in_ok-shapes.shapes.items c.requires.tree (c.in_ok-shapes.ensures c.args.tables.now c.requires.fits))
+    (shapes_are c.args.query.now c.args.tables.now c.requires.fits c.args.join.now c.in_ok-shapes.shapes.items c.requires.tree (c.in_ok-shapes.ensures c.args.tables.now c.requires.fits))
 
 pub with_keys-requires-clause-held : goal.with_keys-requires-clause-held
 with_keys-requires-clause-held g c =
     subst (AreShapesHeld g.R.Rank.KEYS g.R.Rank.key) (sym c.as_slice.ensures.value)
-    (shapes-held c.args.query.now c.args.tables.now c.args.join.now c.requires.tree c.in_ok-shapes.shapes.items (c.in_ok-shapes.ensures c.args.tables.now c.requires.fits)
+    (shapes_held c.args.query.now c.args.tables.now c.args.join.now c.requires.tree c.in_ok-shapes.shapes.items (c.in_ok-shapes.ensures c.args.tables.now c.requires.fits)
     g.R.Rank.KEYS g.R.Rank.key g.R.Rank.ITEMS g.R.Rank.LIMIT g.R.Rank.ROWS g.met.R.Rank.holds g.met.R.Rank.rows_held c.requires.slots c.requires.limit)
 
 pub loop-node-init : goal.loop-node-init
@@ -35,9 +35,9 @@ loop-node-init g c =
     let count : length c.as_slice.result.now ≡ join.count = ap (λ (xs : List NodeShape). length xs) c.as_slice.ensures.value ∙ of_join.count in
     record {
       shapes = refl;
-      count = names-count names join.count c.in_ok-links.ensures;
-      numbers = no-numbers names join.count c.in_ok-links.ensures;
-      filled = no-rows-yet c.args.query.now c.args.tables.now join own above g.R.Rank.KEYS g.R.Rank.key names (lists_of c.args.rows.now) c.as_slice.result.now c.in_ok-tree.tree count c.in_ok-tree.ensures;
+      count = names_count names join.count c.in_ok-links.ensures;
+      numbers = no_numbers names join.count c.in_ok-links.ensures;
+      filled = no_rows_yet c.args.query.now c.args.tables.now join own above g.R.Rank.KEYS g.R.Rank.key names (lists_of c.args.rows.now) c.as_slice.result.now c.in_ok-tree.tree count c.in_ok-tree.ensures;
       cost = omega arith;
     }
 
@@ -45,8 +45,8 @@ pub add_rows-requires-clause-rows : goal.add_rows-requires-clause-rows
 add_rows-requires-clause-rows g c row m =
     let vs = c.args.rows.now in
     let node = c.loop-node.node in
-    let inside : node < length vs = omega (arith, c.requires.rows.count, lists-length vs, c.loop-node-test.true) in
-    let list : c.as_slice-list.result.now ≡ get_or (lists_of vs) node [] = c.as_slice-list.ensures.value ∙ sym (list-at vs node c.index-rows-node.result inside c.index-rows-node.is) in
+    let inside : node < length vs = omega (arith, c.requires.rows.count, lists_length vs, c.loop-node-test.true) in
+    let list : c.as_slice-list.result.now ≡ get_or (lists_of vs) node [] = c.as_slice-list.ensures.value ∙ sym (list_at vs node c.index-rows-node.result inside c.index-rows-node.is) in
     let h = ((c.requires.rows.each node (omega arith)).members row).0 (subst (λ (xs : List ℕ). IsMember row xs) list m) in
     (h.0, h.1)
 
@@ -54,20 +54,20 @@ pub add_rows-requires-clause-room : goal.add_rows-requires-clause-room
 add_rows-requires-clause-room g c =
     let vs = c.args.rows.now in
     let node = c.loop-node.node in
-    let inside : node < length vs = omega (arith, c.requires.rows.count, lists-length vs, c.loop-node-test.true) in
-    let list : c.as_slice-list.result.now ≡ get_or (lists_of vs) node [] = c.as_slice-list.ensures.value ∙ sym (list-at vs node c.index-rows-node.result inside c.index-rows-node.is) in
+    let inside : node < length vs = omega (arith, c.requires.rows.count, lists_length vs, c.loop-node-test.true) in
+    let list : c.as_slice-list.result.now ≡ get_or (lists_of vs) node [] = c.as_slice-list.ensures.value ∙ sym (list_at vs node c.index-rows-node.result inside c.index-rows-node.is) in
     let size = ap (λ (xs : List ℕ). length xs) list in
-    let more = sum_by_more_le (λ (xs : List ℕ). length xs) (lists_of vs) node [] (omega (arith, inside, lists-length vs)) in
+    let more = sum_by_more_le (λ (xs : List ℕ). length xs) (lists_of vs) node [] (omega (arith, inside, lists_length vs)) in
     omega (arith, size, more, c.loop-node.invariant.filled.total, c.requires.room)
 
 pub returns-in_err-add_rows-clause-cost : goal.returns-in_err-add_rows-clause-cost
 returns-in_err-add_rows-clause-cost g c =
     let vs = c.args.rows.now in
     let node = c.loop-node.node in
-    let inside : node < length vs = omega (arith, c.requires.rows.count, lists-length vs, c.loop-node-test.true) in
-    let list : c.as_slice-list.result.now ≡ get_or (lists_of vs) node [] = c.as_slice-list.ensures.value ∙ sym (list-at vs node c.index-rows-node.result inside c.index-rows-node.is) in
+    let inside : node < length vs = omega (arith, c.requires.rows.count, lists_length vs, c.loop-node-test.true) in
+    let list : c.as_slice-list.result.now ≡ get_or (lists_of vs) node [] = c.as_slice-list.ensures.value ∙ sym (list_at vs node c.index-rows-node.result inside c.index-rows-node.is) in
     let size = ap (λ (xs : List ℕ). length xs * c.args.join.now.count) list in
-    let more = mul-le-mul_right c.args.join.now.count (sum_by_more_le (λ (xs : List ℕ). length xs) (lists_of vs) node [] (omega (arith, inside, lists-length vs))) in
+    let more = mul-le-mul_right c.args.join.now.count (sum_by_more_le (λ (xs : List ℕ). length xs) (lists_of vs) node [] (omega (arith, inside, lists_length vs))) in
     omega (arith, size, more, c.loop-node.invariant.cost, c.in_err-add_rows.ensures.cost)
 
 pub loop-node-preserved : goal.loop-node-preserved
@@ -83,16 +83,16 @@ loop-node-preserved g c =
     let new = c.add_rows.new.links in
     let before = c.loop-node.invariant in
     let now = c.in_ok-add_rows.ensures in
-    let inside : node < length vs = omega (arith, c.requires.rows.count, lists-length vs, c.loop-node-test.true) in
-    let there : node < length (lists_of vs) = omega (arith, inside, lists-length vs) in
-    let list : c.as_slice-list.result.now ≡ get_or (lists_of vs) node [] = c.as_slice-list.ensures.value ∙ sym (list-at vs node c.index-rows-node.result inside c.index-rows-node.is) in
+    let inside : node < length vs = omega (arith, c.requires.rows.count, lists_length vs, c.loop-node-test.true) in
+    let there : node < length (lists_of vs) = omega (arith, inside, lists_length vs) in
+    let list : c.as_slice-list.result.now ≡ get_or (lists_of vs) node [] = c.as_slice-list.ensures.value ∙ sym (list_at vs node c.index-rows-node.result inside c.index-rows-node.is) in
     let size = ap (λ (xs : List ℕ). length xs * join.count) list in
     let one = ap (λ (n : ℕ). n * join.count) (sum_by_more (λ (xs : List ℕ). length xs) (lists_of vs) node [] there) in
     record {
       shapes = now.others.shapes ∙ before.shapes;
       count = now.more.count ∙ before.count;
       numbers = now.more.numbers before.numbers;
-      filled = filled-more query tables join own above g.R.Rank.KEYS g.R.Rank.key old new node (lists_of vs) c.loop-node.tree c.add_rows.new.tree now.more there before.filled
+      filled = filled_more query tables join own above g.R.Rank.KEYS g.R.Rank.key old new node (lists_of vs) c.loop-node.tree c.add_rows.new.tree now.more there before.filled
           (subst (λ (xs : List ℕ). HasOnlyMore node (length xs) c.loop-node.tree c.add_rows.new.tree) list now.others)
           (subst (λ (xs : List ℕ). HasRowsOf query tables join own above g.R.Rank.KEYS g.R.Rank.key new node (length xs) xs (rows_at c.add_rows.new.tree node)) list now.rows);
       cost = omega (arith, size, one, before.cost, now.cost);

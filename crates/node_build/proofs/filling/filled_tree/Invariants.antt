@@ -1,6 +1,6 @@
 use Rattle.std.proofs.Common.{◌≡◌, ◌≤◌, ◌+◌, ◌*◌, length, take}
 use Rattle.std.specs.List.{sum_by}
-use Rattle.node_build.specs.Filled.{AreFilled}
+use Rattle.node_build.specs.PartialTrees.{AreFilled}
 use Rattle.counted_index.specs.Pairs.{AreNumbers}
 use Rattle.node_build.specs.Rows.{lists_of}
 use Rattle.node_build.proofs.filling.filled_tree.Given as goal

@@ -4,11 +4,11 @@ use Rattle.anyk_model.specs.Table.{field_at, table_at}
 use Rattle.csv_tables.specs.Values.{number_of}
 use Rattle.counted_index.specs.Pairs.{IsNumbered}
 use Rattle.node_build.specs.Links.{IsListNumber, values_in}
-use Rattle.node_build.proofs.Numbering.{list-more, more-same, more-trans}
+use Rattle.node_build.proofs.Numbering.{list_more, more_same, more_trans}
 use Rattle.node_build.proofs.links.list_number.Goals as goal
 
 pub loop-column-init : goal.loop-column-init
-loop-column-init c = record { more = more-same c.args.links.now; number = refl }
+loop-column-init c = record { more = more_same c.args.links.now; number = refl }
 
 pub loop-column-preserved : goal.loop-column-preserved
 loop-column-preserved c =
@@ -25,9 +25,9 @@ loop-column-preserved c =
     ap (map f) (take_more xs i 0 inside) ∙ map-append f (take i xs) (get_or xs i 0 ∷ []) in
     let here = subst (λ (v : ℕ). IsNumbered new c.args.node n (c.loop-column.list, v)) c.value-value.ensures now.number in
     record {
-      more = more-trans c.args.links.now old new before.more now.more;
+      more = more_trans c.args.links.now old new before.more now.more;
       number = subst (IsListNumber new c.args.node c.args.first n) (sym one)
-          (list-more old new c.args.node c.args.first c.loop-column.list n (f (get_or xs i 0)) (map f (take i xs)) now.more before.number here);
+          (list_more old new c.args.node c.args.first c.loop-column.list n (f (get_or xs i 0)) (map f (take i xs)) now.more before.number here);
     }
 
 pub returns-clause-number : goal.returns-clause-number

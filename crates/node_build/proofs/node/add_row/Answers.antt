@@ -4,43 +4,43 @@ use Rattle.query_bind.specs.Weights.{table_in}
 use Rattle.node_build.specs.Links.{IsLink, NamesLinks, values_at, values_in}
 use Rattle.node_build.specs.Nodes.{item_of, parent_of}
 use Rattle.node_build.specs.Rows.{lists_of}
-use Rattle.node_build.proofs.Fitting.{children-are, row-fits}
-use Rattle.node_build.proofs.Naming.{kids-below, list-at, lists-length, own-there}
-use Rattle.node_build.proofs.Numbering.{link-kept, more-trans}
-use Rattle.node_build.proofs.Results.{on-ok, on-ok-map}
-use Rattle.node_build.proofs.Shaped.{few-nodes, item-known}
+use Rattle.node_build.proofs.Fitting.{children_are, row_fits}
+use Rattle.node_build.proofs.Naming.{kids_below_lem, list_at, lists_length, own_there}
+use Rattle.node_build.proofs.Numbering.{link_kept, more_trans}
+use Rattle.node_build.proofs.Results.{on_ok, on_ok_map}
+use Rattle.node_build.proofs.Shaped.{few_nodes_lem, item_known}
 use Rattle.node_build.proofs.node.add_row.Goals as goal
 
 pub link-requires-clause-columns : goal.link-requires-clause-columns
 link-requires-clause-columns g c =
     let vs = c.args.columns.now.own.items in
     let node = c.args.node in
-    let inside : node < length vs = omega (arith, c.requires.columns.own_count, lists-length vs, c.requires.node) in
-    let list : c.as_slice-own.result.now ≡ get_or (lists_of vs) node [] = c.as_slice-own.ensures.value ∙ sym (list-at vs node c.index.result.now inside c.index.ensures) in
-    own-there c.args.query.now c.args.tables.now c.requires.fits c.args.join.now (lists_of vs) (lists_of c.args.columns.now.above.items) c.requires.columns
+    let inside : node < length vs = omega (arith, c.requires.columns.own_count, lists_length vs, c.requires.node) in
+    let list : c.as_slice-own.result.now ≡ get_or (lists_of vs) node [] = c.as_slice-own.ensures.value ∙ sym (list_at vs node c.index.result.now inside c.index.ensures) in
+    own_there c.args.query.now c.args.tables.now c.requires.fits c.args.join.now (lists_of vs) (lists_of c.args.columns.now.above.items) c.requires.columns
     node c.table_of-table.result c.as_slice-own.result.now c.requires.node list c.table_of-table.ensures
 
 pub returns-in_err-child_links-clause-cost : goal.returns-in_err-child_links-clause-cost
 returns-in_err-child_links-clause-cost g c =
-    let few = kids-below (parent_of c.args.join.now) c.args.node c.args.join.now.count (omega (arith, c.requires.node)) in
+    let few = kids_below_lem (parent_of c.args.join.now) c.args.node c.args.join.now.count (omega (arith, c.requires.node)) in
     omega (arith, few, c.in_err-child_links.ensures.cost, c.in_ok-own_link.ensures.cost)
 
 pub add_row-requires-clause-fits : goal.add_row-requires-clause-fits
 add_row-requires-clause-fits g c =
     let query = c.args.query.now in
     let join = c.args.join.now in
-    let few = few-nodes query.query join c.requires.tree in
-    let known = item-known query.query join c.requires.tree c.args.node c.requires.node in
+    let few = few_nodes_lem query.query join c.requires.tree in
+    let known = item_known query.query join c.requires.tree c.args.node c.requires.node in
     let table = ap (λ (t : ℕ). length (table_at c.args.tables.now t).rows) c.table_of-table.ensures in (
-      row-fits query c.args.tables.now join c.args.tree.now.shapes c.requires.shapes c.args.node c.requires.node g.R.Rank.KEYS c.args.row (g.R.Rank.key c.rank_of-rank.result)
+      row_fits query c.args.tables.now join c.args.tree.now.shapes c.requires.shapes c.args.node c.requires.node g.R.Rank.KEYS c.args.row (g.R.Rank.key c.rank_of-rank.result)
           (omega (arith, known, few, c.requires.tree.count)) (omega (arith, table, c.len-rows.ensures, c.requires.row)) c.rank_of-rank.ensures,
-      ap length c.as_slice.ensures.value ∙ c.in_ok-child_links.ensures.count ∙ children-are query c.args.tables.now join c.args.tree.now.shapes c.requires.shapes c.args.node c.requires.node,
+      ap length c.as_slice.ensures.value ∙ c.in_ok-child_links.ensures.count ∙ children_are query c.args.tables.now join c.args.tree.now.shapes c.requires.shapes c.args.node c.requires.node,
     )
 
 pub returns-clause-more : goal.returns-clause-more
 returns-clause-more g c =
-    on-ok c.add_row.result
-    (more-trans c.args.links.now c.link.new.links c.child_links.new.links c.in_ok-own_link.ensures.more c.in_ok-child_links.ensures.more)
+    on_ok c.add_row.result
+    (more_trans c.args.links.now c.link.new.links c.child_links.new.links c.in_ok-own_link.ensures.more c.in_ok-child_links.ensures.more)
 
 pub returns-clause-added : goal.returns-clause-added
 returns-clause-added g c =
@@ -49,21 +49,21 @@ returns-clause-added g c =
     let join = c.args.join.now in
     let vs = c.args.columns.now.own.items in
     let node = c.args.node in
-    let inside : node < length vs = omega (arith, c.requires.columns.own_count, lists-length vs, c.requires.node) in
-    let list : c.as_slice-own.result.now ≡ get_or (lists_of vs) node [] = c.as_slice-own.ensures.value ∙ sym (list-at vs node c.index.result.now inside c.index.ensures) in
+    let inside : node < length vs = omega (arith, c.requires.columns.own_count, lists_length vs, c.requires.node) in
+    let list : c.as_slice-own.result.now ≡ get_or (lists_of vs) node [] = c.as_slice-own.ensures.value ∙ sym (list_at vs node c.index.result.now inside c.index.ensures) in
     let values : values_in tables (table_at tables c.table_of-table.result) c.args.row c.as_slice-own.result.now
     ≡ values_at query tables join (lists_of vs) (lists_of c.args.columns.now.above.items) node c.args.row (get_or (lists_of vs) node []) =
     ap (λ (t : ℕ). values_in tables (table_at tables t) c.args.row c.as_slice-own.result.now) c.table_of-table.ensures
     ∙ ap (λ (l : List ℕ). values_in tables (table_in tables query.query.items (item_of join node)) c.args.row l) list in
     let link = subst (λ (l : List ℕ). IsLink c.link.new.links node c.in_ok-own_link.own_link l) values c.in_ok-own_link.ensures.link in
-    on-ok-map c.add_row.result
+    on_ok_map c.add_row.result
     (λ e. (
       record { row = record { rank = c.rank_of-rank.result; row = c.args.row }; own = c.in_ok-own_link.own_link; children = c.as_slice.result.now },
       e,
       record {
         number = refl;
         rank = c.rank_of-rank.ensures;
-        link = link-kept c.link.new.links c.child_links.new.links node c.in_ok-own_link.own_link _ c.in_ok-child_links.ensures.more link;
+        link = link_kept c.link.new.links c.child_links.new.links node c.in_ok-own_link.own_link _ c.in_ok-child_links.ensures.more link;
         children = subst (λ (cs : List ℕ). NamesLinks query tables join (lists_of vs) (lists_of c.args.columns.now.above.items) c.child_links.new.links node c.args.row join.count cs)
             (sym c.as_slice.ensures.value) c.in_ok-child_links.ensures.names;
       },
@@ -72,5 +72,5 @@ returns-clause-added g c =
 
 pub returns-clause-cost : goal.returns-clause-cost
 returns-clause-cost g c =
-    let few = kids-below (parent_of c.args.join.now) c.args.node c.args.join.now.count (omega (arith, c.requires.node)) in
+    let few = kids_below_lem (parent_of c.args.join.now) c.args.node c.args.join.now.count (omega (arith, c.requires.node)) in
     omega (arith, few, c.in_ok-child_links.ensures.cost, c.in_ok-own_link.ensures.cost)

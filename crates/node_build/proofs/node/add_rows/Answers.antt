@@ -1,11 +1,11 @@
 use Rattle.std.proofs.Common.{◌≡◌, ◌<◌, ◌∙◌, length, get_or, refl, sym, ap, subst, arith}
 use Rattle.tdp_core.specs.RawData.{RawData, row_total, rows_at}
 use Rattle.query_bind.proofs.Lists.{member-index}
-use Rattle.node_build.specs.Filled.{HasOnlyMore}
+use Rattle.node_build.specs.PartialTrees.{HasOnlyMore}
 use Rattle.node_build.specs.Rows.{lists_of}
 use Rattle.node_build.specs.Shapes.{AreShapesOf}
-use Rattle.node_build.proofs.Growing.{no-rows, only-more, only-none, rows-more, rows-now}
-use Rattle.node_build.proofs.Numbering.{more-same, more-trans}
+use Rattle.node_build.proofs.Growing.{no_rows, only_more, only_none, rows_more, rows_now}
+use Rattle.node_build.proofs.Numbering.{more_same, more_trans}
 use Rattle.node_build.proofs.node.add_rows.Goals as goal
 
 pub loop-row-init : goal.loop-row-init
@@ -13,9 +13,9 @@ loop-row-init g c =
     let node = c.args.node in
     let tree = c.reserve.new.self in
     record {
-      more = more-same c.args.links.now;
-      others = only-none node tree;
-      rows = no-rows c.args.query.now c.args.tables.now c.args.join.now (lists_of c.args.columns.now.own.items) (lists_of c.args.columns.now.above.items) g.R.Rank.KEYS g.R.Rank.key
+      more = more_same c.args.links.now;
+      others = only_none node tree;
+      rows = no_rows c.args.query.now c.args.tables.now c.args.join.now (lists_of c.args.columns.now.own.items) (lists_of c.args.columns.now.above.items) g.R.Rank.KEYS g.R.Rank.key
           c.args.links.now node c.args.rows.now (rows_at tree node) (ap (λ (t : RawData g.row.R.Denot). rows_at t node) c.reserve.ensures ∙ c.requires.empty);
       cost = omega arith;
     }
@@ -48,11 +48,11 @@ loop-row-preserved g c =
     let same = ap (λ (t : RawData g.row.R.Denot). length t.rows) c.reserve.ensures in
     let inside : node < length c.loop-row.tree.rows = omega (arith, c.requires.node, c.requires.each_node, same, before.others.each_node) in
     record {
-      more = more-trans c.args.links.now c.loop-row.links c.add_row.new.links before.more c.in_ok-add_row.ensures.more;
-      others = only-more c.reserve.new.self c.loop-row.tree c.add_row.new.tree node i x.0 inside before.others x.1;
-      rows = rows-more c.args.query.now c.args.tables.now c.args.join.now (lists_of c.args.columns.now.own.items) (lists_of c.args.columns.now.above.items) g.R.Rank.KEYS g.R.Rank.key
+      more = more_trans c.args.links.now c.loop-row.links c.add_row.new.links before.more c.in_ok-add_row.ensures.more;
+      others = only_more c.reserve.new.self c.loop-row.tree c.add_row.new.tree node i x.0 inside before.others x.1;
+      rows = rows_more c.args.query.now c.args.tables.now c.args.join.now (lists_of c.args.columns.now.own.items) (lists_of c.args.columns.now.above.items) g.R.Rank.KEYS g.R.Rank.key
           c.loop-row.links c.add_row.new.links node i (get_or c.args.rows.now i 0) c.args.rows.now (rows_at c.loop-row.tree node) (rows_at c.add_row.new.tree node) x.0
-          c.in_ok-add_row.ensures.more refl (rows-now c.loop-row.tree c.add_row.new.tree node x.0 inside x.1) before.rows x.2;
+          c.in_ok-add_row.ensures.more refl (rows_now c.loop-row.tree c.add_row.new.tree node x.0 inside x.1) before.rows x.2;
       cost = omega (arith, before.cost, c.in_ok-add_row.ensures.cost);
     }
 

@@ -1,6 +1,6 @@
 use Rattle.std.proofs.Common.{◌≤◌, ◌+◌, ◌*◌}
 use Rattle.tdp_core.specs.RawData.{rows_at}
-use Rattle.node_build.specs.Filled.{HasOnlyMore}
+use Rattle.node_build.specs.PartialTrees.{HasOnlyMore}
 use Rattle.counted_index.specs.Pairs.{AreMore}
 use Rattle.node_build.specs.Links.{HasRowsOf}
 use Rattle.node_build.specs.Rows.{lists_of}

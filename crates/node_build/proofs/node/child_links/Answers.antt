@@ -1,34 +1,34 @@
 use Rattle.std.proofs.Common.{◌≡◌, ◌≢◌, ◌<◌, ◌+◌, ◌∙◌, ◌∷◌, ℕ, List, [], length, get_or, sym, ap, subst, arith, length-append}
-use Rattle.tdp_core.proofs.Children.{kids_below-child, kids_below-other}
+use Rattle.tdp_core.proofs.Children.{kids_below_child, kids_below_other}
 use Rattle.anyk_model.specs.Table.{table_at}
 use Rattle.query_bind.specs.Weights.{table_in}
 use Rattle.node_build.specs.Nodes.{item_of, parent_of}
 use Rattle.node_build.specs.Rows.{lists_of}
-use Rattle.node_build.proofs.Naming.{above-there, kids-first, kids-rise, list-at, lists-length, names-more, names-none, names-skip}
-use Rattle.node_build.proofs.Numbering.{more-same, more-trans}
+use Rattle.node_build.proofs.Naming.{above_there, kids_first, kids_rise, list_at, lists_length, names_more, names_none, names_skip}
+use Rattle.node_build.proofs.Numbering.{more_same, more_trans}
 use Rattle.node_build.specs.Links.{IsLink, values_at, values_in}
 use Rattle.node_build.proofs.node.child_links.Goals as goal
 
 pub loop-child-init : goal.loop-child-init
 loop-child-init g c =
-    let first = kids-first (parent_of c.args.join.now) c.args.node in
+    let first = kids_first (parent_of c.args.join.now) c.args.node in
     let none : length c.clear.new.self.items ≡ 0 = ap length c.clear.ensures.items in
     record {
-      more = more-same c.args.links.now;
+      more = more_same c.args.links.now;
       count = omega (arith, first, none);
-      names = names-none c.args.query.now c.args.tables.now c.args.join.now (lists_of c.args.columns.now.own.items) (lists_of c.args.columns.now.above.items) c.args.links.now c.args.node c.args.row c.clear.new.self.items;
+      names = names_none c.args.query.now c.args.tables.now c.args.join.now (lists_of c.args.columns.now.own.items) (lists_of c.args.columns.now.above.items) c.args.links.now c.args.node c.args.row c.clear.new.self.items;
       cost = omega arith;
     }
 
 pub loop-child-preserved-then-join-child : goal.loop-child-preserved-then-join-child
 loop-child-preserved-then-join-child g c =
     let other : parent_of c.args.join.now c.loop-child.child ≢ c.args.node = c.if-join-child.true in
-    let same = kids_below-other (parent_of c.args.join.now) c.args.node c.loop-child.child other in
+    let same = kids_below_other (parent_of c.args.join.now) c.args.node c.loop-child.child other in
     let before = c.loop-child.invariant in
     record {
       more = before.more;
       count = before.count ∙ sym same;
-      names = names-skip c.args.query.now c.args.tables.now c.args.join.now (lists_of c.args.columns.now.own.items) (lists_of c.args.columns.now.above.items) c.loop-child.links c.args.node c.args.row c.loop-child.child c.loop-child.named.items other before.names;
+      names = names_skip c.args.query.now c.args.tables.now c.args.join.now (lists_of c.args.columns.now.own.items) (lists_of c.args.columns.now.above.items) c.loop-child.links c.args.node c.args.row c.loop-child.child c.loop-child.named.items other before.names;
       cost = omega (arith, before.cost, same);
     }
 
@@ -36,23 +36,23 @@ pub link-requires-clause-columns : goal.link-requires-clause-columns
 link-requires-clause-columns g c =
     let vs = c.args.columns.now.above.items in
     let child = c.loop-child.child in
-    let inside : child < length vs = omega (arith, c.requires.columns.above_count, lists-length vs, c.loop-child-test.true) in
-    let list : c.as_slice-above.result.now ≡ get_or (lists_of vs) child [] = c.as_slice-above.ensures.value ∙ sym (list-at vs child c.index.result.now inside c.index.ensures) in
-    above-there c.args.query.now c.args.tables.now c.requires.fits c.args.join.now (lists_of c.args.columns.now.own.items) (lists_of vs) c.requires.columns
+    let inside : child < length vs = omega (arith, c.requires.columns.above_count, lists_length vs, c.loop-child-test.true) in
+    let list : c.as_slice-above.result.now ≡ get_or (lists_of vs) child [] = c.as_slice-above.ensures.value ∙ sym (list_at vs child c.index.result.now inside c.index.ensures) in
+    above_there c.args.query.now c.args.tables.now c.requires.fits c.args.join.now (lists_of c.args.columns.now.own.items) (lists_of vs) c.requires.columns
     child c.args.node c.table_of-table.result c.as_slice-above.result.now (omega arith) (omega arith) c.if-join-child.false list c.table_of-table.ensures
 
 pub returns-in_err-link-clause-cost : goal.returns-in_err-link-clause-cost
 returns-in_err-link-clause-cost g c =
     let below : parent_of c.args.join.now c.loop-child.child ≡ c.args.node = c.if-join-child.false in
-    let one = kids_below-child (parent_of c.args.join.now) c.args.node c.loop-child.child (omega arith) below in
-    let rise = kids-rise (parent_of c.args.join.now) c.args.node (c.loop-child.child + 1) c.args.join.now.count (omega arith) in
+    let one = kids_below_child (parent_of c.args.join.now) c.args.node c.loop-child.child (omega arith) below in
+    let rise = kids_rise (parent_of c.args.join.now) c.args.node (c.loop-child.child + 1) c.args.join.now.count (omega arith) in
     omega (arith, rise, one, c.loop-child.invariant.cost, c.in_err-link.ensures.cost)
 
 pub returns-in_err-push-clause-cost : goal.returns-in_err-push-clause-cost
 returns-in_err-push-clause-cost g c =
     let below : parent_of c.args.join.now c.loop-child.child ≡ c.args.node = c.if-join-child.false in
-    let one = kids_below-child (parent_of c.args.join.now) c.args.node c.loop-child.child (omega arith) below in
-    let rise = kids-rise (parent_of c.args.join.now) c.args.node (c.loop-child.child + 1) c.args.join.now.count (omega arith) in
+    let one = kids_below_child (parent_of c.args.join.now) c.args.node c.loop-child.child (omega arith) below in
+    let rise = kids_rise (parent_of c.args.join.now) c.args.node (c.loop-child.child + 1) c.args.join.now.count (omega arith) in
     omega (arith, rise, one, c.loop-child.invariant.cost, c.in_ok-link.ensures.cost)
 
 pub loop-child-preserved : goal.loop-child-preserved
@@ -65,9 +65,9 @@ loop-child-preserved g c =
     let child = c.loop-child.child in
     let before = c.loop-child.invariant in
     let below : parent_of join child ≡ c.args.node = c.if-join-child.false in
-    let one = kids_below-child (parent_of join) c.args.node child (omega arith) below in
-    let inside : child < length vs = omega (arith, c.requires.columns.above_count, lists-length vs, c.loop-child-test.true) in
-    let list : c.as_slice-above.result.now ≡ get_or (lists_of vs) child [] = c.as_slice-above.ensures.value ∙ sym (list-at vs child c.index.result.now inside c.index.ensures) in
+    let one = kids_below_child (parent_of join) c.args.node child (omega arith) below in
+    let inside : child < length vs = omega (arith, c.requires.columns.above_count, lists_length vs, c.loop-child-test.true) in
+    let list : c.as_slice-above.result.now ≡ get_or (lists_of vs) child [] = c.as_slice-above.ensures.value ∙ sym (list_at vs child c.index.result.now inside c.index.ensures) in
     let values : values_in tables (table_at tables c.table_of-table.result) c.args.row c.as_slice-above.result.now
     ≡ values_at query tables join own (lists_of vs) c.args.node c.args.row (get_or (lists_of vs) child []) =
     ap (λ (t : ℕ). values_in tables (table_at tables t) c.args.row c.as_slice-above.result.now) c.table_of-table.ensures
@@ -75,9 +75,9 @@ loop-child-preserved g c =
     let here = subst (λ (l : List ℕ). IsLink c.link.new.links child c.in_ok-link.field-0 l) values c.in_ok-link.ensures.link in
     let pushed = c.in_ok-push.ensures.items in
     record {
-      more = more-trans c.args.links.now c.loop-child.links c.link.new.links before.more c.in_ok-link.ensures.more;
+      more = more_trans c.args.links.now c.loop-child.links c.link.new.links before.more c.in_ok-link.ensures.more;
       count = ap length pushed ∙ length-append c.loop-child.named.items (c.in_ok-link.field-0 ∷ []) ∙ ap (λ (n : ℕ). n + 1) before.count ∙ sym one;
-      names = names-more query tables join own (lists_of vs) c.loop-child.links c.link.new.links c.args.node c.args.row child c.loop-child.named.items c.push.new.self.items
+      names = names_more query tables join own (lists_of vs) c.loop-child.links c.link.new.links c.args.node c.args.row child c.loop-child.named.items c.push.new.self.items
           c.in_ok-link.field-0 c.in_ok-link.ensures.more (omega arith) below before.count pushed before.names here;
       cost = omega (arith, one, before.cost, c.in_ok-link.ensures.cost);
     }

@@ -1,13 +1,13 @@
 use Rattle.std.proofs.Common.{◌≡◌, ◌+◌, ◌∙◌, ap, sym, subst, length, true, arith, ℕ, List}
 use Rattle.anyk_model.specs.Table.{table_at}
 use Rattle.anyk_model.specs.Query.{item_table}
-use Rattle.node_build.proofs.Passing.{ArePassingBelow, none-more, one-more, rows-all}
+use Rattle.node_build.proofs.Passing.{ArePassingBelow, none_more, one_more, rows_all}
 use Rattle.node_build.proofs.rows.passing_rows.Goals as goal
 
 pub loop-row-preserved-then-not-passes : goal.loop-row-preserved-then-not-passes
 loop-row-preserved-then-not-passes c = record {
   few = omega arith;
-  rows = none-more c.args.query.now.query c.args.tables.now c.args.item c.loop-row.row c.loop-row.rows.items c.loop-row.invariant.rows
+  rows = none_more c.args.query.now.query c.args.tables.now c.args.item c.loop-row.row c.loop-row.rows.items c.loop-row.invariant.rows
       (λ p. let e : c.passes.result ≡ true = c.passes.ensures.1 p in let f = c.if-not-passes.true in cc);
 }
 
@@ -17,7 +17,7 @@ loop-row-preserved c =
     record {
       few = omega arith;
       rows = subst (λ (l : List ℕ). ArePassingBelow c.args.query.now.query c.args.tables.now c.args.item (c.loop-row.row + 1) l) (sym c.in_ok-push.ensures.items)
-          (one-more c.args.query.now.query c.args.tables.now c.args.item c.loop-row.row c.loop-row.rows.items (omega arith) c.loop-row.invariant.rows (c.passes.ensures.0 passes));
+          (one_more c.args.query.now.query c.args.tables.now c.args.item c.loop-row.row c.loop-row.rows.items (omega arith) c.loop-row.invariant.rows (c.passes.ensures.0 passes));
     }
 
 pub returns-clause-rows : goal.returns-clause-rows
@@ -27,4 +27,4 @@ returns-clause-rows c =
     let known : c.len-count.result ≡ length (item_table query tables c.args.item).rows =
     c.len-count.ensures.rows ∙ ap (λ (t : ℕ). length (table_at tables t).rows) c.table_of.ensures in
     let all : c.loop-row.row ≡ length (item_table query tables c.args.item).rows + 1 = omega (arith, known) in
-    rows-all query tables c.args.item c.loop-row.row c.loop-row.rows.items all c.loop-row.invariant.rows
+    rows_all query tables c.args.item c.loop-row.row c.loop-row.rows.items all c.loop-row.invariant.rows

@@ -1,6 +1,6 @@
 use Rattle.std.proofs.Common.{ℕ, arith}
 use Rattle.std.proofs.lemmas.List.{length-set}
-use Rattle.plan_build.proofs.Filled.{one-more}
+use Rattle.plan_build.proofs.Filled.{one_more}
 use Rattle.plan_build.proofs.node_rows.rows_of_atoms.Goals as goal
 
 pub loop-node-preserved : goal.loop-node-preserved
@@ -11,5 +11,5 @@ loop-node-preserved c =
     let low = c.requires.atoms l.node inside in
     record {
       long = grind (arith, length-set {A = ℕ}, l.invariant.long);
-      each = one-more tree.count tree.atom l.rows_of c.args.node_rows.now l.node c.requires.tree.distinct inside (omega (arith, low, l.invariant.long)) l.invariant.each;
+      each = one_more tree.count tree.atom l.rows_of c.args.node_rows.now l.node c.requires.tree.distinct inside (omega (arith, low, l.invariant.long)) l.invariant.each;
     }

@@ -1,10 +1,10 @@
 use Rattle.std.proofs.Common.{◌≡◌, ℕ, List, inl, inr, refl}
 use Rattle.anyk_model.specs.Table.{Table}
 use Rattle.join_tree.specs.declared.tree.JoinTree.{JoinTree}
-use Rattle.query_bind.specs.Weighed.{BoundQuery}
+use Rattle.query_bind.specs.WeighedQuery.{BoundQuery}
 use Rattle.node_build.specs.Nodes.{PassesBudget, TellsFault}
 use Rattle.node_build.specs.declared.built.BuildFault.TheVariants as fault
-use Rattle.plan_build.proofs.Planned.{too-many}
+use Rattle.plan_build.proofs.Planned.{too_many}
 use Rattle.plan_build.proofs.plan.nodes_of.Goals as goal
 
 passed : (bound : BoundQuery) (tables : List Table) (join : JoinTree) (budget told : ℕ) → TellsFault bound tables join budget (fault.TooManyRows told)
@@ -16,4 +16,4 @@ pub returns-in-Err-TooManyRows-clause-refusal : goal.returns-in-Err-TooManyRows-
 returns-in-Err-TooManyRows-clause-refusal g c =
     let past = passed c.args.query.now c.args.tables.now c.args.join.now 4194304 c.in-Err-TooManyRows.budget (rw c.in-Err-TooManyRows.field-0-is at c.in-Err-TooManyRows.ensures.refusal) in
     let other = c.requires.acyclic in
-    (past.0, too-many c.args.query.now c.args.tables.now other.0 other.1 other.2 c.args.join.now c.requires.tree 4194304 refl past.1)
+    (past.0, too_many c.args.query.now c.args.tables.now other.0 other.1 other.2 c.args.join.now c.requires.tree 4194304 refl past.1)

@@ -2,16 +2,16 @@ use Rattle.std.proofs.Common.{◌≡◌, arith, length, sym, ap, ◌∙◌}
 use Rattle.std.proofs.lemmas.List.{length-map}
 use Rattle.tdp_core.specs.RawData.{row_total}
 use Rattle.tdp_core.specs.TreeData.{node_data, tree_data, row_count}
-use Rattle.plan_build.proofs.Kept.{kept-in-all}
-use Rattle.plan_build.proofs.Planned.{items-are, parents-are, planned}
-use Rattle.plan_build.proofs.Sizes.{steps-of-plan, steps-of-reduction}
+use Rattle.plan_build.proofs.Kept.{kept_in_all}
+use Rattle.plan_build.proofs.Planned.{items_are, parents_are, planned}
+use Rattle.plan_build.proofs.Sizes.{steps_of_plan, steps_of_reduction}
 use Rattle.plan_build.proofs.plan.plan_over.Goals as goal
 
 pub returns-in_err-reduced-clause-cost : goal.returns-in_err-reduced-clause-cost
 returns-in_err-reduced-clause-cost g c =
     let built = c.in_ok-built.ensures in
     let nodes : length c.in_ok-built.built.tree.shapes ≡ length c.args.query.now.query.items = built.built.nodes ∙ c.requires.over.count in
-    steps-of-reduction _ _ _ _ _ _ (row_total c.in_ok-built.built.tree) c.requires.fits.some (omega (arith, built.used, built.fewer)) nodes built.cost c.reduce.ensures.cost
+    steps_of_reduction _ _ _ _ _ _ (row_total c.in_ok-built.built.tree) c.requires.fits.some (omega (arith, built.used, built.fewer)) nodes built.cost c.reduce.ensures.cost
 
 pub returns-in_err-tree-clause-cost : goal.returns-in_err-tree-clause-cost
 returns-in_err-tree-clause-cost g c =
@@ -22,8 +22,8 @@ returns-in_err-tree-clause-cost g c =
     let nodes : length raw.shapes ≡ length c.args.query.now.query.items = built.built.nodes ∙ c.requires.over.count in
     let long : length parts ≡ length raw.shapes = sym (length-map parts (λ n. n.shape)) ∙ ap length reduced.shapes in
     let alike : length c.in_ok-reduced.reduced.nodes.items ≡ length c.args.query.now.query.items = sym (length-map c.in_ok-reduced.reduced.nodes.items node_data) ∙ long ∙ nodes in
-    let kept = kept-in-all g.R.Rank.KEYS g.R.Rank.key raw parts reduced built.formed.each_node in
-    steps-of-plan _ _ _ _ _ _ _ (row_total raw) _ (row_count parts) c.requires.fits.some (omega (arith, built.used, built.fewer)) (rw long kept) nodes alike built.cost c.in_ok-reduced.ensures.cost c.solve.ensures.cost
+    let kept = kept_in_all g.R.Rank.KEYS g.R.Rank.key raw parts reduced built.formed.each_node in
+    steps_of_plan _ _ _ _ _ _ _ (row_total raw) _ (row_count parts) c.requires.fits.some (omega (arith, built.used, built.fewer)) (rw long kept) nodes alike built.cost c.in_ok-reduced.ensures.cost c.solve.ensures.cost
 
 pub returns-clause-plan : goal.returns-clause-plan
 returns-clause-plan g c =
@@ -38,12 +38,12 @@ returns-clause-plan g c =
 
 pub returns-clause-items : goal.returns-clause-items
 returns-clause-items g c =
-    items-are c.args.query.now c.args.tables.now g.R.Rank.KEYS g.R.Rank.key c.args.over.now c.in_ok-built.built.tree c.in_ok-built.ensures.built
+    items_are c.args.query.now c.args.tables.now g.R.Rank.KEYS g.R.Rank.key c.args.over.now c.in_ok-built.built.tree c.in_ok-built.ensures.built
     _ _ c.in_ok-reduced.ensures.reduced c.in_ok-tree.ensures.solved
 
 pub returns-clause-parents : goal.returns-clause-parents
 returns-clause-parents g c =
-    parents-are c.args.query.now c.args.tables.now g.R.Rank.KEYS g.R.Rank.key c.args.over.now c.in_ok-built.built.tree c.in_ok-built.ensures.built
+    parents_are c.args.query.now c.args.tables.now g.R.Rank.KEYS g.R.Rank.key c.args.over.now c.in_ok-built.built.tree c.in_ok-built.ensures.built
     _ _ c.in_ok-reduced.ensures.reduced c.in_ok-tree.ensures.solved
 
 pub returns-clause-cost : goal.returns-clause-cost
@@ -55,5 +55,5 @@ returns-clause-cost g c =
     let nodes : length raw.shapes ≡ length c.args.query.now.query.items = built.built.nodes ∙ c.requires.over.count in
     let long : length parts ≡ length raw.shapes = sym (length-map parts (λ n. n.shape)) ∙ ap length reduced.shapes in
     let alike : length c.in_ok-reduced.reduced.nodes.items ≡ length c.args.query.now.query.items = sym (length-map c.in_ok-reduced.reduced.nodes.items node_data) ∙ long ∙ nodes in
-    let kept = kept-in-all g.R.Rank.KEYS g.R.Rank.key raw parts reduced built.formed.each_node in
-    steps-of-plan _ _ _ _ _ _ _ (row_total raw) _ (row_count parts) c.requires.fits.some (omega (arith, built.used, built.fewer)) (rw long kept) nodes alike built.cost c.in_ok-reduced.ensures.cost c.solve.ensures.cost
+    let kept = kept_in_all g.R.Rank.KEYS g.R.Rank.key raw parts reduced built.formed.each_node in
+    steps_of_plan _ _ _ _ _ _ _ (row_total raw) _ (row_count parts) c.requires.fits.some (omega (arith, built.used, built.fewer)) (rw long kept) nodes alike built.cost c.in_ok-reduced.ensures.cost c.solve.ensures.cost

@@ -1,5 +1,5 @@
 use Rattle.std.proofs.Common.{◌≡◌, Err, rules, refl}
-use Rattle.plan_build.proofs.Rooted.{plan-given}
+use Rattle.plan_build.proofs.Rooted.{plan_given}
 use Rattle.plan_build.proofs.plan.prepare.Goals as goal
 
 pub returns-in_err-join-clause-refusal : goal.returns-in_err-join-clause-refusal
@@ -11,5 +11,5 @@ pub returns-clause-plan : goal.returns-clause-plan
 returns-clause-plan g c =
     let join = c.in_ok-join.join in
     let made = c.plan_over.ensures in
-    plan-given g.R.Rank.KEYS g.R.Rank.key c.args.query.now c.args.tables.now join join c.in_ok-join.ensures.joined
+    plan_given g.R.Rank.KEYS g.R.Rank.key c.args.query.now c.args.tables.now join join c.in_ok-join.ensures.joined
     c.plan_over.result made.plan made.join made.items made.parents refl

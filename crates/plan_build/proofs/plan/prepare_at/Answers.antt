@@ -1,5 +1,5 @@
 use Rattle.std.proofs.Common.{◌≡◌, Err, arith, rules}
-use Rattle.plan_build.proofs.Rooted.{item-there, joined-again, plan-at-given}
+use Rattle.plan_build.proofs.Rooted.{item_there, joined_again, plan_at_given}
 use Rattle.plan_build.proofs.plan.prepare_at.Goals as goal
 
 pub returns-in_err-tree-clause-refusal : goal.returns-in_err-tree-clause-refusal
@@ -8,18 +8,18 @@ returns-in_err-tree-clause-refusal g c =
     rw e (c.in_err-tree.ensures.refusal c.args.tables.now)
 
 pub reroot-rooted-requires-clause-there : goal.reroot-rooted-requires-clause-there
-reroot-rooted-requires-clause-there g c = item-there c.args.query.now.query c.in_ok-tree.tree c.in_ok-tree.ensures.joined _ (omega (arith, c.requires.item, c.requires.fits.some))
+reroot-rooted-requires-clause-there g c = item_there c.args.query.now.query c.in_ok-tree.tree c.in_ok-tree.ensures.joined _ (omega (arith, c.requires.item, c.requires.fits.some))
 
 pub plan_over-requires-clause-over : goal.plan_over-requires-clause-over
 plan_over-requires-clause-over g c =
     let rooted = c.reroot-rooted.ensures in
-    joined-again c.args.query.now.query c.in_ok-tree.tree c.in_ok-tree.ensures.joined c.reroot-rooted.result rooted.count rooted.graphs
+    joined_again c.args.query.now.query c.in_ok-tree.tree c.in_ok-tree.ensures.joined c.reroot-rooted.result rooted.count rooted.graphs
 
 pub returns-clause-plan : goal.returns-clause-plan
 returns-clause-plan g c =
     let query = c.args.query.now in
     let rooted = c.reroot-rooted.ensures in
     let made = c.plan_over.ensures in
-    plan-at-given g.R.Rank.KEYS g.R.Rank.key query c.args.tables.now c.in_ok-tree.tree c.reroot-rooted.result
-    (joined-again query.query c.in_ok-tree.tree c.in_ok-tree.ensures.joined c.reroot-rooted.result rooted.count rooted.graphs)
+    plan_at_given g.R.Rank.KEYS g.R.Rank.key query c.args.tables.now c.in_ok-tree.tree c.reroot-rooted.result
+    (joined_again query.query c.in_ok-tree.tree c.in_ok-tree.ensures.joined c.reroot-rooted.result rooted.count rooted.graphs)
     c.plan_over.result made.plan made.join made.items made.parents c.args.item c.requires.fits.some rooted.root rooted.count rooted.same

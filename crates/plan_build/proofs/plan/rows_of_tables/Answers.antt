@@ -1,7 +1,7 @@
 use Rattle.std.proofs.Common.{◌<◌, length, arith}
 use Rattle.anyk_model.specs.Query.{Item, row_counts}
 use Rattle.anyk_model.specs.Table.{table_at}
-use Rattle.plan_build.proofs.Sizes.{row-count-at, sum-one-more}
+use Rattle.plan_build.proofs.Sizes.{row_count_at, sum_one_more}
 use Rattle.std.proofs.lemmas.List.{length-map}
 use Rattle.plan_build.proofs.plan.rows_of_tables.Goals as goal
 
@@ -13,9 +13,9 @@ loop-item-preserved c =
     let before = c.loop-item.invariant in
     let inside = c.loop-item-test.true in
     let low : i < length items = omega (arith, inside, c.items-item-end.ensures.items) in
-    let here = row-count-at items tables i low in
+    let here = row_count_at items tables i low in
     let long = length-map items (λ (i : Item). length ((table_at tables i.table).rows)) in
-    let more = sum-one-more (row_counts items tables) i (omega (arith, low, long)) in
+    let more = sum_one_more (row_counts items tables) i (omega (arith, low, long)) in
     let table = rw c.table_of.ensures at c.len.ensures.rows in
     record {
       summed = omega (arith, before.summed, here, more, table);

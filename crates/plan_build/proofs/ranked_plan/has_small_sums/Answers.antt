@@ -2,15 +2,15 @@ use Rattle.std.proofs.Common.{◌≡◌, ◌<◌, ◌≤◌, ◌+◌, ◌^◌, �
 use Rattle.std.proofs.lemmas.Bool.{lt-ltb}
 use Rattle.query_bind.specs.Parts.{sum_of_all}
 use Rattle.std.proofs.lemmas.List.{take_all}
-use Rattle.plan_build.proofs.SmallSums.{caps-count, caps-decide, caps-more, first-fit, first_caps, none-below}
+use Rattle.plan_build.proofs.SmallSums.{caps_count, caps_decide, caps_more, first_fit, first_caps, none_below}
 use Rattle.plan_build.proofs.ranked_plan.has_small_sums.Goals as goal
 
-below-limit : (sum : ℕ) → nat_lt sum (2 ^ 43) ≡ true → sum < 2 ^ 43
-below-limit sum test = grind (arith, test)
+below_limit : (sum : ℕ) → nat_lt sum (2 ^ 43) ≡ true → sum < 2 ^ 43
+below_limit sum test = grind (arith, test)
 
 pub returns-then-keys-eq0 : goal.returns-then-keys-eq0
 returns-then-keys-eq0 c tables fits = (
-  (λ test. none-below c.args.query.now tables (2 ^ 43) (omega arith) (omega arith)),
+  (λ test. none_below c.args.query.now tables (2 ^ 43) (omega arith) (omega arith)),
   (λ below. refl),
 )
 
@@ -23,8 +23,8 @@ overflow_add-sum c =
     let inside : c.loop-item.item < length query.query.items = omega arith in
     let before = c.loop-item.invariant tables fits in
     let cap = c.cap-sum.ensures tables fits in
-    let more = caps-more query tables c.loop-item.item inside in
-    let fit = first-fit query tables fits there (c.loop-item.item + 1) in
+    let more = caps_more query tables c.loop-item.item inside in
+    let fit = first_fit query tables fits there (c.loop-item.item + 1) in
     omega (arith, before, cap, more, fit)
 
 pub loop-item-preserved : goal.loop-item-preserved
@@ -33,16 +33,16 @@ loop-item-preserved c tables fits =
     let inside : c.loop-item.item < length query.query.items = omega arith in
     let before = c.loop-item.invariant tables fits in
     let cap = c.cap-sum.ensures tables fits in
-    let more = caps-more query tables c.loop-item.item inside in
+    let more = caps_more query tables c.loop-item.item inside in
     omega (arith, before, cap, more)
 
 pub returns : goal.returns
 returns c tables fits =
     let query = c.args.query.now in
     let there : 0 < length query.query.order = omega arith in
-    let all : length (first_caps query tables) ≤ c.loop-item.item = (let count = caps-count query tables in omega (arith, count)) in
+    let all : length (first_caps query tables) ≤ c.loop-item.item = (let count = caps_count query tables in omega (arith, count)) in
     let total = c.loop-item.invariant tables fits ∙ ap sum_of_all (take_all c.loop-item.item (first_caps query tables) all) in
-    let decided = caps-decide query tables (2 ^ 43) (omega arith) there c.requires.keys in (
-      (λ test. decided.0 (let below : c.loop-item.sum < 2 ^ 43 = below-limit c.loop-item.sum test in omega (arith, total, below))),
+    let decided = caps_decide query tables (2 ^ 43) (omega arith) there c.requires.keys in (
+      (λ test. decided.0 (let below : c.loop-item.sum < 2 ^ 43 = below_limit c.loop-item.sum test in omega (arith, total, below))),
       (λ below. lt-ltb c.loop-item.sum (2 ^ 43) (let small = decided.1 below in omega (arith, total, small))),
     )

@@ -3,7 +3,7 @@ use Rattle.rank_key.specs.Keys.{row_key}
 use Rattle.tdp_core.specs.declared.parts.NodeShape.{NodeShape}
 use Rattle.tdp_core.specs.RawData.{shape_item, shape_cap}
 use Rattle.tdp_core.specs.WellFormed.{RowFits}
-use Rattle.tdp_core.proofs.RowKeys.{row_key-fits}
+use Rattle.tdp_core.proofs.RowKeys.{row_key_fits}
 use Rattle.plan_tests.specs.ChainTrees.{IsChain}
 use Rattle.plan_tests.proofs.SampleFacts.{on_ok_by}
 use Rattle.plan_tests.proofs.reduction.add.Goals as goal
@@ -18,7 +18,7 @@ add_row-requires-clause-fits g c =
     let below : shape_item shapes v < 16 = c.nodes-count.ensures.formed.shaped.items v (omega (arith, c.requires.chain.nodes, c.requires.node)) in
     let fits : RowFits d (shape_item shapes v) (shape_cap shapes v) c.args.number (key c.of_row-rank.result) =
     subst (RowFits d (shape_item shapes v) (shape_cap shapes v) c.args.number) (sym (c.of_row-rank.ensures ∙ ap (λ i. row_key d [] i c.args.number) item))
-    (row_key-fits d [] (shape_item shapes v) c.args.number (shape_cap shapes v) below (omega arith) (λ i h. omega arith))
+    (row_key_fits d [] (shape_item shapes v) c.args.number (shape_cap shapes v) below (omega arith) (λ i h. omega arith))
     in
     (fits, c.requires.children ∙ sym (c.requires.chain.children v c.requires.node))
 

@@ -6,9 +6,9 @@ use Rattle.tdp_core.specs.declared.parts.NodeShape.{NodeShape}
 use Rattle.tdp_core.specs.RawData.{RawData, raw_len, row_total, shape_item, shape_cap, shape_children}
 use Rattle.tdp_core.specs.WellFormed.{RowFits}
 use Rattle.tdp_core.proofs.RawReads.{length_within}
-use Rattle.tdp_core.proofs.RowKeys.{row_key-fits}
+use Rattle.tdp_core.proofs.RowKeys.{row_key_fits}
 use Rattle.plan_tests.specs.SampleTrees.{IsSample}
-use Rattle.plan_tests.proofs.SampleFacts.{item-is, children-are, sum-capped, sample-more, on_ok_by}
+use Rattle.plan_tests.proofs.SampleFacts.{item_is, children_are, sum_capped, sample_more, on_ok_by}
 use Rattle.plan_tests.proofs.solving.add.Goals as goal
 
 low : {R : Type 0} (t : RawData R) (v number : ℕ) → number ≡ raw_len t v → row_total t < 100 → number < 2 ^ 21
@@ -22,13 +22,13 @@ add_row-requires-clause-fits g c =
     let v = c.args.node in
     let number = c.len-number.result in
     let item : c.shape.result.now.item ≡ shape_item shapes v = ap (λ (s : NodeShape). s.item) c.shape.ensures in
-    let below : shape_item shapes v < 16 = subst (λ ss. shape_item ss v < 16) (sym c.requires.sample.shapes) (omega (arith, item-is v c.requires.node, c.requires.node)) in
+    let below : shape_item shapes v < 16 = subst (λ ss. shape_item ss v < 16) (sym c.requires.sample.shapes) (omega (arith, item_is v c.requires.node, c.requires.node)) in
     let fits : RowFits d (shape_item shapes v) (shape_cap shapes v) number (key c.of_row-rank.result) =
     subst (RowFits d (shape_item shapes v) (shape_cap shapes v) number) (sym (c.of_row-rank.ensures ∙ ap (λ s. row_key d (s ∷ []) c.shape.result.now.item number) (to_z-of_z w128 c.args.sum (fits_signed_from_abs w128 c.args.sum (omega (arith, c.requires.sum)))) ∙ ap (λ i. row_key d (c.args.sum ∷ []) i number) item))
-    (row_key-fits d (c.args.sum ∷ []) (shape_item shapes v) number (shape_cap shapes v) below (low c.args.tree.now v number c.len-number.ensures c.requires.room)
-    (λ i h. subst (λ ss. unsigned_abs (get_or (c.args.sum ∷ []) i (pos 0)) ≤ shape_cap ss v i) (sym c.requires.sample.shapes) (sum-capped v i c.args.sum c.requires.node c.requires.sum)))
+    (row_key_fits d (c.args.sum ∷ []) (shape_item shapes v) number (shape_cap shapes v) below (low c.args.tree.now v number c.len-number.ensures c.requires.room)
+    (λ i h. subst (λ ss. unsigned_abs (get_or (c.args.sum ∷ []) i (pos 0)) ≤ shape_cap ss v i) (sym c.requires.sample.shapes) (sum_capped v i c.args.sum c.requires.node c.requires.sum)))
     in
-    (fits, c.requires.children ∙ sym (children-are v c.requires.node) ∙ ap (λ ss. shape_children ss v) (sym c.requires.sample.shapes))
+    (fits, c.requires.children ∙ sym (children_are v c.requires.node) ∙ ap (λ ss. shape_children ss v) (sym c.requires.sample.shapes))
 
 pub returns-clause-sample : goal.returns-clause-sample
-returns-clause-sample g c = on_ok_by (IsSample c.add_row.new.self) _ (λ is. subst IsSample (sym is) (sample-more c.args.tree.now c.args.node _ c.requires.sample c.requires.node c.len-number.ensures)) c.add_row.result c.add_row.ensures.ok
+returns-clause-sample g c = on_ok_by (IsSample c.add_row.new.self) _ (λ is. subst IsSample (sym is) (sample_more c.args.tree.now c.args.node _ c.requires.sample c.requires.node c.len-number.ensures)) c.add_row.result c.add_row.ensures.ok

@@ -1,18 +1,18 @@
 use Rattle.std.proofs.Common.{◌≡◌, ◌+◌, ◌<◌, ℕ, suc, Err, IfErr, length, sym, ap, subst, ◌∙◌, refl, arith, rules}
 use Rattle.tdp_model.specs.Below.{is_below}
-use Rattle.proof_text.specs.Seen.{seen_proof}
+use Rattle.proof_text.specs.ProofView.{seen_proof}
 use Rattle.proof_text.specs.declared.fault.ProofFault.TheVariants as fault
 use Rattle.proof_model.specs.Faults.{TellsFlaw}
 use Rattle.proof_model.specs.QueryProblem.{problem_in}
 use Rattle.proof_model.specs.Valid.{IsCount, weak, wrong_count}
-use Rattle.proof_bounds.specs.Bounded.{HasProblemRows}
-use Rattle.proof_answers.specs.Covered.{AllCovered}
+use Rattle.proof_bounds.specs.BoundedRows.{HasProblemRows}
+use Rattle.proof_answers.specs.Coverage.{AllCovered}
 use Rattle.proof_answers.specs.Solutions.{AreAnswers, AreOrdered}
 use Rattle.proof_answers.proofs.Coverings.{not-true}
-use Rattle.proof_answers.proofs.Firsts.{first-weak, first-bad, first-behind, first-count}
-use Rattle.proof_answers.proofs.Nodes.{nodes-few, parents-earlier}
-use Rattle.proof_answers.proofs.Roots.{below-root, without}
-use Rattle.proof_answers.proofs.Tellings.{tells-bad, tells-behind}
+use Rattle.proof_answers.proofs.Firsts.{first_weak_lem, first_bad, first_behind, first_count}
+use Rattle.proof_answers.proofs.Nodes.{nodes_few, parents_earlier}
+use Rattle.proof_answers.proofs.Roots.{below_root, without}
+use Rattle.proof_answers.proofs.Tellings.{tells_bad, tells_behind}
 use Rattle.proof_answers.proofs.answers.placed_answers.Goals as goal
 
 pub overflow_add-result : goal.overflow_add-result
@@ -21,7 +21,7 @@ overflow_add-result g c =
     let tables = c.args.tables.now in
     let join = c.args.join.now in
     let found = c.in-Some.ensures query tables (seen_proof c.args.proof.now) c.requires.keys c.requires.bounded in
-    omega (arith, found.0, nodes-few query tables join, c.requires.ordered.few)
+    omega (arith, found.0, nodes_few query tables join, c.requires.ordered.few)
 
 pub returns-in-Some-clause-fault : goal.returns-in-Some-clause-fault
 returns-in-Some-clause-fault g c =
@@ -36,7 +36,7 @@ returns-in-Some-clause-fault g c =
       b.is_shape,
       weak v,
       ap fault.Weak next,
-      first-weak (problem_in query tables c.args.join.now) cert query.limit b.solutions b.apart v found,
+      first_weak_lem (problem_in query tables c.args.join.now) cert query.limit b.solutions b.apart v found,
     )
 
 pub returns-in_err-places-clause-fault : goal.returns-in_err-places-clause-fault
@@ -55,9 +55,9 @@ returns-in_err-places-clause-fault g c =
     let covered : (v : ℕ) → v < t.nodes → AllCovered t cert v =
     without c.first_weak.result _ _ (c.first_weak.ensures query tables cert c.requires.keys b) c.in_default.not-Some in
     subst (λ r. IfErr r (TellsFlaw query tables join cert)) (sym e)
-    (tells-bad query tables join cert b.shape b.is_shape c.in_err-places.field-0.0
+    (tells_bad query tables join cert b.shape b.is_shape c.in_err-places.field-0.0
     (c.in_err-places.ensures.fault query tables join tree)
-    (first-bad t cert query.limit b.solutions b.apart covered))
+    (first_bad t cert query.limit b.solutions b.apart covered))
 
 pub last_rank-requires-clause-answers : goal.last_rank-requires-clause-answers
 last_rank-requires-clause-answers g c =
@@ -98,9 +98,9 @@ returns-in_err-last-clause-fault g c =
     let answers : AreAnswers query tables join c.tree.inside.raw cert c.as_slice.result.now =
     subst (λ ps. AreAnswers query tables join c.tree.inside.raw cert ps) (sym c.as_slice.ensures.value) found in
     subst (λ r. IfErr r (TellsFlaw query tables join cert)) (sym e)
-    (tells-behind query tables join cert b.shape b.is_shape c.in_err-last.field-0.0
+    (tells_behind query tables join cert b.shape b.is_shape c.in_err-last.field-0.0
     (c.in_err-last.ensures.fault query tables join c.requires.keys tree answers)
-    (first-behind t cert query.limit b.solutions b.apart covered (λ i l. (found.each i l).solution)))
+    (first_behind t cert query.limit b.solutions b.apart covered (λ i l. (found.each i l).solution)))
 
 pub returns-then-not-is_count-clause-fault : goal.returns-then-not-is_count-clause-fault
 returns-then-not-is_count-clause-fault g c =
@@ -126,7 +126,7 @@ returns-then-not-is_count-clause-fault g c =
       b.is_shape,
       wrong_count,
       refl,
-      first-count t cert query.limit b.solutions b.apart covered (λ i l. (found.each i l).solution)
+      first_count t cert query.limit b.solutions b.apart covered (λ i l. (found.each i l).solution)
           (subst (AreOrdered t cert) answers.count ordered)
           (λ h. not-true (sym c.if-not-is_count.true ∙ is.1
           (subst (λ k. IsCount t cert c.limit.result cert.ended k) (sym number)
@@ -156,9 +156,9 @@ returns-clause-placed g c =
     let ordered = c.in_ok-last.ensures.ordered query tables join c.requires.keys tree answers in
     let is = c.is_count.ensures query tables join cert in
     let number : c.len.result ≡ length cert.answers = c.len.ensures ∙ sym c.as_slice.ensures.len ∙ answers.count in
-    let first = parents-earlier query tables join c.requires.ordered in
+    let first = parents_earlier query tables join c.requires.ordered in
     let below : (q : ℕ) → q < t.nodes → 0 < is_below t.parent 0 q =
-    λ q l. let e = below-root t.nodes t.parent first q q (omega arith) l in omega (arith, e) in
+    λ q l. let e = below_root t.nodes t.parent first q q (omega arith) l in omega (arith, e) in
     record {
       count = found.count;
       within = λ i q l lq. (found.each i l).within q lq (below q lq);

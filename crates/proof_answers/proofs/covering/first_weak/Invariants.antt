@@ -1,6 +1,6 @@
 use Rattle.std.proofs.Common.{ℕ, ◌<◌}
 use Rattle.proof_model.specs.QueryProblem.{problem_in}
-use Rattle.proof_answers.specs.Covered.{AllCovered}
+use Rattle.proof_answers.specs.Coverage.{AllCovered}
 use Rattle.proof_answers.specs.Lows.{OfEach}
 use Rattle.proof_answers.proofs.covering.first_weak.Given as goal
 

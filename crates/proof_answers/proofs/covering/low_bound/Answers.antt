@@ -4,12 +4,12 @@ use Rattle.tdp_model.specs.KeyTuple.{key_add, key_none}
 use Rattle.rank_key.specs.Keys.{KeyFits}
 use Rattle.tdp_core.specs.RawData.{IsRawFormed, raw_len, raw_number, raw_rank}
 use Rattle.proof_model.specs.QueryProblem.{problem_in}
-use Rattle.proof_bounds.specs.Bounded.{named_bound, rank_of_bound}
+use Rattle.proof_bounds.specs.BoundedRows.{named_bound, rank_of_bound}
 use Rattle.proof_answers.specs.Lows.{IsLow}
-use Rattle.proof_answers.proofs.LowKeys.{low-none, low-some}
-use Rattle.proof_answers.proofs.LowParts.{AreNamed, low_part, named_key, part-none, part-child, part-other}
-use Rattle.proof_answers.proofs.LowParts.{named-more, low-fits}
-use Rattle.proof_answers.proofs.Nodes.{all-nodes, parent-at, parents-first, option-none, option-some}
+use Rattle.proof_answers.proofs.LowKeys.{low_none, low_some}
+use Rattle.proof_answers.proofs.LowParts.{AreNamed, low_part, named_key, part_none, part_child, part_other}
+use Rattle.proof_answers.proofs.LowParts.{named_more, low_fits}
+use Rattle.proof_answers.proofs.Nodes.{all_nodes, parent_at, parents_first_lem, option_none, option_some}
 use Rattle.proof_answers.proofs.covering.low_bound.Goals as goal
 use Rattle.proof_answers.proofs.covering.low_bound.Goals.{then-join-child+in_ok-bound, else-join-child}
 
@@ -25,7 +25,7 @@ loop-child-init g c =
     subst (λ z. key c.row-low.result.rank ≡ raw_rank z.raw d key v i) c.tree.view_is c.row-low.ensures.rank in
     record {
       named = λ q a b u. absurd (omega (arith, a, b));
-      sum = rank ∙ sym (part-none d key c.args.tree.now up v i) ∙ ap (low_part d key c.args.tree.now up v i) (sym zero);
+      sum = rank ∙ sym (part_none d key c.args.tree.now up v i) ∙ ap (low_part d key c.args.tree.now up v i) (sym zero);
     }
 
 pub named_rank-requires-clause-above : goal.named_rank-requires-clause-above
@@ -42,7 +42,7 @@ named_rank-requires-clause-above g c =
       ap (λ z. length z.raw.shapes) c.tree.view_is,
       b.bounded.rows.nodes,
     ) in
-    let is = parent-at b.query b.tables join c.requires.ordered long q l ∙ c.if-join-child.true in
+    let is = parent_at b.query b.tables join c.requires.ordered long q l ∙ c.if-join-child.true in
     let far = c.loop-child.auto.child in
     let p : 0 < q = omega (arith, far) in
     subst (λ n. c.args.row < n)
@@ -62,7 +62,7 @@ named_rank-requires-clause-each g c number named =
       ap (λ z. length z.raw.shapes) c.tree.view_is,
       b.bounded.rows.nodes,
     ) in
-    let is = parent-at b.query b.tables join c.requires.ordered long q l ∙ c.if-join-child.true in
+    let is = parent_at b.query b.tables join c.requires.ordered long q l ∙ c.if-join-child.true in
     let far = c.loop-child.auto.child in
     let p : 0 < q = omega (arith, far) in
     (b.bounded.named_is q c.args.row number p l
@@ -86,12 +86,12 @@ returns-in_err-bound g c query tables cert few bounded =
       ap (λ z. length z.raw.shapes) c.tree.view_is,
       bounded.rows.nodes,
     ) in
-    let is = parent-at query tables join c.requires.ordered long q l ∙ c.if-join-child.true in
-    let node : v < t.nodes = omega (arith, all-nodes query tables join c.requires.ordered long, c.requires.node) in
-    let gone = option-none (rank_of_bound tree d key q) (named_bound tree q c.args.row) c.in_err-bound.ensures in
+    let is = parent_at query tables join c.requires.ordered long q l ∙ c.if-join-child.true in
+    let node : v < t.nodes = omega (arith, all_nodes query tables join c.requires.ordered long, c.requires.node) in
+    let gone = option_none (rank_of_bound tree d key q) (named_bound tree q c.args.row) c.in_err-bound.ensures in
     subst (λ r. IsLow query tables join d cert v (raw_number tree.raw v c.args.row) (option_map key r))
     (sym c.from_residual.ensures)
-    (low-none query tables join d key cert tree few bounded v c.args.row node c.requires.row q
+    (low_none query tables join d key cert tree few bounded v c.args.row node c.requires.row q
     (let far = c.loop-child.auto.child in omega (arith, far)) l is gone)
 
 pub join-low-requires : goal.join-low-requires
@@ -115,24 +115,24 @@ join-low-requires g c =
       ap (λ z. length z.raw.shapes) c.tree.view_is,
       b.bounded.rows.nodes,
     ) in
-    let is = parent-at b.query b.tables join c.requires.ordered long q l ∙ c.if-join-child.true in
-    let node : v < t.nodes = omega (arith, all-nodes b.query b.tables join c.requires.ordered long, c.requires.node) in
+    let is = parent_at b.query b.tables join c.requires.ordered long q l ∙ c.if-join-child.true in
+    let node : v < t.nodes = omega (arith, all_nodes b.query b.tables join c.requires.ordered long, c.requires.node) in
     let far = c.loop-child.auto.child in
     let n = q - suc v in
     let at : q ≡ suc v + n = omega (arith, far) in
-    let some = option-some (rank_of_bound tree d key q) (named_bound tree q i)
+    let some = option_some (rank_of_bound tree d key q) (named_bound tree q i)
     (key c.in_ok-bound.bound) c.in_ok-bound.ensures in
     let named : key c.in_ok-bound.bound ≡ named_key d key tree up v i q =
     some.2 ∙ sym (ap (λ o. unwrap_or (option_map (rank_of_bound tree d key q) o) (key_none d 16)) some.1) in
-    let all = named-more d key tree up v i n q at c.loop-child.invariant.named (λ u. (some.0, some.1)) in
+    let all = named_more d key tree up v i n q at c.loop-child.invariant.named (λ u. (some.0, some.1)) in
     let formed : IsRawFormed d key tree.raw =
     subst (λ z. IsRawFormed d key z.raw) c.tree.view_is c.nodes-nodes.ensures.formed in
-    let fits = low-fits b.query b.tables join d key b.c tree b.few b.bounded
-    (parents-first b.query b.tables join c.requires.ordered long) formed v i (suc n) node c.requires.row all
+    let fits = low_fits b.query b.tables join d key b.c tree b.few b.bounded
+    (parents_first_lem b.query b.tables join c.requires.ordered long) formed v i (suc n) node c.requires.row all
     (omega (arith, at, l)) in
     subst (λ k. KeyFits d key (key_add d 16 k (key c.in_ok-bound.bound))) (sym c.loop-child.invariant.sum)
     (subst (λ k. KeyFits d key (key_add d 16 (low_part d key tree up v i n) k)) (sym named)
-    (subst (KeyFits d key) (part-child d key tree up v i n q at is) fits))
+    (subst (KeyFits d key) (part_child d key tree up v i n q at is) fits))
 
 pub loop-child-preserved : goal.loop-child-preserved
 loop-child-preserved g c =
@@ -155,7 +155,7 @@ loop-child-preserved g c =
       ap (λ z. length z.raw.shapes) c.tree.view_is,
       b.bounded.rows.nodes,
     ) in
-    let above = parent-at b.query b.tables join c.requires.ordered long q l in
+    let above = parent_at b.query b.tables join c.requires.ordered long q l in
     let far = c.loop-child.auto.child in
     let n = q - suc v in
     let at : q ≡ suc v + n = omega (arith, far) in
@@ -163,25 +163,25 @@ loop-child-preserved g c =
     elim c.if-join-child.branch [
       | then-join-child+in_ok-bound w ↦
           let is : up q ≡ v = above ∙ w.if-join-child.true in
-          let some = option-some (rank_of_bound tree d key q) (named_bound tree q i)
+          let some = option_some (rank_of_bound tree d key q) (named_bound tree q i)
           (key w.in_ok-bound.bound) w.in_ok-bound.ensures in
           let named : key w.in_ok-bound.bound ≡ named_key d key tree up v i q =
           some.2 ∙ sym (ap (λ o. unwrap_or (option_map (rank_of_bound tree d key q) o) (key_none d 16)) some.1) in
           record {
             named = subst (AreNamed d key tree up v i) (sym more)
-                (named-more d key tree up v i n q at c.loop-child.invariant.named (λ u. (some.0, some.1)));
+                (named_more d key tree up v i n q at c.loop-child.invariant.named (λ u. (some.0, some.1)));
             sum = ap key w.low-is ∙ w.join-low.ensures.sum
                 ∙ ap (λ k. key_add d 16 k (key w.in_ok-bound.bound)) c.loop-child.invariant.sum
                 ∙ ap (λ k. key_add d 16 (low_part d key tree up v i n) k) named
-                ∙ sym (part-child d key tree up v i n q at is) ∙ ap (low_part d key tree up v i) (sym more);
+                ∙ sym (part_child d key tree up v i n q at is) ∙ ap (low_part d key tree up v i) (sym more);
           }
       | else-join-child w ↦
           let other : up q ≢ v = λ e. w.if-join-child.false (sym above ∙ e) in
           record {
             named = subst (AreNamed d key tree up v i) (sym more)
-                (named-more d key tree up v i n q at c.loop-child.invariant.named (λ u. absurd (other u)));
+                (named_more d key tree up v i n q at c.loop-child.invariant.named (λ u. absurd (other u)));
             sum = ap key w.low-is ∙ c.loop-child.invariant.sum
-                ∙ sym (part-other d key tree up v i n q at other) ∙ ap (low_part d key tree up v i) (sym more);
+                ∙ sym (part_other d key tree up v i n q at other) ∙ ap (low_part d key tree up v i) (sym more);
           }
     ]
 
@@ -195,7 +195,7 @@ returns g c query tables cert few bounded =
     let i = c.args.row in
     let t = problem_in query tables join in
     let long : length join.atom ≡ 16 = omega arith in
-    let node : v < t.nodes = omega (arith, all-nodes query tables join c.requires.ordered long, c.requires.node) in
+    let node : v < t.nodes = omega (arith, all_nodes query tables join c.requires.ordered long, c.requires.node) in
     let end = c.loop-child.auto.child-end in
     let done : c.loop-child.child ≡ t.nodes =
     omega (
@@ -208,6 +208,6 @@ returns g c query tables cert few bounded =
       bounded.rows.nodes,
     ) in
     let up = slice_index (take join.count join.parent) in
-    low-some query tables join d key cert tree few bounded v i node c.requires.row (key c.loop-child.low)
+    low_some query tables join d key cert tree few bounded v i node c.requires.row (key c.loop-child.low)
     (subst (λ m. AreNamed d key tree up v i (m - suc v)) done c.loop-child.invariant.named)
     (subst (λ m. key c.loop-child.low ≡ low_part d key tree up v i (m - suc v)) done c.loop-child.invariant.sum)

@@ -1,12 +1,12 @@
 use Rattle.std.proofs.Common.{◌≡◌, ◌<◌, option_map, [], length, sym, ap, arith}
 use Rattle.proof_text.specs.Certificate.{AnswerLine}
-use Rattle.proof_text.specs.Seen.{seen_answer, seen_proof}
+use Rattle.proof_text.specs.ProofView.{seen_answer, seen_proof}
 use Rattle.proof_text.specs.declared.fault.ProofFault.TheVariants as fault
 use Rattle.proof_model.specs.QueryProblem.{problem_in}
 use Rattle.proof_model.specs.Valid.{answer_at, answer_key}
-use Rattle.proof_bounds.specs.Bounded.{query_key}
-use Rattle.proof_answers.proofs.AnswerLists.{seen-at, seen-count}
-use Rattle.proof_answers.proofs.Ordering.{behind, last-key, ordered-next, rank-next, test-of}
+use Rattle.proof_bounds.specs.BoundedRows.{query_key}
+use Rattle.proof_answers.proofs.AnswerLists.{seen_at, seen_count}
+use Rattle.proof_answers.proofs.Ordering.{behind, last_key, ordered_next, rank_next, test_of}
 use Rattle.proof_answers.proofs.order.last_rank.Goals as goal
 
 pub rank_of_places-rank-requires-clause-solution : goal.rank_of_places-rank-requires-clause-solution
@@ -34,14 +34,14 @@ returns-then-not-is_after-clause-fault g c query tables join few tree answers =
     let before = c.loop-i.invariant query tables join few tree answers in
     let here : key c.rank_of_places-rank.result ≡ query_key query d (answer_key t cert i) =
     c.rank_of_places-rank.ensures query tables join (answer_at t cert i).rows few tree (answers.each i l) in
-    let test = test-of query tables join d cert key c.loop-i.last c.rank_of_places-rank.result c.is_after.result
+    let test = test_of query tables join d cert key c.loop-i.last c.rank_of_places-rank.result c.is_after.result
     c.is_after.ensures.first c.is_after.ensures.next in
     let found = behind query tables join d cert few i (option_map key c.loop-i.last)
     (key c.rank_of_places-rank.result) here
     before.0 c.is_after.result test c.if-not-is_after.true in
     let is : answer_at t cert i ≡ seen_answer x =
-    seen-at c.args.proof.now.answers.items i x (record { line = 0; rows = [] })
-    (omega (arith, l, seen-count c.args.proof.now.answers.items)) c.index.ensures in
+    seen_at c.args.proof.now.answers.items i x (record { line = 0; rows = [] })
+    (omega (arith, l, seen_count c.args.proof.now.answers.items)) c.index.ensures in
     (i, ap (λ (a : AnswerLine). fault.Order a.line) (sym is), (found.0, l, found.1, before.1))
 
 pub loop-i-preserved : goal.loop-i-preserved
@@ -55,10 +55,10 @@ loop-i-preserved g c query tables join few tree answers =
     let before = c.loop-i.invariant query tables join few tree answers in
     let here : key c.rank_of_places-rank.result ≡ query_key query d (answer_key t cert i) =
     c.rank_of_places-rank.ensures query tables join (answer_at t cert i).rows few tree (answers.each i l) in
-    let test = test-of query tables join d cert key c.loop-i.last c.rank_of_places-rank.result c.is_after.result
+    let test = test_of query tables join d cert key c.loop-i.last c.rank_of_places-rank.result c.is_after.result
     c.is_after.ensures.first c.is_after.ensures.next in (
-      rank-next query tables join d cert few i (option_map key c.loop-i.last) (key c.rank_of_places-rank.result) here,
-      ordered-next query tables join d cert few i (option_map key c.loop-i.last) (key c.rank_of_places-rank.result) here
+      rank_next query tables join d cert few i (option_map key c.loop-i.last) (key c.rank_of_places-rank.result) here,
+      ordered_next query tables join d cert few i (option_map key c.loop-i.last) (key c.rank_of_places-rank.result) here
           before.0 c.is_after.result test c.if-not-is_after.false before.1,
     )
 
@@ -67,7 +67,7 @@ returns-clause-last g c query tables join few tree answers =
     let cert = seen_proof c.args.proof.now in
     let done : c.loop-i.i ≡ length cert.answers =
     omega (arith, c.loop-i.auto.i-end, c.loop-i-test.false, answers.count) in
-    last-key query tables join g.R.Rank.KEYS cert c.loop-i.i (option_map g.R.Rank.key c.loop-i.last) done
+    last_key query tables join g.R.Rank.KEYS cert c.loop-i.i (option_map g.R.Rank.key c.loop-i.last) done
     (c.loop-i.invariant query tables join few tree answers).0
 
 pub returns-clause-ordered : goal.returns-clause-ordered

@@ -2,9 +2,9 @@ use Rattle.std.proofs.Common.{◌≤◌, List, length, option_map}
 use Rattle.anyk_model.specs.Table.{Table}
 use Rattle.anyk_model.specs.Query.{Query}
 use Rattle.join_tree.specs.declared.tree.JoinTree.{JoinTree}
-use Rattle.proof_text.specs.Seen.{seen_proof}
+use Rattle.proof_text.specs.ProofView.{seen_proof}
 use Rattle.proof_model.specs.QueryProblem.{problem_in}
-use Rattle.proof_bounds.specs.Bounded.{HasProblemRows}
+use Rattle.proof_bounds.specs.BoundedRows.{HasProblemRows}
 use Rattle.proof_answers.specs.Solutions.{AreAnswers, AreOrdered}
 use Rattle.proof_answers.proofs.Ordering.{IsRankBefore}
 use Rattle.proof_answers.proofs.order.last_rank.Given as goal

@@ -1,13 +1,13 @@
 use Rattle.std.proofs.Common.{◌≡◌, ◌+◌, ◌<◌, ℕ, List, [], ◌∷◌, ◌++◌, length, get_or, sym, ap, subst, ◌∙◌, inr, arith}
 use Rattle.std.proofs.Common.{below_more, length-append}
 use Rattle.proof_text.specs.Certificate.{AnswerLine}
-use Rattle.proof_text.specs.Seen.{seen_answer, seen_proof}
+use Rattle.proof_text.specs.ProofView.{seen_answer, seen_proof}
 use Rattle.proof_text.specs.declared.fault.ProofFault.TheVariants as fault
 use Rattle.proof_model.specs.Problem.{IsSolutionAt}
 use Rattle.proof_model.specs.QueryProblem.{problem_in}
 use Rattle.proof_model.specs.Valid.{answer_at}
 use Rattle.proof_bounds.specs.Places.{ArePlacesOf}
-use Rattle.proof_answers.proofs.AnswerLists.{seen-at, seen-count, all-before, at-last}
+use Rattle.proof_answers.proofs.AnswerLists.{seen_at, seen_count, all_before, at_last}
 use Rattle.proof_answers.proofs.solutions.answer_places.Goals as goal
 
 pub returns-in-None-clause-fault : goal.returns-in-None-clause-fault
@@ -20,14 +20,14 @@ returns-in-None-clause-fault g c query tables join tree =
     let list = c.deref-answer-items.ensures.value in
     let l : i < length items = omega (arith, c.loop-answer-test.true, ap length list) in
     let is : answer_at t cert i ≡ seen_answer x =
-    seen-at items i x (record { line = 0; rows = [] }) l (c.answer-item.is ∙ ap (λ xs. get_or xs i x) list) in
+    seen_at items i x (record { line = 0; rows = [] }) l (c.answer-item.is ∙ ap (λ xs. get_or xs i x) list) in
     let rows : (answer_at t cert i).rows ≡ c.as_slice.result.now =
     ap (λ (a : AnswerLine). a.rows) is ∙ sym c.as_slice.ensures.value in
     inr (
       i,
       ap (λ (a : AnswerLine). fault.BadAnswer a.line) (sym is),
       (
-        omega (arith, l, seen-count items),
+        omega (arith, l, seen_count items),
         λ s. c.in-None.ensures query tables join tree (subst (IsSolutionAt t 0) rows s),
         λ j m. (c.loop-answer.invariant.each query tables join tree j m).solution,
       ),
@@ -49,7 +49,7 @@ loop-answer-preserved g c =
           let t = problem_in query tables join in
           let cert = seen_proof c.args.proof.now in
           let is : answer_at t cert i ≡ seen_answer x =
-          seen-at items i x (record { line = 0; rows = [] }) l (c.answer-item.is ∙ ap (λ xs. get_or xs i x) list) in
+          seen_at items i x (record { line = 0; rows = [] }) l (c.answer-item.is ∙ ap (λ xs. get_or xs i x) list) in
           let rows : c.as_slice.result.now ≡ (answer_at t cert i).rows =
           c.as_slice.ensures.value ∙ ap (λ (a : AnswerLine). a.rows) (sym is) in
           let P : ℕ → List ℕ → Type 0 =
@@ -59,8 +59,8 @@ loop-answer-preserved g c =
           subst (λ r. ArePlacesOf query tables join c.args.raw.now 0 r found) rows
           (c.in-Some.ensures query tables join tree) in
           subst (λ ps. (k : ℕ) → k < i + 1 → P k (get_or ps k [])) (sym pushed)
-          (below_more _ _ (all-before P before found [] i c.loop-answer.invariant.long all last)
-          (at-last P before found [] i c.loop-answer.invariant.long all last));
+          (below_more _ _ (all_before P before found [] i c.loop-answer.invariant.long all last)
+          (at_last P before found [] i c.loop-answer.invariant.long all last));
     }
 
 pub returns-clause-places : goal.returns-clause-places
@@ -74,6 +74,6 @@ returns-clause-places g c query tables join tree =
       ap length c.deref-answer-items.ensures.value,
     ) in
     record {
-      count = c.loop-answer.invariant.long ∙ done ∙ sym (seen-count items);
-      each = λ i l. c.loop-answer.invariant.each query tables join tree i (omega (arith, l, done, seen-count items));
+      count = c.loop-answer.invariant.long ∙ done ∙ sym (seen_count items);
+      each = λ i l. c.loop-answer.invariant.each query tables join tree i (omega (arith, l, done, seen_count items));
     }

@@ -2,10 +2,10 @@ use Rattle.std.proofs.Common.{◌≡◌, ◌<◌, ℕ, List, [], length, slice_i
 use Rattle.anyk_model.specs.Table.{Table}
 use Rattle.anyk_model.specs.Query.{Query}
 use Rattle.join_tree.specs.declared.tree.JoinTree.{JoinTree}
-use Rattle.proof_text.specs.Seen.{seen_proof}
+use Rattle.proof_text.specs.ProofView.{seen_proof}
 use Rattle.proof_model.specs.QueryProblem.{problem_in}
 use Rattle.proof_model.specs.Valid.{answer_at}
-use Rattle.proof_bounds.specs.Bounded.{HasProblemRows}
+use Rattle.proof_bounds.specs.BoundedRows.{HasProblemRows}
 use Rattle.proof_bounds.specs.Places.{ArePlacesOf}
 use Rattle.proof_answers.proofs.solutions.answer_places.Given as goal
 

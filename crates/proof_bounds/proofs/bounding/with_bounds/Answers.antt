@@ -1,18 +1,18 @@
 use Rattle.std.proofs.Common.{◌≡◌, ◌++◌, Err, drop, take, [], length, map, get_or, rules, sym, ap, subst, ◌∙◌, arith}
 use Rattle.std.proofs.lemmas.List.{length-map}
-use Rattle.proof_text.specs.Seen.{seen_bound, seen_proof}
-use Rattle.proof_bounds.specs.Bounded.{IsBounded}
+use Rattle.proof_text.specs.ProofView.{seen_bound, seen_proof}
+use Rattle.proof_bounds.specs.BoundedRows.{IsBounded}
 use Rattle.proof_bounds.specs.Lines.{AreLineGroups, ArePlacedLines}
-use Rattle.proof_bounds.proofs.LineFaults.{groups-few, rows-few, tells-bad, tells-twice}
+use Rattle.proof_bounds.proofs.LineFaults.{groups_few, rows_few, tells_bad, tells_twice}
 use Rattle.proof_bounds.proofs.NumberedGroups.{bounded}
-use Rattle.proof_bounds.proofs.Pushed.{take-front}
+use Rattle.proof_bounds.proofs.Pushed.{take_front}
 use Rattle.proof_bounds.proofs.bounding.with_bounds.Goals as goal
 
 pub returns-in_err-tops-clause-fault : goal.returns-in_err-tops-clause-fault
 returns-in_err-tops-clause-fault g c =
     let e : c.from_residual.result ≡ Err c.in_err-tops.field-0.0 = search rules in
     rw e
-    (tells-bad c.args.query.now.query c.args.tables.now c.args.join.now (seen_proof c.args.proof.now) c.requires.shape
+    (tells_bad c.args.query.now.query c.args.tables.now c.args.join.now (seen_proof c.args.proof.now) c.requires.shape
     c.in_err-tops.field-0.0
     (c.in_err-tops.ensures.fault c.args.query.now.query c.args.tables.now c.args.join.now c.requires.keys c.requires.rows))
 
@@ -33,7 +33,7 @@ pub returns-in_err-groups-clause-fault : goal.returns-in_err-groups-clause-fault
 returns-in_err-groups-clause-fault g c =
     let e : c.from_residual-in_err-groups.result ≡ Err c.in_err-groups.field-0.0 = search rules in
     rw e
-    (tells-twice c.args.query.now.query c.args.tables.now c.args.join.now (seen_proof c.args.proof.now) c.requires.shape
+    (tells_twice c.args.query.now.query c.args.tables.now c.args.join.now (seen_proof c.args.proof.now) c.requires.shape
     c.in_err-groups.field-0.0
     (c.in_err-groups.ensures.fault c.args.query.now.query c.args.tables.now c.args.join.now
     (map (λ b. b.ranks.items) c.in_ok-tops.field-0.bounds.items) c.requires.rows
@@ -48,11 +48,11 @@ name_all-requires-clause-few g c = λ v l.
     c.args.raw (seen_proof c.args.proof.now) (length c.args.proof.now.bounds.items) tops
     (map (λ b. b.ranks.items) c.in_ok-tops.field-0.bounds.items)) (sym c.as_slice.ensures.value)
     (c.in_ok-tops.ensures.placed c.args.query.now.query c.args.tables.now c.args.join.now c.requires.keys c.requires.rows) in
-    let few = groups-few c.args.query.now.query c.args.tables.now c.args.join.now g.R.Rank.KEYS g.R.Rank.key c.args.raw
+    let few = groups_few c.args.query.now.query c.args.tables.now c.args.join.now g.R.Rank.KEYS g.R.Rank.key c.args.raw
     c.nodes-nodes.ensures.formed.shaped c.requires.rows (seen_proof c.args.proof.now) (length c.args.proof.now.bounds.items)
     c.as_slice.result.now (map (λ b. b.ranks.items) c.in_ok-tops.field-0.bounds.items) p (length c.args.proof.now.bounds.items)
     (omega arith) c.in_ok-groups.groups.items c.in_ok-groups.ensures.groups v l in
-    let all = rows-few g.R.Rank.KEYS g.R.Rank.key c.args.raw c.nodes-nodes.ensures.formed v in
+    let all = rows_few g.R.Rank.KEYS g.R.Rank.key c.args.raw c.nodes-nodes.ensures.formed v in
     let read = ap (λ xs. length (get_or xs v [])) c.as_slice-2.ensures.value in
     omega (arith, few, all, read)
 
@@ -82,7 +82,7 @@ returns-clause-bounded g c =
     ∙ length-map c.in_ok-tops.field-0.bounds.items (λ b. b.ranks.items) ∙ c.in_ok-tops.ensures.each_node in
     let old = c.in_ok-tops.field-0.bounds in
     let same : take old.len (c.name_all.new.bounds ++ drop (length c.name_all.new.bounds) old.items) ≡ c.name_all.new.bounds =
-    take-front c.name_all.new.bounds (drop (length c.name_all.new.bounds) old.items) old.len
+    take_front c.name_all.new.bounds (drop (length c.name_all.new.bounds) old.items) old.len
     (omega (arith, each, old.ok.0, c.in_ok-tops.ensures.each_node)) in
     subst (λ bounds. IsBounded query tables join g.R.Rank.KEYS g.R.Rank.key certificate (record { raw = raw; bounds = bounds })) (sym same)
     (bounded query tables join g.R.Rank.KEYS g.R.Rank.key (record { raw = raw; bounds = c.name_all.new.bounds })

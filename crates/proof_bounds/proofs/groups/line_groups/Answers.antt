@@ -3,17 +3,17 @@ use Rattle.std.proofs.Math.ListN.{set}
 use Rattle.std.proofs.lemmas.List.{length-map}
 use Rattle.tdp_core.proofs.RawReads.{list_read}
 use Rattle.proof_text.specs.Certificate.{BoundLine}
-use Rattle.proof_text.specs.Seen.{seen_bound, seen_proof}
+use Rattle.proof_text.specs.ProofView.{seen_bound, seen_proof}
 use Rattle.proof_text.specs.declared.fault.ProofFault.TheVariants as fault
 use Rattle.proof_bounds.specs.Lines.{AreLineGroups}
-use Rattle.proof_bounds.proofs.LineFaults.{groups-few, groups-more, line-is, node-read, node-within, rows-few, some-node, twice}
+use Rattle.proof_bounds.proofs.LineFaults.{groups_few, groups_more, line_is, node_read, node_within, rows_few, some_node_lem, twice}
 use Rattle.proof_bounds.proofs.groups.line_groups.Goals as goal
 
 pub overflow_sub-node : goal.overflow_sub-node
 overflow_sub-node g c =
     let h = c.requires in
     let value = c.deref-bound-items.ensures.value in
-    some-node h.query h.tables h.join g.R.Rank.KEYS g.R.Rank.key c.args.raw.now c.nodes.ensures.formed.shaped h.tree c.args.proof.now
+    some_node_lem h.query h.tables h.join g.R.Rank.KEYS g.R.Rank.key c.args.raw.now c.nodes.ensures.formed.shaped h.tree c.args.proof.now
     c.args.tops.now h.ranks h.placed c.loop-line.line c.bound-item.result
     (subst (λ xs. c.loop-line.line < length xs) value c.loop-line-test.true)
     (subst (λ xs. c.bound-item.result ≡ get_or xs c.loop-line.line c.bound-item.result) value c.bound-item.is)
@@ -22,7 +22,7 @@ pub group_link-link-requires-clause-node : goal.group_link-link-requires-clause-
 group_link-link-requires-clause-node g c =
     let h = c.requires in
     let value = c.deref-bound-items.ensures.value in
-    node-within h.query h.tables h.join g.R.Rank.KEYS g.R.Rank.key c.args.raw.now c.nodes.ensures.formed.shaped h.tree c.args.proof.now
+    node_within h.query h.tables h.join g.R.Rank.KEYS g.R.Rank.key c.args.raw.now c.nodes.ensures.formed.shaped h.tree c.args.proof.now
     c.args.tops.now h.ranks h.placed c.loop-line.line c.bound-item.result
     (subst (λ xs. c.loop-line.line < length xs) value c.loop-line-test.true)
     (subst (λ xs. c.bound-item.result ≡ get_or xs c.loop-line.line c.bound-item.result) value c.bound-item.is)
@@ -33,7 +33,7 @@ group_link-link-requires-clause-place g c =
     let value = c.deref-bound-items.ensures.value in
     let inside = subst (λ xs. c.loop-line.line < length xs) value c.loop-line-test.true in
     h.placed.within (c.bound-item.result.node - 1) c.loop-line.line inside
-    (node-read h.query h.tables h.join g.R.Rank.KEYS g.R.Rank.key c.args.raw.now c.nodes.ensures.formed.shaped h.tree c.args.proof.now
+    (node_read h.query h.tables h.join g.R.Rank.KEYS g.R.Rank.key c.args.raw.now c.nodes.ensures.formed.shaped h.tree c.args.proof.now
     c.args.tops.now h.ranks h.placed c.loop-line.line c.bound-item.result inside
     (subst (λ xs. c.bound-item.result ≡ get_or xs c.loop-line.line c.bound-item.result) value c.bound-item.is))
 
@@ -41,7 +41,7 @@ pub index_mut-requires : goal.index_mut-requires
 index_mut-requires g c =
     let h = c.requires in
     let value = c.deref-bound-items.ensures.value in
-    let low = node-within h.query h.tables h.join g.R.Rank.KEYS g.R.Rank.key c.args.raw.now c.nodes.ensures.formed.shaped h.tree c.args.proof.now
+    let low = node_within h.query h.tables h.join g.R.Rank.KEYS g.R.Rank.key c.args.raw.now c.nodes.ensures.formed.shaped h.tree c.args.proof.now
     c.args.tops.now h.ranks h.placed c.loop-line.line c.bound-item.result
     (subst (λ xs. c.loop-line.line < length xs) value c.loop-line-test.true)
     (subst (λ xs. c.bound-item.result ≡ get_or xs c.loop-line.line c.bound-item.result) value c.bound-item.is) in
@@ -52,13 +52,13 @@ add_group-requires g c =
     let h = c.requires in
     let value = c.deref-bound-items.ensures.value in
     let inside = subst (λ xs. c.loop-line.line < length xs) value c.loop-line-test.true in
-    let low = node-within h.query h.tables h.join g.R.Rank.KEYS g.R.Rank.key c.args.raw.now c.nodes.ensures.formed.shaped h.tree c.args.proof.now
+    let low = node_within h.query h.tables h.join g.R.Rank.KEYS g.R.Rank.key c.args.raw.now c.nodes.ensures.formed.shaped h.tree c.args.proof.now
     c.args.tops.now h.ranks h.placed c.loop-line.line c.bound-item.result inside
     (subst (λ xs. c.bound-item.result ≡ get_or xs c.loop-line.line c.bound-item.result) value c.bound-item.is) in
-    let few = groups-few h.query h.tables h.join g.R.Rank.KEYS g.R.Rank.key c.args.raw.now c.nodes.ensures.formed.shaped h.tree
+    let few = groups_few h.query h.tables h.join g.R.Rank.KEYS g.R.Rank.key c.args.raw.now c.nodes.ensures.formed.shaped h.tree
     (seen_proof c.args.proof.now) (length c.args.proof.now.bounds.items) c.args.tops.now h.ranks h.placed c.loop-line.line
     (omega (arith, inside)) c.loop-line.groups.items c.loop-line.invariant (c.bound-item.result.node - 1) low in
-    let all = rows-few g.R.Rank.KEYS g.R.Rank.key c.args.raw.now c.nodes.ensures.formed (c.bound-item.result.node - 1) in
+    let all = rows_few g.R.Rank.KEYS g.R.Rank.key c.args.raw.now c.nodes.ensures.formed (c.bound-item.result.node - 1) in
     let read = list_read c.loop-line.groups.items (c.bound-item.result.node - 1) c.index_mut.result.now
     (omega (arith, low, c.loop-line.invariant.each_node)) c.index_mut.ensures.value in
     let long = ap length read in
@@ -72,16 +72,16 @@ returns-in-Ok-false-clause-fault g c = λ query tables join ranks has p.
     let value = c.deref-bound-items.ensures.value in
     let inside = subst (λ xs. c.loop-line.line < length xs) value c.loop-line-test.true in
     let is = subst (λ xs. c.bound-item.result ≡ get_or xs c.loop-line.line c.bound-item.result) value c.bound-item.is in
-    let low = node-within query tables join g.R.Rank.KEYS g.R.Rank.key c.args.raw.now shaped has c.args.proof.now c.args.tops.now ranks p
+    let low = node_within query tables join g.R.Rank.KEYS g.R.Rank.key c.args.raw.now shaped has c.args.proof.now c.args.tops.now ranks p
     c.loop-line.line c.bound-item.result inside is in
-    let node = node-read query tables join g.R.Rank.KEYS g.R.Rank.key c.args.raw.now shaped has c.args.proof.now c.args.tops.now ranks p
+    let node = node_read query tables join g.R.Rank.KEYS g.R.Rank.key c.args.raw.now shaped has c.args.proof.now c.args.tops.now ranks p
     c.loop-line.line c.bound-item.result inside is in
     let read = list_read c.loop-line.groups.items (c.bound-item.result.node - 1) c.index_mut.result.now
     (omega (arith, low, c.loop-line.invariant.each_node)) c.index_mut.ensures.value in
     let at = c.in-Ok-false.ensures.there c.in-Ok-false.field-0-test in
     inr (
       c.loop-line.line,
-      ap (λ x. fault.BoundTwice x.line) (sym (line-is items c.loop-line.line c.bound-item.result none_at inside is)),
+      ap (λ x. fault.BoundTwice x.line) (sym (line_is items c.loop-line.line c.bound-item.result none_at inside is)),
       twice query tables join g.R.Rank.KEYS g.R.Rank.key c.args.raw.now shaped has (seen_proof c.args.proof.now) (length items) c.args.tops.now
           ranks p c.loop-line.line (omega (arith, inside)) c.loop-line.groups.items c.loop-line.invariant query.limit
           (c.bound-item.result.node - 1) at.0 (sym (length-map items seen_bound)) low
@@ -96,9 +96,9 @@ loop-line-preserved g c =
     let value = c.deref-bound-items.ensures.value in
     let inside = subst (λ xs. c.loop-line.line < length xs) value c.loop-line-test.true in
     let is = subst (λ xs. c.bound-item.result ≡ get_or xs c.loop-line.line c.bound-item.result) value c.bound-item.is in
-    let low = node-within h.query h.tables h.join g.R.Rank.KEYS g.R.Rank.key c.args.raw.now shaped h.tree c.args.proof.now c.args.tops.now
+    let low = node_within h.query h.tables h.join g.R.Rank.KEYS g.R.Rank.key c.args.raw.now shaped h.tree c.args.proof.now c.args.tops.now
     h.ranks h.placed c.loop-line.line c.bound-item.result inside is in
-    let node = node-read h.query h.tables h.join g.R.Rank.KEYS g.R.Rank.key c.args.raw.now shaped h.tree c.args.proof.now c.args.tops.now
+    let node = node_read h.query h.tables h.join g.R.Rank.KEYS g.R.Rank.key c.args.raw.now shaped h.tree c.args.proof.now c.args.tops.now
     h.ranks h.placed c.loop-line.line c.bound-item.result inside is in
     let read = list_read c.loop-line.groups.items (c.bound-item.result.node - 1) c.index_mut.result.now
     (omega (arith, low, c.loop-line.invariant.each_node)) c.index_mut.ensures.value in
@@ -106,7 +106,7 @@ loop-line-preserved g c =
     subst (λ xs. AreLineGroups c.args.raw.now (seen_proof c.args.proof.now) c.args.tops.now (c.loop-line.line + 1)
     (set c.loop-line.groups.items (c.bound-item.result.node - 1) xs))
     (ap (λ xs. xs ++ (c.group_link-link.result ∷ [])) read ∙ sym (c.in-Ok-true.ensures.added c.in-Ok-true.field-0-test))
-    (groups-more h.query h.tables h.join g.R.Rank.KEYS g.R.Rank.key c.args.raw.now shaped h.tree (seen_proof c.args.proof.now)
+    (groups_more h.query h.tables h.join g.R.Rank.KEYS g.R.Rank.key c.args.raw.now shaped h.tree (seen_proof c.args.proof.now)
     (length c.args.proof.now.bounds.items) c.args.tops.now h.ranks h.placed c.loop-line.line (omega (arith, inside))
     c.loop-line.groups.items c.loop-line.invariant (c.bound-item.result.node - 1) c.group_link-link.result low inside node
     c.group_link-link.ensures

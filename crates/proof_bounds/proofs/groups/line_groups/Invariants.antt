@@ -1,4 +1,4 @@
-use Rattle.proof_text.specs.Seen.{seen_proof}
+use Rattle.proof_text.specs.ProofView.{seen_proof}
 use Rattle.proof_bounds.specs.Lines.{AreLineGroups}
 use Rattle.proof_bounds.proofs.groups.line_groups.Given as goal
 

@@ -2,14 +2,14 @@ use Rattle.std.proofs.Common.{◌≡◌, ◌+◌, ◌-◌, ◌<◌, ◌++◌, �
 use Rattle.std.proofs.Math.ListN.{length-set, set}
 use Rattle.std.proofs.lemmas.List.{length-map}
 use Rattle.proof_text.specs.Certificate.{BoundLine}
-use Rattle.proof_text.specs.Seen.{seen_proof}
+use Rattle.proof_text.specs.ProofView.{seen_proof}
 use Rattle.proof_text.specs.declared.fault.ProofFault.TheVariants as fault
 use Rattle.proof_model.specs.QueryProblem.{problem_in}
 use Rattle.proof_model.specs.Valid.{bound_at}
 use Rattle.proof_bounds.specs.Lines.{ArePlacedLines, line_node}
 use Rattle.proof_bounds.specs.Places.{ArePlacesOf}
-use Rattle.proof_bounds.proofs.LineFaults.{first-bad, line-is, line-number, lines-placed, none-read}
-use Rattle.proof_bounds.proofs.Pushed.{part-more}
+use Rattle.proof_bounds.proofs.LineFaults.{first_bad, line_is, line_number, lines_placed, none_read}
+use Rattle.proof_bounds.proofs.Pushed.{part_more}
 use Rattle.proof_bounds.proofs.lines.placed_lines.Goals as goal
 
 pub loop-bound-init : goal.loop-bound-init
@@ -35,9 +35,9 @@ returns-in_default-clause-fault g c = λ query tables join few has.
     let p = c.loop-bound.invariant.placed query tables join few has in
     inr (
       c.loop-bound.bound-index,
-      ap (λ x. fault.BadBound x.line) (sym (line-is items c.loop-bound.bound-index c.bound-item.result none_at inside is)),
-      first-bad (problem_in query tables join) (seen_proof c.args.proof.now) query.limit c.loop-bound.bound-index p.solutions
-          (none-read query tables join c.args.proof.now c.loop-bound.bound-index c.bound-item.result inside is
+      ap (λ x. fault.BadBound x.line) (sym (line_is items c.loop-bound.bound-index c.bound-item.result none_at inside is)),
+      first_bad (problem_in query tables join) (seen_proof c.args.proof.now) query.limit c.loop-bound.bound-index p.solutions
+          (none_read query tables join c.args.proof.now c.loop-bound.bound-index c.bound-item.result inside is
           (c.in_default.ensures query tables join has)),
     )
 
@@ -82,7 +82,7 @@ loop-bound-preserved g c =
     let old = c.index_mut-of_node.result.now in
     let s0 = c.in-Some.ensures c.requires.query c.requires.tables c.requires.join c.requires.tree in
     let room : c.bound-item.result.node - 1 < length bounds = omega (arith, s0.1, s0.2, c.loop-bound.invariant.each_node) in
-    let ranks = part-more (λ b. b.ranks.items) bounds (c.bound-item.result.node - 1) old
+    let ranks = part_more (λ b. b.ranks.items) bounds (c.bound-item.result.node - 1) old
     (record old { ranks = c.push-in-loop-bound.new.self }) c.rank_of_places-rank.result room c.index_mut-of_node.ensures.value
     c.in_ok-push-2.ensures.items in
     record {
@@ -98,8 +98,8 @@ loop-bound-preserved g c =
           let is = subst (λ xs. c.bound-item.result ≡ get_or xs c.loop-bound.bound-index c.bound-item.result) value c.bound-item.is in
           let s = c.in-Some.ensures query tables join has in
           let same : s.0 ≡ c.bound-item.result.node - 1 = omega (arith, s.2) in
-          let read = line-is items c.loop-bound.bound-index c.bound-item.result none_at inside is in
-          let number = line-number items c.loop-bound.bound-index c.bound-item.result none_at inside is in
+          let read = line_is items c.loop-bound.bound-index c.bound-item.result none_at inside is in
+          let number = line_number items c.loop-bound.bound-index c.bound-item.result none_at inside is in
           let here : line_node (seen_proof c.args.proof.now) c.loop-bound.bound-index ≡ suc (c.bound-item.result.node - 1) =
           omega (arith, number, s.2) in
           let placed = subst (λ rows. ArePlacesOf query tables join c.args.raw.now (c.bound-item.result.node - 1) rows c.in-Some.places)
@@ -116,7 +116,7 @@ loop-bound-preserved g c =
           (subst (λ lists. ArePlacedLines query tables join g.R.Rank.KEYS g.R.Rank.key c.args.raw.now (seen_proof c.args.proof.now)
           (c.loop-bound.bound-index + 1) (c.loop-bound.tops.items ++ (get_or c.in-Some.places (c.bound-item.result.node - 1) 0 ∷ [])) lists)
           (sym ranks)
-          (lines-placed query tables join g.R.Rank.KEYS g.R.Rank.key c.args.raw.now shaped has (seen_proof c.args.proof.now)
+          (lines_placed query tables join g.R.Rank.KEYS g.R.Rank.key c.args.raw.now shaped has (seen_proof c.args.proof.now)
           c.loop-bound.bound-index c.loop-bound.tops.items (map (λ b. b.ranks.items) bounds) p (c.bound-item.result.node - 1)
           c.rank_of_places-rank.result c.in-Some.places low here placed rank));
     }

@@ -2,8 +2,8 @@ use Rattle.std.proofs.Common.{◌≡◌, ◌≤◌, List, length, map}
 use Rattle.anyk_model.specs.Table.{Table}
 use Rattle.anyk_model.specs.Query.{Query}
 use Rattle.join_tree.specs.declared.tree.JoinTree.{JoinTree}
-use Rattle.proof_text.specs.Seen.{seen_proof}
-use Rattle.proof_bounds.specs.Bounded.{HasProblemRows}
+use Rattle.proof_text.specs.ProofView.{seen_proof}
+use Rattle.proof_bounds.specs.BoundedRows.{HasProblemRows}
 use Rattle.proof_bounds.specs.Lines.{ArePlacedLines}
 use Rattle.proof_bounds.proofs.lines.placed_lines.Given as goal
 

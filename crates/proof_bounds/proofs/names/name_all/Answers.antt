@@ -3,13 +3,13 @@ use Rattle.std.proofs.Math.ListN.{length-set, set}
 use Rattle.std.proofs.lemmas.Bool.{cases_eq}
 use Rattle.tdp_core.proofs.RawReads.{list_read}
 use Rattle.proof_bounds.specs.Lines.{AreNamed}
-use Rattle.proof_bounds.proofs.Pushed.{new-part, old-part, same-part}
+use Rattle.proof_bounds.proofs.Pushed.{new_part, old_part, same_part}
 use Rattle.proof_bounds.proofs.names.name_all.Goals as goal
 
 pub returns-in_err-name_groups-clause-ranks : goal.returns-in_err-name_groups-clause-ranks
 returns-in_err-name_groups-clause-ranks g c =
     let inside : c.loop-node.node < length c.loop-node.bounds = omega (arith, c.nodes-node-end.ensures.count, c.loop-node.invariant.each_node) in
-    same-part (λ b. b.ranks.items) c.loop-node.bounds c.loop-node.node c.index-bounds-node.result c.name_groups.new.bounds inside
+    same_part (λ b. b.ranks.items) c.loop-node.bounds c.loop-node.node c.index-bounds-node.result c.name_groups.new.bounds inside
     (ap (λ r. r.items) c.name_groups.ensures.ranks)
     ∙ c.loop-node.invariant.ranks
 
@@ -30,19 +30,19 @@ loop-node-preserved g c =
             (get_or (map (λ b. b.named.items) (set c.loop-node.bounds node new)) node [])) (sym groups)
             (subst (λ xs. AreNamed c.args.raw.now c.index-groups-node.result node xs
             (get_or (map (λ b. b.named.items) (set c.loop-node.bounds node new)) node []))
-            (sym (new-part (λ b. b.own.items) c.loop-node.bounds node new [] inside))
+            (sym (new_part (λ b. b.own.items) c.loop-node.bounds node new [] inside))
             (subst (λ xs. AreNamed c.args.raw.now c.index-groups-node.result node new.own.items xs)
-            (sym (new-part (λ b. b.named.items) c.loop-node.bounds node new [] inside)) c.in_ok-name_groups.ensures.named)))
+            (sym (new_part (λ b. b.named.items) c.loop-node.bounds node new [] inside)) c.in_ok-name_groups.ensures.named)))
         | inr e ↦
             subst (λ xs. AreNamed c.args.raw.now (get_or c.args.groups.now v []) v xs
             (get_or (map (λ b. b.named.items) (set c.loop-node.bounds node new)) v []))
-            (sym (old-part (λ b. b.own.items) c.loop-node.bounds node v new [] e))
+            (sym (old_part (λ b. b.own.items) c.loop-node.bounds node v new [] e))
             (subst (λ xs. AreNamed c.args.raw.now (get_or c.args.groups.now v []) v
             (get_or (map (λ b. b.own.items) c.loop-node.bounds) v []) xs)
-            (sym (old-part (λ b. b.named.items) c.loop-node.bounds node v new [] e))
+            (sym (old_part (λ b. b.named.items) c.loop-node.bounds node v new [] e))
             (c.loop-node.invariant.named v (omega (arith, l, e))))
       ];
-      ranks = same-part (λ b. b.ranks.items) c.loop-node.bounds node c.index-bounds-node.result new inside
+      ranks = same_part (λ b. b.ranks.items) c.loop-node.bounds node c.index-bounds-node.result new inside
           (ap (λ r. r.items) c.name_groups.ensures.ranks)
           ∙ c.loop-node.invariant.ranks;
     }

@@ -1,7 +1,7 @@
 use Rattle.std.proofs.Common.{◌≡◌, ◌+◌, ◌∷◌, [], None, nat_eq, position, length, get_or, ap, ◌∙◌, length-append}
 use Rattle.tdp_core.specs.RawData.{child_link, shape_parent}
 use Rattle.proof_bounds.specs.Lines.{named_link}
-use Rattle.proof_bounds.proofs.Pushed.{pushed-more}
+use Rattle.proof_bounds.proofs.Pushed.{pushed_more}
 use Rattle.proof_bounds.proofs.names.named_numbers.Goals as goal
 
 pub loop-row-preserved : goal.loop-row-preserved
@@ -15,7 +15,7 @@ loop-row-preserved g c =
           ∙ ap (λ n. n + 1) c.loop-row.invariant.count;
       numbers = λ r l.
           ap (λ xs. get_or xs r None) c.in_ok-push.ensures.items
-          ∙ pushed-more c.loop-row.named.items c.group_number.result None
+          ∙ pushed_more c.loop-row.named.items c.group_number.result None
           (λ r. position (nat_eq (named_link c.args.raw.now c.args.node r)) c.args.groups.now) c.loop-row.row c.loop-row.invariant.count
           c.loop-row.invariant.numbers
           (c.group_number.ensures ∙ ap (λ x. position (nat_eq x) c.args.groups.now) link) r l;

@@ -5,21 +5,21 @@ use Rattle.proof_model.specs.Problem.{IsSolutionAt}
 use Rattle.proof_model.specs.QueryProblem.{problem_in}
 use Rattle.proof_bounds.specs.Places.{ArePlacesOf}
 use Rattle.proof_bounds.specs.Subtrees.{ArePlacedBefore, HasLinkOf, raw_below}
-use Rattle.proof_bounds.proofs.Placing.{placed-none}
-use Rattle.proof_bounds.proofs.Solutions.{found, in-nodes, must-link, size-of, whole}
-use Rattle.proof_bounds.proofs.Subtrees.{below-up, parents-first}
+use Rattle.proof_bounds.proofs.Placing.{placed_none}
+use Rattle.proof_bounds.proofs.Solutions.{found, in_nodes, must_link, size_of, whole}
+use Rattle.proof_bounds.proofs.Subtrees.{below_up, parents_first_lem}
 use Rattle.proof_bounds.proofs.places.solution_places.Goals as goal
 
 pub returns-then-rows-size : goal.returns-then-rows-size
 returns-then-rows-size g c = λ query tables join has s.
     c.if-rows-size.true
-    (size-of query tables join g.R.Rank.KEYS g.R.Rank.key c.args.raw.now c.nodes-nodes.ensures.formed.shaped has c.args.node
+    (size_of query tables join g.R.Rank.KEYS g.R.Rank.key c.args.raw.now c.nodes-nodes.ensures.formed.shaped has c.args.node
     c.args.rows.now s ∙ sym (c.size.ensures c.args.node c.requires c.subtree-below.ensures))
 
 pub loop-at-init : goal.loop-at-init
 loop-at-init g c = record {
   long = refl;
-  placed = placed-none c.args.raw.now c.nodes-nodes.ensures.formed.shaped c.args.node c.args.rows.now c.requires;
+  placed = placed_none c.args.raw.now c.nodes-nodes.ensures.formed.shaped c.args.node c.args.rows.now c.requires;
 }
 
 pub returns-in_err-place : goal.returns-in_err-place
@@ -34,7 +34,7 @@ returns-in_err-place g c = λ query tables join has.
     let row = found query tables join g.R.Rank.KEYS g.R.Rank.key c.args.raw.now shaped has c.args.node c.args.rows.now s c.loop-at.at
     inside some in
     c.in_err-place.ensures.absent
-    (has.ascending c.loop-at.at (in-nodes query tables join g.R.Rank.KEYS g.R.Rank.key c.args.raw.now shaped has c.loop-at.at inside))
+    (has.ascending c.loop-at.at (in_nodes query tables join g.R.Rank.KEYS g.R.Rank.key c.args.raw.now shaped has c.loop-at.at inside))
     row.0 row.1
     (row.2 ∙ ap (λ i. get_or c.args.rows.now i 0) (sym (c.item_place.ensures.place c.args.node c.requires c.subtree-below.ensures))))
 
@@ -43,25 +43,25 @@ is_linked-requires-clause-above g c =
     let shaped = c.nodes-nodes.ensures.formed.shaped in
     let inside : c.loop-at.at < length c.args.raw.now.shapes = omega (arith, c.nodes-nodes.ensures.count) in
     let up = ap (λ s. s.parent) c.shape.ensures in
-    let low = parents-first c.args.raw.now shaped c.loop-at.at (omega arith) inside in
+    let low = parents_first_lem c.args.raw.now shaped c.loop-at.at (omega arith) inside in
     let below = c.subtree-below.ensures c.loop-at.at inside in
     let some : 0 < raw_below c.args.raw.now c.args.node c.loop-at.at = omega (arith, below, c.if-below-at-eq0.false) in
     subst (λ p. get_or c.loop-at.places p 0 < raw_len c.args.raw.now (shape_parent c.args.raw.now.shapes c.loop-at.at)) (sym up)
     (c.loop-at.invariant.placed.within (shape_parent c.args.raw.now.shapes c.loop-at.at) low
-    (below-up c.args.raw.now shaped c.args.node c.loop-at.at c.if-at-node.true inside some))
+    (below_up c.args.raw.now shaped c.args.node c.loop-at.at c.if-at-node.true inside some))
 
 pub returns-then-not-is_linked : goal.returns-then-not-is_linked
 returns-then-not-is_linked g c = λ query tables join has s.
     let shaped = c.nodes-nodes.ensures.formed.shaped in
     let inside : c.loop-at.at < length c.args.raw.now.shapes = omega (arith, c.nodes-nodes.ensures.count) in
     let up = ap (λ s. s.parent) c.shape.ensures in
-    let low = parents-first c.args.raw.now shaped c.loop-at.at (omega arith) inside in
+    let low = parents_first_lem c.args.raw.now shaped c.loop-at.at (omega arith) inside in
     let below = c.subtree-below.ensures c.loop-at.at inside in
     let some : 0 < raw_below c.args.raw.now c.args.node c.loop-at.at = omega (arith, below, c.if-below-at-eq0.false) in
-    let upper = below-up c.args.raw.now shaped c.args.node c.loop-at.at c.if-at-node.true inside some in
+    let upper = below_up c.args.raw.now shaped c.args.node c.loop-at.at c.if-at-node.true inside some in
     let link : HasLinkOf c.args.raw.now c.loop-at.at
     (get_or c.loop-at.places (shape_parent c.args.raw.now.shapes c.loop-at.at) 0) c.in_ok-place.place =
-    must-link query tables join g.R.Rank.KEYS g.R.Rank.key c.args.raw.now shaped has c.args.node c.args.rows.now s c.loop-at.at
+    must_link query tables join g.R.Rank.KEYS g.R.Rank.key c.args.raw.now shaped has c.args.node c.args.rows.now s c.loop-at.at
     (get_or c.loop-at.places (shape_parent c.args.raw.now.shapes c.loop-at.at) 0) c.in_ok-place.place c.if-at-node.true inside some
     (c.loop-at.invariant.placed.within (shape_parent c.args.raw.now.shapes c.loop-at.at) low upper)
     (c.loop-at.invariant.placed.numbers (shape_parent c.args.raw.now.shapes c.loop-at.at) low upper)

@@ -1,7 +1,7 @@
 use Rattle.std.proofs.Common.{◌≡◌, ◌+◌, ◌-◌, ◌/◌, ◌<◌, ℕ, ap, ◌∙◌, inl, inr, arith}
 use Rattle.std.proofs.lemmas.Bool.{cases_lt}
 use Rattle.tdp_core.specs.RawData.{raw_len, raw_number}
-use Rattle.proof_bounds.proofs.Subtrees.{rows-ascend}
+use Rattle.proof_bounds.proofs.Subtrees.{rows_ascend}
 use Rattle.proof_bounds.proofs.searching.row_place.Goals as goal
 
 pub loop-low-preserved-then-number-row-2 : goal.loop-low-preserved-then-number-row-2
@@ -13,7 +13,7 @@ loop-low-preserved-then-number-row-2 g c =
       order = omega arith;
       most = c.loop-low.invariant.most;
       before = λ up i l. elim (cases_lt i middle) [
-        | inl h ↦ omega (arith, less, rows-ascend c.args.raw.now c.args.node i middle up h inside)
+        | inl h ↦ omega (arith, less, rows_ascend c.args.raw.now c.args.node i middle up h inside)
         | inr h ↦ let e : i ≡ middle = omega arith in omega (arith, less, ap (raw_number c.args.raw.now c.args.node) e)
       ];
       after = c.loop-low.invariant.after;
@@ -35,7 +35,7 @@ loop-low-preserved g c =
       most = omega (arith, inside);
       before = c.loop-low.invariant.before;
       after = λ up i l h. elim (cases_lt middle i) [
-        | inl b ↦ omega (arith, more, rows-ascend c.args.raw.now c.args.node middle i up b h)
+        | inl b ↦ omega (arith, more, rows_ascend c.args.raw.now c.args.node middle i up b h)
         | inr b ↦ let e : i ≡ middle = omega arith in omega (arith, more, ap (raw_number c.args.raw.now c.args.node) e)
       ];
     }

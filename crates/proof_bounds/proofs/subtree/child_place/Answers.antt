@@ -1,17 +1,17 @@
 use Rattle.std.proofs.Common.{◌≡◌, ◌≢◌, ◌+◌, ◌-◌, length, sym, ap, ◌∙◌, arith}
 use Rattle.tdp_core.specs.RawData.{shape_parent}
 use Rattle.tdp_core.specs.TreeData.{kids_below}
-use Rattle.tdp_core.proofs.Children.{kids_below-first, kids_below-child, kids_below-other, kids_below-most, child_place_within}
+use Rattle.tdp_core.proofs.Children.{kids_below_first, kids_below_child, kids_below_other, kids_below_most, child_place_within}
 use Rattle.proof_bounds.proofs.subtree.child_place.Goals as goal
 use Rattle.proof_bounds.proofs.subtree.child_place.Goals.{then-shape-parent, else-shape-parent}
 
 pub loop-other-init : goal.loop-other-init
 loop-other-init g c =
-    sym (kids_below-first (shape_parent c.args.raw.now.shapes) (shape_parent c.args.raw.now.shapes c.args.node))
+    sym (kids_below_first (shape_parent c.args.raw.now.shapes) (shape_parent c.args.raw.now.shapes c.args.node))
 
 pub overflow_add-place : goal.overflow_add-place
 overflow_add-place g c =
-    let most = kids_below-most (shape_parent c.args.raw.now.shapes) (shape_parent c.args.raw.now.shapes c.args.node) c.loop-other.other in
+    let most = kids_below_most (shape_parent c.args.raw.now.shapes) (shape_parent c.args.raw.now.shapes c.args.node) c.loop-other.other in
     omega (arith, most)
 
 pub loop-other-preserved : goal.loop-other-preserved
@@ -22,13 +22,13 @@ loop-other-preserved g c =
       | then-shape-parent w ↦
           let same : shape_parent c.args.raw.now.shapes c.loop-other.other ≡ shape_parent c.args.raw.now.shapes c.args.node =
           sym there ∙ w.if-shape-parent.true ∙ here in
-          let more = kids_below-child (shape_parent c.args.raw.now.shapes) (shape_parent c.args.raw.now.shapes c.args.node)
+          let more = kids_below_child (shape_parent c.args.raw.now.shapes) (shape_parent c.args.raw.now.shapes c.args.node)
           c.loop-other.other (omega arith) same in
           omega (arith, more)
       | else-shape-parent w ↦
           let other : shape_parent c.args.raw.now.shapes c.loop-other.other ≢ shape_parent c.args.raw.now.shapes c.args.node =
           λ e. w.if-shape-parent.false (there ∙ e ∙ sym here) in
-          let more = kids_below-other (shape_parent c.args.raw.now.shapes) (shape_parent c.args.raw.now.shapes c.args.node)
+          let more = kids_below_other (shape_parent c.args.raw.now.shapes) (shape_parent c.args.raw.now.shapes c.args.node)
           c.loop-other.other other in
           omega (arith, more)
     ]

@@ -2,13 +2,13 @@ use Rattle.std.proofs.Common.{◌≡◌, ◌+◌, ◌<◌, ℕ, length, replicat
 use Rattle.std.proofs.Math.ListN.{set, length-set}
 use Rattle.std.proofs.lemmas.List.{length-replicate}
 use Rattle.proof_bounds.specs.Subtrees.{raw_below}
-use Rattle.proof_bounds.proofs.Subtrees.{below-begun, below-more}
+use Rattle.proof_bounds.proofs.Subtrees.{below_begun, below_more}
 use Rattle.proof_bounds.proofs.subtree.subtree.Goals as goal
 
 pub loop-child-init : goal.loop-child-init
 loop-child-init g c = record {
   long = length-set (replicate 16 0) c.args.node 1 ∙ length-replicate {A = ℕ} 16 0;
-  below = below-begun c.args.raw.now c.nodes-nodes.ensures.formed.shaped c.args.node c.requires;
+  below = below_begun c.args.raw.now c.nodes-nodes.ensures.formed.shaped c.args.node c.requires;
 }
 
 pub loop-child-preserved : goal.loop-child-preserved
@@ -22,7 +22,7 @@ loop-child-preserved g c =
           → slice_index (set c.loop-child.below c.loop-child.child (get_or c.loop-child.below p 0)) q
           ≡ raw_below c.args.raw.now c.args.node q)
           (sym up)
-          (below-more c.args.raw.now c.nodes-nodes.ensures.formed.shaped c.args.node c.loop-child.child c.loop-child.below
+          (below_more c.args.raw.now c.nodes-nodes.ensures.formed.shaped c.args.node c.loop-child.child c.loop-child.below
           (omega arith) inside c.loop-child.invariant.long c.loop-child.invariant.below);
     }
 

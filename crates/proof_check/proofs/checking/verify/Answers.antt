@@ -9,22 +9,22 @@ use Rattle.std.specs.Prelude.{Ok}
 use Rattle.proof_text.specs.declared.fault.ProofFault.{ProofFault}
 use Rattle.proof_text.specs.declared.proof.Listed.{Listed}
 use Rattle.proof_text.specs.Certificate.{AnswerLine, Certificate}
-use Rattle.proof_text.specs.Seen.{seen_answer, seen_proof}
+use Rattle.proof_text.specs.ProofView.{seen_answer, seen_proof}
 use Rattle.proof_model.specs.Faults.{TellsFlaw}
 use Rattle.proof_model.specs.QueryProblem.{problem_in}
 use Rattle.proof_model.specs.Valid.{IsFirst, missed}
 use Rattle.proof_choices.specs.Choices.{IsMissed, TellsMissed}
-use Rattle.proof_check.specs.Checked.{item_rows, list_at}
-use Rattle.proof_check.proofs.Missing.{missed-first}
-use Rattle.proof_check.proofs.Rows.{rows-at, rows-seen, tree-size}
+use Rattle.proof_check.specs.RowLists.{item_rows, list_at}
+use Rattle.proof_check.proofs.Missing.{missed_first}
+use Rattle.proof_check.proofs.Rows.{rows_at, rows_seen, tree_size}
 use Rattle.proof_check.proofs.checking.verify.Goals as goal
 
 -- a missed answer is told as the first flaw
-told-first : (query : Query) (tables : List Table) (join : JoinTree) (c : Certificate) (shape : Shape)
+told_first : (query : Query) (tables : List Table) (join : JoinTree) (c : Certificate) (shape : Shape)
     → IsShape query tables (Ok shape) → (IsMissed query tables join c → IsFirst (problem_in query tables join) c query.limit missed)
     → (told : ProofFault) → TellsMissed query tables join c told → TellsFlaw query tables join c told
-told-first query tables join c shape is first told (inl e) = subst (TellsFlaw query tables join c) (sym e) tt
-told-first query tables join c shape is first told (inr e) =
+told_first query tables join c shape is first told (inl e) = subst (TellsFlaw query tables join c) (sym e) tt
+told_first query tables join c shape is first told (inr e) =
     subst (TellsFlaw query tables join c) (sym e.0) (shape, is, missed, refl, first e.1)
 
 pub rows_of-requires-clause-each : goal.rows_of-requires-clause-each
@@ -37,9 +37,9 @@ rows_of-requires-clause-each g c =
     let long : length join.atom ≡ 16 = omega arith in
     let some : 0 < join.count = let e = c.requires.count in let s = c.requires.fits.some in omega (arith, e, s) in
     let each : (i : ℕ) → i < length xs → length (list_at (map (λ a. a.rows.items) xs) i) ≡ join.count = λ i l.
-    ap length (rows-at xs i l)
+    ap length (rows_at xs i l)
     ∙ (placed.answers i (omega (arith, l, length-map xs seen_answer))).count
-    ∙ tree-size query tables join c.requires.ordered long some in
+    ∙ tree_size query tables join c.requires.ordered long some in
     subst (λ ys. (i : ℕ) → i < length ys → length (list_at (map (λ a. a.rows.items) ys) i) ≡ join.count)
     (sym c.deref.ensures.value) each
 
@@ -47,7 +47,7 @@ pub returns-in-Ok-clause-rows : goal.returns-in-Ok-clause-rows
 returns-in-Ok-clause-rows g c =
     let xs = c.args.proof.now.answers.items in
     let same : map (λ (a : Listed). a.rows.items) c.deref.result.now ≡ map (λ (a : AnswerLine). a.rows) (map seen_answer xs) =
-    ap (map (λ (a : Listed). a.rows.items)) c.deref.ensures.value ∙ sym (rows-seen xs) in
+    ap (map (λ (a : Listed). a.rows.items)) c.deref.ensures.value ∙ sym (rows_seen xs) in
     IfOk-weaker c.rows_of.result
     (λ found. map (take c.args.join.now.count) found.items ≡ map (λ (a : Listed). a.rows.items) c.deref.result.now)
     (λ found. item_rows c.args.query.now.query found.items ≡ map (λ (a : AnswerLine). a.rows) (map seen_answer xs))
@@ -61,6 +61,6 @@ returns-clause-fault g c =
     let cert = seen_proof c.args.proof.now in
     let bounded = c.in_ok-tree.ensures.bounded in
     let placed = c.in_ok-answers.ensures.placed in
-    told-first query tables join cert bounded.shape bounded.is_shape
-    (missed-first (problem_in query tables join) cert query.limit bounded.solutions bounded.apart placed.covered placed.answers
+    told_first query tables join cert bounded.shape bounded.is_shape
+    (missed_first (problem_in query tables join) cert query.limit bounded.solutions bounded.apart placed.covered placed.answers
     placed.ascending placed.limited) c.in-Err.fault c.in-Err.ensures.fault

@@ -8,9 +8,9 @@ use Rattle.tdp_model.proofs.Sums.{sum_last}
 use Rattle.rank_key.specs.Keys.{KeyFits}
 use Rattle.tdp_core.specs.RawData.{IsRawFormed}
 use Rattle.proof_model.specs.QueryProblem.{problem_in}
-use Rattle.proof_answers.proofs.Nodes.{all-nodes}
+use Rattle.proof_answers.proofs.Nodes.{all_nodes}
 use Rattle.proof_choices.specs.Levels.{IsBase, base_part}
-use Rattle.proof_choices.proofs.Known.{part_key, sum-fits}
+use Rattle.proof_choices.proofs.Known.{part_key, sum_fits}
 use Rattle.proof_choices.proofs.branches.base_of.Goals as goal
 
 pub loop-at-init : goal.loop-at-init
@@ -56,7 +56,7 @@ join-base-requires g c =
     let is : key c.in_ok-part.part ≡ part at = ap (λ z. unwrap_or z (key_none d 16)) here in
     let long = c.requires.long in
     let node : c.args.node < t.nodes =
-    omega (arith, all-nodes b.query b.tables join c.requires.ordered long, c.requires.node) in
+    omega (arith, all_nodes b.query b.tables join c.requires.ordered long, c.requires.node) in
     let l : at < t.nodes =
     omega (arith, c.loop-at-test.true, c.nodes-at-end.ensures.count, ap (λ z. length z.raw.shapes) c.tree.view_is, b.bounded.rows.nodes) in
     let formed : IsRawFormed d key tree.raw =
@@ -67,7 +67,7 @@ join-base-requires g c =
           let e : q ≡ at = omega (arith, h, far) in
           subst (λ z. base z ≡ Some (part z)) (sym e) (sym here ∙ ap Some is)
     ] in
-    let fits = sum-fits b.query b.tables join d key b.c tree b.few b.bounded c.requires.ordered long c.args.node node
+    let fits = sum_fits b.query b.tables join d key b.c tree b.few b.bounded c.requires.ordered long c.args.node node
     c.args.start.now c.requires.rows part (suc at) (omega (arith, l)) parts formed in
     let whole : sum_from (key_add d 16) (key_none d 16) part (suc at) 0
     ≡ key_add d 16 (key c.loop-at.base) (key c.in_ok-part.part) =
@@ -89,7 +89,7 @@ returns g c =
       arith,
       end,
       c.loop-at-test.false,
-      all-nodes b.query b.tables join c.requires.ordered long,
+      all_nodes b.query b.tables join c.requires.ordered long,
       c.nodes-at-end.ensures.count,
       ap (λ z. length z.raw.shapes) c.tree.view_is,
       b.bounded.rows.nodes,
@@ -108,7 +108,7 @@ returns-in_err-part g c =
     let l : c.loop-at.at < join.count =
     omega (
       arith,
-      all-nodes b.query b.tables join c.requires.ordered long,
+      all_nodes b.query b.tables join c.requires.ordered long,
       c.loop-at-test.true,
       c.nodes-at-end.ensures.count,
       ap (λ z. length z.raw.shapes) c.tree.view_is,

@@ -1,7 +1,7 @@
 use Rattle.std.proofs.Common.{◌≡◌, ◌<◌, length, slice_index, subst, sym, arith}
 use Rattle.tdp_core.specs.RawData.{raw_len}
 use Rattle.proof_model.specs.QueryProblem.{problem_in}
-use Rattle.proof_answers.proofs.Nodes.{all-nodes, parent-at}
+use Rattle.proof_answers.proofs.Nodes.{all_nodes, parent_at}
 use Rattle.proof_choices.proofs.branches.base_part.Goals as goal
 
 pub named_rank-requires-clause-each : goal.named_rank-requires-clause-each
@@ -11,8 +11,8 @@ named_rank-requires-clause-each g c number named =
     let q = c.args.at in
     let t = problem_in b.query b.tables join in
     let long : length join.atom ≡ 16 = omega arith in
-    let l : q < t.nodes = omega (arith, all-nodes b.query b.tables join c.requires.ordered long, c.requires.at) in
-    let up = parent-at b.query b.tables join c.requires.ordered long q l in
+    let l : q < t.nodes = omega (arith, all_nodes b.query b.tables join c.requires.ordered long, c.requires.at) in
+    let up = parent_at b.query b.tables join c.requires.ordered long q l in
     let row : slice_index c.args.start.now (slice_index join.parent q) < raw_len c.args.tree.now.raw (t.parent q) =
     subst (λ u. slice_index c.args.start.now (slice_index join.parent q) < raw_len c.args.tree.now.raw u) (sym up)
     (c.requires.rows (slice_index join.parent q) c.if-above-node.false) in

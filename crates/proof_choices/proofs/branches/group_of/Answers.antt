@@ -3,9 +3,9 @@ use Rattle.std.specs.Option.{MatchOption}
 use Rattle.join_tree.specs.declared.tree.JoinTree.{JoinTree}
 use Rattle.tdp_model.specs.KeyTuple.{KeyOf}
 use Rattle.tdp_core.specs.RawData.{raw_len}
-use Rattle.proof_bounds.specs.Bounded.{BoundedData, bound_ranks, named_bound}
+use Rattle.proof_bounds.specs.BoundedRows.{BoundedData, bound_ranks, named_bound}
 use Rattle.proof_model.specs.QueryProblem.{problem_in}
-use Rattle.proof_answers.proofs.Nodes.{all-nodes, parent-at}
+use Rattle.proof_answers.proofs.Nodes.{all_nodes, parent_at}
 use Rattle.proof_choices.specs.Levels.{IsGroupOf}
 use Rattle.proof_choices.proofs.branches.group_of.Goals as goal
 
@@ -16,9 +16,9 @@ named_number-requires g c =
     let q = c.args.node in
     let t = problem_in b.query b.tables join in
     let long : length join.atom ≡ 16 = omega arith in
-    let l : q < t.nodes = omega (arith, all-nodes b.query b.tables join c.requires.ordered long, c.requires.node) in
+    let l : q < t.nodes = omega (arith, all_nodes b.query b.tables join c.requires.ordered long, c.requires.node) in
     let some : 0 < q = let x = c.if-node-eq0.false in omega (arith, x) in
-    let up = parent-at b.query b.tables join c.requires.ordered long q l in
+    let up = parent_at b.query b.tables join c.requires.ordered long q l in
     let row : slice_index c.args.start.now (slice_index join.parent q) < raw_len c.args.tree.now.raw (t.parent q) =
     subst (λ u. slice_index c.args.start.now (slice_index join.parent q) < raw_len c.args.tree.now.raw u) (sym up)
     (c.requires.rows (slice_index join.parent q) (c.requires.ordered.earlier q some c.requires.node)) in
@@ -36,9 +36,9 @@ returns g c =
     let q = c.args.node in
     let t = problem_in b.query b.tables join in
     let long : length join.atom ≡ 16 = omega arith in
-    let l : q < t.nodes = omega (arith, all-nodes b.query b.tables join c.requires.ordered long, c.requires.node) in
+    let l : q < t.nodes = omega (arith, all_nodes b.query b.tables join c.requires.ordered long, c.requires.node) in
     let some : 0 < q = let x = c.if-node-eq0.false in omega (arith, x) in
-    let up = parent-at b.query b.tables join c.requires.ordered long q l in
+    let up = parent_at b.query b.tables join c.requires.ordered long q l in
     let above : ℕ = slice_index c.args.start.now (slice_index join.parent q) in
     let row : above < raw_len tree.raw (t.parent q) =
     subst (λ u. above < raw_len tree.raw u) (sym up)

@@ -2,9 +2,9 @@ use Rattle.std.proofs.Common.{◌≡◌, ◌<◌, ℕ, option_map, length, slice
 use Rattle.std.proofs.lemmas.Bool.{cases_lt}
 use Rattle.tdp_model.specs.KeyTuple.{KeyOf}
 use Rattle.tdp_core.specs.RawData.{raw_len}
-use Rattle.proof_answers.proofs.Nodes.{all-nodes}
+use Rattle.proof_answers.proofs.Nodes.{all_nodes}
 use Rattle.proof_choices.specs.Levels.{IsPassedAt, IsPast, IsWay, list_at}
-use Rattle.proof_choices.proofs.Preparing.{start-rows}
+use Rattle.proof_choices.proofs.Preparing.{start_rows}
 use Rattle.proof_choices.proofs.choices.all_leave_after.Goals as goal
 
 pub leaves_after-requires-clause-rows : goal.leaves_after-requires-clause-rows
@@ -19,11 +19,11 @@ leaves_after-requires-clause-rows g c n q l h =
       c.nodes-node-end.ensures.count,
       ap (λ z. length z.raw.shapes) c.tree.view_is,
       b.bounded.rows.nodes,
-      all-nodes b.query b.tables join c.requires.ordered long,
+      all_nodes b.query b.tables join c.requires.ordered long,
     ) in
     let value = c.deref.ensures.value in
     subst (λ xs. slice_index (list_at xs n) q < raw_len c.args.tree.now.raw q) (sym value)
-    (start-rows (raw_len c.args.tree.now.raw) join.count c.loop-node.node c.args.places.now c.loop-node.prefixes.numbers.items
+    (start_rows (raw_len c.args.tree.now.raw) join.count c.loop-node.node c.args.places.now c.loop-node.prefixes.numbers.items
     c.loop-node.prefixes.starts.items node c.requires.within c.loop-node.invariant.prefixes n q
     (subst (λ xs. n < length xs) value l) h)
 
@@ -41,7 +41,7 @@ returns-then-not-good-clause-missed g c _ =
         c.nodes-node-end.ensures.count,
         ap (λ z. length z.raw.shapes) c.tree.view_is,
         b.bounded.rows.nodes,
-        all-nodes b.query b.tables join c.requires.ordered long,
+        all_nodes b.query b.tables join c.requires.ordered long,
       );
       numbers = c.loop-node.prefixes.numbers.items;
       starts = c.loop-node.prefixes.starts.items;
@@ -92,5 +92,5 @@ returns-clause-passed g c _ p l =
       c.nodes-node-end.ensures.count,
       ap (λ z. length z.raw.shapes) c.tree.view_is,
       b.bounded.rows.nodes,
-      all-nodes b.query b.tables join c.requires.ordered long,
+      all_nodes b.query b.tables join c.requires.ordered long,
     ))

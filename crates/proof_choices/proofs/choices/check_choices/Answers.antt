@@ -1,9 +1,9 @@
 use Rattle.std.proofs.Common.{◌≡◌, not, option_map, length, refl, sym, ap, subst, ◌∙◌}
 use Rattle.std.proofs.Common.{inl, inr}
 use Rattle.std.proofs.lemmas.Bool.{false≢true}
-use Rattle.proof_text.specs.Seen.{seen_proof}
+use Rattle.proof_text.specs.ProofView.{seen_proof}
 use Rattle.proof_choices.specs.Levels.{IsMissedAt, IsPassedAt}
-use Rattle.proof_choices.proofs.Passing.{IsLimit, all-passed, is-missed, limit-from}
+use Rattle.proof_choices.proofs.Passing.{IsLimit, all_passed, is_missed, limit_from}
 use Rattle.proof_choices.proofs.choices.check_choices.Goals as goal
 use Rattle.proof_choices.proofs.choices.check_choices.Goals.{then-proof, else-proof}
 use Rattle.proof_choices.proofs.choices.check_choices.Goals.{else-not-proof-via-then-not-proof+else-is_none}
@@ -24,14 +24,14 @@ returns-in-Ok-true-clause-passed g c =
       | then-proof w ↦ inl (w.if-proof.true, ap (option_map key) w.last-is)
       | else-proof w ↦ elim c.else-not-proof.branch [
         | else-not-proof-via-then-not-proof+else-is_none v ↦
-            limit-from query tables join d key cert tree c.requires.keys c.requires.bounded c.requires.ordered long
+            limit_from query tables join d key cert tree c.requires.keys c.requires.bounded c.requires.ordered long
             c.args.answers.now.places.items c.requires.placed c.args.answers.now.last c.requires.last
             (v.is_none.ensures ∙ ap not v.if-is_none.false) w.if-proof.false (option_map key c.if-proof.last)
             (ap (option_map key) w.last-is)
         | else-not-proof-via-else-not-proof v ↦ absurd (false≢true (sym w.if-proof.false ∙ v.if-not-proof.false))
       ]
     ] in
-    all-passed query tables join d key cert tree c.requires.keys c.requires.bounded c.requires.ordered long
+    all_passed query tables join d key cert tree c.requires.keys c.requires.bounded c.requires.ordered long
     c.args.answers.now.places.items c.requires.placed (option_map key c.if-proof.last) limit
     (λ p l. subst (λ xs. IsPassedAt join tree d key xs (option_map key c.if-proof.last) p) c.deref.ensures.value
     (c.in-Ok-true.ensures.passed c.in-Ok-true.field-0-test p l))
@@ -51,7 +51,7 @@ returns-in-Ok-false-clause-fault g c =
       | then-proof w ↦ inl (w.if-proof.true, ap (option_map key) w.last-is)
       | else-proof w ↦ elim c.else-not-proof.branch [
         | else-not-proof-via-then-not-proof+else-is_none v ↦
-            limit-from query tables join d key cert tree c.requires.keys c.requires.bounded c.requires.ordered long
+            limit_from query tables join d key cert tree c.requires.keys c.requires.bounded c.requires.ordered long
             c.args.answers.now.places.items c.requires.placed c.args.answers.now.last c.requires.last
             (v.is_none.ensures ∙ ap not v.if-is_none.false) w.if-proof.false (option_map key c.if-proof.last)
             (ap (option_map key) w.last-is)
@@ -60,7 +60,7 @@ returns-in-Ok-false-clause-fault g c =
     ] in
     inr (
       refl,
-      is-missed query tables join d key cert tree c.requires.keys c.requires.bounded c.requires.ordered long
+      is_missed query tables join d key cert tree c.requires.keys c.requires.bounded c.requires.ordered long
           c.args.answers.now.places.items c.requires.placed (option_map key c.if-proof.last) limit
           (subst (λ xs. IsMissedAt join tree d key xs (option_map key c.if-proof.last)) c.deref.ensures.value
           (c.in-Ok-false.ensures.missed c.in-Ok-false.field-0-test)),

@@ -2,13 +2,13 @@ use Rattle.std.proofs.Common.{◌≡◌, ◌<◌, None, Some, [], length, map, o
 use Rattle.std.proofs.Common.{ap, subst, ◌∙◌, arith}
 use Rattle.std.proofs.lemmas.List.{get_or-map, get_or_default, length-map}
 use Rattle.proof_choices.specs.Levels.{AreOffers, FitsGroup, is_past, list_at}
-use Rattle.proof_choices.proofs.Known.{in-some}
-use Rattle.proof_choices.proofs.Walking.{left-before, left-first, left-none, list-asked, lists-more, offer-is, row-fits, row-in}
+use Rattle.proof_choices.proofs.Known.{in_some}
+use Rattle.proof_choices.proofs.Walking.{left_before, left_first, left_none, list_asked, lists_more, offer_is, row_fits, row_in}
 use Rattle.proof_choices.proofs.leaving.branch_leaves_after.Goals as goal
 
 pub fill-requires-clause-rows : goal.fill-requires-clause-rows
 fill-requires-clause-rows g c m l =
-    (row-in c.args.join.now c.args.tree.now g.R.Rank.KEYS g.R.Rank.key c.requires.bounded c.requires.ordered c.requires.long
+    (row_in c.args.join.now c.args.tree.now g.R.Rank.KEYS g.R.Rank.key c.requires.bounded c.requires.ordered c.requires.long
     c.args.node c.requires.node (length c.args.least.now) c.args.groups.now c.requires.groups c.args.branch.group m
     c.requires.branch.within l).0
 
@@ -18,11 +18,11 @@ fill-requires-clause-fits g c =
     let key = g.R.Rank.key in
     let is : slice_index_or c.args.least.now c.args.branch.group None ≡ Some c.in-Some.known =
     get_or_default c.args.least.now c.args.branch.group None _ c.requires.branch.within ∙ c.in-Some.is in
-    row-fits c.args.join.now c.args.tree.now d key c.requires.bounded c.requires.ordered c.requires.long
+    row_fits c.args.join.now c.args.tree.now d key c.requires.bounded c.requires.ordered c.requires.long
     c.args.node c.requires.node (length c.args.least.now) c.args.groups.now c.requires.groups c.args.branch.group
     (key c.in-Some.known) c.requires.branch.within
     (subst (λ k. FitsGroup c.args.join.now c.args.tree.now d key c.args.node c.args.branch.group (key k))
-    (in-some c.requires.branch.known c.in-Some.known (sym c.requires.branch.is_known ∙ is)) c.requires.branch.fits_known)
+    (in_some c.requires.branch.known c.in-Some.known (sym c.requires.branch.is_known ∙ is)) c.requires.branch.fits_known)
 
 pub fill-requires-clause-list : goal.fill-requires-clause-list
 fill-requires-clause-list g c =
@@ -30,7 +30,7 @@ fill-requires-clause-list g c =
     let key = g.R.Rank.key in
     let is : slice_index_or c.args.least.now c.args.branch.group None ≡ Some c.in-Some.known =
     get_or_default c.args.least.now c.args.branch.group None _ c.requires.branch.within ∙ c.in-Some.is in
-    list-asked c.args.join.now c.args.tree.now d key c.requires.bounded c.requires.ordered c.requires.long c.args.node
+    list_asked c.args.join.now c.args.tree.now d key c.requires.bounded c.requires.ordered c.requires.long c.args.node
     c.requires.node (option_map key c.args.last.now) c.args.groups.now c.args.least.now _ c.args.branch.group c.in-Some.known
     c.requires.lists c.requires.branch.within is
 
@@ -50,7 +50,7 @@ join-rank-requires g c =
     let are = subst (AreOffers c.args.join.now c.args.tree.now d key c.args.node (list_at c.args.groups.now b.group)
     (key c.in-Some.known) (option_map key c.args.last.now)) same c.in_ok-fill.ensures.list in
     let found = c.in-Some-first_open.ensures.found in
-    let this = offer-is c.args.join.now c.args.tree.now d key c.requires.bounded c.requires.ordered c.requires.long c.args.node
+    let this = offer_is c.args.join.now c.args.tree.now d key c.requires.bounded c.requires.ordered c.requires.long c.args.node
     c.requires.node c.args.least.now c.args.groups.now c.requires.groups b c.requires.branch c.in-Some.known is
     (option_map key c.args.last.now) c.deref.result.now are c.args.taken.now c.args.number found.0 c.in-Some-first_open.offer
     found.1 in
@@ -66,7 +66,7 @@ returns-in-None-clause-lists g c =
     let size : length (map (λ v. v.items) c.fill.new.lists.items) ≡ length (map (λ v. v.items) c.args.lists.now.items) =
     let e = c.in_ok-fill.ensures.count in let v = c.fill.new.lists in let u = c.args.lists.now in
     omega (arith, e, length-map c.fill.new.lists.items (λ v. v.items), length-map c.args.lists.now.items (λ v. v.items)) in
-    lists-more c.args.join.now c.args.tree.now d key c.requires.bounded c.requires.ordered c.requires.long c.args.node
+    lists_more c.args.join.now c.args.tree.now d key c.requires.bounded c.requires.ordered c.requires.long c.args.node
     c.requires.node (option_map key c.args.last.now) c.args.groups.now c.args.least.now _ _ b.group c.in-Some.known
     c.requires.lists is size c.in_ok-fill.ensures.others c.in_ok-fill.ensures.list
 
@@ -85,7 +85,7 @@ returns-in-None-clause-passed g c _ =
     ∙ sym (ap (λ v. v.items) c.index.ensures) ∙ sym c.deref.ensures.value in
     let are = subst (AreOffers c.args.join.now c.args.tree.now d key c.args.node (list_at c.args.groups.now b.group)
     (key c.in-Some.known) (option_map key c.args.last.now)) same c.in_ok-fill.ensures.list in
-    left-none c.args.join.now c.args.tree.now d key c.requires.bounded c.requires.ordered c.requires.long c.args.node
+    left_none c.args.join.now c.args.tree.now d key c.requires.bounded c.requires.ordered c.requires.long c.args.node
     c.requires.node c.args.least.now c.args.groups.now c.requires.groups b c.requires.branch c.in-Some.known is
     (option_map key c.args.last.now) c.deref.result.now are c.args.taken.now c.args.number c.in-None.ensures.none
 
@@ -99,7 +99,7 @@ returns-in-Some-first_open-clause-lists g c =
     let size : length (map (λ v. v.items) c.fill.new.lists.items) ≡ length (map (λ v. v.items) c.args.lists.now.items) =
     let e = c.in_ok-fill.ensures.count in let v = c.fill.new.lists in let u = c.args.lists.now in
     omega (arith, e, length-map c.fill.new.lists.items (λ v. v.items), length-map c.args.lists.now.items (λ v. v.items)) in
-    lists-more c.args.join.now c.args.tree.now d key c.requires.bounded c.requires.ordered c.requires.long c.args.node
+    lists_more c.args.join.now c.args.tree.now d key c.requires.bounded c.requires.ordered c.requires.long c.args.node
     c.requires.node (option_map key c.args.last.now) c.args.groups.now c.args.least.now _ _ b.group c.in-Some.known
     c.requires.lists is size c.in_ok-fill.ensures.others c.in_ok-fill.ensures.list
 
@@ -120,7 +120,7 @@ returns-in-Some-first_open-clause-passed g c good =
     let are = subst (AreOffers c.args.join.now c.args.tree.now d key c.args.node (list_at c.args.groups.now b.group)
     (key c.in-Some.known) last) same c.in_ok-fill.ensures.list in
     let found = c.in-Some-first_open.ensures.found in
-    left-first c.args.join.now c.args.tree.now d key c.requires.bounded c.requires.ordered c.requires.long c.args.node
+    left_first c.args.join.now c.args.tree.now d key c.requires.bounded c.requires.ordered c.requires.long c.args.node
     c.requires.node c.args.least.now c.args.groups.now c.requires.groups b c.requires.branch c.in-Some.known is last
     c.deref.result.now are c.args.taken.now c.args.number found.0 c.in-Some-first_open.offer found.1 found.3
     (ap (is_past d last) (sym c.join-rank.ensures.sum) ∙ sym c.is_past.ensures ∙ good)
@@ -142,7 +142,7 @@ returns-in-Some-first_open-clause-missed g c bad =
     let are = subst (AreOffers c.args.join.now c.args.tree.now d key c.args.node (list_at c.args.groups.now b.group)
     (key c.in-Some.known) last) same c.in_ok-fill.ensures.list in
     let found = c.in-Some-first_open.ensures.found in
-    left-before c.args.join.now c.args.tree.now d key c.requires.bounded c.requires.ordered c.requires.long c.args.node
+    left_before c.args.join.now c.args.tree.now d key c.requires.bounded c.requires.ordered c.requires.long c.args.node
     c.requires.node c.args.least.now c.args.groups.now c.requires.groups b c.requires.branch c.in-Some.known is last
     c.deref.result.now are c.args.taken.now c.args.number found.0 c.in-Some-first_open.offer found.1 found.2
     (ap (is_past d last) (sym c.join-rank.ensures.sum) ∙ sym c.is_past.ensures ∙ bad)

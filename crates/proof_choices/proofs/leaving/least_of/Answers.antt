@@ -2,14 +2,14 @@ use Rattle.std.proofs.Common.{◌≡◌, ◌<◌, ◌+◌, None, Some, length, g
 use Rattle.std.proofs.Math.ListN.{set}
 use Rattle.std.proofs.lemmas.List.{get_or_default, length-set}
 use Rattle.proof_choices.specs.Levels.{AreLeast, IsLesser}
-use Rattle.proof_choices.proofs.Least.{least-kept, least-lowered, none-least}
+use Rattle.proof_choices.proofs.Least.{least_kept, least_lowered, none_least}
 use Rattle.proof_choices.proofs.leaving.least_of.Goals as goal
 use Rattle.proof_choices.proofs.leaving.least_of.Goals.{in-None, in-Some}
 
 pub loop-n-init : goal.loop-n-init
 loop-n-init g c = record {
   count = c.in_ok-least.ensures.count;
-  least = none-least g.R.Rank.KEYS g.R.Rank.key c.args.branches.now c.in_ok-least.least.items c.in_ok-least.ensures.none;
+  least = none_least g.R.Rank.KEYS g.R.Rank.key c.args.branches.now c.in_ok-least.least.items c.in_ok-least.ensures.none;
 }
 
 pub lower-requires : goal.lower-requires
@@ -36,7 +36,7 @@ loop-n-preserved g c =
           record {
             count = ap length same ∙ c.loop-n.invariant.count;
             least = subst (AreLeast d key (n + 1) branches) (sym same)
-                (least-kept d key n branches c.loop-n.least.items c.loop-n.invariant.least (element ∙ w.in-None.is));
+                (least_kept d key n branches c.loop-n.least.items c.loop-n.invariant.least (element ∙ w.in-None.is));
           }
       | in-Some w ↦
           let b = w.in-Some.branch in
@@ -52,7 +52,7 @@ loop-n-preserved g c =
           record {
             count = ap length new ∙ length-set old b.group (Some now) ∙ c.loop-n.invariant.count;
             least = subst (AreLeast d key (n + 1) branches) (sym new)
-                (least-lowered d key n branches old c.loop-n.invariant.least b here within now lesser);
+                (least_lowered d key n branches old c.loop-n.invariant.least b here within now lesser);
           }
     ]
 

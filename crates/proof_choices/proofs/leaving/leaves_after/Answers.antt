@@ -1,14 +1,14 @@
 use Rattle.std.proofs.Common.{◌≡◌, ◌<◌, None, Some, option_map, length, slice_index_or, sym, ap, subst, arith}
 use Rattle.std.proofs.lemmas.Result.{IfOk-weaker}
-use Rattle.proof_bounds.specs.Bounded.{bound_ranks}
+use Rattle.proof_bounds.specs.BoundedRows.{bound_ranks}
 use Rattle.proof_choices.specs.Levels.{AreGroups, AreLeast, IsTestable, own_bounds}
-use Rattle.proof_choices.proofs.Preparing.{few-rows, own-within}
-use Rattle.proof_choices.proofs.Testing.{branch-at, testable, way-from, way-past}
+use Rattle.proof_choices.proofs.Preparing.{few_rows_lem, own_within}
+use Rattle.proof_choices.proofs.Testing.{branch_at_lem, testable, way_from, way_past}
 use Rattle.proof_choices.proofs.leaving.leaves_after.Goals as goal
 
 pub rows_by_bound-requires-clause-few : goal.rows_by_bound-requires-clause-few
 rows_by_bound-requires-clause-few g c =
-    let few = few-rows c.args.join.now c.args.tree.now g.R.Rank.KEYS g.R.Rank.key c.requires.bounded c.requires.ordered
+    let few = few_rows_lem c.args.join.now c.args.tree.now g.R.Rank.KEYS g.R.Rank.key c.requires.bounded c.requires.ordered
     c.requires.long c.args.node c.requires.node c.requires.formed in
     let e = ap length c.own_numbers.ensures in
     omega (arith, few, e)
@@ -16,7 +16,7 @@ rows_by_bound-requires-clause-few g c =
 pub rows_by_bound-requires-clause-within : goal.rows_by_bound-requires-clause-within
 rows_by_bound-requires-clause-within g c i b l e =
     subst (λ n. b < n) (sym c.bound_count-count.ensures)
-    (own-within c.args.join.now c.args.tree.now g.R.Rank.KEYS g.R.Rank.key c.requires.bounded c.requires.ordered c.requires.long
+    (own_within c.args.join.now c.args.tree.now g.R.Rank.KEYS g.R.Rank.key c.requires.bounded c.requires.ordered c.requires.long
     c.args.node c.requires.node i b (subst (λ xs. i < length xs) c.own_numbers.ensures l)
     (subst (λ xs. slice_index_or xs i None ≡ Some b) c.own_numbers.ensures e))
 
@@ -25,7 +25,7 @@ least_of-requires g c = record {
   within = λ n b l e.
       let branches = c.in_ok-branches.branches.items in
       subst (λ k. b.group < k) (sym c.bound_count-count.ensures)
-      (branch-at c.args.join.now c.args.tree.now g.R.Rank.KEYS g.R.Rank.key c.args.node c.args.starts.now branches
+      (branch_at_lem c.args.join.now c.args.tree.now g.R.Rank.KEYS g.R.Rank.key c.args.node c.args.starts.now branches
       c.in_ok-branches.ensures.each n b (subst (λ xs. n < length xs) c.deref.ensures.value l)
       (subst (λ xs. slice_index_or xs n None ≡ Some b) c.deref.ensures.value e)).within;
 }
@@ -76,13 +76,13 @@ returns g c =
     let a = c.in_ok-branches.ensures.count in let v = c.in_ok-branches.branches in omega (arith, a) in
     record {
       passed = IfOk-weaker c.numbers_leave_after.result _ _
-          (λ good after is. way-past join tree d key p starts branches are pairs last count
+          (λ good after is. way_past join tree d key p starts branches are pairs last count
           (λ n b l e. after is n b (subst (λ xs. n < length xs) (sym value) l)
           (subst (λ xs. slice_index_or xs n None ≡ Some b) (sym value) e))) c.numbers_leave_after.ensures.passed;
       missed = IfOk-weaker c.numbers_leave_after.result _ _
           (λ good before is.
           let m = before is in
-          way-from join tree d key p starts branches are pairs last count m.0 m.1.0
+          way_from join tree d key p starts branches are pairs last count m.0 m.1.0
           (subst (λ xs. m.0 < length xs) value m.1.1) (subst (λ xs. slice_index_or xs m.0 None ≡ Some m.1.0) value m.1.2) m.1.3)
           c.numbers_leave_after.ensures.missed;
     }

@@ -1,7 +1,7 @@
 use Rattle.std.proofs.Common.{◌≡◌, true, refl, sym, ap, subst, ◌∙◌, inl, inr}
 use Rattle.tdp_model.specs.KeyNumbers.{key_less}
-use Rattle.tdp_model.proofs.KeyNumbers.{key_less-below, not_less-at_most}
-use Rattle.proof_choices.proofs.Known.{in-some}
+use Rattle.tdp_model.proofs.KeyNumbers.{key_less_below, not_less_at_most}
+use Rattle.proof_choices.proofs.Known.{in_some}
 use Rattle.proof_choices.proofs.leaving.lesser.Goals as goal
 
 pub returns-then-less : goal.returns-then-less
@@ -10,8 +10,8 @@ returns-then-less g c =
     let key = g.R.Rank.key in
     record {
       below = inr refl;
-      falls = λ k e. inl (key_less-below d 16 (key c.args.base) (key k)
-          (subst (λ z. key_less d 16 (key c.args.base) (key z) ≡ true) (in-some c.in-Some.known k (sym c.in-Some.is ∙ e))
+      falls = λ k e. inl (key_less_below d 16 (key c.args.base) (key k)
+          (subst (λ z. key_less d 16 (key c.args.base) (key z) ≡ true) (in_some c.in-Some.known k (sym c.in-Some.is ∙ e))
           (sym c.less.ensures.order ∙ c.if-less.true)));
       one = inl refl;
     }
@@ -21,7 +21,7 @@ returns-else-less g c =
     let d = g.R.Rank.KEYS in
     let key = g.R.Rank.key in
     record {
-      below = not_less-at_most d 16 (key c.args.base) (key c.in-Some.known) (sym c.less.ensures.order ∙ c.if-less.false);
-      falls = λ k e. inr (ap key (in-some c.in-Some.known k (sym c.in-Some.is ∙ e)));
+      below = not_less_at_most d 16 (key c.args.base) (key c.in-Some.known) (sym c.less.ensures.order ∙ c.if-less.false);
+      falls = λ k e. inr (ap key (in_some c.in-Some.known k (sym c.in-Some.is ∙ e)));
       one = inr c.in-Some.is;
     }

@@ -2,7 +2,7 @@ use Rattle.std.proofs.Common.{◌≡◌, ◌<◌, ◌+◌, ℕ, None, unwrap_or,
 use Rattle.std.proofs.lemmas.Result.{IfOk-weaker}
 use Rattle.tdp_core.specs.RowGroups.{places_by_number}
 use Rattle.proof_choices.specs.Levels.{AreGroups}
-use Rattle.proof_choices.proofs.Grouping.{groups-are, numbers-within}
+use Rattle.proof_choices.proofs.Grouping.{groups_are, numbers_within}
 use Rattle.proof_choices.proofs.leaving.rows_by_bound.Goals as goal
 
 pub of_numbers-requires-clause-numbers : goal.of_numbers-requires-clause-numbers
@@ -14,7 +14,7 @@ of_numbers-requires-clause-numbers c =
     → get_or c.loop-i.numbers.items k 0 ≡ unwrap_or (get_or c.args.own.now k None) c.args.count =
     λ k l. c.loop-i.invariant.each k (omega (arith, done, l)) in
     subst (λ xs. (k d : ℕ) → k < length xs → get_or xs k d < c.args.count + 1) (sym c.deref.ensures.value)
-    (numbers-within c.args.own.now c.args.count c.loop-i.numbers.items size each c.requires.within)
+    (numbers_within c.args.own.now c.args.count c.loop-i.numbers.items size each c.requires.within)
 
 pub of_numbers-requires-clause-few : goal.of_numbers-requires-clause-few
 of_numbers-requires-clause-few c =
@@ -36,5 +36,5 @@ returns c =
     λ k l. c.loop-i.invariant.each k (omega (arith, done, l)) in
     IfOk-weaker c.of_numbers.result (λ groups. groups ≡ places_by_number c.deref.result.now (count + 1)) (AreGroups own count)
     (λ groups e. subst (AreGroups own count)
-    (sym (e ∙ ap (λ xs. places_by_number xs (count + 1)) c.deref.ensures.value)) (groups-are own count numbers size each))
+    (sym (e ∙ ap (λ xs. places_by_number xs (count + 1)) c.deref.ensures.value)) (groups_are own count numbers size each))
     c.of_numbers.ensures

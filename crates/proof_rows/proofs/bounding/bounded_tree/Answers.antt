@@ -1,5 +1,5 @@
 use Rattle.std.proofs.Common.{◌≡◌, Err, rules}
-use Rattle.proof_text.specs.Seen.{seen_proof}
+use Rattle.proof_text.specs.ProofView.{seen_proof}
 use Rattle.proof_rows.proofs.bounding.bounded_tree.Goals as goal
 
 pub returns-in_err-raw-clause-fault : goal.returns-in_err-raw-clause-fault

@@ -1,11 +1,11 @@
 use Rattle.std.proofs.Common.{ℕ, List, inl, inr, refl}
 use Rattle.anyk_model.specs.Table.{Table}
 use Rattle.join_tree.specs.declared.tree.JoinTree.{JoinTree}
-use Rattle.query_bind.specs.Weighed.{BoundQuery}
+use Rattle.query_bind.specs.WeighedQuery.{BoundQuery}
 use Rattle.node_build.specs.Nodes.{PassesBudget, TellsFault}
 use Rattle.node_build.specs.declared.built.BuildFault.TheVariants as fault
-use Rattle.node_build.proofs.ShapeOf.{join-tree-of}
-use Rattle.proof_rows.proofs.ProblemRows.{problem-rows, shape-known, too-many}
+use Rattle.node_build.proofs.ShapeOf.{join_tree_of}
+use Rattle.proof_rows.proofs.ProblemRows.{problem_rows, shape_known, too_many}
 use Rattle.proof_rows.proofs.rows.query_rows.Goals as goal
 
 passed : (bound : BoundQuery) (tables : List Table) (join : JoinTree) (budget told : ℕ)
@@ -14,20 +14,20 @@ passed bound tables join budget told (inl none) = cc
 passed bound tables join budget told (inr (same, past)) = past
 
 pub build-requires-clause-tree : goal.build-requires-clause-tree
-build-requires-clause-tree g c = join-tree-of c.args.query.now.query c.args.join.now c.requires.tree c.requires.count
+build-requires-clause-tree g c = join_tree_of c.args.query.now.query c.args.join.now c.requires.tree c.requires.count
 
 pub returns-in-Ok-clause-rows : goal.returns-in-Ok-clause-rows
 returns-in-Ok-clause-rows g c =
-    problem-rows c.args.query.now c.args.tables.now c.args.join.now c.requires.tree c.requires.count g.R.Rank.KEYS g.R.Rank.key
+    problem_rows c.args.query.now c.args.tables.now c.args.join.now c.requires.tree c.requires.count g.R.Rank.KEYS g.R.Rank.key
     c.in-Ok.built.tree c.in-Ok.ensures.built c.requires.fits c.requires.keys
 
 pub returns-in-Ok-clause-shape : goal.returns-in-Ok-clause-shape
 returns-in-Ok-clause-shape g c =
-    shape-known c.args.query.now c.args.tables.now c.args.join.now c.requires.tree c.requires.count g.R.Rank.KEYS g.R.Rank.key
+    shape_known c.args.query.now c.args.tables.now c.args.join.now c.requires.tree c.requires.count g.R.Rank.KEYS g.R.Rank.key
     c.in-Ok.built.tree c.in-Ok.ensures.built c.nodes-nodes.ensures.formed.each_node c.nodes-nodes.ensures.formed.few_rows
 
 pub returns-in-Err-TooManyRows-clause-fault : goal.returns-in-Err-TooManyRows-clause-fault
 returns-in-Err-TooManyRows-clause-fault g c = λ certificate.
     let past = passed c.args.query.now c.args.tables.now c.args.join.now 4194304 c.in-Err-TooManyRows.field-0-0
     (rw c.in-Err-TooManyRows.field-0-is at c.in-Err-TooManyRows.ensures.refusal) in
-    (refl, too-many c.args.query.now c.args.tables.now c.args.join.now c.requires.tree c.requires.count past)
+    (refl, too_many c.args.query.now c.args.tables.now c.args.join.now c.requires.tree c.requires.count past)

@@ -5,8 +5,8 @@ use Rattle.std.proofs.lemmas.Result.{err_from_is_err_and}
 use Rattle.proof_text.specs.declared.fault.ProofFault.{ProofFault}
 use Rattle.proof_text.specs.Certificate.{Certificate}
 use Rattle.proof_text.specs.Reading.{Lines, Fails, read_from}
-use Rattle.proof_text.specs.Seen.{lines_of, seen_proof}
-use Rattle.proof_text.proofs.Turns.{turn, no-turn, fails-so}
+use Rattle.proof_text.specs.ProofView.{lines_of, seen_proof}
+use Rattle.proof_text.proofs.Turns.{turn, no_turn, fails_so}
 use Rattle.proof_text.proofs.reading.read_lines.Goals as goal
 
 pub returns-in_err-put_line : goal.returns-in_err-put_line
@@ -16,7 +16,7 @@ returns-in_err-put_line c =
     let turned = turn n (lines_of c.lines.read)
     (lines c.lines.rest.now) c.in-Some.text.now more c.in-Some.ensures.value in
     let p = err_from_is_err_and c.from_residual.result c.from_residual.ensures.1 in
-    rw (p.1, p.2) (fails-so _ _ _ (sym turned ∙ c.lines.invariant)
+    rw (p.1, p.2) (fails_so _ _ _ (sym turned ∙ c.lines.invariant)
     (c.in_err-put_line.ensures more (λ after. read_from (n + 1) after more)))
 
 pub returns-then-branch : goal.returns-then-branch
@@ -44,5 +44,5 @@ lines-preserved c =
 
 pub returns : goal.returns
 returns c =
-    inr (sym c.lines.invariant ∙ no-turn c.lines.number (lines_of c.lines.read)
+    inr (sym c.lines.invariant ∙ no_turn c.lines.number (lines_of c.lines.read)
     (lines c.lines.rest.now) c.in_default.ensures.value)

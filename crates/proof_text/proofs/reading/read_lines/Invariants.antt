@@ -1,7 +1,7 @@
 use Rattle.std.proofs.Common.{◌≡◌, length}
 use Rattle.std.specs.Str.Lines.{lines}
 use Rattle.proof_text.specs.Reading.{no_lines, read_from}
-use Rattle.proof_text.specs.Seen.{lines_of}
+use Rattle.proof_text.specs.ProofView.{lines_of}
 use Rattle.proof_text.proofs.reading.read_lines.Given as goal
 
 abbrev pub invariant-lines : goal.invariant-lines

@@ -1,8 +1,8 @@
 use Rattle.std.proofs.Common.{◌++◌, length, take, ap, ◌∙◌}
 use Rattle.witness_key.specs.WitnessKey.{combinations_in}
 use Rattle.proof_text.specs.Writing.{answer_text}
-use Rattle.step_bounds.proofs.Calls.{limit-below, limit-reached}
-use Rattle.proof_write.proofs.Given.{ended-early, ended-text, listed-more, met-limit, met-text}
+use Rattle.step_bounds.proofs.Calls.{limit_below, limit_reached}
+use Rattle.proof_write.proofs.Given.{ended_early, ended_text, listed_more, met_limit, met_text}
 use Rattle.proof_write.proofs.answers.push_answers.Goals as goal
 
 pub loop-given-preserved : goal.loop-given-preserved
@@ -10,7 +10,7 @@ loop-given-preserved g c =
     let query = c.args.query.now.query in
     let rest = g.E.Ranked.rest in
     let found = rw c.in-Some.is at c.in_ok-answer.ensures.found in
-    listed-more (combinations_in query (rest c.args.engine.now)) c.loop-given._given
+    listed_more (combinations_in query (rest c.args.engine.now)) c.loop-given._given
     (combinations_in query (rest c.loop-given.engine)) _ _ c.loop-given.invariant
     (take (length query.items) c.in-Some.answer.rows) (combinations_in query (rest c.next.new.self)) _
     (ap (combinations_in query) found)
@@ -21,10 +21,10 @@ pub returns-in_default-clause-appended : goal.returns-in_default-clause-appended
 returns-in_default-clause-appended g c =
     let query = c.args.query.now.query in
     let rest = g.E.Ranked.rest in
-    let low = limit-below query.limit c.loop-given._given _ _
+    let low = limit_below query.limit c.loop-given._given _ _
     (rw c.limit.ensures at c.unwrap_or-most.ensures) c.loop-given-test.true in
     let ended = rw c.in_default.is at c.in_ok-answer.ensures.end in
-    ended-text (combinations_in query (rest c.args.engine.now)) c.loop-given._given
+    ended_text (combinations_in query (rest c.args.engine.now)) c.loop-given._given
     (combinations_in query (rest c.loop-given.engine)) _ _ c.loop-given.invariant
     (ap (combinations_in query) ended.0) query.limit low
 
@@ -32,10 +32,10 @@ pub returns-in_default-clause-ended : goal.returns-in_default-clause-ended
 returns-in_default-clause-ended g c =
     let query = c.args.query.now.query in
     let rest = g.E.Ranked.rest in
-    let low = limit-below query.limit c.loop-given._given _ _
+    let low = limit_below query.limit c.loop-given._given _ _
     (rw c.limit.ensures at c.unwrap_or-most.ensures) c.loop-given-test.true in
     let ended = rw c.in_default.is at c.in_ok-answer.ensures.end in
-    ended-early (combinations_in query (rest c.args.engine.now)) c.loop-given._given
+    ended_early (combinations_in query (rest c.args.engine.now)) c.loop-given._given
     (combinations_in query (rest c.loop-given.engine)) _ _ c.loop-given.invariant
     (ap (combinations_in query) ended.0) query.limit low
 
@@ -43,18 +43,18 @@ pub returns-clause-appended : goal.returns-clause-appended
 returns-clause-appended g c =
     let query = c.args.query.now.query in
     let rest = g.E.Ranked.rest in
-    let reached = limit-reached query.limit c.loop-given._given _ _ (rw c.limit.ensures at c.unwrap_or-most.ensures)
+    let reached = limit_reached query.limit c.loop-given._given _ _ (rw c.limit.ensures at c.unwrap_or-most.ensures)
     (rw c.limit-2.ensures at c.if-is_none.ensures)
     c.loop-given-test.false c.loop-given.auto._given-end in
-    met-text (combinations_in query (rest c.args.engine.now)) c.loop-given._given
+    met_text (combinations_in query (rest c.args.engine.now)) c.loop-given._given
     (combinations_in query (rest c.loop-given.engine)) _ _ c.loop-given.invariant query.limit reached
 
 pub returns-clause-ended : goal.returns-clause-ended
 returns-clause-ended g c =
     let query = c.args.query.now.query in
     let rest = g.E.Ranked.rest in
-    let reached = limit-reached query.limit c.loop-given._given _ _ (rw c.limit.ensures at c.unwrap_or-most.ensures)
+    let reached = limit_reached query.limit c.loop-given._given _ _ (rw c.limit.ensures at c.unwrap_or-most.ensures)
     (rw c.limit-2.ensures at c.if-is_none.ensures)
     c.loop-given-test.false c.loop-given.auto._given-end in
-    met-limit (combinations_in query (rest c.args.engine.now)) c.loop-given._given
+    met_limit (combinations_in query (rest c.args.engine.now)) c.loop-given._given
     (combinations_in query (rest c.loop-given.engine)) _ _ c.loop-given.invariant query.limit reached

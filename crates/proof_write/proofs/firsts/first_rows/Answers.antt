@@ -1,7 +1,7 @@
 use Rattle.std.proofs.Common.{◌≡◌, ◌<◌, length, sym, subst, ap, arith}
 use Rattle.tdp_core.specs.TreeData.{item, parent, rows}
 use Rattle.tdp_core.proofs.TreeFacts.{member_is_row}
-use Rattle.proof_write.proofs.Chosen.{chosen-all, chosen-start, chosen-under, next-none, next-some}
+use Rattle.proof_write.proofs.Chosen.{chosen_all, chosen_start, chosen_under, next_none, next_some}
 use Rattle.proof_write.proofs.firsts.first_rows.Goals as goal
 use Rattle.proof_write.proofs.firsts.first_rows.Goals.{in-Some, in_default}
 
@@ -25,7 +25,7 @@ loop-below-init g c =
     let top = c.member-top.result in
     let inside = subst (λ x. x < rows t v) (sym c.member-top.ensures.member)
     (member_is_row d key t formed v c.args.group 0 c.requires.node full) in
-    let start = chosen-start d key t formed v c.args.group c.requires.node top c.member-top.ensures.member inside in
+    let start = chosen_start d key t formed v c.args.group c.requires.node top c.member-top.ensures.member inside in
     let place : c.shape.result.now.item ≡ item t v = ap (λ s. s.item) c.shape.ensures in
     let is = c.row_at.ensures.number in
     rw (place, is) start
@@ -47,13 +47,13 @@ loop-below-preserved g c =
       | in-Some w ↦
           let row = w.in-Some.row in
           let inside : row < rows t n = w.in-Some.ensures.inside in
-          let next = next-some d key t formed v c.args.group c.requires.node n old c.loop-below.rows
+          let next = next_some d key t formed v c.args.group c.requires.node n old c.loop-below.rows
           so_far after l c.first_below.result first row w.in-Some.is inside in
           let place : w.shape-in-Some.result.now.item ≡ item t n = ap (λ s. s.item) w.shape-in-Some.ensures in
           rw (w.chosen-is, w.rows-is, place, w.row_at-in-Some.ensures.number) next
       | in_default w ↦
           rw (w.chosen-is, w.rows-is)
-          (next-none d key t formed v c.args.group c.requires.node n old c.loop-below.rows
+          (next_none d key t formed v c.args.group c.requires.node n old c.loop-below.rows
           so_far after l c.first_below.result first w.in_default.is)
     ]
 
@@ -61,7 +61,7 @@ pub returns : goal.returns
 returns g c =
     let all : c.loop-below.below ≡ length c.args.tree.now = omega
     (arith, c.loop-below-test.false, c.loop-below.auto.below-end, c.nodes-nodes.ensures.count, c.requires.node) in
-    chosen-all g.R.Rank.KEYS g.R.Rank.key c.args.tree.now c.nodes-nodes.ensures.formed
+    chosen_all g.R.Rank.KEYS g.R.Rank.key c.args.tree.now c.nodes-nodes.ensures.formed
     c.args.node c.args.group c.requires.node
     c.loop-below.below c.loop-below.chosen c.loop-below.rows c.loop-below.invariant all
 
@@ -74,6 +74,6 @@ first_below-requires-clause-rows g c row is =
     let after : v < n = omega (arith, c.loop-below.auto.below) in
     let l : n < length t = omega (arith, c.loop-below-test.true, c.nodes-nodes.ensures.count) in
     let low = formed.shaped.parents_first n (omega (arith, after)) l in
-    (chosen-under g.R.Rank.KEYS g.R.Rank.key t formed v c.args.group c.requires.node n
+    (chosen_under g.R.Rank.KEYS g.R.Rank.key t formed v c.args.group c.requires.node n
     c.loop-below.chosen c.loop-below.rows c.loop-below.invariant
     (parent t n) row low (omega (arith, low, l)) is).1

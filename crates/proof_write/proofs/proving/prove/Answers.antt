@@ -8,7 +8,7 @@ use Rattle.proof_text.specs.Writing.{header_text}
 use Rattle.tdp_core.specs.WellFormed.{IsFormed}
 use Rattle.proof_write.specs.Firsts.{AreBounds, AreTold}
 use Rattle.proof_write.proofs.PlanProblem.{told}
-use Rattle.proof_write.proofs.PlanText.{plan-text, text-parts}
+use Rattle.proof_write.proofs.PlanText.{plan_text, text_parts}
 use Rattle.proof_write.proofs.proving.prove.Goals as goal
 
 pub push_bounds-requires : goal.push_bounds-requires
@@ -32,7 +32,7 @@ returns g c = record {
       let rest = g.E.Ranked.rest c.args.engine.now in
       let list = cut query.query.limit (combinations_in query.query rest) in
       let empty : c.new-text.result.items ≡ [] = search rules in
-      plan-text d key query tables fits plan is
+      plan_text d key query tables fits plan is
       (subst (λ (tree : List (NodeData g.row.R.Denot)). IsFormed d key tree) back there.formed)
       ranked.0
       (subst (λ (tree : List (NodeData g.row.R.Denot)). IsTreeRanking tree d key ranked.0) back ranked.1)
@@ -40,7 +40,7 @@ returns g c = record {
       bounds (subst (λ (tree : List (NodeData g.row.R.Denot)). AreBounds tree
       (length tree) bounds) back there.appended.1) c.in_ok-ended.ended ended.ended
       c.push_last.new.text.items
-      (text-parts bounds list c.in_ok-ended.ended _ _ _ c.push_last.new.text.items
+      (text_parts bounds list c.in_ok-ended.ended _ _ _ c.push_last.new.text.items
       (c.in_ok-push_header.ensures.appended
       ∙ ap (λ l. l ++ header_text) empty) there.appended.2 ended.appended c.in_ok-push_last.ensures.appended);
 }

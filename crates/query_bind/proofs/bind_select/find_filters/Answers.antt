@@ -5,14 +5,14 @@ use Rattle.std.proofs.lemmas.Result.{IfOk-weaker}
 use Rattle.anyk_model.specs.Query.{Query, Item, Equality}
 use Rattle.query_bind.specs.FilterViews.{HasFilters, HaveFilters, filter_shown}
 use Rattle.query_bind.specs.Labels.{least_in}
-use Rattle.query_bind.specs.Stored.{equality_shown, item_shown, items_shown}
-use Rattle.query_bind.proofs.AllFilters.{has-filters}
-use Rattle.query_bind.proofs.AllVariables.{items-known}
+use Rattle.query_bind.specs.StoredParts.{equality_shown, item_shown, items_shown}
+use Rattle.query_bind.proofs.AllFilters.{has_filters}
+use Rattle.query_bind.proofs.AllVariables.{items_known}
 use Rattle.query_bind.proofs.bind_select.find_filters.Goals as goal
 
 pub filters_of-requires-clause-known : goal.filters_of-requires-clause-known
 filters_of-requires-clause-known c =
-    items-known c.args.selection.now c.args.tables.now c.requires.within c.count-tables.ensures.sound c.as_slice-items.result.now
+    items_known c.args.selection.now c.args.tables.now c.requires.within c.count-tables.ensures.sound c.as_slice-items.result.now
     (ap items_shown c.as_slice-items.ensures.value ∙ ap (λ (q : Query). q.items) c.selection.view_is)
     (omega (arith, ap length c.as_slice-items.ensures.value, c.selection.invariant.items))
 
@@ -29,7 +29,7 @@ returns c =
     let count : length items ≡ length query.items = sym (length-map items item_shown) ∙ ap length items_are in
     IfOk-weaker c.filters_of.result (λ (v : Vec Filter Global). HaveFilters label (map equality_shown eqs) tables (items_shown items) (length items) (map filter_shown v.items))
     (λ (v : Vec Filter Global). HasFilters query (map filter_shown v.items))
-    (λ v h. has-filters query tables c.requires.within label (map filter_shown v.items) c.requires.known
+    (λ v h. has_filters query tables c.requires.within label (map filter_shown v.items) c.requires.known
     (subst (λ (n : ℕ). HaveFilters label query.equalities tables query.items n (map filter_shown v.items)) count
     (subst (λ (l : List Item). HaveFilters label query.equalities tables l (length items) (map filter_shown v.items)) items_are
     (subst (λ (es : List Equality). HaveFilters label es tables (items_shown items) (length items) (map filter_shown v.items)) eqs_are h))))

@@ -1,14 +1,14 @@
 use Rattle.std.proofs.Common.{◌≡◌, ◌≤◌, ◌∙◌, sym, ap, subst, map, filter, length, arith, List, ℕ}
 use Rattle.anyk_model.specs.Query.{Query, Equality}
 use Rattle.query_bind.specs.Labels.{IsLabelling, least_in}
-use Rattle.query_bind.specs.Stored.{column_shown, equality_shown, items_shown}
+use Rattle.query_bind.specs.StoredParts.{column_shown, equality_shown, items_shown}
 use Rattle.query_bind.specs.Variables.{HavePlacesEach, is_variable, lists_shown}
-use Rattle.query_bind.proofs.AllVariables.{few-variables, items-known, structure}
+use Rattle.query_bind.proofs.AllVariables.{few_variables, items_known, structure}
 use Rattle.query_bind.proofs.bind_select.find_structure.Goals as goal
 
 pub all_columns-requires-clause-known : goal.all_columns-requires-clause-known
 all_columns-requires-clause-known c =
-    items-known c.args.selection.now c.args.tables.now c.requires.within c.count-tables.ensures.sound c.as_slice-items.result.now
+    items_known c.args.selection.now c.args.tables.now c.requires.within c.count-tables.ensures.sound c.as_slice-items.result.now
     (ap items_shown c.as_slice-items.ensures.value ∙ ap (λ (q : Query). q.items) c.selection.view_is)
     (omega (arith, ap length c.as_slice-items.ensures.value, c.selection.invariant.items))
 
@@ -19,7 +19,7 @@ places_of_all-requires-clause-few c =
     let found : c.in_ok-least.least.items ≡ filter (λ p. is_variable c.args.classes.now eqs (column_shown p)) c.in_ok-columns.columns.items =
     c.in_ok-least.ensures ∙ ap (filter (λ (p : ℕ × ℕ). is_variable c.args.classes.now eqs (column_shown p))) c.as_slice.ensures.value in
     let few : length c.in_ok-least.least.items ≤ 1024 =
-    few-variables c.args.selection.now c.args.tables.now c.requires.within c.count-tables.ensures.sound items
+    few_variables c.args.selection.now c.args.tables.now c.requires.within c.count-tables.ensures.sound items
     (ap items_shown c.as_slice-items.ensures.value ∙ ap (λ (q : Query). q.items) c.selection.view_is)
     (omega (arith, ap length c.as_slice-items.ensures.value, c.selection.invariant.items))
     c.in_ok-columns.columns.items c.in_ok-least.least.items c.in_ok-columns.ensures (λ p. is_variable c.args.classes.now eqs (column_shown p)) found in
@@ -27,7 +27,7 @@ places_of_all-requires-clause-few c =
 
 pub places_of_all-requires-clause-known : goal.places_of_all-requires-clause-known
 places_of_all-requires-clause-known c =
-    items-known c.args.selection.now c.args.tables.now c.requires.within c.count-tables.ensures.sound c.as_slice-items.result.now
+    items_known c.args.selection.now c.args.tables.now c.requires.within c.count-tables.ensures.sound c.as_slice-items.result.now
     (ap items_shown c.as_slice-items.ensures.value ∙ ap (λ (q : Query). q.items) c.selection.view_is)
     (omega (arith, ap length c.as_slice-items.ensures.value, c.selection.invariant.items))
 

@@ -1,18 +1,18 @@
 use Rattle.std.proofs.Common.{[], sym, subst, map, take, List}
 use Rattle.std.proofs.lemmas.List.{take_all}
 use Rattle.query_bind.specs.Labels.{IsLabelling, least_in}
-use Rattle.query_bind.specs.Stored.{equality_shown}
+use Rattle.query_bind.specs.StoredParts.{equality_shown}
 use Rattle.query_bind.specs.declared.bound.BoundEquality.{BoundEquality}
 use Rattle.query_bind.specs.declared.classes.Member.{Member}
-use Rattle.query_bind.proofs.Labels.{labels-more, labels-none}
+use Rattle.query_bind.proofs.Labels.{labels_more, labels_none}
 use Rattle.query_bind.proofs.classes.classes_of.Goals as goal
 
 pub loop-equality-init : goal.loop-equality-init
-loop-equality-init c = subst (λ (l : List Member). IsLabelling [] (least_in l)) (sym c.new-classes.ensures.items) labels-none
+loop-equality-init c = subst (λ (l : List Member). IsLabelling [] (least_in l)) (sym c.new-classes.ensures.items) labels_none
 
 pub loop-equality-preserved : goal.loop-equality-preserved
 loop-equality-preserved c =
-    labels-more c.args.equalities.now c.loop-equality.equality-index c.equality-item.result (least_in c.join_sides.new.classes.items) c.loop-equality-test.true c.equality-item.is
+    labels_more c.args.equalities.now c.loop-equality.equality-index c.equality-item.result (least_in c.join_sides.new.classes.items) c.loop-equality-test.true c.equality-item.is
     (c.in_ok-join_sides.ensures (map equality_shown (take c.loop-equality.equality-index c.args.equalities.now)) c.loop-equality.invariant)
 
 pub returns : goal.returns

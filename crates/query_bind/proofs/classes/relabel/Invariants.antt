@@ -1,5 +1,5 @@
 use Rattle.std.proofs.Common.{◌≡◌, ◌++◌, drop, take, map}
-use Rattle.query_bind.specs.Relabelled.{with_least}
+use Rattle.query_bind.specs.Relabelling.{with_least}
 use Rattle.query_bind.proofs.classes.relabel.Given as goal
 
 abbrev pub invariant-loop-member : goal.invariant-loop-member

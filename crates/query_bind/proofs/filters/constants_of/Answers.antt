@@ -4,10 +4,10 @@ use Rattle.anyk_model.specs.Query.{Column, Equality, of_column, of_constant}
 use Rattle.query_bind.specs.FilterViews.{constant_shown}
 use Rattle.query_bind.specs.Filters.{HaveConstants}
 use Rattle.query_bind.specs.Labels.{HasNoPlace, IsFirstPlace, least_in}
-use Rattle.query_bind.specs.Stored.{column_shown, equality_shown, side_shown}
+use Rattle.query_bind.specs.StoredParts.{column_shown, equality_shown, side_shown}
 use Rattle.rankings.specs.Order.{IsMember}
 use Rattle.query_bind.specs.declared.filters.Constant.{Constant}
-use Rattle.query_bind.proofs.Filtering.{constants-again, constants-more, constants-skip, equalities-more, listed-member}
+use Rattle.query_bind.proofs.Filtering.{constants_again, constants_more, constants_skip, equalities_more, listed_member}
 use Rattle.query_bind.proofs.filters.constants_of.Goals as goal
 
 pub loop-equality-preserved-in_default : goal.loop-equality-preserved-in_default
@@ -18,8 +18,8 @@ loop-equality-preserved-in_default c =
     let e = c.equality-item.result in
     let list = map constant_shown c.loop-equality.constants.items in
     let column : side_shown e.right ≡ of_column (column_shown c.in_default.field-0) = ap side_shown c.in_default.is in
-    subst (λ (l : List Equality). HaveConstants label c.args.item c.args.width l list) (equalities-more es i e c.loop-equality-test.true c.equality-item.is)
-    (constants-skip label c.args.item c.args.width (map equality_shown (take i es)) (equality_shown e) list c.loop-equality.invariant
+    subst (λ (l : List Equality). HaveConstants label c.args.item c.args.width l list) (equalities_more es i e c.loop-equality-test.true c.equality-item.is)
+    (constants_skip label c.args.item c.args.width (map equality_shown (take i es)) (equality_shown e) list c.loop-equality.invariant
     (λ bytes is. absurd (let clash : of_column (column_shown c.in_default.field-0) ≡ of_constant bytes = sym column ∙ is in cc)))
 
 pub loop-equality-preserved-in_default-first_place : goal.loop-equality-preserved-in_default-first_place
@@ -30,8 +30,8 @@ loop-equality-preserved-in_default-first_place c =
     let e = c.equality-item.result in
     let list = map constant_shown c.loop-equality.constants.items in
     let none = subst (λ (z : Column). HasNoPlace label c.args.item c.args.width z) c.least_of-least.ensures c.in_default-first_place.ensures in
-    subst (λ (l : List Equality). HaveConstants label c.args.item c.args.width l list) (equalities-more es i e c.loop-equality-test.true c.equality-item.is)
-    (constants-skip label c.args.item c.args.width (map equality_shown (take i es)) (equality_shown e) list c.loop-equality.invariant (λ bytes is. none))
+    subst (λ (l : List Equality). HaveConstants label c.args.item c.args.width l list) (equalities_more es i e c.loop-equality-test.true c.equality-item.is)
+    (constants_skip label c.args.item c.args.width (map equality_shown (take i es)) (equality_shown e) list c.loop-equality.invariant (λ bytes is. none))
 
 pub loop-equality-preserved-then-is_listed : goal.loop-equality-preserved-then-is_listed
 loop-equality-preserved-then-is_listed c =
@@ -44,13 +44,13 @@ loop-equality-preserved-then-is_listed c =
     let bytes = c.in-Constant.bytes in
     let constant : side_shown e.right ≡ of_constant bytes = ap side_shown c.in-Constant.is in
     let here = subst (λ (z : Column). IsFirstPlace label c.args.item c.args.width z p) c.least_of-least.ensures c.in-Some.ensures in
-    let listed = listed-member p c.bytes.result.now c.as_slice.result.now (sym c.is_listed.ensures ∙ c.if-is_listed.true) in
+    let listed = listed_member p c.bytes.result.now c.as_slice.result.now (sym c.is_listed.ensures ∙ c.if-is_listed.true) in
     let there : IsMember (p, bytes) (map constant_shown xs) =
     subst (λ (b : List ℕ). IsMember (p, b) (map constant_shown xs)) c.bytes.ensures
     (subst (λ (l : List Constant). IsMember (p, c.bytes.result.now) (map constant_shown l)) c.as_slice.ensures.value listed) in
     subst (λ (l : List Equality). HaveConstants label c.args.item c.args.width l (map constant_shown xs))
-    (equalities-more es i e c.loop-equality-test.true c.equality-item.is)
-    (constants-again label c.args.item c.args.width (map equality_shown (take i es)) (equality_shown e) bytes p (map constant_shown xs) c.loop-equality.invariant constant here there)
+    (equalities_more es i e c.loop-equality-test.true c.equality-item.is)
+    (constants_again label c.args.item c.args.width (map equality_shown (take i es)) (equality_shown e) bytes p (map constant_shown xs) c.loop-equality.invariant constant here there)
 
 pub loop-equality-preserved : goal.loop-equality-preserved
 loop-equality-preserved c =
@@ -67,5 +67,5 @@ loop-equality-preserved c =
     let pushed : map constant_shown c.push.new.self.items ≡ list ++ (p, bytes) ∷ [] =
     ap (map constant_shown) c.in_ok-push.ensures.items ∙ map-append constant_shown c.loop-equality.constants.items (record { place = p; bytes = bytes } ∷ []) in
     subst (λ (l : List (ℕ × List ℕ)). HaveConstants label c.args.item c.args.width (map equality_shown (take (i + 1) es)) l) (sym pushed)
-    (subst (λ (l : List Equality). HaveConstants label c.args.item c.args.width l (list ++ (p, bytes) ∷ [])) (equalities-more es i e c.loop-equality-test.true c.equality-item.is)
-    (constants-more label c.args.item c.args.width (map equality_shown (take i es)) (equality_shown e) bytes p list c.loop-equality.invariant constant here))
+    (subst (λ (l : List Equality). HaveConstants label c.args.item c.args.width l (list ++ (p, bytes) ∷ [])) (equalities_more es i e c.loop-equality-test.true c.equality-item.is)
+    (constants_more label c.args.item c.args.width (map equality_shown (take i es)) (equality_shown e) bytes p list c.loop-equality.invariant constant here))

@@ -1,9 +1,9 @@
 use Rattle.std.proofs.Common.{sym, subst, map, ◌+◌, List}
 use Rattle.query_bind.specs.FilterViews.{HaveFilters, filter_shown}
 use Rattle.query_bind.specs.Labels.{least_in}
-use Rattle.query_bind.specs.Stored.{equality_shown, items_shown}
+use Rattle.query_bind.specs.StoredParts.{equality_shown, items_shown}
 use Rattle.query_bind.specs.declared.filters.Filter.{Filter}
-use Rattle.query_bind.proofs.AllFilters.{filters-more}
+use Rattle.query_bind.proofs.AllFilters.{filters_more}
 use Rattle.query_bind.proofs.filters.filters_of.Goals as goal
 
 pub loop-i-preserved : goal.loop-i-preserved
@@ -12,5 +12,5 @@ loop-i-preserved c =
     let es = map equality_shown c.args.equalities.now in
     let items = c.args.items.now in
     subst (λ (l : List Filter). HaveFilters label es c.args.tables.now (items_shown items) (c.loop-i.i + 1) (map filter_shown l)) (sym c.in_ok-push.ensures.items)
-    (filters-more label es c.args.tables.now items c.loop-i.i c.width-width.result c.index-items-i.result c.loop-i.filters.items c.in_ok-filter_of.field-0
+    (filters_more label es c.args.tables.now items c.loop-i.i c.width-width.result c.index-items-i.result c.loop-i.filters.items c.in_ok-filter_of.field-0
     c.loop-i-test.true c.width-width.ensures.columns c.loop-i.invariant c.in_ok-filter_of.ensures.pairs c.in_ok-filter_of.ensures.constants)

@@ -1,8 +1,8 @@
 use Rattle.std.proofs.Common.{◌≡◌, ◌+◌, ◌-◌, ◌∙◌, true, false, refl, sym, take}
 use Rattle.anyk_model.specs.Table.{field_at, table_at}
 use Rattle.query_bind.specs.declared.filters.Constant.{Constant}
-use Rattle.query_bind.proofs.Filtering.{constants-each, constants-one, texts-differ, texts-same}
-use Rattle.query_bind.proofs.Lists.{each-all, each-further, member-item}
+use Rattle.query_bind.proofs.Filtering.{constants_each, constants_one, texts_differ, texts_same}
+use Rattle.query_bind.proofs.Lists.{each_all, each_further, member_item}
 use Rattle.query_bind.proofs.filters.has_constants.Goals as goal
 
 pub returns-then-ne : goal.returns-then-ne
@@ -10,8 +10,8 @@ returns-then-ne c =
     let field = field_at (table_at c.args.tables.now c.args.table) (c.args.row - 1) in
     let x = c.constant-item.result in (
       λ h. absurd (let e : false ≡ true = h in cc),
-      λ known. absurd (texts-differ c.field.result.now c.bytes.result.now (sym c.ne.ensures ∙ c.if-ne.true)
-          (c.field.ensures ∙ constants-one field c.args.constants.now known x (member-item c.args.constants.now c.loop-constant.constant-index x c.loop-constant-test.true c.constant-item.is)
+      λ known. absurd (texts_differ c.field.result.now c.bytes.result.now (sym c.ne.ensures ∙ c.if-ne.true)
+          (c.field.ensures ∙ constants_one field c.args.constants.now known x (member_item c.args.constants.now c.loop-constant.constant-index x c.loop-constant-test.true c.constant-item.is)
           ∙ sym c.bytes.ensures)),
     )
 
@@ -21,15 +21,15 @@ loop-constant-preserved c =
     let x = c.constant-item.result in
     let i = c.loop-constant.constant-index in
     let here : field x.place ≡ x.bytes =
-    sym c.field.ensures ∙ texts-same c.field.result.now c.bytes.result.now (sym c.ne.ensures ∙ c.if-ne.false) ∙ c.bytes.ensures in
-    constants-each field (take (i + 1) c.args.constants.now)
-    (each-further (λ (y : Constant). field y.place ≡ y.bytes) c.args.constants.now i x c.loop-constant-test.true c.constant-item.is
-    (constants-one field (take i c.args.constants.now) c.loop-constant.invariant) here)
+    sym c.field.ensures ∙ texts_same c.field.result.now c.bytes.result.now (sym c.ne.ensures ∙ c.if-ne.false) ∙ c.bytes.ensures in
+    constants_each field (take (i + 1) c.args.constants.now)
+    (each_further (λ (y : Constant). field y.place ≡ y.bytes) c.args.constants.now i x c.loop-constant-test.true c.constant-item.is
+    (constants_one field (take i c.args.constants.now) c.loop-constant.invariant) here)
 
 pub returns : goal.returns
 returns c =
     let field = field_at (table_at c.args.tables.now c.args.table) (c.args.row - 1) in (
-      λ _. constants-each field c.args.constants.now (each-all (λ (y : Constant). field y.place ≡ y.bytes) c.args.constants.now c.loop-constant.constant-index c.loop-constant-test.false
-          (constants-one field (take c.loop-constant.constant-index c.args.constants.now) c.loop-constant.invariant)),
+      λ _. constants_each field c.args.constants.now (each_all (λ (y : Constant). field y.place ≡ y.bytes) c.args.constants.now c.loop-constant.constant-index c.loop-constant-test.false
+          (constants_one field (take c.loop-constant.constant-index c.args.constants.now) c.loop-constant.invariant)),
       λ _. refl,
     )

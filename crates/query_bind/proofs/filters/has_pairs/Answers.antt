@@ -1,7 +1,7 @@
 use Rattle.std.proofs.Common.{◌≡◌, ◌-◌, ◌∙◌, true, false, refl, sym, get_or, ℕ}
 use Rattle.anyk_model.specs.Table.{field_at, table_at}
-use Rattle.query_bind.proofs.Filtering.{at-any, texts-differ, texts-same}
-use Rattle.query_bind.proofs.Lists.{each-all, each-further, member-index}
+use Rattle.query_bind.proofs.Filtering.{at_any, texts_differ, texts_same}
+use Rattle.query_bind.proofs.Lists.{each_all, each_further, member-index}
 use Rattle.query_bind.proofs.filters.has_pairs.Goals as goal
 
 pub returns-then-ne : goal.returns-then-ne
@@ -10,7 +10,7 @@ returns-then-ne c =
     let i = c.loop-first.first-index in
     let x : ℕ × ℕ = get_or pairs i (0, 0) in (
       λ h. absurd (let e : false ≡ true = h in cc),
-      λ known. absurd (texts-differ c.field.result.now c.field-in-loop-first.result.now (sym c.ne.ensures ∙ c.if-ne.true)
+      λ known. absurd (texts_differ c.field.result.now c.field-in-loop-first.result.now (sym c.ne.ensures ∙ c.if-ne.true)
           (c.field.ensures ∙ known x (member-index pairs i (0, 0) c.loop-first-test.true) ∙ sym c.field-in-loop-first.ensures)),
     )
 
@@ -21,12 +21,12 @@ loop-first-preserved c =
     let i = c.loop-first.first-index in
     let x : ℕ × ℕ = get_or pairs i (0, 0) in
     let here : field x.0 ≡ field x.1 =
-    sym c.field.ensures ∙ texts-same c.field.result.now c.field-in-loop-first.result.now (sym c.ne.ensures ∙ c.if-ne.false) ∙ c.field-in-loop-first.ensures in
-    each-further (λ (v : ℕ × ℕ). field v.0 ≡ field v.1) pairs i x c.loop-first-test.true (at-any pairs i (0, 0) x c.loop-first-test.true) c.loop-first.invariant here
+    sym c.field.ensures ∙ texts_same c.field.result.now c.field-in-loop-first.result.now (sym c.ne.ensures ∙ c.if-ne.false) ∙ c.field-in-loop-first.ensures in
+    each_further (λ (v : ℕ × ℕ). field v.0 ≡ field v.1) pairs i x c.loop-first-test.true (at_any pairs i (0, 0) x c.loop-first-test.true) c.loop-first.invariant here
 
 pub returns : goal.returns
 returns c =
     let field = field_at (table_at c.args.tables.now c.args.table) (c.args.row - 1) in (
-      λ _. each-all (λ (v : ℕ × ℕ). field v.0 ≡ field v.1) c.args.pairs.now c.loop-first.first-index c.loop-first-test.false c.loop-first.invariant,
+      λ _. each_all (λ (v : ℕ × ℕ). field v.0 ≡ field v.1) c.args.pairs.now c.loop-first.first-index c.loop-first-test.false c.loop-first.invariant,
       λ _. refl,
     )

@@ -1,10 +1,10 @@
 use Rattle.std.proofs.Common.{◌≡◌, ◌<◌, ◌+◌, ◌*◌, ◌++◌, ◌∷◌, ◌∙◌, [], List, length, get_or, set, refl, sym, ap, subst, arith}
 use Rattle.anyk_model.specs.Query.{Column}
 use Rattle.rankings.specs.Order.{IsMember}
-use Rattle.query_bind.specs.Stored.{column_shown, term_shown}
+use Rattle.query_bind.specs.StoredParts.{column_shown, term_shown}
 use Rattle.query_bind.specs.Tallies.{AreTallies, StandOnce, columns_of, tally_size, with_one}
 use Rattle.query_bind.specs.declared.tallies.Tally.{Tally}
-use Rattle.query_bind.proofs.Tallying.{at-most-sum, once-again, once-first, tallies-again, tallies-first}
+use Rattle.query_bind.proofs.Tallying.{at_most_sum, once_again, once_first, tallies_again, tallies_first}
 use Rattle.query_bind.proofs.tallies.count.Goals as goal
 
 pub counted-requires : goal.counted-requires
@@ -13,7 +13,7 @@ counted-requires c =
     let j = c.in-Some.place in
     let y = c.index.result.now in
     let inside : j < length ys = omega (arith, c.in-Some.ensures.within, ap length c.as_slice.ensures.value) in
-    let below = at-most-sum (tally_size (λ (k : Column). 1)) ys j y inside in
+    let below = at_most_sum (tally_size (λ (k : Column). 1)) ys j y inside in
     let is : tally_size (λ (k : Column). 1) y ≡ tally_size (λ (k : Column). 1) (get_or ys j y) = ap (tally_size (λ (k : Column). 1)) c.index.ensures in
     let one : (y.plus + y.minus) * 1 ≡ y.plus + y.minus = omega arith in
     let limit = c.requires in
@@ -29,7 +29,7 @@ returns-in-Some-clause-same c = λ terms known.
     ap (λ (l : List Tally). column_shown (get_or l j y).column) (sym c.as_slice.ensures.value) ∙ ap column_shown (c.in-Some.ensures.there y) in
     let new : c.counted.result ≡ with_one c.args.term.now.minus (get_or ys j y) = c.counted.ensures ∙ ap (with_one c.args.term.now.minus) c.index.ensures in
     subst (λ (z : Tally). AreTallies (terms ++ term_shown c.args.term.now ∷ []) (set ys j z)) (sym new)
-    (tallies-again terms ys (term_shown c.args.term.now) known j y inside same)
+    (tallies_again terms ys (term_shown c.args.term.now) known j y inside same)
 
 pub returns-in_ok-push-in-None-clause-same : goal.returns-in_ok-push-in-None-clause-same
 returns-in_ok-push-in-None-clause-same c = λ terms known.
@@ -37,7 +37,7 @@ returns-in_ok-push-in-None-clause-same c = λ terms known.
     let fresh : Tally = record { column = c.args.term.now.column; plus = 0; minus = 0 } in
     let pushed = c.in_ok-push-in-None.ensures.items ∙ ap (λ (z : Tally). ys ++ z ∷ []) c.counted-in-None.ensures in
     subst (λ (l : List Tally). AreTallies (terms ++ term_shown c.args.term.now ∷ []) l) (sym pushed)
-    (tallies-first terms ys (term_shown c.args.term.now) known fresh refl refl refl)
+    (tallies_first terms ys (term_shown c.args.term.now) known fresh refl refl refl)
 
 pub returns-in-Some-clause-once : goal.returns-in-Some-clause-once
 returns-in-Some-clause-once c = λ known.
@@ -45,7 +45,7 @@ returns-in-Some-clause-once c = λ known.
     let j = c.in-Some.place in
     let y = c.index.result.now in
     let new : c.counted.result ≡ with_one c.args.term.now.minus (get_or ys j y) = c.counted.ensures ∙ ap (with_one c.args.term.now.minus) c.index.ensures in
-    subst (λ (z : Tally). StandOnce (columns_of (set ys j z))) (sym new) (once-again ys j y c.args.term.now.minus known)
+    subst (λ (z : Tally). StandOnce (columns_of (set ys j z))) (sym new) (once_again ys j y c.args.term.now.minus known)
 
 pub returns-in_ok-push-in-None-clause-once : goal.returns-in_ok-push-in-None-clause-once
 returns-in_ok-push-in-None-clause-once c = λ known.
@@ -53,4 +53,4 @@ returns-in_ok-push-in-None-clause-once c = λ known.
     let fresh : Tally = record { column = c.args.term.now.column; plus = 0; minus = 0 } in
     let pushed = c.in_ok-push-in-None.ensures.items ∙ ap (λ (z : Tally). ys ++ z ∷ []) c.counted-in-None.ensures in
     let absent : IsMember fresh.column (columns_of ys) → ⊥ = subst (λ (l : List Tally). IsMember fresh.column (columns_of l) → ⊥) c.as_slice.ensures.value c.in-None.ensures.absent in
-    subst (λ (l : List Tally). StandOnce (columns_of l)) (sym pushed) (once-first ys fresh c.args.term.now.minus absent known)
+    subst (λ (l : List Tally). StandOnce (columns_of l)) (sym pushed) (once_first ys fresh c.args.term.now.minus absent known)

@@ -5,7 +5,7 @@ use Rattle.std.proofs.lemmas.Bool.{and_from}
 use Rattle.rankings.specs.Order.{IsMember}
 use Rattle.query_bind.specs.Tallies.{columns_of}
 use Rattle.query_bind.specs.declared.tallies.Tally.{Tally}
-use Rattle.query_bind.proofs.Lists.{member-parts}
+use Rattle.query_bind.proofs.Lists.{member_parts}
 use Rattle.query_bind.proofs.tallies.place_of.Goals as goal
 
 pub loop-i-preserved : goal.loop-i-preserved
@@ -15,7 +15,7 @@ loop-i-preserved c = λ m.
     let d : Tally = record { column = (0, 0); plus = 0; minus = 0 } in
     let y = get_or ys i d in
     let more = ap columns_of (take_more ys i d c.loop-i-test.true) ∙ map-append (λ (z : Tally). z.column) (take i ys) (y ∷ []) in
-    elim (member-parts c.args.column y.column (columns_of (take i ys)) (subst (IsMember c.args.column) more m)) [
+    elim (member_parts c.args.column y.column (columns_of (take i ys)) (subst (IsMember c.args.column) more m)) [
       | inl there ↦ c.loop-i.invariant there
       | inr e ↦ absurd (
           let first : (y.column.0 == c.args.column.0) ≡ true = (Decides-eqb y.column.0 c.args.column.0).1 (ap (λ (k : ℕ × ℕ). k.0) (sym e)) in

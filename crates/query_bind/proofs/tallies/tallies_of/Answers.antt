@@ -1,22 +1,22 @@
 use Rattle.std.proofs.Common.{◌∙◌, ◌∷◌, [], ap, sym, subst, map, take, get_or, false, arith, List}
 use Rattle.std.proofs.lemmas.List.{length-map, length-take, map-append, take_all, take_more}
 use Rattle.anyk_model.specs.Query.{Column, Term}
-use Rattle.query_bind.specs.Stored.{term_shown}
+use Rattle.query_bind.specs.StoredParts.{term_shown}
 use Rattle.query_bind.specs.Tallies.{AreTallies, StandOnce, columns_of}
 use Rattle.query_bind.specs.declared.bound.BoundTerm.{BoundTerm}
 use Rattle.query_bind.specs.declared.tallies.Tally.{Tally}
-use Rattle.query_bind.proofs.Tallying.{ones-length, tallies-none}
+use Rattle.query_bind.proofs.Tallying.{ones_length, tallies_none}
 use Rattle.query_bind.proofs.tallies.tallies_of.Goals as goal
 
 pub loop-term-init : goal.loop-term-init
-loop-term-init c = subst (λ (l : List Tally). AreTallies [] l × StandOnce (columns_of l)) (sym c.new-tallies.ensures.items) (tallies-none, tt)
+loop-term-init c = subst (λ (l : List Tally). AreTallies [] l × StandOnce (columns_of l)) (sym c.new-tallies.ensures.items) (tallies_none, tt)
 
 pub count-requires : goal.count-requires
 count-requires c =
     let i = c.loop-term.term-index in
     let terms = map term_shown (take i c.args.terms.now) in
     let sum = c.loop-term.invariant.0.size (λ (k : Column). 1) in
-    let ones = ones-length terms in
+    let ones = ones_length terms in
     let size = length-map (take i c.args.terms.now) term_shown in
     let cut = length-take i c.args.terms.now in
     let inside = c.loop-term-test.true in

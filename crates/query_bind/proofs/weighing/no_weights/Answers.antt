@@ -1,6 +1,6 @@
 use Rattle.std.proofs.Common.{◌∙◌, ◌∷◌, ◌++◌, [], ap, map, replicate, List, ℤ}
 use Rattle.std.proofs.lemmas.List.{map-append, replicate_more}
-use Rattle.query_bind.specs.Weighed.{ItemParts}
+use Rattle.query_bind.specs.WeighedQuery.{ItemParts}
 use Rattle.query_bind.specs.WeighedView.{item_weights_shown}
 use Rattle.query_bind.specs.declared.bound.ItemWeights.{ItemWeights}
 use Rattle.query_bind.proofs.weighing.no_weights.Goals as goal

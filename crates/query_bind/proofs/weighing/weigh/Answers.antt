@@ -3,12 +3,12 @@ use Rattle.std.proofs.lemmas.List.{get_or-map, length-map, map-append, take_all,
 use Rattle.std.proofs.lemmas.Result.{err_from_is_err_and}
 use Rattle.anyk_model.specs.Query.{OrderKey}
 use Rattle.query_bind.specs.Fits.{KeysInside}
-use Rattle.query_bind.specs.Measured.{HasKeys}
-use Rattle.query_bind.specs.Stored.{items_shown, key_shown}
-use Rattle.query_bind.specs.Weighed.{ItemParts, key_parts}
+use Rattle.query_bind.specs.Measures.{HasKeys}
+use Rattle.query_bind.specs.StoredParts.{items_shown, key_shown}
+use Rattle.query_bind.specs.WeighedQuery.{ItemParts, key_parts}
 use Rattle.query_bind.specs.WeighedView.{weighed_shown}
-use Rattle.query_bind.proofs.Measuring.{all-sound, keys-fault, keys-more, no-key-met, none-past, one-past}
-use Rattle.query_bind.proofs.Search.{all-at}
+use Rattle.query_bind.proofs.Measuring.{all_sound, keys_fault, keys_more, no_key_met, none_past, one_past}
+use Rattle.query_bind.proofs.Search.{all_at}
 use Rattle.query_bind.proofs.weighing.weigh.Goals as goal
 
 pub returns-in_err-sum-clause-fault : goal.returns-in_err-sum-clause-fault
@@ -19,7 +19,7 @@ returns-in_err-sum-clause-fault c =
     let x = c.index-keys-i.result in
     let inside : i < length (map key_shown keys) = omega (arith, length-map keys key_shown) in
     let here : get_or (map key_shown keys) i (key_shown x) ≡ key_shown x = get_or-map key_shown keys i x (key_shown x) c.loop-i-test.true ∙ ap key_shown (sym c.index-keys-i.is) in
-    rw (p.1, p.2) (keys-fault c.args.tables.now (items_shown c.args.items.now) (map key_shown keys) i c.loop-i.first c.loop-i.invariant.0
+    rw (p.1, p.2) (keys_fault c.args.tables.now (items_shown c.args.items.now) (map key_shown keys) i c.loop-i.first c.loop-i.invariant.0
     (key_shown x) c.in_err-sum.field-0.0 inside here c.in_err-sum.ensures.fault)
 
 pub loop-i-preserved : goal.loop-i-preserved
@@ -33,9 +33,9 @@ loop-i-preserved c =
     let inside : i < length order = omega (arith, length-map keys key_shown) in
     let here : get_or order i (key_shown x) ≡ key_shown x = get_or-map key_shown keys i x (key_shown x) c.loop-i-test.true ∙ ap key_shown (sym c.index-keys-i.is) in (
       subst (λ (o : Option ℕ). HasKeys tables items order (i + 1) o) (sym c.first_past-first.ensures)
-          (keys-more tables items order i c.loop-i.first c.loop-i.invariant.0 (key_shown x) c.in_ok-sum.sum inside here c.in_ok-sum.ensures.size c.in_ok-sum.ensures.sound),
+          (keys_more tables items order i c.loop-i.first c.loop-i.invariant.0 (key_shown x) c.in_ok-sum.sum inside here c.in_ok-sum.ensures.size c.in_ok-sum.ensures.sound),
       λ none.
-          let met = no-key-met c.loop-i.first c.in_ok-sum.sum (i + 1) (sym c.first_past-first.ensures ∙ none) in
+          let met = no_key_met c.loop-i.first c.in_ok-sum.sum (i + 1) (sym c.first_past-first.ensures ∙ none) in
           let more : take (i + 1) order ≡ take i order ++ key_shown x ∷ [] = take_more order i (key_shown x) inside ∙ ap (λ (k : OrderKey). take i order ++ k ∷ []) here in
           ap (map weighed_shown) c.in_ok-push.ensures.items ∙ map-append weighed_shown c.loop-i.weighed.items (c.in_ok-sum.parts ∷ [])
           ∙ ap (λ (l : List (List ItemParts)). l ++ weighed_shown c.in_ok-sum.parts ∷ []) (c.loop-i.invariant.1 met.0)
@@ -48,7 +48,7 @@ weigh_key-requires c =
     let keys = c.args.keys.now in
     let x = c.index-keys-i.result in
     subst (KeysInside c.args.tables.now c.args.items.now) (sym c.index-keys-i.is)
-    (all-at (KeysInside c.args.tables.now c.args.items.now) keys c.loop-i.i x c.requires.inside c.loop-i-test.true)
+    (all_at (KeysInside c.args.tables.now c.args.items.now) keys c.loop-i.i x c.requires.inside c.loop-i-test.true)
 
 pub returns-in-None-clause-parts : goal.returns-in-None-clause-parts
 returns-in-None-clause-parts c =
@@ -61,14 +61,14 @@ returns-in-None-clause-parts c =
 pub returns-in-None-clause-weights : goal.returns-in-None-clause-weights
 returns-in-None-clause-weights c =
     let past : length (map key_shown c.args.keys.now) ≤ c.loop-i.i = let f = c.loop-i-test.false in omega (arith, f, length-map c.args.keys.now key_shown) in
-    all-sound c.args.tables.now (items_shown c.args.items.now) (map key_shown c.args.keys.now) c.loop-i.i c.loop-i.first c.loop-i.invariant.0 past
+    all_sound c.args.tables.now (items_shown c.args.items.now) (map key_shown c.args.keys.now) c.loop-i.i c.loop-i.first c.loop-i.invariant.0 past
 
 pub returns-in-None-clause-range : goal.returns-in-None-clause-range
 returns-in-None-clause-range c =
     let past : length (map key_shown c.args.keys.now) ≤ c.loop-i.i = let f = c.loop-i-test.false in omega (arith, f, length-map c.args.keys.now key_shown) in
-    none-past c.args.tables.now (items_shown c.args.items.now) (map key_shown c.args.keys.now) c.loop-i.i c.loop-i.first c.loop-i.invariant.0 past c.in-None.is
+    none_past c.args.tables.now (items_shown c.args.items.now) (map key_shown c.args.keys.now) c.loop-i.i c.loop-i.first c.loop-i.invariant.0 past c.in-None.is
 
 pub returns-in-Some-clause-fault : goal.returns-in-Some-clause-fault
 returns-in-Some-clause-fault c =
     let past : length (map key_shown c.args.keys.now) ≤ c.loop-i.i = let f = c.loop-i-test.false in omega (arith, f, length-map c.args.keys.now key_shown) in
-    one-past c.args.tables.now (items_shown c.args.items.now) (map key_shown c.args.keys.now) c.loop-i.i c.loop-i.first c.loop-i.invariant.0 past c.in-Some.key c.in-Some.is
+    one_past c.args.tables.now (items_shown c.args.items.now) (map key_shown c.args.keys.now) c.loop-i.i c.loop-i.first c.loop-i.invariant.0 past c.in-Some.key c.in-Some.is

@@ -1,7 +1,7 @@
 use Rattle.std.proofs.Common.{◌≡◌, ◌++◌, ◌+◌, [], ◌∷◌, List, drop, arith, ap, sym, ◌∙◌, append_assoc}
 use Rattle.std.proofs.lemmas.List.{append-nil, map_push}
 use Rattle.query_grammar.specs.Lexeme.{Lexeme, lexeme, lexemes}
-use Rattle.query_grammar.specs.Scanned.{scan_view}
+use Rattle.query_grammar.specs.Scans.{scan_view}
 use Rattle.query_grammar.specs.Tokens.{tokens_from}
 use Rattle.query_grammar.proofs.ScanLength.{lexeme_of, token_step, blank_step, no_tokens_left}
 use Rattle.query_grammar.proofs.scanner.tokens.Goals as goal

@@ -1,5 +1,5 @@
-use Rattle.query_parse.proofs.LongestTokens.{tokens-iff}
+use Rattle.query_parse.proofs.LongestTokens.{tokens_iff}
 use Rattle.query_parse.proofs.laws.tokens_are_longest.Goals as goal
 
 pub returns : goal.returns
-returns c = tokens-iff
+returns c = tokens_iff

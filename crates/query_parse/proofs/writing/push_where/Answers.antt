@@ -2,7 +2,7 @@ use Rattle.std.proofs.Common.{◌++◌, ◌∙◌, ap, append_assoc, refl, List,
 use Rattle.std.specs.Prelude.{codes}
 use Rattle.query_select.specs.declared.select.Equality.{Equality}
 use Rattle.query_parse.specs.Text.{equality_text, where_text}
-use Rattle.query_parse.proofs.Listed.{one-more, rest_of, whole}
+use Rattle.query_parse.proofs.Listed.{one_more, rest_of, whole}
 use Rattle.query_parse.proofs.writing.push_where.Goals as goal
 
 more_text : Equality → List ℕ
@@ -12,7 +12,7 @@ pub loop-equality-preserved : goal.loop-equality-preserved
 unfolding more_text
 loop-equality-preserved c =
     let x = c.equality-item.result in
-    one-more more_text c.push_equality.new.text.items (rest_of c.args.equalities.now) c.loop-equality.equality-index c.loop-equality.text.items c.loop-equality.invariant
+    one_more more_text c.push_equality.new.text.items (rest_of c.args.equalities.now) c.loop-equality.equality-index c.loop-equality.text.items c.loop-equality.invariant
     x c.push_equality-in-loop-equality.new.text.items c.loop-equality-test.true c.equality-item.is
     (c.in_ok-push_equality-2.ensures ∙ ap (λ (l : List ℕ). l ++ equality_text x) c.in_ok-extend_from_slice-2.ensures.items
     ∙ append_assoc c.loop-equality.text.items (codes " and ") (equality_text x))

@@ -1,5 +1,5 @@
 use Rattle.std.proofs.Common.{arith}
-use Rattle.query_shape.proofs.Core.{items-ascending, items-members}
+use Rattle.query_shape.proofs.Core.{items_ascending, items_members}
 use Rattle.query_shape.proofs.shape.tree_shape.Goals as goal
 
 pub returns-clause-refusal : goal.returns-clause-refusal
@@ -12,6 +12,6 @@ returns-clause-refusal c = record {
   removed = c.ears-ears.result.removed;
   core = c.ears-ears.result.core;
   removal = c.ears-ears.ensures.removal;
-  ascending = items-ascending c.ears-ears.result.core;
-  members = λ item. items-members c.ears-ears.result.core item (omega arith);
+  ascending = items_ascending c.ears-ears.result.core;
+  members = λ item. items_members c.ears-ears.result.core item (omega arith);
 }

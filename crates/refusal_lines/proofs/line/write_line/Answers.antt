@@ -1,6 +1,6 @@
 use Rattle.std.proofs.Common.{◌≡◌, ◌++◌, List, ℕ, Err, rules, codes}
 use Rattle.refusal_lines.specs.Reason.{branch_of, branch_text, text_of}
-use Rattle.refusal_lines.specs.Refused.{reason_of}
+use Rattle.refusal_lines.specs.RefusalReasons.{reason_of}
 use Rattle.refusal_lines.specs.declared.refusal.Refusal.{Refusal}
 use Rattle.refusal_lines.proofs.Sending.{Sent-stopped, Sent-then}
 use Rattle.refusal_lines.proofs.line.write_line.Goals as goal

@@ -1,6 +1,6 @@
 use Rattle.std.proofs.Common.{◌∙◌, sym, ap, arith}
 use Rattle.tdp_core.specs.RawData.{shape_parent}
-use Rattle.semi_join.proofs.Kids.{kid-added, kid-passed}
+use Rattle.semi_join.proofs.Kids.{kid_added, kid_passed}
 use Rattle.semi_join.proofs.node.children_of.Goals as goal
 use Rattle.semi_join.proofs.node.children_of.Goals.{then-shape-node+in_ok-push, else-shape-node}
 
@@ -10,8 +10,8 @@ loop-later-preserved g c =
     elim c.if-shape-node.branch [
       | then-shape-node+in_ok-push w ↦
           ap (λ v. v.items) w.children-is ∙ w.in_ok-push.ensures.items
-          ∙ kid-added (shape_parent c.args.raw.now.shapes) c.args.node c.loop-later.later _ (omega arith) c.loop-later.invariant (is ∙ w.if-shape-node.true)
+          ∙ kid_added (shape_parent c.args.raw.now.shapes) c.args.node c.loop-later.later _ (omega arith) c.loop-later.invariant (is ∙ w.if-shape-node.true)
       | else-shape-node w ↦
           ap (λ v. v.items) w.children-is
-          ∙ kid-passed (shape_parent c.args.raw.now.shapes) c.args.node c.loop-later.later _ (omega arith) c.loop-later.invariant (λ e. w.if-shape-node.false (sym is ∙ e))
+          ∙ kid_passed (shape_parent c.args.raw.now.shapes) c.args.node c.loop-later.later _ (omega arith) c.loop-later.invariant (λ e. w.if-shape-node.false (sym is ∙ e))
     ]

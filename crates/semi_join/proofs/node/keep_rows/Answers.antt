@@ -5,8 +5,8 @@ use Rattle.semi_join.specs.Reduction.{links_of, child_nodes, has_partners, group
 use Rattle.indexmap.specs.IndexSet.{insert_key}
 use Rattle.semi_join.proofs.FirstOnes.{kept_first}
 use Rattle.semi_join.proofs.Rows.{length-map}
-use Rattle.semi_join.proofs.NamedGroups.{named-count}
-use Rattle.semi_join.proofs.SoFar.{IsSoFar, room, room-all, kids-below, few-links, few-numbers, missing-row, drop-row, keep-row}
+use Rattle.semi_join.proofs.NamedGroups.{named_count}
+use Rattle.semi_join.proofs.SoFar.{IsSoFar, room, room_all, kids_below_lem, few_links, few_numbers, missing_row, drop_row, keep_row_lem}
 use Rattle.semi_join.proofs.node.keep_rows.Goals as goal
 use Rattle.semi_join.proofs.node.keep_rows.Goals.{in-Some+in_ok-keep_row, in_default}
 
@@ -14,7 +14,7 @@ pub returns-in_err-named-clause-cost : goal.returns-in_err-named-clause-cost
 returns-in_err-named-clause-cost g c =
     let all = ap length (c.deref.ensures.value ∙ c.in_ok-children.ensures) in
     let within : c.loop-i.i < raw_len c.args.raw.now c.args.node = omega (arith, c.len-i-end.ensures) in
-    let steps = room c.loop-i.i (length (child_nodes c.args.raw.now c.args.node)) (raw_len c.args.raw.now c.args.node) (length c.args.raw.now.shapes) within (kids-below c.args.raw.now c.args.node [] c.requires.node) in
+    let steps = room c.loop-i.i (length (child_nodes c.args.raw.now c.args.node)) (raw_len c.args.raw.now c.args.node) (length c.args.raw.now.shapes) within (kids_below_lem c.args.raw.now c.args.node [] c.requires.node) in
     omega (arith, all, steps, c.child_groups.ensures.cost, c.loop-i.invariant.counted)
 
 pub keep_row-requires-clause-width : goal.keep_row-requires-clause-width
@@ -24,7 +24,7 @@ keep_row-requires-clause-width g c =
     let later = map links_of c.args.later.now in
     let i = c.loop-i.i in
     let named = subst (λ o. IfSome o (λ n. n.items ≡ groups_named raw node later i)) c.in-Some.is c.in_ok-named.ensures.named in
-    ap length named ∙ named-count raw node later (length (child_nodes raw node)) i ∙ sym c.loop-i.invariant.width
+    ap length named ∙ named_count raw node later (length (child_nodes raw node)) i ∙ sym c.loop-i.invariant.width
 
 pub keep_row-requires-clause-few_rows : goal.keep_row-requires-clause-few_rows
 keep_row-requires-clause-few_rows g c =
@@ -36,7 +36,7 @@ keep_row-requires-clause-few_rows g c =
 pub keep_row-requires-clause-few : goal.keep_row-requires-clause-few
 keep_row-requires-clause-few g c =
     let now = c.loop-i.kept in
-    let few = few-links c.args.raw.now c.args.node (map links_of c.args.later.now) c.loop-i.i now.rows.items now.to_child.rows (links_of now.links) now.numbers.items c.loop-i.invariant.so_far in
+    let few = few_links c.args.raw.now c.args.node (map links_of c.args.later.now) c.loop-i.i now.rows.items now.to_child.rows (links_of now.links) now.numbers.items c.loop-i.invariant.so_far in
     let most = length_within c.args.raw.now.rows c.args.node in
     omega (arith, few, most, c.requires.few_rows, c.len-i-end.ensures)
 
@@ -44,7 +44,7 @@ pub returns-in_err-keep_row-clause-cost : goal.returns-in_err-keep_row-clause-co
 returns-in_err-keep_row-clause-cost g c =
     let all = ap length (c.deref.ensures.value ∙ c.in_ok-children.ensures) in
     let within : c.loop-i.i < raw_len c.args.raw.now c.args.node = omega (arith, c.len-i-end.ensures) in
-    let steps = room c.loop-i.i (length (child_nodes c.args.raw.now c.args.node)) (raw_len c.args.raw.now c.args.node) (length c.args.raw.now.shapes) within (kids-below c.args.raw.now c.args.node [] c.requires.node) in
+    let steps = room c.loop-i.i (length (child_nodes c.args.raw.now c.args.node)) (raw_len c.args.raw.now c.args.node) (length c.args.raw.now.shapes) within (kids_below_lem c.args.raw.now c.args.node [] c.requires.node) in
     omega (arith, all, steps, c.child_groups.ensures.cost, c.keep_row.ensures.cost, c.loop-i.invariant.counted)
 
 pub loop-i-preserved : goal.loop-i-preserved
@@ -62,7 +62,7 @@ loop-i-preserved g c =
           let found = subst (λ o. IfSome o (λ n. has_partners raw node later i ≡ true)) w.in-Some.is c.in_ok-named.ensures.found in
           let named = subst (λ o. IfSome o (λ n. n.items ≡ groups_named raw node later i)) w.in-Some.is c.in_ok-named.ensures.named in
           let own = w.group_link_of-own.ensures in
-          let kept = keep-row raw node later i old.rows.items new.rows.items children new.to_child.rows (links_of old.links) (links_of new.links) old.numbers.items new.numbers.items w.row.result
+          let kept = keep_row_lem raw node later i old.rows.items new.rows.items children new.to_child.rows (links_of old.links) (links_of new.links) old.numbers.items new.numbers.items w.row.result
           c.loop-i.invariant.so_far found w.row.ensures.row w.in_ok-keep_row.ensures.rows (ap (λ v. v.rows) w.in_ok-keep_row.ensures.to_child ∙ ap (λ n. children ++ (n ∷ [])) named)
           (w.in_ok-keep_row.ensures.links ∙ ap (insert_key nat_eq (links_of old.links)) own) (subst (λ o. EndsInPlaceOf o (links_of new.links) old.numbers.items new.numbers.items) own w.in_ok-keep_row.ensures.number) in
           record {
@@ -71,7 +71,7 @@ loop-i-preserved g c =
             counted = omega (arith, all, c.child_groups.ensures.cost, w.keep_row.ensures.cost, c.loop-i.invariant.counted, w.steps-is);
           }
       | in_default w ↦
-          let gone = drop-row raw node later i old.rows.items children (links_of old.links) old.numbers.items c.loop-i.invariant.so_far (missing-row raw node later c.in_ok-named.field-0 i w.in_default.is c.in_ok-named.ensures.missing) in
+          let gone = drop_row raw node later i old.rows.items children (links_of old.links) old.numbers.items c.loop-i.invariant.so_far (missing_row raw node later c.in_ok-named.field-0 i w.in_default.is c.in_ok-named.ensures.missing) in
           record {
             so_far = subst (λ k. IsSoFar raw node later (i + 1) k.rows.items k.to_child.rows (links_of k.links) k.numbers.items) (sym w.kept-is) gone;
             width = ap (λ k. k.to_child.width) w.kept-is ∙ c.loop-i.invariant.width;
@@ -82,14 +82,14 @@ loop-i-preserved g c =
 pub returns-clause-few : goal.returns-clause-few
 returns-clause-few g c =
     let now = c.loop-i.kept in
-    let few = few-numbers c.args.raw.now c.args.node (map links_of c.args.later.now) c.loop-i.i now.rows.items now.to_child.rows (links_of now.links) now.numbers.items c.loop-i.invariant.so_far in
+    let few = few_numbers c.args.raw.now c.args.node (map links_of c.args.later.now) c.loop-i.i now.rows.items now.to_child.rows (links_of now.links) now.numbers.items c.loop-i.invariant.so_far in
     let most = length_within c.args.raw.now.rows c.args.node in
     omega (arith, few, most, c.requires.few_rows, c.len-i-end.ensures)
 
 pub returns-clause-cost : goal.returns-clause-cost
 returns-clause-cost g c =
     let within : c.loop-i.i ≤ raw_len c.args.raw.now c.args.node = omega (arith, c.len-i-end.ensures) in
-    let steps = room-all c.loop-i.i (length (child_nodes c.args.raw.now c.args.node)) (raw_len c.args.raw.now c.args.node) (length c.args.raw.now.shapes) within (kids-below c.args.raw.now c.args.node [] c.requires.node) in
+    let steps = room_all c.loop-i.i (length (child_nodes c.args.raw.now c.args.node)) (raw_len c.args.raw.now c.args.node) (length c.args.raw.now.shapes) within (kids_below_lem c.args.raw.now c.args.node [] c.requires.node) in
     omega (arith, steps, c.loop-i.invariant.counted)
 
 pub returns-clause-numbers : goal.returns-clause-numbers

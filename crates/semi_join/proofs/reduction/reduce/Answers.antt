@@ -5,9 +5,9 @@ use Rattle.tdp_core.specs.TreeData.{node_data}
 use Rattle.tdp_core.proofs.RawFacts.{formed_less}
 use Rattle.semi_join.specs.Reduction.{links_of, IsReducedNode, AreFew, group_links}
 use Rattle.semi_join.proofs.FromLast.{links_last, AreReducedLast}
-use Rattle.semi_join.proofs.FromLast.{steps-more, steps-few, from-more, links-more, few-more}
-use Rattle.semi_join.proofs.SameRows.{links-same, reduced-same, steps-same}
-use Rattle.semi_join.proofs.WholeReduction.{whole-reduction}
+use Rattle.semi_join.proofs.FromLast.{steps_more, steps_few, from_more, links_more, few_more}
+use Rattle.semi_join.proofs.SameRows.{links_same, reduced_same, steps_same}
+use Rattle.semi_join.proofs.WholeReduction.{whole_reduction}
 use Rattle.semi_join.proofs.reduction.reduce.Goals as goal
 
 pub returns-in_err-grouped-clause-cost : goal.returns-in_err-grouped-clause-cost
@@ -16,9 +16,9 @@ returns-in_err-grouped-clause-cost g c =
     let v = c.loop-node.node - 1 in
     let less : v < length raw.rows = omega (arith, c.loop-node.invariant.count, c.nodes-node.ensures.formed.each_node) in
     let is : c.loop-node.node ≡ suc v = omega arith in
-    let one = steps-same v [] c.loop-node.tree raw c.loop-node.invariant.shapes (c.loop-node.invariant.rows v (omega arith)) c.loop-node.steps c.reduce_node.new.steps c.reduce_node.ensures.cost in
-    steps-few raw.rows v (length raw.shapes) c.args.steps.now c.reduce_node.new.steps
-    (steps-more raw.rows v c.loop-node.node (length raw.shapes) c.args.steps.now c.loop-node.steps c.reduce_node.new.steps less is c.loop-node.invariant.counted one)
+    let one = steps_same v [] c.loop-node.tree raw c.loop-node.invariant.shapes (c.loop-node.invariant.rows v (omega arith)) c.loop-node.steps c.reduce_node.new.steps c.reduce_node.ensures.cost in
+    steps_few raw.rows v (length raw.shapes) c.args.steps.now c.reduce_node.new.steps
+    (steps_more raw.rows v c.loop-node.node (length raw.shapes) c.args.steps.now c.loop-node.steps c.reduce_node.new.steps less is c.loop-node.invariant.counted one)
 
 pub returns-in_err-insert-clause-cost : goal.returns-in_err-insert-clause-cost
 returns-in_err-insert-clause-cost g c =
@@ -26,9 +26,9 @@ returns-in_err-insert-clause-cost g c =
     let v = c.loop-node.node - 1 in
     let less : v < length raw.rows = omega (arith, c.loop-node.invariant.count, c.nodes-node.ensures.formed.each_node) in
     let is : c.loop-node.node ≡ suc v = omega arith in
-    let one = steps-same v [] c.loop-node.tree raw c.loop-node.invariant.shapes (c.loop-node.invariant.rows v (omega arith)) c.loop-node.steps c.reduce_node.new.steps c.reduce_node.ensures.cost in
-    steps-few raw.rows v (length raw.shapes) c.args.steps.now c.reduce_node.new.steps
-    (steps-more raw.rows v c.loop-node.node (length raw.shapes) c.args.steps.now c.loop-node.steps c.reduce_node.new.steps less is c.loop-node.invariant.counted one)
+    let one = steps_same v [] c.loop-node.tree raw c.loop-node.invariant.shapes (c.loop-node.invariant.rows v (omega arith)) c.loop-node.steps c.reduce_node.new.steps c.reduce_node.ensures.cost in
+    steps_few raw.rows v (length raw.shapes) c.args.steps.now c.reduce_node.new.steps
+    (steps_more raw.rows v c.loop-node.node (length raw.shapes) c.args.steps.now c.loop-node.steps c.reduce_node.new.steps less is c.loop-node.invariant.counted one)
 
 pub returns-in_err-insert-2-clause-cost : goal.returns-in_err-insert-2-clause-cost
 returns-in_err-insert-2-clause-cost g c =
@@ -36,9 +36,9 @@ returns-in_err-insert-2-clause-cost g c =
     let v = c.loop-node.node - 1 in
     let less : v < length raw.rows = omega (arith, c.loop-node.invariant.count, c.nodes-node.ensures.formed.each_node) in
     let is : c.loop-node.node ≡ suc v = omega arith in
-    let one = steps-same v [] c.loop-node.tree raw c.loop-node.invariant.shapes (c.loop-node.invariant.rows v (omega arith)) c.loop-node.steps c.reduce_node.new.steps c.reduce_node.ensures.cost in
-    steps-few raw.rows v (length raw.shapes) c.args.steps.now c.reduce_node.new.steps
-    (steps-more raw.rows v c.loop-node.node (length raw.shapes) c.args.steps.now c.loop-node.steps c.reduce_node.new.steps less is c.loop-node.invariant.counted one)
+    let one = steps_same v [] c.loop-node.tree raw c.loop-node.invariant.shapes (c.loop-node.invariant.rows v (omega arith)) c.loop-node.steps c.reduce_node.new.steps c.reduce_node.ensures.cost in
+    steps_few raw.rows v (length raw.shapes) c.args.steps.now c.reduce_node.new.steps
+    (steps_more raw.rows v c.loop-node.node (length raw.shapes) c.args.steps.now c.loop-node.steps c.reduce_node.new.steps less is c.loop-node.invariant.counted one)
 
 pub loop-node-preserved : goal.loop-node-preserved
 loop-node-preserved g c =
@@ -57,9 +57,9 @@ loop-node-preserved g c =
     let part = node_data c.in_ok-grouped.grouped.parts in
     let links = links_of c.in_ok-grouped.grouped.links in
     let found = subst (λ l. IsReducedNode tree v (map links_of l) part) c.deref.ensures.value c.in_ok-grouped.ensures.reduced in
-    let reduced = subst (λ l. IsReducedNode raw v l part) before.links (reduced-same v later tree raw before.shapes same part found) in
-    let keys : links ≡ group_links raw v later = c.in_ok-grouped.ensures.links ∙ ap (λ l. group_links tree v (map links_of l)) c.deref.ensures.value ∙ links-same v later tree raw before.shapes same in
-    let one = steps-same v later tree raw before.shapes same c.loop-node.steps c.reduce_node.new.steps c.reduce_node.ensures.cost in
+    let reduced = subst (λ l. IsReducedNode raw v l part) before.links (reduced_same v later tree raw before.shapes same part found) in
+    let keys : links ≡ group_links raw v later = c.in_ok-grouped.ensures.links ∙ ap (λ l. group_links tree v (map links_of l)) c.deref.ensures.value ∙ links_same v later tree raw before.shapes same in
+    let one = steps_same v later tree raw before.shapes same c.loop-node.steps c.reduce_node.new.steps c.reduce_node.ensures.cost in
     record {
       formed = subst (IsRawFormed g.R.Rank.KEYS g.R.Rank.key) (sym c.clear.ensures) (formed_less g.R.Rank.KEYS g.R.Rank.key tree v before.formed here);
       shapes = ap (λ (t : RawData g.row.R.Denot). t.shapes) c.clear.ensures ∙ before.shapes;
@@ -69,18 +69,18 @@ loop-node-preserved g c =
       reduced =
           subst (λ ps. AreReducedLast raw (length raw.shapes - v) (map node_data ps)) (sym c.in_ok-insert.ensures.items)
           (subst (λ n. AreReducedLast raw n (part ∷ map node_data c.loop-node.nodes.items)) more
-          (from-more raw (length raw.shapes - c.loop-node.node) v part (map node_data c.loop-node.nodes.items) sum before.reduced reduced));
+          (from_more raw (length raw.shapes - c.loop-node.node) v part (map node_data c.loop-node.nodes.items) sum before.reduced reduced));
       links =
           ap (map links_of) c.in_ok-insert-2.ensures.items
-          ∙ links-more raw (length raw.shapes - c.loop-node.node) v links later sum before.links keys
+          ∙ links_more raw (length raw.shapes - c.loop-node.node) v links later sum before.links keys
           ∙ ap (links_last raw) more;
-      few = subst (λ ls. AreFew (map links_of ls)) (sym c.in_ok-insert-2.ensures.items) (few-more links later c.in_ok-grouped.ensures.few before.few);
+      few = subst (λ ls. AreFew (map links_of ls)) (sym c.in_ok-insert-2.ensures.items) (few_more links later c.in_ok-grouped.ensures.few before.few);
       count = omega (arith, ap length c.in_ok-insert-2.ensures.items, before.count);
-      counted = steps-more raw.rows v c.loop-node.node (length raw.shapes) c.args.steps.now c.loop-node.steps c.reduce_node.new.steps less is before.counted one;
+      counted = steps_more raw.rows v c.loop-node.node (length raw.shapes) c.args.steps.now c.loop-node.steps c.reduce_node.new.steps less is before.counted one;
     }
 
 pub returns-clause-reduced : goal.returns-clause-reduced
 returns-clause-reduced g c =
     let all : length c.args.raw.shapes - c.loop-node.node ≡ length c.args.raw.shapes = omega arith in
-    whole-reduction g.R.Rank.KEYS g.R.Rank.key c.args.raw (map node_data c.loop-node.nodes.items) c.nodes-node.ensures.formed
+    whole_reduction g.R.Rank.KEYS g.R.Rank.key c.args.raw (map node_data c.loop-node.nodes.items) c.nodes-node.ensures.formed
     (subst (λ n. AreReducedLast c.args.raw n (map node_data c.loop-node.nodes.items)) all c.loop-node.invariant.reduced)

@@ -1,12 +1,12 @@
 use Rattle.std.proofs.Common.{length, arith}
 use Rattle.tdp_core.specs.TreeData.{parent}
-use Rattle.tdp_core.proofs.Children.{kids_below-most}
+use Rattle.tdp_core.proofs.Children.{kids_below_most}
 use Rattle.suffix_streams.proofs.Heads.{kid_within, stream_within, head_is}
 use Rattle.suffix_streams.proofs.reads.child_head.Goals as goal
 
 pub overflow_cast-child : goal.overflow_cast-child
 overflow_cast-child g c =
-    let most = kids_below-most (parent c.args.tree.now) c.args.node (length c.args.tree.now) in
+    let most = kids_below_most (parent c.args.tree.now) c.args.node (length c.args.tree.now) in
     let few = c.requires.formed.shaped.few_nodes in
     omega (arith, most, few)
 

@@ -1,16 +1,16 @@
 use Rattle.refusal_lines.specs.Reason.{Reason}
-use Rattle.refusal_lines.specs.Refused.{reason_of}
-use Rattle.verdict.specs.Found.{Found}
-use Rattle.verdict.specs.Made.{known_to}
+use Rattle.refusal_lines.specs.RefusalReasons.{reason_of}
+use Rattle.verdict.specs.AcceptedInput.{Found}
+use Rattle.verdict.specs.MadeFiles.{known_to}
 use Rattle.verdict.specs.Outcome.{Outside}
 use Rattle.verdict.specs.Words.{built}
-use Rattle.verdict.specs.Staged.{Shelved, shelved}
-use Rattle.refusal_lines.proofs.Prints.{appends-nothing}
-use Rattle.task_plan.specs.Planned.{found_in}
+use Rattle.verdict.specs.StageResults.{Shelved, shelved}
+use Rattle.refusal_lines.proofs.Prints.{appends_nothing}
+use Rattle.task_plan.specs.Plans.{found_in}
 use Rattle.task_plan.specs.Tasks.{command_of}
 use Rattle.task_answer.specs.Sides.{seen_by}
-use Rattle.task_answer.proofs.Bounds.{bounded-early, bounded-found, prompt-early, prompt-found}
-use Rattle.task_answer.proofs.Ends.{judged-accepts, judged-reason, judged-caused, judged-cut, printed-caused, printed-complete, printed-cut, printed-fits}
+use Rattle.task_answer.proofs.Bounds.{bounded_early, bounded_found, prompt_early, prompt_found}
+use Rattle.task_answer.proofs.Ends.{judged_accepts, judged_reason, judged_caused, judged_cut, printed_caused, printed_complete, printed_cut, printed_fits}
 use Rattle.task_answer.proofs.answering.answer_task.Goals as goal
 
 pub returns-in-Err-clause-fits : goal.returns-in-Err-clause-fits
@@ -18,14 +18,14 @@ returns-in-Err-clause-fits g c =
     let before : Shelved = shelved g.F.Shelf c.args.shelf.now in
     let after : Shelved = shelved g.F.Shelf c.plan_task.new.shelf in
     let a : Reason = reason_of c.in-Err.refusal in
-    judged-reason (command_of c.args.task.now) before after a c.in-Err.ensures.judged
+    judged_reason (command_of c.args.task.now) before after a c.in-Err.ensures.judged
 
 pub returns-in-Err-clause-caused : goal.returns-in-Err-clause-caused
 returns-in-Err-clause-caused g c =
     let old : Outside = seen_by g.F.Shelf g.S.Sink c.args.shelf.now c.args.out.now in
     let new : Outside = seen_by g.F.Shelf g.S.Sink c.plan_task.new.shelf c.args.out.now in
     let a : Reason = reason_of c.in-Err.refusal in
-    judged-caused (command_of c.args.task.now) old new (g.F.Shelf.files c.args.shelf.now) (g.F.Shelf.files c.plan_task.new.shelf) a c.in-Err.ensures.judged
+    judged_caused (command_of c.args.task.now) old new (g.F.Shelf.files c.args.shelf.now) (g.F.Shelf.files c.plan_task.new.shelf) a c.in-Err.ensures.judged
 
 pub returns-in-Err-clause-cut : goal.returns-in-Err-clause-cut
 returns-in-Err-clause-cut g c =
@@ -34,15 +34,15 @@ returns-in-Err-clause-cut g c =
     let before : Shelved = shelved g.F.Shelf c.args.shelf.now in
     let after : Shelved = shelved g.F.Shelf c.plan_task.new.shelf in
     let a : Reason = reason_of c.in-Err.refusal in
-    judged-cut (command_of c.args.task.now) before after old new a c.in-Err.ensures.judged (appends-nothing (g.S.Sink.written c.args.out.now))
+    judged_cut (command_of c.args.task.now) before after old new a c.in-Err.ensures.judged (appends_nothing (g.S.Sink.written c.args.out.now))
 
 pub returns-in-Err-clause-bounded : goal.returns-in-Err-clause-bounded
 returns-in-Err-clause-bounded g c =
-    bounded-early (command_of c.args.task.now) (known_to (built (command_of c.args.task.now)) (g.F.Shelf.files c.args.shelf.now)) c.args.steps.now c.plan_task.new.steps c.in-Err.ensures.early
+    bounded_early (command_of c.args.task.now) (known_to (built (command_of c.args.task.now)) (g.F.Shelf.files c.args.shelf.now)) c.args.steps.now c.plan_task.new.steps c.in-Err.ensures.early
 
 pub returns-in-Err-clause-prompt : goal.returns-in-Err-clause-prompt
 returns-in-Err-clause-prompt g c =
-    prompt-early (command_of c.args.task.now) (known_to (built (command_of c.args.task.now)) (g.F.Shelf.files c.args.shelf.now)) (g.S.Sink.written c.args.out.now) (g.S.Sink.written c.args.out.now)
+    prompt_early (command_of c.args.task.now) (known_to (built (command_of c.args.task.now)) (g.F.Shelf.files c.args.shelf.now)) (g.S.Sink.written c.args.out.now) (g.S.Sink.written c.args.out.now)
     c.args.steps.now c.plan_task.new.steps c.in-Err.ensures.early
 
 pub returns-in-Ok-clause-done : goal.returns-in-Ok-clause-done
@@ -52,8 +52,8 @@ returns-in-Ok-clause-done g c =
     let before : Shelved = shelved g.F.Shelf c.args.shelf.now in
     let after : Shelved = shelved g.F.Shelf c.plan_task.new.shelf in
     let found : Found = found_in c.in-Ok.planned in
-    let accepts = judged-accepts (command_of c.args.task.now) before after found c.in-Ok.ensures.judged in
-    printed-complete (command_of c.args.task.now) (known_to (built (command_of c.args.task.now)) (g.F.Shelf.files c.args.shelf.now)) old new found c.print_planned.result accepts c.print_planned.ensures.printed.whole
+    let accepts = judged_accepts (command_of c.args.task.now) before after found c.in-Ok.ensures.judged in
+    printed_complete (command_of c.args.task.now) (known_to (built (command_of c.args.task.now)) (g.F.Shelf.files c.args.shelf.now)) old new found c.print_planned.result accepts c.print_planned.ensures.printed.whole
 
 pub returns-in-Ok-clause-fits : goal.returns-in-Ok-clause-fits
 returns-in-Ok-clause-fits g c =
@@ -62,8 +62,8 @@ returns-in-Ok-clause-fits g c =
     let before : Shelved = shelved g.F.Shelf c.args.shelf.now in
     let after : Shelved = shelved g.F.Shelf c.plan_task.new.shelf in
     let found : Found = found_in c.in-Ok.planned in
-    let accepts = judged-accepts (command_of c.args.task.now) before after found c.in-Ok.ensures.judged in
-    printed-fits (command_of c.args.task.now) (known_to (built (command_of c.args.task.now)) (g.F.Shelf.files c.args.shelf.now)) old new found accepts c.print_planned.result c.print_planned.ensures.printed.cause
+    let accepts = judged_accepts (command_of c.args.task.now) before after found c.in-Ok.ensures.judged in
+    printed_fits (command_of c.args.task.now) (known_to (built (command_of c.args.task.now)) (g.F.Shelf.files c.args.shelf.now)) old new found accepts c.print_planned.result c.print_planned.ensures.printed.cause
 
 pub returns-in-Ok-clause-caused : goal.returns-in-Ok-clause-caused
 returns-in-Ok-clause-caused g c =
@@ -72,8 +72,8 @@ returns-in-Ok-clause-caused g c =
     let before : Shelved = shelved g.F.Shelf c.args.shelf.now in
     let after : Shelved = shelved g.F.Shelf c.plan_task.new.shelf in
     let found : Found = found_in c.in-Ok.planned in
-    let accepts = judged-accepts (command_of c.args.task.now) before after found c.in-Ok.ensures.judged in
-    printed-caused (command_of c.args.task.now) (known_to (built (command_of c.args.task.now)) (g.F.Shelf.files c.args.shelf.now)) old new found accepts c.print_planned.result c.print_planned.ensures.printed.cause
+    let accepts = judged_accepts (command_of c.args.task.now) before after found c.in-Ok.ensures.judged in
+    printed_caused (command_of c.args.task.now) (known_to (built (command_of c.args.task.now)) (g.F.Shelf.files c.args.shelf.now)) old new found accepts c.print_planned.result c.print_planned.ensures.printed.cause
 
 pub returns-in-Ok-clause-cut : goal.returns-in-Ok-clause-cut
 returns-in-Ok-clause-cut g c =
@@ -82,22 +82,22 @@ returns-in-Ok-clause-cut g c =
     let before : Shelved = shelved g.F.Shelf c.args.shelf.now in
     let after : Shelved = shelved g.F.Shelf c.plan_task.new.shelf in
     let found : Found = found_in c.in-Ok.planned in
-    let accepts = judged-accepts (command_of c.args.task.now) before after found c.in-Ok.ensures.judged in
-    printed-cut (command_of c.args.task.now) (known_to (built (command_of c.args.task.now)) (g.F.Shelf.files c.args.shelf.now)) old new found accepts c.print_planned.result c.print_planned.ensures.printed.cause c.print_planned.ensures.printed.part
+    let accepts = judged_accepts (command_of c.args.task.now) before after found c.in-Ok.ensures.judged in
+    printed_cut (command_of c.args.task.now) (known_to (built (command_of c.args.task.now)) (g.F.Shelf.files c.args.shelf.now)) old new found accepts c.print_planned.result c.print_planned.ensures.printed.cause c.print_planned.ensures.printed.part
 
 pub returns-in-Ok-clause-bounded : goal.returns-in-Ok-clause-bounded
 returns-in-Ok-clause-bounded g c =
     let before : Shelved = shelved g.F.Shelf c.args.shelf.now in
     let after : Shelved = shelved g.F.Shelf c.plan_task.new.shelf in
     let found : Found = found_in c.in-Ok.planned in
-    let accepts = judged-accepts (command_of c.args.task.now) before after found c.in-Ok.ensures.judged in
-    bounded-found (command_of c.args.task.now) (known_to (built (command_of c.args.task.now)) (g.F.Shelf.files c.args.shelf.now)) found c.args.steps.now c.print_planned.new.steps accepts (c.print_planned.ensures.bounded c.args.steps.now c.in-Ok.ensures.cost)
+    let accepts = judged_accepts (command_of c.args.task.now) before after found c.in-Ok.ensures.judged in
+    bounded_found (command_of c.args.task.now) (known_to (built (command_of c.args.task.now)) (g.F.Shelf.files c.args.shelf.now)) found c.args.steps.now c.print_planned.new.steps accepts (c.print_planned.ensures.bounded c.args.steps.now c.in-Ok.ensures.cost)
 
 pub returns-in-Ok-clause-prompt : goal.returns-in-Ok-clause-prompt
 returns-in-Ok-clause-prompt g c =
     let before : Shelved = shelved g.F.Shelf c.args.shelf.now in
     let after : Shelved = shelved g.F.Shelf c.plan_task.new.shelf in
     let found : Found = found_in c.in-Ok.planned in
-    let accepts = judged-accepts (command_of c.args.task.now) before after found c.in-Ok.ensures.judged in
-    prompt-found (command_of c.args.task.now) (known_to (built (command_of c.args.task.now)) (g.F.Shelf.files c.args.shelf.now)) found (g.S.Sink.written c.args.out.now) (g.S.Sink.written c.print_planned.new.out)
+    let accepts = judged_accepts (command_of c.args.task.now) before after found c.in-Ok.ensures.judged in
+    prompt_found (command_of c.args.task.now) (known_to (built (command_of c.args.task.now)) (g.F.Shelf.files c.args.shelf.now)) found (g.S.Sink.written c.args.out.now) (g.S.Sink.written c.print_planned.new.out)
     c.args.steps.now c.print_planned.new.steps accepts (c.print_planned.ensures.paced c.args.steps.now c.in-Ok.ensures.cost)

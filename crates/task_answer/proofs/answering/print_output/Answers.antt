@@ -1,51 +1,51 @@
 use Rattle.std.proofs.Common.{◌≡◌, ℕ, None, Option, arith, refl, subst}
 use Rattle.plan_build.specs.Plan.{IsPlanOf, shape_of}
-use Rattle.refusal_lines.proofs.Prints.{printed-some}
-use Rattle.task_plan.specs.Judged.{IsUnnamed}
+use Rattle.refusal_lines.proofs.Prints.{printed_some}
+use Rattle.task_plan.specs.Judgement.{IsUnnamed}
 use Rattle.task_plan.specs.Tasks.{command_of}
 use Rattle.task_plan.specs.declared.task.Task.{Task}
-use Rattle.plan_build.proofs.ShapeIs.{plan-shape}
-use Rattle.task_print.proofs.Prepared.{prepared-over}
-use Rattle.plan_build.proofs.Rooted.{whole-of}
+use Rattle.plan_build.proofs.ShapeIs.{plan_shape}
+use Rattle.task_print.proofs.Prepared.{prepared_over}
+use Rattle.plan_build.proofs.Rooted.{whole_of}
 use Rattle.task_answer.proofs.answering.print_output.Goals as goal
 
 pub returns-in-Run-clause-bounded : goal.returns-in-Run-clause-bounded
 returns-in-Run-clause-bounded g c =
-    let has = plan-shape g.R.Rank.KEYS g.R.Rank.key c.args.query.now c.args.tables.now c.args.plan.now (whole-of g.R.Rank.KEYS g.R.Rank.key c.args.query.now c.args.tables.now c.args.best c.args.plan.now c.requires.plan) in
+    let has = plan_shape g.R.Rank.KEYS g.R.Rank.key c.args.query.now c.args.tables.now c.args.plan.now (whole_of g.R.Rank.KEYS g.R.Rank.key c.args.query.now c.args.tables.now c.args.best c.args.plan.now c.requires.plan) in
     rw c.in-Run.is (λ proof before prepared. c.print_run.ensures.bounded before prepared (shape_of c.args.plan.now) has)
 
 pub returns-in-Run-clause-paced : goal.returns-in-Run-clause-paced
 returns-in-Run-clause-paced g c =
-    let has = plan-shape g.R.Rank.KEYS g.R.Rank.key c.args.query.now c.args.tables.now c.args.plan.now (whole-of g.R.Rank.KEYS g.R.Rank.key c.args.query.now c.args.tables.now c.args.best c.args.plan.now c.requires.plan) in
+    let has = plan_shape g.R.Rank.KEYS g.R.Rank.key c.args.query.now c.args.tables.now c.args.plan.now (whole_of g.R.Rank.KEYS g.R.Rank.key c.args.query.now c.args.tables.now c.args.best c.args.plan.now c.requires.plan) in
     rw c.in-Run.is (λ proof before prepared. c.print_run.ensures.paced before prepared (shape_of c.args.plan.now) has)
 
 pub returns-in-Session-clause-bounded : goal.returns-in-Session-clause-bounded
 returns-in-Session-clause-bounded g c =
-    let has = plan-shape g.R.Rank.KEYS g.R.Rank.key c.args.query.now c.args.tables.now c.args.plan.now (whole-of g.R.Rank.KEYS g.R.Rank.key c.args.query.now c.args.tables.now c.args.best c.args.plan.now c.requires.plan) in
+    let has = plan_shape g.R.Rank.KEYS g.R.Rank.key c.args.query.now c.args.tables.now c.args.plan.now (whole_of g.R.Rank.KEYS g.R.Rank.key c.args.query.now c.args.tables.now c.args.best c.args.plan.now c.requires.plan) in
     rw c.in-Session.is (λ proof before prepared. let least = c.print_script.ensures.bounded before prepared (shape_of c.args.plan.now) has in omega (arith, least))
 
 pub returns-in-Load-clause-bounded : goal.returns-in-Load-clause-bounded
 returns-in-Load-clause-bounded g c =
-    let has = plan-shape g.R.Rank.KEYS g.R.Rank.key c.args.query.now c.args.tables.now c.args.plan.now (whole-of g.R.Rank.KEYS g.R.Rank.key c.args.query.now c.args.tables.now c.args.best c.args.plan.now c.requires.plan) in
+    let has = plan_shape g.R.Rank.KEYS g.R.Rank.key c.args.query.now c.args.tables.now c.args.plan.now (whole_of g.R.Rank.KEYS g.R.Rank.key c.args.query.now c.args.tables.now c.args.best c.args.plan.now c.requires.plan) in
     rw c.in-Load.is (λ proof before prepared. c.print_load.ensures.bounded before prepared (shape_of c.args.plan.now) has)
 
 pub returns-in-Plan-clause-bounded : goal.returns-in-Plan-clause-bounded
-returns-in-Plan-clause-bounded g c = rw c.in-Plan.is (λ proof before prepared. prepared-over c.args.query.now.query c.args.tables.now (shape_of c.args.plan.now) before _ 0 prepared)
+returns-in-Plan-clause-bounded g c = rw c.in-Plan.is (λ proof before prepared. prepared_over c.args.query.now.query c.args.tables.now (shape_of c.args.plan.now) before _ 0 prepared)
 
 pub print_report-requires : goal.print_report-requires
-print_report-requires g c = record { plan = whole-of g.R.Rank.KEYS g.R.Rank.key c.args.query.now c.args.tables.now c.args.best c.args.plan.now c.requires.plan }
+print_report-requires g c = record { plan = whole_of g.R.Rank.KEYS g.R.Rank.key c.args.query.now c.args.tables.now c.args.best c.args.plan.now c.requires.plan }
 
 pub returns-in-Run-clause-printed : goal.returns-in-Run-clause-printed
-returns-in-Run-clause-printed g c = rw c.in-Run.is (λ proof. printed-some _ _ _ _ _ refl c.print_run.ensures.printed)
+returns-in-Run-clause-printed g c = rw c.in-Run.is (λ proof. printed_some _ _ _ _ _ refl c.print_run.ensures.printed)
 
 pub returns-in-Plan-clause-printed : goal.returns-in-Plan-clause-printed
-returns-in-Plan-clause-printed g c = rw c.in-Plan.is (λ proof. printed-some _ _ _ _ _ refl c.print_report.ensures)
+returns-in-Plan-clause-printed g c = rw c.in-Plan.is (λ proof. printed_some _ _ _ _ _ refl c.print_report.ensures)
 
 pub returns-in-Session-clause-printed : goal.returns-in-Session-clause-printed
-returns-in-Session-clause-printed g c = rw c.in-Session.is (λ proof. printed-some _ _ _ _ _ refl c.print_script.ensures.printed)
+returns-in-Session-clause-printed g c = rw c.in-Session.is (λ proof. printed_some _ _ _ _ _ refl c.print_script.ensures.printed)
 
 pub returns-in-Load-clause-printed : goal.returns-in-Load-clause-printed
-returns-in-Load-clause-printed g c = rw c.in-Load.is (λ proof. printed-some _ _ _ _ _ refl c.print_load.ensures.printed)
+returns-in-Load-clause-printed g c = rw c.in-Load.is (λ proof. printed_some _ _ _ _ _ refl c.print_load.ensures.printed)
 
 -- the plan is that of the join tree, since no item is named
 pub print_certificate-requires : goal.print_certificate-requires

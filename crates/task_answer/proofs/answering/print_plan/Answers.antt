@@ -1,17 +1,17 @@
 use Rattle.std.proofs.Common.{◌∷◌, [], ℕ, sym, subst}
 use Rattle.input_load.specs.Input.{InputData, loaded_of, queries_in}
 use Rattle.plan_build.specs.Plan.{shape_of}
-use Rattle.refusal_lines.specs.Printed.{PrintedSome}
+use Rattle.refusal_lines.specs.Printing.{PrintedSome}
 use Rattle.refusal_lines.specs.SinkState.{state_of}
 use Rattle.verdict.specs.Bound.{IsPaced, IsWithin}
-use Rattle.verdict.specs.Found.{Found, found_of}
+use Rattle.verdict.specs.AcceptedInput.{Found, found_of}
 use Rattle.verdict.specs.Output.{HasOutput}
-use Rattle.task_plan.specs.Judged.{IsUnnamed}
-use Rattle.task_plan.specs.Planned.{ArePrepared, IsOnePlanOf}
+use Rattle.task_plan.specs.Judgement.{IsUnnamed}
+use Rattle.task_plan.specs.Plans.{ArePrepared, IsOnePlanOf}
 use Rattle.task_plan.specs.Tasks.{command_of}
 use Rattle.task_plan.proofs.Inputs.{input_shown}
-use Rattle.task_plan.proofs.Judging.{unnamed-of}
-use Rattle.task_plan.proofs.PlanList.{first-only, first-planned, one-cost, one-printed}
+use Rattle.task_plan.proofs.Judging.{unnamed_of}
+use Rattle.task_plan.proofs.PlanList.{first_only, first_planned, one_cost, one_printed}
 use Rattle.task_answer.proofs.answering.print_plan.Goals as goal
 
 pub print_output-requires-clause-plan : goal.print_output-requires-clause-plan
@@ -19,12 +19,12 @@ print_output-requires-clause-plan g c =
     let input = input_shown c.input.inside in
     let is = subst (λ (i : InputData). IsOnePlanOf g.R.Rank.KEYS g.R.Rank.key i.queries i.tables i.best c.args.plan.now)
     (sym c.input.view_is) c.requires.plan in
-    first-planned g.R.Rank.KEYS g.R.Rank.key input c.args.plan.now c.index-query.result.now is c.index-query.ensures
+    first_planned g.R.Rank.KEYS g.R.Rank.key input c.args.plan.now c.index-query.result.now is c.index-query.ensures
 
 pub print_output-requires-clause-unnamed : goal.print_output-requires-clause-unnamed
 print_output-requires-clause-unnamed g c =
     subst (λ (i : InputData). IsUnnamed (command_of c.args.task.now) i.best) (sym c.input.view_is)
-    (unnamed-of (command_of c.args.task.now) c.args.input.now c.requires.alone)
+    (unnamed_of (command_of c.args.task.now) c.args.input.now c.requires.alone)
 
 pub returns-clause-printed : goal.returns-clause-printed
 returns-clause-printed g c =
@@ -33,8 +33,8 @@ returns-clause-printed g c =
     let made = c.args.plan.now in
     let is = subst (λ (i : InputData). IsOnePlanOf g.R.Rank.KEYS g.R.Rank.key i.queries i.tables i.best made)
     (sym c.input.view_is) c.requires.plan in
-    let only = first-only g.R.Rank.KEYS g.R.Rank.key input made query is c.index-query.ensures in
-    let found = one-printed input query c.as_slice-script.result.now (shape_of made) only
+    let only = first_only g.R.Rank.KEYS g.R.Rank.key input made query is c.index-query.ensures in
+    let found = one_printed input query c.as_slice-script.result.now (shape_of made) only
     (sym c.as_slice-script.ensures.value) in
     let P = λ (f : Found). PrintedSome (HasOutput (command_of c.args.task.now) f) (state_of g.S.Sink c.args.out.now)
     (state_of g.S.Sink c.print_output.new.out) c.print_output.result in
@@ -48,15 +48,15 @@ returns-clause-bounded g c =
     let made = c.args.plan.now in
     let is = subst (λ (i : InputData). IsOnePlanOf g.R.Rank.KEYS g.R.Rank.key i.queries i.tables i.best made)
     (sym c.input.view_is) c.requires.plan in
-    let only = first-only g.R.Rank.KEYS g.R.Rank.key input made query is c.index-query.ensures in
-    let found = one-printed input query c.as_slice-script.result.now (shape_of made) only
+    let only = first_only g.R.Rank.KEYS g.R.Rank.key input made query is c.index-query.ensures in
+    let found = one_printed input query c.as_slice-script.result.now (shape_of made) only
     (sym c.as_slice-script.ensures.value) in
     let P = λ (before : ℕ) (f : Found). IsWithin (command_of c.args.task.now) f before c.print_output.new.steps in
     subst (λ (i : InputData). (before : ℕ) → ArePrepared (queries_in i.queries) i.tables before c.args.steps.now
     → P before (found_of (loaded_of i) (shape_of made ∷ []))) c.input.view_is
     (λ before prepared. subst (P before) (sym found)
     (c.print_output.ensures.bounded input.proof before
-    (one-cost input query only before c.args.steps.now prepared)))
+    (one_cost input query only before c.args.steps.now prepared)))
 
 pub returns-clause-paced : goal.returns-clause-paced
 returns-clause-paced g c =
@@ -65,8 +65,8 @@ returns-clause-paced g c =
     let made = c.args.plan.now in
     let is = subst (λ (i : InputData). IsOnePlanOf g.R.Rank.KEYS g.R.Rank.key i.queries i.tables i.best made)
     (sym c.input.view_is) c.requires.plan in
-    let only = first-only g.R.Rank.KEYS g.R.Rank.key input made query is c.index-query.ensures in
-    let found = one-printed input query c.as_slice-script.result.now (shape_of made) only
+    let only = first_only g.R.Rank.KEYS g.R.Rank.key input made query is c.index-query.ensures in
+    let found = one_printed input query c.as_slice-script.result.now (shape_of made) only
     (sym c.as_slice-script.ensures.value) in
     let P = λ (before : ℕ) (f : Found). IsPaced (command_of c.args.task.now) f (g.S.Sink.written c.args.out.now)
     (g.S.Sink.written c.print_output.new.out) before c.print_output.new.steps in
@@ -74,4 +74,4 @@ returns-clause-paced g c =
     → P before (found_of (loaded_of i) (shape_of made ∷ []))) c.input.view_is
     (λ before prepared. subst (P before) (sym found)
     (c.print_output.ensures.paced input.proof before
-    (one-cost input query only before c.args.steps.now prepared)))
+    (one_cost input query only before c.args.steps.now prepared)))

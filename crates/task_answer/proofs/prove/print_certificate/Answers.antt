@@ -1,7 +1,7 @@
 use Rattle.std.proofs.Common.{◌≡◌, Err, List, refl, rules, subst, sym}
 use Rattle.proof_model.specs.ProofTexts.{IsProofText}
 use Rattle.refusal_lines.specs.declared.refusal.Refusal.TheVariants as refusal
-use Rattle.refusal_lines.proofs.Prints.{none-printed}
+use Rattle.refusal_lines.proofs.Prints.{none_printed}
 use Rattle.tdp_core.specs.Solutions.{IsTreeRanking}
 use Rattle.tdp_core.specs.TreeData.{NodeData}
 use Rattle.task_answer.proofs.prove.print_certificate.Goals as goal
@@ -13,7 +13,7 @@ pub returns-in_err-chosen : goal.returns-in_err-chosen
 returns-in_err-chosen g c = record {
   printed = λ tables fits is.
       let e : c.from_residual.result ≡ Err refusal.NoMemory = search rules in
-      rw e (none-printed (IsProofText c.args.query.now.query tables) _);
+      rw e (none_printed (IsProofText c.args.query.now.query tables) _);
 }
 
 pub print_proof-requires : goal.print_proof-requires

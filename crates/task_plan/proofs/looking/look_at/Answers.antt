@@ -4,15 +4,15 @@ use Rattle.refusal_lines.specs.declared.refusal.Refusal.{Refusal}
 use Rattle.task_plan.proofs.looking.look_at.Goals as goal
 
 -- nothing is asked of the number of queries
-any-count : (r : Result InputData Refusal) → IfOk r (λ input. Unit {0})
-any-count (Ok input) = tt
-any-count (Err refusal) = tt
+any_count : (r : Result InputData Refusal) → IfOk r (λ input. Unit {0})
+any_count (Ok input) = tt
+any_count (Err refusal) = tt
 
 pub returns-in-Run-clause-looked : goal.returns-in-Run-clause-looked
 returns-in-Run-clause-looked g c = rw c.in-Run.is (rw c.text_of.ensures at c.look_up.ensures.looked)
 
 pub returns-in-Run-clause-alone : goal.returns-in-Run-clause-alone
-returns-in-Run-clause-alone g c = rw c.in-Run.is (any-count c.look_up.result)
+returns-in-Run-clause-alone g c = rw c.in-Run.is (any_count c.look_up.result)
 
 pub returns-in-Plan-clause-looked : goal.returns-in-Plan-clause-looked
 returns-in-Plan-clause-looked g c = rw c.in-Plan.is c.look_up-in-Plan.ensures.looked

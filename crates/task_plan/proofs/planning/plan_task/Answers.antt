@@ -1,12 +1,12 @@
 use Rattle.std.proofs.Common.{◌≡◌, Err, Ok, rules}
 use Rattle.input_load.specs.Input.{loaded_of}
-use Rattle.refusal_lines.specs.Refused.{reason_of}
-use Rattle.verdict.specs.Made.{known_to}
-use Rattle.verdict.specs.Staged.{Shelved, shelved}
+use Rattle.refusal_lines.specs.RefusalReasons.{reason_of}
+use Rattle.verdict.specs.MadeFiles.{known_to}
+use Rattle.verdict.specs.StageResults.{Shelved, shelved}
 use Rattle.verdict.specs.Words.{built}
-use Rattle.task_plan.specs.Planned.{shown_plans}
+use Rattle.task_plan.specs.Plans.{shown_plans}
 use Rattle.task_plan.specs.Tasks.{command_of}
-use Rattle.task_plan.proofs.Judging.{early-prepared, early-still, looked-refused, looked-then}
+use Rattle.task_plan.proofs.Judging.{early_prepared, early_still, looked_refused, looked_then}
 use Rattle.task_plan.proofs.planning.plan_task.Goals as goal
 
 pub returns-in_err-input-clause-judged : goal.returns-in_err-input-clause-judged
@@ -14,19 +14,19 @@ returns-in_err-input-clause-judged g c =
     let before : Shelved = shelved g.F.Shelf c.args.shelf.now in
     let after : Shelved = shelved g.F.Shelf c.look_at.new.shelf in
     let e : c.from_residual.result ≡ Err c.in_err-input.field-0.0 = search rules in
-    rw e (looked-refused (command_of c.args.task.now) before after (reason_of c.in_err-input.field-0.0) c.in_err-input.ensures.looked)
+    rw e (looked_refused (command_of c.args.task.now) before after (reason_of c.in_err-input.field-0.0) c.in_err-input.ensures.looked)
 
 pub returns-in_err-input-clause-early : goal.returns-in_err-input-clause-early
 returns-in_err-input-clause-early g c =
     let e : c.from_residual.result ≡ Err c.in_err-input.field-0.0 = search rules in
-    rw e (early-still (command_of c.args.task.now) (known_to (built (command_of c.args.task.now)) (g.F.Shelf.files c.args.shelf.now)) c.args.steps.now)
+    rw e (early_still (command_of c.args.task.now) (known_to (built (command_of c.args.task.now)) (g.F.Shelf.files c.args.shelf.now)) c.args.steps.now)
 
 pub returns-in_err-plans-clause-judged : goal.returns-in_err-plans-clause-judged
 returns-in_err-plans-clause-judged g c =
     let before : Shelved = shelved g.F.Shelf c.args.shelf.now in
     let after : Shelved = shelved g.F.Shelf c.look_at.new.shelf in
     let e : c.from_residual-in_err-plans.result ≡ Err c.in_err-plans.field-0.0 = search rules in
-    rw e (looked-then c.args.task.now before after (loaded_of c.in_ok-input.input) (Err (reason_of c.in_err-plans.field-0.0))
+    rw e (looked_then c.args.task.now before after (loaded_of c.in_ok-input.input) (Err (reason_of c.in_err-plans.field-0.0))
     c.in_ok-input.ensures.looked c.in_err-plans.ensures.shaped)
 
 pub returns-in_err-plans-clause-early : goal.returns-in_err-plans-clause-early
@@ -34,12 +34,12 @@ returns-in_err-plans-clause-early g c =
     let before : Shelved = shelved g.F.Shelf c.args.shelf.now in
     let after : Shelved = shelved g.F.Shelf c.look_at.new.shelf in
     let e : c.from_residual-in_err-plans.result ≡ Err c.in_err-plans.field-0.0 = search rules in
-    rw e (early-prepared (command_of c.args.task.now) before after c.in_ok-input.input c.args.steps.now c.plans_of.new.steps
+    rw e (early_prepared (command_of c.args.task.now) before after c.in_ok-input.input c.args.steps.now c.plans_of.new.steps
     c.in_ok-input.ensures.looked c.in_ok-input.ensures.alone c.in_err-plans.ensures.cost)
 
 pub returns-clause-judged : goal.returns-clause-judged
 returns-clause-judged g c =
     let before : Shelved = shelved g.F.Shelf c.args.shelf.now in
     let after : Shelved = shelved g.F.Shelf c.look_at.new.shelf in
-    looked-then c.args.task.now before after (loaded_of c.in_ok-input.input) (shown_plans (loaded_of c.in_ok-input.input) (Ok c.in_ok-plans.plans))
+    looked_then c.args.task.now before after (loaded_of c.in_ok-input.input) (shown_plans (loaded_of c.in_ok-input.input) (Ok c.in_ok-plans.plans))
     c.in_ok-input.ensures.looked c.in_ok-plans.ensures.shaped

@@ -1,18 +1,18 @@
 use Rattle.std.proofs.Common.{◌≡◌, ◌<◌, ◌+◌, true, Err, Some, length, subst, sym, arith}
 use Rattle.input_load.specs.Input.{queries_in}
 use Rattle.refusal_lines.specs.Reason.{Reason}
-use Rattle.verdict.specs.Staged.{Pure}
+use Rattle.verdict.specs.StageResults.{Pure}
 use Rattle.verdict.specs.Verdict.{AreStructures}
 use Rattle.verdict.proofs.Structure.{structures_found}
-use Rattle.task_plan.specs.Planned.{plan_reason, shapes_of}
-use Rattle.task_plan.proofs.PlanList.{all-planned, next-flawed, planned-more, plans-shaped, some-prepared}
+use Rattle.task_plan.specs.Plans.{plan_reason, shapes_of}
+use Rattle.task_plan.proofs.PlanList.{all_planned, next_flawed, planned_more, plans_shaped, some_prepared}
 use Rattle.task_plan.proofs.planning.plans_for.Goals as goal
 
 pub returns-in_err-push-in-Ok-clause-cost : goal.returns-in_err-push-in-Ok-clause-cost
 returns-in_err-push-in-Ok-clause-cost g c =
     let at = c.loop-query in
     let inside : at.query-index < length c.args.queries.now = omega arith in
-    some-prepared g.R.Rank.KEYS g.R.Rank.key c.args.tables.now c.args.queries.now at.query-index at.plans.items
+    some_prepared g.R.Rank.KEYS g.R.Rank.key c.args.tables.now c.args.queries.now at.query-index at.plans.items
     c.args.steps.now at.steps c.prepare.new.steps
     c.query-item.result at.invariant inside c.query-item.is c.in-Ok.ensures.cost
 
@@ -26,7 +26,7 @@ returns-in-Err-clause-shaped g c =
     let P : Reason → Type 0 = λ a. Pure (AreStructures true 1 c.args.tables.now (queries_in c.args.queries.now))
     (Err a) in
     let flawed : P (plan_reason (Some place) c.in-Err.fault) =
-    next-flawed g.R.Rank.KEYS g.R.Rank.key c.args.tables.now c.args.queries.now at.query-index at.plans.items
+    next_flawed g.R.Rank.KEYS g.R.Rank.key c.args.tables.now c.args.queries.now at.query-index at.plans.items
     c.args.steps.now at.steps place
     c.query-item.result c.in-Err.fault at.invariant inside c.query-item.is here c.in-Err.ensures.refusal in
     subst P (sym c.plan_refusal.ensures) flawed
@@ -35,7 +35,7 @@ pub returns-in-Err-clause-cost : goal.returns-in-Err-clause-cost
 returns-in-Err-clause-cost g c =
     let at = c.loop-query in
     let inside : at.query-index < length c.args.queries.now = omega arith in
-    some-prepared g.R.Rank.KEYS g.R.Rank.key c.args.tables.now c.args.queries.now at.query-index at.plans.items
+    some_prepared g.R.Rank.KEYS g.R.Rank.key c.args.tables.now c.args.queries.now at.query-index at.plans.items
     c.args.steps.now at.steps c.prepare.new.steps
     c.query-item.result at.invariant inside c.query-item.is c.in-Err.ensures.cost
 
@@ -44,7 +44,7 @@ loop-query-preserved g c =
     let at = c.loop-query in
     let inside : at.query-index < length c.args.queries.now = omega arith in
     rw c.in_ok-push-in-Ok.ensures.items
-    (planned-more g.R.Rank.KEYS g.R.Rank.key c.args.tables.now c.args.queries.now at.query-index at.plans.items
+    (planned_more g.R.Rank.KEYS g.R.Rank.key c.args.tables.now c.args.queries.now at.query-index at.plans.items
     c.args.steps.now at.steps c.prepare.new.steps
     c.query-item.result c.in-Ok.plan at.invariant inside c.query-item.is c.in-Ok.ensures.plan c.in-Ok.ensures.cost)
 
@@ -55,7 +55,7 @@ returns-clause-shaped g c =
     let key = g.R.Rank.key in
     let tables = c.args.tables.now in
     let queries = c.args.queries.now in
-    let all = all-planned d key tables queries at.query-index at.plans.items c.args.steps.now at.steps at.invariant
+    let all = all_planned d key tables queries at.query-index at.plans.items c.args.steps.now at.steps at.invariant
     (omega arith) in
     structures_found true 1 tables (queries_in queries) (shapes_of at.plans.items)
-    (plans-shaped d key tables queries at.plans.items all)
+    (plans_shaped d key tables queries at.plans.items all)

@@ -1,14 +1,14 @@
 use Rattle.std.proofs.Common.{◌≡◌, ◌<◌, ◌∷◌, [], ◌∙◌, Err, Ok, length, sym, subst, ap, rules, arith}
 use Rattle.plan_build.specs.RankedPlan.{fixed_key}
-use Rattle.query_bind.specs.Weighed.{BoundQuery}
-use Rattle.refusal_lines.specs.Refused.{reason_of}
+use Rattle.query_bind.specs.WeighedQuery.{BoundQuery}
+use Rattle.refusal_lines.specs.RefusalReasons.{reason_of}
 use Rattle.input_load.specs.Input.{InputData, loaded_of}
-use Rattle.verdict.specs.Found.{found_of}
-use Rattle.verdict.specs.Staged.{Pure}
+use Rattle.verdict.specs.AcceptedInput.{found_of}
+use Rattle.verdict.specs.StageResults.{Pure}
 use Rattle.verdict.specs.Verdict.{IsShaped}
-use Rattle.task_plan.specs.Planned.{HavePlans, shape_in, shapes_of}
+use Rattle.task_plan.specs.Plans.{HavePlans, shape_in, shapes_of}
 use Rattle.task_plan.proofs.Inputs.{input_shown}
-use Rattle.task_plan.proofs.PlanList.{caps-each, keys-within, one-found, one-refused, only-one, several-found, several-refused}
+use Rattle.task_plan.proofs.PlanList.{caps_each, keys_within, one_found, one_refused, only_one, several_found, several_refused}
 use Rattle.task_plan.proofs.planning.plans_of.Goals as goal
 
 pub returns-in_err-plan-clause-shaped : goal.returns-in_err-plan-clause-shaped
@@ -16,21 +16,21 @@ returns-in_err-plan-clause-shaped g c =
     let e : c.from_residual.result ≡ Err c.in_err-plan.field-0.0 = search rules in
     let input = input_shown c.input.inside in
     let query = c.index-queries-0.result in
-    let only = sym c.as_slice-queries.ensures.value ∙ only-one c.as_slice-queries.result.now query
+    let only = sym c.as_slice-queries.ensures.value ∙ only_one c.as_slice-queries.result.now query
     c.if-queries-eq1.true c.index-queries-0.is in
     let refusal = reason_of c.in_err-plan.field-0.0 in
     rw e (subst (λ (i : InputData). Pure (IsShaped (loaded_of i)) (Err refusal)) c.input.view_is
-    (one-refused input query refusal only c.in_err-plan.ensures.shaped))
+    (one_refused input query refusal only c.in_err-plan.ensures.shaped))
 
 pub returns-then-queries-eq1-clause-shaped : goal.returns-then-queries-eq1-clause-shaped
 returns-then-queries-eq1-clause-shaped g c =
     let input = input_shown c.input.inside in
     let query = c.index-queries-0.result in
-    let only = sym c.as_slice-queries.ensures.value ∙ only-one c.as_slice-queries.result.now query
+    let only = sym c.as_slice-queries.ensures.value ∙ only_one c.as_slice-queries.result.now query
     c.if-queries-eq1.true c.index-queries-0.is in
     let shape = shape_in c.in_ok-plan.plan in
     subst (λ (i : InputData). IsShaped (loaded_of i) (Ok (found_of (loaded_of i) (shape ∷ [])))) c.input.view_is
-    (one-found input query shape only c.in_ok-plan.ensures.shaped)
+    (one_found input query shape only c.in_ok-plan.ensures.shaped)
 
 pub plans_for-requires-clause-keys : goal.plans_for-requires-clause-keys
 plans_for-requires-clause-keys g c =
@@ -39,13 +39,13 @@ plans_for-requires-clause-keys g c =
     let few = c.if-keys-le1.true in
     let count = c.keys.ensures.keys in
     rw c.as_slice-queries.ensures.value
-    (keys-within keys.0 1 c.input.inside.queries.items c.index-queries-0.result keys.1
+    (keys_within keys.0 1 c.input.inside.queries.items c.index-queries-0.result keys.1
     (rw c.as_slice-queries.ensures.value at c.index-queries-0.is) some
     (omega (arith, few, count)))
 
 pub plans_for-requires-clause-limit : goal.plans_for-requires-clause-limit
 plans_for-requires-clause-limit g c =
-    rw c.as_slice-queries.ensures.value (caps-each c.input.inside.tables c.input.inside.queries.items c.input.invariant.fits)
+    rw c.as_slice-queries.ensures.value (caps_each c.input.inside.tables c.input.inside.queries.items c.input.invariant.fits)
 
 pub returns-in_err-plans-clause-shaped : goal.returns-in_err-plans-clause-shaped
 returns-in_err-plans-clause-shaped g c =
@@ -56,7 +56,7 @@ returns-in_err-plans-clause-shaped g c =
     let value = ap (length {A = BoundQuery}) c.as_slice-queries.ensures.value in
     let more : 1 < length input.queries = omega (arith, some, value, c.if-queries-eq1.false) in
     rw e (subst (λ (i : InputData). Pure (IsShaped (loaded_of i)) (Err refusal)) c.input.view_is
-    (several-refused input refusal more (rw c.as_slice-queries.ensures.value at c.in_err-plans.ensures.shaped)))
+    (several_refused input refusal more (rw c.as_slice-queries.ensures.value at c.in_err-plans.ensures.shaped)))
 
 pub plans_for-requires-else-keys-le1-clause-keys : goal.plans_for-requires-else-keys-le1-clause-keys
 plans_for-requires-else-keys-le1-clause-keys g c =
@@ -65,13 +65,13 @@ plans_for-requires-else-keys-le1-clause-keys g c =
     let few = c.keys.ensures.limit in
     let count = c.keys.ensures.keys in
     rw c.as_slice-queries.ensures.value
-    (keys-within keys.0 8 c.input.inside.queries.items c.index-queries-0.result keys.1
+    (keys_within keys.0 8 c.input.inside.queries.items c.index-queries-0.result keys.1
     (rw c.as_slice-queries.ensures.value at c.index-queries-0.is) some
     (omega (arith, few, count)))
 
 pub plans_for-requires-else-keys-le1-clause-limit : goal.plans_for-requires-else-keys-le1-clause-limit
 plans_for-requires-else-keys-le1-clause-limit g c =
-    rw c.as_slice-queries.ensures.value (caps-each c.input.inside.tables c.input.inside.queries.items c.input.invariant.fits)
+    rw c.as_slice-queries.ensures.value (caps_each c.input.inside.tables c.input.inside.queries.items c.input.invariant.fits)
 
 pub returns-in_err-plans-2-clause-shaped : goal.returns-in_err-plans-2-clause-shaped
 returns-in_err-plans-2-clause-shaped g c =
@@ -82,7 +82,7 @@ returns-in_err-plans-2-clause-shaped g c =
     let value = ap (length {A = BoundQuery}) c.as_slice-queries.ensures.value in
     let more : 1 < length input.queries = omega (arith, some, value, c.if-queries-eq1.false) in
     rw e (subst (λ (i : InputData). Pure (IsShaped (loaded_of i)) (Err refusal)) c.input.view_is
-    (several-refused input refusal more (rw c.as_slice-queries.ensures.value at c.in_err-plans-2.ensures.shaped)))
+    (several_refused input refusal more (rw c.as_slice-queries.ensures.value at c.in_err-plans-2.ensures.shaped)))
 
 pub returns-in_ok-plans-clause-shaped : goal.returns-in_ok-plans-clause-shaped
 returns-in_ok-plans-clause-shaped g c =
@@ -91,7 +91,7 @@ returns-in_ok-plans-clause-shaped g c =
     let have : HavePlans 1 (fixed_key 1 16) input.tables input.queries plans =
     rw c.as_slice-queries.ensures.value at c.in_ok-plans.ensures.plans in
     subst (λ (i : InputData). IsShaped (loaded_of i) (Ok (found_of (loaded_of i) (shapes_of plans)))) c.input.view_is
-    (several-found 1 (fixed_key 1 16) input plans have)
+    (several_found 1 (fixed_key 1 16) input plans have)
 
 pub returns-in_ok-plans-clause-plans : goal.returns-in_ok-plans-clause-plans
 returns-in_ok-plans-clause-plans g c =
@@ -112,7 +112,7 @@ returns-in_ok-plans-2-clause-shaped g c =
     let have : HavePlans 8 (fixed_key 8 16) input.tables input.queries plans =
     rw c.as_slice-queries.ensures.value at c.in_ok-plans-2.ensures.plans in
     subst (λ (i : InputData). IsShaped (loaded_of i) (Ok (found_of (loaded_of i) (shapes_of plans)))) c.input.view_is
-    (several-found 8 (fixed_key 8 16) input plans have)
+    (several_found 8 (fixed_key 8 16) input plans have)
 
 pub returns-in_ok-plans-2-clause-plans : goal.returns-in_ok-plans-2-clause-plans
 returns-in_ok-plans-2-clause-plans g c =

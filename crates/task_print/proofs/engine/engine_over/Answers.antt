@@ -1,12 +1,12 @@
 use Rattle.std.proofs.Common.{◌≡◌, ◌∙◌, List, Option, Some, None, ℕ, subst, sym}
 use Rattle.std.proofs.lemmas.Result.{IfOk-weaker}
-use Rattle.engine_choice.specs.Chosen.{rest_of}
+use Rattle.engine_choice.specs.Engines.{rest_of}
 use Rattle.plan_build.specs.Plan.{IsPlanOf}
 use Rattle.tdp_core.specs.Solutions.{IsTreeRanking}
 use Rattle.tdp_core.specs.TreeData.{NodeData}
 use Rattle.tdp_core.specs.WellFormed.{IsFormed}
 use Rattle.tree_dp.specs.BestRanking.{IsBestRanking}
-use Rattle.task_print.proofs.Left.{best-left, ranking-left}
+use Rattle.task_print.proofs.Left.{best_left, ranking_left}
 use Rattle.task_print.proofs.engine.engine_over.Goals as goal
 
 pub returns-in-None-clause-asked : goal.returns-in-None-clause-asked
@@ -20,7 +20,7 @@ returns-in-None-clause-asked g c bound tables is =
     (IfOk-weaker c.choose_engine.result _ _
     (λ e ranking.
     let of_plan = subst (λ (t : List (NodeData g.row.R.Denot)). IsTreeRanking t d key ranking.0) c.tree-tree.ensures ranking.1 in
-    ranking-left d key bound tables plan whole (rest_of d key e) ranking.0 of_plan ranking.2)
+    ranking_left d key bound tables plan whole (rest_of d key e) ranking.0 of_plan ranking.2)
     c.choose_engine.ensures.ranking)
 
 pub returns-in-Some-clause-asked : goal.returns-in-Some-clause-asked
@@ -36,7 +36,7 @@ returns-in-Some-clause-asked g c bound tables is =
     (IfOk-weaker c.best_engine.result _ _
     (λ e best.
     let of_plan = subst (λ (t : List (NodeData g.row.R.Denot)). IsBestRanking t d key best.0) c.tree-tree.ensures best.1 in
-    best-left d key bound tables item plan at formed (rest_of d key e) best.0 of_plan best.2)
+    best_left d key bound tables item plan at formed (rest_of d key e) best.0 of_plan best.2)
     c.best_engine.ensures.best)
 
 pub returns-in-None-clause-ranking : goal.returns-in-None-clause-ranking
@@ -49,8 +49,8 @@ returns-in-None-clause-ranking g c = λ none.
     ))
     c.choose_engine.ensures.ranking
 
-some-none : {A : Type 0} {item : ℕ} → ◌≡◌ {A = Option ℕ} (Some item) None → A
-some-none e = cc
+some_none : {A : Type 0} {item : ℕ} → ◌≡◌ {A = Option ℕ} (Some item) None → A
+some_none e = cc
 
 pub returns-in-Some-clause-ranking : goal.returns-in-Some-clause-ranking
-returns-in-Some-clause-ranking g c = λ none. some-none (sym c.in-Some.is ∙ none)
+returns-in-Some-clause-ranking g c = λ none. some_none (sym c.in-Some.is ∙ none)

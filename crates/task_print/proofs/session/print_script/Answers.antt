@@ -1,14 +1,14 @@
 use Rattle.std.proofs.Common.{◌≡◌, ◌≤◌, ◌+◌, ◌-◌, ◌*◌, ℕ, Err, arith, rules}
 use Rattle.best_list.specs.BestList.{list_of}
-use Rattle.engine_choice.specs.Chosen.{calls_of, tree_of}
+use Rattle.engine_choice.specs.Engines.{calls_of, tree_of}
 use Rattle.refusal_lines.specs.declared.refusal.Refusal.TheVariants as refusal
 use Rattle.refusal_lines.proofs.Prints.{unprinted}
 use Rattle.step_bounds.specs.Steps.{steps_for}
 use Rattle.tdp_core.specs.Shares.{share_of, size_of}
 use Rattle.verdict.specs.SessionCalls.{session_calls, session_reach}
-use Rattle.plan_build.proofs.Rooted.{whole-of}
-use Rattle.plan_build.proofs.ShapeIs.{rows-counted}
-use Rattle.task_print.proofs.RunBounds.{called-by, started}
+use Rattle.plan_build.proofs.Rooted.{whole_of}
+use Rattle.plan_build.proofs.ShapeIs.{rows_counted}
+use Rattle.task_print.proofs.RunBounds.{called_by, started}
 use Rattle.task_print.proofs.session.print_script.Goals as goal
 
 pub returns-in_err-engine-clause-printed : goal.returns-in_err-engine-clause-printed
@@ -17,17 +17,17 @@ returns-in_err-engine-clause-printed g c =
     rw e (unprinted _ _)
 
 pub engine_over-requires : goal.engine_over-requires
-engine_over-requires g c = record { tie_free = (whole-of g.R.Rank.KEYS g.R.Rank.key c.args.query.now c.args.tables.now c.args.best c.args.plan.now c.requires.plan).tie_free }
+engine_over-requires g c = record { tie_free = (whole_of g.R.Rank.KEYS g.R.Rank.key c.args.query.now c.args.tables.now c.args.best c.args.plan.now c.requires.plan).tie_free }
 
 pub returns-in_err-engine-clause-bounded : goal.returns-in_err-engine-clause-bounded
 returns-in_err-engine-clause-bounded g c before prepared shape has =
-    let plan = whole-of g.R.Rank.KEYS g.R.Rank.key c.args.query.now c.args.tables.now c.args.best c.args.plan.now c.requires.plan in
+    let plan = whole_of g.R.Rank.KEYS g.R.Rank.key c.args.query.now c.args.tables.now c.args.best c.args.plan.now c.requires.plan in
     let query = c.args.query.now.query in
     let tables = c.args.tables.now in
     let reach : ℕ = session_reach query.limit (list_of query tables c.args.best) c.args.script.now in
     let least =
     started g.R.Rank.KEYS g.R.Rank.key query tables c.requires.fits.some shape c.args.plan.now plan.nodes
-    (rows-counted g.R.Rank.KEYS g.R.Rank.key c.args.query.now tables c.args.plan.now plan shape has) before c.args.steps.now c.engine_over.new.steps reach prepared c.in_err-engine.ensures.cost in
+    (rows_counted g.R.Rank.KEYS g.R.Rank.key c.args.query.now tables c.args.plan.now plan shape has) before c.args.steps.now c.engine_over.new.steps reach prepared c.in_err-engine.ensures.cost in
     omega (arith, least)
 
 pub print_session-requires-clause-rows : goal.print_session-requires-clause-rows
@@ -41,7 +41,7 @@ returns-clause-printed g c =
 pub returns-clause-bounded : goal.returns-clause-bounded
 returns-clause-bounded g c before prepared shape has =
     let left = (c.in_ok-engine.ensures.asked c.args.query.now c.args.tables.now c.requires.plan).list in
-    let plan = whole-of g.R.Rank.KEYS g.R.Rank.key c.args.query.now c.args.tables.now c.args.best c.args.plan.now c.requires.plan in
+    let plan = whole_of g.R.Rank.KEYS g.R.Rank.key c.args.query.now c.args.tables.now c.args.best c.args.plan.now c.requires.plan in
     let query = c.args.query.now.query in
     let tables = c.args.tables.now in
     let list = list_of query tables c.args.best in
@@ -52,8 +52,8 @@ returns-clause-bounded g c before prepared shape has =
     let spent : c.print_session.new.steps ≤ c.engine_over.new.steps + steps_for (λ n. share_of (size_of tree) (calls + n)) reach + moves = rw left at c.print_session.ensures.bounded in
     let called : c.print_session.new.steps - moves ≤ c.engine_over.new.steps + steps_for (λ n. share_of (size_of tree) (calls + n)) reach = omega (arith, spent) in
     let least =
-    called-by g.R.Rank.KEYS g.R.Rank.key query tables c.requires.fits.some shape c.args.plan.now plan.nodes
-    (rows-counted g.R.Rank.KEYS g.R.Rank.key c.args.query.now tables c.args.plan.now plan shape has)
+    called_by g.R.Rank.KEYS g.R.Rank.key query tables c.requires.fits.some shape c.args.plan.now plan.nodes
+    (rows_counted g.R.Rank.KEYS g.R.Rank.key c.args.query.now tables c.args.plan.now plan shape has)
     tree calls c.in_ok-engine.ensures.tree c.in_ok-engine.ensures.calls
     before c.args.steps.now c.engine_over.new.steps (c.print_session.new.steps - moves) reach prepared c.in_ok-engine.ensures.cost called in
     omega (arith, least)

@@ -1,16 +1,16 @@
 use Rattle.std.proofs.Common.{◌≡◌, ◌∙◌, ℕ, List, Err, sym, subst, ap, rules}
 use Rattle.anyk_model.specs.Query.{Query}
 use Rattle.command_union.specs.UnionSteps.{AreMembers}
-use Rattle.engine_choice.specs.Chosen.{rest_of}
+use Rattle.engine_choice.specs.Engines.{rest_of}
 use Rattle.refusal_lines.specs.declared.refusal.Refusal.TheVariants as refusal
 use Rattle.refusal_lines.proofs.Prints.{unprinted}
-use Rattle.union_all.specs.Merged.{AreLeft, rests_of}
-use Rattle.union_all.proofs.Rankings.{rankings-left}
-use Rattle.union_list.specs.Tagged.{Tagged, branch_at}
+use Rattle.union_all.specs.Merge.{AreLeft, rests_of}
+use Rattle.union_all.proofs.Rankings.{rankings_left}
+use Rattle.union_list.specs.TaggedRows.{Tagged, branch_at}
 use Rattle.union_list.specs.Union.{left_of, union_of}
 use Rattle.input_load.specs.Input.{queries_in}
-use Rattle.task_print.proofs.UnionRun.{called-any, due-any, engines-same, first-limit, prepared-any, rests-are}
-use Rattle.task_print.proofs.UnionRun.{started-any, tie-free, union-left, union-members}
+use Rattle.task_print.proofs.UnionRun.{called_any, due_any, engines_same, first_limit, prepared_any, rests_are}
+use Rattle.task_print.proofs.UnionRun.{started_any, tie_free_lem, union_left, union_members}
 use Rattle.task_print.proofs.union.print_union_run.Goals as goal
 
 pub returns-in_err-arenas-clause-printed : goal.returns-in_err-arenas-clause-printed
@@ -20,15 +20,15 @@ returns-in_err-arenas-clause-printed g c =
 
 pub returns-in_err-arenas-clause-bounded : goal.returns-in_err-arenas-clause-bounded
 returns-in_err-arenas-clause-bounded g c before prepared shapes has =
-    prepared-any c.args.tables.now (queries_in c.args.queries.now) before c.args.steps.now prepared _ shapes has
+    prepared_any c.args.tables.now (queries_in c.args.queries.now) before c.args.steps.now prepared _ shapes has
 
 pub returns-in_err-arenas-clause-paced : goal.returns-in_err-arenas-clause-paced
 returns-in_err-arenas-clause-paced g c before prepared shapes has start part is_old is_new =
-    prepared-any c.args.tables.now (queries_in c.args.queries.now) before c.args.steps.now prepared _ shapes has
+    prepared_any c.args.tables.now (queries_in c.args.queries.now) before c.args.steps.now prepared _ shapes has
 
 pub engines_over-requires-clause-tie_free : goal.engines_over-requires-clause-tie_free
 engines_over-requires-clause-tie_free g c =
-    tie-free g.R.Rank.KEYS g.R.Rank.key c.args.tables.now c.args.queries.now c.args.plans.now c.requires.plans
+    tie_free_lem g.R.Rank.KEYS g.R.Rank.key c.args.tables.now c.args.queries.now c.args.plans.now c.requires.plans
 
 pub returns-in_err-engines-clause-printed : goal.returns-in_err-engines-clause-printed
 returns-in_err-engines-clause-printed g c =
@@ -37,29 +37,29 @@ returns-in_err-engines-clause-printed g c =
 
 pub returns-in_err-engines-clause-bounded : goal.returns-in_err-engines-clause-bounded
 returns-in_err-engines-clause-bounded g c before prepared shapes has =
-    started-any g.R.Rank.KEYS g.R.Rank.key c.args.tables.now c.args.queries.now c.args.plans.now c.requires.fits
+    started_any g.R.Rank.KEYS g.R.Rank.key c.args.tables.now c.args.queries.now c.args.plans.now c.requires.fits
     c.requires.plans before c.args.steps.now prepared
     c.engines_over.new.steps c.in_err-engines.ensures.cost _ shapes has
 
 pub returns-in_err-engines-clause-paced : goal.returns-in_err-engines-clause-paced
 returns-in_err-engines-clause-paced g c before prepared shapes has start part is_old is_new =
-    started-any g.R.Rank.KEYS g.R.Rank.key c.args.tables.now c.args.queries.now c.args.plans.now c.requires.fits
+    started_any g.R.Rank.KEYS g.R.Rank.key c.args.tables.now c.args.queries.now c.args.plans.now c.requires.fits
     c.requires.plans before c.args.steps.now prepared
     c.engines_over.new.steps c.in_err-engines.ensures.cost _ shapes has
 
 pub new-requires-clause-each : goal.new-requires-clause-each
 new-requires-clause-each g c =
-    engines-same g.R.Rank.KEYS g.R.Rank.key c.args.tables.now c.args.queries.now c.args.plans.now
+    engines_same g.R.Rank.KEYS g.R.Rank.key c.args.tables.now c.args.queries.now c.args.plans.now
     c.in_ok-engines.engines.items c.requires.plans c.in_ok-engines.ensures.started
 
 pub new-requires-clause-left : goal.new-requires-clause-left
 new-requires-clause-left g c =
     let all = queries_in c.args.queries.now in
-    let rests = rests-are g.R.Rank.KEYS g.R.Rank.key c.args.tables.now c.args.queries.now c.args.plans.now
+    let rests = rests_are g.R.Rank.KEYS g.R.Rank.key c.args.tables.now c.args.queries.now c.args.plans.now
     c.in_ok-engines.engines.items c.requires.plans
     c.in_ok-engines.ensures.started in
     subst (λ (lists : List (List (List ℕ))). AreLeft all c.args.tables.now lists) (sym rests)
-    (rankings-left all c.args.tables.now)
+    (rankings_left all c.args.tables.now)
 
 pub returns-in_err-merge-clause-printed : goal.returns-in_err-merge-clause-printed
 returns-in_err-merge-clause-printed g c =
@@ -68,14 +68,14 @@ returns-in_err-merge-clause-printed g c =
 
 pub returns-in_err-merge-clause-bounded : goal.returns-in_err-merge-clause-bounded
 returns-in_err-merge-clause-bounded g c before prepared shapes has =
-    due-any g.R.Rank.KEYS g.R.Rank.key c.args.tables.now c.args.queries.now c.args.plans.now c.requires.fits
+    due_any g.R.Rank.KEYS g.R.Rank.key c.args.tables.now c.args.queries.now c.args.plans.now c.requires.fits
     c.requires.plans before c.args.steps.now prepared
     c.in_ok-engines.engines.items c.in_ok-engines.ensures.started c.engines_over.new.steps c.new.new.steps
     c.in_ok-engines.ensures.cost c.in_err-merge.ensures.cost _ shapes has
 
 pub returns-in_err-merge-clause-paced : goal.returns-in_err-merge-clause-paced
 returns-in_err-merge-clause-paced g c before prepared shapes has start part is_old is_new =
-    due-any g.R.Rank.KEYS g.R.Rank.key c.args.tables.now c.args.queries.now c.args.plans.now c.requires.fits
+    due_any g.R.Rank.KEYS g.R.Rank.key c.args.tables.now c.args.queries.now c.args.plans.now c.requires.fits
     c.requires.plans before c.args.steps.now prepared
     c.in_ok-engines.engines.items c.in_ok-engines.ensures.started c.engines_over.new.steps c.new.new.steps
     c.in_ok-engines.ensures.cost c.in_err-merge.ensures.cost _ shapes has
@@ -93,9 +93,9 @@ print_union-requires-clause-members g c =
     (rests_of (rest_of d key) all engines) =
     ap (λ (qs : List Query). left_of qs tables (rests_of (rest_of d key) qs engines)) merged.queries in
     let left : c.in_ok-merge.merge.rest ≡ union_of all tables =
-    merged.rest ∙ same ∙ union-left d key tables c.args.queries.now c.args.plans.now engines c.requires.plans
+    merged.rest ∙ same ∙ union_left d key tables c.args.queries.now c.args.plans.now engines c.requires.plans
     c.in_ok-engines.ensures.started in
-    subst (λ (list : List Tagged). AreMembers all tables list) (sym left) (union-members all tables)
+    subst (λ (list : List Tagged). AreMembers all tables list) (sym left) (union_members all tables)
 
 pub returns-clause-printed : goal.returns-clause-printed
 returns-clause-printed g c =
@@ -110,10 +110,10 @@ returns-clause-printed g c =
     (rests_of (rest_of d key) all engines) =
     ap (λ (qs : List Query). left_of qs tables (rests_of (rest_of d key) qs engines)) merged.queries in
     let left : c.in_ok-merge.merge.rest ≡ union_of all tables =
-    merged.rest ∙ same ∙ union-left d key tables c.args.queries.now c.args.plans.now engines c.requires.plans
+    merged.rest ∙ same ∙ union_left d key tables c.args.queries.now c.args.plans.now engines c.requires.plans
     c.in_ok-engines.ensures.started in
     let limit : c.limit.result ≡ (branch_at all 0).limit =
-    c.limit.ensures ∙ first-limit c.args.queries.now c.index-queries-0.result c.requires.some c.index-queries-0.is in
+    c.limit.ensures ∙ first_limit c.args.queries.now c.index-queries-0.result c.requires.some c.index-queries-0.is in
     rw (limit, left) at c.print_union.ensures.printed
 
 pub returns-clause-bounded : goal.returns-clause-bounded
@@ -129,11 +129,11 @@ returns-clause-bounded g c before prepared shapes has =
     (rests_of (rest_of d key) all engines) =
     ap (λ (qs : List Query). left_of qs tables (rests_of (rest_of d key) qs engines)) merged.queries in
     let left : c.in_ok-merge.merge.rest ≡ union_of all tables =
-    merged.rest ∙ same ∙ union-left d key tables c.args.queries.now c.args.plans.now engines c.requires.plans
+    merged.rest ∙ same ∙ union_left d key tables c.args.queries.now c.args.plans.now engines c.requires.plans
     c.in_ok-engines.ensures.started in
     let limit : c.limit.result ≡ (branch_at all 0).limit =
-    c.limit.ensures ∙ first-limit c.args.queries.now c.index-queries-0.result c.requires.some c.index-queries-0.is in
-    called-any d key tables c.args.queries.now c.args.plans.now c.requires.fits c.requires.plans before
+    c.limit.ensures ∙ first_limit c.args.queries.now c.index-queries-0.result c.requires.some c.index-queries-0.is in
+    called_any d key tables c.args.queries.now c.args.plans.now c.requires.fits c.requires.plans before
     c.args.steps.now prepared
     engines c.in_ok-merge.merge.engines c.in_ok-engines.ensures.started merged.engines c.engines_over.new.steps
     c.new.new.steps c.print_union.new.steps
@@ -152,11 +152,11 @@ returns-clause-paced g c before prepared shapes has start part is_old is_new =
     (rests_of (rest_of d key) all engines) =
     ap (λ (qs : List Query). left_of qs tables (rests_of (rest_of d key) qs engines)) merged.queries in
     let left : c.in_ok-merge.merge.rest ≡ union_of all tables =
-    merged.rest ∙ same ∙ union-left d key tables c.args.queries.now c.args.plans.now engines c.requires.plans
+    merged.rest ∙ same ∙ union_left d key tables c.args.queries.now c.args.plans.now engines c.requires.plans
     c.in_ok-engines.ensures.started in
     let limit : c.limit.result ≡ (branch_at all 0).limit =
-    c.limit.ensures ∙ first-limit c.args.queries.now c.index-queries-0.result c.requires.some c.index-queries-0.is in
-    called-any d key tables c.args.queries.now c.args.plans.now c.requires.fits c.requires.plans before
+    c.limit.ensures ∙ first_limit c.args.queries.now c.index-queries-0.result c.requires.some c.index-queries-0.is in
+    called_any d key tables c.args.queries.now c.args.plans.now c.requires.fits c.requires.plans before
     c.args.steps.now prepared
     engines c.in_ok-merge.merge.engines c.in_ok-engines.ensures.started merged.engines c.engines_over.new.steps
     c.new.new.steps c.print_union.new.steps

@@ -2,7 +2,7 @@ use Rattle.std.proofs.Common.{◌+◌, [], ◌∷◌, length, length-append, ap,
 use Rattle.tdp_core.specs.TreeData.{tree_data}
 use Rattle.tree_dp.specs.Orders.{key_at}
 use Rattle.tree_dp.specs.Progress.{by_children}
-use Rattle.tree_dp.proofs.Leasts.{keys-pushed}
+use Rattle.tree_dp.proofs.Leasts.{keys_pushed}
 use Rattle.tree_dp.proofs.bests.bests_of.Goals as goal
 
 pub loop-row-preserved : goal.loop-row-preserved
@@ -15,6 +15,6 @@ loop-row-preserved g c =
     let pushed = c.in_ok-push.ensures.items in
     record {
       long = ap length pushed ∙ length-append l.bests.items (best ∷ []) ∙ ap (λ k. k + 1) l.invariant.long;
-      bests = λ r h. ap (λ xs. key_at d key xs r) pushed ∙ keys-pushed d key found l.bests.items best l.row l.invariant.long l.invariant.bests c.row_best-best.ensures.best r h;
+      bests = λ r h. ap (λ xs. key_at d key xs r) pushed ∙ keys_pushed d key found l.bests.items best l.row l.invariant.long l.invariant.bests c.row_best-best.ensures.best r h;
       counted = omega (arith, l.invariant.counted, c.row_best-best.ensures.cost);
     }

@@ -4,11 +4,11 @@ use Rattle.tdp_model.specs.KeyTuple.{key_below, key_add, key_none}
 use Rattle.tdp_model.proofs.KeyTuples.{tuple_keys}
 use Rattle.rank_key.specs.Keys.{KeyFits}
 use Rattle.tdp_core.specs.TreeData.{node_data, tree_data, node_at, parent, members, group_count, group_named, group, rank, best}
-use Rattle.tdp_core.proofs.Children.{kids_below-child, kids_below-other, kids_below-most}
+use Rattle.tdp_core.proofs.Children.{kids_below_child, kids_below_other, kids_below_most}
 use Rattle.tree_dp.specs.Progress.{IsSolvedFrom}
-use Rattle.tree_dp.proofs.FirstParts.{first_part, first_part-none, first_part-child, first_part-other}
-use Rattle.tree_dp.proofs.LaterNodes.{no_kids_yet, child_within, group-is, group_within, first_part-fits}
-use Rattle.tree_dp.proofs.Leasts.{group-within, least-read}
+use Rattle.tree_dp.proofs.FirstParts.{first_part, first_part_none, first_part_child, first_part_other}
+use Rattle.tree_dp.proofs.LaterNodes.{no_kids_yet, child_within, group_is, group_within, first_part_fits}
+use Rattle.tree_dp.proofs.Leasts.{group_within_lem, least_read}
 use Rattle.tree_dp.proofs.NodeReads.{read_node}
 use Rattle.tree_dp.proofs.bests.row_best.Goals.{then-nodes-child, else-nodes-child}
 use Rattle.tree_dp.proofs.bests.row_best.Goals as goal
@@ -31,7 +31,7 @@ loop-child-init g c =
     let zero : c.args.node + 1 - suc c.args.node ≡ 0 = omega arith in
     record {
       placed = sym (no_kids_yet (parent t) (length t) v v c.requires.laid_out.shaped.parents_first inside (omega arith));
-      added = sym own ∙ sym (first_part-none (key_below d 16) (key_add d 16) (key_none d 16) (tuple_keys d 16) (length t) (parent t) (rank t d key) (group t) (best t d key) v r)
+      added = sym own ∙ sym (first_part_none (key_below d 16) (key_add d 16) (key_none d 16) (tuple_keys d 16) (length t) (parent t) (rank t d key) (group t) (best t d key) v r)
           ∙ ap (first_part (key_below d 16) (key_add d 16) (key_none d 16) (tuple_keys d 16) (length t) (parent t) (rank t d key) (group t) (best t d key) v r) (sym zero);
       counted = omega arith;
     }
@@ -57,7 +57,7 @@ named_group-group-requires-clause-few g c =
     omega (
       arith,
       c.loop-child.invariant.placed,
-      kids_below-most (parent t) c.args.node c.loop-child.child,
+      kids_below_most (parent t) c.args.node c.loop-child.child,
       c.loop-child-test.true,
       length-map c.args.nodes.now node_data,
       c.requires.laid_out.shaped.few_nodes,
@@ -81,7 +81,7 @@ index-requires-then-nodes-child g c =
     omega (
       arith,
       c.index-leasts-child.result.ok.0,
-      group-within d key t v c.args.leasts.now c.requires.leasts q after inside c.index-leasts-child.result c.index-leasts-child.is c.named_group-group.result within,
+      group_within_lem d key t v c.args.leasts.now c.requires.leasts q after inside c.index-leasts-child.result c.index-leasts-child.is c.named_group-group.result within,
     )
 
 pub join-best-requires : goal.join-best-requires
@@ -102,19 +102,19 @@ join-best-requires g c =
     let named = c.named_group-group.ensures ∙ ap (group_named t v r) c.loop-child.invariant.placed in
     let within = subst (λ x. x < group_count t q) (sym named) (group_within d key t c.requires.laid_out v r q some inside is c.requires.row) in
     let least : key c.index-then-nodes-child.result.now ≡ best t d key q (get_or (group t q r) 0 0) =
-    least-read d key t v c.args.leasts.now c.requires.leasts q after inside c.index-leasts-child.result c.index-leasts-child.is c.named_group-group.result c.index-then-nodes-child.result.now within
+    least_read d key t v c.args.leasts.now c.requires.leasts q after inside c.index-leasts-child.result c.index-leasts-child.is c.named_group-group.result c.index-then-nodes-child.result.now within
     c.index-then-nodes-child.ensures
     ∙ ap (λ x. best t d key q (get_or (members t q x) 0 0)) named
-    ∙ ap (λ l. best t d key q (get_or l 0 0)) (sym (group-is d key t c.requires.laid_out v r q some is))
+    ∙ ap (λ l. best t d key q (get_or l 0 0)) (sym (group_is d key t c.requires.laid_out v r q some is))
     in
     let n = q - suc v in
     let next : so_far (suc n) ≡ key_add d 16 (so_far n) (best t d key q (get_or (group t q r) 0 0)) =
-    first_part-child (key_below d 16) (key_add d 16) (key_none d 16) (tuple_keys d 16) (length t) (parent t) (rank t d key) (group t) (best t d key) v r n q (omega arith) is
+    first_part_child (key_below d 16) (key_add d 16) (key_none d 16) (tuple_keys d 16) (length t) (parent t) (rank t d key) (group t) (best t d key) v r n q (omega arith) is
     in
     let solved = subst (IsSolvedFrom d key t) (let e : v + 1 ≡ suc v = omega arith in e) c.requires.solved in
     subst (λ k. KeyFits d key (key_add d 16 k (key c.index-then-nodes-child.result.now))) (sym c.loop-child.invariant.added)
     (subst (λ k. KeyFits d key (key_add d 16 (so_far n) k)) (sym least)
-    (subst (KeyFits d key) next (first_part-fits d key t c.requires.laid_out v solved r (suc n) up (omega arith) c.requires.row)))
+    (subst (KeyFits d key) next (first_part_fits d key t c.requires.laid_out v solved r (suc n) up (omega arith) c.requires.row)))
 
 pub overflow_add-place : goal.overflow_add-place
 overflow_add-place g c =
@@ -122,7 +122,7 @@ overflow_add-place g c =
     omega (
       arith,
       c.loop-child.invariant.placed,
-      kids_below-most (parent t) c.args.node c.loop-child.child,
+      kids_below_most (parent t) c.args.node c.loop-child.child,
       c.loop-child-test.true,
       length-map c.args.nodes.now node_data,
       c.requires.laid_out.shaped.few_nodes,
@@ -151,24 +151,24 @@ loop-child-preserved g c =
           let named = w.named_group-group.ensures ∙ ap (group_named t v r) c.loop-child.invariant.placed in
           let within = subst (λ x. x < group_count t q) (sym named) (group_within d key t c.requires.laid_out v r q some inside is c.requires.row) in
           let least : key w.index-then-nodes-child.result.now ≡ best t d key q (get_or (group t q r) 0 0) =
-          least-read d key t v c.args.leasts.now c.requires.leasts q later inside w.index-leasts-child.result w.index-leasts-child.is w.named_group-group.result w.index-then-nodes-child.result.now within
+          least_read d key t v c.args.leasts.now c.requires.leasts q later inside w.index-leasts-child.result w.index-leasts-child.is w.named_group-group.result w.index-then-nodes-child.result.now within
           w.index-then-nodes-child.ensures
           ∙ ap (λ x. best t d key q (get_or (members t q x) 0 0)) named
-          ∙ ap (λ l. best t d key q (get_or l 0 0)) (sym (group-is d key t c.requires.laid_out v r q some is))
+          ∙ ap (λ l. best t d key q (get_or l 0 0)) (sym (group_is d key t c.requires.laid_out v r q some is))
           in
           record {
-            placed = w.place-is ∙ ap (λ z. z + 1) c.loop-child.invariant.placed ∙ sym (kids_below-child (parent t) v q some is);
+            placed = w.place-is ∙ ap (λ z. z + 1) c.loop-child.invariant.placed ∙ sym (kids_below_child (parent t) v q some is);
             added = ap key w.best-is ∙ w.join-best.ensures.sum ∙ ap (λ k. key_add d 16 k (key w.index-then-nodes-child.result.now)) c.loop-child.invariant.added ∙ ap (key_add d 16 (so_far n)) least
-                ∙ sym (first_part-child (key_below d 16) (key_add d 16) (key_none d 16) (tuple_keys d 16) (length t) (parent t) (rank t d key) (group t) (best t d key) v r n q after is)
+                ∙ sym (first_part_child (key_below d 16) (key_add d 16) (key_none d 16) (tuple_keys d 16) (length t) (parent t) (rank t d key) (group t) (best t d key) v r n q after is)
                 ∙ ap so_far (sym more);
             counted = omega (arith, w.steps-is, w.join-best.ensures.counted, c.loop-child.invariant.counted);
           }
       | else-nodes-child w ↦
           let other : parent t q ≢ v = λ e. w.if-nodes-child.false (sym at ∙ e) in
           record {
-            placed = w.place-is ∙ c.loop-child.invariant.placed ∙ sym (kids_below-other (parent t) v q other);
+            placed = w.place-is ∙ c.loop-child.invariant.placed ∙ sym (kids_below_other (parent t) v q other);
             added = ap key w.best-is ∙ c.loop-child.invariant.added
-                ∙ sym (first_part-other (key_below d 16) (key_add d 16) (key_none d 16) (tuple_keys d 16) (length t) (parent t) (rank t d key) (group t) (best t d key) v r n q after other)
+                ∙ sym (first_part_other (key_below d 16) (key_add d 16) (key_none d 16) (tuple_keys d 16) (length t) (parent t) (rank t d key) (group t) (best t d key) v r n q after other)
                 ∙ ap so_far (sym more);
             counted = omega (arith, w.steps-is, c.loop-child.invariant.counted);
           }

@@ -1,7 +1,7 @@
 use Rattle.std.proofs.Common.{◌≡◌, ◌<◌, ℕ, ℤ, Bool, true, false, Some, List, length, get_or, nat_lt, sym, ap, subst, ◌∙◌, arith}
 use Rattle.std.proofs.lemmas.Bool.Decides.{nat_tests}
 use Rattle.tdp_model.specs.KeyNumbers.{numbers}
-use Rattle.tdp_core.specs.Seen.{Seen, rows_of_key}
+use Rattle.tdp_core.specs.SeenAnswers.{Seen, rows_of_key}
 use Rattle.tdp_core.specs.TreeData.{NodeData, rows, group_count, members, best}
 use Rattle.tdp_core.specs.WellFormed.{IsFormed}
 use Rattle.tdp_core.proofs.TreeFacts.{member_is_row}

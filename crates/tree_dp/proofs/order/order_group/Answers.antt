@@ -3,18 +3,18 @@ use Rattle.std.specs.List.Sorted.{IsPermutation}
 use Rattle.std.proofs.lemmas.List.{get_or_default}
 use Rattle.std.proofs.lemmas.List.Sorted.{length_permutation}
 use Rattle.tree_dp.specs.Orders.{key_at, IsHeapOver}
-use Rattle.tree_dp.proofs.RowHeaps.{key-read, heap-over}
-use Rattle.tree_dp.proofs.Copies.{after-slice, first-of}
+use Rattle.tree_dp.proofs.RowHeaps.{key_read, heap_over}
+use Rattle.tree_dp.proofs.Copies.{after_slice, first_of}
 use Rattle.tree_dp.proofs.order.order_group.Goals as goal
 
 pub bounds-best-index : goal.bounds-best-index
 bounds-best-index g c =
     let copy = c.extend_from_slice.new.self in
     let heap = c.heapify_by.new.items in
-    let after = after-slice copy.items c.deref_mut.result.now heap _ copy.len copy.ok.0 c.deref_mut.ensures.value c.heapify_by.ensures.permutation refl in
+    let after = after_slice copy.items c.deref_mut.result.now heap _ copy.len copy.ok.0 c.deref_mut.ensures.value c.heapify_by.ensures.permutation refl in
     let copied = c.deref_mut.ensures.value ∙ c.in_ok-extend_from_slice.ensures.items ∙ ap (λ xs. xs ++ c.args.group.now) c.clear.ensures.items in
     let moved = subst (λ xs. IsPermutation xs heap) copied c.heapify_by.ensures.permutation in
-    first-of (λ r. r < length c.args.best.now) c.args.group.now heap _ c.index.result.now c.requires.rows moved after c.requires.inhabited c.index.ensures
+    first_of (λ r. r < length c.args.best.now) c.args.group.now heap _ c.index.result.now c.requires.rows moved after c.requires.inhabited c.index.ensures
 
 pub offset_bounds-best-index : goal.offset_bounds-best-index
 offset_bounds-best-index g c = omega (arith, bounds-best-index g c)
@@ -23,20 +23,20 @@ pub returns-clause-heap : goal.returns-clause-heap
 returns-clause-heap g c =
     let copy = c.extend_from_slice.new.self in
     let heap = c.heapify_by.new.items in
-    let after = after-slice copy.items c.deref_mut.result.now heap _ copy.len copy.ok.0 c.deref_mut.ensures.value c.heapify_by.ensures.permutation refl in
+    let after = after_slice copy.items c.deref_mut.result.now heap _ copy.len copy.ok.0 c.deref_mut.ensures.value c.heapify_by.ensures.permutation refl in
     subst (IsHeapOver g.R.Rank.KEYS g.R.Rank.key c.args.best.now) (sym after)
-    (heap-over g.R.Rank.KEYS g.R.Rank.key c.args.best.now heap c.heapify_by.ensures.heap_order)
+    (heap_over g.R.Rank.KEYS g.R.Rank.key c.args.best.now heap c.heapify_by.ensures.heap_order)
 
 pub returns-clause-least : goal.returns-clause-least
 returns-clause-least g c =
     let copy = c.extend_from_slice.new.self in
     let heap = c.heapify_by.new.items in
     let whole = take copy.len (heap ++ drop (length heap) copy.items) in
-    let after = after-slice copy.items c.deref_mut.result.now heap whole copy.len copy.ok.0 c.deref_mut.ensures.value c.heapify_by.ensures.permutation refl in
+    let after = after_slice copy.items c.deref_mut.result.now heap whole copy.len copy.ok.0 c.deref_mut.ensures.value c.heapify_by.ensures.permutation refl in
     let row = c.index.result.now in
     let copied = c.deref_mut.ensures.value ∙ c.in_ok-extend_from_slice.ensures.items ∙ ap (λ xs. xs ++ c.args.group.now) c.clear.ensures.items in
     let moved = subst (λ xs. IsPermutation xs heap) copied c.heapify_by.ensures.permutation in
-    let below = first-of (λ r. r < length c.args.best.now) c.args.group.now heap whole row c.requires.rows moved after c.requires.inhabited c.index.ensures in
+    let below = first_of (λ r. r < length c.args.best.now) c.args.group.now heap whole row c.requires.rows moved after c.requires.inhabited c.index.ensures in
     let some : 0 < length whole = omega (arith, c.requires.inhabited, ap length after, length_permutation _ _ moved) in
-    key-read g.R.Rank.KEYS g.R.Rank.key c.args.best.now row c.index-best-index.result below c.index-best-index.is
+    key_read g.R.Rank.KEYS g.R.Rank.key c.args.best.now row c.index-best-index.result below c.index-best-index.is
     ∙ ap (key_at g.R.Rank.KEYS g.R.Rank.key c.args.best.now) (c.index.ensures ∙ get_or_default whole 0 row 0 some)

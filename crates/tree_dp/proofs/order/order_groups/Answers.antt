@@ -5,8 +5,8 @@ use Rattle.std.proofs.lemmas.Bool.{cases_lt}
 use Rattle.std.proofs.lemmas.List.{length-set, get_or_past}
 use Rattle.std.proofs.lemmas.List.Sorted.{IsPermutation-trans, All-permutation, length_permutation}
 use Rattle.tree_dp.specs.Orders.{key_at, IsHeapOver}
-use Rattle.tree_dp.proofs.Grouping.{members-from, same-members, below-next}
-use Rattle.tree_dp.proofs.Leasts.{leasts-pushed}
+use Rattle.tree_dp.proofs.Grouping.{members_from, same_members, below_next}
+use Rattle.tree_dp.proofs.Leasts.{leasts_pushed}
 use Rattle.tree_dp.proofs.order.order_groups.Goals as goal
 
 pub order_group-requires-clause-rows : goal.order_group-requires-clause-rows
@@ -24,14 +24,14 @@ returns-in_err-least-clause-cost g c =
     let first = c.args.groups.now in
     let n = c.loop-number.number in
     let long : length c.group.result.now ≡ length (get_or first n []) = ap length c.group.ensures ∙ length_permutation _ _ (c.loop-number.invariant.same_rows n) in
-    omega (arith, long, c.order_group.ensures.cost, c.loop-number.invariant.counted, members-from first n (omega (arith, c.loop-number-test.true, c.len-number-end.ensures)))
+    omega (arith, long, c.order_group.ensures.cost, c.loop-number.invariant.counted, members_from first n (omega (arith, c.loop-number-test.true, c.len-number-end.ensures)))
 
 pub returns-in_err-push-clause-cost : goal.returns-in_err-push-clause-cost
 returns-in_err-push-clause-cost g c =
     let first = c.args.groups.now in
     let n = c.loop-number.number in
     let long : length c.group.result.now ≡ length (get_or first n []) = ap length c.group.ensures ∙ length_permutation _ _ (c.loop-number.invariant.same_rows n) in
-    omega (arith, long, c.order_group.ensures.cost, c.loop-number.invariant.counted, members-from first n (omega (arith, c.loop-number-test.true, c.len-number-end.ensures)))
+    omega (arith, long, c.order_group.ensures.cost, c.loop-number.invariant.counted, members_from first n (omega (arith, c.loop-number-test.true, c.len-number-end.ensures)))
 
 pub replace-requires-clause-size : goal.replace-requires-clause-size
 replace-requires-clause-size g c = ap length c.deref.ensures.value ∙ length_permutation _ _ c.in_ok-least.ensures.same_rows ∙ ap length c.group.ensures
@@ -49,15 +49,15 @@ loop-number-preserved g c =
     let long : length c.group.result.now ≡ length (get_or first n []) = ap length c.group.ensures ∙ length_permutation _ _ (c.loop-number.invariant.same_rows n) in
     record {
       group_count = ap length written ∙ length-set groups n new ∙ c.loop-number.invariant.group_count;
-      same_rows = λ m. subst (λ xs. IsPermutation (get_or first m []) (get_or xs m [])) (sym written) (IsPermutation-trans _ _ _ (c.loop-number.invariant.same_rows m) (same-members groups n new within moved m));
+      same_rows = λ m. subst (λ xs. IsPermutation (get_or first m []) (get_or xs m [])) (sym written) (IsPermutation-trans _ _ _ (c.loop-number.invariant.same_rows m) (same_members groups n new within moved m));
       heaps = λ m l. subst (λ xs. IsHeapOver g.R.Rank.KEYS g.R.Rank.key c.args.best.now (get_or xs m [])) (sym written)
-          (below-next (IsHeapOver g.R.Rank.KEYS g.R.Rank.key c.args.best.now) groups n new within c.loop-number.invariant.heaps c.in_ok-least.ensures.heap m l);
+          (below_next (IsHeapOver g.R.Rank.KEYS g.R.Rank.key c.args.best.now) groups n new within c.loop-number.invariant.heaps c.in_ok-least.ensures.heap m l);
       least_count = ap length c.in_ok-push.ensures.items ∙ length-append c.loop-number.leasts.items (c.in_ok-least.least ∷ []) ∙ ap (λ k. k + 1) c.loop-number.invariant.least_count;
       leasts = λ m l. ap (λ xs. key_at g.R.Rank.KEYS g.R.Rank.key xs m) c.in_ok-push.ensures.items
-          ∙ leasts-pushed g.R.Rank.KEYS g.R.Rank.key c.args.best.now c.loop-number.leasts.items c.in_ok-least.least groups n new within c.loop-number.invariant.least_count c.loop-number.invariant.leasts
+          ∙ leasts_pushed g.R.Rank.KEYS g.R.Rank.key c.args.best.now c.loop-number.leasts.items c.in_ok-least.least groups n new within c.loop-number.invariant.least_count c.loop-number.invariant.leasts
           c.in_ok-least.ensures.least m l
           ∙ ap (λ xs. key_at g.R.Rank.KEYS g.R.Rank.key c.args.best.now (get_or (get_or xs m []) 0 0)) (sym written);
-      counted = omega (arith, long, c.order_group.ensures.cost, c.loop-number.invariant.counted, members-from first n in_first);
+      counted = omega (arith, long, c.order_group.ensures.cost, c.loop-number.invariant.counted, members_from first n in_first);
     }
 
 pub returns-clause-heaps : goal.returns-clause-heaps

@@ -6,11 +6,11 @@ use Rattle.std.proofs.lemmas.List.Elements.{All-from_get_or}
 use Rattle.tdp_model.specs.KeyTuple.{key_none}
 use Rattle.tdp_core.specs.TreeData.{node_data, tree_data, node_at, rows, members}
 use Rattle.tree_dp.specs.Orders.{key_at, IsHeapOver}
-use Rattle.tree_dp.specs.Solved.{IsReordered}
+use Rattle.tree_dp.specs.SolvedTrees.{IsReordered}
 use Rattle.tree_dp.proofs.LaterNodes.{member_row, members_total}
-use Rattle.tree_dp.proofs.Leasts.{leasts-next}
+use Rattle.tree_dp.proofs.Leasts.{leasts_next}
 use Rattle.tree_dp.proofs.NodeReads.{read_node, written_here, written_elsewhere, written_reordered}
-use Rattle.tree_dp.proofs.NodeSolved.{solved-next}
+use Rattle.tree_dp.proofs.NodeSolved.{solved_next}
 use Rattle.tree_dp.proofs.solving.solve_node.Goals as goal
 
 pub order_groups-requires-clause-rows : goal.order_groups-requires-clause-rows
@@ -84,7 +84,7 @@ returns-clause-solved g c =
     let heaps : (n : ℕ) → IsHeapOver d key best.items (get_or groups n []) =
     λ n. subst (λ bs. IsHeapOver d key bs (get_or groups n [])) c.as_slice.ensures.value (c.in_ok-own.ensures.heaps n)
     in
-    solved-next d key t u v count (returns-clause-reordered g c) (written_elsewhere parts v new) c.requires.solved
+    solved_next d key t u v count (returns-clause-reordered g c) (written_elsewhere parts v new) c.requires.solved
     (ap (λ n. length n.best) here ∙ c.in_ok-best.ensures.count)
     (λ r l. ap (λ n. get_or (map key n.best) r (key_none d 16)) here ∙ c.in_ok-best.ensures.bests r l)
     (λ n. subst (λ x. IsHeapOver d key x.best (get_or x.groups n [])) (sym here) (heaps n))
@@ -105,7 +105,7 @@ returns-clause-leasts g c =
     let count : length u ≡ length t = length-map (set parts v new) node_data ∙ length-set parts v new ∙ sym (length-map parts node_data) in
     let inside : v < length t = omega (arith, c.requires.node, length-map parts node_data) in
     let long : length own.items ≡ length new.groups = c.in_ok-own.ensures.least_count ∙ sym c.in_ok-own.ensures.group_count in
-    leasts-next d key t u v own.items (map (λ ls. ls.items) c.args.leasts.now) count (written_elsewhere parts v new) inside c.requires.leasts (long ∙ ap (λ n. length n.groups) (sym here))
+    leasts_next d key t u v own.items (map (λ ls. ls.items) c.args.leasts.now) count (written_elsewhere parts v new) inside c.requires.leasts (long ∙ ap (λ n. length n.groups) (sym here))
     (λ n l.
     subst (λ x. key_at d key own.items n ≡ key_at d key x.best (get_or (get_or x.groups n []) 0 0)) (sym here)
     (c.in_ok-own.ensures.leasts n (omega (arith, l, ap (λ x. length x.groups) here, c.in_ok-own.ensures.group_count)) ∙ ap (λ bs. key_at d key bs (get_or (get_or new.groups n []) 0 0)) c.as_slice.ensures.value))

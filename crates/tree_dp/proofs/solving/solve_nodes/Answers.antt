@@ -3,15 +3,15 @@ use Rattle.std.proofs.lemmas.List.{length-map}
 use Rattle.tdp_model.proofs.Ranges.{times_small}
 use Rattle.tdp_core.specs.TreeData.{node_data, tree_data, node_at, rows}
 use Rattle.tree_dp.specs.Progress.{AreLeastsFrom}
-use Rattle.tree_dp.proofs.Reordered.{reordered-trans, rows-same, layout-kept}
-use Rattle.tree_dp.proofs.RowTotals.{total_from-before, total_from-most}
+use Rattle.tree_dp.proofs.Reordered.{reordered_trans, rows_same, layout_kept}
+use Rattle.tree_dp.proofs.RowTotals.{total_from_before, total_from_most}
 use Rattle.tree_dp.proofs.solving.solve_nodes.Goals as goal
 
 pub solve_node-requires-clause-laid_out : goal.solve_node-requires-clause-laid_out
 solve_node-requires-clause-laid_out g c =
     let before = tree_data c.args.nodes.now in
     let now = tree_data c.loop-node.nodes in
-    layout-kept before now c.loop-node.invariant.reordered g.R.Rank.KEYS g.R.Rank.key (length-map c.loop-node.nodes node_data ∙ c.loop-node.auto.nodes ∙ sym (length-map c.args.nodes.now node_data)) c.requires
+    layout_kept before now c.loop-node.invariant.reordered g.R.Rank.KEYS g.R.Rank.key (length-map c.loop-node.nodes node_data ∙ c.loop-node.auto.nodes ∙ sym (length-map c.args.nodes.now node_data)) c.requires
 
 pub solve_node-requires-clause-leasts : goal.solve_node-requires-clause-leasts
 solve_node-requires-clause-leasts g c =
@@ -33,10 +33,10 @@ loop-node-preserved g c =
     let long = length c.args.nodes.now + 2 in
     let some : 0 < v = omega arith in
     let inside : v ≤ length before = omega (arith, c.loop-node.auto.node, length-map c.args.nodes.now node_data) in
-    let here : rows now (v - 1) ≡ rows before (v - 1) = ap (λ f. f (v - 1)) (rows-same before now c.loop-node.invariant.reordered) in
-    let more = total_from-before (rows before) (length before) v some inside in
+    let here : rows now (v - 1) ≡ rows before (v - 1) = ap (λ f. f (v - 1)) (rows_same before now c.loop-node.invariant.reordered) in
+    let more = total_from_before (rows before) (length before) v some inside in
     record {
-      reordered = λ w. reordered-trans (node_at before w) (node_at now w) (node_at (tree_data c.solve_node.new.nodes) w) (c.loop-node.invariant.reordered w) (c.in_ok-own.ensures.reordered w);
+      reordered = λ w. reordered_trans (node_at before w) (node_at now w) (node_at (tree_data c.solve_node.new.nodes) w) (c.loop-node.invariant.reordered w) (c.in_ok-own.ensures.reordered w);
       solved = c.in_ok-own.ensures.solved;
       leasts =
           subst (λ vs. AreLeastsFrom d key then (v - 1) (map (λ ls. ls.items) vs)) (sym c.in_ok-insert.ensures.items)
@@ -52,8 +52,8 @@ returns-in_err-own-clause-cost g c =
     let long = length c.args.nodes.now + 2 in
     let some : 0 < v = omega arith in
     let inside : v ≤ length before = omega (arith, c.loop-node.auto.node, length-map c.args.nodes.now node_data) in
-    let here : rows now (v - 1) ≡ rows before (v - 1) = ap (λ f. f (v - 1)) (rows-same before now c.loop-node.invariant.reordered) in
-    let more = total_from-before (rows before) (length before) v some inside in
+    let here : rows now (v - 1) ≡ rows before (v - 1) = ap (λ f. f (v - 1)) (rows_same before now c.loop-node.invariant.reordered) in
+    let more = total_from_before (rows before) (length before) v some inside in
     omega (
       arith,
       c.loop-node.invariant.counted,
@@ -61,7 +61,7 @@ returns-in_err-own-clause-cost g c =
       ap (λ n. n * long) more,
       ap (λ n. n * long) here,
       ap (λ n. rows now (v - 1) * n) c.loop-node.auto.nodes,
-      times_small _ _ long (total_from-most (rows before) (length before) (v - 1) (omega arith)),
+      times_small _ _ long (total_from_most (rows before) (length before) (v - 1) (omega arith)),
     )
 
 pub returns-in_err-insert-clause-cost : goal.returns-in_err-insert-clause-cost
@@ -72,8 +72,8 @@ returns-in_err-insert-clause-cost g c =
     let long = length c.args.nodes.now + 2 in
     let some : 0 < v = omega arith in
     let inside : v ≤ length before = omega (arith, c.loop-node.auto.node, length-map c.args.nodes.now node_data) in
-    let here : rows now (v - 1) ≡ rows before (v - 1) = ap (λ f. f (v - 1)) (rows-same before now c.loop-node.invariant.reordered) in
-    let more = total_from-before (rows before) (length before) v some inside in
+    let here : rows now (v - 1) ≡ rows before (v - 1) = ap (λ f. f (v - 1)) (rows_same before now c.loop-node.invariant.reordered) in
+    let more = total_from_before (rows before) (length before) v some inside in
     omega (
       arith,
       c.loop-node.invariant.counted,
@@ -81,5 +81,5 @@ returns-in_err-insert-clause-cost g c =
       ap (λ n. n * long) more,
       ap (λ n. n * long) here,
       ap (λ n. rows now (v - 1) * n) c.loop-node.auto.nodes,
-      times_small _ _ long (total_from-most (rows before) (length before) (v - 1) (omega arith)),
+      times_small _ _ long (total_from_most (rows before) (length before) (v - 1) (omega arith)),
     )

@@ -2,7 +2,7 @@ use Rattle.std.proofs.Common.{ℕ, ◌+◌, ◌-◌, ◌*◌, ◌≤◌, length,
 use Rattle.tdp_model.specs.TreeProblem.{sum_from}
 use Rattle.tdp_core.specs.TreeData.{tree_data, node_at, rows}
 use Rattle.tree_dp.specs.Progress.{IsSolvedFrom, AreLeastsFrom}
-use Rattle.tree_dp.specs.Solved.{IsReordered}
+use Rattle.tree_dp.specs.SolvedTrees.{IsReordered}
 use Rattle.tree_dp.proofs.solving.solve_nodes.Given as goal
 
 abbrev pub invariant-loop-node : goal.invariant-loop-node

@@ -1,5 +1,5 @@
 use Rattle.union_all.specs.Firsts.{IsFirst}
-use Rattle.union_all.specs.Merged.{lists_of, queries_of}
+use Rattle.union_all.specs.Merge.{lists_of, queries_of}
 use Rattle.union_all.proofs.firsts.first_branch.Given as goal
 
 abbrev pub invariant-loop-b : goal.invariant-loop-b

@@ -1,29 +1,29 @@
 use Rattle.std.proofs.Common.{◌≡◌, ◌<◌, ◌+◌, ◌∙◌, ℕ, Option, Some, if◌then◌else◌, length, sym, ap, subst, arith}
-use Rattle.union_list.specs.Tagged.{branch_at}
+use Rattle.union_list.specs.TaggedRows.{branch_at}
 use Rattle.union_all.specs.Firsts.{IsFirst}
-use Rattle.union_all.specs.Merged.{lists_of, queries_of}
-use Rattle.query_bind.specs.Weighed.{BoundQuery}
-use Rattle.union_all.proofs.Branches.{head-at, head-fits, less-told, list-at, query-at}
-use Rattle.union_all.proofs.Sooner.{compared-first, first-here, first-of, none-here}
+use Rattle.union_all.specs.Merge.{lists_of, queries_of}
+use Rattle.query_bind.specs.WeighedQuery.{BoundQuery}
+use Rattle.union_all.proofs.Branches.{head_at, head_fits, less_told, list_at, query_at}
+use Rattle.union_all.proofs.Sooner.{compared_first, first_here, first_of, none_here}
 use Rattle.union_all.proofs.firsts.is_sooner.Goals as goal
 
 pub returns-in_default : goal.returns-in_default
 returns-in_default g c =
     let branches = c.args.branches.now in
-    none-here (queries_of branches) c.args.tables.now (lists_of branches) c.args.b c.args.first
-    (list-at branches c.args.b c.requires.inside c.index-branches-b.result c.index-branches-b.is ∙ (rw c.in_default.is at c.head.ensures)) c.requires.first
+    none_here (queries_of branches) c.args.tables.now (lists_of branches) c.args.b c.args.first
+    (list_at branches c.args.b c.requires.inside c.index-branches-b.result c.index-branches-b.is ∙ (rw c.in_default.is at c.head.ensures)) c.requires.first
 
 pub returns-in_default-first : goal.returns-in_default-first
 returns-in_default-first g c =
     let branches = c.args.branches.now in
     let here = rw c.in-Some.is at c.head.ensures in
-    first-here (queries_of branches) c.args.tables.now (lists_of branches) c.args.b _ here.0
-    (head-at branches c.args.b c.requires.inside c.index-branches-b.result c.index-branches-b.is c.in-Some.rows here.0 here.1) (rw c.in_default-first.is at c.requires.first)
+    first_here (queries_of branches) c.args.tables.now (lists_of branches) c.args.b _ here.0
+    (head_at branches c.args.b c.requires.inside c.index-branches-b.result c.index-branches-b.is c.in-Some.rows here.0 here.1) (rw c.in_default-first.is at c.requires.first)
 
 pub has_less_sums-requires-clause-rows : goal.has_less_sums-requires-clause-rows
 has_less_sums-requires-clause-rows g c =
     let here = rw c.in-Some.is at c.head.ensures in
-    head-fits c.args.branches.now c.args.b c.requires.inside c.index-branches-b.result c.index-branches-b.is c.args.tables.now c.requires.branches c.in-Some.rows here.0 here.1
+    head_fits c.args.branches.now c.args.b c.requires.inside c.index-branches-b.result c.index-branches-b.is c.args.tables.now c.requires.branches c.in-Some.rows here.0 here.1
     c.index-branches-b-2.result c.index-branches-b-2.is c.query.result.now c.query.ensures
 
 pub returns : goal.returns
@@ -37,12 +37,12 @@ returns g c =
     let inside : f < length branches = omega (arith, was.inside, c.requires.inside) in
     let here = rw c.in-Some.is at c.head.ensures in
     let there = rw c.in-Some-head.is at c.head-2.ensures in
-    let own = head-at branches c.args.b c.requires.inside c.index-branches-b.result c.index-branches-b.is c.in-Some.rows here.0 here.1 in
-    let other = head-at branches f inside c.index-branches-first.result c.index-branches-first.is c.in-Some-head.first_rows there.0 there.1 in
+    let own = head_at branches c.args.b c.requires.inside c.index-branches-b.result c.index-branches-b.is c.in-Some.rows here.0 here.1 in
+    let other = head_at branches f inside c.index-branches-first.result c.index-branches-first.is c.in-Some-head.first_rows there.0 there.1 in
     let one : c.query.result.now.query ≡ branch_at queries c.args.b =
-    ap (λ (q : BoundQuery). q.query) c.query.ensures ∙ sym (query-at branches c.args.b c.requires.inside c.index-branches-b-2.result c.index-branches-b-2.is) in
+    ap (λ (q : BoundQuery). q.query) c.query.ensures ∙ sym (query_at branches c.args.b c.requires.inside c.index-branches-b-2.result c.index-branches-b-2.is) in
     let two : c.query-2.result.now.query ≡ branch_at queries f =
-    ap (λ (q : BoundQuery). q.query) c.query-2.ensures ∙ sym (query-at branches f inside c.index-branches-first-2.result c.index-branches-first-2.is) in
-    let less = less-told tables c.in-Some.rows c.in-Some-head.first_rows _ _ (branch_at queries c.args.b) (branch_at queries f) c.has_less_sums.result c.has_less_sums.ensures one two in
+    ap (λ (q : BoundQuery). q.query) c.query-2.ensures ∙ sym (query_at branches f inside c.index-branches-first-2.result c.index-branches-first-2.is) in
+    let less = less_told tables c.in-Some.rows c.in-Some-head.first_rows _ _ (branch_at queries c.args.b) (branch_at queries f) c.has_less_sums.result c.has_less_sums.ensures one two in
     subst (λ (o : Option ℕ). IsFirst queries tables lists (c.args.b + 1) (if c.has_less_sums.result then Some c.args.b else o)) (sym c.in-Some-first.is)
-    (compared-first queries tables lists c.args.b _ here.0 own f was c.has_less_sums.result _ (first-of _ _ _ _ _ was.is_first other) less)
+    (compared_first queries tables lists c.args.b _ here.0 own f was c.has_less_sums.result _ (first_of _ _ _ _ _ was.is_first other) less)

@@ -1,8 +1,8 @@
 use Rattle.std.proofs.Common.{◌≡◌, ◌<◌, ◌∷◌, ◌∙◌, [], length, get_or, sym, ap, append_assoc, length-append, length-take-le, arith, rules}
 use Rattle.std.specs.Vec.Iter.{into_iter_items}
 use Rattle.std.proofs.lemmas.List.{length-map}
-use Rattle.union_all.specs.Merged.{BranchSeen}
-use Rattle.union_all.proofs.Begun.{begun-more}
+use Rattle.union_all.specs.Merge.{BranchSeen}
+use Rattle.union_all.proofs.Begun.{begun_more}
 use Rattle.union_all.proofs.merge.begin.Goals as goal
 
 pub loop-engine-preserved : goal.loop-engine-preserved
@@ -25,6 +25,6 @@ loop-engine-preserved g c =
       tt,
       tt,
       append_assoc at.yielded (x ∷ []) (into_iter_items c.next.new.self) ∙ rw (← steps) whole,
-      rw c.in_ok-push.ensures.items (begun-more _ _ _ c.args.queries.now at.yielded at.branches.items _ _ _ q x c.in_ok-branch.branch was inside index
+      rw c.in_ok-push.ensures.items (begun_more _ _ _ c.args.queries.now at.yielded at.branches.items _ _ _ q x c.in_ok-branch.branch was inside index
           c.in_ok-branch.ensures.bound c.in_ok-branch.ensures.left c.in_ok-branch.ensures.called c.new.ensures.cost),
     )

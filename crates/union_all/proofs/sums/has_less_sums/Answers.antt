@@ -4,7 +4,7 @@ use mir.Val.{of_z, to_z}
 use Rattle.std.proofs.lemmas.Bool.{cases_lt}
 use Rattle.std.proofs.lemmas.Int.{to_z-of_z}
 use Rattle.anyk_model.specs.Query.{rank_of}
-use Rattle.union_all.proofs.Compared.{key-decides, key-passes, keys-end}
+use Rattle.union_all.proofs.Compared.{key_decides, key_passes, keys_end}
 use Rattle.union_all.proofs.sums.has_less_sums.Goals as goal
 
 pub returns-then-sum-other_sum : goal.returns-then-sum-other_sum
@@ -18,7 +18,7 @@ returns-then-sum-other_sum c =
     let in1 : c.loop-key.key < length one.order = omega (arith, c.loop-key-test.true, c.min-keys.ensures, c.keys.ensures.keys, c.keys-2.ensures.keys) in
     let in2 : c.loop-key.key < length other.order = omega (arith, c.loop-key-test.true, c.min-keys.ensures, c.keys.ensures.keys, c.keys-2.ensures.keys) in
     let apart : to_z w128 (of_z w128 c.compared_sum-sum.result) ≢ to_z w128 (of_z w128 c.compared_sum-other_sum.result) = search rules in
-    sym (key-decides (rank_of one c.args.tables.now (take (length one.items) c.args.rows.now)) (rank_of other c.args.tables.now (take (length other.items) c.args.other_rows.now)) one.order other.order
+    sym (key_decides (rank_of one c.args.tables.now (take (length one.items) c.args.rows.now)) (rank_of other c.args.tables.now (take (length other.items) c.args.other_rows.now)) one.order other.order
     c.loop-key.key in1 in2 c.loop-key.invariant _ _ (same ∙ c.compared_sum-sum.ensures) (same2 ∙ c.compared_sum-other_sum.ensures) apart)
 
 pub loop-key-preserved : goal.loop-key-preserved
@@ -32,7 +32,7 @@ loop-key-preserved c =
     let in1 : c.loop-key.key < length one.order = omega (arith, c.loop-key-test.true, c.min-keys.ensures, c.keys.ensures.keys, c.keys-2.ensures.keys) in
     let in2 : c.loop-key.key < length other.order = omega (arith, c.loop-key-test.true, c.min-keys.ensures, c.keys.ensures.keys, c.keys-2.ensures.keys) in
     let equal : to_z w128 (of_z w128 c.compared_sum-sum.result) ≡ to_z w128 (of_z w128 c.compared_sum-other_sum.result) = search rules in
-    key-passes (rank_of one c.args.tables.now (take (length one.items) c.args.rows.now)) (rank_of other c.args.tables.now (take (length other.items) c.args.other_rows.now)) one.order other.order
+    key_passes (rank_of one c.args.tables.now (take (length one.items) c.args.rows.now)) (rank_of other c.args.tables.now (take (length other.items) c.args.other_rows.now)) one.order other.order
     c.loop-key.key in1 in2 c.loop-key.invariant _ _ (same ∙ c.compared_sum-sum.ensures) (same2 ∙ c.compared_sum-other_sum.ensures) equal
 
 pub returns : goal.returns
@@ -48,5 +48,5 @@ returns c =
       | inl l ↦ inl (omega (arith, over, c.min-keys.ensures, c.keys.ensures.keys, c.keys-2.ensures.keys, l))
       | inr l ↦ inr (omega (arith, over, c.min-keys.ensures, c.keys.ensures.keys, c.keys-2.ensures.keys, l))
     ] in
-    sym (keys-end (rank_of one c.args.tables.now (take (length one.items) c.args.rows.now)) (rank_of other c.args.tables.now (take (length other.items) c.args.other_rows.now)) one.order other.order
+    sym (keys_end (rank_of one c.args.tables.now (take (length one.items) c.args.rows.now)) (rank_of other c.args.tables.now (take (length other.items) c.args.other_rows.now)) one.order other.order
     k _ _ c.keys-3.ensures.keys c.keys-4.ensures.keys in1 in2 ends c.loop-key.invariant)

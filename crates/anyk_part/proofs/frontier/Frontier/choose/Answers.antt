@@ -1,7 +1,7 @@
 use Rattle.std.proofs.Common.{◌≡◌, ℕ, ◌+◌, ◌*◌, ◌≤◌, List, length, take, refl, sym, subst, arith}
 use Rattle.std.specs.List.{All}
 use Rattle.std.proofs.lemmas.Bool.{false≢true}
-use Rattle.rank_key.proofs.BitLemmas.{bit_length-rises}
+use Rattle.rank_key.proofs.BitLemmas.{bit_length_rises}
 use Rattle.stream_store.specs.declared.entry.Linked.{Linked}
 use Rattle.stream_store.specs.Entries.{Entries}
 use Rattle.tdp_model.specs.Regions.{in_region}
@@ -81,8 +81,8 @@ returns-then-place-size-2-clause-cost g c =
     let n = length c.args.self.now.queue.entries in
     let mid = length c.offer.new.self.queue.entries in
     let more = c.offer.ensures.length in
-    let a = bit_length-rises (n + 1) (n + 2) (omega arith) in
-    let b = bit_length-rises (mid + 1) (n + 2) (omega (arith, more)) in
+    let a = bit_length_rises (n + 1) (n + 2) (omega arith) in
+    let b = bit_length_rises (mid + 1) (n + 2) (omega (arith, more)) in
     omega (arith, a, b, c.group_at-group.ensures.cost, c.member-row.ensures.counted, c.best-best.ensures.counted, c.offer.ensures.cost, c.offer-then-place-size-2.ensures.cost)
 
 pub returns-else-place-size-2-clause-choice : goal.returns-else-place-size-2-clause-choice
@@ -107,5 +107,5 @@ returns-else-place-size-2-clause-choice g c =
 pub returns-else-place-size-2-clause-cost : goal.returns-else-place-size-2-clause-cost
 returns-else-place-size-2-clause-cost g c =
     let n = length c.args.self.now.queue.entries in
-    let a = bit_length-rises (n + 1) (n + 2) (omega arith) in
+    let a = bit_length_rises (n + 1) (n + 2) (omega arith) in
     omega (arith, a, c.group_at-group.ensures.cost, c.member-row.ensures.counted, c.best-best.ensures.counted, c.offer.ensures.cost)

@@ -3,7 +3,7 @@ use Rattle.std.specs.List.{All}
 use Rattle.std.specs.List.Sorted.{IsPermutation}
 use Rattle.std.proofs.lemmas.List.Sorted.{length_permutation}
 use Rattle.rank_key.specs.Bits.{bit_length}
-use Rattle.rank_key.proofs.BitLemmas.{bit_length-rises}
+use Rattle.rank_key.proofs.BitLemmas.{bit_length_rises}
 use Rattle.stream_store.specs.Entries.{Entries}
 use Rattle.take2_heap.specs.declared.entry.Entry.{Entry}
 use Rattle.anyk_part.specs.declared.candidate.Candidate.{Candidate}
@@ -33,7 +33,7 @@ loop-walk-preserved g c =
     let below = l.below in
     let n = length c.args.self.now.queue.entries in
     let m = length c.args.tree.now in
-    let digits = bit_length-rises (length c.loop-walk.self.queue.entries + 2) (n + 2 * m) (omega (arith, l.division.few, below)) in
+    let digits = bit_length_rises (length c.loop-walk.self.queue.entries + 2) (n + 2 * m) (omega (arith, l.division.few, below)) in
     record {
       at = e.at;
       division = division_next g.R.Rank.KEYS g.R.Rank.key c.args.tree.now c.args.total.now c.args.start c.args.self.now.links.entries c.args.self.now.queue.entries c.loop-walk.walk c.advance-walk.result
@@ -110,8 +110,8 @@ returns-then-choice-clause-cost g c =
     let u = 10 + 4 * bit_length (n + 2 * m) in
     let few = choice_few g.R.Rank.KEYS g.R.Rank.key c.args.tree.now c.args.total.now c.args.start c.args.self.now.links.entries c.args.self.now.queue.entries c.loop-walk.walk c.loop-walk.self.links.entries c.loop-walk.chosen c.loop-walk.self.queue.entries
     l.at l.division l.below (omega (arith, c.loop-walk-test.false, l.count)) c.choose-choice.result c.choose-choice.new.chosen c.choose-choice.new.self.queue.entries c.choose-choice.ensures.choice in
-    let digits = bit_length-rises (length c.loop-walk.self.queue.entries + 2) (n + 2 * m) (omega (arith, l.division.few, l.below)) in
-    let popped = bit_length-rises (length c.choose-choice.new.self.queue.entries) (n + 2 * m) (omega (arith, few)) in
+    let digits = bit_length_rises (length c.loop-walk.self.queue.entries + 2) (n + 2 * m) (omega (arith, l.division.few, l.below)) in
+    let popped = bit_length_rises (length c.choose-choice.new.self.queue.entries) (n + 2 * m) (omega (arith, few)) in
     let end = times_next (c.loop-walk.walk.node + 1 - c.args.start.node) (c.loop-walk.walk.node - c.args.start.node) u c.args.steps.now c.loop-walk.steps c.choose-choice.new.steps
     (omega (arith, l.division.from)) l.cost (omega (arith, c.choose-choice.ensures.cost, digits)) in
     times_within (c.loop-walk.walk.node + 1 - c.args.start.node) m u c.args.steps.now c.choose-choice.new.steps c.pop.new.steps (2 * bit_length (n + 2 * m))
@@ -158,7 +158,7 @@ returns-else-choice-clause-cost g c =
     let u = 10 + 4 * bit_length (n + 2 * m) in
     let few = choice_few g.R.Rank.KEYS g.R.Rank.key c.args.tree.now c.args.total.now c.args.start c.args.self.now.links.entries c.args.self.now.queue.entries c.loop-walk.walk c.loop-walk.self.links.entries c.loop-walk.chosen c.loop-walk.self.queue.entries
     l.at l.division l.below (omega (arith, c.loop-walk-test.false, l.count)) c.choose-choice.result c.choose-choice.new.chosen c.choose-choice.new.self.queue.entries c.choose-choice.ensures.choice in
-    let digits = bit_length-rises (length c.loop-walk.self.queue.entries + 2) (n + 2 * m) (omega (arith, l.division.few, l.below)) in
+    let digits = bit_length_rises (length c.loop-walk.self.queue.entries + 2) (n + 2 * m) (omega (arith, l.division.few, l.below)) in
     let end = times_next (c.loop-walk.walk.node + 1 - c.args.start.node) (c.loop-walk.walk.node - c.args.start.node) u c.args.steps.now c.loop-walk.steps c.choose-choice.new.steps
     (omega (arith, l.division.from)) l.cost (omega (arith, c.choose-choice.ensures.cost, digits)) in
     times_within (c.loop-walk.walk.node + 1 - c.args.start.node) m u c.args.steps.now c.choose-choice.new.steps c.choose-choice.new.steps (2 * bit_length (n + 2 * m))

@@ -2,10 +2,10 @@ use Rattle.std.proofs.Common.{rules, ◌≡◌, ◌+◌, ◌<◌, ◌≤◌, ◌
 use Rattle.std.proofs.lemmas.List.Sorted.{length_permutation}
 use Rattle.take2_heap.specs.declared.entry.Entry.{Entry}
 use Rattle.rank_key.specs.Bits.{bit_length}
-use Rattle.rank_key.proofs.BitLemmas.{bit_length-rises, bit_length-zero}
+use Rattle.rank_key.proofs.BitLemmas.{bit_length_rises, bit_length_zero}
 use Rattle.tdp_model.specs.KeyTuple.{KeyOf}
 use Rattle.tdp_model.specs.KeyNumbers.{numbers}
-use Rattle.tdp_core.specs.Seen.{Seen, answers_of, rows_of_key}
+use Rattle.tdp_core.specs.SeenAnswers.{Seen, answers_of, rows_of_key}
 use Rattle.tdp_core.specs.Shares.{share_of, size_of}
 use Rattle.tdp_core.specs.TreeData.{rows, row_count, group_count, best}
 use Rattle.tdp_core.proofs.TreeFacts.{member_is_row}
@@ -31,7 +31,7 @@ pub returns-in_default-clause-cost : goal.returns-in_default-clause-cost
 returns-in_default-clause-cost g c =
     let entries : List (Entry g.row.R.Denot ℕ) = c.self.inside.queue.entries in
     let empty : length entries ≤ 0 = search rules in
-    let zero_digits : bit_length (length entries) ≡ 0 = ap bit_length (let e : length entries ≡ 0 = omega (arith, empty) in e) ∙ bit_length-zero in
+    let zero_digits : bit_length (length entries) ≡ 0 = ap bit_length (let e : length entries ≡ 0 = omega (arith, empty) in e) ∙ bit_length_zero in
     omega (arith, c.pop.ensures.cost, zero_digits)
 
 pub overflow_mul-top : goal.overflow_mul-top
@@ -114,7 +114,7 @@ returns-clause-cost g c =
     let one : length entries ≡ length others + 1 = omega (arith, length_permutation entries (e ∷ others) popped) in
     let first : bit_length (length others + 1) ≡ bit_length (length entries) = ap bit_length (sym one) in
     let second : bit_length (length c.offer.new.queue.entries + 1) ≤ bit_length (length entries + 1) =
-    bit_length-rises (length c.offer.new.queue.entries + 1) (length entries + 1) (omega (arith, c.offer.ensures.length, one))
+    bit_length_rises (length c.offer.new.queue.entries + 1) (length entries + 1) (omega (arith, c.offer.ensures.length, one))
     in
     let few : length entries ≤ row_count t =
     omega (arith, q.few, some_left d key t entries spare q e others popped, heap_within d key t entries spare q e others popped, rows_counted d key t entries spare q e others popped)

@@ -3,7 +3,7 @@ use Rattle.std.proofs.Math.ListN.{set}
 use Rattle.std.proofs.lemmas.List.{get_or_default}
 use Rattle.indexmap.specs.IndexSet.{insert_key}
 use Rattle.counted_index.specs.LinkTable.{IsTableOf}
-use Rattle.counted_index.proofs.Tables.{goes-last, stays, table-more, table-same}
+use Rattle.counted_index.proofs.Tables.{goes_last, stays, table_more, table_same}
 use Rattle.counted_index.proofs.direct.DirectIndex.insert.Goals as goal
 
 pub invariant_of-self : goal.invariant_of-self
@@ -11,7 +11,7 @@ invariant_of-self g c =
     let links = c.self.inside.links.items in
     let table = c.reach.new.table.items in
     let link = c.args.link in
-    let is_table : IsTableOf table links = table-same c.self.inside.table.items links c.self.invariant table c.reach.ensures.same in
+    let is_table : IsTableOf table links = table_same c.self.inside.table.items links c.self.invariant table c.reach.ensures.same in
     is_table
 
 pub invariant_of-self-then-after-gt0 : goal.invariant_of-self-then-after-gt0
@@ -19,7 +19,7 @@ invariant_of-self-then-after-gt0 g c =
     let links = c.self.inside.links.items in
     let table = c.reach.new.table.items in
     let link = c.args.link in
-    let is_table : IsTableOf table links = table-same c.self.inside.table.items links c.self.invariant table c.reach.ensures.same in
+    let is_table : IsTableOf table links = table_same c.self.inside.table.items links c.self.invariant table c.reach.ensures.same in
     is_table
 
 pub returns-then-after-gt0-clause-links : goal.returns-then-after-gt0-clause-links
@@ -27,7 +27,7 @@ returns-then-after-gt0-clause-links g c =
     let links = c.self.inside.links.items in
     let table = c.reach.new.table.items in
     let link = c.args.link in
-    let is_table : IsTableOf table links = table-same c.self.inside.table.items links c.self.invariant table c.reach.ensures.same in
+    let is_table : IsTableOf table links = table_same c.self.inside.table.items links c.self.invariant table c.reach.ensures.same in
     let r = c.index-after.result.now in
     let inside : link < length table = omega (arith, c.in_ok-reach.ensures.within, c.reach.new.table.ok.0) in
     let read : get_or table link 0 ≡ r = get_or_default table link 0 r inside ∙ sym c.index-after.ensures in
@@ -39,7 +39,7 @@ returns-then-after-gt0-clause-within g c =
     let links = c.self.inside.links.items in
     let table = c.reach.new.table.items in
     let link = c.args.link in
-    let is_table : IsTableOf table links = table-same c.self.inside.table.items links c.self.invariant table c.reach.ensures.same in
+    let is_table : IsTableOf table links = table_same c.self.inside.table.items links c.self.invariant table c.reach.ensures.same in
     let r = c.index-after.result.now in
     let inside : link < length table = omega (arith, c.in_ok-reach.ensures.within, c.reach.new.table.ok.0) in
     let read : get_or table link 0 ≡ r = get_or_default table link 0 r inside ∙ sym c.index-after.ensures in
@@ -51,7 +51,7 @@ invariant_of-self-in_err-push g c =
     let links = c.self.inside.links.items in
     let table = c.reach.new.table.items in
     let link = c.args.link in
-    let is_table : IsTableOf table links = table-same c.self.inside.table.items links c.self.invariant table c.reach.ensures.same in
+    let is_table : IsTableOf table links = table_same c.self.inside.table.items links c.self.invariant table c.reach.ensures.same in
     subst (IsTableOf table) (sym c.in_err-push.ensures.items) is_table
 
 pub invariant_of-self-2 : goal.invariant_of-self-2
@@ -59,23 +59,23 @@ invariant_of-self-2 g c =
     let links = c.self.inside.links.items in
     let table = c.reach.new.table.items in
     let link = c.args.link in
-    let is_table : IsTableOf table links = table-same c.self.inside.table.items links c.self.invariant table c.reach.ensures.same in
+    let is_table : IsTableOf table links = table_same c.self.inside.table.items links c.self.invariant table c.reach.ensures.same in
     let r = c.index-after.result.now in
     let inside : link < length table = omega (arith, c.in_ok-reach.ensures.within, c.reach.new.table.ok.0) in
     let read : get_or table link 0 ≡ r = get_or_default table link 0 r inside ∙ sym c.index-after.ensures in
     let none : get_or table link 0 ≡ 0 = omega (arith, read, c.if-after-gt0.false) in
     let last : length links ≡ c.len-number.result = omega (arith, c.len-number.ensures, c.self.inside.links.ok.0) in
     subst (λ k. IsTableOf (set table link (k + 1)) c.push.new.self.items) last
-    (subst (IsTableOf (set table link (length links + 1))) (sym c.in_ok-push.ensures.items) (table-more table links is_table link inside none))
+    (subst (IsTableOf (set table link (length links + 1))) (sym c.in_ok-push.ensures.items) (table_more table links is_table link inside none))
 
 pub returns-clause-links : goal.returns-clause-links
 returns-clause-links g c =
     let links = c.self.inside.links.items in
     let table = c.reach.new.table.items in
     let link = c.args.link in
-    let is_table : IsTableOf table links = table-same c.self.inside.table.items links c.self.invariant table c.reach.ensures.same in
+    let is_table : IsTableOf table links = table_same c.self.inside.table.items links c.self.invariant table c.reach.ensures.same in
     let r = c.index-after.result.now in
     let inside : link < length table = omega (arith, c.in_ok-reach.ensures.within, c.reach.new.table.ok.0) in
     let read : get_or table link 0 ≡ r = get_or_default table link 0 r inside ∙ sym c.index-after.ensures in
     let none : get_or table link 0 ≡ 0 = omega (arith, read, c.if-after-gt0.false) in
-    c.in_ok-push.ensures.items ∙ goes-last table links is_table link none ∙ ap (λ l. insert_key nat_eq l link) c.self.view_is
+    c.in_ok-push.ensures.items ∙ goes_last table links is_table link none ∙ ap (λ l. insert_key nat_eq l link) c.self.view_is

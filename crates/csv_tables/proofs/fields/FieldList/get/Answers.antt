@@ -2,7 +2,7 @@ use Rattle.std.proofs.Common.{◌≡◌, ◌<◌, ◌-◌, ◌∙◌, ℕ, List,
 use Rattle.csv.specs.Records.{prev}
 use Rattle.csv.proofs.RecordFacts.{cut-length, field-bounds}
 use Rattle.anyk_model.specs.Table.{Fields}
-use Rattle.csv_tables.proofs.Packed.{field-between}
+use Rattle.csv_tables.proofs.Packed.{field_between}
 use Rattle.csv_tables.proofs.fields.FieldList.get.Goals as goal
 
 pub bounds-start-requires : goal.bounds-start-requires
@@ -53,5 +53,5 @@ returns c =
     let b = c.bounds-start.ensures in
     let start : c.bounds-start.result.0 ≡ prev 0 ends c.args.place = b.start ∙ ap (λ (l : List ℕ). prev 0 l c.args.place) c.deref.ensures.value in
     let end : c.bounds-start.result.1 ≡ get_or ends c.args.place 0 = b.end ∙ ap (λ (l : List ℕ). get_or l c.args.place 0) c.deref.ensures.value in
-    (λ i. take (end i - start i) (drop (start i) (c.as_slice.ensures.value i))) ∙ field-between ends bytes c.args.place inside
+    (λ i. take (end i - start i) (drop (start i) (c.as_slice.ensures.value i))) ∙ field_between ends bytes c.args.place inside
     ∙ ap (λ (l : Fields). get_or l c.args.place []) c.self.view_is

@@ -1,7 +1,7 @@
 use Rattle.std.proofs.Common.{◌≡◌, ◌+◌, ◌++◌, ◌∷◌, [], ◌∙◌, length, ap, arith, length-append}
 use Rattle.csv.specs.Records.{cut_from}
 use Rattle.anyk_model.specs.Table.{Fields}
-use Rattle.csv_tables.proofs.Packed.{push-cut, push-rising, push-whole}
+use Rattle.csv_tables.proofs.Packed.{push_cut, push_rising, push_whole}
 use Rattle.csv_tables.proofs.fields.FieldList.push.Goals as goal
 
 pub invariant_of-self-2 : goal.invariant_of-self-2
@@ -13,8 +13,8 @@ invariant_of-self-2 c =
     let grown : c.push_reserved.new.self.items ≡ ends ++ length (bytes ++ field) ∷ [] =
     c.push_reserved.ensures.items ∙ (λ i. c.in_ok-reserve.ensures.items i ++ end i ∷ []) in
     record {
-      rising = rw (grown, c.in_ok-extend_from_slice.ensures.items) (push-rising ends bytes field c.self.invariant.rising c.self.invariant.whole);
-      whole = rw (grown, c.in_ok-extend_from_slice.ensures.items) (push-whole ends bytes field c.self.invariant.rising c.self.invariant.whole);
+      rising = rw (grown, c.in_ok-extend_from_slice.ensures.items) (push_rising ends bytes field c.self.invariant.rising c.self.invariant.whole);
+      whole = rw (grown, c.in_ok-extend_from_slice.ensures.items) (push_whole ends bytes field c.self.invariant.rising c.self.invariant.whole);
     }
 
 pub returns-clause-added : goal.returns-clause-added
@@ -26,5 +26,5 @@ returns-clause-added c =
     let grown : c.push_reserved.new.self.items ≡ ends ++ length (bytes ++ field) ∷ [] =
     c.push_reserved.ensures.items ∙ (λ i. c.in_ok-reserve.ensures.items i ++ end i ∷ []) in
     let put = c.in_ok-extend_from_slice.ensures.items in
-    (λ i. cut_from 0 (grown i) (put i)) ∙ push-cut ends bytes field c.self.invariant.rising c.self.invariant.whole
+    (λ i. cut_from 0 (grown i) (put i)) ∙ push_cut ends bytes field c.self.invariant.rising c.self.invariant.whole
     ∙ ap (λ (l : Fields). l ++ field ∷ []) c.self.view_is

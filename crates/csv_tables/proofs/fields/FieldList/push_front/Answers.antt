@@ -3,7 +3,7 @@ use Rattle.std.proofs.Math.Seq.{take-append-add}
 use Rattle.std.specs.List.{concat}
 use Rattle.csv.specs.Records.{fields_of}
 use Rattle.csv_tables.specs.Fields.{ends_from}
-use Rattle.csv_tables.proofs.Packed.{Shows, shows-more}
+use Rattle.csv_tables.proofs.Packed.{Shows, shows_more}
 use Rattle.csv_tables.proofs.fields.FieldList.push_front.Goals as goal
 use Rattle.csv_tables.proofs.fields.FieldList.push_front.Goals.{After-truncate}
 
@@ -22,7 +22,7 @@ shown c =
     c.truncate.ensures.items ∙ (λ i. take (end i) (c.in_ok-extend_from_slice.ensures.items i))
     ∙ take-append-add bytes c.as_slice-text.result.now (length (concat front))
     ∙ (λ i. bytes ++ take (length (concat front)) (c.as_slice-text.ensures i)) ∙ ap (λ (l : List ℕ). bytes ++ l) put.text in
-    rw (grown, kept) (shows-more front ends bytes c.args.self.now (record {
+    rw (grown, kept) (shows_more front ends bytes c.args.self.now (record {
       rising = c.self.invariant.rising;
       whole = c.self.invariant.whole;
       cut = c.self.view_is;

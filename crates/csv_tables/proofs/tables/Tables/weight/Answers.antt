@@ -3,7 +3,7 @@ use Rattle.std.specs.Int.{w128}
 use Rattle.std.proofs.lemmas.Int.{to_z_pos}
 use Rattle.anyk_model.specs.Table.{field_at, table_at}
 use Rattle.csv_tables.specs.Values.{with_tables}
-use Rattle.csv_tables.proofs.Weights.{number-weight}
+use Rattle.csv_tables.proofs.Weights.{number_weight}
 use Rattle.csv_tables.proofs.tables.Tables.weight.Goals as goal
 
 pub returns-then-number-lt-FIRST_TEXT : goal.returns-then-number-lt-FIRST_TEXT
@@ -11,4 +11,4 @@ returns-then-number-lt-FIRST_TEXT c =
     let field = field_at (table_at c.args.self.now c.args.table) (c.args.row - 1) c.args.column in
     let number = c.value-number.result in
     ap (λ (z : ℤ). Some z) (to_z_pos w128 number (omega (arith, c.if-number-lt-FIRST_TEXT.true)))
-    ∙ sym (number-weight (with_tables [] c.args.self.now) field number c.value-number.ensures c.if-number-lt-FIRST_TEXT.true)
+    ∙ sym (number_weight (with_tables [] c.args.self.now) field number c.value-number.ensures c.if-number-lt-FIRST_TEXT.true)

@@ -5,8 +5,8 @@ use Rattle.hyper_graph.specs.Graph.{Hypergraph}
 use Rattle.std.proofs.Common.{Vec, Global}
 use Rattle.query_bind.specs.Graph.{IsGraphOf}
 use Rattle.query_bind.specs.Variables.{lists_shown}
-use Rattle.query_bind.specs.Weighed.{BoundQuery}
-use Rattle.query_bind.proofs.GraphOf.{graph-of, same-sets, sets-within}
+use Rattle.query_bind.specs.WeighedQuery.{BoundQuery}
+use Rattle.query_bind.proofs.GraphOf.{graph_of, same_sets, sets_within}
 use Rattle.query_bind.proofs.query.Query.graph.Goals as goal
 
 pub item_sets-requires : goal.item_sets-requires
@@ -29,9 +29,9 @@ new-requires-clause-within c =
     let shown : lists_shown c.as_slice.result.now ≡ now.lists = ap lists_shown c.as_slice.ensures.value ∙ ap (λ (b : BoundQuery). b.lists) c.self.view_is in
     let count : length c.as_slice.result.now ≡ c.items-atoms.result =
     sym (length-map c.as_slice.result.now (λ (v : Vec (ℕ × ℕ) Global). v.items)) ∙ ap length shown ∙ c.requires.fits.1.listed ∙ sym c.items-atoms.ensures.items in
-    let known = same-sets (lists_shown c.as_slice.result.now) now.lists (length c.as_slice.result.now) c.items-atoms.result c.variables-count.result (length now.variables)
+    let known = same_sets (lists_shown c.as_slice.result.now) now.lists (length c.as_slice.result.now) c.items-atoms.result c.variables-count.result (length now.variables)
     c.in_ok-sets.sets.items c.as_slice-2.result.now shown count c.variables-count.ensures.count (sym c.as_slice-2.ensures.value) c.in_ok-sets.ensures in
-    sets-within now c.requires.fits.0 c.requires.fits.1 c.items-atoms.result (length now.variables) c.as_slice-2.result.now known
+    sets_within now c.requires.fits.0 c.requires.fits.1 c.items-atoms.result (length now.variables) c.as_slice-2.result.now known
 
 pub returns : goal.returns
 returns c =
@@ -39,10 +39,10 @@ returns c =
     let shown : lists_shown c.as_slice.result.now ≡ now.lists = ap lists_shown c.as_slice.ensures.value ∙ ap (λ (b : BoundQuery). b.lists) c.self.view_is in
     let count : length c.as_slice.result.now ≡ c.items-atoms.result =
     sym (length-map c.as_slice.result.now (λ (v : Vec (ℕ × ℕ) Global). v.items)) ∙ ap length shown ∙ c.requires.fits.1.listed ∙ sym c.items-atoms.ensures.items in
-    let known = same-sets (lists_shown c.as_slice.result.now) now.lists (length c.as_slice.result.now) c.items-atoms.result c.variables-count.result (length now.variables)
+    let known = same_sets (lists_shown c.as_slice.result.now) now.lists (length c.as_slice.result.now) c.items-atoms.result c.variables-count.result (length now.variables)
     c.in_ok-sets.sets.items c.as_slice-2.result.now shown count c.variables-count.ensures.count (sym c.as_slice-2.ensures.value) c.in_ok-sets.ensures in
     let some : 1 ≤ c.items-atoms.result = omega (arith, c.requires.fits.1.some, c.items-atoms.ensures.items) in
     let graph : IsGraphOf now.query (record { atoms = c.items-atoms.result; vars = c.as_slice-2.result.now }) =
-    graph-of now c.requires.fits.0 c.requires.fits.1 c.items-atoms.result c.as_slice-2.result.now c.items-atoms.ensures.items some c.items-atoms.ensures.limit known in
+    graph_of now c.requires.fits.0 c.requires.fits.1 c.items-atoms.result c.as_slice-2.result.now c.items-atoms.ensures.items some c.items-atoms.ensures.limit known in
     IfOk-weaker c.new.result (λ (g : Hypergraph). g ≡ record { atoms = c.items-atoms.result; vars = c.as_slice-2.result.now }) (λ (g : Hypergraph). IsGraphOf now.query g)
     (λ g e. subst (λ (h : Hypergraph). IsGraphOf now.query h) (sym e) graph) c.new.ensures

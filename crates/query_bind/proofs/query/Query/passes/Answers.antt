@@ -3,12 +3,12 @@ use Rattle.anyk_model.specs.Table.{field_at, table_at}
 use Rattle.query_bind.specs.FilterViews.{constant_shown, filter_shown}
 use Rattle.query_bind.specs.Filters.{HasConstants, HasEqual}
 use Rattle.query_bind.specs.Names.{item_at}
-use Rattle.query_bind.specs.Weighed.{BoundQuery}
+use Rattle.query_bind.specs.WeighedQuery.{BoundQuery}
 use Rattle.query_bind.specs.declared.filters.Constant.{Constant}
-use Rattle.query_bind.proofs.AllFilters.{constant-inside, first-inside, second-inside, stored-filter}
-use Rattle.query_bind.proofs.Filtering.{passes-iff}
-use Rattle.query_bind.proofs.Lists.{member-map}
-use Rattle.query_bind.proofs.Witness.{all-of-members}
+use Rattle.query_bind.proofs.AllFilters.{constant_inside, first_inside, second_inside, stored_filter}
+use Rattle.query_bind.proofs.Filtering.{passes_iff}
+use Rattle.query_bind.proofs.Lists.{member_map}
+use Rattle.query_bind.proofs.Witness.{all_of_members}
 use Rattle.query_bind.proofs.query.Query.passes.Goals as goal
 
 pub stands-requires-clause-left : goal.stands-requires-clause-left
@@ -16,34 +16,34 @@ stands-requires-clause-left c =
     let now = c.args.self.now in
     let tables = c.args.tables.now in
     let w = c.index.result.now in
-    let known = stored-filter now tables c.requires.fits c.self.inside.filters.items (ap (λ (b : BoundQuery). b.filters) c.self.view_is) c.args.item w c.requires.item c.index.ensures in
+    let known = stored_filter now tables c.requires.fits c.self.inside.filters.items (ap (λ (b : BoundQuery). b.filters) c.self.view_is) c.args.item w c.requires.item c.index.ensures in
     let t : c.table_of-table.result ≡ (item_at now.query.items c.args.item).table =
     c.table_of-table.ensures ∙ ap (λ (b : BoundQuery). (item_at b.query.items c.args.item).table) c.self.view_is in
-    all-of-members (λ (v : ℕ × ℕ). v.0 < length (table_at tables c.table_of-table.result).names) w.pairs.items
-    (λ v m. subst (λ (n : ℕ). v.0 < length (table_at tables n).names) (sym t) (first-inside now.query tables c.requires.fits.within c.args.item (filter_shown w) known v m))
+    all_of_members (λ (v : ℕ × ℕ). v.0 < length (table_at tables c.table_of-table.result).names) w.pairs.items
+    (λ v m. subst (λ (n : ℕ). v.0 < length (table_at tables n).names) (sym t) (first_inside now.query tables c.requires.fits.within c.args.item (filter_shown w) known v m))
 
 pub stands-requires-clause-right : goal.stands-requires-clause-right
 stands-requires-clause-right c =
     let now = c.args.self.now in
     let tables = c.args.tables.now in
     let w = c.index.result.now in
-    let known = stored-filter now tables c.requires.fits c.self.inside.filters.items (ap (λ (b : BoundQuery). b.filters) c.self.view_is) c.args.item w c.requires.item c.index.ensures in
+    let known = stored_filter now tables c.requires.fits c.self.inside.filters.items (ap (λ (b : BoundQuery). b.filters) c.self.view_is) c.args.item w c.requires.item c.index.ensures in
     let t : c.table_of-table.result ≡ (item_at now.query.items c.args.item).table =
     c.table_of-table.ensures ∙ ap (λ (b : BoundQuery). (item_at b.query.items c.args.item).table) c.self.view_is in
-    all-of-members (λ (v : ℕ × ℕ). v.1 < length (table_at tables c.table_of-table.result).names) w.pairs.items
-    (λ v m. subst (λ (n : ℕ). v.1 < length (table_at tables n).names) (sym t) (second-inside now.query tables c.requires.fits.within c.args.item (filter_shown w) known v m))
+    all_of_members (λ (v : ℕ × ℕ). v.1 < length (table_at tables c.table_of-table.result).names) w.pairs.items
+    (λ v m. subst (λ (n : ℕ). v.1 < length (table_at tables n).names) (sym t) (second_inside now.query tables c.requires.fits.within c.args.item (filter_shown w) known v m))
 
 pub stands-requires-clause-places : goal.stands-requires-clause-places
 stands-requires-clause-places c =
     let now = c.args.self.now in
     let tables = c.args.tables.now in
     let w = c.index.result.now in
-    let known = stored-filter now tables c.requires.fits c.self.inside.filters.items (ap (λ (b : BoundQuery). b.filters) c.self.view_is) c.args.item w c.requires.item c.index.ensures in
+    let known = stored_filter now tables c.requires.fits c.self.inside.filters.items (ap (λ (b : BoundQuery). b.filters) c.self.view_is) c.args.item w c.requires.item c.index.ensures in
     let t : c.table_of-table.result ≡ (item_at now.query.items c.args.item).table =
     c.table_of-table.ensures ∙ ap (λ (b : BoundQuery). (item_at b.query.items c.args.item).table) c.self.view_is in
-    all-of-members (λ (y : Constant). y.place < length (table_at tables c.table_of-table.result).names) w.constants.items
+    all_of_members (λ (y : Constant). y.place < length (table_at tables c.table_of-table.result).names) w.constants.items
     (λ y m. subst (λ (n : ℕ). y.place < length (table_at tables n).names) (sym t)
-    (constant-inside now.query tables c.requires.fits.within c.args.item (filter_shown w) known (constant_shown y) (member-map constant_shown y w.constants.items m)))
+    (constant_inside now.query tables c.requires.fits.within c.args.item (filter_shown w) known (constant_shown y) (member_map constant_shown y w.constants.items m)))
 
 pub returns : goal.returns
 returns c =
@@ -51,9 +51,9 @@ returns c =
     let tables = c.args.tables.now in
     let w = c.index.result.now in
     let f = filter_shown w in
-    let known = stored-filter now tables c.requires.fits c.self.inside.filters.items (ap (λ (b : BoundQuery). b.filters) c.self.view_is) c.args.item w c.requires.item c.index.ensures in
+    let known = stored_filter now tables c.requires.fits c.self.inside.filters.items (ap (λ (b : BoundQuery). b.filters) c.self.view_is) c.args.item w c.requires.item c.index.ensures in
     let t : c.table_of-table.result ≡ (item_at now.query.items c.args.item).table =
     c.table_of-table.ensures ∙ ap (λ (b : BoundQuery). (item_at b.query.items c.args.item).table) c.self.view_is in
-    let iff = passes-iff now.query tables c.args.item c.args.row f known in
+    let iff = passes_iff now.query tables c.args.item c.args.row f known in
     let P = λ (n : ℕ). HasEqual (field_at (table_at tables n) (c.args.row - 1)) f.pairs × HasConstants (field_at (table_at tables n) (c.args.row - 1)) f.constants in
     (λ h. iff.0 (subst P t (c.stands.ensures.0 h)), λ p. c.stands.ensures.1 (subst P (sym t) (iff.1 p)))

@@ -2,7 +2,7 @@ use Rattle.std.proofs.Common.{◌≡◌, ◌<◌, ◌∙◌, sym, ap, subst, len
 use Rattle.std.proofs.lemmas.List.{get_or-map, length-map}
 use Rattle.query_bind.specs.Classes.{AreVariablesOf}
 use Rattle.query_bind.specs.Variables.{lists_shown}
-use Rattle.query_bind.specs.Weighed.{BoundQuery, variables_at}
+use Rattle.query_bind.specs.WeighedQuery.{BoundQuery, variables_at}
 use Rattle.query_bind.proofs.query.Query.variables_of.Goals as goal
 
 pub returns-clause-variables : goal.returns-clause-variables

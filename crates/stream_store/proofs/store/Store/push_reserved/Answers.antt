@@ -2,7 +2,7 @@ use Rattle.std.proofs.Common.{ℕ, ◌+◌, ◌<◌, None, [], ◌∷◌, ◌++�
 use Rattle.std.proofs.SliceLists.{any-default}
 use Rattle.std.specs.Vec.{vec_len, vec_capacity}
 use Rattle.stream_store.specs.Entries.{Entries}
-use Rattle.stream_store.proofs.Buckets.{stands, next, length-joined, joined-pushed, AreFilled-pushed, whole_room-set}
+use Rattle.stream_store.proofs.Buckets.{stands, next, length_joined, joined_pushed, AreFilled-pushed, whole_room_set}
 use Rattle.stream_store.proofs.store.Store.push_reserved.Goals as goal
 
 pub index_mut-bucket-requires : goal.index_mut-bucket-requires
@@ -49,14 +49,14 @@ invariant_of-self g c =
     let len = put.len ∙ ap (λ b. vec_len b + 1) value ∙ ap (λ (n : ℕ). n + 1) (here.offset bucket) in
     let capacity = put.capacity ∙ ap (λ b. vec_capacity b) value ∙ here.capacity bucket in (
       AreFilled-pushed 16 inside.len bs spot.bucket spot.offset pushed place (omega arith) c.self.invariant.0 len capacity,
-      total ∙ sym (whole_room-set 16 bs spot.bucket pushed),
+      total ∙ sym (whole_room_set 16 bs spot.bucket pushed),
       omega arith,
       c.self.invariant.3,
       c.self.invariant.4,
     )
 
 pub returns-clause-id : goal.returns-clause-id
-returns-clause-id g c = rw (← c.self.view_is) (sym (length-joined 16 c.self.inside.len c.self.inside.buckets.items c.self.invariant.0))
+returns-clause-id g c = rw (← c.self.view_is) (sym (length_joined 16 c.self.inside.len c.self.inside.buckets.items c.self.invariant.0))
 
 pub returns-clause-entries : goal.returns-clause-entries
 returns-clause-entries g c =
@@ -72,4 +72,4 @@ returns-clause-entries g c =
     let pushed = c.push_reserved.new.self in
     let old = c.index_mut-bucket.ensures.value ∙ any-default bs spot.bucket bucket pushed here.bucket in
     let items = c.push_reserved.ensures.items ∙ ap (λ b. b.items ++ record { value = c.args.value; next = None } ∷ []) old in
-    rw (← c.self.view_is) (joined-pushed 16 inside.len bs spot.bucket spot.offset pushed (record { value = c.args.value; next = None }) place (omega arith) c.self.invariant.0 items)
+    rw (← c.self.view_is) (joined_pushed 16 inside.len bs spot.bucket spot.offset pushed (record { value = c.args.value; next = None }) place (omega arith) c.self.invariant.0 items)

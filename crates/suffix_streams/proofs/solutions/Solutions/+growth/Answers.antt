@@ -4,7 +4,7 @@ use Rattle.stream_store.specs.declared.entry.Linked.{Linked}
 use Rattle.rank_key.specs.Bits.{bit_length}
 use Rattle.tdp_core.specs.TreeData.{NodeData, parent, rows, members, child_count, group_named}
 use Rattle.tdp_core.specs.WellFormed.{IsTieFreeTree}
-use Rattle.tdp_core.proofs.Children.{kids_below-most}
+use Rattle.tdp_core.proofs.Children.{kids_below_most}
 use Rattle.suffix_streams.specs.declared.stream.Found.{Found}
 use Rattle.suffix_streams.specs.ProductData.{ProductData}
 use Rattle.suffix_streams.specs.StreamData.{StreamData}
@@ -218,7 +218,7 @@ after-extend-requires g t c κs within =
     let p = top_of g t at.In-Some-top o in
     let a = row_of g t at.After-open_row o p in
     let k = counted_of g t at.After-child_count-count o a in
-    (omega (arith, c.decreases, o.node_is, k.all, o.node, ap length c.open_row.ensures.tree, kids_below-most (parent c.args.self.now.tree.now) c.get-found.result.now.node (length c.args.self.now.tree.now), o.formed.tree.shaped.few_nodes), (within.0, (within.1.0, (within.1.1, (c.open_row.ensures.formed, (subst IsTieFreeTree (sym c.open_row.ensures.tree) c.requires.tie_free, (subst (λ z. c.get-found.result.now.node < length z) (sym c.open_row.ensures.tree) o.node, (subst (λ z. c.source_row-row.result < rows z c.get-found.result.now.node) (sym c.open_row.ensures.tree) a.row, (k.within, omega (arith, k.known, c.next_place-place.ensures))))))))))
+    (omega (arith, c.decreases, o.node_is, k.all, o.node, ap length c.open_row.ensures.tree, kids_below_most (parent c.args.self.now.tree.now) c.get-found.result.now.node (length c.args.self.now.tree.now), o.formed.tree.shaped.few_nodes), (within.0, (within.1.0, (within.1.1, (c.open_row.ensures.formed, (subst IsTieFreeTree (sym c.open_row.ensures.tree) c.requires.tie_free, (subst (λ z. c.get-found.result.now.node < length z) (sym c.open_row.ensures.tree) o.node, (subst (λ z. c.source_row-row.result < rows z c.get-found.result.now.node) (sym c.open_row.ensures.tree) a.row, (k.within, omega (arith, k.known, c.next_place-place.ensures))))))))))
 
 pub after-returns-in_err-extend-clause-grown : goal.after-returns-in_err-extend-clause-grown
 after-returns-in_err-extend-clause-grown g t c =

@@ -1,6 +1,6 @@
 use Rattle.std.proofs.Common.{◌≡◌, ℕ, ◌+◌, ◌-◌, ◌<◌, suc, length, get_or, refl, sym, ap, ◌∙◌, subst, arith}
 use Rattle.tdp_core.specs.TreeData.{parent, rows, child_count, group_named, rank}
-use Rattle.tdp_core.proofs.Children.{kids_below-most}
+use Rattle.tdp_core.proofs.Children.{kids_below_most}
 use Rattle.tdp_model.specs.KeyTuple.{key_add, key_none}
 use Rattle.tdp_model.specs.Product.{pair_key}
 use Rattle.suffix_streams.specs.Rankings.{child, part_list, group_list}
@@ -131,7 +131,7 @@ add_entry_rows-add_sum_rows-requires g t c κs within =
     let s = source_of g t at.After-get-found in
     let kids = kids_of g t at.After-child_count-count s in
     let last : child_count tree f.node ≡ suc (c.child_count-count.result - 1) = omega (arith, kids, c.if-count-eq0.false) in (
-      omega (arith, c.decreases, s.owner, s.node, kids, kids_below-most (parent tree) f.node (length tree), c.requires.formed.tree.shaped.few_nodes),
+      omega (arith, c.decreases, s.owner, s.node, kids, kids_below_most (parent tree) f.node (length tree), c.requires.formed.tree.shaped.few_nodes),
       (
         within.0,
         (

@@ -14,7 +14,7 @@ use Rattle.suffix_streams.proofs.Entries.{stream_owned}
 use Rattle.suffix_streams.proofs.Stores.{node_length, set_length}
 use Rattle.suffix_streams.proofs.Linked.{entry_held}
 use Rattle.rank_key.specs.Bits.{bit_length}
-use Rattle.rank_key.proofs.BitLemmas.{bit_length-rises}
+use Rattle.rank_key.proofs.BitLemmas.{bit_length_rises}
 use Rattle.stream_model.specs.Links.{owned, IsLinkedAt}
 use Rattle.suffix_streams.specs.Rankings.{part_list, group_list}
 use Rattle.suffix_streams.proofs.QueuePass.{IsGroupTop, IsQueuePassed, IsEntryLinked, group_top, queue_passed, passed_ends, passed_grows, entry_linked}
@@ -55,9 +55,9 @@ module _ (g : Over) where
         arith,
         c.row_offer-offer.ensures.cost,
         c.pass_last.ensures.cost,
-        bit_length-rises (length (stream_of c.args.self.now.nodes.items c.args.node c.args.group).queue) (n + 1) (omega (arith, old)),
-        bit_length-rises (length (stream_of c.args.self.now.nodes.items c.args.node c.args.group).queue + 1) (n + 1) (omega (arith, old)),
-        bit_length-rises (length (stream_of c.pass_last.new.nodes.items c.args.node c.args.group).queue) (n + 1) (omega (arith, new)),
+        bit_length_rises (length (stream_of c.args.self.now.nodes.items c.args.node c.args.group).queue) (n + 1) (omega (arith, old)),
+        bit_length_rises (length (stream_of c.args.self.now.nodes.items c.args.node c.args.group).queue + 1) (n + 1) (omega (arith, old)),
+        bit_length_rises (length (stream_of c.pass_last.new.nodes.items c.args.node c.args.group).queue) (n + 1) (omega (arith, new)),
       )
 
   -- the lists of the node that are read then

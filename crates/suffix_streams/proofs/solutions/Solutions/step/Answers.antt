@@ -8,7 +8,7 @@ use Rattle.stream_cells.specs.declared.cell.Cell.{Cell}
 use Rattle.suffix_streams.specs.NodeLists.{NodeLists, product_at, known_of, with_product}
 use Rattle.suffix_streams.specs.StreamsData.{HasParts, IsCell, IsStreams, pair_of, node_of, group_of, lists_of, product_of, part_known}
 use Rattle.tdp_core.specs.TreeData.{group_named}
-use Rattle.rank_key.proofs.BitLemmas.{bit_length-rises}
+use Rattle.rank_key.proofs.BitLemmas.{bit_length_rises}
 use Rattle.suffix_streams.specs.Rankings.{child, part_list, group_list}
 use Rattle.suffix_streams.specs.Frontiers.{IsFrontier}
 use Rattle.suffix_streams.specs.Growing.{IsReached}
@@ -39,7 +39,7 @@ module _ (g : Over) where
   digits_of : (c : After-pass_product g) → c.pass_product.new.steps ≤ c.args.steps.now + 6 + 3 * bit_length (length (product_of c.args.self.now.nodes.items c.args.node c.args.row c.args.child).frontier + 1)
   digits_of c =
       let old = ap (λ n. product_at n c.args.row c.args.child) (sym (lists_at c.args.self.now.nodes.items c.args.node c.index_mut.result.now c.index_mut.ensures.value (omega (arith, c.requires.formed.all_nodes, c.requires.node)))) in
-      let fewer : bit_length (length (product_of c.args.self.now.nodes.items c.args.node c.args.row c.args.child).frontier) ≤ bit_length (length (product_of c.args.self.now.nodes.items c.args.node c.args.row c.args.child).frontier + 1) = bit_length-rises (length (product_of c.args.self.now.nodes.items c.args.node c.args.row c.args.child).frontier) (length (product_of c.args.self.now.nodes.items c.args.node c.args.row c.args.child).frontier + 1) (omega arith) in
+      let fewer : bit_length (length (product_of c.args.self.now.nodes.items c.args.node c.args.row c.args.child).frontier) ≤ bit_length (length (product_of c.args.self.now.nodes.items c.args.node c.args.row c.args.child).frontier + 1) = bit_length_rises (length (product_of c.args.self.now.nodes.items c.args.node c.args.row c.args.child).frontier) (length (product_of c.args.self.now.nodes.items c.args.node c.args.row c.args.child).frontier + 1) (omega arith) in
       omega (arith, fewer, c.offered-down.ensures.cost, c.offered-across.ensures.cost, c.pass_product.ensures.cost, ap (λ q. bit_length (length q.frontier)) old, ap (λ q. bit_length (length q.frontier + 1)) old)
 
   read_of : (c : After-product_top g) → IsProductPassed g.R.Rank.KEYS g.R.Rank.key c.args.self.now.tree.now c.args.self.now.entries.entries c.args.self.now.nodes.items c.args.node c.args.row c.args.child (product_at c.pass_product.new.self c.args.row c.args.child) → c.index-2.result.now ≡ c.pass_product.new.self

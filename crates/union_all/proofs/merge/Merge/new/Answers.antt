@@ -1,19 +1,19 @@
 use Rattle.std.proofs.Common.{◌∙◌, List, map, sym, ap}
 use Rattle.anyk_model.specs.Query.{Query}
 use Rattle.union_list.specs.Union.{left_of}
-use Rattle.union_all.specs.Merged.{BranchSeen, rests_of}
-use Rattle.union_all.proofs.Begun.{all-branches, same-queries}
+use Rattle.union_all.specs.Merge.{BranchSeen, rests_of}
+use Rattle.union_all.proofs.Begun.{all_branches, same_queries}
 use Rattle.union_all.proofs.merge.Merge.new.Goals as goal
 
 pub invariant_of-result : goal.invariant_of-result
 invariant_of-result g c =
-    all-branches c.args.tables.now c.args.queries.now c.in_ok-branches.branches.items _ c.in_ok-branches.ensures.bounds c.in_ok-branches.ensures.lists c.requires.few c.requires.fits c.requires.left
+    all_branches c.args.tables.now c.args.queries.now c.in_ok-branches.branches.items _ c.in_ok-branches.ensures.bounds c.in_ok-branches.ensures.lists c.requires.few c.requires.fits c.requires.left
 
 pub returns-clause-queries : goal.returns-clause-queries
-returns-clause-queries g c = same-queries c.args.queries.now c.in_ok-branches.branches.items c.in_ok-branches.ensures.bounds
+returns-clause-queries g c = same_queries c.args.queries.now c.in_ok-branches.branches.items c.in_ok-branches.ensures.bounds
 
 pub returns-clause-rest : goal.returns-clause-rest
 returns-clause-rest g c =
     let branches = c.in_ok-branches.branches.items in
     ap (left_of (map (λ (b : BranchSeen). b.bound.query) branches) c.args.tables.now)
-    (c.in_ok-branches.ensures.lists ∙ ap (λ (q : List Query). rests_of g.E.Ranked.rest q c.args.engines.items) (sym (same-queries c.args.queries.now branches c.in_ok-branches.ensures.bounds)))
+    (c.in_ok-branches.ensures.lists ∙ ap (λ (q : List Query). rests_of g.E.Ranked.rest q c.args.engines.items) (sym (same_queries c.args.queries.now branches c.in_ok-branches.ensures.bounds)))

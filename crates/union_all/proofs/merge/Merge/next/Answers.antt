@@ -1,12 +1,12 @@
 use Rattle.std.proofs.Common.{◌≡◌, ◌∙◌, ◌∷◌, [], None, List, length, slice_set, take, refl, sym, ap, subst}
 use Rattle.std.proofs.lemmas.List.{length-map}
 use Rattle.anyk_model.specs.Query.{Query}
-use Rattle.union_list.specs.Tagged as union
+use Rattle.union_list.specs.TaggedRows as union
 use Rattle.union_list.specs.Union.{left_of}
 use Rattle.union_all.specs.Firsts.{HasFirst, IsFirst, tagged_shown}
-use Rattle.union_all.specs.Merged.{BranchSeen, IsCalled, Merged, lists_of, queries_of}
-use Rattle.union_all.proofs.Branches.{query-at}
-use Rattle.union_all.proofs.Stepping.{branches-kept, branches-taken, first-left, is-called, merged, none-left, on-error, rest-kept, rest-taken}
+use Rattle.union_all.specs.Merge.{BranchSeen, IsCalled, Merged, lists_of, queries_of}
+use Rattle.union_all.proofs.Branches.{query_at}
+use Rattle.union_all.proofs.Stepping.{branches_kept, branches_taken, first_left, is_called, merged, none_left, on_error, rest_kept, rest_taken}
 use Rattle.union_all.proofs.merge.Merge.next.Goals as goal
 
 pub returns-in_default-clause-end : goal.returns-in_default-clause-end
@@ -14,7 +14,7 @@ returns-in_default-clause-end g c =
     let branches = c.self.inside.branches.items in
     let tables = c.self.inside.tables.now in
     let none = subst (λ (l : List BranchSeen). IsFirst (queries_of l) tables (lists_of l) (length l) None) c.as_slice.ensures.value (rw c.in_default.is at c.first_branch.ensures) in
-    let nothing : (merged tables branches).rest ≡ [] = none-left (queries_of branches) tables (lists_of branches) (length branches) (sym (length-map branches (λ (s : BranchSeen). s.left))) none in
+    let nothing : (merged tables branches).rest ≡ [] = none_left (queries_of branches) tables (lists_of branches) (length branches) (sym (length-map branches (λ (s : BranchSeen). s.left))) none in
     (subst (λ (m : Merged). m.rest ≡ []) c.self.view_is nothing, refl, refl)
 
 pub invariant_of-self : goal.invariant_of-self
@@ -22,7 +22,7 @@ invariant_of-self g c =
     let branches = c.self.inside.branches.items in
     let tables = c.self.inside.tables.now in
     let h = subst (λ (l : List BranchSeen). HasFirst (queries_of l) tables (lists_of l) (length l) c.in-Some.first) c.as_slice.ensures.value (rw c.in-Some.is at c.first_branch.ensures) in
-    branches-kept tables branches c.in-Some.first h.inside c.index_mut.result.now c.take.new.self c.index_mut.ensures.value c.take.ensures.bound c.self.invariant (c.in_err-rows.ensures.refused).0
+    branches_kept tables branches c.in-Some.first h.inside c.index_mut.result.now c.take.new.self c.index_mut.ensures.value c.take.ensures.bound c.self.invariant (c.in_err-rows.ensures.refused).0
 
 pub returns-in_err-rows-clause-refused : goal.returns-in_err-rows-clause-refused
 returns-in_err-rows-clause-refused g c =
@@ -34,10 +34,10 @@ returns-in_err-rows-clause-refused g c =
     let y = c.take.new.self in
     let after = slice_set branches first y in
     let refused = c.in_err-rows.ensures.refused in
-    let head = first-left (queries_of branches) tables (lists_of branches) (length branches) first (sym (length-map branches (λ (s : BranchSeen). s.left))) c.self.invariant.left h in
-    let kept = rest-kept tables branches first h.inside x y c.index_mut.ensures.value c.take.ensures.bound c.self.invariant refused.0 in
-    let called = is-called tables branches first h.inside x y c.index_mut.ensures.value c.take.ensures.bound g.E.Ranked.share c.args.steps.now c.take.new.steps refused.1 c.take.ensures.cost c.take.ensures.share in
-    on-error c.from_residual.result _ (subst
+    let head = first_left (queries_of branches) tables (lists_of branches) (length branches) first (sym (length-map branches (λ (s : BranchSeen). s.left))) c.self.invariant.left h in
+    let kept = rest_kept tables branches first h.inside x y c.index_mut.ensures.value c.take.ensures.bound c.self.invariant refused.0 in
+    let called = is_called tables branches first h.inside x y c.index_mut.ensures.value c.take.ensures.bound g.E.Ranked.share c.args.steps.now c.take.new.steps refused.1 c.take.ensures.cost c.take.ensures.share in
+    on_error c.from_residual.result _ (subst
     (λ (m : Merged). (t : union.Tagged) × (later : List union.Tagged) × (m.rest ≡ t ∷ later) × ((merged tables after).rest ≡ m.rest) × IsCalled g.E.Ranked.share m (merged tables after) t.branch c.args.steps.now c.take.new.steps)
     c.self.view_is
     (union.tagged first h.rows, left_of (queries_of branches) tables (slice_set (lists_of branches) first h.later), head, kept, called))
@@ -47,7 +47,7 @@ invariant_of-self-2 g c =
     let branches = c.self.inside.branches.items in
     let tables = c.self.inside.tables.now in
     let h = subst (λ (l : List BranchSeen). HasFirst (queries_of l) tables (lists_of l) (length l) c.in-Some.first) c.as_slice.ensures.value (rw c.in-Some.is at c.first_branch.ensures) in
-    branches-taken tables branches c.in-Some.first h.inside c.index_mut.result.now c.take.new.self c.index_mut.ensures.value c.take.ensures.bound c.self.invariant
+    branches_taken tables branches c.in-Some.first h.inside c.index_mut.result.now c.take.new.self c.index_mut.ensures.value c.take.ensures.bound c.self.invariant
     _ (rw c.in-Some-2.is at c.in_ok-rows.ensures.found)
 
 pub returns-clause-found : goal.returns-clause-found
@@ -63,9 +63,9 @@ returns-clause-found g c =
     let found = rw c.in-Some-2.is at c.in_ok-rows.ensures.found in
     let told = rw c.in-Some-2.is at c.in_ok-rows.ensures.called in
     let taken : x.left ≡ take (length (union.branch_at (queries_of branches) first).items) rows ∷ y.left =
-    found ∙ ap (λ (q : Query). take (length q.items) rows ∷ y.left) (sym (query-at branches first h.inside x c.index_mut.ensures.value)) in
-    let head = rest-taken tables branches first h.inside x y c.index_mut.ensures.value c.take.ensures.bound c.self.invariant _ taken h in
-    let called = is-called tables branches first h.inside x y c.index_mut.ensures.value c.take.ensures.bound g.E.Ranked.share c.args.steps.now c.take.new.steps told c.take.ensures.cost c.take.ensures.share in
+    found ∙ ap (λ (q : Query). take (length q.items) rows ∷ y.left) (sym (query_at branches first h.inside x c.index_mut.ensures.value)) in
+    let head = rest_taken tables branches first h.inside x y c.index_mut.ensures.value c.take.ensures.bound c.self.invariant _ taken h in
+    let called = is_called tables branches first h.inside x y c.index_mut.ensures.value c.take.ensures.bound g.E.Ranked.share c.args.steps.now c.take.new.steps told c.take.ensures.cost c.take.ensures.share in
     subst
     (λ (m : Merged). (m.rest ≡ tagged_shown m.queries (record { branch = first; rows = rows }) ∷ (merged tables after).rest) × IsCalled g.E.Ranked.share m (merged tables after) first c.args.steps.now c.take.new.steps)
     c.self.view_is (head, called)

@@ -14,7 +14,7 @@ use Rattle.plan_build.specs.declared.fault.PlanFault.TheVariants as fault
 use Rattle.plan_build.specs.declared.ranked_plan.RankedPlan.{RankedPlan}
 use Rattle.plan_build.specs.declared.ranked_plan.RankedPlan.TheVariants.{Lex, MiddleSum, Packed, SmallLex, Sum}
 use Rattle.query_bind.specs.Parts.{sum_of_all}
-use Rattle.query_bind.specs.Weighed.{BoundQuery}
+use Rattle.query_bind.specs.WeighedQuery.{BoundQuery}
 use Rattle.query_shape.specs.Shape.{Shape}
 use Rattle.proof_text.specs.Certificate.{Certificate}
 use Rattle.session_script.specs.declared.step.Step.{Step}
@@ -22,10 +22,10 @@ use Rattle.tdp_model.specs.KeyTuple.{KeyOf}
 use Rattle.refusal_lines.specs.declared.refusal.Refusal.{Refusal}
 use Rattle.refusal_lines.specs.Reason as reason
 use Rattle.refusal_lines.specs.Reason.{Reason}
-use Rattle.refusal_lines.specs.Refused.{reason_of}
-use Rattle.step_bounds.specs.Bounded.{IsPrepared}
+use Rattle.refusal_lines.specs.RefusalReasons.{reason_of}
+use Rattle.step_bounds.specs.RunBounds.{IsPrepared}
 use Rattle.input_load.specs.Input.{InputData, loaded_of}
-use Rattle.verdict.specs.Found.{Found, found_of, query_of}
+use Rattle.verdict.specs.AcceptedInput.{Found, found_of, query_of}
 use Rattle.verdict.specs.Loading.{Loaded}
 use Rattle.verdict.specs.Verdict.{IsVerdict}
 use Rattle.verdict.specs.Words.{Command, built, run, plan, session, load, prove, verify}

@@ -1,7 +1,7 @@
 -- One of the engines, as its callers see it.
 use Rattle.std.specs.Prelude.{ℕ, List}
 use Rattle.tdp_model.specs.KeyTuple.{KeyOf}
-use Rattle.tdp_core.specs.Seen.{Seen}
+use Rattle.tdp_core.specs.SeenAnswers.{Seen}
 use Rattle.tdp_core.specs.TreeData.{NodeData}
 use Rattle.anyk_part.specs.Regions.{rest_of as rest_of_part}
 use Rattle.anyk_rec.specs.RecView.{rest_of as rest_of_rec}

@@ -9,7 +9,7 @@ use Rattle.proof_text.specs.Certificate.{Certificate}
 use Rattle.proof_model.specs.Problem.{IsSolutionAt}
 use Rattle.proof_model.specs.QueryProblem.{problem_in}
 use Rattle.proof_model.specs.Valid.{IsCount, IsCovered, answer_at, answer_key, answer_row}
-use Rattle.proof_bounds.specs.Bounded.{query_key}
+use Rattle.proof_bounds.specs.BoundedRows.{query_key}
 
 -- the place of the row of answer i at node q
 abbrev pub place_at : List (List ℕ) → ℕ → ℕ → ℕ

@@ -7,7 +7,7 @@ use Rattle.tdp_core.specs.RawData.{RawData, raw_len, raw_row_at, own_link, child
 use Rattle.tdp_core.specs.TreeData.{NodeData, node_at, members, group}
 use Rattle.tdp_core.specs.WellFormed.{IsTieFreeTree}
 use Rattle.tdp_core.specs.Solutions.{RawExtends, IsRawSolution, IsTreeSolution, IsTieFreeRaw, raw_solution_key, solution_key}
-use Rattle.semi_join.specs.Grouped.{IsGrouped}
+use Rattle.semi_join.specs.GroupedTrees.{IsGrouped}
 
 -- rows i and j of node v are members of one group
 abbrev pub ShareGroup : {R : Type 0} → List (NodeData R) → ℕ → ℕ → ℕ → Type 0

@@ -3,10 +3,10 @@ use Rattle.std.specs.Prelude.{◌≡◌, ℕ, Bool, List, [], None, Option, Resu
 use Rattle.input_load.specs.Input.{InputData}
 use Rattle.input_load.specs.Turns.{IsTurn}
 use Rattle.refusal_lines.specs.Reason.{Reason}
-use Rattle.verdict.specs.Found.{Found}
+use Rattle.verdict.specs.AcceptedInput.{Found}
 use Rattle.verdict.specs.Loading.{Loaded}
-use Rattle.verdict.specs.Made.{made_files}
-use Rattle.verdict.specs.Staged.{Pure, Shelved, Staged}
+use Rattle.verdict.specs.MadeFiles.{made_files}
+use Rattle.verdict.specs.StageResults.{Pure, Shelved, Staged}
 use Rattle.verdict.specs.Verdict.{IsLoadedOn, IsVerdict}
 use Rattle.verdict.specs.Words.{Aside, Command, Sought, Words, built, run, plan, session, load, prove, verify, sought_by}
 

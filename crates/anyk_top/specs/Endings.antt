@@ -4,8 +4,8 @@ use Rattle.std.specs.Io.KnownBytes.{Appends}
 use Rattle.outer_io.specs.declared.writing.Unwritten.{Unwritten}
 use Rattle.refusal_lines.specs.declared.refusal.Refusal.{Refusal}
 use Rattle.refusal_lines.specs.Reason.{line_of, status_of}
-use Rattle.refusal_lines.specs.Refused.{reason_of}
-use Rattle.refusal_lines.specs.Sent.{Sent}
+use Rattle.refusal_lines.specs.RefusalReasons.{reason_of}
+use Rattle.refusal_lines.specs.SinkText.{Sent}
 use Rattle.refusal_lines.specs.SinkState.{SinkState}
 
 -- the line of the refusal was sent, as far as the sink took it

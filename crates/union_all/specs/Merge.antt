@@ -3,10 +3,10 @@ use Rattle.std.specs.Prelude.{◌≡◌, ◌≢◌, ◌≤◌, ◌+◌, ℕ, Opt
 use Rattle.std.specs.List.{All, AllByRecursion}
 use Rattle.anyk_model.specs.Table.{Table}
 use Rattle.anyk_model.specs.Query.{IsCombination, Query, row_counts}
-use Rattle.query_bind.specs.Weighed.{BoundQuery, Fits}
-use Rattle.tdp_core.specs.Seen.{Seen, counted}
+use Rattle.query_bind.specs.WeighedQuery.{BoundQuery, Fits}
+use Rattle.tdp_core.specs.SeenAnswers.{Seen, counted}
 use Rattle.witness_key.specs.WitnessKey.{combinations_in}
-use Rattle.union_list.specs.Tagged.{Tagged, branch_at}
+use Rattle.union_list.specs.TaggedRows.{Tagged, branch_at}
 use Rattle.union_list.specs.Union.{AreAscending}
 
 -- an engine: the number of calls so far, the greatest number of steps of the next call, and what a bound on the steps

@@ -4,9 +4,9 @@ use Rattle.anyk_model.specs.Output.{cut}
 use Rattle.anyk_model.specs.Query.{Query}
 use Rattle.anyk_model.specs.Ranking.{ranking_of}
 use Rattle.anyk_model.specs.Table.{Table}
-use Rattle.proof_check.specs.Checked.{item_rows}
+use Rattle.proof_check.specs.RowLists.{item_rows}
 use Rattle.proof_text.specs.Certificate.{Certificate}
-use Rattle.query_bind.specs.Weighed.{BoundQuery}
+use Rattle.query_bind.specs.WeighedQuery.{BoundQuery}
 use Rattle.hyper_graph.specs.Items.{items_of}
 use Rattle.query_shape.specs.Shape.{Shape}
 use Rattle.query_shape.specs.declared.fault.ShapeFault.{ShapeFault}
@@ -14,15 +14,15 @@ use Rattle.query_shape.specs.declared.fault.ShapeFault.TheVariants as shape_faul
 use Rattle.refusal_lines.specs.declared.refusal.Refusal.{Refusal}
 use Rattle.refusal_lines.specs.Reason as reason
 use Rattle.refusal_lines.specs.Reason.{Reason}
-use Rattle.refusal_lines.specs.Refused.{reason_of}
+use Rattle.refusal_lines.specs.RefusalReasons.{reason_of}
 use Rattle.input_load.specs.Input.{InputData, loaded_of}
-use Rattle.verdict.specs.Found.{found_of}
+use Rattle.verdict.specs.AcceptedInput.{found_of}
 use Rattle.verdict.specs.Loading.{Loaded}
-use Rattle.verdict.specs.Staged.{Pure, Shelved}
+use Rattle.verdict.specs.StageResults.{Pure, Shelved}
 use Rattle.verdict.specs.Stages.{Then}
 use Rattle.verdict.specs.Verdict.{IsCertified, IsShaped, IsStructure, IsVerified}
 use Rattle.verdict.specs.Words.{Command}
-use Rattle.task_plan.specs.Judged.{IsJudgedOn}
+use Rattle.task_plan.specs.Judgement.{IsJudgedOn}
 use Rattle.anyk_top.specs.declared.verify.Checked.{Checked}
 
 -- a result without its value

@@ -4,9 +4,9 @@ use Rattle.std.specs.Io.KnownBytes.{Appends}
 use Rattle.outer_io.specs.Counts.{Rose}
 use Rattle.refusal_lines.specs.Reason as reason
 use Rattle.refusal_lines.specs.Reason.{Reason}
-use Rattle.refusal_lines.specs.Refused.{reason_of}
+use Rattle.refusal_lines.specs.RefusalReasons.{reason_of}
 use Rattle.refusal_lines.specs.declared.refusal.Refusal.{Refusal}
-use Rattle.refusal_lines.specs.Sent.{GotPrefix}
+use Rattle.refusal_lines.specs.SinkText.{GotPrefix}
 use Rattle.refusal_lines.specs.SinkState.{SinkState}
 
 -- printing ends early only if a write failed or memory ran out
