@@ -1,5 +1,5 @@
 -- What an entry of a group's queue stands for. The members of a group are in heap order by their first solutions.
-use Rattle.std.specs.Prelude.{ℕ, ◌-◌, ◌*◌, cond, nat_eq, nat_le, List, slice_index_or}
+use Rattle.std.specs.Prelude.{ℕ, ◌*◌, cond, nat_eq, nat_le, List, slice_index_or}
 use Rattle.tdp_model.specs.Heap.{under, FollowsParent}
 use Rattle.tdp_model.specs.KeyTuple.{KeyOf, key_below, key_none}
 use Rattle.tdp_model.specs.Product.{Pair, is_run}

@@ -8,4 +8,4 @@
 
 mod queue;
 
-pub use queue::{offer, pass_top};
+pub use queue::Queue;

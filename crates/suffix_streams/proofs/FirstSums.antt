@@ -35,11 +35,14 @@ module _ {R : Type 0} (d : ℕ) (key : R → KeyOf d 16) (t : List (NodeData R))
       }
 
   -- the source of the first solution of member j has its parts
-  pub first_own : (q g j : ℕ) (s : Source) → q < length t → j < length (members t q g) → run_of s ≡ record { left = j; right = 0 } → HasFirstParts t es q (get_or (members t q g) j 0) s.cell
+  pub first_own : (q g j : ℕ) (s : Source) → q < length t → j < length (members t q g) → run_of s ≡ record { left = j; right = 0 } → HasFirstParts t es q (get_or (members t q g) j 0) s.cell → s.row ≡ get_or (members t q g) j 0
       → ((c : ℕ) → c ≤ child_count t q → IsKnownPart nodes q (get_or (members t q g) j 0) c 0) → HasOwnParts d key t es nodes q g s
-  first_own q g j s l member run parts known c kids =
-      subst (λ (p : Pair). IsSumOf d key t es nodes q (get_or (members t q g) p.left 0) c p.right s.cell) (sym run)
-      (first_sum_of q (get_or (members t q g) j 0) c s.cell l (member_is_row d key t formed q g j l member) (omega (arith, kids)) (parts c kids) (known c (omega (arith, kids))))
+  first_own q g j s l member run parts row known = (
+    row ∙ ap (λ (p : Pair). get_or (members t q g) p.left 0) (sym run),
+    λ c kids.
+        subst (λ (p : Pair). IsSumOf d key t es nodes q (get_or (members t q g) p.left 0) c p.right s.cell) (sym run)
+        (first_sum_of q (get_or (members t q g) j 0) c s.cell l (member_is_row d key t formed q g j l member) (omega (arith, kids)) (parts c kids) (known c (omega (arith, kids)))),
+  )
 
 module _ {R : Type 0} (d : ℕ) (key : R → KeyOf d 16) (t : List (NodeData R)) (es : List (Linked (Found R))) (nodes : List (NodeLists R)) (h : IsStreams d key t es nodes) where
   -- of each row the first solution is known

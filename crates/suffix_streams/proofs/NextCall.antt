@@ -42,6 +42,7 @@ pub record IsTopRead {R : Type 0} (t : List (NodeData R)) (n : List (NodeLists R
   pub first : top ≡ get_or (stream_of n f.node f.group).queue 0 top
   pub member : top.tag.member < length (members t f.node f.group)
   pub known : top.tag.place < row_known n f.node (get_or (members t f.node f.group) top.tag.member 0)
+  pub row : top.tag.row ≡ get_or (members t f.node f.group) top.tag.member 0
 
 -- x are the lists of the node that were read
 pub top_read : {R : Type 0} {d : ℕ} {key : R → KeyOf d 16} {t : List (NodeData R)} {es : List (Linked (Found R))} {n : List (NodeLists R)} {entry : ℕ} {f : Found R} (o : IsOwned d key t es n entry f) (x : NodeLists R) (top : Entry R Source)
@@ -51,7 +52,7 @@ top_read {R} {d} {key} {t} {es} {n} {entry} {f} o x top read there is =
     let some0 : 0 < length (stream_of n f.node f.group).queue = subst (λ z. 0 < length (stream_at z f.group).queue) (sym lists) there in
     let first0 : top ≡ get_or (stream_of n f.node f.group).queue 0 top = is ∙ ap (λ z. get_or (stream_at z f.group).queue 0 top) (sym lists) in
     let known0 = top_known d key t es n o.formed f.node f.group top o.node o.group some0 first0 in
-    record { some = some0; first = first0; member = known0.1; known = known0.0 }
+    record { some = some0; first = first0; member = known0.1; known = known0.0; row = known0.2 }
 
 pub row_within : {R : Type 0} {d : ℕ} {key : R → KeyOf d 16} {t : List (NodeData R)} {es : List (Linked (Found R))} {n : List (NodeLists R)} {entry : ℕ} {f : Found R} {top : Entry R Source} (o : IsOwned d key t es n entry f) (p : IsTopRead t n f top)
     (row : ℕ) → row ≡ get_or (members t f.node f.group) top.tag.member 0 → row < rows t f.node

@@ -8,7 +8,7 @@ use Rattle.tdp_model.specs.Remains.{Remains, total}
 use Rattle.tdp_model.specs.Product.{Pair, pair_key, stands_for}
 use Rattle.tdp_model.specs.TreeProblem.{GroupHas, PartHas, gather}
 use Rattle.tdp_model.proofs.KeyTuples.{tuple_keys}
-use Rattle.tdp_model.proofs.Keys.{get_member}
+use Rattle.rankings.proofs.Members.{get_member}
 use Rattle.tdp_model.proofs.Begin.{IsRanking-same}
 use Rattle.tdp_model.proofs.Sorting.{ranked_is_ranking}
 use Rattle.tdp_model.proofs.Enumeration.{part_listed, listed_part, row_listed, listed_row, gather_member, member_gather}

@@ -23,7 +23,7 @@ use Rattle.stream_cells.specs.declared.source.Source.{Source}
 use Rattle.suffix_streams.specs.ProductData.{ProductData}
 use Rattle.suffix_streams.specs.NodeLists.{NodeLists, product_at, with_product}
 use Rattle.suffix_streams.specs.Rankings.{child, part_list, group_list}
-use Rattle.suffix_streams.specs.StreamsData.{node_list, group_list_of, node_of, group_of, next_of, stream, node_size, lists_of, products_of, product_of, stream_of, row_known, pair_of, run_of, IsStreams}
+use Rattle.suffix_streams.specs.StreamsData.{HasOwnParts, node_list, group_list_of, node_of, group_of, next_of, stream, node_size, lists_of, products_of, product_of, stream_of, row_known, pair_of, run_of, IsStreams}
 use Rattle.suffix_streams.specs.Growing.{IsStoreGrown, IsGrown, IsExtended, IsReached, IsAnswered, AreQueuesGrown, below_kids}
 use Rattle.suffix_streams.proofs.Rankings.{kid_below, own_only}
 use Rattle.suffix_streams.proofs.Stores.{node_length, group_length, store_stays, store_goes_on, store_from_above}
@@ -219,14 +219,16 @@ module _ {R : Type 0} (d : ℕ) (key : R → KeyOf d 16) (t : List (NodeData R))
 
   -- the source of the last solution is known, and its member is in the group
   pub top_known : (q g : ℕ) (e : Entry R Source) → q < length t → g < group_count t q → 0 < length (stream_of nodes q g).queue → e ≡ get_or (stream_of nodes q g).queue 0 e
-      → (e.tag.place < row_known nodes q (get_or (members t q g) e.tag.member 0)) × (e.tag.member < length (members t q g))
+      → (e.tag.place < row_known nodes q (get_or (members t q g) e.tag.member 0)) × (e.tag.member < length (members t q g)) × (e.tag.row ≡ get_or (members t q g) e.tag.member 0)
   top_known q g e l in_group some at =
       let s = h.streams q g l in_group in
       let k : e.tag.place < row_known nodes q (get_or (members t q g) e.tag.member 0) =
       subst (λ (z : Entry R Source). z.tag.place < row_known nodes q (get_or (members t q g) z.tag.member 0)) (sym at) (All-get_or (λ (z : Entry R Source). z.tag.place < row_known nodes q (get_or (members t q g) z.tag.member 0)) (stream_of nodes q g).queue 0 e some s.known) in
       let m : e.tag.member < length (members t q g) =
       (subst (IsHeld d key (run_key (key_none d 16) (λ j. part_list d key t q (get_or (members t q g) j 0) (child_count t q))) (InRuns d (length (members t q g)) (λ j. part_list d key t q (get_or (members t q g) j 0) (child_count t q))) run_of) (sym at) (All-get_or (IsHeld d key (run_key (key_none d 16) (λ j. part_list d key t q (get_or (members t q g) j 0) (child_count t q))) (InRuns d (length (members t q g)) (λ j. part_list d key t q (get_or (members t q g) j 0) (child_count t q))) run_of) (stream_of nodes q g).queue 0 e some s.merge.held)).0.0 in
-      (k, m)
+      let r : e.tag.row ≡ get_or (members t q g) e.tag.member 0 =
+      (subst (λ (z : Entry R Source). HasOwnParts d key t es nodes q g z.tag) (sym at) (All-get_or (λ (z : Entry R Source). HasOwnParts d key t es nodes q g z.tag) (stream_of nodes q g).queue 0 e some s.parts)).0 in
+      (k, m, r)
 
 -- # The effect of a call
 

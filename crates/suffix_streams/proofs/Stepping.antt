@@ -3,7 +3,7 @@ use Rattle.std.proofs.Common.{◌≡◌, ◌≢◌, ℕ, suc, ◌+◌, ◌^◌, 
 use Rattle.std.specs.List.{All}
 use Rattle.std.specs.List.Sorted.{IsPermutation}
 use Rattle.std.proofs.lemmas.Bool.{cases_eq}
-use Rattle.std.proofs.lemmas.List.Elements.{All-cons, All-tail, All-get_or, All-weaker}
+use Rattle.std.proofs.lemmas.List.Elements.{All-tail, All-get_or, All-weaker}
 use Rattle.std.proofs.lemmas.List.Sorted.{All-permutation}
 use Rattle.stream_store.specs.declared.entry.Linked.{Linked}
 use Rattle.take2_heap.specs.declared.entry.Entry.{Entry}

@@ -39,6 +39,7 @@ module _ {R : Type 0} (d : ℕ) (key : R → KeyOf d 16) (t : List (NodeData R))
   IsFirstOf j e = (run_of e.tag ≡ record { left = j; right = 0 })
       × (key e.rank ≡ best t d key q (slice_index (members t q g) j))
       × HasFirstParts t es q (slice_index (members t q g) j) e.tag.cell
+      × (e.tag.row ≡ slice_index (members t q g) j)
 
   -- the first solution of member j, if there is one, and if the place passed, before this one, is 0
   abbrev pub IsFirstBelow : ℕ → ℕ → Option (Entry R Source) → Type 0

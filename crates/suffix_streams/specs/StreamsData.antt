@@ -134,13 +134,13 @@ pub record IsSumOf {R : Type 0} (d : ℕ) (key : R → KeyOf d 16) (t : List (No
       (slice_index_or (group_list d key t (child t v c) (group_named t v r c))
       (place_of es cell.right) (key_none d 16))
 
--- the cell of the source has the parts of its solution, which is one of group g of node q, if the
--- node has children
+-- the source, of a solution of group g of node q, has its member's row, and its cell has the parts
+-- of the solution, if the node has children
 abbrev pub HasOwnParts : {R : Type 0} (d : ℕ) → (R → KeyOf d 16) → List (NodeData R)
     → List (Linked (Found R)) → List (NodeLists R) → ℕ → ℕ → Source → Type 0
-HasOwnParts d key t es nodes q g s =
-    (c : ℕ) → child_count t q ≡ suc c
-    → IsSumOf d key t es nodes q (slice_index (members t q g) s.member) c s.place s.cell
+HasOwnParts d key t es nodes q g s = (s.row ≡ slice_index (members t q g) s.member)
+    × ((c : ℕ) → child_count t q ≡ suc c
+    → IsSumOf d key t es nodes q (slice_index (members t q g) s.member) c s.place s.cell)
 
 -- # The invariants
 

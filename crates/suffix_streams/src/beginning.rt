@@ -1,6 +1,7 @@
 //! The streams of a tree at their start, when each has only its head.
 ghost use Rattle.std.specs.Prelude.{◌≡◌, ◌≢◌, ℕ, ◌+◌, ◌*◌, ◌<◌, ◌≤◌, [], ◌∷◌, ◌++◌, None, length, slice_index, slice_index_or, IfOk, OnOk};
 ghost use Rattle.stream_store.specs.declared.entry.Linked.{Linked};
+ghost use Rattle.take2_heap.specs.declared.entry.Entry.{Entry};
 ghost use Rattle.tdp_core.specs.TreeData.{rows, group_count, child_count, members};
 ghost use Rattle.tdp_core.specs.WellFormed.{IsFormed};
 ghost use Rattle.tdp_model.specs.KeyTuple.{key_none};
@@ -17,8 +18,8 @@ use std::alloc::Allocator;
 use std::sync::ledger::Ledger;
 use step_counter::{NoMemory, Steps};
 use stream_cells::Source;
+use stream_model::Queue;
 use stream_store::Store;
-use take2_heap::{Entry, HeapOf};
 use tdp_core::Tree;
 
 /// The children of a node, in ascending order.
@@ -85,7 +86,6 @@ pub(crate) fn empty_nodes<R: Rank, A: Allocator + Clone>(
 /// The stream of a group with its head. The queue has the first solution of the group's first
 /// member.
 fn first_stream<R: Rank, A: Allocator + Clone, L: Ledger>(
-    alloc: &A,
     tree: &Tree<R>,
     nodes: &[NodeStreams<R, A>],
     entries: &mut Store<Found<R>, A>,
@@ -110,8 +110,6 @@ fn first_stream<R: Rank, A: Allocator + Clone, L: Ledger>(
     ensures cost { steps.new ≤ steps.old + 4 }
 {
     let solution = first_solution(tree, nodes, entries, node, group, 0, steps);
-    let mut queue = Vec::with_capacity(alloc.clone()?, 1)?;
-    queue.push(solution)?;
     entries.reserve(1)?;
     let head = entries.push_reserved(
         Found {
@@ -123,7 +121,7 @@ fn first_stream<R: Rank, A: Allocator + Clone, L: Ledger>(
     );
     Ok(Stream {
         head,
-        queue: HeapOf::from_heap(queue),
+        queue: Queue::of(solution),
     })
 }
 
@@ -141,7 +139,6 @@ impl<R: Rank, A: Allocator> NodeStreams<R, A> {
 /// Makes the streams of a node. The streams of all later nodes must be there. `NoMemory` if memory
 /// is refused.
 pub(crate) fn begin_node<R: Rank, A: Allocator + Clone, L: Ledger>(
-    alloc: &A,
     tree: &Tree<R>,
     nodes: &mut Vec<NodeStreams<R, A>, A>,
     entries: &mut Store<Found<R>, A>,
@@ -157,7 +154,7 @@ pub(crate) fn begin_node<R: Rank, A: Allocator + Clone, L: Ledger>(
     ensures cost { steps.new ≤ steps.old + 4 * rows tree.now node }
 {
     for group in 0..tree.groups(node) {
-        let stream = first_stream(alloc, tree, nodes.as_slice(), entries, node, group, steps)?;
+        let stream = first_stream(tree, nodes.as_slice(), entries, node, group, steps)?;
         nodes[node as usize].add_stream(stream)?;
     }
     Ok(())

@@ -16,7 +16,7 @@ use rank_key::Rank;
 use std::alloc::Allocator;
 use std::sync::ledger::Ledger;
 use step_counter::Steps;
-use stream_cells::Source;
+use stream_cells::{Source, source_row};
 use stream_store::Store;
 use take2_heap::Entry;
 use tdp_core::Tree;
@@ -40,7 +40,7 @@ pub(crate) fn first_solution<R: Rank, A: Allocator + Clone, L: Ledger>(
     ensures first { IsFirstOf R.KEYS R.key tree.now entries.now.entries node group member result }
     ensures cost { steps.new ≤ steps.old + 3 }
 {
-    let row = tree.member(node, group, member, steps);
+    let row = source_row(tree, node, group, member, steps);
     let rank = tree.best(node, row, steps);
     let cell = first_cell(tree, nodes, entries, node, row, steps);
     Entry {
@@ -48,6 +48,7 @@ pub(crate) fn first_solution<R: Rank, A: Allocator + Clone, L: Ledger>(
         tag: Source {
             member,
             place: 0,
+            row,
             cell,
         },
     }

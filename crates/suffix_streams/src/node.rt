@@ -142,26 +142,6 @@ impl<R: Rank, A: Allocator> NodeStreams<R, A> {
         self.streams[group as usize].top()
     }
 
-    /// Makes room for one more solution in a product. The first product of a row has one left part,
-    /// so no sum is beside another there. `NoMemory` if memory is refused.
-    pub(crate) fn reserve_product(&mut self, row: u32, child: usize) -> Result<(), NoMemory>
-        requires child { child < length (slice_index_or self.old.products row []) }
-        ensures changed { self.new
-            ≡ with_product self.old row child (product_at self.new row child) }
-        ensures found { (product_at self.new row child).found
-            ≡ (product_at self.old row child).found }
-        ensures ranks { (product_at self.new row child).ranks
-            ≡ (product_at self.old row child).ranks }
-        ensures frontier { (product_at self.new row child).frontier
-            ≡ (product_at self.old row child).frontier }
-        ensures room { OnOk result (0 < (product_at self.new row child).room) }
-        ensures frontier_room { OnOk result
-            (0 < child → 0 < (product_at self.new row child).frontier_room) }
-    {
-        let product = self.products.product_mut(row, child);
-        product.reserve(child > 0)
-    }
-
     /// Passes the last solution of a product: what follows it replaces it in the frontier.
     pub(crate) fn pass_product<L: Ledger>(
         &mut self,
@@ -215,19 +195,6 @@ impl<R: Rank, A: Allocator> NodeStreams<R, A> {
         product.keep(sum);
     }
 
-    /// Makes room in the queue of a group for what can follow its top. `NoMemory` if memory is
-    /// refused.
-    pub(crate) fn reserve_queue(&mut self, group: u32, members: u32) -> Result<(), NoMemory>
-        requires group { group < length self.old.streams }
-        requires few { length (stream_at self.old group).queue ≤ members }
-        ensures changed { self.new
-            ≡ with_queue self.old group (stream_at self.old group).queue
-            (stream_at self.new group).room }
-        ensures room { OnOk result (can_enter members ≤ (stream_at self.new group).room) }
-    {
-        self.streams[group as usize].reserve(members)
-    }
-
     /// Passes the last solution of a group: the next one of its row and the first ones of the
     /// members below, if there are any, enter the queue.
     pub(crate) fn pass<L: Ledger>(
@@ -273,5 +240,50 @@ impl<R: Rank, A: Allocator> NodeStreams<R, A> {
         ensures refused { OnErr result (self.new ≡ self.old) }
     {
         self.products.open(row, products)
+    }
+}
+
+impl<R: Rank, A: Allocator + Clone> NodeStreams<R, A> {
+    /// Makes room for one more solution in a product. The first product of a row has one left part,
+    /// so no sum is beside another there. `NoMemory` if memory is refused.
+    pub(crate) fn reserve_product(
+        &mut self,
+        alloc: &A,
+        row: u32,
+        child: usize,
+    ) -> Result<(), NoMemory>
+        requires child { child < length (slice_index_or self.old.products row []) }
+        ensures changed { self.new
+            ≡ with_product self.old row child (product_at self.new row child) }
+        ensures found { (product_at self.new row child).found
+            ≡ (product_at self.old row child).found }
+        ensures ranks { (product_at self.new row child).ranks
+            ≡ (product_at self.old row child).ranks }
+        ensures frontier { (product_at self.new row child).frontier
+            ≡ (product_at self.old row child).frontier }
+        ensures room { OnOk result (0 < (product_at self.new row child).room) }
+        ensures frontier_room { OnOk result
+            (0 < child → 0 < (product_at self.new row child).frontier_room) }
+    {
+        let product = self.products.product_mut(row, child);
+        product.reserve(alloc, child > 0)
+    }
+
+    /// Makes room in the queue of a group for what can follow its top. `NoMemory` if memory is
+    /// refused.
+    pub(crate) fn reserve_queue(
+        &mut self,
+        alloc: &A,
+        group: u32,
+        members: u32,
+    ) -> Result<(), NoMemory>
+        requires group { group < length self.old.streams }
+        requires few { length (stream_at self.old group).queue ≤ members }
+        ensures changed { self.new
+            ≡ with_queue self.old group (stream_at self.old group).queue
+            (stream_at self.new group).room }
+        ensures room { OnOk result (can_enter members ≤ (stream_at self.new group).room) }
+    {
+        self.streams[group as usize].reserve(alloc, members)
     }
 }

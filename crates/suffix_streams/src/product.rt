@@ -14,9 +14,9 @@ use std::marker::Model;
 use std::sync::ledger::Ledger;
 use step_counter::{NoMemory, Steps};
 use stream_cells::Cell;
-use stream_model::pass_top;
+use stream_model::Queue;
 use stream_store::EntryId;
-use take2_heap::{Entry, HeapOf};
+use take2_heap::Entry;
 
 /// The solutions of a row with its first children, as sums of those with one child less and of the
 /// solutions of the last child's group. It has the cell of each solution that was found, and a
@@ -27,7 +27,7 @@ pub(crate) struct Product<R: Rank, A: Allocator> {
     found: Vec<Cell, A>,
     /// The ranks of these solutions, or none if the product keeps no ranks.
     ranks: Vec<R, A>,
-    frontier: HeapOf<R, Cell, A>,
+    frontier: Queue<R, Cell, A>,
 }
 
 impl<R: Rank, A: Allocator> Model for Product<R, A> {
@@ -69,13 +69,34 @@ impl<R: Rank, A: Allocator + Clone> Product<R, A> {
         let mut found = Vec::with_capacity(alloc.clone()?, 1)?;
         found.push(cell)?;
         let ranks = first_rank(alloc, rank, keeps_ranks)?;
-        let mut frontier = Vec::with_capacity(alloc.clone()?, 1)?;
-        frontier.push(Entry { rank, tag: cell })?;
         Ok(Product {
             found,
             ranks,
-            frontier: HeapOf::from_heap(frontier),
+            frontier: Queue::of(Entry { rank, tag: cell }),
         })
+    }
+
+    /// Makes room for one more solution, and for one more sum in the frontier if `beside`: both the
+    /// sum below the last solution and the one beside it may follow. `NoMemory` if memory is
+    /// refused, or if there are as many solutions as a place can name.
+    pub(crate) fn reserve(&mut self, alloc: &A, beside: bool) -> Result<(), NoMemory>
+        ensures found { self.new.found ≡ self.old.found }
+        ensures ranks { self.new.ranks ≡ self.old.ranks }
+        ensures frontier { self.new.frontier ≡ self.old.frontier }
+        ensures room { OnOk result (0 < self.new.room) }
+        ensures frontier_room { OnOk result (IsTrue beside → 0 < self.new.frontier_room) }
+    {
+        if self.found.len() >= u32::MAX as usize {
+            return Err(NoMemory);
+        }
+        self.found.reserve(1)?;
+        if !self.ranks.is_empty() {
+            self.ranks.reserve(1)?;
+        }
+        if beside {
+            self.frontier.reserve(alloc, 1)?;
+        }
+        Ok(())
     }
 }
 
@@ -111,31 +132,7 @@ impl<R: Rank, A: Allocator> Product<R, A> {
         ensures least { IfSome result (λ e. IsLeast R.KEYS R.key e self.now.frontier) }
         ensures limit { length self.now.frontier < 2 ^ 64 }
     {
-        let top = self.frontier.peek()?;
-        Some(*top)
-    }
-
-    /// Makes room for one more solution, and for one more sum in the frontier if `beside`: both the
-    /// sum below the last solution and the one beside it may follow. `NoMemory` if memory is
-    /// refused, or if there are as many solutions as a place can name.
-    pub(crate) fn reserve(&mut self, beside: bool) -> Result<(), NoMemory>
-        ensures found { self.new.found ≡ self.old.found }
-        ensures ranks { self.new.ranks ≡ self.old.ranks }
-        ensures frontier { self.new.frontier ≡ self.old.frontier }
-        ensures room { OnOk result (0 < self.new.room) }
-        ensures frontier_room { OnOk result (IsTrue beside → 0 < self.new.frontier_room) }
-    {
-        if self.found.len() >= u32::MAX as usize {
-            return Err(NoMemory);
-        }
-        self.found.reserve(1)?;
-        if !self.ranks.is_empty() {
-            self.ranks.reserve(1)?;
-        }
-        if beside {
-            self.frontier.reserve(1)?;
-        }
-        Ok(())
+        self.frontier.top()
     }
 
     /// Passes the last solution found: what follows it replaces it in the frontier.
@@ -159,7 +156,7 @@ impl<R: Rank, A: Allocator> Product<R, A> {
             ≤ steps.old + 2 * bit_length (length self.old.frontier)
             + bit_length (length self.old.frontier + 1) }
     {
-        pass_top(&mut self.frontier, down, across, steps);
+        self.frontier.pass(down, across, steps);
     }
 
     /// Keeps one more solution, in room that was made for it.

@@ -22,7 +22,7 @@ use rank_key::Rank;
 use std::alloc::Allocator;
 use std::sync::ledger::Ledger;
 use step_counter::{NoMemory, Steps};
-use stream_cells::{Cell, across_cell, down_cell, source_row};
+use stream_cells::{Cell, across_cell, down_cell};
 use stream_store::{EntryId, Store};
 use tdp_core::Tree;
 
@@ -76,7 +76,7 @@ impl<'t, R: Rank, A: Allocator + Clone> Solutions<'t, R, A> {
             return Ok(None);
         };
         let source = top.tag;
-        let row = source_row(self.tree, found.node, found.group, &source, steps);
+        let row = source.row;
         self.open_row(found.node, found.group, row, source.place, steps)?;
         let count = self.nodes[found.node as usize].child_count();
         let place = next_place(
@@ -180,7 +180,7 @@ impl<'t, R: Rank, A: Allocator + Clone> Solutions<'t, R, A> {
             return self.entries.reserve(1);
         };
         let cell = top.tag;
-        make_room(&mut self.nodes, node, row, child)?;
+        make_room(&self.alloc, &mut self.nodes, node, row, child)?;
         let below = self.after(cell.right, steps)?;
         let head = child_head(
             self.tree,
@@ -242,7 +242,7 @@ impl<'t, R: Rank, A: Allocator + Clone> Solutions<'t, R, A> {
             return Ok(());
         }
         let members = self.tree.group_len(node, group);
-        make_queue_room(&mut self.nodes, node, group, members)?;
+        make_queue_room(&self.alloc, &mut self.nodes, node, group, members)?;
         let lists = &self.nodes[node as usize];
         if lists.product_count(row) < lists.child_count() {
             let products = made_products(
@@ -424,6 +424,7 @@ impl<'t, R: Rank, A: Allocator + Clone> Solutions<'t, R, A> {
 
 /// Makes room in the queue of a group for what can follow its top. `NoMemory` if memory is refused.
 fn make_queue_room<R: Rank, A: Allocator + Clone>(
+    alloc: &A,
     nodes: &mut Vec<NodeStreams<R, A>, A>,
     node: u32,
     group: u32,
@@ -439,11 +440,12 @@ fn make_queue_room<R: Rank, A: Allocator + Clone>(
     ensures room { OnOk result
         (can_enter members ≤ (stream_of nodes.new.items node group).room) }
 {
-    nodes[node as usize].reserve_queue(group, members)
+    nodes[node as usize].reserve_queue(alloc, group, members)
 }
 
 /// Makes room for one more solution in a product of a row. `NoMemory` if memory is refused.
 fn make_room<R: Rank, A: Allocator + Clone>(
+    alloc: &A,
     nodes: &mut Vec<NodeStreams<R, A>, A>,
     node: u32,
     row: u32,
@@ -462,7 +464,7 @@ fn make_room<R: Rank, A: Allocator + Clone>(
     ensures frontier_room { OnOk result (0 < child
         → 0 < (product_of nodes.new.items node row child).frontier_room) }
 {
-    nodes[node as usize].reserve_product(row, child)
+    nodes[node as usize].reserve_product(alloc, row, child)
 }
 
 /// The search in the product before this one that a step from `cell` needs, as a number of children

@@ -14,9 +14,9 @@ use std::marker::Model;
 use std::sync::ledger::Ledger;
 use step_counter::{NoMemory, Steps};
 use stream_cells::Source;
-use stream_model::{offer, pass_top};
+use stream_model::Queue;
 use stream_store::EntryId;
-use take2_heap::{Entry, HeapOf};
+use take2_heap::Entry;
 
 /// A subtree solution of a group, as the store has it: its rank, and the source that its rows are
 /// read from.
@@ -35,7 +35,7 @@ pub(crate) struct Found<R> {
 #[derive(Drop)]
 pub(crate) struct Stream<R: Rank, A: Allocator> {
     pub(crate) head: EntryId,
-    pub(crate) queue: HeapOf<R, Source, A>,
+    pub(crate) queue: Queue<R, Source, A>,
 }
 
 impl<R: Rank, A: Allocator> Model for Stream<R, A> {
@@ -58,19 +58,7 @@ impl<R: Rank, A: Allocator> Stream<R, A> {
             (λ e. (d : Entry R Source) → e ≡ slice_index_or self.now.queue 0 d) }
         ensures least { IfSome result (λ e. IsLeast R.KEYS R.key e self.now.queue) }
     {
-        let top = self.queue.peek()?;
-        Some(*top)
-    }
-
-    /// Makes room in the queue for what can follow its top in a group of so many members.
-    /// `NoMemory` if memory is refused.
-    pub(crate) fn reserve(&mut self, members: u32) -> Result<(), NoMemory>
-        requires { length self.old.queue ≤ members }
-        ensures head { self.new.head ≡ self.old.head }
-        ensures queue { self.new.queue ≡ self.old.queue }
-        ensures room { OnOk result (can_enter members ≤ self.new.room) }
-    {
-        self.queue.reserve(queue_room(members, self.queue.len()))
+        self.queue.top()
     }
 
     /// Passes the last solution found: the next one of its row and the first ones of the members
@@ -95,8 +83,22 @@ impl<R: Rank, A: Allocator> Stream<R, A> {
             ≤ steps.old + 2 * bit_length (length self.old.queue)
             + bit_length (length self.old.queue + 1) + bit_length (length self.new.queue) }
     {
-        pass_top(&mut self.queue, next, left, steps);
-        offer(&mut self.queue, right, steps);
+        self.queue.pass(next, left, steps);
+        self.queue.offer(right, steps);
+    }
+}
+
+impl<R: Rank, A: Allocator + Clone> Stream<R, A> {
+    /// Makes room in the queue for what can follow its top in a group of so many members.
+    /// `NoMemory` if memory is refused.
+    pub(crate) fn reserve(&mut self, alloc: &A, members: u32) -> Result<(), NoMemory>
+        requires { length self.old.queue ≤ members }
+        ensures head { self.new.head ≡ self.old.head }
+        ensures queue { self.new.queue ≡ self.old.queue }
+        ensures room { OnOk result (can_enter members ≤ self.new.room) }
+    {
+        let count = queue_room(members, self.queue.len());
+        self.queue.reserve(alloc, count)
     }
 }
 

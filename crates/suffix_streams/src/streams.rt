@@ -63,7 +63,7 @@ impl<'t, R: Rank, A: Allocator + Clone> Streams<'t, R, A> {
         let mut entries = Store::new(alloc.clone()?);
         let mut nodes = empty_nodes(&alloc, tree)?;
         for node in (0..tree.nodes()).rev() {
-            begin_node(&alloc, tree, &mut nodes, &mut entries, node, steps)?;
+            begin_node(tree, &mut nodes, &mut entries, node, steps)?;
         }
         let solutions = Solutions {
             tree,

@@ -16,7 +16,7 @@ use rank_key::Rank;
 use std::alloc::Allocator;
 use std::sync::ledger::Ledger;
 use step_counter::Steps;
-use stream_cells::{Cell, source_row};
+use stream_cells::Cell;
 use stream_store::EntryId;
 use tdp_core::Tree;
 
@@ -48,7 +48,7 @@ impl<'t, R: Rank, A: Allocator + Clone> Solutions<'t, R, A> {
     {
         let found = self.entries.get(entry, steps);
         let source = found.solution.tag;
-        let row = source_row(self.tree, found.node, found.group, &source, steps);
+        let row = source.row;
         let count = self.nodes[found.node as usize].child_count();
         if count == 0 {
             add_own_row(self.tree, found.node, row, numbers, steps);

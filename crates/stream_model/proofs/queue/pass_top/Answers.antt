@@ -8,7 +8,7 @@ use Rattle.stream_model.proofs.queue.pass_top.Goals as goal
 
 pub returns-in-Some-Some-clause-moved : goal.returns-in-Some-Some-clause-moved
 returns-in-Some-Some-clause-moved g c d =
-    let old = c.args.queue.now.entries in
+    let old = c.args.heap.now.entries in
     let new = c.push_reserved.new.self.entries in
     let x : Entry g.row.R.Denot g.row.T.Denot = record { rank = c.in-Some-Some.next.rank; tag = c.in-Some-Some.next.tag } in
     let y : Entry g.row.R.Denot g.row.T.Denot = record { rank = c.in-Some-Some.other.rank; tag = c.in-Some-Some.other.tag } in
@@ -19,7 +19,7 @@ returns-in-Some-Some-clause-moved g c d =
 
 pub returns-in-Some-Some-clause-cost : goal.returns-in-Some-Some-clause-cost
 returns-in-Some-Some-clause-cost g c =
-    let old = c.args.queue.now.entries in
+    let old = c.args.heap.now.entries in
     let mid = c.replace_top.new.self.entries in
     let same : bit_length (length mid + 1) ≡ bit_length (length old + 1) =
     ap (λ z. bit_length (z + 1)) (same_length (record { rank = c.in-Some-Some.next.rank; tag = c.in-Some-Some.next.tag }) c.replace_top.result old mid c.replace_top.ensures.permutation) in

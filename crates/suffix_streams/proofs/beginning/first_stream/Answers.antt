@@ -3,11 +3,11 @@ use Rattle.stream_store.specs.declared.entry.Linked.{Linked}
 use Rattle.suffix_streams.specs.declared.stream.Found.{Found}
 use Rattle.suffix_streams.proofs.BeginNodes.{first_best, first_member}
 use Rattle.suffix_streams.proofs.beginning.first_stream.Given.{Over}
-use Rattle.suffix_streams.proofs.beginning.first_stream.Goals.{After-from_heap}
+use Rattle.suffix_streams.proofs.beginning.first_stream.Goals.{After-of}
 use Rattle.suffix_streams.proofs.beginning.first_stream.Goals as goal
 
-queue_of : (g : Over) (c : After-from_heap g) → c.from_heap.result.entries ≡ c.first_solution-solution.result ∷ []
-queue_of g c = c.from_heap.ensures.entries ∙ c.in_ok-push.ensures.items ∙ ap (λ z. z ++ (c.first_solution-solution.result ∷ [])) c.in_ok-queue.ensures.items
+queue_of : (g : Over) (c : After-of g) → c.of.result.entries ≡ c.first_solution-solution.result ∷ []
+queue_of g c = c.of.ensures.entries
 
 pub returns-clause-entry : goal.returns-clause-entry
 returns-clause-entry g c =

@@ -1,4 +1,4 @@
-use Rattle.std.proofs.Common.{◌≡◌, suc, ◌+◌, ◌-◌, ◌<◌, length, get_or, sym, ap, ◌∙◌, subst, arith}
+use Rattle.std.proofs.Common.{◌≡◌, refl, suc, ◌+◌, ◌-◌, ◌<◌, length, get_or, sym, ap, ◌∙◌, subst, arith}
 use Rattle.suffix_streams.specs.NodeLists.{product_at, known_of}
 use Rattle.suffix_streams.specs.StreamsData.{IsSumOf, lists_of, products_of, product_of, part_known}
 use Rattle.suffix_streams.proofs.Heads.{lists_at}
@@ -49,13 +49,16 @@ returns-clause-cost g c =
     omega (arith, c.cell_rank-rank.ensures.cost, some, c.requires.formed.whole_rows c.args.node c.args.row c.requires.node c.requires.row (omega (arith, some)))
 
 pub returns-clause-parts : goal.returns-clause-parts
-returns-clause-parts g c i kids =
-    let at = goal.at.returns-clause-parts g c in
-    let n = c.args.nodes.now in
-    let whole = c.requires.formed.whole_rows c.args.node c.args.row c.requires.node c.requires.row (omega (arith, last g at.After-cell-cell)) in
-    let same : c.child_count-count.result - 1 ≡ i = omega (arith, kids, whole, last g at.After-cell-cell) in
-    let more : suc (c.child_count-count.result - 1) ≡ c.child_count-count.result - 1 + 1 = omega arith in
-    subst (λ z. IsSumOf g.R.Rank.KEYS g.R.Rank.key c.args.tree.now c.args.entries.now.entries n c.args.node c.args.row z c.args.place c.cell-cell.result) same
-    (product_cell g.R.Rank.KEYS g.R.Rank.key c.args.tree.now c.args.entries.now.entries n c.requires.formed c.args.node c.args.row (c.child_count-count.result - 1) c.args.place c.cell-cell.result c.requires.node c.requires.row (omega (arith, whole, last g at.After-cell-cell)) (omega (arith, last g at.After-cell-cell))
-    (record { found = λ some. omega (arith, known g at.After-cell-cell, ap (λ k. part_known n c.args.node c.args.row k) more); first = λ none. absurd (omega (arith, none, last g at.After-cell-cell)) })
-    (λ x. c.cell-cell.ensures x ∙ ap (λ m. get_or (product_at m c.args.row (c.child_count-count.result - 1)).found c.args.place x) (sym (lists g at.After-cell-cell))))
+returns-clause-parts g c = (
+  refl,
+  λ i kids.
+      let at = goal.at.returns-clause-parts g c in
+      let n = c.args.nodes.now in
+      let whole = c.requires.formed.whole_rows c.args.node c.args.row c.requires.node c.requires.row (omega (arith, last g at.After-cell-cell)) in
+      let same : c.child_count-count.result - 1 ≡ i = omega (arith, kids, whole, last g at.After-cell-cell) in
+      let more : suc (c.child_count-count.result - 1) ≡ c.child_count-count.result - 1 + 1 = omega arith in
+      subst (λ z. IsSumOf g.R.Rank.KEYS g.R.Rank.key c.args.tree.now c.args.entries.now.entries n c.args.node c.args.row z c.args.place c.cell-cell.result) same
+      (product_cell g.R.Rank.KEYS g.R.Rank.key c.args.tree.now c.args.entries.now.entries n c.requires.formed c.args.node c.args.row (c.child_count-count.result - 1) c.args.place c.cell-cell.result c.requires.node c.requires.row (omega (arith, whole, last g at.After-cell-cell)) (omega (arith, last g at.After-cell-cell))
+      (record { found = λ some. omega (arith, known g at.After-cell-cell, ap (λ k. part_known n c.args.node c.args.row k) more); first = λ none. absurd (omega (arith, none, last g at.After-cell-cell)) })
+      (λ x. c.cell-cell.ensures x ∙ ap (λ m. get_or (product_at m c.args.row (c.child_count-count.result - 1)).found c.args.place x) (sym (lists g at.After-cell-cell)))),
+)

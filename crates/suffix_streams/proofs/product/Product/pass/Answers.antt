@@ -1,4 +1,4 @@
 use Rattle.suffix_streams.proofs.product.Product.pass.Goals as goal
 
 pub returns-clause-least : goal.returns-clause-least
-returns-clause-least g c d = rw (← c.self.view_is) (c.pass_top.ensures.least d)
+returns-clause-least g c d = rw (← c.self.view_is) (c.pass.ensures.least d)

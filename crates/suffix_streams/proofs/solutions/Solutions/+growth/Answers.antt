@@ -37,16 +37,16 @@ module _ (g : Over) (t : ℕ) where
   top_of : (c : after-In-Some-top g t) → IsOwned g.R.Rank.KEYS g.R.Rank.key c.args.self.now.tree.now c.args.self.now.entries.entries c.args.self.now.nodes.items c.args.entry c.get-found.result.now → IsTopRead c.args.self.now.tree.now c.args.self.now.nodes.items c.get-found.result.now c.in-Some-top.top
   top_of c o = top_read o c.index.result.now c.in-Some-top.top c.index.ensures (c.top.ensures.variant.0 (ap is_some c.in-Some-top.is)) (c.in-Some-top.ensures.top c.in-Some-top.top)
 
-  row_of : (c : after-After-open_row g t) → IsOwned g.R.Rank.KEYS g.R.Rank.key c.args.self.now.tree.now c.args.self.now.entries.entries c.args.self.now.nodes.items c.args.entry c.get-found.result.now → IsTopRead c.args.self.now.tree.now c.args.self.now.nodes.items c.get-found.result.now c.in-Some-top.top → IsRowOpen g.R.Rank.KEYS g.R.Rank.key c.args.self.now.tree.now c.args.self.now.entries.entries c.args.self.now.nodes.items c.open_row.new.self.nodes.items c.get-found.result.now c.in-Some-top.top c.source_row-row.result c.args.steps.now c.open_row.new.steps
+  row_of : (c : after-After-open_row g t) → IsOwned g.R.Rank.KEYS g.R.Rank.key c.args.self.now.tree.now c.args.self.now.entries.entries c.args.self.now.nodes.items c.args.entry c.get-found.result.now → IsTopRead c.args.self.now.tree.now c.args.self.now.nodes.items c.get-found.result.now c.in-Some-top.top → IsRowOpen g.R.Rank.KEYS g.R.Rank.key c.args.self.now.tree.now c.args.self.now.entries.entries c.args.self.now.nodes.items c.open_row.new.self.nodes.items c.get-found.result.now c.in-Some-top.top c.in-Some-top.top.tag.row c.args.steps.now c.open_row.new.steps
   row_of c o p =
-      row_open o p c.open_row.new.self.tree.now c.open_row.new.self.entries.entries c.open_row.new.self.nodes.items c.source_row-row.result c.args.steps.now c.open_row.new.steps c.source_row-row.ensures.member c.open_row.ensures.tree (ap (λ z. z.entries) c.open_row.ensures.entries) c.open_row.ensures.formed c.open_row.ensures.above c.open_row.ensures.streams c.open_row.ensures.queues (omega (arith, c.next_of.ensures.cost, c.get-found.ensures.cost, c.source_row-row.ensures.counted, c.open_row.ensures.cost))
+      row_open o p c.open_row.new.self.tree.now c.open_row.new.self.entries.entries c.open_row.new.self.nodes.items c.in-Some-top.top.tag.row c.args.steps.now c.open_row.new.steps p.row c.open_row.ensures.tree (ap (λ z. z.entries) c.open_row.ensures.entries) c.open_row.ensures.formed c.open_row.ensures.above c.open_row.ensures.streams c.open_row.ensures.queues (omega (arith, c.next_of.ensures.cost, c.get-found.ensures.cost, c.open_row.ensures.cost))
 
-  counted_of : (c : after-After-child_count-count g t) → IsOwned g.R.Rank.KEYS g.R.Rank.key c.args.self.now.tree.now c.args.self.now.entries.entries c.args.self.now.nodes.items c.args.entry c.get-found.result.now → IsRowOpen g.R.Rank.KEYS g.R.Rank.key c.args.self.now.tree.now c.args.self.now.entries.entries c.args.self.now.nodes.items c.open_row.new.self.nodes.items c.get-found.result.now c.in-Some-top.top c.source_row-row.result c.args.steps.now c.open_row.new.steps → IsRowCounted c.args.self.now.tree.now c.open_row.new.self.nodes.items c.get-found.result.now c.in-Some-top.top c.source_row-row.result c.child_count-count.result
+  counted_of : (c : after-After-child_count-count g t) → IsOwned g.R.Rank.KEYS g.R.Rank.key c.args.self.now.tree.now c.args.self.now.entries.entries c.args.self.now.nodes.items c.args.entry c.get-found.result.now → IsRowOpen g.R.Rank.KEYS g.R.Rank.key c.args.self.now.tree.now c.args.self.now.entries.entries c.args.self.now.nodes.items c.open_row.new.self.nodes.items c.get-found.result.now c.in-Some-top.top c.in-Some-top.top.tag.row c.args.steps.now c.open_row.new.steps → IsRowCounted c.args.self.now.tree.now c.open_row.new.self.nodes.items c.get-found.result.now c.in-Some-top.top c.in-Some-top.top.tag.row c.child_count-count.result
   counted_of c o a = row_counted o a c.index-2.result.now c.child_count-count.result c.index-2.ensures c.child_count-count.ensures c.in_ok-open_row.ensures.count
 
-  search_of : (c : after-After-extend g t) → IsRowSearched g.R.Rank.KEYS g.R.Rank.key c.args.self.now.tree.now c.args.self.now.entries.entries c.extend.new.self.entries.entries c.open_row.new.self.nodes.items c.extend.new.self.nodes.items c.get-found.result.now.node c.source_row-row.result c.child_count-count.result c.open_row.new.steps c.extend.new.steps
+  search_of : (c : after-After-extend g t) → IsRowSearched g.R.Rank.KEYS g.R.Rank.key c.args.self.now.tree.now c.args.self.now.entries.entries c.extend.new.self.entries.entries c.open_row.new.self.nodes.items c.extend.new.self.nodes.items c.get-found.result.now.node c.in-Some-top.top.tag.row c.child_count-count.result c.open_row.new.steps c.extend.new.steps
   search_of c =
-      row_searched g.R.Rank.KEYS g.R.Rank.key c.args.self.now.tree.now c.open_row.new.self.tree.now c.extend.new.self.tree.now c.args.self.now.entries.entries c.open_row.new.self.entries.entries c.extend.new.self.entries.entries c.open_row.new.self.nodes.items c.extend.new.self.nodes.items c.get-found.result.now.node c.source_row-row.result c.child_count-count.result c.open_row.new.steps c.extend.new.steps c.open_row.ensures.tree (ap (λ z. z.entries) c.open_row.ensures.entries) c.extend.ensures.tree c.extend.ensures.formed c.extend.ensures.extended c.extend.ensures.queues c.extend.ensures.cost
+      row_searched g.R.Rank.KEYS g.R.Rank.key c.args.self.now.tree.now c.open_row.new.self.tree.now c.extend.new.self.tree.now c.args.self.now.entries.entries c.open_row.new.self.entries.entries c.extend.new.self.entries.entries c.open_row.new.self.nodes.items c.extend.new.self.nodes.items c.get-found.result.now.node c.in-Some-top.top.tag.row c.child_count-count.result c.open_row.new.steps c.extend.new.steps c.open_row.ensures.tree (ap (λ z. z.entries) c.open_row.ensures.entries) c.extend.ensures.tree c.extend.ensures.formed c.extend.ensures.extended c.extend.ensures.queues c.extend.ensures.cost
 
   -- # What they share about a search in a row
 
@@ -114,25 +114,6 @@ pub after-returns-in_default-top-clause-cost : goal.after-returns-in_default-top
 after-returns-in_default-top-clause-cost g t c =
     λ k b one bits few queues. omega (arith, c.next_of.ensures.cost, c.get-found.ensures.cost)
 
-pub after-source_row-row-requires-clause-node : goal.after-source_row-row-requires-clause-node
-after-source_row-row-requires-clause-node g t c =
-    let at = goal.at.after-source_row-row-requires-clause-node g t c in
-    let o = entry_owned g t at.After-get-found in
-    o.node
-
-pub after-source_row-row-requires-clause-group : goal.after-source_row-row-requires-clause-group
-after-source_row-row-requires-clause-group g t c =
-    let at = goal.at.after-source_row-row-requires-clause-group g t c in
-    let o = entry_owned g t at.After-get-found in
-    o.group
-
-pub after-source_row-row-requires-clause-place : goal.after-source_row-row-requires-clause-place
-after-source_row-row-requires-clause-place g t c =
-    let at = goal.at.after-source_row-row-requires-clause-place g t c in
-    let o = entry_owned g t at.After-get-found in
-    let p = top_of g t at.In-Some-top o in
-    p.member
-
 pub after-open_row-requires-clause-node : goal.after-open_row-requires-clause-node
 after-open_row-requires-clause-node g t c =
     let at = goal.at.after-open_row-requires-clause-node g t c in
@@ -150,14 +131,14 @@ after-open_row-requires-clause-row g t c =
     let at = goal.at.after-open_row-requires-clause-row g t c in
     let o = entry_owned g t at.After-get-found in
     let p = top_of g t at.In-Some-top o in
-    row_within o p c.source_row-row.result c.source_row-row.ensures.member
+    row_within o p c.in-Some-top.top.tag.row p.row
 
 pub after-open_row-requires-clause-place : goal.after-open_row-requires-clause-place
 after-open_row-requires-clause-place g t c =
     let at = goal.at.after-open_row-requires-clause-place g t c in
     let o = entry_owned g t at.After-get-found in
     let p = top_of g t at.In-Some-top o in
-    subst (λ r. c.in-Some-top.top.tag.place < row_known c.args.self.now.nodes.items c.get-found.result.now.node r) (sym c.source_row-row.ensures.member) p.known
+    subst (λ r. c.in-Some-top.top.tag.place < row_known c.args.self.now.nodes.items c.get-found.result.now.node r) (sym p.row) p.known
 
 pub after-returns-in_err-open_row-clause-grown : goal.after-returns-in_err-open_row-clause-grown
 after-returns-in_err-open_row-clause-grown g t c =
@@ -175,7 +156,7 @@ pub after-returns-in_err-open_row-clause-cost : goal.after-returns-in_err-open_r
 after-returns-in_err-open_row-clause-cost g t c =
     let at = goal.at.after-returns-in_err-open_row-clause-cost g t c in
     let o = entry_owned g t at.After-get-found in
-    only_opened o c.args.steps.now c.open_row.new.steps (omega (arith, c.next_of.ensures.cost, c.get-found.ensures.cost, c.source_row-row.ensures.counted, c.open_row.ensures.cost))
+    only_opened o c.args.steps.now c.open_row.new.steps (omega (arith, c.next_of.ensures.cost, c.get-found.ensures.cost, c.open_row.ensures.cost))
 
 pub after-index-requires-2 : goal.after-index-requires-2
 after-index-requires-2 g t c =
@@ -200,7 +181,7 @@ after-known-requires g t c =
     let p = top_of g t at.In-Some-top o in
     let a = row_of g t at.After-open_row o p in
     let k = counted_of g t at.After-child_count-count o a in
-    omega (arith, k.within, ap (λ z. length (get_or z.products c.source_row-row.result [])) (lists_at c.open_row.new.self.nodes.items c.get-found.result.now.node c.index-3.result.now c.index-3.ensures a.in_nodes))
+    omega (arith, k.within, ap (λ z. length (get_or z.products c.in-Some-top.top.tag.row [])) (lists_at c.open_row.new.self.nodes.items c.get-found.result.now.node c.index-3.result.now c.index-3.ensures a.in_nodes))
 
 pub after-next_place-place-requires : goal.after-next_place-place-requires
 after-next_place-place-requires g t c =
@@ -209,7 +190,7 @@ after-next_place-place-requires g t c =
     let p = top_of g t at.In-Some-top o in
     let a = row_of g t at.After-open_row o p in
     let k = counted_of g t at.After-child_count-count o a in
-    omega (arith, k.known, c.known.ensures, ap (λ z. known_of z c.source_row-row.result c.child_count-count.result) (lists_at c.open_row.new.self.nodes.items c.get-found.result.now.node c.index-3.result.now c.index-3.ensures a.in_nodes))
+    omega (arith, k.known, c.known.ensures, ap (λ z. known_of z c.in-Some-top.top.tag.row c.child_count-count.result) (lists_at c.open_row.new.self.nodes.items c.get-found.result.now.node c.index-3.result.now c.index-3.ensures a.in_nodes))
 
 pub after-extend-requires : goal.after-extend-requires
 after-extend-requires g t c κs within =
@@ -218,7 +199,7 @@ after-extend-requires g t c κs within =
     let p = top_of g t at.In-Some-top o in
     let a = row_of g t at.After-open_row o p in
     let k = counted_of g t at.After-child_count-count o a in
-    (omega (arith, c.decreases, o.node_is, k.all, o.node, ap length c.open_row.ensures.tree, kids_below_most (parent c.args.self.now.tree.now) c.get-found.result.now.node (length c.args.self.now.tree.now), o.formed.tree.shaped.few_nodes), (within.0, (within.1.0, (within.1.1, (c.open_row.ensures.formed, (subst IsTieFreeTree (sym c.open_row.ensures.tree) c.requires.tie_free, (subst (λ z. c.get-found.result.now.node < length z) (sym c.open_row.ensures.tree) o.node, (subst (λ z. c.source_row-row.result < rows z c.get-found.result.now.node) (sym c.open_row.ensures.tree) a.row, (k.within, omega (arith, k.known, c.next_place-place.ensures))))))))))
+    (omega (arith, c.decreases, o.node_is, k.all, o.node, ap length c.open_row.ensures.tree, kids_below_most (parent c.args.self.now.tree.now) c.get-found.result.now.node (length c.args.self.now.tree.now), o.formed.tree.shaped.few_nodes), (within.0, (within.1.0, (within.1.1, (c.open_row.ensures.formed, (subst IsTieFreeTree (sym c.open_row.ensures.tree) c.requires.tie_free, (subst (λ z. c.get-found.result.now.node < length z) (sym c.open_row.ensures.tree) o.node, (subst (λ z. c.in-Some-top.top.tag.row < rows z c.get-found.result.now.node) (sym c.open_row.ensures.tree) a.row, (k.within, omega (arith, k.known, c.next_place-place.ensures))))))))))
 
 pub after-returns-in_err-extend-clause-grown : goal.after-returns-in_err-extend-clause-grown
 after-returns-in_err-extend-clause-grown g t c =
@@ -298,6 +279,13 @@ after-advance-requires-clause-queue_room g t c one =
     subst (λ (z : List (NodeData g.row.R.Denot)). can_enter (length (members z c.get-found.result.now.node c.get-found.result.now.group)) ≤ (stream_of c.extend.new.self.nodes.items c.get-found.result.now.node c.get-found.result.now.group).room) (sym (c.extend.ensures.tree ∙ c.open_row.ensures.tree))
     (subst (λ (z : StreamData g.row.R.Denot). can_enter (length (members c.args.self.now.tree.now c.get-found.result.now.node c.get-found.result.now.group)) ≤ z.room) (sym (searched_stream o a k s)) (c.in_ok-open_row.ensures.room (omega (arith, one, c.next_place-place.ensures))))
 
+pub after-advance-requires-clause-row : goal.after-advance-requires-clause-row
+after-advance-requires-clause-row g t c =
+    let at = goal.at.after-advance-requires-clause-row g t c in
+    let o = entry_owned g t at.After-get-found in
+    let p = top_of g t at.In-Some-top o in
+    subst (λ (z : List (NodeData g.row.R.Denot)). c.in-Some-top.top.tag.row ≡ get_or (members z c.get-found.result.now.node c.get-found.result.now.group) c.in-Some-top.top.tag.member 0) (sym (c.extend.ensures.tree ∙ c.open_row.ensures.tree)) p.row
+
 pub after-advance-requires-clause-member : goal.after-advance-requires-clause-member
 after-advance-requires-clause-member g t c =
     let at = goal.at.after-advance-requires-clause-member g t c in
@@ -327,8 +315,8 @@ after-advance-requires-clause-place g t c =
     let p = top_of g t at.In-Some-top o in
     let a = row_of g t at.After-open_row o p in
     let k = counted_of g t at.After-child_count-count o a in
-    subst (λ z. IsReached g.R.Rank.KEYS g.R.Rank.key c.extend.new.self.tree.now c.extend.new.self.nodes.items c.get-found.result.now.node c.source_row-row.result z c.next_place-place.result) (k.all ∙ ap (λ z. child_count z c.get-found.result.now.node) (sym (c.extend.ensures.tree ∙ c.open_row.ensures.tree)))
-    (subst (λ z. IsReached g.R.Rank.KEYS g.R.Rank.key z c.extend.new.self.nodes.items c.get-found.result.now.node c.source_row-row.result c.child_count-count.result c.next_place-place.result) (sym c.extend.ensures.tree) c.in_ok-extend.ensures.reached)
+    subst (λ z. IsReached g.R.Rank.KEYS g.R.Rank.key c.extend.new.self.tree.now c.extend.new.self.nodes.items c.get-found.result.now.node c.in-Some-top.top.tag.row z c.next_place-place.result) (k.all ∙ ap (λ z. child_count z c.get-found.result.now.node) (sym (c.extend.ensures.tree ∙ c.open_row.ensures.tree)))
+    (subst (λ z. IsReached g.R.Rank.KEYS g.R.Rank.key z c.extend.new.self.nodes.items c.get-found.result.now.node c.in-Some-top.top.tag.row c.child_count-count.result c.next_place-place.result) (sym c.extend.ensures.tree) c.in_ok-extend.ensures.reached)
 
 pub after-returns-clause-grown : goal.after-returns-clause-grown
 after-returns-clause-grown g t c =

@@ -28,26 +28,26 @@ module _ (g : Over) (t : ℕ) where
       let inside : c.get-found.result.now.node < length c.args.self.now.nodes.items = omega (arith, s.node, c.requires.formed.all_nodes) in
       c.child_count-count.ensures ∙ ap (λ m. length m.children) (sym (lists_at c.args.self.now.nodes.items c.get-found.result.now.node c.index.result.now c.index.ensures inside)) ∙ c.requires.formed.all_children c.get-found.result.now.node s.node
 
-  row_of : (c : add_entry_rows-After-child_count-count g t) → IsSourceAt g.R.Rank.KEYS g.R.Rank.key c.args.self.now.tree.now c.args.self.now.entries.entries c.args.self.now.nodes.items c.args.entry c.get-found.result.now.node c.get-found.result.now.group c.get-found.result.now.solution.tag → c.source_row-row.result < rows c.args.self.now.tree.now c.get-found.result.now.node
-  row_of c s = subst (λ z. z < rows c.args.self.now.tree.now c.get-found.result.now.node) (sym c.source_row-row.ensures.member) s.row
+  row_of : (c : add_entry_rows-After-child_count-count g t) → IsSourceAt g.R.Rank.KEYS g.R.Rank.key c.args.self.now.tree.now c.args.self.now.entries.entries c.args.self.now.nodes.items c.args.entry c.get-found.result.now.node c.get-found.result.now.group c.get-found.result.now.solution.tag → c.get-found.result.now.solution.tag.row < rows c.args.self.now.tree.now c.get-found.result.now.node
+  row_of c s = subst (λ z. z < rows c.args.self.now.tree.now c.get-found.result.now.node) (sym s.parts.0) s.row
 
   -- the key of the entry's solution, by its row
   key_of : (c : add_entry_rows-After-child_count-count g t) → IsSourceAt g.R.Rank.KEYS g.R.Rank.key c.args.self.now.tree.now c.args.self.now.entries.entries c.args.self.now.nodes.items c.args.entry c.get-found.result.now.node c.get-found.result.now.group c.get-found.result.now.solution.tag
-      → get_or (part_list g.R.Rank.KEYS g.R.Rank.key c.args.self.now.tree.now c.get-found.result.now.node c.source_row-row.result (child_count c.args.self.now.tree.now c.get-found.result.now.node)) c.get-found.result.now.solution.tag.place (key_none g.R.Rank.KEYS 16)
+      → get_or (part_list g.R.Rank.KEYS g.R.Rank.key c.args.self.now.tree.now c.get-found.result.now.node c.get-found.result.now.solution.tag.row (child_count c.args.self.now.tree.now c.get-found.result.now.node)) c.get-found.result.now.solution.tag.place (key_none g.R.Rank.KEYS 16)
       ≡ get_or (group_list g.R.Rank.KEYS g.R.Rank.key c.args.self.now.tree.now (node_of c.args.self.now.entries.entries c.args.entry) (group_of c.args.self.now.entries.entries c.args.entry)) (place_of c.args.self.now.entries.entries c.args.entry) (key_none g.R.Rank.KEYS 16)
   key_of c s =
-      ap (λ r. get_or (part_list g.R.Rank.KEYS g.R.Rank.key c.args.self.now.tree.now c.get-found.result.now.node r (child_count c.args.self.now.tree.now c.get-found.result.now.node)) c.get-found.result.now.solution.tag.place (key_none g.R.Rank.KEYS 16)) c.source_row-row.ensures.member
+      ap (λ r. get_or (part_list g.R.Rank.KEYS g.R.Rank.key c.args.self.now.tree.now c.get-found.result.now.node r (child_count c.args.self.now.tree.now c.get-found.result.now.node)) c.get-found.result.now.solution.tag.place (key_none g.R.Rank.KEYS 16)) s.parts.0
       ∙ s.same
 
   -- the parts of the entry's solution
   own_parts : (c : add_entry_rows-After-child_count-count g t) → IsSourceAt g.R.Rank.KEYS g.R.Rank.key c.args.self.now.tree.now c.args.self.now.entries.entries c.args.self.now.nodes.items c.args.entry c.get-found.result.now.node c.get-found.result.now.group c.get-found.result.now.solution.tag
-      → (k : ℕ) → child_count c.args.self.now.tree.now c.get-found.result.now.node ≡ suc k → IsSumOf g.R.Rank.KEYS g.R.Rank.key c.args.self.now.tree.now c.args.self.now.entries.entries c.args.self.now.nodes.items c.get-found.result.now.node c.source_row-row.result k c.get-found.result.now.solution.tag.place c.get-found.result.now.solution.tag.cell
+      → (k : ℕ) → child_count c.args.self.now.tree.now c.get-found.result.now.node ≡ suc k → IsSumOf g.R.Rank.KEYS g.R.Rank.key c.args.self.now.tree.now c.args.self.now.entries.entries c.args.self.now.nodes.items c.get-found.result.now.node c.get-found.result.now.solution.tag.row k c.get-found.result.now.solution.tag.place c.get-found.result.now.solution.tag.cell
   own_parts c s k kids =
-      subst (λ r. IsSumOf g.R.Rank.KEYS g.R.Rank.key c.args.self.now.tree.now c.args.self.now.entries.entries c.args.self.now.nodes.items c.get-found.result.now.node r k c.get-found.result.now.solution.tag.place c.get-found.result.now.solution.tag.cell) (sym c.source_row-row.ensures.member) (s.parts k kids)
+      subst (λ r. IsSumOf g.R.Rank.KEYS g.R.Rank.key c.args.self.now.tree.now c.args.self.now.entries.entries c.args.self.now.nodes.items c.get-found.result.now.node r k c.get-found.result.now.solution.tag.place c.get-found.result.now.solution.tag.cell) (sym s.parts.0) (s.parts.1 k kids)
 
   -- without children it is the row's own solution
   own_is : (c : add_entry_rows-After-child_count-count g t) → IsSourceAt g.R.Rank.KEYS g.R.Rank.key c.args.self.now.tree.now c.args.self.now.entries.entries c.args.self.now.nodes.items c.args.entry c.get-found.result.now.node c.get-found.result.now.group c.get-found.result.now.solution.tag → c.child_count-count.result ≡ 0
-      → rank c.args.self.now.tree.now g.R.Rank.KEYS g.R.Rank.key c.get-found.result.now.node c.source_row-row.result
+      → rank c.args.self.now.tree.now g.R.Rank.KEYS g.R.Rank.key c.get-found.result.now.node c.get-found.result.now.solution.tag.row
       ≡ get_or (group_list g.R.Rank.KEYS g.R.Rank.key c.args.self.now.tree.now (node_of c.args.self.now.entries.entries c.args.entry) (group_of c.args.self.now.entries.entries c.args.entry)) (place_of c.args.self.now.entries.entries c.args.entry) (key_none g.R.Rank.KEYS 16)
   own_is c s zero =
       let d = g.R.Rank.KEYS in
@@ -57,31 +57,19 @@ module _ (g : Over) (t : ℕ) where
       let f = c.get-found.result.now in
       let kids = kids_of c s in
       let none : child_count tree f.node ≡ 0 = omega (arith, kids, zero) in
-      let place : IsKnownPart n f.node c.source_row-row.result (child_count tree f.node) f.solution.tag.place = subst (λ r. IsKnownPart n f.node r (child_count tree f.node) f.solution.tag.place) (sym c.source_row-row.ensures.member) s.place in
-      let known = known_own d key tree c.args.self.now.entries.entries n c.requires.formed f.node c.source_row-row.result (child_count tree f.node) f.solution.tag.place none place in
-      own_at d key tree c.requires.formed.tree n f.node c.source_row-row.result (child_count tree f.node) f.solution.tag.place (rank tree d key f.node c.source_row-row.result) s.node none known refl ∙ key_of c s
+      let place : IsKnownPart n f.node c.get-found.result.now.solution.tag.row (child_count tree f.node) f.solution.tag.place = subst (λ r. IsKnownPart n f.node r (child_count tree f.node) f.solution.tag.place) (sym s.parts.0) s.place in
+      let known = known_own d key tree c.args.self.now.entries.entries n c.requires.formed f.node c.get-found.result.now.solution.tag.row (child_count tree f.node) f.solution.tag.place none place in
+      own_at d key tree c.requires.formed.tree n f.node c.get-found.result.now.solution.tag.row (child_count tree f.node) f.solution.tag.place (rank tree d key f.node c.get-found.result.now.solution.tag.row) s.node none known refl ∙ key_of c s
 
   -- with children it is the sum of its parts
   sum_is : (c : add_entry_rows-After-child_count-count g t) → IsSourceAt g.R.Rank.KEYS g.R.Rank.key c.args.self.now.tree.now c.args.self.now.entries.entries c.args.self.now.nodes.items c.args.entry c.get-found.result.now.node c.get-found.result.now.group c.get-found.result.now.solution.tag → (k : ℕ) → child_count c.args.self.now.tree.now c.get-found.result.now.node ≡ suc k
-      → pair_key (key_add g.R.Rank.KEYS 16) (key_none g.R.Rank.KEYS 16) (part_list g.R.Rank.KEYS g.R.Rank.key c.args.self.now.tree.now c.get-found.result.now.node c.source_row-row.result k)
-      (group_list g.R.Rank.KEYS g.R.Rank.key c.args.self.now.tree.now (child c.args.self.now.tree.now c.get-found.result.now.node k) (group_named c.args.self.now.tree.now c.get-found.result.now.node c.source_row-row.result k)) (pair_of c.args.self.now.entries.entries c.get-found.result.now.solution.tag.cell)
+      → pair_key (key_add g.R.Rank.KEYS 16) (key_none g.R.Rank.KEYS 16) (part_list g.R.Rank.KEYS g.R.Rank.key c.args.self.now.tree.now c.get-found.result.now.node c.get-found.result.now.solution.tag.row k)
+      (group_list g.R.Rank.KEYS g.R.Rank.key c.args.self.now.tree.now (child c.args.self.now.tree.now c.get-found.result.now.node k) (group_named c.args.self.now.tree.now c.get-found.result.now.node c.get-found.result.now.solution.tag.row k)) (pair_of c.args.self.now.entries.entries c.get-found.result.now.solution.tag.cell)
       ≡ get_or (group_list g.R.Rank.KEYS g.R.Rank.key c.args.self.now.tree.now (node_of c.args.self.now.entries.entries c.args.entry) (group_of c.args.self.now.entries.entries c.args.entry)) (place_of c.args.self.now.entries.entries c.args.entry) (key_none g.R.Rank.KEYS 16)
   sum_is c s k kids =
       let more : k + 1 ≡ child_count c.args.self.now.tree.now c.get-found.result.now.node = omega (arith, kids) in
       sym (own_parts c s k kids).sum
-      ∙ ap (λ z. get_or (part_list g.R.Rank.KEYS g.R.Rank.key c.args.self.now.tree.now c.get-found.result.now.node c.source_row-row.result z) c.get-found.result.now.solution.tag.place (key_none g.R.Rank.KEYS 16)) more ∙ key_of c s
-
-pub add_entry_rows-source_row-row-requires-clause-node : goal.add_entry_rows-source_row-row-requires-clause-node
-add_entry_rows-source_row-row-requires-clause-node g t c =
-    (source_at g.R.Rank.KEYS g.R.Rank.key c.args.self.now.tree.now c.args.self.now.entries.entries c.args.self.now.nodes.items c.requires.formed c.args.entry c.get-found.result.now c.requires.entry c.get-found.ensures.value).node
-
-pub add_entry_rows-source_row-row-requires-clause-group : goal.add_entry_rows-source_row-row-requires-clause-group
-add_entry_rows-source_row-row-requires-clause-group g t c =
-    (source_at g.R.Rank.KEYS g.R.Rank.key c.args.self.now.tree.now c.args.self.now.entries.entries c.args.self.now.nodes.items c.requires.formed c.args.entry c.get-found.result.now c.requires.entry c.get-found.ensures.value).group
-
-pub add_entry_rows-source_row-row-requires-clause-place : goal.add_entry_rows-source_row-row-requires-clause-place
-add_entry_rows-source_row-row-requires-clause-place g t c =
-    (source_at g.R.Rank.KEYS g.R.Rank.key c.args.self.now.tree.now c.args.self.now.entries.entries c.args.self.now.nodes.items c.requires.formed c.args.entry c.get-found.result.now c.requires.entry c.get-found.ensures.value).member
+      ∙ ap (λ z. get_or (part_list g.R.Rank.KEYS g.R.Rank.key c.args.self.now.tree.now c.get-found.result.now.node c.get-found.result.now.solution.tag.row z) c.get-found.result.now.solution.tag.place (key_none g.R.Rank.KEYS 16)) more ∙ key_of c s
 
 pub add_entry_rows-index-requires : goal.add_entry_rows-index-requires
 add_entry_rows-index-requires g t c =
@@ -117,7 +105,6 @@ add_entry_rows-returns-then-count-eq0-clause-cost g t c =
     omega (
       arith,
       c.get-found.ensures.cost,
-      c.source_row-row.ensures.counted,
       c.add_own_row.ensures.cost,
       kids_smaller g.R.Rank.KEYS g.R.Rank.key tree c.requires.formed.tree c.get-found.result.now.node c.child_count-count.result s.node (omega (arith, kids)),
       ap (λ v. subtree_size tree v) s.owner,
@@ -181,7 +168,6 @@ add_entry_rows-returns-else-count-eq0-clause-cost g t c =
     omega (
       arith,
       c.get-found.ensures.cost,
-      c.source_row-row.ensures.counted,
       c.add_sum_rows.ensures.cost,
       ap (λ k. kids_size tree f.node k) more,
       kids_smaller g.R.Rank.KEYS g.R.Rank.key tree c.requires.formed.tree f.node c.child_count-count.result s.node (omega (arith, kids)),

@@ -1,0 +1,22 @@
+use Rattle.std.proofs.Common.{subst, sym, arith}
+use Rattle.take2_heap.specs.Heap.{Heap}
+use Rattle.take2_heap.specs.Order.{IsMinHeap}
+use Rattle.stream_model.proofs.Single.{least_many, least_single, passed_single, single_heap, spare_none}
+use Rattle.stream_model.proofs.queue.Queue.pass.Goals as goal
+
+pub returns-in-Many-clause-least : goal.returns-in-Many-clause-least
+returns-in-Many-clause-least g c d =
+    least_many c.self.inside.held c.args.self.now c.self.view_is g.R.Rank.KEYS g.R.Rank.key c.in-Many.heap c.in-Many.is d (c.pass_top.ensures.least d)
+
+pub returns : goal.returns
+returns g c =
+    let held = c.self.inside.held in
+    let old = c.args.self.now in
+    let none = spare_none held old c.self.view_is c.in_default.not-Many in
+    record {
+      moved = λ d. passed_single held old c.self.view_is c.in_default.not-Many _ c.or.result c.args.next c.args.other c.held_of.ensures c.or.ensures c.requires.top c.requires.room d;
+      least = λ d. least_single held old c.self.view_is c.in_default.not-Many g.R.Rank.KEYS g.R.Rank.key d;
+      heap_order = subst (λ (q : Heap g.row.R.Denot g.row.T.Denot). IsMinHeap g.R.Rank.KEYS g.R.Rank.key q.entries) (sym c.held_of.ensures) (single_heap g.R.Rank.KEYS g.R.Rank.key c.or.result);
+      cost = omega arith;
+      spare = omega (arith, none);
+    }
