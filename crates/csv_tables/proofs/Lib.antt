@@ -1,16 +1,6 @@
-pub mod Cuts
-pub mod Digits
-pub mod Flaws
-pub mod Fronts
 pub mod Headers
-pub mod Kept
-pub mod Numbers
-pub mod Own
-pub mod Packed
-pub mod Places
 pub mod Progress
 pub mod Reader
+pub mod Refusals
 pub mod Rows
-pub mod Stands
-pub mod Weights
 pub mod Written

@@ -1,19 +1,16 @@
 //! A table from the bytes of a file.
-ghost use Rattle.std.specs.Prelude.{◌≡◌, ◌≤◌, ◌∷◌, IfErr, IfOk, None, OnErr, OnOk, length};
+ghost use Rattle.std.specs.Prelude.{◌≡◌, ◌<◌, ◌≤◌, ◌∷◌, ◌++◌, [], IfErr, IfOk, None, OnErr, OnOk, length};
 ghost use Rattle.csv.specs.Records.{fields_of};
 ghost use Rattle.anyk_model.specs.Table.{flaw_of, header_flaw, records_of, row_flaw, rows_flaw, table_of};
 ghost use Rattle.csv_tables.specs.Faults.{Tells, refusal};
-ghost use Rattle.csv_tables.specs.StoredTables.{IsStored, fields_in, shown};
-ghost use Rattle.csv_tables.specs.Values.{Extends, StandsFor, lists_of, with_rows};
+ghost use Rattle.table_store.specs.Values.{lists_of};
 
 use crate::fault::TableFault;
-use crate::fields::FieldList;
 use crate::records::Records;
-use crate::stored::{StoredRows, StoredTable};
-use crate::texts::Texts;
 use csv::ByteRecord;
 use std::alloc::Global;
 use step_counter::NoMemory;
+use table_store::{PlainTable, Tables};
 
 /// The greatest number of columns of a table.
 const MAX_COLUMNS: usize = 64;
@@ -80,55 +77,55 @@ fn read_names(alloc: Global, records: &mut Records<'_>) -> Result<Vec<Vec<u8>>, 
     Ok(names)
 }
 
-/// The rows of the records that are left.
+/// The table of columns with these names, and of the records that are left as rows.
 fn read_rows(
     alloc: Global,
     records: &mut Records<'_>,
-    texts: &mut Texts,
-    width: usize,
-) -> Result<StoredRows, TableFault>
-    ensures sound { OnOk result (rows_flaw width 1 records.old ≡ None) }
-    ensures count { IfOk result (λ rows. rows.count ≡ length records.old) }
-    ensures fields { IfOk result (λ rows. rows.fields ≡ fields_in records.old) }
-    ensures cells { IfOk result
-        (λ rows. StandsFor texts.new rows.cells.items (fields_in records.old)) }
-    ensures texts { OnOk result (texts.new ≡ with_rows texts.old records.old) }
-    ensures fault { IfErr result (Tells (rows_flaw width 1 records.old)) }
-    ensures err { OnErr result (Extends texts.old texts.new) }
+    names: Vec<Vec<u8>>,
+) -> Result<PlainTable, TableFault>
+    ensures sound { OnOk result
+        (rows_flaw (length (lists_of names.items)) 1 records.old ≡ None) }
+    ensures table { IfOk result (λ t. t ≡ table_of (lists_of names.items ∷ records.old)) }
+    ensures fault { IfErr result
+        (Tells (rows_flaw (length (lists_of names.items)) 1 records.old)) }
 {
-    let mut cells = Vec::new(alloc);
-    let mut fields = FieldList::new(alloc);
+    let width = names.len();
+    let mut table = PlainTable::new(alloc, names);
     let mut row = ByteRecord::new(alloc);
     'rows: for count in 0..usize::MAX {
         if !records.next(&mut row)? {
-            return Ok(StoredRows {
-                count,
-                cells,
-                fields,
-            });
+            return Ok(table);
         }
         check_row(width, count + 1, &row)?;
-        texts.number_row(&row, &mut cells, &mut fields)?;
+        table.push_row(&row)?;
     }
     Err(TableFault::NoMemory)
 }
 
-/// The table of the bytes of a file, with the numbers of its fields. The fault is that of `Tables::read`.
-pub(crate) fn read_table(
-    alloc: Global,
-    texts: &mut Texts,
-    bytes: &[u8],
-) -> Result<StoredTable, TableFault>
+/// The table of the bytes of a file. The fault is that of `read_table`.
+fn parse_table(alloc: Global, bytes: &[u8]) -> Result<PlainTable, TableFault>
     ensures sound { OnOk result (flaw_of (records_of bytes.now) ≡ None) }
-    ensures shown { IfOk result (λ t. shown t ≡ table_of (records_of bytes.now)) }
-    ensures stored { IfOk result (IsStored texts.new) }
-    ensures texts { OnOk result
-        (texts.new ≡ with_rows texts.old (table_of (records_of bytes.now)).rows) }
+    ensures table { IfOk result (λ t. t ≡ table_of (records_of bytes.now)) }
     ensures fault { IfErr result (Tells (flaw_of (records_of bytes.now))) }
-    ensures err { OnErr result (Extends texts.old texts.new) }
 {
     let mut records = Records::new(alloc, bytes);
     let names = read_names(alloc, &mut records)?;
-    let rows = read_rows(alloc, &mut records, texts, names.len())?;
-    Ok(StoredTable { names, rows })
+    read_rows(alloc, &mut records, names)
+}
+
+/// Adds the table of the bytes of a csv file, and returns its number, from 0.
+///
+/// The fault is the first in the file: a fault of the header, in the order of `TableFault`, or else of the first
+/// bad row. `NoMemory` may be returned at any point. After any error the tables are as before.
+pub fn read_table(tables: &mut Tables, bytes: &[u8]) -> Result<u32, TableFault>
+    requires few { length tables.old < 16 }
+    requires size { length bytes.now ≤ 67108864 }
+    ensures number { IfOk result (λ n. n ≡ length tables.old) }
+    ensures added { OnOk result (tables.new ≡ tables.old ++ table_of (records_of bytes.now) ∷ []) }
+    ensures sound { OnOk result (flaw_of (records_of bytes.now) ≡ None) }
+    ensures fault { IfErr result (Tells (flaw_of (records_of bytes.now))) }
+    ensures err { OnErr result (tables.new ≡ tables.old) }
+{
+    let table = parse_table(tables.alloc(), bytes)?;
+    Ok(tables.add(table)?)
 }

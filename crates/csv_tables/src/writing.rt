@@ -69,7 +69,7 @@ impl RecordWriter {
     }
 }
 
-// A writer of records of any length, which has written none.
+/// A writer of records of any length, which has written none.
 fn new_writer(alloc: Global) -> Writer<Vec<u8>>
     ensures between { IsBetween result }
     ensures empty { bytes_under result ≡ [] }
@@ -79,8 +79,8 @@ fn new_writer(alloc: Global) -> Writer<Vec<u8>>
         .from_writer(Vec::new(alloc))
 }
 
-// Puts a fresh writer in place of this one. It is a function of its own, since a writer holds a buffer of 8 KiB, which is set to
-// zero at the entry of the function that makes one.
+/// Puts a fresh writer in place of this one. It is a function of its own, since a writer holds a buffer of 8 KiB, which is set to
+/// zero at the entry of the function that makes one.
 #[inline(never)]
 fn renew(writer: &mut Writer<Vec<u8>>, alloc: Global)
     ensures between { IsBetween writer.new }
@@ -89,7 +89,7 @@ fn renew(writer: &mut Writer<Vec<u8>>, alloc: Global)
     *writer = new_writer(alloc);
 }
 
-// Writes a record of these fields after the earlier ones. Nothing is known of the writer if memory is refused.
+/// Writes a record of these fields after the earlier ones. Nothing is known of the writer if memory is refused.
 fn append_record(writer: &mut Writer<Vec<u8>>, fields: &[&[u8]]) -> Result<(), NoMemory>
     requires { IsBetween writer.old }
     ensures between { OnOk result (IsBetween writer.new) }

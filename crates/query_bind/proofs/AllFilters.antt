@@ -1,24 +1,24 @@
 -- The tests of the rows of all items.
 use Rattle.std.proofs.Common.{◌≡◌, ◌⊎◌, ◌<◌, ◌+◌, ℕ, List, [], ◌∷◌, ◌++◌, map, length, get_or, sym, ap, subst, ◌∙◌, inl, inr, arith}
 use Rattle.std.proofs.lemmas.Bool.{cases_eq}
-use Rattle.std.proofs.lemmas.List.{get_or-map, length-map, map-append}
+use Rattle.std.proofs.lemmas.List.{get_or-map, map-append}
 use Rattle.anyk_model.specs.Table.{Table, table_at}
 use Rattle.anyk_model.specs.Query.{Query, Item, Column, Equality}
 use Rattle.rankings.specs.Order.{IsMember}
 use Rattle.rankings.proofs.Members.{all_member}
-use Rattle.query_bind.specs.Classes.{Linked}
-use Rattle.query_bind.specs.FilterViews.{HasFilters, HaveFilters, filter_shown}
-use Rattle.query_bind.specs.Filters.{HaveConstants, HavePairs, IsFilterOf, ItemFilter, filter_at}
-use Rattle.query_bind.specs.Inside.{EqualityInside, IsInside, IsWithin}
+use Rattle.bound_query.specs.Classes.{Linked}
+use Rattle.query_bind.specs.Filters.{HasFilters, HaveFilters, HaveConstants, HavePairs}
+use Rattle.bound_query.specs.FilterViews.{filter_shown}
+use Rattle.bound_query.specs.Filters.{ItemFilter, filter_at}
+use Rattle.bound_query.specs.Inside.{EqualityInside, IsInside, IsWithin}
 use Rattle.query_bind.specs.Labels.{IsLabelling}
-use Rattle.query_bind.specs.StoredParts.{item_shown, items_shown}
+use Rattle.bound_query.specs.StoredParts.{item_shown, items_shown}
 use Rattle.query_bind.specs.Variables.{width_in}
-use Rattle.query_bind.specs.WeighedQuery.{BoundQuery, Fits}
-use Rattle.query_bind.specs.declared.bound.BoundItem.{BoundItem}
-use Rattle.query_bind.specs.declared.filters.Filter.{Filter}
-use Rattle.query_bind.proofs.AllVariables.{at_last, at_left, length_last, linked_inside}
+use Rattle.bound_query.specs.declared.bound.BoundItem.{BoundItem}
+use Rattle.bound_query.specs.declared.filters.Filter.{Filter}
+use Rattle.bound_query.proofs.Lists.{at_last, at_left, length_last}
+use Rattle.bound_query.proofs.Inside.{linked_inside}
 use Rattle.query_bind.proofs.Filtering.{filter_of}
-use Rattle.query_bind.proofs.Witness.{linked_back}
 
 pub filters_more : (label : Column → Column) (es : List Equality) (tables : List Table) (items : List BoundItem) (n width : ℕ) (d : BoundItem) (filters : List Filter) (f : Filter)
     → n < length items → width ≡ length (table_at tables (get_or items n d).table).names
@@ -67,38 +67,3 @@ module _ (query : Query) (tables : List Table) (within : IsWithin query tables) 
     filters = λ item h. filter_of tables query.items query.equalities inside there label known item (width_in tables query.items item)
         (λ place i. i.place) (filter_at filters item) (have.pairs item h) (have.constants item h);
   }
-
-  -- the places that the tests of an item name exist
-  module _ (item : ℕ) (f : ItemFilter) (known : IsFilterOf query.equalities item f) where
-    abbrev column : ℕ → Column
-    column place = record { item = item; place = place }
-
-    pub first_inside : (v : ℕ × ℕ) → IsMember v f.pairs → v.0 < width_in tables query.items item
-    first_inside v m = elim (inside (column v.0) (column v.1) (known.linked v m)) [
-      | inl e ↦ let p : v.0 ≡ v.1 = ap (λ (c : Column). c.place) e in let l = known.apart v m in absurd (omega (arith, p, l))
-      | inr h ↦ h.place
-    ]
-
-    pub second_inside : (v : ℕ × ℕ) → IsMember v f.pairs → v.1 < width_in tables query.items item
-    second_inside v m = elim (inside (column v.1) (column v.0) (linked_back (known.linked v m))) [
-      | inl e ↦ let p : v.1 ≡ v.0 = ap (λ (c : Column). c.place) e in let l = known.apart v m in absurd (omega (arith, p, l))
-      | inr h ↦ h.place
-    ]
-
-    pub constant_inside : (v : ℕ × List ℕ) → IsMember v f.constants → v.0 < width_in tables query.items item
-    constant_inside v m =
-        let k = known.fixed v m in
-        elim (inside (column v.0) k.equality.left k.linked) [
-          | inl e ↦ (subst (λ (c : Column). IsInside tables query.items c) (sym e) (there k.equality k.member)).place
-          | inr h ↦ h.place
-        ]
-
--- the tests that are stored for an item
-pub stored_filter : (bound : BoundQuery) (tables : List Table) → Fits bound tables → (filters : List Filter) → map filter_shown filters ≡ bound.filters
-    → (item : ℕ) (f : Filter) → item < length bound.query.items → f ≡ get_or filters item f → IsFilterOf bound.query.equalities item (filter_shown f)
-stored_filter bound tables fits filters shown item f h is =
-    let count = fits.filtered in
-    let inside : item < length filters = omega (arith, length-map filters filter_shown, ap length shown, count, h) in
-    let at : filter_at bound.filters item ≡ filter_shown f =
-    ap (λ (l : List ItemFilter). filter_at l item) (sym shown) ∙ get_or-map filter_shown filters item f (record { pairs = []; constants = [] }) inside ∙ ap filter_shown (sym is) in
-    subst (λ (g : ItemFilter). IsFilterOf bound.query.equalities item g) at (fits.filters item h)

@@ -1,44 +1,31 @@
 -- The variables of a query, from the labels of its columns.
-use Rattle.std.proofs.Common.{◌≡◌, ◌⊎◌, ◌<◌, ◌≤◌, ◌+◌, ◌*◌, ℕ, zero, suc, Bool, true, false, cond, List, [], ◌∷◌, ◌++◌, map, filter, length, get_or, Vec, Global, refl, sym, ap, subst, ◌∙◌, inl, inr, arith}
+use Rattle.std.proofs.Common.{◌≡◌, ◌<◌, ◌≤◌, ◌+◌, ◌*◌, ℕ, zero, suc, Bool, true, false, cond, List, [], ◌∷◌, ◌++◌, map, filter, length, get_or, Vec, Global, refl, sym, ap, subst, ◌∙◌, inl, inr, arith}
 use Rattle.std.specs.List.{AllByRecursion, range_with_len}
 use Rattle.std.proofs.lemmas.Bool.{cases_eq, cases_lt}
 use Rattle.std.proofs.lemmas.List.{get_or-map, length-append, length-map, map-append}
 use Rattle.std.proofs.lemmas.List.FromFn.{length-map-range_with_len}
 use Rattle.anyk_model.specs.Table.{Table, table_at}
-use Rattle.anyk_model.specs.Query.{Query, Item, Column, Equality, Side}
+use Rattle.anyk_model.specs.Query.{Query, Item, Column, Equality}
 use Rattle.rankings.specs.Order.{IsAscending, IsMember}
-use Rattle.rankings.proofs.Members.{all_member}
 use Rattle.query_bind.specs.Binding.{columns_from, item_columns}
-use Rattle.query_bind.specs.Classes.{AreVariables, AreVariablesOf, ColumnBefore, HasVariable, IsShared, Linked, same, forth, back, variable_at}
-use Rattle.csv_tables.specs.Tables.{IsSound}
-use Rattle.csv_tables.proofs.Places.{sound_few_columns}
-use Rattle.query_bind.specs.Inside.{HasTable, EqualityInside, IsInside, IsWithin, SideInside}
+use Rattle.bound_query.specs.Classes.{AreVariables, AreVariablesOf, ColumnBefore, HasVariable, IsShared, variable_at}
+use Rattle.table_store.specs.Tables.{IsSound}
+use Rattle.table_store.proofs.Places.{sound_few_columns}
+use Rattle.bound_query.specs.Inside.{HasTable, IsInside, IsWithin}
 use Rattle.query_bind.specs.Labels.{IsFirstPlace, IsLabelling, least_in}
-use Rattle.query_bind.specs.StoredParts.{column_shown, equality_shown, item_shown, items_shown}
-use Rattle.query_bind.specs.Variables.{HasVariables, HavePlaces, HavePlacesEach, is_variable, lists_shown, width_in}
-use Rattle.query_bind.specs.WeighedQuery.{variables_at}
-use Rattle.query_bind.specs.declared.bound.BoundEquality.{BoundEquality}
-use Rattle.query_bind.specs.declared.bound.BoundItem.{BoundItem}
+use Rattle.bound_query.specs.StoredParts.{column_shown, equality_shown, item_shown, items_shown, lists_shown}
+use Rattle.query_bind.specs.Variables.{HasVariables, HavePlaces, HavePlacesEach, is_variable, width_in}
+use Rattle.bound_query.specs.WeighedQuery.{variables_at}
+use Rattle.bound_query.specs.declared.bound.BoundEquality.{BoundEquality}
+use Rattle.bound_query.specs.declared.bound.BoundItem.{BoundItem}
 use Rattle.query_bind.specs.declared.classes.Member.{Member}
-use Rattle.query_bind.proofs.Least.{at_member, shared_along}
-use Rattle.query_bind.proofs.Lists.{ascending_append, below_all, member_either, member_left, member_right}
+use Rattle.bound_query.proofs.Least.{at_member, shared_along}
+use Rattle.rankings.proofs.Ascending.{ascending_append, below_all}
+use Rattle.rankings.proofs.Members.{member_either, member_left, member_right}
+use Rattle.bound_query.proofs.Inside.{shared_inside}
+use Rattle.bound_query.proofs.Lists.{all_at, at_last, at_left, length_last}
 use Rattle.query_bind.proofs.Order.{same_columns}
-use Rattle.query_bind.proofs.Search.{all_at}
 use Rattle.query_bind.proofs.VariablesFound.{least_labelled, variables_found}
-
--- ---- a list with one more element
-
-pub at_left : {A : Type 0} (xs : List A) (y d : A) (i : ℕ) → i < length xs → get_or (xs ++ y ∷ []) i d ≡ get_or xs i d
-at_left [] y d i h = absurd (omega arith)
-at_left (x ∷ xs) y d zero h = refl
-at_left (x ∷ xs) y d (suc i) h = at_left xs y d i (omega (arith, h))
-
-pub at_last : {A : Type 0} (xs : List A) (y d : A) → get_or (xs ++ y ∷ []) (length xs) d ≡ y
-at_last [] y d = refl
-at_last (x ∷ xs) y d = at_last xs y d
-
-pub length_last : {A : Type 0} (xs : List A) (y : A) → length (xs ++ y ∷ []) ≡ length xs + 1
-length_last xs y = length-append xs (y ∷ [])
 
 pub fewer_kept : {A : Type 0} (test : A → Bool) (xs : List A) → length (filter test xs) ≤ length xs
 fewer_kept test [] = omega arith
@@ -117,22 +104,6 @@ module _ (tables : List Table) where
       let size = length-append (item_columns n w) (columns_from (n + 1) tables items) in
       let own : length (item_columns n w) ≡ w = length-map-range_with_len {X = Column} (λ (p : ℕ). record { item = n; place = p }) 0 w in
       omega (arith, narrow, rest, size, own)
-
--- ---- columns that equalities name exist
-
-module _ (tables : List Table) (items : List Item) (es : List Equality) (all : AllByRecursion (EqualityInside tables items) es) where
-  -- a column that is linked to another one exists
-  pub linked_inside : (c d : Column) → Linked es c d → (c ≡ d) ⊎ IsInside tables items c
-  linked_inside c d same = inl refl
-  linked_inside c d (forth {e = e} {b = b} m is h) = inr (all_member (EqualityInside tables items) e es all m).left
-  linked_inside c d (back {e = e} {b = b} m is h) =
-      inr (subst (λ (s : Side). SideInside tables items s) is (all_member (EqualityInside tables items) e es all m).right)
-
-  pub shared_inside : (c : Column) → IsShared es c → IsInside tables items c
-  shared_inside c s = elim (linked_inside c s.other s.linked) [
-    | inl e ↦ absurd (s.elsewhere (ap (λ (z : Column). z.item) (sym e)))
-    | inr h ↦ h
-  ]
 
 -- ---- the variables of an item
 

@@ -1,24 +1,26 @@
 -- The tests of rows that classes make.
-use Rattle.std.proofs.Common.{◌≡◌, ◌⊎◌, ◌↔◌, ◌<◌, ◌+◌, ◌==◌, ◌&&◌, ℕ, zero, suc, true, false, not, List, [], ◌∷◌, ◌++◌, map, length, take, get_or, refl, sym, ap, subst, ◌∙◌, inl, inr, arith}
+use Rattle.std.proofs.Common.{◌≡◌, ◌⊎◌, ◌<◌, ◌+◌, ◌==◌, ◌&&◌, ℕ, true, List, [], ◌∷◌, ◌++◌, map, length, take, get_or, refl, sym, ap, subst, ◌∙◌, inl, inr, arith}
 use Rattle.std.specs.List.{list_any}
 use Rattle.std.specs.Str.{bytes_eq}
-use Rattle.std.proofs.lemmas.Bool.{cases_eq, cases_order, not-false, not-true, and_parts}
+use Rattle.std.proofs.lemmas.Bool.{cases_eq, cases_order, and_parts}
 use Rattle.std.proofs.lemmas.Bool.Decides.{Decides-eqb}
 use Rattle.std.proofs.lemmas.Slice.Eq.{bytes_eq-Decides}
 use Rattle.std.proofs.lemmas.List.{map-append, take_more}
 use Rattle.anyk_model.specs.Table.{Table}
-use Rattle.anyk_model.specs.Query.{Query, Item, Column, Equality, of_constant}
+use Rattle.anyk_model.specs.Query.{Item, Column, Equality, of_constant}
 use Rattle.rankings.specs.Order.{IsMember}
-use Rattle.query_bind.specs.Classes.{IsFixedTo, Linked, Passes, row_field}
-use Rattle.query_bind.specs.FilterViews.{constant_shown}
-use Rattle.query_bind.specs.Filters.{HasConstants, HasEqual, HaveConstants, HavePairs, IsFilterOf, ItemFilter, Reaches}
-use Rattle.query_bind.specs.Inside.{IsInside}
+use Rattle.bound_query.specs.Classes.{IsFixedTo, Linked}
+use Rattle.bound_query.specs.FilterViews.{constant_shown}
+use Rattle.bound_query.specs.Filters.{IsFilterOf, ItemFilter, Reaches}
+use Rattle.query_bind.specs.Filters.{HaveConstants, HavePairs}
+use Rattle.bound_query.specs.Inside.{IsInside}
 use Rattle.query_bind.specs.Labels.{HasNoPlace, IsFirstPlace, IsLabelling}
-use Rattle.query_bind.specs.StoredParts.{equality_shown}
-use Rattle.query_bind.specs.declared.bound.BoundEquality.{BoundEquality}
-use Rattle.query_bind.specs.declared.filters.Constant.{Constant}
-use Rattle.query_bind.proofs.Lists.{member_last, member_left, member_map, member_parts, member_unmap, or_parts}
-use Rattle.query_bind.proofs.Witness.{linked_back}
+use Rattle.bound_query.specs.StoredParts.{equality_shown}
+use Rattle.bound_query.specs.declared.bound.BoundEquality.{BoundEquality}
+use Rattle.bound_query.specs.declared.filters.Constant.{Constant}
+use Rattle.rankings.proofs.Members.{member_last, member_left, member_parts}
+use Rattle.std.proofs.lemmas.Bool.{or_cases}
+use Rattle.bound_query.proofs.Witness.{linked_back}
 
 abbrev column : ℕ → ℕ → Column
 column item place = record { item = item; place = place }
@@ -132,7 +134,7 @@ pub listed_member : (place : ℕ) (bytes : List ℕ) (xs : List Constant) → li
     → IsMember (place, bytes) (map constant_shown xs)
 listed_member place bytes [] h = absurd (cc)
 listed_member place bytes (x ∷ xs) h =
-    elim (or_parts ((x.place == place) && bytes_eq x.bytes bytes) (list_any (λ (c : Constant). (c.place == place) && bytes_eq c.bytes bytes) xs) h) [
+    elim (or_cases ((x.place == place) && bytes_eq x.bytes bytes) (list_any (λ (c : Constant). (c.place == place) && bytes_eq c.bytes bytes) xs) h) [
       | inl t ↦
           let p = and_parts (x.place == place) (bytes_eq x.bytes bytes) t in
           let a : place ≡ x.place = sym ((Decides-eqb x.place place).0 p.0) in
@@ -204,52 +206,3 @@ module _ (tables : List Table) (items : List Item) (es : List Equality) (inside 
     };
     constants = constants_by f pairs constants;
   }
-
--- ---- what the tests decide
-
-module _ (query : Query) (tables : List Table) (item row : ℕ) (f : ItemFilter) (known : IsFilterOf query.equalities item f) where
-  abbrev field : ℕ → List ℕ
-  field = row_field query tables item row
-
-  reached : HasEqual field f.pairs → (first place : ℕ) → Reaches f.pairs first place → field first ≡ field place
-  reached h first place (inl e) = ap field e
-  reached h first place (inr m) = h (first, place) m
-
-  -- a row that has equal fields in pairs and the constants passes
-  stands_passes : HasEqual field f.pairs → HasConstants field f.constants → Passes query tables item row
-  stands_passes h k = record {
-    equal = λ a b link. elim (known.joined a b link) [
-      | inl e ↦ ap field e
-      | inr p ↦ sym (reached h p.0 a p.1) ∙ reached h p.0 b p.2
-    ];
-    constant = λ a bytes fixed. let p = known.constants a bytes fixed in sym (reached h p.0 a p.1) ∙ k (p.0, bytes) p.2;
-  }
-
-  pub passes_iff : (HasEqual field f.pairs × HasConstants field f.constants) ↔ Passes query tables item row
-  passes_iff = (
-    λ h. stands_passes h.0 h.1,
-    λ p. (λ v m. p.equal v.0 v.1 (known.linked v m), λ v m. p.constant v.0 v.1 (known.fixed v m)),
-  )
-
--- ---- stored tests
-
-pub texts_differ : (a b : List ℕ) → not (bytes_eq a b) ≡ true → a ≡ b → ⊥
-texts_differ a b h e =
-    let t : true ≡ false = sym ((bytes_eq-Decides a b).1 e) ∙ not-true (bytes_eq a b) h in
-    absurd (cc)
-
-pub texts_same : (a b : List ℕ) → not (bytes_eq a b) ≡ false → a ≡ b
-texts_same a b h = (bytes_eq-Decides a b).0 (not-false (bytes_eq a b) h)
-
-pub constants_each : (field : ℕ → List ℕ) (xs : List Constant) → ((y : Constant) → IsMember y xs → field y.place ≡ y.bytes) → HasConstants field (map constant_shown xs)
-constants_each field xs h v m =
-    let p = member_unmap constant_shown v xs m in
-    subst (λ (z : ℕ × List ℕ). field z.0 ≡ z.1) (sym p.2) (h p.0 p.1)
-
-pub constants_one : (field : ℕ → List ℕ) (xs : List Constant) → HasConstants field (map constant_shown xs) → (y : Constant) → IsMember y xs → field y.place ≡ y.bytes
-constants_one field xs h y m = h (constant_shown y) (member_map constant_shown y xs m)
-
-pub at_any : {A : Type 0} (xs : List A) (i : ℕ) (d e : A) → i < length xs → get_or xs i d ≡ get_or xs i e
-at_any [] i d e h = absurd (omega arith)
-at_any (x ∷ xs) zero d e h = refl
-at_any (x ∷ xs) (suc i) d e h = at_any xs i d e (omega (arith, h))

@@ -4,16 +4,16 @@ use Rattle.std.proofs.Math.ListN.{set}
 use Rattle.std.proofs.lemmas.List.{append-nil, drop_all, map-append, take_all, take_more}
 use Rattle.anyk_model.specs.Query.{Column, Equality, of_column, of_constant}
 use Rattle.rankings.specs.Order.{IsMember}
-use Rattle.query_bind.specs.Classes.{ColumnBefore, Linked, same, forth, back}
+use Rattle.bound_query.specs.Classes.{ColumnBefore, Linked, same, forth, back}
 use Rattle.query_bind.specs.Labels.{IsLabelling, is_same, least_in, listed, replaced}
 use Rattle.query_bind.specs.Relabelling.{with_least}
-use Rattle.query_bind.specs.StoredParts.{column_shown, equality_shown}
-use Rattle.query_bind.specs.declared.bound.BoundEquality.{BoundEquality}
+use Rattle.bound_query.specs.StoredParts.{column_shown, equality_shown}
+use Rattle.bound_query.specs.declared.bound.BoundEquality.{BoundEquality}
 use Rattle.query_bind.specs.declared.classes.Member.{Member}
-use Rattle.query_bind.proofs.Lists.{member_last, member_left, member_parts}
+use Rattle.rankings.proofs.Members.{member_last, member_left, member_parts}
 use Rattle.query_bind.proofs.Order.{before_self, before_until, same_tells}
-use Rattle.query_bind.proofs.Search.{drop_step}
-use Rattle.query_bind.proofs.Witness.{linked_append, linked_back}
+use Rattle.bound_query.proofs.Lists.{drop_step}
+use Rattle.bound_query.proofs.Witness.{linked_append, linked_back}
 
 weaker : {es : List Equality} (e : Equality) {c d : Column} → Linked es c d → Linked (es ++ e ∷ []) c d
 weaker e same = same

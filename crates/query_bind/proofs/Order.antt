@@ -3,7 +3,7 @@ use Rattle.std.proofs.Common.{◌≡◌, ◌⊎◌, ◌&&◌, ◌==◌, Bool, tr
 use Rattle.std.proofs.lemmas.Bool.{cases_order}
 use Rattle.std.proofs.lemmas.Bool.Decides.{eqb_tells}
 use Rattle.anyk_model.specs.Query.{Column}
-use Rattle.query_bind.specs.Classes.{ColumnBefore}
+use Rattle.bound_query.specs.Classes.{ColumnBefore}
 use Rattle.query_bind.specs.Labels.{is_same}
 
 pub before_asym : (a b : Column) → ColumnBefore a b → ColumnBefore b a → ⊥

@@ -1,5 +1,6 @@
 -- What the tallies of a key add to its items.
 use Rattle.std.proofs.Common.{◌≡◌, ◌+◌, ◌-◌, ◌*◌, ◌<◌, ◌≤◌, ◌==◌, ℕ, zero, suc, min, Bool, true, false, cond, if◌then◌else◌, ℤ, pos, negsuc, ◌+ℤ◌, ◌*ℤ◌, neg_ℤ, nat_abs, List, [], ◌∷◌, ◌++◌, map, length, take, get_or, set, replicate, Option, Some, None, unwrap_or, refl, sym, ap, subst, ◌∙◌, inl, inr, arith}
+use Rattle.std.specs.Option.{option_or}
 use Rattle.std.specs.List.{AllByRecursion, range_with_len}
 use lib.IntN.{neg_ℤ-+ℤ, one, *ℤ-one, *ℤ-zero, *ℤ-negsuc, *ℤ_comm, +ℤ_idl}
 use Rattle.std.proofs.lemmas.Int.{ints, unsigned_abs-mul}
@@ -14,22 +15,23 @@ use Rattle.anyk_model.specs.Query.{Item, Column, Term, OrderKey, total}
 use Rattle.query_bind.specs.Answers.{Tells}
 use Rattle.query_bind.specs.Fits.{BoundInside}
 use Rattle.query_bind.specs.Measures.{AreSmall, added, most_u128}
-use Rattle.query_bind.specs.Names.{first_of, or_else}
-use Rattle.query_bind.specs.Parts.{sum_of_all}
-use Rattle.query_bind.specs.StoredParts.{column_shown, item_shown, items_shown, term_shown}
+use Rattle.query_bind.specs.Names.{first_of}
+use Rattle.bound_query.specs.Parts.{sum_of_all}
+use Rattle.bound_query.specs.StoredParts.{column_shown, item_shown, items_shown, term_shown}
 use Rattle.query_bind.specs.Tallies.{AreTallies, net, signed, tallies_in, tallies_size, tallies_sum, tally_size, tally_worth, term_worth}
-use Rattle.query_bind.specs.WeighedQuery.{ItemParts, item_parts, kept, key_parts, row_parts}
-use Rattle.query_bind.specs.Weights.{cap_of, column_fault, column_size, column_weights, key_fault, most_sum, part_of, table_in, terms_in, terms_size, worth_at}
-use Rattle.query_bind.specs.declared.bound.BoundItem.{BoundItem}
-use Rattle.query_bind.specs.declared.bound.BoundTerm.{BoundTerm}
+use Rattle.bound_query.specs.WeighedQuery.{ItemParts, item_parts, kept, key_parts, row_parts}
+use Rattle.bound_query.specs.Weights.{cap_of, column_size, column_weights, most_sum, part_of, table_in, terms_in, terms_size, worth_at}
+use Rattle.query_bind.specs.WeightFaults.{column_fault, key_fault}
+use Rattle.bound_query.specs.declared.bound.BoundItem.{BoundItem}
+use Rattle.bound_query.specs.declared.bound.BoundTerm.{BoundTerm}
 use Rattle.query_bind.specs.declared.fault.BindFault.{BindFault}
 use Rattle.query_bind.specs.declared.fault.BindFault.TheVariants as fault
 use Rattle.query_bind.specs.declared.tallies.Tally.{Tally}
 use Rattle.rankings.proofs.Members.{all_member}
 use Rattle.query_bind.proofs.Collect.{first_at, first_of_append}
 use Rattle.query_bind.proofs.Measuring.{weight_at}
-use Rattle.query_bind.proofs.Parts.{column_bounds, nat_abs_add, nat_abs_neg}
-use Rattle.query_bind.proofs.Lists.{member_unmap}
+use Rattle.bound_query.proofs.Parts.{column_bounds, nat_abs_add, nat_abs_neg}
+use Rattle.rankings.proofs.Members.{member_unmap}
 use Rattle.query_bind.proofs.Tallying.{at_member, sum_push, total_push}
 
 -- ---- the elements of a list that are of one item
@@ -124,7 +126,7 @@ module _ (item : ℕ) where
     where
       by_test : (b : Bool) → kept (terms_in item ts) parts ≡ kept_if (first_of (λ (s : Term). here s.column) ts) parts
           → kept (cond b (t ∷ terms_in item ts) (terms_in item ts)) parts
-          ≡ kept_if (or_else (cond b (Some fault.NoMemory) None) (first_of (λ (s : Term). here s.column) ts)) parts
+          ≡ kept_if (option_or (cond b (Some fault.NoMemory) None) (first_of (λ (s : Term). here s.column) ts)) parts
       by_test true h = refl
       by_test false h = h
 
@@ -134,7 +136,7 @@ module _ (item : ℕ) where
     where
       by_test : (b : Bool) → kept (tallies_in item ys) parts ≡ kept_if (first_of (λ (z : Tally). here (column_shown z.column)) ys) parts
           → kept (cond b (y ∷ tallies_in item ys) (tallies_in item ys)) parts
-          ≡ kept_if (or_else (cond b (Some fault.NoMemory) None) (first_of (λ (z : Tally). here (column_shown z.column)) ys)) parts
+          ≡ kept_if (option_or (cond b (Some fault.NoMemory) None) (first_of (λ (z : Tally). here (column_shown z.column)) ys)) parts
       by_test true h = refl
       by_test false h = h
 
@@ -200,6 +202,16 @@ signed_small : (d : Bool) (z : ℤ) → nat_abs (signed d z) ≡ nat_abs z
 signed_small true z = nat_abs_neg z
 signed_small false z = refl
 
+-- ---- what is known of a tally whose column is read
+
+module _ (tables : List Table) (items : List Item) where
+  -- its item is there, each row of its column has one of these weights, and this is the most that they can add
+  pub record IsMeasured (y : Tally) (weights : List ℤ) (size : ℕ) : Type 0 where
+    pub there : y.column.0 < length items
+    pub values : map Some weights ≡ column_weights tables items (column_shown y.column)
+    pub measured : size ≡ min ((y.plus + y.minus) * column_size tables items (column_shown y.column)) most_u128
+    pub sound : column_fault tables items (column_shown y.column) ≡ None
+
 -- ---- what is known of the items after some tallies
 
 module _ (tables : List Table) (items : List Item) (d : Bool) where
@@ -254,10 +266,8 @@ module _ (tables : List Table) (items : List Item) (d : Bool) where
   kept_push (z ∷ zs) y parts = refl
 
   -- one more tally, whose column has these weights
-  module _ (ys : List Tally) (sum : ℕ) (list : List ItemParts) (so_far : HasWeighed ys sum list) (y : Tally) (weights : List ℤ) (size : ℕ)
-      (there : y.column.0 < length items) (values : map Some weights ≡ column_weights tables items (column_shown y.column))
-      (measured : size ≡ min ((y.plus + y.minus) * column_size tables items (column_shown y.column)) most_u128)
-      (none : column_fault tables items (column_shown y.column) ≡ None) where
+  module _ {ys : List Tally} {sum : ℕ} {list : List ItemParts} (so_far : HasWeighed ys sum list)
+      {y : Tally} {weights : List ℤ} {size : ℕ} (read : IsMeasured tables items y weights size) where
     abbrev item : ℕ
     item = y.column.0
 
@@ -265,24 +275,24 @@ module _ (tables : List Table) (items : List Item) (d : Bool) where
     next = min most_u128 (sum + size)
 
     cut_next : next ≡ min most_u128 (tallies_size tables items (ys ++ y ∷ []))
-    cut_next = omega (arith, so_far.cut, measured, size_push ys y)
+    cut_next = omega (arith, so_far.cut, read.measured, size_push ys y)
 
     sound_next : first_of (λ (z : Tally). column_fault tables items (column_shown z.column)) (ys ++ y ∷ []) ≡ None
     sound_next =
         let f : Tally → Option BindFault = λ (z : Tally). column_fault tables items (column_shown z.column) in
-        first_of_append f ys (y ∷ []) ∙ ap (λ (o : Option BindFault). or_else o (or_else (f y) None)) so_far.sound ∙ ap (λ (o : Option BindFault). or_else o None) none
+        first_of_append f ys (y ∷ []) ∙ ap (λ (o : Option BindFault). option_or o (option_or (f y) None)) so_far.sound ∙ ap (λ (o : Option BindFault). option_or o None) read.sound
 
     weights_long : length weights ≡ rows_of item
     weights_long =
         let f : List (List ℕ) → Option ℤ = λ row. weight_of (get_or row y.column.1 []) in
-        sym (length-map weights (λ (z : ℤ). let o : Option ℤ = Some z in o)) ∙ ap length values ∙ length-map (table_in tables items item).rows f
+        sym (length-map weights (λ (z : ℤ). let o : Option ℤ = Some z in o)) ∙ ap length read.values ∙ length-map (table_in tables items item).rows f
 
     weight_there : (i : ℕ) → i < rows_of item → get_or weights i (pos 0) ≡ worth_at tables items (i + 1) (column_shown y.column)
     weight_there i h =
         let long = weights_long in
         let at : Some (get_or weights i (pos 0)) ≡ weight_of (field_at (table_in tables items item) (i + 1 - 1) y.column.1) =
         sym (get_or-map (λ (z : ℤ). let o : Option ℤ = Some z in o) weights i (pos 0) None (omega (arith, h, long)))
-        ∙ ap (λ (l : List (Option ℤ)). get_or l i None) values ∙ weight_at (table_in tables items item) y.column.1 i h in
+        ∙ ap (λ (l : List (Option ℤ)). get_or l i None) read.values ∙ weight_at (table_in tables items item) y.column.1 i h in
         ap (λ (o : Option ℤ). unwrap_or o (pos 0)) at
 
     pub weighed_past : most_sum < next → HasWeighed (ys ++ y ∷ []) next list
@@ -293,7 +303,7 @@ module _ (tables : List Table) (items : List Item) (d : Bool) where
       parts = λ fit i e h. let c = cut_next in absurd (omega (arith, past, fit, c));
     }
 
-    module _ (in_range : next ≤ most_sum) (before : ItemParts) (is : before ≡ get_or list item before) where
+    module _ (in_range : next ≤ most_sum) {before : ItemParts} (is : before ≡ get_or list item before) where
       total_fits : tallies_size tables items (ys ++ y ∷ []) ≤ most_sum
       total_fits = let c = cut_next in omega (arith, in_range, c)
 
@@ -301,10 +311,10 @@ module _ (tables : List Table) (items : List Item) (d : Bool) where
       rest_fits = let t = total_fits in omega (arith, t, size_push ys y)
 
       before_is : before ≡ parts_after item ys
-      before_is = is ∙ so_far.parts rest_fits item before there
+      before_is = is ∙ so_far.parts rest_fits item before read.there
 
       size_is : size ≡ tally_size (column_size tables items) y
-      size_is = let t = total_fits in omega (arith, measured, t, size_push ys y)
+      size_is = let t = total_fits in omega (arith, read.measured, t, size_push ys y)
 
       part_before : (i : ℕ) → i < rows_of item → get_or before.parts i (pos 0) ≡ part_after (tallies_in item ys) (i + 1)
       part_before i h = ap (λ (b : ItemParts). get_or b.parts i (pos 0)) before_is ∙ part_there (tallies_in item ys) (rows_of item) i h
@@ -373,7 +383,7 @@ module _ (tables : List Table) (items : List Item) (d : Bool) where
             count = length-set list item new ∙ so_far.count;
             parts = λ fit i e h. elim (cases_eq i item) [
               | inl same ↦
-                  ap (λ (k : ℕ). get_or (set list item new) k e) same ∙ get_or-set_same list item new e (omega (arith, there, so_far.count)) ∙ new-is
+                  ap (λ (k : ℕ). get_or (set list item new) k e) same ∙ get_or-set_same list item new e (omega (arith, read.there, so_far.count)) ∙ new-is
                   ∙ ap (λ (k : ℕ). parts_after k (ys ++ y ∷ [])) (sym same)
               | inr other ↦
                   get_or-set_other list item i new e other ∙ so_far.parts rest_fits i e h
@@ -434,6 +444,11 @@ module _ (tables : List Table) (items : List Item) (key : OrderKey) (ys : List T
       (λ i h.
       let inside : i < length items = omega (arith, h, known.count) in
       known.parts fit i none inside ∙ tallied_parts i ∙ sym (get_or-map-range_with_len (item_parts tables items key) 0 (length items) i i none inside (omega arith)))
+
+-- the tallies of a slice of the terms are those of the terms
+pub tallied_slice : {stored slice : List BoundTerm} {ys made : List Tally} → slice ≡ stored → ys ≡ made → AreTallies (map term_shown slice) made → AreTallies (map term_shown stored) ys
+tallied_slice {stored = stored} {made = made} is same all =
+    subst (λ (l : List Tally). AreTallies (map term_shown stored) l) (sym same) (subst (λ (l : List BoundTerm). AreTallies (map term_shown l) made) is all)
 
 -- ---- the columns of tallies exist
 

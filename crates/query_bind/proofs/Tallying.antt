@@ -1,19 +1,20 @@
 -- Counting how many times a key names each column.
 use Rattle.std.proofs.Common.{◌≡◌, ◌⊎◌, ◌+◌, ◌*◌, ◌<◌, ◌≤◌, ℕ, zero, suc, Bool, true, false, if◌then◌else◌, ℤ, pos, ◌+ℤ◌, ◌-ℤ◌, ◌*ℤ◌, neg_ℤ, List, [], ◌∷◌, ◌++◌, map, length, get_or, set, Option, Some, None, refl, sym, ap, subst, ◌∙◌, inl, inr, arith}
+use Rattle.std.specs.Option.{option_or}
 use lib.IntN.{suc_ℤ-*ℤ, pred_ℤ-*ℤ, zero-*ℤ, +ℤ_one, -ℤ_one}
 use Rattle.std.proofs.lemmas.Int.{ints}
 use Rattle.std.proofs.lemmas.List.{map-append}
 use Rattle.std.proofs.Math.Seq.{map-set_same}
 use Rattle.anyk_model.specs.Query.{Column, Term, total}
 use Rattle.rankings.specs.Order.{IsMember}
-use Rattle.query_bind.specs.Names.{first_of, or_else}
-use Rattle.query_bind.specs.Parts.{sum_of_all}
-use Rattle.query_bind.specs.StoredParts.{column_shown}
+use Rattle.query_bind.specs.Names.{first_of}
+use Rattle.bound_query.specs.Parts.{sum_of_all}
+use Rattle.bound_query.specs.StoredParts.{column_shown}
 use Rattle.query_bind.specs.Tallies.{AreTallies, StandOnce, columns_of, tally_size, tally_worth, term_worth, with_one}
 use Rattle.query_bind.specs.declared.fault.BindFault.{BindFault}
 use Rattle.query_bind.specs.declared.tallies.Tally.{Tally}
-use Rattle.query_bind.proofs.Collect.{first_of_append, or_else_assoc}
-use Rattle.query_bind.proofs.Lists.{member_last, member_left, member_parts}
+use Rattle.query_bind.proofs.Collect.{first_of_append, option_or_assoc}
+use Rattle.rankings.proofs.Members.{member_last, member_left, member_parts}
 
 -- ---- sums over lists
 
@@ -66,21 +67,21 @@ module _ {A : Type 0} where
   at_member (x ∷ xs) (suc j) d h = inr (at_member xs j d (omega (arith, h)))
 
   -- an element with the same first fault as another one adds none
-  pub first_again : (f : A → Option BindFault) (xs : List A) (j : ℕ) (d : A) → j < length xs → or_else (first_of f xs) (f (get_or xs j d)) ≡ first_of f xs
+  pub first_again : (f : A → Option BindFault) (xs : List A) (j : ℕ) (d : A) → j < length xs → option_or (first_of f xs) (f (get_or xs j d)) ≡ first_of f xs
   first_again f [] j d h = absurd (omega arith)
   first_again f (x ∷ xs) zero d h = by_fault (f x) (first_of f xs)
     where
-      by_fault : (a b : Option BindFault) → or_else (or_else a b) a ≡ or_else a b
+      by_fault : (a b : Option BindFault) → option_or (option_or a b) a ≡ option_or a b
       by_fault None None = refl
       by_fault None (Some e) = refl
       by_fault (Some e) b = refl
   first_again f (x ∷ xs) (suc j) d h =
-      or_else_assoc (f x) (first_of f xs) (f (get_or xs j d)) ∙ ap (or_else (f x)) (first_again f xs j d (omega (arith, h)))
+      option_or_assoc (f x) (first_of f xs) (f (get_or xs j d)) ∙ ap (option_or (f x)) (first_again f xs j d (omega (arith, h)))
 
   pub first_set : (f : A → Option BindFault) (xs : List A) (j : ℕ) (d y : A) → f y ≡ f (get_or xs j d) → first_of f (set xs j y) ≡ first_of f xs
   first_set f [] j d y e = refl
-  first_set f (x ∷ xs) zero d y e = ap (λ (o : Option BindFault). or_else o (first_of f xs)) e
-  first_set f (x ∷ xs) (suc j) d y e = ap (or_else (f x)) (first_set f xs j d y e)
+  first_set f (x ∷ xs) zero d y e = ap (λ (o : Option BindFault). option_or o (first_of f xs)) e
+  first_set f (x ∷ xs) (suc j) d y e = ap (option_or (f x)) (first_set f xs j d y e)
 
 -- ---- one more term
 
@@ -143,8 +144,8 @@ module _ (terms : List Term) (ys : List Tally) (t : Term) (so_far : AreTallies t
         fault = λ fault_at.
             let f : Tally → Option BindFault = λ (y : Tally). fault_at (column_shown y.column) in
             first_of_append (λ (s : Term). fault_at s.column) terms (t ∷ [])
-            ∙ ap (λ (o : Option BindFault). or_else o (or_else (fault_at t.column) None)) (so_far.fault fault_at)
-            ∙ ap (or_else (first_of f ys)) (or_none (fault_at t.column) ∙ ap fault_at (sym same))
+            ∙ ap (λ (o : Option BindFault). option_or o (option_or (fault_at t.column) None)) (so_far.fault fault_at)
+            ∙ ap (option_or (first_of f ys)) (or_none (fault_at t.column) ∙ ap fault_at (sym same))
             ∙ first_again f ys j d h ∙ sym (first_set f ys j d new (ap fault_at column));
         named = λ y m. elim (member_set y ys j new m) [
           | inl old_one ↦ named_more y old_one
@@ -152,7 +153,7 @@ module _ (terms : List Term) (ys : List Tally) (t : Term) (so_far : AreTallies t
         ];
       }
     where
-      or_none : (o : Option BindFault) → or_else o None ≡ o
+      or_none : (o : Option BindFault) → option_or o None ≡ o
       or_none None = refl
       or_none (Some e) = refl
 
@@ -183,8 +184,8 @@ module _ (terms : List Term) (ys : List Tally) (t : Term) (so_far : AreTallies t
         fault = λ fault_at.
             let f : Tally → Option BindFault = λ (y : Tally). fault_at (column_shown y.column) in
             first_of_append (λ (s : Term). fault_at s.column) terms (t ∷ [])
-            ∙ ap (λ (o : Option BindFault). or_else o (or_else (fault_at t.column) None)) (so_far.fault fault_at)
-            ∙ ap (λ (c : Column). or_else (first_of f ys) (or_else (fault_at c) None)) (sym (column ∙ same)) ∙ sym (first_of_append f ys (new ∷ []));
+            ∙ ap (λ (o : Option BindFault). option_or o (option_or (fault_at t.column) None)) (so_far.fault fault_at)
+            ∙ ap (λ (c : Column). option_or (first_of f ys) (option_or (fault_at c) None)) (sym (column ∙ same)) ∙ sym (first_of_append f ys (new ∷ []));
         named = λ y m. elim (member_parts y new ys m) [
           | inl old_one ↦ named_more y old_one
           | inr e ↦ (t, member_last t terms, sym same ∙ sym column ∙ ap (λ (z : Tally). column_shown z.column) (sym e))

@@ -1,5 +1,6 @@
 -- The first fault in the order of a select's parts is the first in the order of the text.
 use Rattle.std.proofs.Common.{◌≡◌, ◌⊎◌, ◌<◌, ◌+◌, ℕ, List, [], ◌∷◌, map, Option, Some, None, option_map, refl, ap, subst, ◌∙◌, inl, inr, arith}
+use Rattle.std.specs.Option.{option_or}
 use Rattle.query_select.specs.declared.select.ColumnRef.{ColumnRef}
 use Rattle.query_select.specs.declared.select.Select.{Select}
 use Rattle.query_select.specs.TextOrder.{AreInTextOrder, columns_of}
@@ -12,9 +13,9 @@ use Rattle.query_bind.specs.declared.fault.BindFault.TheVariants as fault
 use Rattle.query_bind.specs.Answers.{Tells}
 use Rattle.query_bind.specs.Bind.{bind_fault}
 use Rattle.query_bind.specs.Binding.{bound_key}
-use Rattle.query_bind.specs.Names.{alias_fault, first_of, items_of, names_fault, or_else, ref_fault}
+use Rattle.query_bind.specs.Names.{alias_fault, first_of, items_of, names_fault, ref_fault}
 use Rattle.query_bind.specs.TextOrder.{IsFirstFailing, IsReferenceFault}
-use Rattle.query_bind.specs.Weights.{key_fault, range_fault, weight_fault, weights_fault}
+use Rattle.query_bind.specs.WeightFaults.{key_fault, range_fault, weight_fault, weights_fault}
 
 module _ (tables : List Table) (items : List Item) (e : BindFault) where
   head_first : (x : ColumnRef) (xs : List ColumnRef) → AreInTextOrder (x ∷ xs) → ref_fault tables items x ≡ Some e → IsFirstFailing tables items (x ∷ xs) e
@@ -45,14 +46,14 @@ module _ (tables : List Table) (items : List Item) (e : BindFault) where
   first_in_text [] order h = cc
   first_in_text (x ∷ xs) order h = by_fault (ref_fault tables items x) refl h (first_in_text xs order.1)
     where
-      by_fault : (o : Option BindFault) → ref_fault tables items x ≡ o → or_else o (first_of (ref_fault tables items) xs) ≡ Some e
+      by_fault : (o : Option BindFault) → ref_fault tables items x ≡ o → option_or o (first_of (ref_fault tables items) xs) ≡ Some e
           → (first_of (ref_fault tables items) xs ≡ Some e → IsFirstFailing tables items xs e) → IsFirstFailing tables items (x ∷ xs) e
       by_fault None is g rest = tail_first x xs is (rest g)
       by_fault (Some f) is g rest = head_first x xs order (is ∙ g)
 
 -- ---- which of the faults of binding are those of references
 
-either_fault : (a b : Option BindFault) (e : BindFault) → or_else a b ≡ Some e → (a ≡ Some e) ⊎ (b ≡ Some e)
+either_fault : (a b : Option BindFault) (e : BindFault) → option_or a b ≡ Some e → (a ≡ Some e) ⊎ (b ≡ Some e)
 either_fault (Some f) b e h = inl h
 either_fault None b e h = inr h
 
@@ -85,7 +86,7 @@ module _ (tables : List Table) (items : List Item) (order : List OrderKey) (e : 
   range_other : range_fault tables items order ≡ Some e → IsNoReference e
   range_other h = mapped_other (λ n. fault.RankRange n) (λ n r. r) _ e h
 
-  later_other : or_else (weights_fault tables items order) (range_fault tables items order) ≡ Some e → IsNoReference e
+  later_other : option_or (weights_fault tables items order) (range_fault tables items order) ≡ Some e → IsNoReference e
   later_other h = elim (either_fault (weights_fault tables items order) (range_fault tables items order) e h) [
     | inl w ↦ weights_other w
     | inr r ↦ range_other r
@@ -98,7 +99,7 @@ earliest select tables which e (inl memory) kind order = absurd (subst IsReferen
 earliest select tables which e (inr h) kind order =
     let items = items_of select.items which in
     let keys = map (bound_key tables items) select.keys in
-    elim (either_fault (names_fault tables items select) (or_else (weights_fault tables items keys) (range_fault tables items keys)) e h) [
+    elim (either_fault (names_fault tables items select) (option_or (weights_fault tables items keys) (range_fault tables items keys)) e h) [
       | inl name ↦ elim (either_fault (alias_fault items) (first_of (ref_fault tables items) (columns_of select)) e name) [
         | inl alias ↦ absurd (alias_other items e alias kind)
         | inr ref ↦ first_in_text tables items e (columns_of select) order ref

@@ -5,13 +5,14 @@ use Rattle.std.proofs.lemmas.Bool.Decides.{eqb_tells}
 use Rattle.std.proofs.lemmas.List.{get_or-map}
 use Rattle.anyk_model.specs.Query.{Column, Equality, Side, of_column, of_constant}
 use Rattle.rankings.specs.Order.{IsAscending, IsMember}
-use Rattle.query_bind.specs.Classes.{AreVariables, ColumnBefore, IsFixedTo, IsLeast, IsShared, NumberBefore, variable_at}
+use Rattle.bound_query.specs.Classes.{AreVariables, ColumnBefore, IsFixedTo, IsLeast, IsShared, NumberBefore, variable_at}
 use Rattle.query_bind.specs.Labels.{HasNoPlace, IsFirstPlace, IsLabelling, is_same, least_in, listed}
-use Rattle.query_bind.specs.StoredParts.{column_shown, equality_shown}
+use Rattle.bound_query.specs.StoredParts.{column_shown, equality_shown}
 use Rattle.query_bind.specs.Variables.{HavePlaces, is_constant, is_elsewhere, is_fixed, is_fixing, is_other, is_variable}
-use Rattle.query_bind.specs.declared.bound.BoundEquality.{BoundEquality}
+use Rattle.bound_query.specs.declared.bound.BoundEquality.{BoundEquality}
 use Rattle.query_bind.specs.declared.classes.Member.{Member}
-use Rattle.query_bind.proofs.Lists.{any_member, ascending_append, ascending_filter, kept_member, map_filter, member_any, member_kept, member_last, member_left, member_map, member_parts, member_unmap}
+use Rattle.rankings.proofs.Ascending.{ascending_append, ascending_filter}
+use Rattle.rankings.proofs.Members.{any_member, kept_member, map_filter, member_any, member_kept, member_last, member_left, member_map, member_parts, member_unmap}
 use Rattle.query_bind.proofs.Order.{before_neither, same_tells, same_true, true_same}
 
 constant_is : (s : Side) → is_constant s ≡ true → (bytes : List ℕ) × (s ≡ of_constant bytes)

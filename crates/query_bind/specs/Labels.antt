@@ -1,8 +1,8 @@
 -- The least column of each class, from a list of the columns that are not the least.
 use Rattle.std.specs.Prelude.{◌≡◌, ◌==◌, ◌&&◌, ℕ, ◌<◌, Bool, if◌then◌else◌, List, [], ◌∷◌}
 use Rattle.anyk_model.specs.Query.{Column, Equality}
-use Rattle.query_bind.specs.Classes.{Linked, ColumnBefore}
-use Rattle.query_bind.specs.StoredParts.{column_shown}
+use Rattle.bound_query.specs.Classes.{Linked, ColumnBefore}
+use Rattle.bound_query.specs.StoredParts.{column_shown}
 use Rattle.query_bind.specs.declared.classes.Member.{Member}
 
 -- each column has the least of its class as its label

@@ -1,16 +1,15 @@
 -- The tests by which variables are found, and the places of variables in an item.
-use Rattle.std.specs.Prelude.{◌≡◌, ◌↔◌, ◌==◌, ◌&&◌, ◌<◌, ◌≤◌, ℕ, Bool, true, false, not, List, [], map, length, get_or, Vec}
+use Rattle.std.specs.Prelude.{◌≡◌, ◌↔◌, ◌==◌, ◌&&◌, ◌<◌, ◌≤◌, ℕ, Bool, true, false, not, List, [], length, get_or}
 use Rattle.std.specs.List.{list_any}
-use Rattle.std.specs.Global.{Global}
 use Rattle.anyk_model.specs.Table.{Table}
 use Rattle.anyk_model.specs.Query.{Query, Item, Column, Equality, Side, of_column, of_constant}
 use Rattle.rankings.specs.Order.{IsAscending, IsMember}
-use Rattle.query_bind.specs.Classes.{AreVariables, AreVariablesOf, NumberBefore, variable_at}
+use Rattle.bound_query.specs.Classes.{AreVariables, AreVariablesOf, NumberBefore, variable_at}
 use Rattle.query_bind.specs.Labels.{IsFirstPlace, is_same, least_in}
-use Rattle.query_bind.specs.StoredParts.{column_shown, equality_shown}
-use Rattle.query_bind.specs.WeighedQuery.{variables_at}
-use Rattle.query_bind.specs.Weights.{table_in}
-use Rattle.query_bind.specs.declared.bound.BoundEquality.{BoundEquality}
+use Rattle.bound_query.specs.StoredParts.{column_shown, equality_shown}
+use Rattle.bound_query.specs.WeighedQuery.{variables_at}
+use Rattle.bound_query.specs.Weights.{table_in}
+use Rattle.bound_query.specs.declared.bound.BoundEquality.{BoundEquality}
 use Rattle.query_bind.specs.declared.classes.Member.{Member}
 
 abbrev pub is_constant : Side → Bool
@@ -57,10 +56,6 @@ pub record HavePlacesEach (label : Column → Column) (variables : List Column) 
   pub each : (i : ℕ) → i < n
       → HavePlaces label variables i (width_in tables items i) (length variables)
       (get_or lists i [])
-
--- what contracts see of stored variables
-abbrev pub lists_shown : List (Vec (ℕ × ℕ) Global) → List (List (ℕ × ℕ))
-lists_shown lists = map (λ (v : Vec (ℕ × ℕ) Global). v.items) lists
 
 -- the variables of a query, and of each of its items
 pub record HasVariables (query : Query) (least : List Column)

@@ -1,33 +1,33 @@
 //! Binding a select to tables.
 ghost use Rattle.std.specs.Prelude.{◌≡◌, ◌<◌, ◌≤◌, length, map, IfOk, OnOk, IfErr, None};
+ghost use Rattle.std.specs.Option.{option_or};
 ghost use Rattle.std.specs.List.{AllByRecursion};
 ghost use Rattle.query_select.specs.TextOrder.{AreInTextOrder, columns_of};
 ghost use Rattle.query_bind.specs.Answers.{Tells};
 ghost use Rattle.query_bind.specs.Bind.{bind_fault};
 ghost use Rattle.query_bind.specs.Binding.{bound_query};
-ghost use Rattle.query_bind.specs.Inside.{IsWithin};
-ghost use Rattle.query_bind.specs.Names.{items_of, names_fault, or_else};
-ghost use Rattle.query_bind.specs.FilterViews.{HasFilters, filter_shown};
+ghost use Rattle.bound_query.specs.Inside.{IsWithin};
+ghost use Rattle.query_bind.specs.Names.{items_of, names_fault};
+ghost use Rattle.query_bind.specs.Filters.{HasFilters};
+ghost use Rattle.bound_query.specs.FilterViews.{filter_shown};
 ghost use Rattle.query_bind.specs.Labels.{IsLabelling, least_in};
-ghost use Rattle.query_bind.specs.StoredParts.{column_shown};
+ghost use Rattle.bound_query.specs.StoredParts.{column_shown, lists_shown};
 ghost use Rattle.query_bind.specs.TextOrder.{IsFirstFailing, IsReferenceFault};
-ghost use Rattle.query_bind.specs.Variables.{HasVariables, lists_shown};
-ghost use Rattle.query_bind.specs.WeighedQuery.{Fits, key_parts};
-ghost use Rattle.query_bind.specs.WeighedView.{weighed_shown};
-ghost use Rattle.query_bind.specs.Weights.{range_fault, weights_fault};
+ghost use Rattle.query_bind.specs.Variables.{HasVariables};
+ghost use Rattle.bound_query.specs.WeighedQuery.{Fits, key_parts};
+ghost use Rattle.bound_query.specs.WeighedView.{weighed_shown};
+ghost use Rattle.query_bind.specs.WeightFaults.{range_fault, weights_fault};
 
 use crate::binding::{all_columns, bind_equalities, bind_items, bind_keys, bind_list};
-use crate::bound::ItemWeights;
-use crate::classes::Member;
+use crate::classes::{Member, classes_of};
 use crate::fault::BindFault;
-use crate::filters::{Filter, filters_of};
-use crate::query::Query;
-use crate::selection::Selection;
-use crate::variables::{Variables, find_variables, places_of_all};
+use crate::filters::filters_of;
+use crate::variables::{find_variables, places_of_all};
 use crate::weighing::weigh;
-use csv_tables::Tables;
+use bound_query::{Filter, ItemWeights, Query, Selection, Variables};
 use query_select::select::Select;
 use std::alloc::{AllocError, Global};
+use table_store::Tables;
 
 /// The query with a column for each reference, before its weights are read.
 fn bind_names(
@@ -58,14 +58,7 @@ fn bind_names(
         select.equalities.as_slice(),
     )?;
     let keys = bind_keys(alloc, items.as_slice(), tables, select.keys.as_slice())?;
-    let limit = select.limit;
-    Ok(Selection {
-        items,
-        equalities,
-        keys,
-        list,
-        limit,
-    })
+    Ok(Selection::new(items, equalities, keys, list, select.limit))
 }
 
 /// What the rows add to the keys of a query. The error is the first fault of the weights, or of
@@ -84,13 +77,23 @@ fn weigh_selection(
     ensures range { OnOk result
         (range_fault tables.now selection.now.items selection.now.order ≡ None) }
     ensures fault { IfErr result
-        (Tells (or_else (weights_fault tables.now selection.now.items selection.now.order)
+        (Tells (option_or (weights_fault tables.now selection.now.items selection.now.order)
         (range_fault tables.now selection.now.items selection.now.order))) }
 {
     let _tables = tables.count();
-    let items = selection.items.as_slice();
-    let keys = selection.keys.as_slice();
-    weigh(alloc, items, tables, keys)
+    weigh(
+        alloc,
+        selection.bound_items(),
+        tables,
+        selection.bound_keys(),
+    )
+}
+
+/// The classes that the equalities of a query make.
+fn find_classes(alloc: Global, selection: &Selection) -> Result<Vec<Member>, AllocError>
+    ensures { IfOk result (λ v. IsLabelling selection.now.equalities (least_in v.items)) }
+{
+    classes_of(alloc, selection.equalities())
 }
 
 /// The variables of a query, and those of each of its items.
@@ -107,8 +110,8 @@ fn find_structure(
         (lists_shown v.of_items.items)) }
 {
     let _tables = tables.count();
-    let items = selection.items.as_slice();
-    let equalities = selection.equalities.as_slice();
+    let items = selection.bound_items();
+    let equalities = selection.equalities();
     let columns = all_columns(alloc, items, tables)?;
     let least = find_variables(alloc, classes, equalities, columns.as_slice())?;
     let of_items = places_of_all(alloc, classes, least.as_slice(), items, tables)?;
@@ -127,12 +130,12 @@ fn find_filters(
     ensures { IfOk result (λ v. HasFilters selection.now (map filter_shown v.items)) }
 {
     let _tables = tables.count();
-    let items = selection.items.as_slice();
-    let equalities = selection.equalities.as_slice();
+    let items = selection.bound_items();
+    let equalities = selection.equalities();
     filters_of(alloc, classes, equalities, items, tables)
 }
 
-// The query, or the first fault, in the order of the select's parts.
+/// The query, or the first fault, in the order of the select's parts.
 fn bind_by_parts(
     alloc: Global,
     select: &Select,
@@ -151,16 +154,10 @@ fn bind_by_parts(
 {
     let selection = bind_names(alloc, select, tables, which)?;
     let weighed = weigh_selection(alloc, &selection, tables)?;
-    let classes = selection.classes(alloc)?;
+    let classes = find_classes(alloc, &selection)?;
     let variables = find_structure(alloc, &selection, tables, classes.as_slice())?;
     let filters = find_filters(alloc, &selection, tables, classes.as_slice())?;
-    Ok(Query {
-        selection,
-        weighed,
-        variables,
-        filters,
-        alloc,
-    })
+    Ok(Query::new(alloc, selection, weighed, variables, filters))
 }
 
 /// The query that a select of 1 to 16 items means over tables. `which` has the number of each

@@ -5,16 +5,16 @@ ghost use Rattle.query_bind.specs.Answers.{Tells, equality_fault, key_names_faul
 ghost use Rattle.query_bind.specs.Binding.{bound_column, bound_equality, bound_key, bound_list, bound_side, bound_term, columns_from, item_columns};
 ghost use Rattle.query_bind.specs.Names.{alias_fault, first_of, items_of, ref_fault};
 ghost use Rattle.query_select.specs.TextOrder.{list_columns, side_columns};
-ghost use Rattle.query_bind.specs.StoredParts.{column_shown, equality_shown, items_shown, key_shown, side_shown, term_shown};
-ghost use Rattle.query_bind.specs.declared.bound.BoundItem.{BoundItem};
+ghost use Rattle.bound_query.specs.StoredParts.{column_shown, equality_shown, items_shown, key_shown, side_shown, term_shown};
+ghost use Rattle.bound_query.specs.declared.bound.BoundItem.{BoundItem};
 
-use crate::bound::{BoundEquality, BoundItem, BoundKey, BoundSide, BoundTerm};
 use crate::fault::BindFault;
 use crate::names::{has_alias, look_up};
-use csv_tables::Tables;
+use bound_query::{BoundEquality, BoundItem, BoundKey, BoundSide, BoundTerm};
 use query_select::name::{Bytes, Name};
 use query_select::select::{ColumnRef, Equality, ItemRef, KeyRef, SelectList, Side, Term};
 use std::alloc::{AllocError, Global};
+use table_store::Tables;
 
 /// The items, each with the number of its table.
 pub(crate) fn bind_items(

@@ -1,12 +1,12 @@
 //! The classes of columns that equalities make. Each is known by its least column (quick find).
 ghost use Rattle.std.specs.Prelude.{◌≡◌, ◌↔◌, ◌⊎◌, ◌++◌, ◌∷◌, [], List, IsTrue, IfOk, OnOk, MatchOption, map};
 ghost use Rattle.anyk_model.specs.Query.{Equality, of_column};
-ghost use Rattle.query_bind.specs.Classes.{ColumnBefore};
+ghost use Rattle.bound_query.specs.Classes.{ColumnBefore};
 ghost use Rattle.query_bind.specs.Labels.{HasNoPlace, IsFirstPlace, IsLabelling, least_in, replaced};
-ghost use Rattle.query_bind.specs.StoredParts.{column_shown, equality_shown};
+ghost use Rattle.bound_query.specs.StoredParts.{column_shown, equality_shown};
 ghost use Rattle.query_bind.specs.Relabelling.{with_least};
 
-use crate::bound::{BoundEquality, BoundSide};
+use bound_query::{BoundEquality, BoundSide};
 use std::alloc::{AllocError, Global};
 
 /// A column with the least column of its class. A column that is not listed is the least itself.

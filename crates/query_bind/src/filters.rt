@@ -1,34 +1,19 @@
-//! The tests of an item's rows, which select the rows that pass.
-ghost use Rattle.std.specs.Prelude.{◌≡◌, ◌≤◌, ◌<◌, ◌-◌, ◌↔◌, ◌==◌, ◌&&◌, length, map, IfOk, IsTrue};
+//! The tests that classes make for the rows of items.
+ghost use Rattle.std.specs.Prelude.{◌≡◌, ◌≤◌, ◌<◌, ◌==◌, ◌&&◌, length, map, IfOk};
 ghost use Rattle.std.specs.List.{AllByRecursion, list_any};
 ghost use Rattle.std.specs.Str.{bytes_eq};
-ghost use Rattle.query_bind.specs.declared.filters.Constant.{Constant};
-ghost use Rattle.query_bind.specs.declared.bound.BoundItem.{BoundItem};
-ghost use Rattle.anyk_model.specs.Table.{field_at, table_at};
-ghost use Rattle.query_bind.specs.Filters.{HasConstants, HasEqual, HaveConstants, HavePairs};
-ghost use Rattle.query_bind.specs.FilterViews.{HaveFilters, constant_shown, filter_shown};
+ghost use Rattle.bound_query.specs.declared.filters.Constant.{Constant};
+ghost use Rattle.bound_query.specs.declared.bound.BoundItem.{BoundItem};
+ghost use Rattle.query_bind.specs.Filters.{HaveConstants, HavePairs, HaveFilters};
+ghost use Rattle.bound_query.specs.FilterViews.{constant_shown, filter_shown};
 ghost use Rattle.query_bind.specs.Labels.{least_in};
-ghost use Rattle.query_bind.specs.StoredParts.{equality_shown, items_shown};
+ghost use Rattle.bound_query.specs.StoredParts.{equality_shown, items_shown};
 
-use crate::bound::{BoundEquality, BoundItem, BoundSide};
 use crate::classes::{Member, first_place, least_of};
-use csv_tables::Tables;
+use bound_query::{BoundEquality, BoundItem, BoundSide, Constant, Filter};
 use query_select::name::Bytes;
 use std::alloc::{AllocError, Global};
-
-/// A place of an item, and the constant that it must have.
-#[derive(Drop)]
-pub(crate) struct Constant {
-    place: u32,
-    bytes: Bytes,
-}
-
-/// The tests of an item's rows: places that must be equal, and constants that places must have.
-#[derive(Drop)]
-pub(crate) struct Filter {
-    pairs: Vec<(u32, u32)>,
-    constants: Vec<Constant>,
-}
+use table_store::Tables;
 
 /// Each place of an item with the first place of its class, if that is another one.
 fn pairs_of(
@@ -109,43 +94,6 @@ pub(crate) fn filter_of(
     Ok(Filter { pairs, constants })
 }
 
-/// Whether a row has the same bytes in both places of each pair.
-fn has_pairs(pairs: &[(u32, u32)], tables: &Tables, table: u32, row: u32) -> bool
-    requires table { table < length tables.now }
-    requires first { 1 ≤ row }
-    requires row { row ≤ length (table_at tables.now table).rows }
-    requires left { AllByRecursion (λ p. p.0 < length (table_at tables.now table).names) pairs.now }
-    requires right { AllByRecursion
-        (λ p. p.1 < length (table_at tables.now table).names) pairs.now }
-    ensures { IsTrue result ↔ HasEqual (field_at (table_at tables.now table) (row - 1)) pairs.now }
-{
-    for &(first, place) in pairs {
-        if tables.field(table, row, first) != tables.field(table, row, place) {
-            return false;
-        }
-    }
-    true
-}
-
-/// Whether a row has each constant at its place.
-fn has_constants(constants: &[Constant], tables: &Tables, table: u32, row: u32) -> bool
-    requires table { table < length tables.now }
-    requires first { 1 ≤ row }
-    requires row { row ≤ length (table_at tables.now table).rows }
-    requires places { AllByRecursion
-        (λ c. c.place < length (table_at tables.now table).names) constants.now }
-    ensures { IsTrue result
-        ↔ HasConstants (field_at (table_at tables.now table) (row - 1))
-        (map constant_shown constants.now) }
-{
-    for constant in constants {
-        if tables.field(table, row, constant.place) != constant.bytes.bytes() {
-            return false;
-        }
-    }
-    true
-}
-
 /// The tests of each item's rows.
 pub(crate) fn filters_of(
     alloc: Global,
@@ -166,24 +114,4 @@ pub(crate) fn filters_of(
         filters.push(filter_of(alloc, classes, equalities, i as u32, width)?)?;
     }
     Ok(filters)
-}
-
-/// Whether a row passes the tests of its item.
-pub(crate) fn stands(filter: &Filter, tables: &Tables, table: u32, row: u32) -> bool
-    requires table { table < length tables.now }
-    requires first { 1 ≤ row }
-    requires row { row ≤ length (table_at tables.now table).rows }
-    requires left { AllByRecursion
-        (λ p. p.0 < length (table_at tables.now table).names) filter.now.pairs.items }
-    requires right { AllByRecursion
-        (λ p. p.1 < length (table_at tables.now table).names) filter.now.pairs.items }
-    requires places { AllByRecursion
-        (λ c. c.place < length (table_at tables.now table).names) filter.now.constants.items }
-    ensures { IsTrue result
-        ↔ (HasEqual (field_at (table_at tables.now table) (row - 1)) (filter_shown filter.now).pairs
-        × HasConstants (field_at (table_at tables.now table) (row - 1))
-        (filter_shown filter.now).constants) }
-{
-    has_pairs(filter.pairs.as_slice(), tables, table, row)
-        && has_constants(filter.constants.as_slice(), tables, table, row)
 }

@@ -3,12 +3,12 @@
 //! the distinct columns.
 ghost use Rattle.std.specs.Prelude.{◌≡◌, ◌<◌, ◌+◌, ◌^◌, ◌++◌, ◌∷◌, [], List, map, length, get_or, IfOk, OnOk, IfSome, IfNone};
 ghost use Rattle.anyk_model.specs.Query.{Term};
-ghost use Rattle.query_bind.specs.Parts.{sum_of_all};
-ghost use Rattle.query_bind.specs.StoredParts.{term_shown};
+ghost use Rattle.bound_query.specs.Parts.{sum_of_all};
+ghost use Rattle.bound_query.specs.StoredParts.{term_shown};
 ghost use Rattle.query_bind.specs.Tallies.{AreTallies, StandOnce, columns_of, tally_size, with_one};
 ghost use Rattle.rankings.specs.Order.{IsMember};
 
-use crate::bound::BoundTerm;
+use bound_query::BoundTerm;
 use std::alloc::{AllocError, Global};
 
 /// A column of an order key, with the number of times that it is added and subtracted.

@@ -1,23 +1,15 @@
 //! The variables of a query: classes without a constant that have columns in two items.
 ghost use Rattle.std.specs.Prelude.{◌≡◌, ◌<◌, ◌≤◌, ◌^◌, filter, length, map, IfOk};
 ghost use Rattle.std.specs.List.{AllByRecursion};
-ghost use Rattle.query_bind.specs.declared.bound.BoundItem.{BoundItem};
+ghost use Rattle.bound_query.specs.declared.bound.BoundItem.{BoundItem};
 ghost use Rattle.query_bind.specs.Labels.{least_in};
-ghost use Rattle.query_bind.specs.StoredParts.{column_shown, equality_shown, items_shown};
-ghost use Rattle.query_bind.specs.Variables.{HavePlaces, HavePlacesEach, lists_shown, is_elsewhere, is_fixed, is_fixing, is_other, is_variable};
+ghost use Rattle.bound_query.specs.StoredParts.{column_shown, equality_shown, items_shown, lists_shown};
+ghost use Rattle.query_bind.specs.Variables.{HavePlaces, HavePlacesEach, is_elsewhere, is_fixed, is_fixing, is_other, is_variable};
 
-use crate::bound::{BoundEquality, BoundItem, BoundSide};
 use crate::classes::{Member, first_place, least_of};
-use csv_tables::Tables;
+use bound_query::{BoundEquality, BoundItem, BoundSide};
 use std::alloc::{AllocError, Global};
-
-/// The variables of a query, each by its least column, and the variables of each item by number,
-/// each with the place of its first column there.
-#[derive(Drop)]
-pub(crate) struct Variables {
-    pub(crate) least: Vec<(u32, u32)>,
-    pub(crate) of_items: Vec<Vec<(u32, u32)>>,
-}
+use table_store::Tables;
 
 /// Whether an equality gives a constant to the class with this least column.
 fn fixes(classes: &[Member], least: (u32, u32), equality: &BoundEquality) -> bool

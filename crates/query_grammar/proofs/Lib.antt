@@ -1,4 +1,3 @@
-pub mod SameKind
 pub mod Outcomes
 pub mod Shorter
 pub mod Rules
@@ -7,8 +6,6 @@ pub mod Stuck
 pub mod OneQuery
 pub mod Loops
 pub mod Stepping
-pub mod Strings
-pub mod ScanLength
 pub mod Examples
 pub mod Decimal
 pub mod Limited

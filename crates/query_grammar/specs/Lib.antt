@@ -1,9 +1,5 @@
-pub mod Lexeme
 pub mod Reading
 pub mod Grammar
 pub mod Places
 pub mod FirstFault
-pub mod Tokens
-pub mod Scans
 pub mod Parse
-pub mod Text

@@ -1,8 +1,8 @@
 -- Reading from left to right. An error is what is left when the next token is not allowed.
 use Rattle.std.specs.Prelude.{◌≡◌, ℕ, zero, suc, List, [], ◌∷◌, ◌++◌, length, map, Option, Some, None, Result, Ok, Err, Bool, true, false, if◌then◌else◌, ◌==◌, unwrap_or}
 use Rattle.std.specs.List.{flat_map}
-use Rattle.query_grammar.specs.declared.token.Kind.{Kind}
-use Rattle.query_grammar.specs.declared.token.Kind.TheVariants as kind
+use Rattle.query_tokens.specs.declared.token.Kind.{Kind}
+use Rattle.query_tokens.specs.declared.token.Kind.TheVariants as kind
 use Rattle.query_grammar.specs.declared.fault.ParseFault.{ParseFault}
 use Rattle.query_grammar.specs.declared.fault.ParseFault.TheVariants as fault
 use Rattle.query_select.specs.declared.select.ColumnRef.{ColumnRef}
@@ -15,8 +15,9 @@ use Rattle.query_select.specs.declared.select.Equality.{Equality}
 use Rattle.query_select.specs.declared.select.Term.{Term}
 use Rattle.query_select.specs.declared.select.KeyRef.{KeyRef}
 use Rattle.query_select.specs.declared.select.Select.{Select}
-use Rattle.query_grammar.specs.declared.token.Token.{Token}
-use Rattle.query_grammar.specs.Lexeme.{Lexeme, lexeme}
+use Rattle.query_tokens.specs.declared.token.Token.{Token}
+use Rattle.query_tokens.specs.Kinds.{same}
+use Rattle.query_tokens.specs.Lexeme.{Lexeme, lexeme}
 
 abbrev pub Read : Type 0 → Type 0
 Read A = Result (A × List Lexeme) (List Lexeme)
@@ -51,38 +52,6 @@ abbrev pub Gives : {X Y : Type 0} → ℕ → (X → Y) → Result X ParseFault 
     → Type 0
 Gives end view (Ok x) read = read ≡ Ok (view x)
 Gives end view (Err e) read = Fails end e read
-
--- the place of a kind in the list of all kinds
-abbrev pub number_of : Kind → ℕ
-number_of kind.Select = 0
-number_of kind.From = 1
-number_of kind.Where = 2
-number_of kind.And = 3
-number_of kind.Order = 4
-number_of kind.By = 5
-number_of kind.Limit = 6
-number_of kind.Asc = 7
-number_of kind.Desc = 8
-number_of kind.As = 9
-number_of kind.Join = 10
-number_of kind.Inner = 11
-number_of kind.On = 12
-number_of kind.Union = 13
-number_of kind.All = 14
-number_of kind.Name = 15
-number_of kind.Text = 16
-number_of kind.Digits = 17
-number_of kind.Comma = 18
-number_of kind.Dot = 19
-number_of kind.Equals = 20
-number_of kind.Plus = 21
-number_of kind.Minus = 22
-number_of kind.Star = 23
-number_of kind.Semicolon = 24
-number_of kind.Stray = 25
-
-abbrev pub same : Kind → Kind → Bool
-same a b = number_of a == number_of b
 
 -- the token, if it is of this kind, and those after it
 unfoldable pub expect_at : Kind → List Lexeme → Read Lexeme

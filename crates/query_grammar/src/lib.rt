@@ -1,20 +1,15 @@
 //! The query language: `select` with equi-joins, order keys that are sums of columns, and a limit, and
 //! `union all` between such queries, with one limit for the whole.
 //!
-//! Bytes become tokens, the longest at each place. A reader for each rule of the grammar goes over
-//! them from left to right, and the next token alone decides each choice (LL(1) parsing by
-//! recursive descent). The offset of a syntax fault is where the first token begins after which no
-//! query can go on (the valid prefix property of such parsers). `name_text` writes a name in one
-//! canonical form.
+//! A reader for each rule of the grammar goes over the tokens of `query_tokens` from left to right, and
+//! the next token alone decides each choice (LL(1) parsing by recursive descent). The offset of a syntax
+//! fault is where the first token begins after which no query can go on (the valid prefix property of such
+//! parsers).
 #![tactic(auto)]
 
 pub mod fault;
 mod parsing;
 mod reader;
-mod scanner;
-mod token;
-mod writing;
 
 pub use fault::ParseFault;
 pub use parsing::{MAX_BRANCHES, MAX_BYTES, MAX_ITEMS, MAX_KEYS, parse, parse_all};
-pub use writing::{name_text, push_name};

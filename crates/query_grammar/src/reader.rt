@@ -2,14 +2,15 @@
 
 ghost use Rattle.std.specs.Prelude.{◌≡◌, length, ◌≤◌, ◌++◌, ◌∷◌, [], MatchOption, Some, None, true, IfOk, OnOk, option_copied, Option, Bool, List, ℕ};
 ghost use Rattle.std.specs.Option.{option_map};
-ghost use Rattle.query_grammar.specs.Lexeme.{Lexeme, lexeme, lexemes};
-ghost use Rattle.query_grammar.specs.Reading.{Gives, expect_at, optional_at, place_of, same, column_at, next_column_at, columns_at, list_at, undoubled, undoubled_from, side_at, condition_at, next_condition_at, conditions_at, alias_at, item_at, plain_item_at, joined_item_at, inner_item_at, next_item_at, items_at, where_at, sign_at, term_at, next_term_at, direction_at, terms_at, key_at, next_key_at, keys_at, order_at, limit_at, finish_at, branch_at, query_at, next_branch_at, branches_at, queries_at, some_lexeme};
+ghost use Rattle.query_tokens.specs.Lexeme.{Lexeme, lexeme, lexemes};
+ghost use Rattle.query_grammar.specs.Reading.{Gives, expect_at, optional_at, place_of, column_at, next_column_at, columns_at, list_at, undoubled, undoubled_from, side_at, condition_at, next_condition_at, conditions_at, alias_at, item_at, plain_item_at, joined_item_at, inner_item_at, next_item_at, items_at, where_at, sign_at, term_at, next_term_at, direction_at, terms_at, key_at, next_key_at, keys_at, order_at, limit_at, finish_at, branch_at, query_at, next_branch_at, branches_at, queries_at, some_lexeme, with_left};
+ghost use Rattle.query_tokens.specs.Kinds.{same};
 
 use crate::fault::ParseFault;
-use crate::token::{Kind, Token};
 use query_select::name::{Bytes, Name};
 use query_select::select::{ColumnRef, Equality, ItemRef, KeyRef, Select, SelectList, Side, Term};
 use query_select::sequence::Sequence;
+use query_tokens::{Kind, Token};
 use std::alloc::{AllocError, Global};
 
 fn is_kind(token: &Token<'_>, kind: Kind) -> bool
@@ -62,23 +63,44 @@ fn column<'a, 't>(
     ensures { Gives end (λ x. (x.0, lexemes x.1.now)) result (column_at (lexemes tokens.now)) }
 {
     let (first, rest) = expect(tokens, end, Kind::Name)?;
-    let at = first.at;
     let (dot, rest) = optional(rest, Kind::Dot);
     if dot.is_none() {
-        let column = Name::from_slice(alloc, first.body)?;
-        return Ok((
-            ColumnRef {
-                alias: None,
-                column,
-                at,
-            },
-            rest,
-        ));
+        return Ok((bare_column(alloc, first)?, rest));
     }
     let (second, rest) = expect(rest, end, Kind::Name)?;
-    let alias = Some(Name::from_slice(alloc, first.body)?);
-    let column = Name::from_slice(alloc, second.body)?;
-    Ok((ColumnRef { alias, column, at }, rest))
+    Ok((qualified_column(alloc, first, second)?, rest))
+}
+
+/// A column that is named without an alias.
+fn bare_column(alloc: Global, name: Token<'_>) -> Result<ColumnRef, AllocError>
+    ensures { IfOk result
+        (λ c. c ≡ record { alias = None; column = name.entry.body.now; at = name.entry.at }) }
+{
+    let column = Name::from_slice(alloc, name.body)?;
+    Ok(ColumnRef {
+        alias: None,
+        column,
+        at: name.at,
+    })
+}
+
+/// A column that is named with an alias before it.
+fn qualified_column(
+    alloc: Global,
+    alias: Token<'_>,
+    name: Token<'_>,
+) -> Result<ColumnRef, AllocError>
+    ensures { IfOk result
+        (λ c. c ≡ record {
+          alias = Some alias.entry.body.now;
+          column = name.entry.body.now;
+          at = alias.entry.at;
+        }) }
+{
+    let at = alias.at;
+    let alias = Some(Name::from_slice(alloc, alias.body)?);
+    let column = Name::from_slice(alloc, name.body)?;
+    Ok(ColumnRef { alias, column, at })
 }
 
 #[tactic(auto, unfolding(crate::specs::Reading::next_column_at))]
@@ -205,13 +227,26 @@ fn condition<'a, 't>(
 {
     let (left, rest) = side(alloc, tokens, end)?;
     let (_, rest) = expect(rest, end, Kind::Equals)?;
+    with_left(alloc, left, rest, end)
+}
+
+/// The equality of a left side and the right side behind it. One of the two is a column.
+fn with_left<'a, 't>(
+    alloc: Global,
+    left: Side,
+    tokens: &'t [Token<'a>],
+    end: u32,
+) -> Result<(Equality, &'t [Token<'a>]), ParseFault>
+    ensures { Gives end (λ x. (x.0, lexemes x.1.now)) result
+        (with_left left (lexemes tokens.now)) }
+{
     match left {
         Side::Column(left) => {
-            let (right, rest) = side(alloc, rest, end)?;
+            let (right, rest) = side(alloc, tokens, end)?;
             Ok((Equality { left, right }, rest))
         }
         Side::Constant(bytes) => {
-            let (left, rest) = column(alloc, rest, end)?;
+            let (left, rest) = column(alloc, tokens, end)?;
             let right = Side::Constant(bytes);
             Ok((Equality { left, right }, rest))
         }

@@ -1,31 +1,30 @@
-use Rattle.std.proofs.Common.{◌≡◌, ◌∙◌, sym, ap, subst, map, length, arith, List, ℕ, Vec, Global}
+use Rattle.std.proofs.Common.{◌≡◌, ◌∙◌, sym, ap, subst, map, length, List, ℕ, Vec, Global}
 use Rattle.std.proofs.lemmas.List.{length-map}
-use Rattle.query_bind.specs.declared.filters.Filter.{Filter}
+use Rattle.bound_query.specs.declared.filters.Filter.{Filter}
 use Rattle.std.proofs.lemmas.Result.{IfOk-weaker}
-use Rattle.anyk_model.specs.Query.{Query, Item, Equality}
-use Rattle.query_bind.specs.FilterViews.{HasFilters, HaveFilters, filter_shown}
+use Rattle.anyk_model.specs.Query.{Item, Equality}
+use Rattle.query_bind.specs.Filters.{HasFilters, HaveFilters}
+use Rattle.bound_query.specs.FilterViews.{filter_shown}
 use Rattle.query_bind.specs.Labels.{least_in}
-use Rattle.query_bind.specs.StoredParts.{equality_shown, item_shown, items_shown}
+use Rattle.bound_query.specs.StoredParts.{equality_shown, item_shown, items_shown}
 use Rattle.query_bind.proofs.AllFilters.{has_filters}
 use Rattle.query_bind.proofs.AllVariables.{items_known}
 use Rattle.query_bind.proofs.bind_select.find_filters.Goals as goal
 
 pub filters_of-requires-clause-known : goal.filters_of-requires-clause-known
 filters_of-requires-clause-known c =
-    items_known c.args.selection.now c.args.tables.now c.requires.within c.count-tables.ensures.sound c.as_slice-items.result.now
-    (ap items_shown c.as_slice-items.ensures.value ∙ ap (λ (q : Query). q.items) c.selection.view_is)
-    (omega (arith, ap length c.as_slice-items.ensures.value, c.selection.invariant.items))
+    items_known c.args.selection.now c.args.tables.now c.requires.within c.count-tables.ensures.sound c.bound_items-items.result.now
+    c.bound_items-items.ensures.items c.bound_items-items.ensures.few
 
 pub returns : goal.returns
 returns c =
     let query = c.args.selection.now in
     let tables = c.args.tables.now in
     let label = least_in c.args.classes.now in
-    let items = c.as_slice-items.result.now in
-    let eqs = c.as_slice-equalities.result.now in
-    let items_are : items_shown items ≡ query.items = ap items_shown c.as_slice-items.ensures.value ∙ ap (λ (q : Query). q.items) c.selection.view_is in
-    let eqs_are : map equality_shown eqs ≡ query.equalities =
-    ap (map equality_shown) c.as_slice-equalities.ensures.value ∙ ap (λ (q : Query). q.equalities) c.selection.view_is in
+    let items = c.bound_items-items.result.now in
+    let eqs = c.equalities-equalities.result.now in
+    let items_are : items_shown items ≡ query.items = c.bound_items-items.ensures.items in
+    let eqs_are : map equality_shown eqs ≡ query.equalities = c.equalities-equalities.ensures in
     let count : length items ≡ length query.items = sym (length-map items item_shown) ∙ ap length items_are in
     IfOk-weaker c.filters_of.result (λ (v : Vec Filter Global). HaveFilters label (map equality_shown eqs) tables (items_shown items) (length items) (map filter_shown v.items))
     (λ (v : Vec Filter Global). HasFilters query (map filter_shown v.items))

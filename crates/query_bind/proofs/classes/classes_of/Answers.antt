@@ -1,8 +1,8 @@
 use Rattle.std.proofs.Common.{[], sym, subst, map, take, List}
 use Rattle.std.proofs.lemmas.List.{take_all}
 use Rattle.query_bind.specs.Labels.{IsLabelling, least_in}
-use Rattle.query_bind.specs.StoredParts.{equality_shown}
-use Rattle.query_bind.specs.declared.bound.BoundEquality.{BoundEquality}
+use Rattle.bound_query.specs.StoredParts.{equality_shown}
+use Rattle.bound_query.specs.declared.bound.BoundEquality.{BoundEquality}
 use Rattle.query_bind.specs.declared.classes.Member.{Member}
 use Rattle.query_bind.proofs.Labels.{labels_more, labels_none}
 use Rattle.query_bind.proofs.classes.classes_of.Goals as goal

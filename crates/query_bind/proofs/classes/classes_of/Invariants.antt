@@ -1,6 +1,6 @@
 use Rattle.std.proofs.Common.{take, map}
 use Rattle.query_bind.specs.Labels.{IsLabelling, least_in}
-use Rattle.query_bind.specs.StoredParts.{equality_shown}
+use Rattle.bound_query.specs.StoredParts.{equality_shown}
 use Rattle.query_bind.proofs.classes.classes_of.Given as goal
 
 abbrev pub invariant-loop-equality : goal.invariant-loop-equality

@@ -1,5 +1,5 @@
 use Rattle.query_bind.specs.Labels.{HasNoPlace, least_in}
-use Rattle.query_bind.specs.StoredParts.{column_shown}
+use Rattle.bound_query.specs.StoredParts.{column_shown}
 use Rattle.query_bind.proofs.classes.first_place.Given as goal
 
 abbrev pub invariant-loop-place : goal.invariant-loop-place

@@ -2,7 +2,7 @@ use Rattle.std.proofs.Common.{◌≡◌, ◌++◌, ◌∷◌, [], ◌∙◌, sym
 use Rattle.std.proofs.lemmas.List.{length-map}
 use Rattle.query_bind.specs.Labels.{IsLabelling, least_in}
 use Rattle.query_bind.specs.Relabelling.{with_least}
-use Rattle.query_bind.specs.StoredParts.{column_shown}
+use Rattle.bound_query.specs.StoredParts.{column_shown}
 use Rattle.query_bind.specs.declared.classes.Member.{Member}
 use Rattle.query_bind.proofs.Labels.{joins, labels_alike, written_back}
 use Rattle.query_bind.proofs.Order.{same_true}

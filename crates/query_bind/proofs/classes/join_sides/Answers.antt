@@ -1,7 +1,7 @@
 use Rattle.std.proofs.Common.{ap, refl}
 use Rattle.std.proofs.lemmas.Result.{on_ok_weaker}
 use Rattle.query_bind.specs.Labels.{least_in}
-use Rattle.query_bind.specs.StoredParts.{equality_shown, side_shown}
+use Rattle.bound_query.specs.StoredParts.{equality_shown, side_shown}
 use Rattle.query_bind.proofs.Labels.{labels_stay}
 use Rattle.query_bind.proofs.classes.join_sides.Goals as goal
 

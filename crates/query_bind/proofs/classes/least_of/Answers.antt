@@ -1,5 +1,5 @@
 use Rattle.std.proofs.Common.{◌∙◌, sym}
-use Rattle.query_bind.specs.StoredParts.{column_shown}
+use Rattle.bound_query.specs.StoredParts.{column_shown}
 use Rattle.query_bind.proofs.Labels.{listed_end, listed_turn}
 use Rattle.query_bind.proofs.classes.least_of.Goals as goal
 use Rattle.std.proofs.Common.{true, false}

@@ -1,6 +1,6 @@
 use Rattle.std.proofs.Common.{◌≡◌, drop}
 use Rattle.query_bind.specs.Labels.{least_in, listed}
-use Rattle.query_bind.specs.StoredParts.{column_shown}
+use Rattle.bound_query.specs.StoredParts.{column_shown}
 use Rattle.query_bind.proofs.classes.least_of.Given as goal
 
 abbrev pub invariant-loop-member : goal.invariant-loop-member

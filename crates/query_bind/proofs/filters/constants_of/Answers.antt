@@ -1,12 +1,12 @@
 use Rattle.std.proofs.Common.{◌≡◌, ◌+◌, ◌∙◌, sym, ap, subst, map, take, ◌++◌, ◌∷◌, [], ℕ, List}
 use Rattle.std.proofs.lemmas.List.{map-append}
 use Rattle.anyk_model.specs.Query.{Column, Equality, of_column, of_constant}
-use Rattle.query_bind.specs.FilterViews.{constant_shown}
+use Rattle.bound_query.specs.FilterViews.{constant_shown}
 use Rattle.query_bind.specs.Filters.{HaveConstants}
 use Rattle.query_bind.specs.Labels.{HasNoPlace, IsFirstPlace, least_in}
-use Rattle.query_bind.specs.StoredParts.{column_shown, equality_shown, side_shown}
+use Rattle.bound_query.specs.StoredParts.{column_shown, equality_shown, side_shown}
 use Rattle.rankings.specs.Order.{IsMember}
-use Rattle.query_bind.specs.declared.filters.Constant.{Constant}
+use Rattle.bound_query.specs.declared.filters.Constant.{Constant}
 use Rattle.query_bind.proofs.Filtering.{constants_again, constants_more, constants_skip, equalities_more, listed_member}
 use Rattle.query_bind.proofs.filters.constants_of.Goals as goal
 

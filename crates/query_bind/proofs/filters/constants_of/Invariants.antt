@@ -1,8 +1,8 @@
 use Rattle.std.proofs.Common.{map, take}
-use Rattle.query_bind.specs.FilterViews.{constant_shown}
+use Rattle.bound_query.specs.FilterViews.{constant_shown}
 use Rattle.query_bind.specs.Filters.{HaveConstants}
 use Rattle.query_bind.specs.Labels.{least_in}
-use Rattle.query_bind.specs.StoredParts.{equality_shown}
+use Rattle.bound_query.specs.StoredParts.{equality_shown}
 use Rattle.query_bind.proofs.filters.constants_of.Given as goal
 
 abbrev pub invariant-loop-equality : goal.invariant-loop-equality

@@ -1,8 +1,9 @@
 use Rattle.std.proofs.Common.{sym, subst, map, ◌+◌, List}
-use Rattle.query_bind.specs.FilterViews.{HaveFilters, filter_shown}
+use Rattle.query_bind.specs.Filters.{HaveFilters}
+use Rattle.bound_query.specs.FilterViews.{filter_shown}
 use Rattle.query_bind.specs.Labels.{least_in}
-use Rattle.query_bind.specs.StoredParts.{equality_shown, items_shown}
-use Rattle.query_bind.specs.declared.filters.Filter.{Filter}
+use Rattle.bound_query.specs.StoredParts.{equality_shown, items_shown}
+use Rattle.bound_query.specs.declared.filters.Filter.{Filter}
 use Rattle.query_bind.proofs.AllFilters.{filters_more}
 use Rattle.query_bind.proofs.filters.filters_of.Goals as goal
 

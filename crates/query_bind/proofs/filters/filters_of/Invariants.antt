@@ -1,7 +1,8 @@
 use Rattle.std.proofs.Common.{map}
-use Rattle.query_bind.specs.FilterViews.{HaveFilters, filter_shown}
+use Rattle.query_bind.specs.Filters.{HaveFilters}
+use Rattle.bound_query.specs.FilterViews.{filter_shown}
 use Rattle.query_bind.specs.Labels.{least_in}
-use Rattle.query_bind.specs.StoredParts.{equality_shown, items_shown}
+use Rattle.bound_query.specs.StoredParts.{equality_shown, items_shown}
 use Rattle.query_bind.proofs.filters.filters_of.Given as goal
 
 abbrev pub invariant-loop-i : goal.invariant-loop-i

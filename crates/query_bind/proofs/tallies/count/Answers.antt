@@ -1,7 +1,7 @@
 use Rattle.std.proofs.Common.{◌≡◌, ◌<◌, ◌+◌, ◌*◌, ◌++◌, ◌∷◌, ◌∙◌, [], List, length, get_or, set, refl, sym, ap, subst, arith}
 use Rattle.anyk_model.specs.Query.{Column}
 use Rattle.rankings.specs.Order.{IsMember}
-use Rattle.query_bind.specs.StoredParts.{column_shown, term_shown}
+use Rattle.bound_query.specs.StoredParts.{column_shown, term_shown}
 use Rattle.query_bind.specs.Tallies.{AreTallies, StandOnce, columns_of, tally_size, with_one}
 use Rattle.query_bind.specs.declared.tallies.Tally.{Tally}
 use Rattle.query_bind.proofs.Tallying.{at_most_sum, once_again, once_first, tallies_again, tallies_first}

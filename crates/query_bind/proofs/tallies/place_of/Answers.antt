@@ -5,7 +5,7 @@ use Rattle.std.proofs.lemmas.Bool.{and_from}
 use Rattle.rankings.specs.Order.{IsMember}
 use Rattle.query_bind.specs.Tallies.{columns_of}
 use Rattle.query_bind.specs.declared.tallies.Tally.{Tally}
-use Rattle.query_bind.proofs.Lists.{member_parts}
+use Rattle.rankings.proofs.Members.{member_parts}
 use Rattle.query_bind.proofs.tallies.place_of.Goals as goal
 
 pub loop-i-preserved : goal.loop-i-preserved

@@ -1,9 +1,9 @@
 use Rattle.std.proofs.Common.{◌∙◌, ◌∷◌, [], ap, sym, subst, map, take, get_or, false, arith, List}
 use Rattle.std.proofs.lemmas.List.{length-map, length-take, map-append, take_all, take_more}
 use Rattle.anyk_model.specs.Query.{Column, Term}
-use Rattle.query_bind.specs.StoredParts.{term_shown}
+use Rattle.bound_query.specs.StoredParts.{term_shown}
 use Rattle.query_bind.specs.Tallies.{AreTallies, StandOnce, columns_of}
-use Rattle.query_bind.specs.declared.bound.BoundTerm.{BoundTerm}
+use Rattle.bound_query.specs.declared.bound.BoundTerm.{BoundTerm}
 use Rattle.query_bind.specs.declared.tallies.Tally.{Tally}
 use Rattle.query_bind.proofs.Tallying.{ones_length, tallies_none}
 use Rattle.query_bind.proofs.tallies.tallies_of.Goals as goal

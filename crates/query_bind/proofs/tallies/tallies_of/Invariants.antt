@@ -1,5 +1,5 @@
 use Rattle.std.proofs.Common.{take, map}
-use Rattle.query_bind.specs.StoredParts.{term_shown}
+use Rattle.bound_query.specs.StoredParts.{term_shown}
 use Rattle.query_bind.specs.Tallies.{AreTallies, StandOnce, columns_of}
 use Rattle.query_bind.proofs.tallies.tallies_of.Given as goal
 

@@ -2,7 +2,7 @@ use Rattle.std.proofs.Common.{sym, subst, map, length, ℕ, List}
 use Rattle.std.proofs.Common.{◌+◌, arith, ◌≡◌}
 use Rattle.anyk_model.specs.Query.{Column}
 use Rattle.query_bind.specs.Labels.{HasNoPlace, IsFirstPlace, least_in}
-use Rattle.query_bind.specs.StoredParts.{column_shown}
+use Rattle.bound_query.specs.StoredParts.{column_shown}
 use Rattle.query_bind.specs.Variables.{HavePlaces}
 use Rattle.query_bind.proofs.VariablesFound.{places_more, places_none, places_skip, variable_shown}
 use Rattle.query_bind.proofs.variables.places_of.Goals as goal

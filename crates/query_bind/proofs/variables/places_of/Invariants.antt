@@ -1,6 +1,6 @@
 use Rattle.std.proofs.Common.{map}
 use Rattle.query_bind.specs.Labels.{least_in}
-use Rattle.query_bind.specs.StoredParts.{column_shown}
+use Rattle.bound_query.specs.StoredParts.{column_shown}
 use Rattle.query_bind.specs.Variables.{HavePlaces}
 use Rattle.query_bind.proofs.variables.places_of.Given as goal
 

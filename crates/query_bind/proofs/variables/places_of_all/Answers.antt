@@ -1,7 +1,7 @@
 use Rattle.std.proofs.Common.{sym, subst, map, ◌+◌, List, Vec, Global, ℕ}
 use Rattle.query_bind.specs.Labels.{least_in}
-use Rattle.query_bind.specs.StoredParts.{column_shown, items_shown}
-use Rattle.query_bind.specs.Variables.{HavePlacesEach, lists_shown}
+use Rattle.bound_query.specs.StoredParts.{column_shown, items_shown, lists_shown}
+use Rattle.query_bind.specs.Variables.{HavePlacesEach}
 use Rattle.query_bind.proofs.AllVariables.{each_more}
 use Rattle.query_bind.proofs.variables.places_of_all.Goals as goal
 

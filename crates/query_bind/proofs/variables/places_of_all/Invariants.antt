@@ -1,7 +1,7 @@
 use Rattle.std.proofs.Common.{map}
 use Rattle.query_bind.specs.Labels.{least_in}
-use Rattle.query_bind.specs.StoredParts.{column_shown, items_shown}
-use Rattle.query_bind.specs.Variables.{HavePlacesEach, lists_shown}
+use Rattle.bound_query.specs.StoredParts.{column_shown, items_shown, lists_shown}
+use Rattle.query_bind.specs.Variables.{HavePlacesEach}
 use Rattle.query_bind.proofs.variables.places_of_all.Given as goal
 
 abbrev pub invariant-loop-i : goal.invariant-loop-i

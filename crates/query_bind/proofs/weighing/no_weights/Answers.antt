@@ -1,8 +1,8 @@
 use Rattle.std.proofs.Common.{◌∙◌, ◌∷◌, ◌++◌, [], ap, map, replicate, List, ℤ}
 use Rattle.std.proofs.lemmas.List.{map-append, replicate_more}
-use Rattle.query_bind.specs.WeighedQuery.{ItemParts}
-use Rattle.query_bind.specs.WeighedView.{item_weights_shown}
-use Rattle.query_bind.specs.declared.bound.ItemWeights.{ItemWeights}
+use Rattle.bound_query.specs.WeighedQuery.{ItemParts}
+use Rattle.bound_query.specs.WeighedView.{item_weights_shown}
+use Rattle.bound_query.specs.declared.bound.ItemWeights.{ItemWeights}
 use Rattle.query_bind.proofs.weighing.no_weights.Goals as goal
 
 pub loop-preserved : goal.loop-preserved

@@ -1,5 +1,5 @@
 use Rattle.std.proofs.Common.{◌≡◌, [], replicate}
-use Rattle.query_bind.specs.WeighedView.{weighed_shown}
+use Rattle.bound_query.specs.WeighedView.{weighed_shown}
 use Rattle.query_bind.proofs.weighing.no_weights.Given as goal
 
 abbrev pub invariant-loop : goal.invariant-loop

@@ -2,7 +2,7 @@ use Rattle.std.proofs.Common.{◌≡◌, ◌≤◌, ◌+ℤ◌, ◌*ℤ◌, ◌�
 use mir.Syntax.{w128}
 use mir.Val.{of_z, to_z}
 use Rattle.std.proofs.lemmas.Int.{ints, to_z-of_z}
-use Rattle.query_bind.specs.Weights.{most_sum}
+use Rattle.bound_query.specs.Weights.{most_sum}
 use Rattle.query_bind.proofs.weighing.part_with.Goals as goal
 
 small : (z : ℤ) → nat_abs z ≤ most_sum → SFits w128 z

@@ -6,7 +6,7 @@ use Rattle.std.proofs.lemmas.List.{map-append, take_all, take_more}
 use Rattle.anyk_model.specs.Table.{table_at}
 use Rattle.query_bind.specs.declared.fault.BindFault.TheVariants as fault
 use Rattle.query_bind.specs.Measures.{HasMeasured}
-use Rattle.query_bind.specs.Weights.{weights_in}
+use Rattle.bound_query.specs.Weights.{weights_in}
 use Rattle.query_bind.proofs.Measuring.{measured_more, missing_there, most_is, none_missing, weight_at, weights_length}
 use Rattle.query_bind.proofs.weighing.read_column.Goals as goal
 

@@ -1,7 +1,7 @@
 use Rattle.std.proofs.Common.{◌≡◌, map, take, Some}
 use Rattle.anyk_model.specs.Table.{table_at}
 use Rattle.query_bind.specs.Measures.{HasMeasured}
-use Rattle.query_bind.specs.Weights.{weights_in}
+use Rattle.bound_query.specs.Weights.{weights_in}
 use Rattle.query_bind.proofs.weighing.read_column.Given as goal
 
 abbrev pub invariant-loop-i : goal.invariant-loop-i

@@ -4,7 +4,7 @@ use mir.Val.{of_z, to_z}
 use Rattle.std.proofs.lemmas.Int.{to_z-of_z}
 use Rattle.std.proofs.lemmas.List.FromFn.{map-range_with_len_more}
 use Rattle.std.proofs.lemmas.Result.{IfOk-from_err}
-use Rattle.query_bind.specs.Weights.{most_sum}
+use Rattle.bound_query.specs.Weights.{most_sum}
 use Rattle.query_bind.proofs.weighing.sums_with.Goals as goal
 
 pub part_with-requires-clause-product : goal.part_with-requires-clause-product

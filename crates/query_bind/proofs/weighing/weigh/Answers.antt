@@ -4,11 +4,11 @@ use Rattle.std.proofs.lemmas.Result.{err_from_is_err_and}
 use Rattle.anyk_model.specs.Query.{OrderKey}
 use Rattle.query_bind.specs.Fits.{KeysInside}
 use Rattle.query_bind.specs.Measures.{HasKeys}
-use Rattle.query_bind.specs.StoredParts.{items_shown, key_shown}
-use Rattle.query_bind.specs.WeighedQuery.{ItemParts, key_parts}
-use Rattle.query_bind.specs.WeighedView.{weighed_shown}
+use Rattle.bound_query.specs.StoredParts.{items_shown, key_shown}
+use Rattle.bound_query.specs.WeighedQuery.{ItemParts, key_parts}
+use Rattle.bound_query.specs.WeighedView.{weighed_shown}
 use Rattle.query_bind.proofs.Measuring.{all_sound, keys_fault, keys_more, no_key_met, none_past, one_past}
-use Rattle.query_bind.proofs.Search.{all_at}
+use Rattle.bound_query.proofs.Lists.{all_at}
 use Rattle.query_bind.proofs.weighing.weigh.Goals as goal
 
 pub returns-in_err-sum-clause-fault : goal.returns-in_err-sum-clause-fault

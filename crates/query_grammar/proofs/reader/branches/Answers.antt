@@ -1,6 +1,6 @@
 use Rattle.std.proofs.Common.{true}
 use Rattle.std.proofs.lemmas.Result.{err_from_is_err_and}
-use Rattle.query_grammar.specs.Lexeme.{lexemes}
+use Rattle.query_tokens.specs.Lexeme.{lexemes}
 use Rattle.query_grammar.specs.Reading.{branches_at}
 use Rattle.query_grammar.proofs.Loops.{goes_on, ends, is_done}
 use Rattle.query_grammar.proofs.Stepping.{branch_steps, fewer}

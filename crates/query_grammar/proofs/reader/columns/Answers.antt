@@ -1,5 +1,5 @@
 use Rattle.std.proofs.lemmas.Result.{err_from_is_err_and}
-use Rattle.query_grammar.specs.Lexeme.{lexemes}
+use Rattle.query_tokens.specs.Lexeme.{lexemes}
 use Rattle.query_grammar.specs.Reading.{columns_at}
 use Rattle.query_grammar.proofs.Loops.{goes_on, ends, is_done}
 use Rattle.query_grammar.proofs.Stepping.{column_steps, fewer}

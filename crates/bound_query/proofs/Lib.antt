@@ -1,0 +1,9 @@
+pub mod GraphOf
+pub mod Inside
+pub mod Least
+pub mod Lists
+pub mod Parts
+pub mod Range
+pub mod Readers
+pub mod RowTests
+pub mod Witness

@@ -1,0 +1,13 @@
+pub mod Classes
+pub mod FilterViews
+pub mod Filters
+pub mod Graph
+pub mod Inside
+pub mod Items
+pub mod Parts
+pub mod QueryView
+pub mod StoredParts
+pub mod View
+pub mod WeighedQuery
+pub mod WeighedView
+pub mod Weights

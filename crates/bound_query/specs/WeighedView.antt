@@ -1,0 +1,11 @@
+-- What contracts see of stored weights.
+use Rattle.std.specs.Prelude.{List, map, Vec}
+use Rattle.std.specs.Global.{Global}
+use Rattle.bound_query.specs.WeighedQuery.{ItemParts}
+use Rattle.bound_query.specs.declared.bound.ItemWeights.{ItemWeights}
+
+abbrev pub item_weights_shown : ItemWeights → ItemParts
+item_weights_shown w = record { cap = w.cap; parts = w.parts.items }
+
+abbrev pub weighed_shown : Vec ItemWeights Global → List ItemParts
+weighed_shown v = map item_weights_shown v.items

@@ -1,0 +1,3 @@
+pub mod SameKind
+pub mod Strings
+pub mod ScanLength

@@ -1,0 +1,5 @@
+pub mod Kinds
+pub mod Lexeme
+pub mod Tokens
+pub mod Scans
+pub mod Text

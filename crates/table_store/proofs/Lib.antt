@@ -1,0 +1,10 @@
+pub mod Cuts
+pub mod Digits
+pub mod Fronts
+pub mod Kept
+pub mod Numbers
+pub mod Own
+pub mod Packed
+pub mod Places
+pub mod Stands
+pub mod Weights

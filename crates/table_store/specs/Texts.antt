@@ -1,0 +1,7 @@
+-- The texts that a set keeps.
+use Rattle.std.specs.Prelude.{ℕ, List}
+use Rattle.table_store.specs.declared.texts.Texts.TheInside.{Inside}
+
+-- in the order of their numbers
+abbrev pub texts_of : Inside → List (List ℕ)
+texts_of a = a.set.keys

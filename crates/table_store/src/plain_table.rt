@@ -1,0 +1,81 @@
+//! A table whose fields have no numbers yet.
+ghost use Rattle.std.specs.Prelude.{◌≡◌, ◌<◌, ◌∷◌, [], IfOk, OnErr, OnOk, length};
+ghost use Rattle.csv.specs.Records.{fields_of};
+ghost use Rattle.anyk_model.specs.Table.{table_of};
+ghost use Rattle.table_store.specs.PlainTables.{with_row};
+ghost use Rattle.table_store.specs.StoredTables.{IsStored, shown};
+ghost use Rattle.table_store.specs.Values.{Extends, lists_of, with_rows};
+
+use crate::fields::FieldList;
+use crate::stored::{StoredRows, StoredTable};
+use crate::texts::Texts;
+use csv::ByteRecord;
+use std::alloc::Global;
+use std::marker::Model;
+use step_counter::NoMemory;
+
+/// A table that is filled row by row, before it is put among the tables of a query.
+#[derive(Drop)]
+pub struct PlainTable {
+    names: Vec<Vec<u8>>,
+    count: usize,
+    fields: FieldList,
+}
+
+impl Model for PlainTable {
+    ghost use Rattle.anyk_model.specs.Table.{Table};
+    ghost use Rattle.table_store.specs.PlainTables.{IsWhole, table_shown};
+
+    ghost Value = { Table };
+
+    ghost view = { table_shown };
+
+    ghost invariant = { IsWhole };
+}
+
+impl PlainTable {
+    /// A table of columns with these names, without rows. Takes no memory.
+    pub fn new(alloc: Global, names: Vec<Vec<u8>>) -> PlainTable
+        ensures { result ≡ table_of (lists_of names.items ∷ []) }
+    {
+        PlainTable {
+            names,
+            count: 0,
+            fields: FieldList::new(alloc),
+        }
+    }
+
+    /// Adds the fields of a record as a row. After a refusal of memory the table is as before.
+    pub fn push_row(&mut self, row: &ByteRecord) -> Result<(), NoMemory>
+        requires few { length self.old.rows < 1048576 }
+        requires width { length (fields_of row.now) ≡ length self.old.names }
+        ensures added { OnOk result (self.new ≡ with_row self.old (fields_of row.now)) }
+        ensures err { OnErr result (self.new ≡ self.old) }
+    {
+        self.fields.push_record(row)?;
+        self.count += 1;
+        Ok(())
+    }
+
+    /// The table as it is stored, with the numbers of its fields. Its new texts are added after the others, and some of
+    /// them may be if memory is refused.
+    pub(crate) fn store(self, texts: &mut Texts) -> Result<StoredTable, NoMemory>
+        ensures shown { IfOk result (λ t. shown t ≡ self) }
+        ensures stored { IfOk result (IsStored texts.new) }
+        ensures texts { OnOk result (texts.new ≡ with_rows texts.old self.rows) }
+        ensures err { OnErr result (Extends texts.old texts.new) }
+    {
+        let PlainTable {
+            names,
+            count,
+            fields,
+        } = self;
+        let cells = texts.numbers(&fields)?;
+        let rows = StoredRows {
+            count,
+            cells,
+            fields,
+        };
+        Ok(StoredTable { names, rows })
+    }
+}
