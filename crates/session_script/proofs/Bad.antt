@@ -1,12 +1,13 @@
 -- The line that is told as bad says no step, and each line before it says one.
 use Rattle.std.proofs.Common.{◌≡◌, ℕ, ◌+◌, List, [], ◌∷◌, ◌++◌, length, Option, Some, None, Result, Ok, Err, Bool, true, false, cond, leb, refl, ap, ◌⊎◌, inl, inr, arith}
+use Rattle.std.specs.Option.{option_or}
 use Rattle.session_script.specs.declared.step.Step.{Step}
 use Rattle.session_script.specs.declared.step.Step.TheVariants.{Open, Next, Fork, Rewind, Close}
 use Rattle.session_script.specs.declared.fault.ScriptFault.{ScriptFault}
 use Rattle.session_script.specs.declared.fault.ScriptFault.TheVariants.{TooManyLines, BadLine, UnknownCursor, CursorExists, TooManyOpen, NoMemory}
 use Rattle.session_script.specs.Words.{is_skipped, step_of}
 use Rattle.session_script.specs.Forms.{Says, IsBadLine, NamesBadLine}
-use Rattle.session_script.specs.Script.{is_open, names_after, known_fault, new_fault, first_fault, fault_of, unless, turn_by, turn, onto, then_onto, steps_from, Fails}
+use Rattle.session_script.specs.Script.{is_open, names_after, known_fault, new_fault, fault_of, unless, turn_by, turn, onto, then_onto, steps_from, Fails}
 use Rattle.session_script.proofs.Said.{said_by}
 use Rattle.session_script.proofs.Kept.{turn_said}
 
@@ -29,7 +30,7 @@ new_other : (line : ℕ) (names : List (List ℕ)) (name : List ℕ) (n : ℕ) �
 unfolding new_fault
 new_other line names name n h = new_by (is_open names name) (leb 64 (length names)) line n h
 
-first_is : (a b : Option ScriptFault) (e : ScriptFault) → first_fault a b ≡ Some e → (a ≡ Some e) ⊎ (b ≡ Some e)
+first_is : (a b : Option ScriptFault) (e : ScriptFault) → option_or a b ≡ Some e → (a ≡ Some e) ⊎ (b ≡ Some e)
 first_is (Some d) b e h = inl h
 first_is None b e h = inr h
 

@@ -1,5 +1,6 @@
 -- What the steps of every script keep.
 use Rattle.std.proofs.Common.{◌≡◌, ℕ, ◌+◌, ◌<◌, ◌≤◌, List, [], ◌∷◌, length, Option, Some, None, Result, Ok, Err, Bool, true, false, cond, leb, not, refl, ap, arith, length-append}
+use Rattle.std.specs.Option.{option_or}
 use Rattle.std.specs.Str.{bytes_eq}
 use Rattle.std.proofs.lemmas.Bool.{leb-false}
 use Rattle.session_script.specs.declared.step.Step.{Step}
@@ -9,7 +10,7 @@ use Rattle.session_script.specs.declared.fault.ScriptFault.TheVariants.{UnknownC
 use Rattle.session_script.specs.Words.{is_skipped, step_of}
 use Rattle.session_script.specs.Forms.{Says, SayEach, said_lines}
 use Rattle.session_script.proofs.Said.{sound}
-use Rattle.session_script.specs.Script.{is_open, names_without, names_after, known_fault, new_fault, first_fault, fault_of, unless, turn_by, turn, onto, then_onto, steps_from, Fits, KeepsRules}
+use Rattle.session_script.specs.Script.{is_open, names_without, names_after, known_fault, new_fault, fault_of, unless, turn_by, turn, onto, then_onto, steps_from, Fits, KeepsRules}
 
 known_by : (b : Bool) (e : ScriptFault) → cond b None (Some e) ≡ None → b ≡ true
 known_by true e h = refl
@@ -30,7 +31,7 @@ fresh line names name h =
     let b = new_by (is_open names name) (leb 64 (length names)) (CursorExists line) (TooManyOpen line) h in
     (b.0, omega (arith, leb-false _ _ b.1))
 
-both_none : (a b : Option ScriptFault) → first_fault a b ≡ None → (a ≡ None) × (b ≡ None)
+both_none : (a b : Option ScriptFault) → option_or a b ≡ None → (a ≡ None) × (b ≡ None)
 both_none (Some e) b h = absurd cc
 both_none None b h = (refl, h)
 

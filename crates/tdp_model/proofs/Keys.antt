@@ -4,7 +4,7 @@ use Rattle.std.proofs.Common.{◌≡◌, ℕ, zero, suc, ◌<◌, ◌≤◌, Lis
 use Rattle.rankings.specs.Order.{IsOrder, IsMember, IsAscending}
 use Rattle.tdp_model.specs.KeyLaws.{IsKeys}
 use Rattle.tdp_model.specs.Remains.{AtMost}
-use Rattle.rankings.proofs.Members.{below_member}
+use Rattle.rankings.proofs.Members.{below_member, get_member}
 
 pub at_most_trans : {K : Type 0} (Below : K → K → Type 0) (o : IsOrder K Below) (a b c : K) → AtMost Below a b → AtMost Below b c → AtMost Below a c
 at_most_trans Below o a b c (inl p) (inl q) = inl (o.transitive a b c p q)
@@ -46,16 +46,6 @@ module _ {K : Type 0} (Below : K → K → Type 0) (add : K → K → K) (none :
       above : (x y : K) → Below x y → AtMost Below y x → ⊥
       above x y p (inl q) = keys.order.irreflexive x (keys.order.transitive x y x p q)
       above x y p (inr e) = keys.order.irreflexive x (subst (λ z. Below x z) e p)
-
-pub get_member : {K : Type 0} (xs : List K) (i : ℕ) (d : K) → i < length xs → IsMember (get_or xs i d) xs
-get_member [] i d l = absurd (omega arith)
-get_member (x ∷ xs) zero d l = inl refl
-get_member (x ∷ xs) (suc i) d l = inr (get_member xs i d (omega arith))
-
-pub member_get : {K : Type 0} (xs : List K) (k d : K) → IsMember k xs → (i : ℕ) × (i < length xs) × (get_or xs i d ≡ k)
-member_get [] k d m = absurd m
-member_get (x ∷ xs) k d (inl e) = (0, omega arith, sym e)
-member_get (x ∷ xs) k d (inr m) = let r : (i : ℕ) × (i < length xs) × (get_or xs i d ≡ k) = member_get xs k d m in (suc r.0, omega arith, r.2)
 
 pub ascending_below : {K : Type 0} (Below : K → K → Type 0) (xs : List K) (i j : ℕ) (d : K) → IsAscending Below xs → i < j → j < length xs → Below (get_or xs i d) (get_or xs j d)
 ascending_below Below [] i j d a l m = absurd (omega arith)

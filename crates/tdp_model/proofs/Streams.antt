@@ -6,7 +6,8 @@ use Rattle.rankings.specs.Order.{IsOrder, IsAscending, IsRanking}
 use Rattle.tdp_model.specs.KeyLaws.{IsKeys}
 use Rattle.tdp_model.specs.Remains.{AtMost, Remains, total, IsLeastKey}
 use Rattle.tdp_model.specs.Product.{Pair, pair_key, is_pair, stands_for, same_pair, offered, is_run, runs_to, run_key, run_after}
-use Rattle.tdp_model.proofs.Keys.{get_member, member_get, ascending_below, at_most_trans}
+use Rattle.tdp_model.proofs.Keys.{ascending_below, at_most_trans}
+use Rattle.rankings.proofs.Members.{get_member, member_get}
 use Rattle.tdp_model.proofs.Products.{product_divided}
 use Rattle.tdp_model.proofs.Runs.{run_divided}
 use Rattle.tdp_model.proofs.Queues.{queue_next}

@@ -10,3 +10,4 @@ pub mod Below
 pub mod KeyTuple
 pub mod Laws
 pub mod KeyNumbers
+pub mod NodeRows

@@ -1,6 +1,6 @@
 -- The head of the ranking of a tree's solutions is the best of the row at place 0 of the root's group.
 use Rattle.std.proofs.Common.{◌≡◌, ℕ, suc, ◌-◌, ◌<◌, Some, List, [], ◌∷◌, ◌++◌, length, get_or, slice_get, refl, sym, ap, subst, inl, inr, arith}
-use Rattle.rankings.specs.Order.{IsMember, BelowAll}
+use Rattle.rankings.proofs.Members.{below_member}
 use Rattle.tdp_model.specs.Remains.{AtMost}
 use Rattle.tdp_model.specs.Regions.{completes, stands, place_of}
 use Rattle.tdp_model.specs.KeyTuple.{KeyOf, key_below, key_add, key_none}
@@ -15,11 +15,6 @@ use Rattle.tdp_core.specs.TreeData.{NodeData, node_at, parent, group_count, memb
 use Rattle.tdp_core.specs.Solutions.{IsTreeRanking}
 use Rattle.tdp_core.specs.WellFormed.{IsFormed}
 use Rattle.tdp_core.proofs.TreeFacts.{member_is_row, best_had, best_least}
-
-below_member : {K : Type 0} (Below : K → K → Type 0) (x y : K) (list : List K) → BelowAll Below x list → IsMember y list → Below x y
-below_member Below x y [] below m = absurd m
-below_member Below x y (z ∷ zs) below (inl e) = subst (Below x) (sym e) below.0
-below_member Below x y (z ∷ zs) below (inr m) = below_member Below x y zs below.1 m
 
 -- nothing is chosen from an empty first group
 none_chosen : (members : List ℕ → List ℕ) (n : ℕ) (s : List ℕ) → members [] ≡ [] → 0 < completes members (suc n) [] s → ⊥
