@@ -19,7 +19,7 @@ module _ (line : List ℕ → List ℕ) (ending : List ℕ) (members : List (Lis
       ap (next_text line ending (drop p members)) is ∙ ap (λ (l : List (List ℕ)). next_text line ending l (suc m)) (drop_more members p x inside)
 
   -- none is left
-  pub next_ending : (p n m : ℕ) → length members ≤ p → n ≡ m + 1 → next_text line ending (drop p members) n ≡ ending
+  next_ending : (p n m : ℕ) → length members ≤ p → n ≡ m + 1 → next_text line ending (drop p members) n ≡ ending
   next_ending p n m end more =
       let is : n ≡ suc m = omega (arith, more) in
       ap (next_text line ending (drop p members)) is ∙ ap (λ (l : List (List ℕ)). next_text line ending l (suc m)) (drop_all p members end)
@@ -46,11 +46,11 @@ given_less members p given count within less end =
 -- ---- the list
 
 -- a limit leaves as many answers as members
-pub cut-length : {A B : Type 0} (limit : Option ℕ) (f : A → B) (list : List A) → length (cut limit (map f list)) ≡ length (cut limit list)
+cut-length : {A B : Type 0} (limit : Option ℕ) (f : A → B) (list : List A) → length (cut limit (map f list)) ≡ length (cut limit list)
 cut-length None f list = length-map list f
 cut-length (Some n) f list = omega (arith, length-take n (map f list), length-take n list, length-map list f)
 
-pub cut_within : (limit : Option ℕ) (list : List (List ℕ)) (p : ℕ) → IfSome limit (λ n. p < n) → p < length list → p < length (cut limit list)
+cut_within : (limit : Option ℕ) (list : List (List ℕ)) (p : ℕ) → IfSome limit (λ n. p < n) → p < length list → p < length (cut limit list)
 cut_within None list p below inside = inside
 cut_within (Some n) list p below inside = omega (arith, length-take n list, below, inside)
 
@@ -59,12 +59,12 @@ cut_at None list p x below = refl
 cut_at (Some n) list p x below = get_or-take n list p x below
 
 -- the member at the place of an answer
-pub told_within : {A B : Type 0} (f : B → A) (answers : List B) (p : ℕ) (b : B) → slice_get answers p ≡ Some b → p < length (map f answers)
+told_within : {A B : Type 0} (f : B → A) (answers : List B) (p : ℕ) (b : B) → slice_get answers p ≡ Some b → p < length (map f answers)
 told_within f answers p b at =
     let inside = slice_get_within answers p b at in
     omega (arith, inside, length-map answers f)
 
-pub told_is : {A B : Type 0} (f : B → A) (answers : List B) (p : ℕ) (b : B) (x : A) → slice_get answers p ≡ Some b → f b ≡ get_or (map f answers) p x
+told_is : {A B : Type 0} (f : B → A) (answers : List B) (p : ℕ) (b : B) (x : A) → slice_get answers p ≡ Some b → f b ≡ get_or (map f answers) p x
 told_is f answers p b x at =
     ap f (sym (get_or_from_slice_get answers p b b at)) ∙ sym (get_or-map f answers p b x (slice_get_within answers p b at))
 
@@ -89,11 +89,11 @@ always (Ok a) h = h
 always (Err e) h = tt
 
 -- a place past the start
-pub past_start : (members : List (List ℕ)) (p given q : ℕ) → q ≡ p + given → q < length members → given + 1 ≤ length (drop p members)
+past_start : (members : List (List ℕ)) (p given q : ℕ) → q ≡ p + given → q < length members → given + 1 ≤ length (drop p members)
 past_start members p given q is inside = omega (arith, length-drop p members, is, inside)
 
 -- the text of what is left, from the next member
-pub next_given : (line : List ℕ → List ℕ) (ending : List ℕ) (limit : Option ℕ) (ranking : List (List ℕ)) (start given count place : ℕ) (x : List ℕ)
+next_given : (line : List ℕ → List ℕ) (ending : List ℕ) (limit : Option ℕ) (ranking : List (List ℕ)) (start given count place : ℕ) (x : List ℕ)
     → place ≡ start + given → given < count → IfSome limit (λ n. place < n) → place < length ranking
     → next_text line ending (drop (start + given) (cut limit ranking)) (count - given)
     ≡ line (get_or ranking place x) ++ next_text line ending (drop (start + (given + 1)) (cut limit ranking)) (count - (given + 1))
@@ -106,6 +106,33 @@ next_given line ending limit ranking start given count place x is less below ins
     ∙ next_member line ending members place (count - given) (count - (given + 1)) x within more
     ∙ ap (λ (m : List ℕ). line m ++ next_text line ending (drop (place + 1) members) (count - (given + 1))) (cut_at limit ranking place x below)
     ∙ ap (λ (p : ℕ). line (get_or ranking place x) ++ next_text line ending (drop p members) (count - (given + 1))) on
+
+-- ---- the answers that stand for members
+
+module _ {B : Type 0} (f : B → List ℕ) (limit : Option ℕ) (answers : List B) (start given place : ℕ) (is : place ≡ start + given) where
+  -- the text of what is left, from the member that the next answer stands for
+  pub answer_given : (line : List ℕ → List ℕ) (ending : List ℕ) (count : ℕ) (b : B) → given < count → IfSome limit (λ n. place < n) → slice_get answers place ≡ Some b
+      → next_text line ending (drop (start + given) (cut limit (map f answers))) (count - given)
+      ≡ line (f b) ++ next_text line ending (drop (start + (given + 1)) (cut limit (map f answers))) (count - (given + 1))
+  answer_given line ending count b less below at =
+      next_given line ending limit (map f answers) start given count place [] is less below (told_within f answers place b at)
+      ∙ ap (λ (m : List ℕ). line m ++ next_text line ending (drop (start + (given + 1)) (cut limit (map f answers))) (count - (given + 1)))
+      (sym (told_is f answers place b [] at))
+
+  -- that member is within the list
+  pub answer_inside : (b : B) → IfSome limit (λ n. place < n) → slice_get answers place ≡ Some b → given + 1 ≤ length (drop start (cut limit (map f answers)))
+  answer_inside b below at =
+      past_start (cut limit (map f answers)) start given place is (cut_within limit (map f answers) place below (told_within f answers place b at))
+
+  -- there is no next answer
+  pub answers_ended : length (cut limit answers) ≤ place → length (cut limit (map f answers)) ≤ start + given
+  answers_ended end = omega (arith, is, end, cut-length limit f answers)
+
+-- nothing but the ending is left
+pub ending_left : (line : List ℕ → List ℕ) (ending : List ℕ) (members : List (List ℕ)) (start given count : ℕ) → length members ≤ start + given → given < count
+    → next_text line ending (drop (start + given) members) (count - given) ≡ ending
+ending_left line ending members start given count end less =
+    next_ending line ending members (start + given) (count - given) (count - (given + 1)) end (omega (arith, less))
 
 -- ---- one place of many
 

@@ -64,35 +64,49 @@ next_among (Some n) ranking start given count within few = by (nat_lt (start + g
 
 -- ---- one member after another
 
-module _ (share : List ℕ → ℕ → ℕ) (rises : (s : List ℕ) (c d : ℕ) → c ≤ d → share s c ≤ share s d) (limit : Option ℕ) (ranking : List (List ℕ)) (start given count place : ℕ)
-    (old mid : CursorSet) (before at : ℕ) (is : place ≡ start + given) (within : given ≤ length (drop start (cut limit ranking)))
-    (first : Spent share old mid (start + given) given before at) where
-  abbrev among : ℕ
-  among = calls_among (ends_by_itself limit ranking) (length (drop start (cut limit ranking))) count
+-- the calls that members which were asked for may take
+abbrev among : Option ℕ → List (List ℕ) → ℕ → ℕ → ℕ
+among limit ranking start count = calls_among (ends_by_itself limit ranking) (length (drop start (cut limit ranking))) count
 
-  among_next : given < count → given + calls_at limit place ≤ calls_among (ends_by_itself limit ranking) (length (drop start (cut limit ranking))) count
+-- so many of the members from a place were given, and their cost is known
+pub record HasGiven (share : List ℕ → ℕ → ℕ) (limit : Option ℕ) (ranking : List (List ℕ)) (start given count place : ℕ) (old mid : CursorSet) (before at : ℕ) : Type 0 where
+  pub rises : (s : List ℕ) (c d : ℕ) → c ≤ d → share s c ≤ share s d
+  pub is : place ≡ start + given
+  pub within : given ≤ length (drop start (cut limit ranking))
+  pub spent : Spent share old mid (start + given) given before at
+
+module _ {share : List ℕ → ℕ → ℕ} {limit : Option ℕ} {ranking : List (List ℕ)} {start given count place : ℕ} {old mid : CursorSet} {before at : ℕ}
+    (h : HasGiven share limit ranking start given count place old mid before at) where
+  among_next : given < count → given + calls_at limit place ≤ among limit ranking start count
   among_next few =
-      let all = next_among limit ranking start given count within few in
-      let same = ap (calls_at limit) is in
+      let all = next_among limit ranking start given count h.within few in
+      let same = ap (calls_at limit) h.is in
       omega (arith, all, same)
 
   -- no more members are asked for
-  pub given_done : given ≤ count → Spent share old mid (start + among) among before at
+  pub given_done : given ≤ count → Spent share old mid (start + among limit ranking start count) (among limit ranking start count) before at
   given_done few =
-      let all = given_among (ends_by_itself limit ranking) (length (drop start (cut limit ranking))) given count within few in
-      spent_wider share rises old mid (start + given) (start + among) given among before at (omega (arith, all)) all first
+      let all = given_among (ends_by_itself limit ranking) (length (drop start (cut limit ranking))) given count h.within few in
+      spent_wider share h.rises old mid (start + given) (start + among limit ranking start count) given (among limit ranking start count) before at
+      (omega (arith, all)) all h.spent
 
   -- the call for the next one
-  pub given_spent : (new : CursorSet) (now : ℕ) → given < count → Spent share mid new (place + calls_at limit place) (calls_at limit place) at now → Spent share old new (start + among) among before now
+  pub given_spent : (new : CursorSet) (now : ℕ) → given < count → Spent share mid new (place + calls_at limit place) (calls_at limit place) at now
+      → Spent share old new (start + among limit ranking start count) (among limit ranking start count) before now
   given_spent new now few next =
       let all = among_next few in
-      spent_then share rises old mid (start + given) (place + calls_at limit place) (start + among) given (calls_at limit place) among before at now first
+      let is = h.is in
+      spent_then share h.rises old mid (start + given) (place + calls_at limit place) (start + among limit ranking start count) given (calls_at limit place)
+      (among limit ranking start count) before at now h.spent
       (omega (arith, all)) (omega (arith, all, is)) all new next
 
-  pub given_within : (now : ℕ) → given < count → IsWithin share mid (place + calls_at limit place) (calls_at limit place) at now → IsWithin share old (start + among) among before now
+  pub given_within : (now : ℕ) → given < count → IsWithin share mid (place + calls_at limit place) (calls_at limit place) at now
+      → IsWithin share old (start + among limit ranking start count) (among limit ranking start count) before now
   given_within now few next =
       let all = among_next few in
-      within_then share rises old mid (start + given) (place + calls_at limit place) (start + among) given (calls_at limit place) among before at now first
+      let is = h.is in
+      within_then share h.rises old mid (start + given) (place + calls_at limit place) (start + among limit ranking start count) given (calls_at limit place)
+      (among limit ranking start count) before at now h.spent
       (omega (arith, all)) (omega (arith, all, is)) all next
 
   -- which gave one
@@ -100,7 +114,8 @@ module _ (share : List ℕ → ℕ → ℕ) (rises : (s : List ℕ) (c d : ℕ) 
       → Spent share old new (start + (given + 1)) (given + 1) before now
   given_more new now below next =
       let one = calls_below limit place below in
-      spent_then share rises old mid (start + given) (place + calls_at limit place) (start + (given + 1)) given (calls_at limit place) (given + 1) before at now first
+      let is = h.is in
+      spent_then share h.rises old mid (start + given) (place + calls_at limit place) (start + (given + 1)) given (calls_at limit place) (given + 1) before at now h.spent
       (omega arith) (omega (arith, one, is)) (omega (arith, one)) new next
 
 -- ---- one step of a script

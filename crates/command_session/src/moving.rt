@@ -3,7 +3,7 @@ ghost use Rattle.std.specs.Prelude.{◌≡◌, ◌≤◌, ◌<◌, ◌+◌, ◌+
 ghost use Rattle.anyk_model.specs.Output.{cut, line_text};
 ghost use Rattle.answer_print.specs.StyleView.{style_shown};
 ghost use Rattle.cursor_set.specs.CursorSet.{place_of, with_place};
-ghost use Rattle.query_bind.specs.WeighedQuery.{Fits};
+ghost use Rattle.bound_query.specs.WeighedQuery.{Fits};
 ghost use Rattle.refusal_lines.specs.Printing.{Printed};
 ghost use Rattle.refusal_lines.specs.SinkState.{state_of};
 ghost use Rattle.tdp_model.specs.KeyNumbers.{numbers};
@@ -14,14 +14,14 @@ ghost use Rattle.command_session.specs.Costs.{Paid, calls_at};
 
 use crate::open_cursors::OpenCursor;
 use answer_print::{AnswerWriter, Style, print_answer};
-use csv_tables::Tables;
+use bound_query::Query;
 use cursor_set::{CursorId, Cursors};
 use outer_io::Sink;
-use query_bind::Query;
 use refusal_lines::{Refusal, print};
 use std::alloc::Global;
 use std::sync::ledger::Ledger;
 use step_counter::{NoMemory, Steps};
+use table_store::Tables;
 use tdp_core::{Answer, Ranked};
 
 /// Prints at most `count` members from the cursor's place, and the cursor's name alone if the list
@@ -84,8 +84,8 @@ pub(crate) fn print_next<'a, E: Ranked, S: Sink, L: Ledger>(
     Ok(())
 }
 
-// The member at the cursor's place, which then moves on by one, or `None` at the end. The set is
-// not called at the limit.
+/// The member at the cursor's place, which then moves on by one, or `None` at the end. The set is
+/// not called at the limit.
 fn next_member<E: Ranked, L: Ledger>(
     set: &mut Cursors<E>,
     id: CursorId,
@@ -141,7 +141,7 @@ fn is_reached(limit: Option<u64>, place: u64) -> bool
     }
 }
 
-// Prints the cursor's name alone.
+/// Prints the cursor's name alone.
 fn print_end<'a, S: Sink>(alloc: Global, name: &[u8], out: &mut S) -> Result<(), Refusal<'a>>
     ensures { Printed (state_of S.Sink out.old) (state_of S.Sink out.new)
         (name.now ++ codes "\n") result }

@@ -2,7 +2,7 @@
 ghost use Rattle.std.specs.Prelude.{◌≡◌, ◌≤◌, ◌+◌, ◌*◌, [], IsSome, None, OnOk, map, option_map, replicate};
 ghost use Rattle.anyk_model.specs.Output.{cut, line_text};
 ghost use Rattle.answer_print.specs.StyleView.{style_shown};
-ghost use Rattle.query_bind.specs.WeighedQuery.{Fits};
+ghost use Rattle.bound_query.specs.WeighedQuery.{Fits};
 ghost use Rattle.refusal_lines.specs.Printing.{Printed};
 ghost use Rattle.refusal_lines.specs.SinkState.{state_of};
 ghost use Rattle.session_script.specs.declared.step.Step.TheVariants.{Next};
@@ -18,15 +18,15 @@ ghost use Rattle.command_session.specs.Costs.{IsWithin, Paid};
 use crate::moving::print_next;
 use crate::open_cursors::{OpenCursors, close, fork, number_of, open, rewind};
 use answer_print::{AnswerWriter, Style, print_header};
-use csv_tables::Tables;
+use bound_query::Query;
 use cursor_set::{CursorId, Cursors, MAX_OPEN};
 use outer_io::Sink;
-use query_bind::Query;
 use refusal_lines::Refusal;
 use session_script::Step;
 use std::alloc::Global;
 use std::sync::ledger::Ledger;
 use step_counter::Steps;
+use table_store::Tables;
 use tdp_core::Ranked;
 
 /// Prints the header with the title of the cursors' names, and then what the steps of the script
@@ -71,7 +71,7 @@ pub fn print_session<'a, E: Ranked + Drop, S: Sink, L: Ledger>(
     print_steps(alloc, query, tables, style, &mut set, script, out, steps)
 }
 
-// Prints what the steps print, over a set without an open cursor.
+/// Prints what the steps print, over a set without an open cursor.
 fn print_steps<'a, E: Ranked, S: Sink, L: Ledger>(
     alloc: Global,
     query: &Query,
@@ -181,7 +181,7 @@ fn take_step<'a, 's, E: Ranked, S: Sink, L: Ledger>(
     }
 }
 
-// Takes the step `next` of the cursor with this name.
+/// Takes the step `next` of the cursor with this name.
 fn take_next<'a, E: Ranked, S: Sink, L: Ledger>(
     alloc: Global,
     records: &mut AnswerWriter,

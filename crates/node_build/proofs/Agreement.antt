@@ -4,18 +4,18 @@ use Rattle.std.specs.List.{AllByRecursion}
 use Rattle.std.proofs.lemmas.List.{get_or-map, length-map, ext_get_or}
 use Rattle.anyk_model.specs.Table.{Table, field_at, header_flaw, rows_flaw, table_at}
 use Rattle.anyk_model.specs.Query.{Column}
-use Rattle.csv_tables.specs.Tables.{IsSound}
-use Rattle.csv_tables.specs.Values.{number_of}
-use Rattle.csv_tables.proofs.Flaws.{or_else_first, or_else_second, rows_width}
-use Rattle.csv_tables.proofs.Numbers.{numbers_tell_lem}
-use Rattle.query_bind.specs.Classes.{HasVariable, row_field, variable_at}
-use Rattle.query_bind.specs.Inside.{HasTable, IsInside}
-use Rattle.query_bind.specs.Names.{item_at}
-use Rattle.query_bind.specs.WeighedQuery.{BoundQuery, Fits}
-use Rattle.query_bind.specs.Weights.{table_in}
-use Rattle.query_bind.proofs.AllVariables.{shared_inside}
-use Rattle.query_bind.proofs.Least.{at_member, shared_along}
-use Rattle.query_bind.proofs.Search.{all_at}
+use Rattle.table_store.specs.Tables.{IsSound}
+use Rattle.table_store.specs.Values.{number_of}
+use Rattle.anyk_model.proofs.Flaws.{option_or_first, option_or_second, rows_width}
+use Rattle.table_store.proofs.Numbers.{numbers_tell_lem}
+use Rattle.bound_query.specs.Classes.{HasVariable, row_field, variable_at}
+use Rattle.bound_query.specs.Inside.{HasTable, IsInside}
+use Rattle.bound_query.specs.Items.{item_at}
+use Rattle.bound_query.specs.WeighedQuery.{BoundQuery, Fits}
+use Rattle.bound_query.specs.Weights.{table_in}
+use Rattle.bound_query.proofs.Inside.{shared_inside}
+use Rattle.bound_query.proofs.Least.{at_member, shared_along}
+use Rattle.bound_query.proofs.Lists.{all_at}
 use Rattle.node_build.specs.Columns.{AreShared}
 use Rattle.node_build.specs.Links.{values_in}
 use Rattle.node_build.specs.Nodes.{RowsAgree, RowsAlike}
@@ -23,8 +23,8 @@ use Rattle.node_build.specs.Nodes.{RowsAgree, RowsAlike}
 -- the rows of a table have one width
 sound_width : (table : Table) (row : ℕ) → IsSound table → row < length table.rows → length (get_or table.rows row []) ≡ length table.names
 sound_width table row sound inside =
-    let header = or_else_first (header_flaw table.names) (rows_flaw (length table.names) 1 table.rows) sound in
-    let rows : rows_flaw (length table.names) 1 table.rows ≡ None = sym (or_else_second (header_flaw table.names) (rows_flaw (length table.names) 1 table.rows) header) ∙ sound in
+    let header = option_or_first (header_flaw table.names) (rows_flaw (length table.names) 1 table.rows) sound in
+    let rows : rows_flaw (length table.names) 1 table.rows ≡ None = sym (option_or_second (header_flaw table.names) (rows_flaw (length table.names) 1 table.rows) header) ∙ sound in
     rows_width (length table.names) 1 table.rows row rows inside
 
 -- the values of a row, place by place

@@ -1,5 +1,5 @@
 -- A raw tree without rows, and no numbered pairs.
-use Rattle.std.proofs.Common.{◌≡◌, ℕ, zero, suc, List, [], length, get_or, replicate, refl, ap, ◌∙◌, inl, inr, arith}
+use Rattle.std.proofs.Common.{◌≡◌, ℕ, zero, suc, List, [], length, get_or, replicate, refl, sym, ap, subst, ◌∙◌, inl, inr, arith}
 use Rattle.std.specs.List.{sum_by}
 use Rattle.std.proofs.lemmas.Bool.{cases_lt}
 use Rattle.std.proofs.lemmas.List.{get_or-replicate, get_or_past, length-replicate}
@@ -9,8 +9,9 @@ use Rattle.tdp_core.specs.declared.parts.NodeShape.{NodeShape}
 use Rattle.tdp_core.specs.RawData.{RawData, RawRowData, row_total}
 use Rattle.join_tree.specs.declared.tree.JoinTree.{JoinTree}
 use Rattle.anyk_model.specs.Table.{Table}
-use Rattle.query_bind.specs.WeighedQuery.{BoundQuery}
+use Rattle.bound_query.specs.WeighedQuery.{BoundQuery}
 use Rattle.node_build.specs.PartialTrees.{AreFilled}
+use Rattle.node_build.specs.Shapes.{AreShapesOf}
 use Rattle.counted_index.specs.Pairs.{AreNumbers}
 
 none_at : (A : Type 0) (n q : ℕ) → (let none : List A = [] in get_or (replicate n none) q none ≡ none)
@@ -47,3 +48,10 @@ no_rows_yet {R = R} bound tables join own above d key names rows shapes tree cou
       empty = λ v l. ap (λ (xs : List (List (RawRowData R))). get_or xs v none) list ∙ none_at (RawRowData R) (length shapes) v;
       total = total;
     }
+
+-- a tree keeps the shapes with which it was begun
+pub shapes_kept : {R : Type 0} (bound : BoundQuery) (tables : List Table) (join : JoinTree) (shapes list : List NodeShape) (begun tree : RawData R)
+    → AreShapesOf bound tables join join.count shapes → list ≡ shapes → begun ≡ record { shapes = list; rows = replicate (length list) [] } → tree.shapes ≡ begun.shapes
+    → AreShapesOf bound tables join join.count tree.shapes
+shapes_kept {R = R} bound tables join shapes list begun tree of_join same is kept =
+    subst (AreShapesOf bound tables join join.count) (sym (kept ∙ ap (λ (t : RawData R). t.shapes) is ∙ same)) of_join

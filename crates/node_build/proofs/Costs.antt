@@ -1,16 +1,19 @@
 -- The nodes have no more rows than the tables of all items.
-use Rattle.std.proofs.Common.{◌≡◌, ◌<◌, ◌≤◌, ◌+◌, ◌*◌, ℕ, suc, List, [], ◌∷◌, map, length, get_or, refl, sym, ap, ◌∙◌, arith}
+use Rattle.std.proofs.Common.{◌≡◌, ◌<◌, ◌≤◌, ◌+◌, ◌*◌, ℕ, suc, List, [], ◌∷◌, map, length, sum, get_or, refl, sym, ap, ◌∙◌, inr, arith, Vec, Global}
 use Rattle.std.specs.List.{range_with_len, sum_by}
 use Rattle.std.proofs.Math.Nat.{mul-le-mul_right}
+use Rattle.std.proofs.lemmas.List.Sums.{sum-map}
 use Rattle.tdp_model.specs.TreeProblem.{sum_from}
 use Rattle.join_tree.specs.declared.tree.JoinTree.{JoinTree}
 use Rattle.anyk_model.specs.Table.{Table, table_at}
 use Rattle.anyk_model.specs.Query.{Item, Query, item_table, row_counts}
-use Rattle.query_bind.specs.Parts.{sum_of_all}
+use Rattle.bound_query.specs.Parts.{sum_of_all}
+use Rattle.bound_query.specs.WeighedQuery.{BoundQuery}
 use Rattle.step_bounds.proofs.NodeSums.{fewer_nodes, lengths_fewer, over}
-use Rattle.node_build.specs.Nodes.{IsJoinTreeOf, item_of}
-use Rattle.node_build.specs.Rows.{HaveRows, table_rows}
-use Rattle.node_build.proofs.Shaped.{apart}
+use Rattle.node_build.specs.Nodes.{IsJoinTreeOf, TellsFault, item_of}
+use Rattle.node_build.specs.Rows.{HaveRows, lists_of, table_rows}
+use Rattle.node_build.specs.declared.built.BuildFault.TheVariants as fault
+use Rattle.node_build.proofs.Shaped.{apart, few_nodes_lem}
 
 -- a sum over the numbers of a list's elements
 range_map_from : {A : Type 0} (g : A → ℕ) (d : A) (xs : List A) (all : ℕ → A) (a : ℕ) → ((k : ℕ) → k < length xs → get_or xs k d ≡ all (a + k))
@@ -24,6 +27,12 @@ range_map_from g d (x ∷ xs) all a h =
 
 range_map : {A : Type 0} (g : A → ℕ) (d : A) (xs : List A) → map (λ i. g (get_or xs i d)) (range_with_len 0 (length xs)) ≡ map g xs
 range_map g d xs = range_map_from g d xs (λ i. get_or xs i d) 0 (λ k l. let none : 0 + k ≡ k = omega arith in ap (λ (p : ℕ). get_or xs p d) (sym none))
+
+-- the sum of the counts of some rows
+pub counts_sum : (rows slice : List (Vec ℕ Global)) (counts list : List ℕ) → slice ≡ rows → counts ≡ map length (lists_of slice) → list ≡ counts
+    → sum list ≡ sum_by length (lists_of rows)
+counts_sum rows slice counts list same counted is =
+    ap sum (is ∙ counted) ∙ sum-map length (lists_of slice) ∙ ap (λ (vs : List (Vec ℕ Global)). sum_by length (lists_of vs)) same
 
 module _ (query : Query) (tables : List Table) (join : JoinTree) (tree : IsJoinTreeOf query join) (rows : List (List ℕ)) (of_nodes : HaveRows query tables join join.count rows) where
   abbrev rows_in : ℕ → ℕ
@@ -45,3 +54,15 @@ module _ (query : Query) (tables : List Table) (join : JoinTree) (tree : IsJoinT
       let count = ap (λ (n : ℕ). sum_of_all (row_counts query.items tables) * n) tree.count in
       let turn : sum_of_all (row_counts query.items tables) * length query.items ≡ length query.items * sum_of_all (row_counts query.items tables) = omega arith in
       omega (arith, h, fewer, count, turn)
+
+  pub total_low : sum_by length rows ≤ 16777216
+  total_low =
+      let few = few_nodes_lem query join tree in
+      let most = of_nodes.limit in
+      omega (arith, few, most)
+
+-- the nodes have more rows than the budget
+pub past_budget : (bound : BoundQuery) (tables : List Table) (join : JoinTree) (rows : List (List ℕ)) → HaveRows bound.query tables join join.count rows
+    → (budget : ℕ) → budget < sum_by length rows → TellsFault bound tables join budget (fault.TooManyRows budget)
+past_budget bound tables join rows of_nodes budget past =
+    inr (refl, record { rows = rows; of_nodes = record { count = of_nodes.count; each = of_nodes.each }; past = past })

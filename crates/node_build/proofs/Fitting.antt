@@ -14,9 +14,9 @@ use Rattle.tdp_core.specs.WellFormed.{RowFits}
 use Rattle.tdp_core.proofs.RowKeys.{row_key_fits}
 use Rattle.join_tree.specs.declared.tree.JoinTree.{JoinTree}
 use Rattle.anyk_model.specs.Table.{Table}
-use Rattle.query_bind.specs.WeighedQuery.{BoundQuery}
-use Rattle.query_bind.specs.Weights.{cap_of, key_at, part_of}
-use Rattle.query_bind.proofs.Parts.{part_capped}
+use Rattle.bound_query.specs.WeighedQuery.{BoundQuery}
+use Rattle.bound_query.specs.Weights.{cap_of, key_at, part_of}
+use Rattle.bound_query.proofs.Parts.{part_capped}
 use Rattle.step_bounds.proofs.NodeSums.{fewer_nodes, over}
 use Rattle.node_build.specs.Nodes.{CapsBelow, cap_at, item_of, parent_of, row_parts}
 use Rattle.node_build.specs.Shapes.{AreShapesOf}

@@ -10,9 +10,9 @@ use Rattle.tdp_core.specs.RawData.{AreShapesHeld, shape_cap, shape_item}
 use Rattle.join_tree.specs.declared.tree.JoinTree.{JoinTree}
 use Rattle.anyk_model.specs.Table.{Table}
 use Rattle.anyk_model.specs.Query.{Query}
-use Rattle.query_bind.specs.Parts.{sum_of_all}
-use Rattle.query_bind.specs.WeighedQuery.{BoundQuery}
-use Rattle.query_bind.proofs.Parts.{counts}
+use Rattle.bound_query.specs.Parts.{sum_of_all}
+use Rattle.bound_query.specs.WeighedQuery.{BoundQuery}
+use Rattle.bound_query.proofs.Parts.{counts}
 use Rattle.step_bounds.proofs.NodeSums.{fewer_nodes, over, sum_fewer, sum_same}
 use Rattle.node_build.specs.Nodes.{CapsBelow, IsJoinTreeOf, cap_at, item_of}
 use Rattle.node_build.specs.Shapes.{AreShapesOf}

@@ -5,6 +5,7 @@ pub mod Costs
 pub mod Fitting
 pub mod Growing
 pub mod Held
+pub mod Items
 pub mod Naming
 pub mod Numbering
 pub mod Passing

@@ -6,8 +6,8 @@ use Rattle.tdp_core.specs.TreeData.{kids_below}
 use Rattle.tdp_core.proofs.Children.{child_place_within, kids_below_child, kids_below_first, kids_below_other}
 use Rattle.join_tree.specs.declared.tree.JoinTree.{JoinTree}
 use Rattle.anyk_model.specs.Table.{Table, table_at}
-use Rattle.query_bind.specs.Names.{item_at}
-use Rattle.query_bind.specs.WeighedQuery.{BoundQuery, Fits}
+use Rattle.bound_query.specs.Items.{item_at}
+use Rattle.bound_query.specs.WeighedQuery.{BoundQuery, Fits}
 use Rattle.node_build.specs.Columns.{HaveColumns}
 use Rattle.counted_index.specs.Pairs.{AreMore}
 use Rattle.node_build.specs.Links.{IsLink, NamesLinks, values_at}

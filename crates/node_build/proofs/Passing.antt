@@ -4,8 +4,9 @@ use Rattle.std.proofs.lemmas.Bool.{cases_order}
 use Rattle.anyk_model.specs.Table.{Table}
 use Rattle.anyk_model.specs.Query.{Query, item_table}
 use Rattle.rankings.specs.Order.{IsMember, IsAscending}
-use Rattle.query_bind.specs.Classes.{Passes}
-use Rattle.query_bind.proofs.Lists.{ascending_append, below_each, member-index, member_last, member_left, member_parts}
+use Rattle.bound_query.specs.Classes.{Passes}
+use Rattle.rankings.proofs.Ascending.{ascending_append}
+use Rattle.rankings.proofs.Members.{below_member, get_member, member_last, member_left, member_parts}
 use Rattle.node_build.specs.Nodes.{AreNodeRows}
 
 -- the rows below n that pass
@@ -72,5 +73,5 @@ module _ (query : Query) (tables : List Table) (item : ℕ) where
 pub rises : (xs : List ℕ) (i j : ℕ) → IsAscending (λ a b. a < b) xs → i < j → j < length xs → get_or xs i 0 < get_or xs j 0
 rises [] i j h less inside = absurd (omega arith)
 rises (x ∷ xs) i zero h less inside = absurd (omega arith)
-rises (x ∷ xs) zero (suc j) h less inside = below_each (λ a b. a < b) x xs (get_or xs j 0) h.0 (member-index xs j 0 (omega arith))
+rises (x ∷ xs) zero (suc j) h less inside = below_member (λ a b. a < b) x (get_or xs j 0) xs h.0 (get_member xs j 0 (omega arith))
 rises (x ∷ xs) (suc i) (suc j) h less inside = rises xs i j h.1 (omega arith) (omega arith)

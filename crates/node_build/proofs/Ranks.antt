@@ -1,5 +1,5 @@
 -- The parts of a row, written one after another.
-use Rattle.std.proofs.Common.{◌≡◌, ◌<◌, ◌+◌, ℕ, ℤ, FitsSigned, length, List, [], ◌∷◌, ◌++◌, map, get_or, take, sym, ap, ◌∙◌}
+use Rattle.std.proofs.Common.{◌≡◌, ◌<◌, ◌+◌, ℕ, ℤ, FitsSigned, length, List, [], ◌∷◌, ◌++◌, map, get_or, take, refl, sym, ap, ◌∙◌, arith}
 use mir.Syntax.{w128}
 use mir.Val.{of_z, to_z}
 use Rattle.std.proofs.Math.ListN.{set}
@@ -9,6 +9,12 @@ use Rattle.std.proofs.lemmas.List.{map-append, take_more, take_more_set}
 -- a number that fits is kept as it is
 pub kept : (z : ℤ) → FitsSigned w128 z → to_z w128 (of_z w128 z) ≡ z
 kept z f = simp to_z-of_z
+
+-- the part of the only key
+pub one_part : {A : Type 0} (f : A → ℤ) (xs : List A) (d : A) → 1 ≡ length xs → f (get_or xs 0 d) ∷ [] ≡ map f xs
+one_part f [] d one = absurd (omega arith)
+one_part f (x ∷ []) d one = refl
+one_part f (x ∷ y ∷ xs) d one = absurd (omega arith)
 
 -- one more place of an array is written
 pub places_more : {A : Type 0} (f : A → ℤ) (to : List ℤ) (from : List A) (i : ℕ) (d : A) (v : ℤ) → i < length to → i < length from → v ≡ f (get_or from i d)

@@ -1,26 +1,27 @@
 -- What a filled tree is to its readers.
-use Rattle.std.proofs.Common.{◌≡◌, ◌↔◌, ◌<◌, ℕ, List, [], ◌∷◌, map, length, get_or, slice_get, Some, refl, sym, ap, subst, ◌∙◌, inl, inr, arith}
-use Rattle.std.specs.List.{AllByRecursion}
+use Rattle.std.proofs.Common.{◌≡◌, ◌↔◌, ◌<◌, ℕ, List, [], ◌∷◌, map, length, sum, get_or, slice_get, Some, refl, sym, ap, subst, ◌∙◌, inl, inr, arith}
+use Rattle.std.specs.List.{AllByRecursion, sum_by}
 use Rattle.std.proofs.lemmas.Bool.{cases_order}
 use Rattle.std.proofs.lemmas.List.{get_or-map, length-map, ext_get_or}
+use Rattle.std.proofs.lemmas.List.Sums.{sum-map}
 use Rattle.std.proofs.lemmas.Option.{slice_get-get_or}
 use Rattle.tdp_model.specs.KeyTuple.{KeyOf, key_none}
 use Rattle.rank_key.specs.Keys.{row_key}
-use Rattle.tdp_core.specs.RawData.{RawData, RawRowData, child_link, own_link, raw_len, raw_number, raw_rank, rows_at, shape_child_place, shape_parent}
+use Rattle.tdp_core.specs.RawData.{RawData, RawRowData, child_link, own_link, raw_len, raw_number, raw_rank, row_total, rows_at, shape_child_place, shape_parent}
 use Rattle.tdp_core.specs.Solutions.{IsTieFreeRaw}
 use Rattle.tdp_core.specs.TreeData.{kids_below}
 use Rattle.tdp_core.proofs.RawReads.{field_read}
 use Rattle.join_tree.specs.declared.tree.JoinTree.{JoinTree}
 use Rattle.anyk_model.specs.Table.{Table}
-use Rattle.csv_tables.specs.Tables.{IsSound}
-use Rattle.query_bind.specs.WeighedQuery.{BoundQuery, Fits}
-use Rattle.query_bind.specs.Weights.{table_in}
+use Rattle.table_store.specs.Tables.{IsSound}
+use Rattle.bound_query.specs.WeighedQuery.{BoundQuery, Fits}
+use Rattle.bound_query.specs.Weights.{table_in}
 use Rattle.node_build.specs.PartialTrees.{IsFilledTree}
 use Rattle.node_build.specs.Links.{IsRowOf, values_at}
 use Rattle.node_build.specs.Nodes.{AreNodeRows, IsBuilt, IsJoinTreeOf, RowsAgree, RowsAlike, item_of, parent_of, row_parts}
 use Rattle.node_build.specs.Rows.{HaveRows}
 use Rattle.node_build.specs.Shapes.{AreShapesOf}
-use Rattle.query_bind.proofs.Lists.{member-index}
+use Rattle.rankings.proofs.Members.{get_member}
 use Rattle.node_build.proofs.Agreement.{IsRowIn, agree_iff, alike_iff, values_length}
 use Rattle.node_build.proofs.Naming.{kids_ap}
 use Rattle.node_build.proofs.Numbering.{link_iff}
@@ -71,7 +72,7 @@ module _ {R : Type 0} (bound : BoundQuery) (tables : List Table) (fits : Fits bo
   row_in v r l h =
       let x = read v r l h in
       let inside = x.member in
-      let m = ((of_nodes.each v l).members (get_or (get_or rows v []) r 0)).0 (member-index (get_or rows v []) r 0 inside) in
+      let m = ((of_nodes.each v l).members (get_or (get_or rows v []) r 0)).0 (get_member (get_or rows v []) r 0 inside) in
       subst (IsRowIn bound tables fits sound (item_of join v)) (sym x.number)
       (record { known = item_known bound.query join is_tree v l; first = m.0; last = m.1 })
 
@@ -178,3 +179,7 @@ module _ {R : Type 0} (bound : BoundQuery) (tables : List Table) (fits : Fits bo
       (λ v h.
       let l : v < join.count = omega (arith, h, left, count) in
       get_or-map length rows v [] 0 (omega (arith, l, count)) ∙ sym (filled.filled.filled v l).count ∙ sym (get_or-map length tree.rows v [] 0 (omega (arith, l, each_node))))
+
+  -- and so is their sum
+  pub row_total_is : sum_by length rows ≡ row_total tree
+  row_total_is = sym (sum-map length rows) ∙ ap sum counts_are ∙ sum-map length tree.rows

@@ -6,9 +6,10 @@ use Rattle.tdp_core.specs.RawData.{RawData, row_total, rows_at}
 use Rattle.join_tree.specs.declared.tree.JoinTree.{JoinTree}
 use Rattle.anyk_model.specs.Table.{Table}
 use Rattle.anyk_model.specs.Query.{Query}
-use Rattle.query_bind.specs.Parts.{sum_of_all}
-use Rattle.query_bind.specs.WeighedQuery.{BoundQuery}
-use Rattle.query_shape.specs.Shape.{HasNodeRows, HasShape, IsShape, Shape, most_node_rows, too_many_rows}
+use Rattle.bound_query.specs.Parts.{sum_of_all}
+use Rattle.bound_query.specs.WeighedQuery.{BoundQuery}
+use Rattle.query_shape.specs.Shape.{HasNodeRows, HasShape, IsShape, Shape, too_many_rows}
+use Rattle.tdp_model.specs.NodeRows.{most_node_rows}
 use Rattle.query_shape.specs.JoinTreeView.{HasStoredTree}
 use Rattle.step_bounds.proofs.NodeSums.{sum_of_lengths}
 use Rattle.node_build.specs.Nodes.{AreNodeRows, AreRowsOfNodes, IsBuilt, IsJoinTreeOf, item_of}

@@ -1,21 +1,19 @@
 -- The shapes of the nodes of a join tree are those of a tree.
-use Rattle.std.proofs.Common.{◌≡◌, ◌≢◌, ◌<◌, ◌≤◌, ◌+◌, ◌^◌, ℕ, zero, suc, Bool, true, false, cond, nat_lt, List, [], ◌∷◌, map, length, take, get_or, Option, Some, None, option_map, refl, sym, ap, ◌∙◌, inl, inr, arith}
-use Rattle.std.specs.List.{position_from}
-use Rattle.std.proofs.lemmas.Bool.{cases_lt, cases_order, lt-ltb}
+use Rattle.std.proofs.Common.{◌≡◌, ◌≢◌, ◌<◌, ◌≤◌, ◌+◌, ◌^◌, ℕ, Bool, true, false, cond, nat_lt, List, [], ◌∷◌, map, length, take, get_or, refl, sym, ap, ◌∙◌, inl, inr, arith}
+use Rattle.std.proofs.lemmas.Bool.{cases_lt, cases_order}
 use Rattle.std.proofs.lemmas.List.{get_or-take}
 use Rattle.tdp_model.specs.TreeProblem.{sum_from}
 use Rattle.tdp_core.specs.declared.parts.NodeShape.{NodeShape}
 use Rattle.tdp_core.specs.RawData.{AreShapes, shape_cap}
 use Rattle.join_tree.specs.declared.tree.JoinTree.{JoinTree}
 use Rattle.anyk_model.specs.Table.{Table}
-use Rattle.anyk_model.specs.Query.{OrderKey, Query}
-use Rattle.query_bind.specs.Inside.{KeyInside}
-use Rattle.query_bind.specs.Parts.{numbers_of, sum_of_all}
-use Rattle.query_bind.specs.WeighedQuery.{BoundQuery, Fits}
-use Rattle.query_bind.specs.Weights.{cap_of, key_at, most_sum, terms_size}
-use Rattle.query_bind.specs.declared.fault.BindFault.TheVariants as fault
-use Rattle.query_bind.proofs.Parts.{caps_add}
-use Rattle.query_bind.proofs.Search.{all_at}
+use Rattle.anyk_model.specs.Query.{Query}
+use Rattle.bound_query.specs.Inside.{KeyInside}
+use Rattle.bound_query.specs.Parts.{numbers_of, sum_of_all}
+use Rattle.bound_query.specs.WeighedQuery.{BoundQuery, Fits}
+use Rattle.bound_query.specs.Weights.{KeyInRange, cap_of, key_at}
+use Rattle.bound_query.proofs.Parts.{caps_add}
+use Rattle.bound_query.proofs.Lists.{all_at}
 use Rattle.step_bounds.proofs.NodeSums.{AreApart, fewer_nodes, over, sum_same}
 use Rattle.node_build.specs.Nodes.{CapsBelow, IsJoinTreeOf, cap_at, item_of, parent_of}
 use Rattle.node_build.specs.Shapes.{AreShapesOf}
@@ -69,36 +67,13 @@ module _ (query : Query) (join : JoinTree) (tree : IsJoinTreeOf query join) wher
 
 -- ---- caps
 
-not_past : (size : ℕ) → nat_lt most_sum size ≡ false → size ≤ most_sum
-not_past size e = elim (cases_lt most_sum size) [
-  | inl above ↦ absurd (let t : nat_lt most_sum size ≡ true = lt-ltb most_sum size above in cc)
-  | inr below ↦ below
-]
-
-none_passes : {A : Type 0} (test : A → Bool) (n : ℕ) (xs : List A) → position_from test n xs ≡ None → (i : ℕ) (d : A) → i < length xs → test (get_or xs i d) ≡ false
-none_passes test n [] e i d inside = absurd (omega arith)
-none_passes {A = A} test n (x ∷ xs) e i d inside = by (test x) refl e i inside (λ left. none_passes test (n + 1) xs left)
-  where
-    by : (b : Bool) → test x ≡ b → cond b (Some n) (position_from test (n + 1) xs) ≡ None → (i : ℕ) → i < length (x ∷ xs)
-        → (position_from test (n + 1) xs ≡ None → (i : ℕ) (d : A) → i < length xs → test (get_or xs i d) ≡ false) → test (get_or (x ∷ xs) i d) ≡ false
-    by true is found i inside later = cc
-    by false is left zero inside later = is
-    by false is left (suc i) inside later = later left i d (omega arith)
-
-no_fault : (p : Option ℕ) → option_map (λ n. fault.RankRange n) p ≡ None → p ≡ None
-no_fault None e = refl
-no_fault (Some n) e = cc
-
 pub over_none : (ns : List ℕ) → sum_of_all (map (λ (i : ℕ). 0) ns) ≡ 0
 over_none [] = refl
 over_none (n ∷ ns) = let h = over_none ns in omega (arith, h)
 
 module _ (bound : BoundQuery) (tables : List Table) (fits : Fits bound tables) where
-  key_in_range : (key : ℕ) → key < length bound.query.order → terms_size tables bound.query.items (key_at bound.query.order key).terms ≤ most_sum
-  key_in_range key there =
-      let test : OrderKey → Bool = λ (k : OrderKey). nat_lt most_sum (terms_size tables bound.query.items k.terms) in
-      not_past (terms_size tables bound.query.items (key_at bound.query.order key).terms)
-      (none_passes test 1 bound.query.order (no_fault (position_from test 1 bound.query.order) fits.range) key (record { terms = []; descending = false }) there)
+  key_in_range : (key : ℕ) → key < length bound.query.order → KeyInRange tables bound.query.items (key_at bound.query.order key)
+  key_in_range key there = all_at (KeyInRange tables bound.query.items) bound.query.order key (record { terms = []; descending = false }) fits.range there
 
   -- the caps of all items have a sum that fits
   pub caps_small : CapsBelow (2 ^ 127) bound tables

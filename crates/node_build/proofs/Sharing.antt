@@ -4,10 +4,10 @@ use Rattle.std.proofs.lemmas.Bool.{cases_lt}
 use Rattle.std.proofs.lemmas.List.{get_or_append_left, get_or_push}
 use Rattle.anyk_model.specs.Query.{Column, Equality}
 use Rattle.rankings.specs.Order.{IsMember}
-use Rattle.query_bind.specs.Classes.{HasVariable}
-use Rattle.query_bind.specs.WeighedQuery.{BoundQuery}
-use Rattle.query_bind.proofs.Lists.{each_all, each_further}
-use Rattle.query_bind.proofs.Witness.{linked_append, linked_back}
+use Rattle.bound_query.specs.Classes.{HasVariable}
+use Rattle.bound_query.specs.WeighedQuery.{BoundQuery}
+use Rattle.rankings.proofs.Members.{each_all, each_further}
+use Rattle.bound_query.proofs.Witness.{linked_append, linked_back}
 use Rattle.node_build.specs.Columns.{AreShared, IsColumnPair, StandTogether}
 
 -- a variable has one column in an item

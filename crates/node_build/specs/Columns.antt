@@ -1,8 +1,8 @@
 -- The columns in which the rows of a node and of its parent must agree.
 use Rattle.std.specs.Prelude.{◌≡◌, ◌<◌, ℕ, List, [], length, slice_index, slice_index_or}
 use Rattle.join_tree.specs.declared.tree.JoinTree.{JoinTree}
-use Rattle.query_bind.specs.Classes.{HasVariable}
-use Rattle.query_bind.specs.WeighedQuery.{BoundQuery}
+use Rattle.bound_query.specs.Classes.{HasVariable}
+use Rattle.bound_query.specs.WeighedQuery.{BoundQuery}
 use Rattle.node_build.specs.Nodes.{item_of, parent_of}
 
 -- one variable has the column p in item i and the column q in item j

@@ -6,10 +6,10 @@ use Rattle.tdp_core.specs.TreeData.{kids_below}
 use Rattle.tdp_core.specs.RawData.{RawRowData}
 use Rattle.join_tree.specs.declared.tree.JoinTree.{JoinTree}
 use Rattle.anyk_model.specs.Table.{Table, field_at}
-use Rattle.csv_tables.specs.Values.{number_of}
+use Rattle.table_store.specs.Values.{number_of}
 use Rattle.counted_index.specs.Pairs.{IsNumbered}
-use Rattle.query_bind.specs.WeighedQuery.{BoundQuery}
-use Rattle.query_bind.specs.Weights.{table_in}
+use Rattle.bound_query.specs.WeighedQuery.{BoundQuery}
+use Rattle.bound_query.specs.Weights.{table_in}
 use Rattle.node_build.specs.Nodes.{item_of, parent_of, row_parts}
 
 -- the numbers of the fields that a row has in some columns

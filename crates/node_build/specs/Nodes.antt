@@ -10,11 +10,11 @@ use Rattle.rank_key.specs.Keys.{row_key}
 use Rattle.tdp_core.specs.RawData.{RawData, child_link, own_link, raw_len, raw_number, raw_rank, rows_at, shape_cap, shape_child_place, shape_item, shape_parent}
 use Rattle.anyk_model.specs.Table.{Table}
 use Rattle.anyk_model.specs.Query.{Query, item_table}
-use Rattle.query_bind.specs.Classes.{HasVariable, Passes, row_field}
-use Rattle.query_bind.specs.Graph.{IsGraphOf}
-use Rattle.query_bind.specs.Parts.{numbers_of, sum_of_all}
-use Rattle.query_bind.specs.WeighedQuery.{BoundQuery}
-use Rattle.query_bind.specs.Weights.{cap_of, key_at, part_of}
+use Rattle.bound_query.specs.Classes.{HasVariable, Passes, row_field}
+use Rattle.bound_query.specs.Graph.{IsGraphOf}
+use Rattle.bound_query.specs.Parts.{numbers_of, sum_of_all}
+use Rattle.bound_query.specs.WeighedQuery.{BoundQuery}
+use Rattle.bound_query.specs.Weights.{cap_of, key_at, part_of}
 use Rattle.node_build.specs.declared.built.BuildFault.{BuildFault}
 use Rattle.node_build.specs.declared.built.BuildFault.TheVariants as fault
 

@@ -1,24 +1,25 @@
 //! Building the raw tree of a query.
 ghost use Rattle.std.specs.Prelude.{◌≡◌, ◌<◌, ◌≤◌, ◌+◌, ◌*◌, ◌^◌, length, map, sum, IfErr, IfOk};
+ghost use Rattle.tdp_model.specs.NodeRows.{most_node_rows};
 ghost use Rattle.tdp_core.specs.RawData.{row_total};
 ghost use Rattle.tdp_core.specs.Solutions.{IsTieFreeRaw};
 ghost use Rattle.anyk_model.specs.Query.{row_counts};
-ghost use Rattle.query_bind.specs.Parts.{sum_of_all};
-ghost use Rattle.query_bind.specs.WeighedQuery.{Fits};
+ghost use Rattle.bound_query.specs.Parts.{sum_of_all};
+ghost use Rattle.bound_query.specs.WeighedQuery.{Fits};
 ghost use Rattle.node_build.specs.Nodes.{CapsBelow, IsBuilt, IsJoinTreeOf, TellsFault};
 
 use crate::built::{BuildFault, Built};
 use crate::filling::filled_tree;
 use crate::rows::{counts_of, rows_of_nodes};
-use csv_tables::Tables;
+use bound_query::Query;
 use join_tree::JoinTree;
-use query_bind::Query;
 use rank_key::Rank;
 use std::alloc::Global;
 use std::sync::ledger::Ledger;
 use step_counter::Steps;
+use table_store::Tables;
 
-// The sum of some numbers.
+/// The sum of some numbers.
 fn sum_of(numbers: &[u64]) -> u64
     requires { sum numbers.now < 2 ^ 64 }
     ensures { result ≡ sum numbers.now }
@@ -42,7 +43,7 @@ pub fn build<R: Rank, L: Ledger>(
     requires slots { length query.now.query.items ≤ R.ITEMS }
     requires limit { CapsBelow R.LIMIT query.now tables.now }
     requires tree { IsJoinTreeOf query.now.query join.now }
-    requires budget { budget ≤ 4194304 }
+    requires budget { budget ≤ most_node_rows }
     ensures built { IfOk result
         (λ built. IsBuilt query.now tables.now R.KEYS R.key join.now built.tree) }
     ensures tie_free { IfOk result (λ built. IsTieFreeRaw built.tree) }

@@ -2,14 +2,14 @@
 ghost use Rattle.std.specs.Prelude.{◌<◌, ℕ, List, length, IfOk, IfSome, IfNone};
 ghost use Rattle.anyk_model.specs.Table.{Table};
 ghost use Rattle.rankings.specs.Order.{IsMember};
-ghost use Rattle.query_bind.specs.Classes.{HasVariable};
-ghost use Rattle.query_bind.specs.WeighedQuery.{Fits};
+ghost use Rattle.bound_query.specs.Classes.{HasVariable};
+ghost use Rattle.bound_query.specs.WeighedQuery.{Fits};
 ghost use Rattle.node_build.specs.Columns.{AreShared, HaveColumns};
 ghost use Rattle.node_build.specs.Nodes.{IsJoinTreeOf};
 ghost use Rattle.node_build.specs.Rows.{lists_of};
 
+use bound_query::Query;
 use join_tree::JoinTree;
-use query_bind::Query;
 use std::alloc::Global;
 use step_counter::NoMemory;
 
@@ -21,7 +21,7 @@ pub(crate) struct Columns {
     pub above: Vec<Vec<u32>>,
 }
 
-// The column of a variable among those of an item.
+/// The column of a variable among those of an item.
 fn place_of(variables: &[(u32, u32)], number: u32) -> Option<u32>
     ensures found { IfSome result (λ place. IsMember (number, place) variables.now) }
     ensures missing { IfNone result ((place : ℕ) → IsMember (number, place) variables.now → ⊥) }
@@ -34,7 +34,7 @@ fn place_of(variables: &[(u32, u32)], number: u32) -> Option<u32>
     None
 }
 
-// The columns of the variables that both items have.
+/// The columns of the variables that both items have.
 fn shared_columns(
     alloc: Global,
     query: &Query,

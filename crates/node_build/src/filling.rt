@@ -1,7 +1,8 @@
 //! Filling the raw tree, one node after another.
 ghost use Rattle.std.specs.Prelude.{◌<◌, ◌≤◌, ◌+◌, ◌*◌, length, IfOk};
+ghost use Rattle.tdp_model.specs.NodeRows.{most_node_rows};
 ghost use Rattle.std.specs.List.{sum_by};
-ghost use Rattle.query_bind.specs.WeighedQuery.{Fits};
+ghost use Rattle.bound_query.specs.WeighedQuery.{Fits};
 ghost use Rattle.node_build.specs.PartialTrees.{IsFilledTree};
 ghost use Rattle.node_build.specs.Nodes.{CapsBelow, IsJoinTreeOf};
 ghost use Rattle.node_build.specs.Rows.{HaveRows, lists_of};
@@ -10,14 +11,14 @@ ghost use Rattle.node_build.specs.Shapes.{AreShapesOf};
 use crate::columns::columns_of;
 use crate::node::add_rows;
 use crate::shapes::shapes_of;
+use bound_query::Query;
 use counted_index::PairIndex;
-use csv_tables::Tables;
 use join_tree::JoinTree;
-use query_bind::Query;
 use rank_key::Rank;
 use std::alloc::Global;
 use std::sync::ledger::Ledger;
 use step_counter::{NoMemory, Steps};
+use table_store::Tables;
 use tdp_core::RawTree;
 
 /// The raw tree with these rows of each node. `NoMemory` if memory is refused.
@@ -36,7 +37,7 @@ pub(crate) fn filled_tree<R: Rank, L: Ledger>(
     requires tree { IsJoinTreeOf query.now.query join.now }
     requires rows { HaveRows query.now.query tables.now join.now join.now.count
         (lists_of rows.now) }
-    requires room { sum_by length (lists_of rows.now) ≤ 4194304 }
+    requires room { sum_by length (lists_of rows.now) ≤ most_node_rows }
     ensures shapes { IfOk result
         (λ tree. AreShapesOf query.now tables.now join.now join.now.count tree.shapes) }
     ensures filled { IfOk result

@@ -5,11 +5,11 @@ ghost use Rattle.counted_index.specs.Pairs.{AreMore};
 ghost use Rattle.node_build.specs.Links.{IsLink, IsListNumber, values_in};
 
 use counted_index::{ListNumber, PairIndex};
-use csv_tables::Tables;
 use std::sync::ledger::Ledger;
 use step_counter::{NoMemory, Steps};
+use table_store::Tables;
 
-// The number at a node of a list of values: those of `first`, and those that a row has in some columns.
+/// The number at a node of a list of values: those of `first`, and those that a row has in some columns.
 fn list_number(
     tables: &Tables,
     table: u32,

@@ -1,10 +1,11 @@
 //! The rows of one node.
 ghost use Rattle.std.specs.Prelude.{◌≡◌, ◌<◌, ◌≤◌, ◌+◌, ◌*◌, ℕ, [], length, IfOk, OnOk};
+ghost use Rattle.tdp_model.specs.NodeRows.{most_node_rows};
 ghost use Rattle.rankings.specs.Order.{IsMember};
 ghost use Rattle.tdp_core.specs.RawData.{RawRowData, row_total, rows_at, with_row};
 ghost use Rattle.tdp_core.specs.TreeData.{kids_below};
-ghost use Rattle.query_bind.specs.WeighedQuery.{Fits};
-ghost use Rattle.query_bind.specs.Weights.{table_in};
+ghost use Rattle.bound_query.specs.WeighedQuery.{Fits};
+ghost use Rattle.bound_query.specs.Weights.{table_in};
 ghost use Rattle.node_build.specs.Columns.{HaveColumns};
 ghost use Rattle.node_build.specs.PartialTrees.{HasOnlyMore};
 ghost use Rattle.counted_index.specs.Pairs.{AreMore};
@@ -16,17 +17,17 @@ ghost use Rattle.node_build.specs.Shapes.{AreShapesOf};
 use crate::columns::Columns;
 use crate::links::link;
 use crate::shapes::rank_of;
+use bound_query::Query;
 use counted_index::PairIndex;
-use csv_tables::Tables;
 use join_tree::JoinTree;
-use query_bind::Query;
 use rank_key::Rank;
 use std::alloc::Global;
 use std::sync::ledger::Ledger;
 use step_counter::{NoMemory, Steps};
+use table_store::Tables;
 use tdp_core::{NodeRow, RawTree};
 
-// Replaces the content of `named` by the links that a row of a node names for the node's children.
+/// Replaces the content of `named` by the links that a row of a node names for the node's children.
 fn child_links<L: Ledger>(
     query: &Query,
     tables: &Tables,
@@ -68,8 +69,8 @@ fn child_links<L: Ledger>(
     Ok(())
 }
 
-// Adds a row of a node to the tree, with its links. `named` is room for the links that it names; its content is
-// replaced.
+/// Adds a row of a node to the tree, with its links. `named` is room for the links that it names; its content is
+/// replaced.
 fn add_row<R: Rank, L: Ledger>(
     query: &Query,
     tables: &Tables,
@@ -95,7 +96,7 @@ fn add_row<R: Rank, L: Ledger>(
         (table_in tables.now query.now.query.items (item_of join.now node)).rows }
     requires links { length links.old ≡ join.now.count }
     requires shapes { AreShapesOf query.now tables.now join.now join.now.count tree.old.shapes }
-    requires room { row_total tree.old < 4194304 }
+    requires room { row_total tree.old < most_node_rows }
     ensures more { OnOk result (AreMore links.old links.new) }
     ensures added { OnOk result ((x : RawRowData R) × (tree.new ≡ with_row tree.old node x)
         × IsRowOf query.now tables.now join.now (lists_of columns.now.own.items)
@@ -141,7 +142,7 @@ pub(crate) fn add_rows<R: Rank, L: Ledger>(
     requires shapes { AreShapesOf query.now tables.now join.now join.now.count tree.old.shapes }
     requires each_node { length tree.old.rows ≡ join.now.count }
     requires empty { rows_at tree.old node ≡ [] }
-    requires room { row_total tree.old + length rows.now ≤ 4194304 }
+    requires room { row_total tree.old + length rows.now ≤ most_node_rows }
     ensures more { OnOk result (AreMore links.old links.new) }
     ensures others { OnOk result (HasOnlyMore node (length rows.now) tree.old tree.new) }
     ensures rows { OnOk result

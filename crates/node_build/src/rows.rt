@@ -1,17 +1,17 @@
 //! The rows of the nodes.
 ghost use Rattle.std.specs.Prelude.{◌≡◌, ◌<◌, ◌≤◌, IfOk, length, map};
-ghost use Rattle.query_bind.specs.WeighedQuery.{Fits};
-ghost use Rattle.query_bind.specs.Weights.{table_in};
+ghost use Rattle.bound_query.specs.WeighedQuery.{Fits};
+ghost use Rattle.bound_query.specs.Weights.{table_in};
 ghost use Rattle.node_build.specs.Nodes.{AreNodeRows, IsJoinTreeOf};
 ghost use Rattle.node_build.specs.Rows.{HaveRows, lists_of};
 
-use csv_tables::Tables;
+use bound_query::Query;
 use join_tree::JoinTree;
-use query_bind::Query;
 use std::alloc::Global;
 use step_counter::NoMemory;
+use table_store::Tables;
 
-// The rows of an item that pass, in ascending order.
+/// The rows of an item that pass, in ascending order.
 fn passing_rows(
     alloc: Global,
     query: &Query,

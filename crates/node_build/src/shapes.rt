@@ -2,23 +2,23 @@
 ghost use Rattle.std.specs.Prelude.{◌≡◌, ◌<◌, ◌≤◌, ℕ, List, length, take, IfOk, slice_index};
 ghost use Rattle.anyk_model.specs.Table.{Table};
 ghost use Rattle.rank_key.specs.Keys.{row_key};
-ghost use Rattle.query_bind.specs.WeighedQuery.{Fits};
-ghost use Rattle.query_bind.specs.Weights.{table_in};
+ghost use Rattle.bound_query.specs.WeighedQuery.{Fits};
+ghost use Rattle.bound_query.specs.Weights.{table_in};
 ghost use Rattle.node_build.specs.Nodes.{CapsBelow, IsJoinTreeOf, item_of, cap_at, row_parts};
 ghost use Rattle.node_build.specs.Shapes.{AreShapesOf};
 
-use csv_tables::Tables;
+use bound_query::Query;
 use join_tree::JoinTree;
-use query_bind::Query;
 use rank_key::Rank;
 use std::alloc::Global;
 use step_counter::NoMemory;
+use table_store::Tables;
 use tdp_core::NodeShape;
 
 /// The greatest number of order keys of a query.
 const MAX_KEYS: usize = 8;
 
-// The caps of an item, key by key; the unused places are 0.
+/// The caps of an item, key by key; the unused places are 0.
 fn caps_of(query: &Query, item: u32) -> [u128; MAX_KEYS]
     requires fits { (tables : List Table) × Fits query.now tables }
     requires item { item < length query.now.query.items }
@@ -56,7 +56,7 @@ pub(crate) fn shapes_of(
     Ok(shapes)
 }
 
-// The parts of a row, key by key; the unused places are 0.
+/// The parts of a row, key by key; the unused places are 0.
 fn parts_of(query: &Query, tables: &Tables, item: u32, row: u32) -> [i128; MAX_KEYS]
     requires fits { Fits query.now tables.now }
     requires item { item < length query.now.query.items }

@@ -22,6 +22,7 @@ use Rattle.proof_model.proofs.Sums.{pick_eq, pick_ne, sum_none, sum_one}
 use Rattle.proof_bounds.specs.BoundedRows.{BoundedData, IsBounded, bound_ranks, named_bound, query_key, rank_of_bound}
 use Rattle.proof_bounds.proofs.RankSums.{IsRawPart}
 use Rattle.proof_model.proofs.Wider.{wide_cond, wide_sum}
+use Rattle.proof_answers.proofs.Nodes.{option_some}
 use Rattle.proof_answers.proofs.RawSums.{double_sums_fit}
 
 -- # Parts
@@ -70,6 +71,15 @@ module _ {R : Type 0} (d : ℕ) (key : R → KeyOf d 16) (tree : BoundedData R) 
     | inl same ↦ subst (λ z. (b : ℕ) × (named_bound tree z i ≡ Some b)) (sym same) (here (ap up (sym same) ∙ u))
     | inr other ↦ all p a (omega (arith, other)) u
   ]
+
+  -- the rank that was found is that of the bound that the row names
+  pub named_found : (q : ℕ) (k : KeyOf d 16) → Some k ≡ option_map (rank_of_bound tree d key q) (named_bound tree q i)
+      → ((b : ℕ) × (named_bound tree q i ≡ Some b)) × (k ≡ named_key q)
+  named_found q k e =
+      let some = option_some (rank_of_bound tree d key q) (named_bound tree q i) k e in (
+        (some.0, some.1),
+        some.2 ∙ sym (ap (λ o. unwrap_or (option_map (rank_of_bound tree d key q) o) (key_none d 16)) some.1),
+      )
 
 -- # The problem of a query
 

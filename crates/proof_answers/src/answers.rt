@@ -1,6 +1,6 @@
 //! The answers, told by the places of their rows.
 ghost use Rattle.std.specs.Prelude.{◌≡◌, ◌≤◌, ◌<◌, ℕ, length, option_map, IfErr, IfOk};
-ghost use Rattle.query_bind.specs.WeighedQuery.{Fits};
+ghost use Rattle.bound_query.specs.WeighedQuery.{Fits};
 ghost use Rattle.query_shape.specs.JoinTreeView.{HasItems, HasStoredTree};
 ghost use Rattle.join_tree.specs.Rerooting.{IsTree};
 ghost use Rattle.proof_text.specs.ProofView.{seen_proof};
@@ -12,15 +12,15 @@ use crate::count::is_count;
 use crate::covering::first_weak;
 use crate::order::last_rank;
 use crate::solutions::answer_places;
-use csv_tables::Tables;
+use bound_query::Query;
 use join_tree::JoinTree;
 use proof_bounds::BoundedTree;
 use proof_text::{Proof, ProofFault};
-use query_bind::Query;
 use rank_key::Rank;
 use std::alloc::Global;
 use std::sync::ledger::Ledger;
 use step_counter::Steps;
+use table_store::Tables;
 
 /// The answers of a certificate.
 #[derive(Drop)]

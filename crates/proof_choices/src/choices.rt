@@ -1,6 +1,6 @@
 //! Open choices, node by node.
 ghost use Rattle.std.specs.Prelude.{◌≡◌, ◌≤◌, ◌<◌, ℕ, true, false, length, option_map, IfErr, IfOk, OnOk};
-ghost use Rattle.query_bind.specs.WeighedQuery.{Fits};
+ghost use Rattle.bound_query.specs.WeighedQuery.{Fits};
 ghost use Rattle.query_shape.specs.JoinTreeView.{HasItems, HasStoredTree};
 ghost use Rattle.join_tree.specs.Rerooting.{IsTree};
 ghost use Rattle.proof_text.specs.ProofView.{seen_proof};
@@ -14,16 +14,16 @@ ghost use Rattle.proof_choices.specs.Levels.{IsMissedAt, IsPassedAt};
 use crate::leaving::leaves_after;
 use crate::prefixes::Prefixes;
 use crate::taken::TakenRows;
-use csv_tables::Tables;
+use bound_query::Query;
 use join_tree::JoinTree;
 use proof_answers::PlacedAnswers;
 use proof_bounds::BoundedTree;
 use proof_text::{Proof, ProofFault};
-use query_bind::Query;
 use rank_key::Rank;
 use std::alloc::Global;
 use std::sync::ledger::Ledger;
 use step_counter::{NoMemory, Steps};
+use table_store::Tables;
 
 /// Tests that each way to leave the answers comes after the last one, and that there is none if the certificate says
 /// `end`. `Missed` exactly if this is not so. `NoMemory` if memory is refused.

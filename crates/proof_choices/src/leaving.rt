@@ -1,5 +1,6 @@
 //! The ways to leave the answers at one node.
 ghost use Rattle.std.specs.Prelude.{◌≡◌, ◌≢◌, ◌⊎◌, ◌≤◌, ◌<◌, ◌+◌, ℕ, List, [], Option, None, Some, true, false};
+ghost use Rattle.tdp_model.specs.NodeRows.{most_node_rows};
 ghost use Rattle.std.specs.Prelude.{IfOk, OnOk, length, map, option_map};
 ghost use Rattle.std.specs.Prelude.{slice_index, slice_index_or, slice_set, vec_len};
 ghost use Rattle.join_tree.specs.Rerooting.{IsTree};
@@ -263,7 +264,7 @@ fn own_numbers<'a, R: Rank>(tree: &'a BoundedTree<R>, node: u32) -> &'a [Option<
 
 /// The rows by the bounds of their groups.
 fn rows_by_bound(alloc: Global, own: &[Option<u32>], count: usize) -> Result<Groups, NoMemory>
-    requires few { length own.now ≤ 4194304 }
+    requires few { length own.now ≤ most_node_rows }
     requires within { (i b : ℕ) → i < length own.now → slice_index_or own.now i None ≡ Some b
         → b < count }
     ensures { IfOk result (AreGroups own.now count) }

@@ -1,12 +1,12 @@
 -- Branches that are begun one after another.
-use Rattle.std.proofs.Common.{◌≡◌, ◌<◌, ◌≤◌, ◌+◌, ◌∙◌, ℕ, None, List, [], ◌∷◌, ◌++◌, map, length, take, get_or, refl, sym, ap, subst, arith, length-append, length-take-le}
+use Rattle.std.proofs.Common.{◌≡◌, ◌<◌, ◌≤◌, ◌+◌, ◌∙◌, ℕ, None, List, [], ◌∷◌, ◌++◌, map, length, take, get_or, refl, sym, ap, subst, append-nil, arith, length-append, length-take-le}
 use Rattle.std.specs.List.{All, sum_by}
-use Rattle.std.proofs.lemmas.List.{get_or-map, length-map, map-append, take_more}
+use Rattle.std.proofs.lemmas.List.{get_or-map, length-map, map-append, take_all, take_more}
 use Rattle.std.proofs.lemmas.List.Elements.{All-from_get_or, All-get_or}
-use Rattle.std.proofs.lemmas.List.Sums.{sum_by_push}
+use Rattle.std.proofs.lemmas.List.Sums.{sum_by-append, sum_by-cons, sum_by_push}
 use Rattle.anyk_model.specs.Table.{Table}
 use Rattle.anyk_model.specs.Query.{Query}
-use Rattle.query_bind.specs.WeighedQuery.{BoundQuery, Fits}
+use Rattle.bound_query.specs.WeighedQuery.{BoundQuery, Fits}
 use Rattle.tdp_core.specs.SeenAnswers.{Seen}
 use Rattle.witness_key.specs.WitnessKey.{combinations_in}
 use Rattle.union_all.specs.Merge.{AreBegun, AreBranches, AreLeft, BranchSeen, EngineSeen, HasCalled, rests_of}
@@ -66,6 +66,51 @@ module _ {E : Type 0} (rest : E → List Seen) (seen : E → EngineSeen) (due : 
             (called_more (map seen engines) (map (λ (b : BranchSeen). b.engine) branches) (seen engine) branch.engine was.called called));
         cost = omega (arith, sums, spent, cost);
       }
+
+  -- there is a query for one engine more, and as many branches as engines so far
+  pub record HasNext (bounds : List BoundQuery) (yielded : List E) (branches : List BranchSeen) : Type 0 where
+    pub inside : length yielded < length bounds
+    pub count : length branches ≡ length yielded
+
+  pub has_next : (bounds : List BoundQuery) (engines yielded left later : List E) (engine : E) (branches : List BranchSeen) (before now : ℕ) → length engines ≡ length bounds
+      → yielded ++ left ≡ engines → left ≡ engine ∷ later → HasBegun bounds yielded branches before now → HasNext bounds yielded branches
+  has_next bounds engines yielded left later engine branches before now each whole more was =
+      let sizes = ap length whole in
+      let parts = length-append yielded left in
+      let one = ap length more in
+      let inside : length yielded < length bounds = omega (arith, sizes, parts, one, each) in
+      record {
+        inside = inside;
+        count = sym (length-map branches (λ (b : BranchSeen). b.bound)) ∙ ap length was.bound ∙ length-take-le (length yielded) bounds (omega (arith, inside));
+      }
+
+  -- the next engine's call is paid for
+  pub cost_within : (bounds : List BoundQuery) (engines yielded left later : List E) (engine : E) (branches : List BranchSeen) (before now new : ℕ)
+      → yielded ++ left ≡ engines → left ≡ engine ∷ later → HasBegun bounds yielded branches before now → new ≤ now + due engine → new ≤ before + sum_by due engines
+  cost_within bounds engines yielded left later engine branches before now new whole more was cost =
+      let all : sum_by due (yielded ++ engine ∷ later) ≡ sum_by due engines = ap (λ (l : List E). sum_by due (yielded ++ l)) (sym more) ∙ ap (sum_by due) whole in
+      let spent = was.cost in
+      omega (arith, all, spent, cost, sum_by-append due yielded (engine ∷ later), sum_by-cons due engine later)
+
+  -- the branches of all engines
+  pub record AllBegun (bounds : List BoundQuery) (engines : List E) (branches : List BranchSeen) (before now : ℕ) : Type 0 where
+    pub bounds_are : map (λ (b : BranchSeen). b.bound) branches ≡ bounds
+    pub lists_are : map (λ (b : BranchSeen). b.left) branches ≡ rests_of rest (queries_bound bounds) engines
+    pub called : AreBegun (map seen engines) (map (λ (b : BranchSeen). b.engine) branches)
+    pub cost : now ≤ before + sum_by due engines
+
+  pub all_begun : (bounds : List BoundQuery) (engines yielded left : List E) (branches : List BranchSeen) (before now : ℕ) → length engines ≡ length bounds
+      → yielded ++ left ≡ engines → left ≡ [] → HasBegun bounds yielded branches before now → AllBegun bounds engines branches before now
+  all_begun bounds engines yielded left branches before now each whole none was =
+      let same : yielded ≡ engines = sym (append-nil yielded) ∙ ap (λ (l : List E). yielded ++ l) (sym none) ∙ whole in
+      let size = ap length same in
+      let all : take (length yielded) bounds ≡ bounds = take_all (length yielded) bounds (omega (arith, size, each)) in
+      subst (λ (l : List E). AllBegun bounds l branches before now) same (record {
+        bounds_are = was.bound ∙ all;
+        lists_are = was.left ∙ ap (λ (l : List BoundQuery). rests_of rest (queries_bound l) yielded) all;
+        called = was.called;
+        cost = was.cost;
+      })
 
 -- # Branches of all queries
 

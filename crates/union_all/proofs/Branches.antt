@@ -2,10 +2,11 @@
 use Rattle.std.proofs.Common.{◌≡◌, ◌<◌, ◌∙◌, ℕ, ℤ, Bool, None, List, [], ◌∷◌, map, length, take, get_or, sym, ap, subst}
 use Rattle.std.specs.List.{AllByRecursion}
 use Rattle.std.proofs.lemmas.List.{get_or-map, get_or_read}
+use Rattle.std.proofs.lemmas.List.Elements.{All-get_or}
 use Rattle.anyk_model.specs.Table.{Table}
 use Rattle.anyk_model.specs.Query.{IsCombination, Query, rank_of, row_counts}
 use Rattle.anyk_model.specs.Ranking.{is_before}
-use Rattle.query_bind.specs.WeighedQuery.{BoundQuery}
+use Rattle.bound_query.specs.WeighedQuery.{BoundQuery, Fits}
 use Rattle.union_list.specs.TaggedRows.{branch_at}
 use Rattle.union_all.specs.Merge.{AreBranches, BranchSeen, lists_of, queries_of}
 
@@ -47,3 +48,9 @@ module _ (branches : List BranchSeen) (b : ℕ) (inside : b < length branches) (
       let one = subst (λ (l : List (List ℕ)). AllByRecursion (IsCombination (row_counts (branch_at (queries_of branches) b).items tables)) l) (head_at rows later is) (all.left.combinations b) in
       let own : branch_at (queries_of branches) b ≡ q.query = query_at ∙ ap (λ (s : BranchSeen). s.bound.query) (same_branch y again) ∙ ap (λ (s : BoundQuery). s.query) (sym bound) in
       subst (λ (k : Query). IsCombination (row_counts k.items tables) (take (length k.items) rows)) own one.0
+
+  -- its query fits the tables
+  pub query_fits : (tables : List Table) → AreBranches tables branches → (q : BoundQuery) → q ≡ x.bound → Fits q tables
+  query_fits tables all q bound =
+      let one = All-get_or (λ (s : BranchSeen). Fits s.bound tables) branches b x inside all.fit in
+      subst (λ (k : BoundQuery). Fits k tables) (ap (λ (s : BranchSeen). s.bound) (sym at) ∙ sym bound) one

@@ -6,11 +6,11 @@ use Rattle.std.proofs.lemmas.List.{get_or-map, length-map}
 use Rattle.anyk_model.specs.Table.{Table}
 use Rattle.anyk_model.specs.Query.{OrderKey, rank_of, sum_of}
 use Rattle.anyk_model.specs.Ranking.{is_before}
-use Rattle.query_bind.specs.Inside.{KeyInside}
-use Rattle.query_bind.specs.WeighedQuery.{BoundQuery, Fits}
-use Rattle.query_bind.specs.Weights.{key_at}
-use Rattle.query_bind.proofs.Parts.{parts_add}
-use Rattle.query_bind.proofs.Search.{all_at, drop_step}
+use Rattle.bound_query.specs.Inside.{KeyInside}
+use Rattle.bound_query.specs.WeighedQuery.{BoundQuery, Fits}
+use Rattle.bound_query.specs.Weights.{key_at}
+use Rattle.bound_query.proofs.Parts.{parts_add}
+use Rattle.bound_query.proofs.Lists.{all_at, drop_step}
 use Rattle.answer_print.proofs.Sums.{sum_fits}
 
 -- # One sum

@@ -20,6 +20,10 @@ no_list l x xs e f = absurd (cc (e, f))
 pub first_of : {A : Type 0} (l : List A) (x y : A) (xs ys : List A) → l ≡ x ∷ xs → l ≡ y ∷ ys → x ≡ y
 first_of l x y xs ys e f = cc (e, f)
 
+-- a list with a first element is not empty
+pub not_empty : {A : Type 0} (l : List A) (x : A) (xs : List A) → l ≡ x ∷ xs → l ≡ [] → ⊥
+not_empty l x xs e f = cc (e, f)
+
 module _ (queries : List Query) (tables : List Table) (lists : List (List (List ℕ))) (n : ℕ) where
   -- branch n has nothing left
   pub none_here : (first : Option ℕ) → get_or lists n [] ≡ [] → IsFirst queries tables lists n first → IsFirst queries tables lists (n + 1) first

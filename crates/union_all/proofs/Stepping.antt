@@ -8,7 +8,7 @@ use Rattle.std.proofs.lemmas.List.Elements.{All-get_or, All-set}
 use Rattle.std.proofs.Math.Seq.{map-set_same}
 use Rattle.anyk_model.specs.Table.{Table}
 use Rattle.anyk_model.specs.Query.{IsCombination, Query, row_counts}
-use Rattle.query_bind.specs.WeighedQuery.{BoundQuery, Fits}
+use Rattle.bound_query.specs.WeighedQuery.{BoundQuery, Fits}
 use Rattle.union_list.specs.TaggedRows.{Tagged, branch_at, tagged}
 use Rattle.union_list.specs.Union.{left_of}
 use Rattle.union_list.proofs.Merging.{merge_end, merge_step, some_list, tail_up}

@@ -3,7 +3,7 @@ use Rattle.std.specs.Prelude.{◌≡◌, ◌≢◌, ◌≤◌, ◌+◌, ℕ, Opt
 use Rattle.std.specs.List.{All, AllByRecursion}
 use Rattle.anyk_model.specs.Table.{Table}
 use Rattle.anyk_model.specs.Query.{IsCombination, Query, row_counts}
-use Rattle.query_bind.specs.WeighedQuery.{BoundQuery, Fits}
+use Rattle.bound_query.specs.WeighedQuery.{BoundQuery, Fits}
 use Rattle.tdp_core.specs.SeenAnswers.{Seen, counted}
 use Rattle.witness_key.specs.WitnessKey.{combinations_in}
 use Rattle.union_list.specs.TaggedRows.{Tagged, branch_at}

@@ -2,7 +2,7 @@
 use Rattle.std.specs.Prelude.{ℕ, List, length, take}
 use Rattle.anyk_model.specs.Table.{Table}
 use Rattle.anyk_model.specs.Query.{IsCombination, row_counts}
-use Rattle.query_bind.specs.WeighedQuery.{BoundQuery}
+use Rattle.bound_query.specs.WeighedQuery.{BoundQuery}
 
 -- the first rows, one for each item
 abbrev pub rows_of : BoundQuery → List ℕ → List ℕ

@@ -3,7 +3,7 @@ ghost use Rattle.std.specs.Prelude.{◌≡◌, ◌+◌, ◌≤◌, ℕ, [], ◌�
 ghost use Rattle.witness_key.specs.WitnessKey.{combinations_in};
 ghost use Rattle.union_all.specs.Merge.{BranchSeen, HasCalled};
 
-use query_bind::Query;
+use bound_query::Query;
 use rank_key::Rank;
 use std::marker::Model;
 use std::sync::ledger::Ledger;

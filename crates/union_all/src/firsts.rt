@@ -5,7 +5,7 @@ ghost use Rattle.union_all.specs.Merge.{AreBranches, lists_of, queries_of};
 
 use crate::branch::Branch;
 use crate::sums::has_less_sums;
-use csv_tables::Tables;
+use table_store::Tables;
 use tdp_core::Ranked;
 
 /// Whether the first answer of branch b comes before those of the branches before it, of which `first` has the first.

@@ -2,17 +2,17 @@
 ghost use Rattle.std.specs.Prelude.{◌≡◌, ◌≤◌, ◌++◌, ◌∷◌, [], codes, if◌then◌else◌, length, map, string_bytes, IfOk};
 ghost use Rattle.std.specs.List.{All};
 ghost use Rattle.anyk_model.specs.Output.{numbered};
-ghost use Rattle.query_bind.specs.WeighedQuery.{Fits};
+ghost use Rattle.bound_query.specs.WeighedQuery.{Fits};
 ghost use Rattle.answer_print.specs.StyleView.{style_shown};
 ghost use Rattle.union_list.specs.UnionOutput as output;
 
 use answer_print::{
     Fields, Style, push_names, push_numbered, push_optional, push_texts, title_of_cursor,
 };
-use csv_tables::Tables;
-use query_bind::Query;
+use bound_query::Query;
 use std::alloc::Global;
 use step_counter::NoMemory;
+use table_store::Tables;
 
 /// The record of the columns' titles: `cursor` if a cursor is named, the names of the first branch's columns, `rank1`
 /// and so on if sums are shown, and if row numbers are shown `branch`, and `row1` and so on up to the items of the

@@ -4,7 +4,7 @@ ghost use Rattle.std.specs.Fmt.{decimal, signed_decimal};
 ghost use Rattle.std.specs.List.{All};
 ghost use Rattle.anyk_model.specs.Output.{optional_field};
 ghost use Rattle.anyk_model.specs.Query.{IsCombination, row_counts, sum_of, value_of};
-ghost use Rattle.query_bind.specs.WeighedQuery.{Fits};
+ghost use Rattle.bound_query.specs.WeighedQuery.{Fits};
 ghost use Rattle.answer_print.specs.StyleView.{style_shown};
 ghost use Rattle.union_list.specs.TaggedRows.{branch_at};
 ghost use Rattle.union_list.specs.UnionOutput as output;
@@ -18,10 +18,10 @@ use answer_print::{
     AnswerWriter, Fields, Number, Numbers, Style, push_numbers, push_optional, push_rows,
     push_sums, push_values,
 };
-use csv_tables::Tables;
-use query_bind::Query;
+use bound_query::Query;
 use std::alloc::Global;
 use step_counter::NoMemory;
+use table_store::Tables;
 
 /// The record of a member: the cursor's name if there is one, the selected columns of its branch, the sums of the order
 /// keys if they are shown, and if row numbers are shown the branch, from 1, its row numbers, and an empty field for each

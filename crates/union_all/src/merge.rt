@@ -1,7 +1,7 @@
 //! The members of a union, one by one.
 ghost use Rattle.std.specs.Prelude.{◌≡◌, ◌+◌, ◌≤◌, [], ◌∷◌, List, length, map, IfOk, IfSome, IfNone, OnErr};
 ghost use Rattle.std.specs.List.{All, sum_by};
-ghost use Rattle.query_bind.specs.WeighedQuery.{Fits};
+ghost use Rattle.bound_query.specs.WeighedQuery.{Fits};
 ghost use Rattle.union_list.specs.TaggedRows as union;
 ghost use Rattle.union_list.specs.Union.{left_of};
 ghost use Rattle.union_all.specs.Firsts.{tagged_shown};
@@ -10,12 +10,12 @@ ghost use Rattle.union_all.specs.Merge.{AreBegun, AreLeft, IsCalled, rests_of};
 use crate::branch::Branch;
 use crate::firsts::first_branch;
 use crate::tagged::Tagged;
-use csv_tables::Tables;
-use query_bind::Query;
+use bound_query::Query;
 use std::alloc::Global;
 use std::marker::Model;
 use std::sync::ledger::Ledger;
 use step_counter::{NoMemory, Steps};
+use table_store::Tables;
 use tdp_core::Ranked;
 
 /// The union of the answers that several engines have left, one for each branch. Contracts see the branches' queries, the

@@ -2,13 +2,13 @@
 ghost use Rattle.std.specs.Prelude.{◌≡◌, ◌<◌, length, map};
 ghost use Rattle.anyk_model.specs.Query.{rank_of};
 ghost use Rattle.anyk_model.specs.Ranking.{is_before};
-ghost use Rattle.query_bind.specs.WeighedQuery.{Fits};
-ghost use Rattle.query_bind.specs.Weights.{key_at};
+ghost use Rattle.bound_query.specs.WeighedQuery.{Fits};
+ghost use Rattle.bound_query.specs.Weights.{key_at};
 ghost use Rattle.union_all.specs.Rows.{HasRows, rows_of};
 
 use answer_print::key_sum;
-use csv_tables::Tables;
-use query_bind::Query;
+use bound_query::Query;
+use table_store::Tables;
 
 /// The sum of an order key over the rows of the items, as it is compared: negated if the key descends.
 fn compared_sum(query: &Query, tables: &Tables, rows: &[u32; 16], key: u32) -> i128

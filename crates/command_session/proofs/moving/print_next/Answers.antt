@@ -1,4 +1,4 @@
-use Rattle.std.proofs.Common.{◌≡◌, ◌+◌, ◌-◌, ◌<◌, ◌≤◌, ◌++◌, [], ℕ, List, None, Err, Ok, length, drop, take, get_or, ap, sym, refl, subst, ◌∙◌, arith, rules}
+use Rattle.std.proofs.Common.{◌≡◌, ◌+◌, ◌-◌, ◌++◌, ℕ, List, None, Err, Ok, length, drop, take, ap, sym, refl, subst, ◌∙◌, arith, rules}
 use Rattle.std.specs.Prelude.{codes, slice_set}
 use Rattle.std.proofs.lemmas.List.{set-get_or}
 use Rattle.anyk_model.specs.Output.{cut, line_text}
@@ -10,11 +10,51 @@ use Rattle.refusal_lines.specs.SinkState.{state_of}
 use Rattle.verdict.specs.Session.{next_text, with_name}
 use Rattle.tdp_core.specs.SeenAnswers.{Seen}
 use Rattle.witness_key.specs.WitnessKey.{combinations_in}
-use Rattle.command_session.proofs.Follows.{always, cut-length, cut_within, given_all, given_less, next_done, next_ending, next_given, next_start, past_start, place_set, places_set, told_all, told_is, told_within}
+use Rattle.command_session.proofs.Follows.{always, answer_given, answer_inside, answers_ended, ending_left, given_all, given_less, next_done, next_start, place_set, places_set, told_all}
 use Rattle.command_session.proofs.Costs.{paid_spent, spent_places}
-use Rattle.command_session.proofs.Reach.{given_done, given_more, given_spent, given_within}
+use Rattle.command_session.proofs.Reach.{HasGiven, given_done, given_more, given_spent, given_within}
 use Rattle.command_session.proofs.Left.{HasLeft, left_last, left_more, left_none, left_stopped, left_unprinted, left_whole}
+use Rattle.command_session.proofs.moving.print_next.Given.{Over}
+use Rattle.command_session.proofs.moving.print_next.Goals.{At-loop-given}
 use Rattle.command_session.proofs.moving.print_next.Goals as goal
+
+-- # What the proofs share
+
+module _ (g : Over) (c : At-loop-given g) where
+  -- the combination that an answer stands for
+  abbrev rows_of : Seen → List ℕ
+  rows_of a = take (length c.args.query.now.query.items) a.rows
+
+  -- the list, and its members within the limit
+  abbrev ranking : List (List ℕ)
+  ranking = combinations_in c.args.query.now.query c.args.set.now.answers
+
+  abbrev members : List (List ℕ)
+  members = cut c.args.query.now.query.limit ranking
+
+  -- what is printed of a member, and at the end
+  abbrev line : List ℕ → List ℕ
+  line = line_text c.args.query.now.query c.args.tables.now (with_name (style_shown c.args.style.now) c.args.cursor.now.name.now)
+
+  abbrev ending : List ℕ
+  ending = c.args.cursor.now.name.now ++ codes "\n"
+
+  -- the whole text, and what is left of it
+  abbrev whole : List ℕ
+  whole = next_text line ending (drop c.args.cursor.now.place members) c.args.count
+
+  abbrev left : List ℕ
+  left = next_text line ending (drop (c.args.cursor.now.place + c.loop-given._given) members) (c.args.count - c.loop-given._given)
+
+  -- the members that were given, and their cost
+  given : HasGiven g.E.Ranked.share c.args.query.now.query.limit ranking c.args.cursor.now.place c.loop-given._given c.args.count c.loop-given.cursor.place
+      c.args.set.now c.loop-given.set c.args.steps.now c.loop-given.steps
+  given = record {
+    rises = g.met.E.Ranked.share_rises;
+    is = c.loop-given.invariant.place;
+    within = c.loop-given.invariant.within;
+    spent = c.loop-given.invariant.spent;
+  }
 
 pub loop-given-init : goal.loop-given-init
 loop-given-init g c =
@@ -41,34 +81,22 @@ next_member-requires g c = record { place = c.loop-given.invariant.here }
 
 pub returns-in_err-answer-clause-printed : goal.returns-in_err-answer-clause-printed
 returns-in_err-answer-clause-printed g c =
+    let loop = (goal.at.returns-in_err-answer-clause-printed g c).At-loop-given in
     let e : c.from_residual.result ≡ Err refusal.NoMemory = search rules in
-    rw e (left_unprinted _ _ _ _ c.loop-given.invariant.left)
+    rw e (left_unprinted (whole g loop) (left g loop) _ _ c.loop-given.invariant.left)
 
 pub returns-in_default-clause-printed : goal.returns-in_default-clause-printed
 returns-in_default-clause-printed g c =
-    let query = c.args.query.now.query in
-    let tables = c.args.tables.now in
-    let ranking = combinations_in query c.args.set.now.answers in
-    let members = cut query.limit ranking in
+    let loop = (goal.at.returns-in_default-clause-printed g c).At-loop-given in
     let start = c.args.cursor.now.place in
-    let line = line_text query tables (with_name (style_shown c.args.style.now) c.args.cursor.now.name.now) in
-    let ending = c.args.cursor.now.name.now ++ codes "\n" in
-    let seen : Seen → List ℕ = λ (a : Seen). take (length query.items) a.rows in
-    let given = c.loop-given._given in
-    let place = c.loop-given.cursor.place in
-    let whole = next_text line ending (drop start members) c.args.count in
-    let left = next_text line ending (drop (start + given) members) (c.args.count - given) in
-    let less : given < c.args.count = c.loop-given-test.true in
-    let more : c.args.count - given ≡ (c.args.count - (given + 1)) + 1 = omega (arith, less) in
+    let done = c.loop-given._given in
     let ended = rw c.limit.ensures at (rw c.in_default.is at c.in_ok-answer.ensures.end) in
-    let same = c.loop-given.invariant.answers in
-    let at = c.loop-given.invariant.place in
-    let short : length members ≤ start + given =
-    omega (arith, at, ended.1, cut-length query.limit seen c.args.set.now.answers, ap (λ l. length (cut query.limit l)) same) in
-    let last : left ≡ ending = next_ending line ending members (start + given) _ _ short more in
+    let short = answers_ended (rows_of g loop) c.args.query.now.query.limit c.args.set.now.answers start done c.loop-given.cursor.place c.loop-given.invariant.place
+    (rw c.loop-given.invariant.answers at ended.1) in
+    let last = ending_left (line g loop) (ending g loop) (members g loop) start done c.args.count short c.loop-given-test.true in
     let P : List ℕ → Type 0 = λ text.
     Printed (state_of g.S.Sink c.loop-given.out) (state_of g.S.Sink c.print_end.new.out) text c.print_end.result in
-    left_last whole left _ _ _ c.loop-given.invariant.left c.print_end.result
+    left_last (whole g loop) (left g loop) _ _ _ c.loop-given.invariant.left c.print_end.result
     (subst P (sym last)
     (let Q : List ℕ → Type 0 = λ name. P (name ++ codes "\n") in subst Q (c.in_ok-answer.ensures.name ∙ c.loop-given.invariant.name) c.print_end.ensures))
 
@@ -77,27 +105,14 @@ returns-in_default-clause-name g c = always c.print_end.result (c.in_ok-answer.e
 
 pub returns-in_default-clause-moved : goal.returns-in_default-clause-moved
 returns-in_default-clause-moved g c =
-    let query = c.args.query.now.query in
-    let tables = c.args.tables.now in
-    let ranking = combinations_in query c.args.set.now.answers in
-    let members = cut query.limit ranking in
+    let loop = (goal.at.returns-in_default-clause-moved g c).At-loop-given in
     let start = c.args.cursor.now.place in
-    let line = line_text query tables (with_name (style_shown c.args.style.now) c.args.cursor.now.name.now) in
-    let ending = c.args.cursor.now.name.now ++ codes "\n" in
-    let seen : Seen → List ℕ = λ (a : Seen). take (length query.items) a.rows in
-    let given = c.loop-given._given in
-    let place = c.loop-given.cursor.place in
-    let whole = next_text line ending (drop start members) c.args.count in
-    let left = next_text line ending (drop (start + given) members) (c.args.count - given) in
-    let less : given < c.args.count = c.loop-given-test.true in
-    let more : c.args.count - given ≡ (c.args.count - (given + 1)) + 1 = omega (arith, less) in
+    let done = c.loop-given._given in
     let ended = rw c.limit.ensures at (rw c.in_default.is at c.in_ok-answer.ensures.end) in
-    let same = c.loop-given.invariant.answers in
-    let at = c.loop-given.invariant.place in
-    let short : length members ≤ start + given =
-    omega (arith, at, ended.1, cut-length query.limit seen c.args.set.now.answers, ap (λ l. length (cut query.limit l)) same) in
-    let all = given_less members start given c.args.count c.loop-given.invariant.within less short in
-    always c.print_end.result (omega (arith, ended.0, at, all))
+    let short = answers_ended (rows_of g loop) c.args.query.now.query.limit c.args.set.now.answers start done c.loop-given.cursor.place c.loop-given.invariant.place
+    (rw c.loop-given.invariant.answers at ended.1) in
+    let all = given_less (members g loop) start done c.args.count c.loop-given.invariant.within c.loop-given-test.true short in
+    always c.print_end.result (omega (arith, ended.0, c.loop-given.invariant.place, all))
 
 pub returns-in_default-clause-places : goal.returns-in_default-clause-places
 returns-in_default-clause-places g c =
@@ -118,155 +133,77 @@ print_answer-requires-clause-rows g c =
 
 pub returns-in_err-print_answer-clause-printed : goal.returns-in_err-print_answer-clause-printed
 returns-in_err-print_answer-clause-printed g c =
-    let query = c.args.query.now.query in
-    let tables = c.args.tables.now in
-    let ranking = combinations_in query c.args.set.now.answers in
-    let members = cut query.limit ranking in
-    let start = c.args.cursor.now.place in
-    let line = line_text query tables (with_name (style_shown c.args.style.now) c.args.cursor.now.name.now) in
-    let ending = c.args.cursor.now.name.now ++ codes "\n" in
-    let seen : Seen → List ℕ = λ (a : Seen). take (length query.items) a.rows in
-    let given = c.loop-given._given in
-    let place = c.loop-given.cursor.place in
-    let whole = next_text line ending (drop start members) c.args.count in
-    let left = next_text line ending (drop (start + given) members) (c.args.count - given) in
-    let less : given < c.args.count = c.loop-given-test.true in
-    let more : c.args.count - given ≡ (c.args.count - (given + 1)) + 1 = omega (arith, less) in
+    let loop = (goal.at.returns-in_err-print_answer-clause-printed g c).At-loop-given in
     let found = rw c.limit.ensures at (rw c.in-Some.is at c.in_ok-answer.ensures.some) in
-    let same = c.loop-given.invariant.answers in
-    let at_place = rw same at found.2 in
-    let inside = told_within seen c.args.set.now.answers place _ at_place in
-    let rows : take (length query.items) c.in-Some.answer.rows ≡ get_or ranking place [] = told_is seen c.args.set.now.answers place _ [] at_place in
-    let split = next_given line ending query.limit ranking start given c.args.count place [] c.loop-given.invariant.place less found.0 inside in
+    let split = answer_given (rows_of g loop) c.args.query.now.query.limit c.args.set.now.answers c.args.cursor.now.place c.loop-given._given c.loop-given.cursor.place
+    c.loop-given.invariant.place (line g loop) (ending g loop) c.args.count _ c.loop-given-test.true found.0 (rw c.loop-given.invariant.answers at found.2) in
     let e : c.from_residual-in_err-print_answer.result ≡ Err c.in_err-print_answer.field-0.0 = search rules in
-    rw e (left_stopped whole left _ _ _ c.loop-given.invariant.left _ _ c.in_err-print_answer.field-0.0 split (rw rows at c.in_err-print_answer.ensures))
+    rw e (left_stopped (whole g loop) (left g loop) _ _ _ c.loop-given.invariant.left _ _ c.in_err-print_answer.field-0.0 split c.in_err-print_answer.ensures)
 
 pub loop-given-preserved : goal.loop-given-preserved
 loop-given-preserved g c =
-    let query = c.args.query.now.query in
-    let tables = c.args.tables.now in
-    let ranking = combinations_in query c.args.set.now.answers in
-    let members = cut query.limit ranking in
+    let loop = (goal.at.loop-given-preserved g c).At-loop-given in
+    let limit = c.args.query.now.query.limit in
     let start = c.args.cursor.now.place in
-    let line = line_text query tables (with_name (style_shown c.args.style.now) c.args.cursor.now.name.now) in
-    let ending = c.args.cursor.now.name.now ++ codes "\n" in
-    let seen : Seen → List ℕ = λ (a : Seen). take (length query.items) a.rows in
-    let given = c.loop-given._given in
+    let done = c.loop-given._given in
     let place = c.loop-given.cursor.place in
-    let whole = next_text line ending (drop start members) c.args.count in
-    let left = next_text line ending (drop (start + given) members) (c.args.count - given) in
-    let less : given < c.args.count = c.loop-given-test.true in
-    let more : c.args.count - given ≡ (c.args.count - (given + 1)) + 1 = omega (arith, less) in
-    let found = rw c.limit.ensures at (rw c.in-Some.is at c.in_ok-answer.ensures.some) in
-    let same = c.loop-given.invariant.answers in
-    let at_place = rw same at found.2 in
-    let inside = told_within seen c.args.set.now.answers place _ at_place in
-    let rows : take (length query.items) c.in-Some.answer.rows ≡ get_or ranking place [] = told_is seen c.args.set.now.answers place _ [] at_place in
-    let split = next_given line ending query.limit ranking start given c.args.count place [] c.loop-given.invariant.place less found.0 inside in
-    let printed = rw rows at c.in_ok-print_answer.ensures in
     let at = c.loop-given.invariant.place in
+    let found = rw c.limit.ensures at (rw c.in-Some.is at c.in_ok-answer.ensures.some) in
+    let here = rw c.loop-given.invariant.answers at found.2 in
+    let split = answer_given (rows_of g loop) limit c.args.set.now.answers start done place at (line g loop) (ending g loop) c.args.count _
+    c.loop-given-test.true found.0 here in
+    let printed = c.in_ok-print_answer.ensures in
     record {
       place = omega (arith, found.1, at);
       name = c.in_ok-answer.ensures.name ∙ c.loop-given.invariant.name;
-      within = past_start members start given place at (cut_within query.limit ranking place found.0 inside);
+      within = answer_inside (rows_of g loop) limit c.args.set.now.answers start done place at _ found.0 here;
       answers = c.in_ok-answer.ensures.kept ∙ c.loop-given.invariant.answers;
       places = places_set c.args.set.now.places c.loop-given.set.places c.next_member.new.set.places c.args.id.number place c.next_member.new.cursor.place
           c.loop-given.invariant.places c.in_ok-answer.ensures.places;
       here = place_set c.loop-given.set.places c.next_member.new.set.places c.args.id.number place c.next_member.new.cursor.place c.loop-given.invariant.here
           c.in_ok-answer.ensures.places;
-      left = left_more whole left _ _ _ c.loop-given.invariant.left _ _ split printed.whole printed.later;
-      spent = given_more g.E.Ranked.share g.met.E.Ranked.share_rises query.limit ranking start given c.args.count place c.args.set.now c.loop-given.set
-          c.args.steps.now c.loop-given.steps at c.loop-given.invariant.within c.loop-given.invariant.spent c.next_member.new.set c.next_member.new.steps found.0
-          (rw c.limit.ensures at c.in_ok-answer.ensures.paid.spent);
+      left = left_more (whole g loop) (left g loop) _ _ _ c.loop-given.invariant.left _ _ split printed.whole printed.later;
+      spent = given_more (given g loop) c.next_member.new.set c.next_member.new.steps found.0 (rw c.limit.ensures at c.in_ok-answer.ensures.paid.spent);
     }
 
 pub returns-clause-printed : goal.returns-clause-printed
 returns-clause-printed g c =
-    let query = c.args.query.now.query in
-    let tables = c.args.tables.now in
-    let ranking = combinations_in query c.args.set.now.answers in
-    let members = cut query.limit ranking in
+    let loop = (goal.at.returns-clause-printed g c).At-loop-given in
     let start = c.args.cursor.now.place in
-    let line = line_text query tables (with_name (style_shown c.args.style.now) c.args.cursor.now.name.now) in
-    let ending = c.args.cursor.now.name.now ++ codes "\n" in
-    let seen : Seen → List ℕ = λ (a : Seen). take (length query.items) a.rows in
-    let given = c.loop-given._given in
-    let place = c.loop-given.cursor.place in
-    let whole = next_text line ending (drop start members) c.args.count in
-    let left = next_text line ending (drop (start + given) members) (c.args.count - given) in
-    let over : c.args.count - given ≡ 0 = omega (arith, c.loop-given-test.false) in
-    left_none whole left _ _ c.loop-given.invariant.left (next_done line ending members (start + given) (c.args.count - given) over)
+    let done = c.loop-given._given in
+    left_none (whole g loop) (left g loop) _ _ c.loop-given.invariant.left
+    (next_done (line g loop) (ending g loop) (members g loop) (start + done) (c.args.count - done) (omega (arith, c.loop-given-test.false)))
 
 pub returns-clause-moved : goal.returns-clause-moved
 returns-clause-moved g c =
-    let query = c.args.query.now.query in
-    let tables = c.args.tables.now in
-    let ranking = combinations_in query c.args.set.now.answers in
-    let members = cut query.limit ranking in
-    let start = c.args.cursor.now.place in
-    let line = line_text query tables (with_name (style_shown c.args.style.now) c.args.cursor.now.name.now) in
-    let ending = c.args.cursor.now.name.now ++ codes "\n" in
-    let seen : Seen → List ℕ = λ (a : Seen). take (length query.items) a.rows in
-    let given = c.loop-given._given in
-    let place = c.loop-given.cursor.place in
-    let whole = next_text line ending (drop start members) c.args.count in
-    let left = next_text line ending (drop (start + given) members) (c.args.count - given) in
-    let full : given ≡ c.args.count = omega arith in
-    let all = given_all members start given c.args.count c.loop-given.invariant.within full in
+    let loop = (goal.at.returns-clause-moved g c).At-loop-given in
+    let all = given_all (members g loop) c.args.cursor.now.place c.loop-given._given c.args.count c.loop-given.invariant.within (omega arith) in
     omega (arith, c.loop-given.invariant.place, all)
 
 pub returns-in_err-answer-clause-paid : goal.returns-in_err-answer-clause-paid
 returns-in_err-answer-clause-paid g c =
-    let query = c.args.query.now.query in
-    let ranking = combinations_in query c.args.set.now.answers in
-    let start = c.args.cursor.now.place in
-    let given = c.loop-given._given in
-    let place = c.loop-given.cursor.place in
-    let at = c.loop-given.invariant.place in
-    let less : given < c.args.count = c.loop-given-test.true in
+    let loop = (goal.at.returns-in_err-answer-clause-paid g c).At-loop-given in
     let e : c.from_residual.result ≡ Err refusal.NoMemory = search rules in
     rw e (record {
       spent = tt;
-      within = given_within g.E.Ranked.share g.met.E.Ranked.share_rises query.limit ranking start given c.args.count place c.args.set.now c.loop-given.set
-          c.args.steps.now c.loop-given.steps at c.loop-given.invariant.within c.loop-given.invariant.spent c.next_member.new.steps less (rw c.limit.ensures at c.in_err-answer.ensures.paid.within);
+      within = given_within (given g loop) c.next_member.new.steps c.loop-given-test.true (rw c.limit.ensures at c.in_err-answer.ensures.paid.within);
     })
 
 pub returns-in_default-clause-paid : goal.returns-in_default-clause-paid
 returns-in_default-clause-paid g c =
-    let query = c.args.query.now.query in
-    let ranking = combinations_in query c.args.set.now.answers in
-    let start = c.args.cursor.now.place in
-    let given = c.loop-given._given in
-    let place = c.loop-given.cursor.place in
-    let at = c.loop-given.invariant.place in
-    let less : given < c.args.count = c.loop-given-test.true in
+    let loop = (goal.at.returns-in_default-clause-paid g c).At-loop-given in
     paid_spent g.E.Ranked.share g.met.E.Ranked.share_rises c.args.set.now c.next_member.new.set _ _ c.args.steps.now c.next_member.new.steps c.print_end.result
-    (given_spent g.E.Ranked.share g.met.E.Ranked.share_rises query.limit ranking start given c.args.count place c.args.set.now c.loop-given.set
-    c.args.steps.now c.loop-given.steps at c.loop-given.invariant.within c.loop-given.invariant.spent c.next_member.new.set c.next_member.new.steps
-    less (rw c.limit.ensures at c.in_ok-answer.ensures.paid.spent))
+    (given_spent (given g loop) c.next_member.new.set c.next_member.new.steps c.loop-given-test.true (rw c.limit.ensures at c.in_ok-answer.ensures.paid.spent))
 
 pub returns-in_err-print_answer-clause-paid : goal.returns-in_err-print_answer-clause-paid
 returns-in_err-print_answer-clause-paid g c =
-    let query = c.args.query.now.query in
-    let ranking = combinations_in query c.args.set.now.answers in
-    let start = c.args.cursor.now.place in
-    let given = c.loop-given._given in
-    let place = c.loop-given.cursor.place in
-    let at = c.loop-given.invariant.place in
-    let less : given < c.args.count = c.loop-given-test.true in
+    let loop = (goal.at.returns-in_err-print_answer-clause-paid g c).At-loop-given in
     paid_spent g.E.Ranked.share g.met.E.Ranked.share_rises c.args.set.now c.next_member.new.set _ _ c.args.steps.now c.next_member.new.steps
     c.from_residual-in_err-print_answer.result
-    (given_spent g.E.Ranked.share g.met.E.Ranked.share_rises query.limit ranking start given c.args.count place c.args.set.now c.loop-given.set
-    c.args.steps.now c.loop-given.steps at c.loop-given.invariant.within c.loop-given.invariant.spent c.next_member.new.set c.next_member.new.steps
-    less (rw c.limit.ensures at c.in_ok-answer.ensures.paid.spent))
+    (given_spent (given g loop) c.next_member.new.set c.next_member.new.steps c.loop-given-test.true (rw c.limit.ensures at c.in_ok-answer.ensures.paid.spent))
 
 pub returns-clause-paid : goal.returns-clause-paid
 returns-clause-paid g c =
-    let query = c.args.query.now.query in
-    let ranking = combinations_in query c.args.set.now.answers in
-    let start = c.args.cursor.now.place in
-    let given = c.loop-given._given in
-    let place = c.loop-given.cursor.place in
+    let loop = (goal.at.returns-clause-paid g c).At-loop-given in
     paid_spent g.E.Ranked.share g.met.E.Ranked.share_rises c.args.set.now c.loop-given.set _ _ c.args.steps.now c.loop-given.steps (Ok tt)
-    (given_done g.E.Ranked.share g.met.E.Ranked.share_rises query.limit ranking start given c.args.count place c.args.set.now c.loop-given.set
-    c.args.steps.now c.loop-given.steps c.loop-given.invariant.place c.loop-given.invariant.within c.loop-given.invariant.spent (omega arith))
+    (given_done (given g loop) (omega arith))

@@ -1,9 +1,33 @@
-use Rattle.std.proofs.Common.{◌≡◌, ◌∙◌, List, ℕ, Vec, Global, length, map, sum, sym, ap, subst, arith}
+use Rattle.std.proofs.Common.{◌∙◌, List, ℕ, Vec, Global, length, map, sym, ap, subst, arith}
 use Rattle.node_build.specs.Rows.{HaveRows, lists_of}
-use Rattle.std.proofs.lemmas.List.Sums.{sum-map}
-use Rattle.node_build.proofs.Costs.{cost_within, rows_fewer}
-use Rattle.node_build.proofs.Read.{built, counts_are, tie_free_lem}
+use Rattle.node_build.proofs.Costs.{cost_within, counts_sum, past_budget, rows_fewer, total_low}
+use Rattle.node_build.proofs.Read.{built, counts_are, row_total_is, tie_free_lem}
 use Rattle.node_build.proofs.building.build.Goals as goal
+
+pub sum_of-used-requires : goal.sum_of-used-requires
+sum_of-used-requires g c =
+    let rows = c.in_ok-rows.rows.items in
+    let total = counts_sum rows c.as_slice.result.now c.in_ok-rows_of.rows_of.items c.as_slice-2.result.now c.as_slice.ensures.value c.in_ok-rows_of.ensures c.as_slice-2.ensures.value in
+    let low = total_low c.args.query.now.query c.args.tables.now c.args.join.now c.requires.tree (lists_of rows) c.in_ok-rows.ensures.rows in
+    omega (arith, total, low)
+
+pub returns-then-used-budget-clause-refusal : goal.returns-then-used-budget-clause-refusal
+returns-then-used-budget-clause-refusal g c =
+    let rows = c.in_ok-rows.rows.items in
+    let total = counts_sum rows c.as_slice.result.now c.in_ok-rows_of.rows_of.items c.as_slice-2.result.now c.as_slice.ensures.value c.in_ok-rows_of.ensures c.as_slice-2.ensures.value in
+    past_budget c.args.query.now c.args.tables.now c.args.join.now (lists_of rows) c.in_ok-rows.ensures.rows c.args.budget
+    (omega (arith, total, c.sum_of-used.ensures, c.if-used-budget.true))
+
+pub filled_tree-requires-clause-rows : goal.filled_tree-requires-clause-rows
+filled_tree-requires-clause-rows g c =
+    let join = c.args.join.now in
+    subst (λ (vs : List (Vec ℕ Global)). HaveRows c.args.query.now.query c.args.tables.now join join.count (lists_of vs)) (sym c.as_slice-3.ensures.value) c.in_ok-rows.ensures.rows
+
+pub filled_tree-requires-clause-room : goal.filled_tree-requires-clause-room
+filled_tree-requires-clause-room g c =
+    let total = counts_sum c.as_slice-3.result.now c.as_slice.result.now c.in_ok-rows_of.rows_of.items c.as_slice-2.result.now
+    (c.as_slice.ensures.value ∙ sym c.as_slice-3.ensures.value) c.in_ok-rows_of.ensures c.as_slice-2.ensures.value in
+    omega (arith, total, c.sum_of-used.ensures, c.if-used-budget.false, c.requires.budget)
 
 pub returns-in_err-tree-clause-cost : goal.returns-in_err-tree-clause-cost
 returns-in_err-tree-clause-cost g c =
@@ -51,13 +75,18 @@ returns-clause-cost g c =
 
 pub returns-clause-fewer : goal.returns-clause-fewer
 returns-clause-fewer g c =
+    let rows = c.in_ok-rows.rows.items in
+    let few = rows_fewer c.args.query.now.query c.args.tables.now c.args.join.now c.requires.tree (lists_of rows) c.in_ok-rows.ensures.rows in
+    let total = counts_sum rows c.as_slice.result.now c.in_ok-rows_of.rows_of.items c.as_slice-2.result.now c.as_slice.ensures.value c.in_ok-rows_of.ensures c.as_slice-2.ensures.value in
+    omega (arith, few, total, c.sum_of-used.ensures)
+
+pub returns-clause-used : goal.returns-clause-used
+returns-clause-used g c =
     let query = c.args.query.now.query in
     let tables = c.args.tables.now in
     let join = c.args.join.now in
-    let rows = lists_of c.as_slice-3.result.now in
     let of_nodes = subst (λ (vs : List (Vec ℕ Global)). HaveRows query tables join join.count (lists_of vs)) (sym c.as_slice-3.ensures.value) c.in_ok-rows.ensures.rows in
-    let few = rows_fewer query tables join c.requires.tree rows of_nodes in
-    let counts : c.in_ok-rows_of.rows_of.items ≡ map length rows =
-    c.in_ok-rows_of.ensures ∙ ap (λ (vs : List (Vec ℕ Global)). map length (lists_of vs)) (c.as_slice.ensures.value ∙ sym c.as_slice-3.ensures.value) in
-    let total = ap sum (c.as_slice-2.ensures.value ∙ counts) ∙ sum-map length rows in
-    omega (arith, few, total, c.sum_of-used.ensures)
+    let total = counts_sum c.as_slice-3.result.now c.as_slice.result.now c.in_ok-rows_of.rows_of.items c.as_slice-2.result.now
+    (c.as_slice.ensures.value ∙ sym c.as_slice-3.ensures.value) c.in_ok-rows_of.ensures c.as_slice-2.ensures.value in
+    c.sum_of-used.ensures ∙ total ∙ row_total_is c.args.query.now tables c.requires.fits c.count-count.ensures.sound join c.requires.tree g.R.Rank.KEYS g.R.Rank.key
+    (lists_of c.as_slice-3.result.now) c.in_ok-tree.tree of_nodes c.in_ok-tree.ensures.shapes c.in_ok-tree.ensures.filled

@@ -1,7 +1,7 @@
 use Rattle.std.proofs.Common.{◌≡◌, ◌≤◌, ◌+◌, ℕ, List, [], ◌∷◌, ◌++◌, length, get_or, take, sym, ap, subst, inl, inr, arith}
 use Rattle.std.proofs.lemmas.List.{take_all, take_more}
 use Rattle.rankings.specs.Order.{IsMember}
-use Rattle.query_bind.proofs.Lists.{member-index, member_parts}
+use Rattle.rankings.proofs.Members.{get_member, member_parts}
 use Rattle.node_build.proofs.columns.place_of.Goals as goal
 
 pub returns-then-variable-number-clause-found : goal.returns-then-variable-number-clause-found
@@ -10,7 +10,7 @@ returns-then-variable-number-clause-found c =
     let i = c.loop-variable.variable-index in
     let x : ℕ × ℕ = get_or xs i (0, 0) in
     let same : x.0 ≡ c.args.number = c.if-variable-number.true in
-    subst (λ (n : ℕ). IsMember {K = ℕ × ℕ} (n, x.1) xs) same (member-index xs i (0, 0) (omega arith))
+    subst (λ (n : ℕ). IsMember {K = ℕ × ℕ} (n, x.1) xs) same (get_member xs i (0, 0) (omega arith))
 
 pub loop-variable-preserved : goal.loop-variable-preserved
 loop-variable-preserved c place m =

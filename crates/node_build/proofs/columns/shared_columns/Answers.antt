@@ -1,6 +1,6 @@
 use Rattle.std.proofs.Common.{◌<◌, ◌≤◌, ◌+◌, ℕ, List, [], ◌∷◌, ◌++◌, length, get_or, take, sym, subst, arith}
-use Rattle.query_bind.proofs.Filtering.{at_any}
-use Rattle.query_bind.proofs.Lists.{member-index}
+use Rattle.bound_query.proofs.Lists.{at_any}
+use Rattle.rankings.proofs.Members.{get_member}
 use Rattle.node_build.proofs.Sharing.{SoFar, shared_all, shared_more, shared_skip}
 use Rattle.node_build.proofs.columns.shared_columns.Goals as goal
 
@@ -20,7 +20,7 @@ loop-variable-preserved c =
     let v : ℕ × ℕ = get_or xs i (0, 0) in
     let inside : i < length xs = omega arith in
     let here = shared_more c.args.query.now c.args.item c.args.other xs i v c.in-Some.place c.loop-variable.columns.items c.loop-variable.other_columns.items inside (at_any xs i (0, 0) v inside)
-    ((c.variables_of-variable-items.ensures.variables.members v).0 (member-index xs i (0, 0) inside))
+    ((c.variables_of-variable-items.ensures.variables.members v).0 (get_member xs i (0, 0) inside))
     ((c.variables_of-others.ensures.variables.members (v.0, c.in-Some.place)).0 c.in-Some.ensures.found) c.loop-variable.invariant in
     subst (λ (l : List ℕ). SoFar c.args.query.now c.args.item c.args.other (take (i + 1) xs) l c.push-in-loop-variable.new.self.items) (sym c.in_ok-push.ensures.items)
     (subst (λ (l : List ℕ). SoFar c.args.query.now c.args.item c.args.other (take (i + 1) xs) (c.loop-variable.columns.items ++ v.1 ∷ []) l) (sym c.in_ok-push-2.ensures.items) here)

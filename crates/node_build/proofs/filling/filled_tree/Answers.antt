@@ -1,13 +1,13 @@
 use Rattle.std.proofs.Common.{◌≡◌, ◌<◌, ◌*◌, ◌∙◌, ℕ, List, [], length, get_or, refl, sym, ap, subst, arith}
 use Rattle.std.proofs.Math.Nat.{mul-le-mul_right}
-use Rattle.std.proofs.lemmas.List.Sums.{sum_by_more, sum_by_more_le}
+use Rattle.std.proofs.lemmas.List.Sums.{sum_by-take-le, sum_by_more, sum_by_more_le}
 use Rattle.tdp_core.specs.declared.parts.NodeShape.{NodeShape}
 use Rattle.tdp_core.specs.RawData.{AreShapes, AreShapesHeld, rows_at}
 use Rattle.rankings.specs.Order.{IsMember}
 use Rattle.node_build.specs.PartialTrees.{AreFilled, HasOnlyMore}
 use Rattle.node_build.specs.Links.{HasRowsOf}
 use Rattle.node_build.specs.Rows.{lists_of}
-use Rattle.node_build.proofs.Begun.{names_count, no_numbers, no_rows_yet}
+use Rattle.node_build.proofs.Begun.{names_count, no_numbers, no_rows_yet, shapes_kept}
 use Rattle.node_build.proofs.Growing.{filled_more}
 use Rattle.node_build.proofs.Held.{shapes_held}
 use Rattle.node_build.proofs.Naming.{list_at, lists_length}
@@ -40,6 +40,26 @@ loop-node-init g c =
       filled = no_rows_yet c.args.query.now c.args.tables.now join own above g.R.Rank.KEYS g.R.Rank.key names (lists_of c.args.rows.now) c.as_slice.result.now c.in_ok-tree.tree count c.in_ok-tree.ensures;
       cost = omega arith;
     }
+
+pub bounds-rows-node : goal.bounds-rows-node
+bounds-rows-node g c = omega (arith, c.requires.rows.count, lists_length c.args.rows.now, c.loop-node-test.true)
+
+pub add_rows-requires-clause-columns : goal.add_rows-requires-clause-columns
+add_rows-requires-clause-columns g c = c.in_ok-columns.ensures
+
+pub add_rows-requires-clause-links : goal.add_rows-requires-clause-links
+add_rows-requires-clause-links g c = c.loop-node.invariant.count
+
+pub add_rows-requires-clause-shapes : goal.add_rows-requires-clause-shapes
+add_rows-requires-clause-shapes g c =
+    shapes_kept c.args.query.now c.args.tables.now c.args.join.now c.in_ok-shapes.shapes.items c.as_slice.result.now c.in_ok-tree.tree c.loop-node.tree
+    (c.in_ok-shapes.ensures c.args.tables.now c.requires.fits) c.as_slice.ensures.value c.in_ok-tree.ensures c.loop-node.invariant.shapes
+
+pub add_rows-requires-clause-each_node : goal.add_rows-requires-clause-each_node
+add_rows-requires-clause-each_node g c = c.loop-node.invariant.filled.each_node
+
+pub add_rows-requires-clause-empty : goal.add_rows-requires-clause-empty
+add_rows-requires-clause-empty g c = c.loop-node.invariant.filled.empty c.loop-node.node (omega arith)
 
 pub add_rows-requires-clause-rows : goal.add_rows-requires-clause-rows
 add_rows-requires-clause-rows g c row m =
@@ -98,6 +118,11 @@ loop-node-preserved g c =
       cost = omega (arith, size, one, before.cost, now.cost);
     }
 
+pub returns-clause-shapes : goal.returns-clause-shapes
+returns-clause-shapes g c =
+    shapes_kept c.args.query.now c.args.tables.now c.args.join.now c.in_ok-shapes.shapes.items c.as_slice.result.now c.in_ok-tree.tree c.loop-node.tree
+    (c.in_ok-shapes.ensures c.args.tables.now c.requires.fits) c.as_slice.ensures.value c.in_ok-tree.ensures c.loop-node.invariant.shapes
+
 pub returns-clause-filled : goal.returns-clause-filled
 returns-clause-filled g c =
     let own = lists_of c.in_ok-columns.columns.own.items in
@@ -112,3 +137,8 @@ returns-clause-filled g c =
       numbers = c.loop-node.invariant.numbers;
       filled = subst (λ (n : ℕ). AreFilled c.args.query.now c.args.tables.now c.args.join.now own above g.R.Rank.KEYS g.R.Rank.key names n (lists_of c.args.rows.now) c.loop-node.tree) all c.loop-node.invariant.filled;
     }
+
+pub returns-clause-cost : goal.returns-clause-cost
+returns-clause-cost g c =
+    let most = mul-le-mul_right c.args.join.now.count (sum_by-take-le (λ (xs : List ℕ). length xs) (lists_of c.args.rows.now) c.loop-node.node) in
+    omega (arith, most, c.loop-node.invariant.cost)

@@ -1,7 +1,7 @@
 use Rattle.std.proofs.Common.{◌≡◌, ◌<◌, ◌≤◌, ◌+◌, ◌-◌, ◌++◌, ◌∷◌, [], ◌∙◌, ℕ, List, length, map, get_or, refl, take, sym, ap, subst, arith}
 use Rattle.std.proofs.lemmas.List.{map-append, take_all, take_more}
 use Rattle.anyk_model.specs.Table.{field_at, table_at}
-use Rattle.csv_tables.specs.Values.{number_of}
+use Rattle.table_store.specs.Values.{number_of}
 use Rattle.counted_index.specs.Pairs.{IsNumbered}
 use Rattle.node_build.specs.Links.{IsListNumber, values_in}
 use Rattle.node_build.proofs.Numbering.{list_more, more_same, more_trans}

@@ -1,15 +1,41 @@
-use Rattle.std.proofs.Common.{◌≡◌, ◌<◌, ◌∙◌, ℕ, List, [], length, get_or, refl, sym, ap, subst, arith}
+use Rattle.std.proofs.Common.{◌≡◌, ◌<◌, ◌∙◌, ◌^◌, ℕ, List, [], length, get_or, refl, sym, ap, subst, arith}
 use Rattle.anyk_model.specs.Table.{table_at}
-use Rattle.query_bind.specs.Weights.{table_in}
+use Rattle.bound_query.specs.Weights.{table_in}
 use Rattle.node_build.specs.Links.{IsLink, NamesLinks, values_at, values_in}
 use Rattle.node_build.specs.Nodes.{item_of, parent_of}
 use Rattle.node_build.specs.Rows.{lists_of}
 use Rattle.node_build.proofs.Fitting.{children_are, row_fits}
+use Rattle.node_build.proofs.Items.{item_below_16, row_below, table_there}
 use Rattle.node_build.proofs.Naming.{kids_below_lem, list_at, lists_length, own_there}
 use Rattle.node_build.proofs.Numbering.{link_kept, more_trans}
 use Rattle.node_build.proofs.Results.{on_ok, on_ok_map}
-use Rattle.node_build.proofs.Shaped.{few_nodes_lem, item_known}
+use Rattle.node_build.proofs.Shaped.{item_known}
 use Rattle.node_build.proofs.node.add_row.Goals as goal
+
+pub table_of-table-requires : goal.table_of-table-requires
+table_of-table-requires g c = item_known c.args.query.now.query c.args.join.now c.requires.tree c.args.node c.requires.node
+
+pub len-rows-requires : goal.len-rows-requires
+len-rows-requires g c =
+    let known = item_known c.args.query.now.query c.args.join.now c.requires.tree c.args.node c.requires.node in
+    table_there c.args.query.now c.args.tables.now c.requires.fits (item_of c.args.join.now c.args.node) c.table_of-table.result known c.table_of-table.ensures
+
+pub index-requires : goal.index-requires
+index-requires g c = omega (arith, c.requires.columns.own_count, lists_length c.args.columns.now.own.items, c.requires.node)
+
+pub link-requires-clause-table : goal.link-requires-clause-table
+link-requires-clause-table g c =
+    let known = item_known c.args.query.now.query c.args.join.now c.requires.tree c.args.node c.requires.node in
+    table_there c.args.query.now c.args.tables.now c.requires.fits (item_of c.args.join.now c.args.node) c.table_of-table.result known c.table_of-table.ensures
+
+pub link-requires-clause-row : goal.link-requires-clause-row
+link-requires-clause-row g c = rw c.table_of-table.ensures c.requires.row
+
+pub link-requires-clause-node : goal.link-requires-clause-node
+link-requires-clause-node g c = omega (arith, c.requires.links, c.requires.node)
+
+pub child_links-requires-clause-links : goal.child_links-requires-clause-links
+child_links-requires-clause-links g c = c.in_ok-own_link.ensures.more.count ∙ c.requires.links
 
 pub link-requires-clause-columns : goal.link-requires-clause-columns
 link-requires-clause-columns g c =
@@ -28,13 +54,15 @@ returns-in_err-child_links-clause-cost g c =
 pub add_row-requires-clause-fits : goal.add_row-requires-clause-fits
 add_row-requires-clause-fits g c =
     let query = c.args.query.now in
+    let tables = c.args.tables.now in
     let join = c.args.join.now in
-    let few = few_nodes_lem query.query join c.requires.tree in
-    let known = item_known query.query join c.requires.tree c.args.node c.requires.node in
-    let table = ap (λ (t : ℕ). length (table_at c.args.tables.now t).rows) c.table_of-table.ensures in (
-      row_fits query c.args.tables.now join c.args.tree.now.shapes c.requires.shapes c.args.node c.requires.node g.R.Rank.KEYS c.args.row (g.R.Rank.key c.rank_of-rank.result)
-          (omega (arith, known, few, c.requires.tree.count)) (omega (arith, table, c.len-rows.ensures, c.requires.row)) c.rank_of-rank.ensures,
-      ap length c.as_slice.ensures.value ∙ c.in_ok-child_links.ensures.count ∙ children_are query c.args.tables.now join c.args.tree.now.shapes c.requires.shapes c.args.node c.requires.node,
+    let node = c.args.node in
+    let shapes = c.args.tree.now.shapes in
+    let low = row_below tables query.query.items (item_of join node) c.table_of-table.result c.len-rows.result c.args.row (2 ^ 21)
+    c.table_of-table.ensures c.len-rows.ensures.rows c.len-rows.ensures.limit c.requires.row (omega arith) in (
+      row_fits query tables join shapes c.requires.shapes node c.requires.node g.R.Rank.KEYS c.args.row (g.R.Rank.key c.rank_of-rank.result)
+          (item_below_16 query.query join c.requires.tree node c.requires.node) low c.rank_of-rank.ensures,
+      ap length c.as_slice.ensures.value ∙ c.in_ok-child_links.ensures.count ∙ children_are query tables join shapes c.requires.shapes node c.requires.node,
     )
 
 pub returns-clause-more : goal.returns-clause-more

@@ -1,6 +1,8 @@
-use Rattle.std.proofs.Common.{◌≡◌, ◌<◌, ◌∙◌, length, get_or, refl, sym, ap, subst, arith}
+use Rattle.std.proofs.Common.{◌≡◌, ◌<◌, ◌≤◌, ◌+◌, ◌*◌, ◌∙◌, ℕ, length, get_or, refl, sym, ap, subst, arith}
+use Rattle.std.proofs.Math.Nat.{mul-le-mul_right}
 use Rattle.tdp_core.specs.RawData.{RawData, row_total, rows_at}
-use Rattle.query_bind.proofs.Lists.{member-index}
+use Rattle.rankings.proofs.Members.{get_member}
+use Rattle.node_build.specs.Links.{HasRowsOf}
 use Rattle.node_build.specs.PartialTrees.{HasOnlyMore}
 use Rattle.node_build.specs.Rows.{lists_of}
 use Rattle.node_build.specs.Shapes.{AreShapesOf}
@@ -22,22 +24,31 @@ loop-row-init g c =
 
 pub add_row-requires-clause-first : goal.add_row-requires-clause-first
 add_row-requires-clause-first g c =
-    (c.requires.rows (get_or c.args.rows.now c.loop-row.row-index 0) (member-index c.args.rows.now c.loop-row.row-index 0 (omega arith))).0
+    (c.requires.rows (get_or c.args.rows.now c.loop-row.row-index 0) (get_member c.args.rows.now c.loop-row.row-index 0 (omega arith))).0
 
 pub add_row-requires-clause-row : goal.add_row-requires-clause-row
 add_row-requires-clause-row g c =
-    (c.requires.rows (get_or c.args.rows.now c.loop-row.row-index 0) (member-index c.args.rows.now c.loop-row.row-index 0 (omega arith))).1
+    (c.requires.rows (get_or c.args.rows.now c.loop-row.row-index 0) (get_member c.args.rows.now c.loop-row.row-index 0 (omega arith))).1
 
 pub add_row-requires-clause-shapes : goal.add_row-requires-clause-shapes
 add_row-requires-clause-shapes g c =
     let same = c.loop-row.invariant.others.shapes ∙ ap (λ (t : RawData g.row.R.Denot). t.shapes) c.reserve.ensures in
     subst (AreShapesOf c.args.query.now c.args.tables.now c.args.join.now c.args.join.now.count) (sym same) c.requires.shapes
 
+pub add_row-requires-clause-links : goal.add_row-requires-clause-links
+add_row-requires-clause-links g c = c.loop-row.invariant.more.count ∙ c.requires.links
+
 pub add_row-requires-clause-room : goal.add_row-requires-clause-room
 add_row-requires-clause-room g c =
     let same = ap (λ (t : RawData g.row.R.Denot). row_total t) c.reserve.ensures in
     let total = c.loop-row.invariant.others.total in
     omega (arith, same, total, c.requires.room)
+
+pub returns-in_err-add_row-clause-cost : goal.returns-in_err-add_row-clause-cost
+returns-in_err-add_row-clause-cost g c =
+    let less : c.loop-row.row-index + 1 ≤ length c.args.rows.now = omega arith in
+    let most = mul-le-mul_right c.args.join.now.count less in
+    omega (arith, most, c.loop-row.invariant.cost, c.in_err-add_row.ensures.cost)
 
 pub loop-row-preserved : goal.loop-row-preserved
 loop-row-preserved g c =
@@ -61,3 +72,15 @@ returns-clause-others g c =
     let all : c.loop-row.row-index ≡ length c.args.rows.now = omega arith in
     subst (λ n. HasOnlyMore c.args.node n c.args.tree.now c.loop-row.tree) all
     (subst (λ (t : RawData g.row.R.Denot). HasOnlyMore c.args.node c.loop-row.row-index t c.loop-row.tree) c.reserve.ensures c.loop-row.invariant.others)
+
+pub returns-clause-rows : goal.returns-clause-rows
+returns-clause-rows g c =
+    let all : c.loop-row.row-index ≡ length c.args.rows.now = omega arith in
+    subst (λ (n : ℕ). HasRowsOf c.args.query.now c.args.tables.now c.args.join.now (lists_of c.args.columns.now.own.items) (lists_of c.args.columns.now.above.items) g.R.Rank.KEYS g.R.Rank.key
+    c.loop-row.links c.args.node n c.args.rows.now (rows_at c.loop-row.tree c.args.node)) all c.loop-row.invariant.rows
+
+pub returns-clause-cost : goal.returns-clause-cost
+returns-clause-cost g c =
+    let all : c.loop-row.row-index ≡ length c.args.rows.now = omega arith in
+    let same = ap (λ (n : ℕ). n * c.args.join.now.count) all in
+    omega (arith, same, c.loop-row.invariant.cost)

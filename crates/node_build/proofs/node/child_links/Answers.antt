@@ -1,12 +1,15 @@
 use Rattle.std.proofs.Common.{◌≡◌, ◌≢◌, ◌<◌, ◌+◌, ◌∙◌, ◌∷◌, ℕ, List, [], length, get_or, sym, ap, subst, arith, length-append}
+use Rattle.tdp_core.specs.TreeData.{kids_below}
 use Rattle.tdp_core.proofs.Children.{kids_below_child, kids_below_other}
 use Rattle.anyk_model.specs.Table.{table_at}
-use Rattle.query_bind.specs.Weights.{table_in}
+use Rattle.bound_query.specs.Weights.{table_in}
 use Rattle.node_build.specs.Nodes.{item_of, parent_of}
 use Rattle.node_build.specs.Rows.{lists_of}
+use Rattle.node_build.proofs.Items.{table_there}
 use Rattle.node_build.proofs.Naming.{above_there, kids_first, kids_rise, list_at, lists_length, names_more, names_none, names_skip}
 use Rattle.node_build.proofs.Numbering.{more_same, more_trans}
-use Rattle.node_build.specs.Links.{IsLink, values_at, values_in}
+use Rattle.node_build.proofs.Shaped.{item_known}
+use Rattle.node_build.specs.Links.{IsLink, NamesLinks, values_at, values_in}
 use Rattle.node_build.proofs.node.child_links.Goals as goal
 
 pub loop-child-init : goal.loop-child-init
@@ -31,6 +34,23 @@ loop-child-preserved-then-join-child g c =
       names = names_skip c.args.query.now c.args.tables.now c.args.join.now (lists_of c.args.columns.now.own.items) (lists_of c.args.columns.now.above.items) c.loop-child.links c.args.node c.args.row c.loop-child.child c.loop-child.named.items other before.names;
       cost = omega (arith, before.cost, same);
     }
+
+pub table_of-table-requires : goal.table_of-table-requires
+table_of-table-requires g c = item_known c.args.query.now.query c.args.join.now c.requires.tree c.args.node c.requires.node
+
+pub index-requires : goal.index-requires
+index-requires g c = omega (arith, c.requires.columns.above_count, lists_length c.args.columns.now.above.items, c.loop-child-test.true)
+
+pub link-requires-clause-table : goal.link-requires-clause-table
+link-requires-clause-table g c =
+    let known = item_known c.args.query.now.query c.args.join.now c.requires.tree c.args.node c.requires.node in
+    table_there c.args.query.now c.args.tables.now c.requires.fits (item_of c.args.join.now c.args.node) c.table_of-table.result known c.table_of-table.ensures
+
+pub link-requires-clause-row : goal.link-requires-clause-row
+link-requires-clause-row g c = rw c.table_of-table.ensures c.requires.row
+
+pub link-requires-clause-node : goal.link-requires-clause-node
+link-requires-clause-node g c = omega (arith, c.loop-child.invariant.more.count, c.requires.links, c.loop-child-test.true)
 
 pub link-requires-clause-columns : goal.link-requires-clause-columns
 link-requires-clause-columns g c =
@@ -81,3 +101,20 @@ loop-child-preserved g c =
           c.in_ok-link.field-0 c.in_ok-link.ensures.more (omega arith) below before.count pushed before.names here;
       cost = omega (arith, one, before.cost, c.in_ok-link.ensures.cost);
     }
+
+pub returns-clause-count : goal.returns-clause-count
+returns-clause-count g c =
+    let all : c.loop-child.child ≡ c.args.join.now.count = omega arith in
+    c.loop-child.invariant.count ∙ ap (kids_below (parent_of c.args.join.now) c.args.node) all
+
+pub returns-clause-names : goal.returns-clause-names
+returns-clause-names g c =
+    let all : c.loop-child.child ≡ c.args.join.now.count = omega arith in
+    subst (λ (n : ℕ). NamesLinks c.args.query.now c.args.tables.now c.args.join.now (lists_of c.args.columns.now.own.items) (lists_of c.args.columns.now.above.items)
+    c.loop-child.links c.args.node c.args.row n c.loop-child.named.items) all c.loop-child.invariant.names
+
+pub returns-clause-cost : goal.returns-clause-cost
+returns-clause-cost g c =
+    let all : c.loop-child.child ≡ c.args.join.now.count = omega arith in
+    let same = ap (kids_below (parent_of c.args.join.now) c.args.node) all in
+    omega (arith, same, c.loop-child.invariant.cost)

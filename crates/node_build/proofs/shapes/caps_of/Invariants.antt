@@ -1,7 +1,7 @@
 use Rattle.std.proofs.Common.{◌≡◌, ◌<◌, ◌≤◌, ℕ, List, length, slice_index}
 use Rattle.anyk_model.specs.Table.{Table}
-use Rattle.query_bind.specs.WeighedQuery.{Fits}
-use Rattle.query_bind.specs.Weights.{cap_of, key_at}
+use Rattle.bound_query.specs.WeighedQuery.{Fits}
+use Rattle.bound_query.specs.Weights.{cap_of, key_at}
 use Rattle.node_build.proofs.shapes.caps_of.Given as goal
 
 abbrev pub invariant-loop-key : goal.invariant-loop-key

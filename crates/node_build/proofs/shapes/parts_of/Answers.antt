@@ -1,7 +1,7 @@
 use Rattle.std.proofs.Common.{[], false, ◌<◌, ◌∙◌, SFits, length, arith, rules}
 use mir.Syntax.{w128}
 use Rattle.std.proofs.lemmas.List.{length-set}
-use Rattle.query_bind.specs.Weights.{part_of}
+use Rattle.bound_query.specs.Weights.{part_of}
 use Rattle.node_build.proofs.Ranks.{kept, places_more}
 use Rattle.node_build.proofs.shapes.parts_of.Goals as goal
 

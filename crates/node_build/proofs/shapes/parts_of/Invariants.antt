@@ -1,5 +1,5 @@
 use Rattle.std.proofs.Common.{◌≡◌, length, map, take}
-use Rattle.query_bind.specs.Weights.{part_of}
+use Rattle.bound_query.specs.Weights.{part_of}
 use Rattle.node_build.proofs.shapes.parts_of.Given as goal
 
 abbrev pub invariant-loop-key : goal.invariant-loop-key

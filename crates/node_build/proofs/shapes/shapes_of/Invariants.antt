@@ -1,6 +1,6 @@
 use Rattle.std.proofs.Common.{List}
 use Rattle.anyk_model.specs.Table.{Table}
-use Rattle.query_bind.specs.WeighedQuery.{Fits}
+use Rattle.bound_query.specs.WeighedQuery.{Fits}
 use Rattle.node_build.specs.Shapes.{AreShapesOf}
 use Rattle.node_build.proofs.shapes.shapes_of.Given as goal
 

@@ -1,17 +1,42 @@
-use Rattle.std.proofs.Common.{◌≡◌, ◌≢◌, suc, ◌+◌, ◌-◌, ◌<◌, option_map, unwrap_or, length, take, slice_index}
+use Rattle.std.proofs.Common.{◌≡◌, ◌≢◌, List, suc, ◌+◌, ◌-◌, ◌<◌, option_map, length, take, slice_index}
 use Rattle.std.proofs.Common.{sym, ap, ◌∙◌, subst, arith}
-use Rattle.tdp_model.specs.KeyTuple.{key_add, key_none}
+use Rattle.anyk_model.specs.Query.{Query}
+use Rattle.anyk_model.specs.Table.{Table}
+use Rattle.tdp_model.specs.KeyTuple.{key_add}
 use Rattle.rank_key.specs.Keys.{KeyFits}
 use Rattle.tdp_core.specs.RawData.{IsRawFormed, raw_len, raw_number, raw_rank}
 use Rattle.proof_model.specs.QueryProblem.{problem_in}
 use Rattle.proof_bounds.specs.BoundedRows.{named_bound, rank_of_bound}
 use Rattle.proof_answers.specs.Lows.{IsLow}
 use Rattle.proof_answers.proofs.LowKeys.{low_none, low_some}
-use Rattle.proof_answers.proofs.LowParts.{AreNamed, low_part, named_key, part_none, part_child, part_other}
-use Rattle.proof_answers.proofs.LowParts.{named_more, low_fits}
-use Rattle.proof_answers.proofs.Nodes.{all_nodes, parent_at, parents_first_lem, option_none, option_some}
+use Rattle.proof_answers.proofs.LowParts.{AreNamed, low_part, part_none, part_child, part_other}
+use Rattle.proof_answers.proofs.LowParts.{named_found, named_more, low_fits}
+use Rattle.proof_answers.proofs.Nodes.{all_nodes, parent_at, parents_first_lem, option_none}
+use Rattle.proof_answers.proofs.covering.low_bound.Given.{Over}
 use Rattle.proof_answers.proofs.covering.low_bound.Goals as goal
-use Rattle.proof_answers.proofs.covering.low_bound.Goals.{then-join-child+in_ok-bound, else-join-child}
+use Rattle.proof_answers.proofs.covering.low_bound.Goals.{At-loop-child, In-loop-child, then-join-child+in_ok-bound, else-join-child}
+
+-- # What the proofs share, of each query and its tables
+
+module _ (g : Over) where
+  -- the row's node is one of the problem's
+  node_in : (c : At-loop-child g) (query : Query) (tables : List Table) → c.args.node < (problem_in query tables c.args.join.now).nodes
+  node_in c query tables =
+      let long : length c.args.join.now.atom ≡ 16 = omega arith in
+      omega (arith, all_nodes query tables c.args.join.now c.requires.ordered long, c.requires.node)
+
+  -- and so is the child
+  child_in : (c : In-loop-child g) (query : Query) (tables : List Table) → length c.args.tree.now.raw.shapes ≡ (problem_in query tables c.args.join.now).nodes
+      → c.loop-child.child < (problem_in query tables c.args.join.now).nodes
+  child_in c query tables all =
+      omega (arith, c.loop-child-test.true, c.nodes-nodes.ensures.count, ap (λ z. length z.raw.shapes) c.tree.view_is, all)
+
+  -- whose parent the tree names
+  parent_is : (c : In-loop-child g) (query : Query) (tables : List Table) → c.loop-child.child < (problem_in query tables c.args.join.now).nodes
+      → (problem_in query tables c.args.join.now).parent c.loop-child.child ≡ slice_index c.args.join.now.parent c.loop-child.child
+  parent_is c query tables l =
+      let long : length c.args.join.now.atom ≡ 16 = omega arith in
+      parent_at query tables c.args.join.now c.requires.ordered long c.loop-child.child l
 
 pub loop-child-init : goal.loop-child-init
 loop-child-init g c =
@@ -31,18 +56,10 @@ loop-child-init g c =
 pub named_rank-requires-clause-above : goal.named_rank-requires-clause-above
 named_rank-requires-clause-above g c =
     let b = c.requires.bounded in
-    let join = c.args.join.now in
     let q = c.loop-child.child in
-    let long : length join.atom ≡ 16 = omega arith in
-    let l : q < (problem_in b.query b.tables join).nodes =
-    omega (
-      arith,
-      c.loop-child-test.true,
-      c.nodes-nodes.ensures.count,
-      ap (λ z. length z.raw.shapes) c.tree.view_is,
-      b.bounded.rows.nodes,
-    ) in
-    let is = parent_at b.query b.tables join c.requires.ordered long q l ∙ c.if-join-child.true in
+    let point = goal.at.named_rank-requires-clause-above g c in
+    let l = child_in g point.In-loop-child b.query b.tables b.bounded.rows.nodes in
+    let is = parent_is g point.In-loop-child b.query b.tables l ∙ c.if-join-child.true in
     let far = c.loop-child.auto.child in
     let p : 0 < q = omega (arith, far) in
     subst (λ n. c.args.row < n)
@@ -51,18 +68,10 @@ named_rank-requires-clause-above g c =
 pub named_rank-requires-clause-each : goal.named_rank-requires-clause-each
 named_rank-requires-clause-each g c number named =
     let b = c.requires.bounded in
-    let join = c.args.join.now in
     let q = c.loop-child.child in
-    let long : length join.atom ≡ 16 = omega arith in
-    let l : q < (problem_in b.query b.tables join).nodes =
-    omega (
-      arith,
-      c.loop-child-test.true,
-      c.nodes-nodes.ensures.count,
-      ap (λ z. length z.raw.shapes) c.tree.view_is,
-      b.bounded.rows.nodes,
-    ) in
-    let is = parent_at b.query b.tables join c.requires.ordered long q l ∙ c.if-join-child.true in
+    let point = goal.at.named_rank-requires-clause-each g c in
+    let l = child_in g point.In-loop-child b.query b.tables b.bounded.rows.nodes in
+    let is = parent_is g point.In-loop-child b.query b.tables l ∙ c.if-join-child.true in
     let far = c.loop-child.auto.child in
     let p : 0 < q = omega (arith, far) in
     (b.bounded.named_is q c.args.row number p l
@@ -76,18 +85,10 @@ returns-in_err-bound g c query tables cert few bounded =
     let key = g.R.Rank.key in
     let v = c.args.node in
     let q = c.loop-child.child in
-    let t = problem_in query tables join in
-    let long : length join.atom ≡ 16 = omega arith in
-    let l : q < t.nodes =
-    omega (
-      arith,
-      c.loop-child-test.true,
-      c.nodes-nodes.ensures.count,
-      ap (λ z. length z.raw.shapes) c.tree.view_is,
-      bounded.rows.nodes,
-    ) in
-    let is = parent_at query tables join c.requires.ordered long q l ∙ c.if-join-child.true in
-    let node : v < t.nodes = omega (arith, all_nodes query tables join c.requires.ordered long, c.requires.node) in
+    let point = goal.at.returns-in_err-bound g c in
+    let l = child_in g point.In-loop-child query tables bounded.rows.nodes in
+    let is = parent_is g point.In-loop-child query tables l ∙ c.if-join-child.true in
+    let node = node_in g point.At-loop-child query tables in
     let gone = option_none (rank_of_bound tree d key q) (named_bound tree q c.args.row) c.in_err-bound.ensures in
     subst (λ r. IsLow query tables join d cert v (raw_number tree.raw v c.args.row) (option_map key r))
     (sym c.from_residual.ensures)
@@ -104,34 +105,24 @@ join-low-requires g c =
     let v = c.args.node in
     let i = c.args.row in
     let q = c.loop-child.child in
-    let t = problem_in b.query b.tables join in
     let up = slice_index (take join.count join.parent) in
     let long : length join.atom ≡ 16 = omega arith in
-    let l : q < t.nodes =
-    omega (
-      arith,
-      c.loop-child-test.true,
-      c.nodes-nodes.ensures.count,
-      ap (λ z. length z.raw.shapes) c.tree.view_is,
-      b.bounded.rows.nodes,
-    ) in
-    let is = parent_at b.query b.tables join c.requires.ordered long q l ∙ c.if-join-child.true in
-    let node : v < t.nodes = omega (arith, all_nodes b.query b.tables join c.requires.ordered long, c.requires.node) in
+    let point = goal.at.join-low-requires g c in
+    let l = child_in g point.In-loop-child b.query b.tables b.bounded.rows.nodes in
+    let is = parent_is g point.In-loop-child b.query b.tables l ∙ c.if-join-child.true in
+    let node = node_in g point.At-loop-child b.query b.tables in
     let far = c.loop-child.auto.child in
     let n = q - suc v in
     let at : q ≡ suc v + n = omega (arith, far) in
-    let some = option_some (rank_of_bound tree d key q) (named_bound tree q i)
-    (key c.in_ok-bound.bound) c.in_ok-bound.ensures in
-    let named : key c.in_ok-bound.bound ≡ named_key d key tree up v i q =
-    some.2 ∙ sym (ap (λ o. unwrap_or (option_map (rank_of_bound tree d key q) o) (key_none d 16)) some.1) in
-    let all = named_more d key tree up v i n q at c.loop-child.invariant.named (λ u. (some.0, some.1)) in
+    let found = named_found d key tree up v i q (key c.in_ok-bound.bound) c.in_ok-bound.ensures in
+    let all = named_more d key tree up v i n q at c.loop-child.invariant.named (λ u. found.0) in
     let formed : IsRawFormed d key tree.raw =
     subst (λ z. IsRawFormed d key z.raw) c.tree.view_is c.nodes-nodes.ensures.formed in
     let fits = low_fits b.query b.tables join d key b.c tree b.few b.bounded
     (parents_first_lem b.query b.tables join c.requires.ordered long) formed v i (suc n) node c.requires.row all
     (omega (arith, at, l)) in
     subst (λ k. KeyFits d key (key_add d 16 k (key c.in_ok-bound.bound))) (sym c.loop-child.invariant.sum)
-    (subst (λ k. KeyFits d key (key_add d 16 (low_part d key tree up v i n) k)) (sym named)
+    (subst (λ k. KeyFits d key (key_add d 16 (low_part d key tree up v i n) k)) (sym found.1)
     (subst (KeyFits d key) (part_child d key tree up v i n q at is) fits))
 
 pub loop-child-preserved : goal.loop-child-preserved
@@ -144,18 +135,10 @@ loop-child-preserved g c =
     let v = c.args.node in
     let i = c.args.row in
     let q = c.loop-child.child in
-    let t = problem_in b.query b.tables join in
     let up = slice_index (take join.count join.parent) in
-    let long : length join.atom ≡ 16 = omega arith in
-    let l : q < t.nodes =
-    omega (
-      arith,
-      c.loop-child-test.true,
-      c.nodes-nodes.ensures.count,
-      ap (λ z. length z.raw.shapes) c.tree.view_is,
-      b.bounded.rows.nodes,
-    ) in
-    let above = parent_at b.query b.tables join c.requires.ordered long q l in
+    let point = goal.at.loop-child-preserved g c in
+    let l = child_in g point.In-loop-child b.query b.tables b.bounded.rows.nodes in
+    let above = parent_is g point.In-loop-child b.query b.tables l in
     let far = c.loop-child.auto.child in
     let n = q - suc v in
     let at : q ≡ suc v + n = omega (arith, far) in
@@ -163,16 +146,13 @@ loop-child-preserved g c =
     elim c.if-join-child.branch [
       | then-join-child+in_ok-bound w ↦
           let is : up q ≡ v = above ∙ w.if-join-child.true in
-          let some = option_some (rank_of_bound tree d key q) (named_bound tree q i)
-          (key w.in_ok-bound.bound) w.in_ok-bound.ensures in
-          let named : key w.in_ok-bound.bound ≡ named_key d key tree up v i q =
-          some.2 ∙ sym (ap (λ o. unwrap_or (option_map (rank_of_bound tree d key q) o) (key_none d 16)) some.1) in
+          let found = named_found d key tree up v i q (key w.in_ok-bound.bound) w.in_ok-bound.ensures in
           record {
             named = subst (AreNamed d key tree up v i) (sym more)
-                (named_more d key tree up v i n q at c.loop-child.invariant.named (λ u. (some.0, some.1)));
+                (named_more d key tree up v i n q at c.loop-child.invariant.named (λ u. found.0));
             sum = ap key w.low-is ∙ w.join-low.ensures.sum
                 ∙ ap (λ k. key_add d 16 k (key w.in_ok-bound.bound)) c.loop-child.invariant.sum
-                ∙ ap (λ k. key_add d 16 (low_part d key tree up v i n) k) named
+                ∙ ap (λ k. key_add d 16 (low_part d key tree up v i n) k) found.1
                 ∙ sym (part_child d key tree up v i n q at is) ∙ ap (low_part d key tree up v i) (sym more);
           }
       | else-join-child w ↦
@@ -194,8 +174,7 @@ returns g c query tables cert few bounded =
     let v = c.args.node in
     let i = c.args.row in
     let t = problem_in query tables join in
-    let long : length join.atom ≡ 16 = omega arith in
-    let node : v < t.nodes = omega (arith, all_nodes query tables join c.requires.ordered long, c.requires.node) in
+    let node = node_in g (goal.at.returns g c).At-loop-child query tables in
     let end = c.loop-child.auto.child-end in
     let done : c.loop-child.child ≡ t.nodes =
     omega (

@@ -4,7 +4,35 @@ use Rattle.std.proofs.lemmas.List.{get_or-map, get_or_default, length-map}
 use Rattle.proof_choices.specs.Levels.{AreOffers, FitsGroup, is_past, list_at}
 use Rattle.proof_choices.proofs.Known.{in_some}
 use Rattle.proof_choices.proofs.Walking.{left_before, left_first, left_none, list_asked, lists_more, offer_is, row_fits, row_in}
+use Rattle.proof_choices.proofs.leaving.branch_leaves_after.Given.{Over}
+use Rattle.proof_choices.proofs.leaving.branch_leaves_after.Goals.{After-deref, In-Some, In_ok-fill}
 use Rattle.proof_choices.proofs.leaving.branch_leaves_after.Goals as goal
+
+-- # What the proofs share
+
+module _ (g : Over) where
+  -- the least key of the branch's group is known
+  known_is : (c : In-Some g) → slice_index_or c.args.least.now c.args.branch.group None ≡ Some c.in-Some.known
+  known_is c = get_or_default c.args.least.now c.args.branch.group None _ c.requires.branch.within ∙ c.in-Some.is
+
+  -- there are as many lists as before
+  lists_kept : (c : In_ok-fill g) → length (map (λ v. v.items) c.fill.new.lists.items) ≡ length (map (λ v. v.items) c.args.lists.now.items)
+  lists_kept c =
+      let e = c.in_ok-fill.ensures.count in let v = c.fill.new.lists in let u = c.args.lists.now in
+      omega (arith, e, length-map c.fill.new.lists.items (λ v. v.items), length-map c.args.lists.now.items (λ v. v.items))
+
+  -- the list of the branch's group has the group's offers
+  offers_of : (c : After-deref g) → AreOffers c.args.join.now c.args.tree.now g.R.Rank.KEYS g.R.Rank.key c.args.node (list_at c.args.groups.now c.args.branch.group)
+      (g.R.Rank.key c.in-Some.known) (option_map g.R.Rank.key c.args.last.now) c.deref.result.now
+  offers_of c =
+      let inside : c.args.branch.group < length c.fill.new.lists.items =
+      let e = c.in_ok-fill.ensures.count in let l = c.requires.lists.count in let h = c.requires.branch.within in
+      let v = c.fill.new.lists in let u = c.args.lists.now in omega (arith, e, l, h, length-map c.args.lists.now.items (λ v. v.items)) in
+      let same : slice_index_or (map (λ v. v.items) c.fill.new.lists.items) c.args.branch.group [] ≡ c.deref.result.now =
+      get_or-map (λ v. v.items) c.fill.new.lists.items c.args.branch.group c.index.result.now [] inside
+      ∙ sym (ap (λ v. v.items) c.index.ensures) ∙ sym c.deref.ensures.value in
+      subst (AreOffers c.args.join.now c.args.tree.now g.R.Rank.KEYS g.R.Rank.key c.args.node (list_at c.args.groups.now c.args.branch.group)
+      (g.R.Rank.key c.in-Some.known) (option_map g.R.Rank.key c.args.last.now)) same c.in_ok-fill.ensures.list
 
 pub fill-requires-clause-rows : goal.fill-requires-clause-rows
 fill-requires-clause-rows g c m l =
@@ -16,8 +44,8 @@ pub fill-requires-clause-fits : goal.fill-requires-clause-fits
 fill-requires-clause-fits g c =
     let d = g.R.Rank.KEYS in
     let key = g.R.Rank.key in
-    let is : slice_index_or c.args.least.now c.args.branch.group None ≡ Some c.in-Some.known =
-    get_or_default c.args.least.now c.args.branch.group None _ c.requires.branch.within ∙ c.in-Some.is in
+    let at = goal.at.fill-requires-clause-fits g c in
+    let is = known_is g at.In-Some in
     row_fits c.args.join.now c.args.tree.now d key c.requires.bounded c.requires.ordered c.requires.long
     c.args.node c.requires.node (length c.args.least.now) c.args.groups.now c.requires.groups c.args.branch.group
     (key c.in-Some.known) c.requires.branch.within
@@ -28,8 +56,8 @@ pub fill-requires-clause-list : goal.fill-requires-clause-list
 fill-requires-clause-list g c =
     let d = g.R.Rank.KEYS in
     let key = g.R.Rank.key in
-    let is : slice_index_or c.args.least.now c.args.branch.group None ≡ Some c.in-Some.known =
-    get_or_default c.args.least.now c.args.branch.group None _ c.requires.branch.within ∙ c.in-Some.is in
+    let at = goal.at.fill-requires-clause-list g c in
+    let is = known_is g at.In-Some in
     list_asked c.args.join.now c.args.tree.now d key c.requires.bounded c.requires.ordered c.requires.long c.args.node
     c.requires.node (option_map key c.args.last.now) c.args.groups.now c.args.least.now _ c.args.branch.group c.in-Some.known
     c.requires.lists c.requires.branch.within is
@@ -39,16 +67,9 @@ join-rank-requires g c =
     let d = g.R.Rank.KEYS in
     let key = g.R.Rank.key in
     let b = c.args.branch in
-    let is : slice_index_or c.args.least.now b.group None ≡ Some c.in-Some.known =
-    get_or_default c.args.least.now b.group None _ c.requires.branch.within ∙ c.in-Some.is in
-    let inside : b.group < length c.fill.new.lists.items =
-    let e = c.in_ok-fill.ensures.count in let l = c.requires.lists.count in let h = c.requires.branch.within in
-    let v = c.fill.new.lists in let u = c.args.lists.now in omega (arith, e, l, h, length-map c.args.lists.now.items (λ v. v.items)) in
-    let same : slice_index_or (map (λ v. v.items) c.fill.new.lists.items) b.group [] ≡ c.deref.result.now =
-    get_or-map (λ v. v.items) c.fill.new.lists.items b.group c.index.result.now [] inside
-    ∙ sym (ap (λ v. v.items) c.index.ensures) ∙ sym c.deref.ensures.value in
-    let are = subst (AreOffers c.args.join.now c.args.tree.now d key c.args.node (list_at c.args.groups.now b.group)
-    (key c.in-Some.known) (option_map key c.args.last.now)) same c.in_ok-fill.ensures.list in
+    let at = goal.at.join-rank-requires g c in
+    let is = known_is g at.In-Some in
+    let are = offers_of g at.After-deref in
     let found = c.in-Some-first_open.ensures.found in
     let this = offer_is c.args.join.now c.args.tree.now d key c.requires.bounded c.requires.ordered c.requires.long c.args.node
     c.requires.node c.args.least.now c.args.groups.now c.requires.groups b c.requires.branch c.in-Some.known is
@@ -61,11 +82,9 @@ returns-in-None-clause-lists g c =
     let d = g.R.Rank.KEYS in
     let key = g.R.Rank.key in
     let b = c.args.branch in
-    let is : slice_index_or c.args.least.now b.group None ≡ Some c.in-Some.known =
-    get_or_default c.args.least.now b.group None _ c.requires.branch.within ∙ c.in-Some.is in
-    let size : length (map (λ v. v.items) c.fill.new.lists.items) ≡ length (map (λ v. v.items) c.args.lists.now.items) =
-    let e = c.in_ok-fill.ensures.count in let v = c.fill.new.lists in let u = c.args.lists.now in
-    omega (arith, e, length-map c.fill.new.lists.items (λ v. v.items), length-map c.args.lists.now.items (λ v. v.items)) in
+    let at = goal.at.returns-in-None-clause-lists g c in
+    let is = known_is g at.In-Some in
+    let size = lists_kept g at.In_ok-fill in
     lists_more c.args.join.now c.args.tree.now d key c.requires.bounded c.requires.ordered c.requires.long c.args.node
     c.requires.node (option_map key c.args.last.now) c.args.groups.now c.args.least.now _ _ b.group c.in-Some.known
     c.requires.lists is size c.in_ok-fill.ensures.others c.in_ok-fill.ensures.list
@@ -75,16 +94,9 @@ returns-in-None-clause-passed g c _ =
     let d = g.R.Rank.KEYS in
     let key = g.R.Rank.key in
     let b = c.args.branch in
-    let is : slice_index_or c.args.least.now b.group None ≡ Some c.in-Some.known =
-    get_or_default c.args.least.now b.group None _ c.requires.branch.within ∙ c.in-Some.is in
-    let inside : b.group < length c.fill.new.lists.items =
-    let e = c.in_ok-fill.ensures.count in let l = c.requires.lists.count in let h = c.requires.branch.within in
-    let v = c.fill.new.lists in let u = c.args.lists.now in omega (arith, e, l, h, length-map c.args.lists.now.items (λ v. v.items)) in
-    let same : slice_index_or (map (λ v. v.items) c.fill.new.lists.items) b.group [] ≡ c.deref.result.now =
-    get_or-map (λ v. v.items) c.fill.new.lists.items b.group c.index.result.now [] inside
-    ∙ sym (ap (λ v. v.items) c.index.ensures) ∙ sym c.deref.ensures.value in
-    let are = subst (AreOffers c.args.join.now c.args.tree.now d key c.args.node (list_at c.args.groups.now b.group)
-    (key c.in-Some.known) (option_map key c.args.last.now)) same c.in_ok-fill.ensures.list in
+    let at = goal.at.returns-in-None-clause-passed g c in
+    let is = known_is g at.In-Some in
+    let are = offers_of g at.After-deref in
     left_none c.args.join.now c.args.tree.now d key c.requires.bounded c.requires.ordered c.requires.long c.args.node
     c.requires.node c.args.least.now c.args.groups.now c.requires.groups b c.requires.branch c.in-Some.known is
     (option_map key c.args.last.now) c.deref.result.now are c.args.taken.now c.args.number c.in-None.ensures.none
@@ -94,11 +106,9 @@ returns-in-Some-first_open-clause-lists g c =
     let d = g.R.Rank.KEYS in
     let key = g.R.Rank.key in
     let b = c.args.branch in
-    let is : slice_index_or c.args.least.now b.group None ≡ Some c.in-Some.known =
-    get_or_default c.args.least.now b.group None _ c.requires.branch.within ∙ c.in-Some.is in
-    let size : length (map (λ v. v.items) c.fill.new.lists.items) ≡ length (map (λ v. v.items) c.args.lists.now.items) =
-    let e = c.in_ok-fill.ensures.count in let v = c.fill.new.lists in let u = c.args.lists.now in
-    omega (arith, e, length-map c.fill.new.lists.items (λ v. v.items), length-map c.args.lists.now.items (λ v. v.items)) in
+    let at = goal.at.returns-in-Some-first_open-clause-lists g c in
+    let is = known_is g at.In-Some in
+    let size = lists_kept g at.In_ok-fill in
     lists_more c.args.join.now c.args.tree.now d key c.requires.bounded c.requires.ordered c.requires.long c.args.node
     c.requires.node (option_map key c.args.last.now) c.args.groups.now c.args.least.now _ _ b.group c.in-Some.known
     c.requires.lists is size c.in_ok-fill.ensures.others c.in_ok-fill.ensures.list
@@ -109,16 +119,9 @@ returns-in-Some-first_open-clause-passed g c good =
     let key = g.R.Rank.key in
     let b = c.args.branch in
     let last = option_map key c.args.last.now in
-    let is : slice_index_or c.args.least.now b.group None ≡ Some c.in-Some.known =
-    get_or_default c.args.least.now b.group None _ c.requires.branch.within ∙ c.in-Some.is in
-    let inside : b.group < length c.fill.new.lists.items =
-    let e = c.in_ok-fill.ensures.count in let l = c.requires.lists.count in let h = c.requires.branch.within in
-    let v = c.fill.new.lists in let u = c.args.lists.now in omega (arith, e, l, h, length-map c.args.lists.now.items (λ v. v.items)) in
-    let same : slice_index_or (map (λ v. v.items) c.fill.new.lists.items) b.group [] ≡ c.deref.result.now =
-    get_or-map (λ v. v.items) c.fill.new.lists.items b.group c.index.result.now [] inside
-    ∙ sym (ap (λ v. v.items) c.index.ensures) ∙ sym c.deref.ensures.value in
-    let are = subst (AreOffers c.args.join.now c.args.tree.now d key c.args.node (list_at c.args.groups.now b.group)
-    (key c.in-Some.known) last) same c.in_ok-fill.ensures.list in
+    let at = goal.at.returns-in-Some-first_open-clause-passed g c in
+    let is = known_is g at.In-Some in
+    let are = offers_of g at.After-deref in
     let found = c.in-Some-first_open.ensures.found in
     left_first c.args.join.now c.args.tree.now d key c.requires.bounded c.requires.ordered c.requires.long c.args.node
     c.requires.node c.args.least.now c.args.groups.now c.requires.groups b c.requires.branch c.in-Some.known is last
@@ -131,16 +134,9 @@ returns-in-Some-first_open-clause-missed g c bad =
     let key = g.R.Rank.key in
     let b = c.args.branch in
     let last = option_map key c.args.last.now in
-    let is : slice_index_or c.args.least.now b.group None ≡ Some c.in-Some.known =
-    get_or_default c.args.least.now b.group None _ c.requires.branch.within ∙ c.in-Some.is in
-    let inside : b.group < length c.fill.new.lists.items =
-    let e = c.in_ok-fill.ensures.count in let l = c.requires.lists.count in let h = c.requires.branch.within in
-    let v = c.fill.new.lists in let u = c.args.lists.now in omega (arith, e, l, h, length-map c.args.lists.now.items (λ v. v.items)) in
-    let same : slice_index_or (map (λ v. v.items) c.fill.new.lists.items) b.group [] ≡ c.deref.result.now =
-    get_or-map (λ v. v.items) c.fill.new.lists.items b.group c.index.result.now [] inside
-    ∙ sym (ap (λ v. v.items) c.index.ensures) ∙ sym c.deref.ensures.value in
-    let are = subst (AreOffers c.args.join.now c.args.tree.now d key c.args.node (list_at c.args.groups.now b.group)
-    (key c.in-Some.known) last) same c.in_ok-fill.ensures.list in
+    let at = goal.at.returns-in-Some-first_open-clause-missed g c in
+    let is = known_is g at.In-Some in
+    let are = offers_of g at.After-deref in
     let found = c.in-Some-first_open.ensures.found in
     left_before c.args.join.now c.args.tree.now d key c.requires.bounded c.requires.ordered c.requires.long c.args.node
     c.requires.node c.args.least.now c.args.groups.now c.requires.groups b c.requires.branch c.in-Some.known is last

@@ -2,9 +2,9 @@ use Rattle.std.proofs.Common.{◌≡◌, ◌<◌, ◌+◌, ◌∙◌, ℕ, Optio
 use Rattle.union_list.specs.TaggedRows.{branch_at}
 use Rattle.union_all.specs.Firsts.{IsFirst}
 use Rattle.union_all.specs.Merge.{lists_of, queries_of}
-use Rattle.query_bind.specs.WeighedQuery.{BoundQuery}
-use Rattle.union_all.proofs.Branches.{head_at, head_fits, less_told, list_at, query_at}
-use Rattle.union_all.proofs.Sooner.{compared_first, first_here, first_of, none_here}
+use Rattle.bound_query.specs.WeighedQuery.{BoundQuery}
+use Rattle.union_all.proofs.Branches.{head_at, head_fits, less_told, list_at, query_at, query_fits}
+use Rattle.union_all.proofs.Sooner.{compared_first, first_here, first_of, none_here, not_empty}
 use Rattle.union_all.proofs.firsts.is_sooner.Goals as goal
 
 pub returns-in_default : goal.returns-in_default
@@ -19,6 +19,53 @@ returns-in_default-first g c =
     let here = rw c.in-Some.is at c.head.ensures in
     first_here (queries_of branches) c.args.tables.now (lists_of branches) c.args.b _ here.0
     (head_at branches c.args.b c.requires.inside c.index-branches-b.result c.index-branches-b.is c.in-Some.rows here.0 here.1) (rw c.in_default-first.is at c.requires.first)
+
+pub offset_bounds-branches-first : goal.offset_bounds-branches-first
+offset_bounds-branches-first g c =
+    let was = subst (λ (o : Option ℕ). IsFirst (queries_of c.args.branches.now) c.args.tables.now (lists_of c.args.branches.now) c.args.b o) c.in-Some-first.is c.requires.first in
+    omega (arith, was.inside, c.requires.inside)
+
+pub bounds-branches-first : goal.bounds-branches-first
+bounds-branches-first g c =
+    let was = subst (λ (o : Option ℕ). IsFirst (queries_of c.args.branches.now) c.args.tables.now (lists_of c.args.branches.now) c.args.b o) c.in-Some-first.is c.requires.first in
+    omega (arith, was.inside, c.requires.inside)
+
+pub returns-in_default-head : goal.returns-in_default-head
+returns-in_default-head g c =
+    let branches = c.args.branches.now in
+    let f = c.in-Some-first.first in
+    let was = subst (λ (o : Option ℕ). IsFirst (queries_of branches) c.args.tables.now (lists_of branches) c.args.b o) c.in-Some-first.is c.requires.first in
+    let none = list_at branches f (omega (arith, was.inside, c.requires.inside)) c.index-branches-first.result c.index-branches-first.is ∙ (rw c.in_default-head.is at c.head-2.ensures) in
+    absurd (not_empty _ _ _ was.is_first none)
+
+pub offset_bounds-branches-first-2 : goal.offset_bounds-branches-first-2
+offset_bounds-branches-first-2 g c =
+    let was = subst (λ (o : Option ℕ). IsFirst (queries_of c.args.branches.now) c.args.tables.now (lists_of c.args.branches.now) c.args.b o) c.in-Some-first.is c.requires.first in
+    omega (arith, was.inside, c.requires.inside)
+
+pub bounds-branches-first-2 : goal.bounds-branches-first-2
+bounds-branches-first-2 g c =
+    let was = subst (λ (o : Option ℕ). IsFirst (queries_of c.args.branches.now) c.args.tables.now (lists_of c.args.branches.now) c.args.b o) c.in-Some-first.is c.requires.first in
+    omega (arith, was.inside, c.requires.inside)
+
+pub has_less_sums-requires-clause-fits : goal.has_less_sums-requires-clause-fits
+has_less_sums-requires-clause-fits g c =
+    query_fits c.args.branches.now c.args.b c.requires.inside c.index-branches-b-2.result c.index-branches-b-2.is c.args.tables.now c.requires.branches c.query.result.now c.query.ensures
+
+pub has_less_sums-requires-clause-other_fits : goal.has_less_sums-requires-clause-other_fits
+has_less_sums-requires-clause-other_fits g c =
+    let branches = c.args.branches.now in
+    let was = subst (λ (o : Option ℕ). IsFirst (queries_of branches) c.args.tables.now (lists_of branches) c.args.b o) c.in-Some-first.is c.requires.first in
+    query_fits branches c.in-Some-first.first (omega (arith, was.inside, c.requires.inside)) c.index-branches-first-2.result c.index-branches-first-2.is
+    c.args.tables.now c.requires.branches c.query-2.result.now c.query-2.ensures
+
+pub has_less_sums-requires-clause-other_rows : goal.has_less_sums-requires-clause-other_rows
+has_less_sums-requires-clause-other_rows g c =
+    let branches = c.args.branches.now in
+    let was = subst (λ (o : Option ℕ). IsFirst (queries_of branches) c.args.tables.now (lists_of branches) c.args.b o) c.in-Some-first.is c.requires.first in
+    let there = rw c.in-Some-head.is at c.head-2.ensures in
+    head_fits branches c.in-Some-first.first (omega (arith, was.inside, c.requires.inside)) c.index-branches-first.result c.index-branches-first.is c.args.tables.now c.requires.branches
+    c.in-Some-head.first_rows there.0 there.1 c.index-branches-first-2.result c.index-branches-first-2.is c.query-2.result.now c.query-2.ensures
 
 pub has_less_sums-requires-clause-rows : goal.has_less_sums-requires-clause-rows
 has_less_sums-requires-clause-rows g c =

@@ -1,9 +1,32 @@
-use Rattle.std.proofs.Common.{◌≡◌, ◌<◌, ◌∷◌, ◌∙◌, [], length, get_or, sym, ap, append_assoc, length-append, length-take-le, arith, rules}
+use Rattle.std.proofs.Common.{◌≡◌, ◌∷◌, ◌∙◌, [], length, get_or, sym, ap, append_assoc, arith, rules}
 use Rattle.std.specs.Vec.Iter.{into_iter_items}
-use Rattle.std.proofs.lemmas.List.{length-map}
-use Rattle.union_all.specs.Merge.{BranchSeen}
-use Rattle.union_all.proofs.Begun.{begun_more}
+use Rattle.std.proofs.lemmas.List.{nil_from_length}
+use Rattle.union_all.proofs.Begun.{all_begun, begun_more, cost_within, has_next, none_begun}
 use Rattle.union_all.proofs.merge.begin.Goals as goal
+
+pub loop-engine-init : goal.loop-engine-init
+loop-engine-init g c =
+    let whole : into_iter_items c.into_iter-engine-iterator.result ≡ c.args.engines.items = search rules in
+    (tt, tt, whole, rw c.in_ok-branches.ensures.items (none_begun _ _ _ c.args.queries.now c.args.steps.now))
+
+pub bounds-queries-len : goal.bounds-queries-len
+bounds-queries-len g c =
+    let at = c.loop-engine in
+    let next = has_next _ _ _ c.args.queries.now c.args.engines.items at.yielded (into_iter_items at.engine-iterator) (into_iter_items c.next.new.self) c.in-Some.engine at.branches.items _ _
+    c.requires.each at.invariant.2 c.in-Some.ensures.steps.0 at.invariant.3 in
+    omega (arith, next.inside, next.count, c.len-in-loop-engine.ensures)
+
+pub returns-in_err-branch-clause-cost : goal.returns-in_err-branch-clause-cost
+returns-in_err-branch-clause-cost g c =
+    let at = c.loop-engine in
+    cost_within _ _ _ c.args.queries.now c.args.engines.items at.yielded (into_iter_items at.engine-iterator) (into_iter_items c.next.new.self) c.in-Some.engine at.branches.items _ _ _
+    at.invariant.2 c.in-Some.ensures.steps.0 at.invariant.3 c.new.ensures.cost
+
+pub returns-in_err-push-clause-cost : goal.returns-in_err-push-clause-cost
+returns-in_err-push-clause-cost g c =
+    let at = c.loop-engine in
+    cost_within _ _ _ c.args.queries.now c.args.engines.items at.yielded (into_iter_items at.engine-iterator) (into_iter_items c.next.new.self) c.in-Some.engine at.branches.items _ _ _
+    at.invariant.2 c.in-Some.ensures.steps.0 at.invariant.3 c.new.ensures.cost
 
 pub loop-engine-preserved : goal.loop-engine-preserved
 loop-engine-preserved g c =
@@ -11,20 +34,21 @@ loop-engine-preserved g c =
     let x = c.in-Some.engine in
     let q = c.index-queries-len.result in
     let steps : into_iter_items at.engine-iterator ≡ x ∷ into_iter_items c.next.new.self = c.in-Some.ensures.steps.0 in
-    let whole = at.invariant.2 in
-    let was = at.invariant.3 in
-    let sizes = ap length whole in
-    let parts = length-append at.yielded (into_iter_items at.engine-iterator) in
-    let more = ap length steps in
-    let each = c.requires.each in
-    let inside : length at.yielded < length c.args.queries.now = omega (arith, sizes, parts, more, each) in
-    let branches : length at.branches.items ≡ length at.yielded =
-    sym (length-map at.branches.items (λ (b : BranchSeen). b.bound)) ∙ ap length was.bound ∙ length-take-le (length at.yielded) c.args.queries.now (omega (arith, inside)) in
+    let next = has_next _ _ _ c.args.queries.now c.args.engines.items at.yielded (into_iter_items at.engine-iterator) (into_iter_items c.next.new.self) x at.branches.items _ _
+    c.requires.each at.invariant.2 steps at.invariant.3 in
     let count : c.len-in-loop-engine.result ≡ length at.branches.items = search rules in
-    let index = sym (c.index-queries-len.is ∙ ap (λ k. get_or c.args.queries.now k q) (count ∙ branches)) in (
+    let index = sym (c.index-queries-len.is ∙ ap (λ k. get_or c.args.queries.now k q) (count ∙ next.count)) in (
       tt,
       tt,
-      append_assoc at.yielded (x ∷ []) (into_iter_items c.next.new.self) ∙ rw (← steps) whole,
-      rw c.in_ok-push.ensures.items (begun_more _ _ _ c.args.queries.now at.yielded at.branches.items _ _ _ q x c.in_ok-branch.branch was inside index
+      append_assoc at.yielded (x ∷ []) (into_iter_items c.next.new.self) ∙ rw (← steps) at.invariant.2,
+      rw c.in_ok-push.ensures.items (begun_more _ _ _ c.args.queries.now at.yielded at.branches.items _ _ _ q x c.in_ok-branch.branch at.invariant.3 next.inside index
           c.in_ok-branch.ensures.bound c.in_ok-branch.ensures.left c.in_ok-branch.ensures.called c.new.ensures.cost),
     )
+
+pub returns : goal.returns
+returns g c =
+    let at = c.loop-engine in
+    let none : into_iter_items at.engine-iterator ≡ [] = search (rules, nil_from_length) in
+    let all = all_begun _ _ _ c.args.queries.now c.args.engines.items at.yielded (into_iter_items at.engine-iterator) at.branches.items _ _
+    c.requires.each at.invariant.2 none at.invariant.3 in
+    record { bounds = all.bounds_are; lists = all.lists_are; engines = all.called; cost = all.cost }
