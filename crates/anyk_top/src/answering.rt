@@ -6,10 +6,9 @@ ghost use Rattle.verdict.specs.MadeFiles.{known_to};
 ghost use Rattle.verdict.specs.Outcome.{IsReason, IsCaused, IsComplete, IsCut};
 ghost use Rattle.verdict.specs.Words.{built};
 ghost use Rattle.anyk_top.specs.Requests.{asked_by};
-ghost use Rattle.task_answer.specs.Sides.{seen_by};
+ghost use Rattle.verdict.specs.Sides.{seen_by};
 
 use crate::request::Request;
-use crate::verify::answer_verified;
 use hash_keys::Keys;
 use outer_io::{Shelf, Sink};
 use refusal_lines::Refusal;
@@ -17,6 +16,7 @@ use std::alloc::Global;
 use std::sync::ledger::Ledger;
 use step_counter::Steps;
 use task_answer::answer_task;
+use task_verify::answer_verified;
 
 /// Reads or makes the input of the command, plans its query or checks its certificate, and prints the
 /// command's output. The result is an error if the input is refused, if a read or a write failed, or

@@ -49,7 +49,7 @@ fn request_of<'a>(alloc: Global, command: Command) -> Result<Request, Refusal<'a
     }
 }
 
-// The session that these words ask for. `Usage` if they name no script.
+/// The session that these words ask for. `Usage` if they name no script.
 fn session_of<'a>(words: Words) -> Result<Request, Refusal<'a>>
     ensures built { IfOk result
         (λ request. asked_of (Some (seen_command (Command.Session words)))
@@ -84,7 +84,7 @@ fn session_of<'a>(words: Words) -> Result<Request, Refusal<'a>>
     Ok(Request::Planned(Task::Session(script, others)))
 }
 
-// The check that these words ask for. `Usage` if they name no certificate.
+/// The check that these words ask for. `Usage` if they name no certificate.
 fn verify_of<'a>(words: Words) -> Result<Request, Refusal<'a>>
     ensures built { IfOk result
         (λ request. asked_of (Some (seen_command (Command.Verify words)))

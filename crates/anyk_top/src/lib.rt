@@ -5,10 +5,8 @@
 
 mod answering;
 mod asking;
-mod checking;
 mod ending;
 mod request;
 mod top;
-mod verify;
 
 pub use top::{run_keyed, run_uncounted, run_words};

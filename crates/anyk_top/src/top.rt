@@ -6,7 +6,7 @@ ghost use Rattle.verdict.specs.Bound.{IsBounded, IsPrompt};
 ghost use Rattle.verdict.specs.MadeFiles.{known_to};
 ghost use Rattle.verdict.specs.Outcome.{Outcome};
 ghost use Rattle.anyk_top.specs.CommandLine.{asked_of};
-ghost use Rattle.task_answer.specs.Sides.{outside};
+ghost use Rattle.verdict.specs.Sides.{outside};
 
 use crate::answering::answer;
 use crate::asking::read_request;

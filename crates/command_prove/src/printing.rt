@@ -1,18 +1,18 @@
 //! Printing the text of a certificate.
 ghost use Rattle.std.specs.Prelude.{◌≡◌, List};
 ghost use Rattle.anyk_model.specs.Table.{Table};
-ghost use Rattle.plan_build.specs.Plan.{IsPlan, PlanData};
+ghost use Rattle.plan_model.specs.Plan.{IsPlan, PlanData};
 ghost use Rattle.proof_model.specs.ProofTexts.{IsProofText};
-ghost use Rattle.query_bind.specs.WeighedQuery.{Fits};
+ghost use Rattle.bound_query.specs.WeighedQuery.{Fits};
 ghost use Rattle.refusal_lines.specs.Printing.{PrintedSome};
 ghost use Rattle.refusal_lines.specs.SinkState.{state_of};
 ghost use Rattle.tdp_core.specs.SeenAnswers.{answers_of};
 ghost use Rattle.tdp_core.specs.Solutions.{IsTreeRanking};
 ghost use Rattle.tdp_model.specs.KeyTuple.{KeyOf};
 
+use bound_query::Query;
 use outer_io::Sink;
 use proof_write::prove;
-use query_bind::Query;
 use rank_key::Rank;
 use refusal_lines::{Refusal, print};
 use std::alloc::Global;

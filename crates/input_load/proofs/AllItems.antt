@@ -2,6 +2,7 @@
 use Rattle.std.proofs.Common.{◌≡◌, ◌+◌, ◌<◌, ◌≤◌, ◌∷◌, ◌++◌, [], ℕ, List, length, drop, take, get_or, Option, Some, None, Result, Ok, Err, refl, sym, ap, ◌∙◌}
 use Rattle.std.proofs.lemmas.List.{append-nil, drop_all, drop_more, map-append, take_more}
 use Rattle.std.proofs.lemmas.Grind.{flat_map-append}
+use Rattle.std.specs.Option.{option_or}
 use Rattle.std.specs.List.{AllByRecursion, flat_map}
 use Rattle.outer_io.specs.Files.{bytes_of}
 use Rattle.query_select.specs.declared.select.ItemRef.{ItemRef}
@@ -10,7 +11,8 @@ use Rattle.refusal_lines.specs.Reason as reason
 use Rattle.refusal_lines.specs.Reason.{Reason, UnknownTable}
 use Rattle.verdict.specs.Loading.{all_items, table_names, unknown_table, unknown_with}
 use Rattle.verdict.specs.StageResults.{Pure}
-use Rattle.verdict.specs.Stages.{Is, unless}
+use Rattle.session_script.specs.Script.{unless}
+use Rattle.verdict.specs.Stages.{Is}
 use Rattle.input_load.specs.Entries.{HasAdded, IsEntryOf, tables_of}
 
 pub all_items_flat : (selects : List Select) → all_items selects ≡ flat_map (λ (s : Select). s.items) selects
@@ -43,17 +45,13 @@ items_done selects i select inside is =
 
 -- ---- the first item whose table no entry names
 
-abbrev first_reason : Option Reason → Option Reason → Option Reason
-first_reason None later = later
-first_reason (Some e) later = Some e
-
 unknown_append : (named : List (List ℕ × List ℕ)) (xs ys : List ItemRef)
-    → unknown_table named (xs ++ ys) ≡ first_reason (unknown_table named xs) (unknown_table named ys)
+    → unknown_table named (xs ++ ys) ≡ option_or (unknown_table named xs) (unknown_table named ys)
 unknown_append named [] ys = refl
 unknown_append named (x ∷ xs) ys = by (bytes_of named x.table) (unknown_append named xs ys)
   where
-    by : (o : Option (List ℕ)) → unknown_table named (xs ++ ys) ≡ first_reason (unknown_table named xs) (unknown_table named ys)
-        → unknown_with o x.at (unknown_table named (xs ++ ys)) ≡ first_reason (unknown_with o x.at (unknown_table named xs)) (unknown_table named ys)
+    by : (o : Option (List ℕ)) → unknown_table named (xs ++ ys) ≡ option_or (unknown_table named xs) (unknown_table named ys)
+        → unknown_with o x.at (unknown_table named (xs ++ ys)) ≡ option_or (unknown_with o x.at (unknown_table named xs)) (unknown_table named ys)
     by None later = refl
     by (Some file) later = later
 
@@ -83,7 +81,7 @@ pub record HasAllEntries (named : List (List ℕ × List ℕ)) (selects : List S
 
 module _ (named : List (List ℕ × List ℕ)) (selects : List Select) (i : ℕ) (select : Select) (words : List (List ℕ × List ℕ))
     (inside : i < length selects) (is : select ≡ get_or selects i select) (so_far : HasAllEntries named selects i words) where
-  here_unknown : first_reason (unknown_table named select.items) (unknown_table named (all_items (drop (i + 1) selects))) ≡ unknown_table named (all_items selects)
+  here_unknown : option_or (unknown_table named select.items) (unknown_table named (all_items (drop (i + 1) selects))) ≡ unknown_table named (all_items selects)
   here_unknown =
       sym (ap (unknown_table named) (items_left selects i select inside is) ∙ unknown_append named select.items (all_items (drop (i + 1) selects)))
       ∙ so_far.known
@@ -92,7 +90,7 @@ module _ (named : List (List ℕ × List ℕ)) (selects : List Select) (i : ℕ)
   pub all_more : (now : List (List ℕ × List ℕ)) → Ok select.items ≡ unless (unknown_table named select.items) select.items
       → HasAdded named select.items words now → HasAllEntries named selects (i + 1) now
   all_more now known added = record {
-    known = sym (ap (λ (o : Option Reason). first_reason o (unknown_table named (all_items (drop (i + 1) selects)))) (none_unless _ _ _ known)) ∙ here_unknown;
+    known = sym (ap (λ (o : Option Reason). option_or o (unknown_table named (all_items (drop (i + 1) selects)))) (none_unless _ _ _ known)) ∙ here_unknown;
     tables = added.tables ∙ ap (λ (l : List (List ℕ)). l ++ table_names select.items) so_far.tables
         ∙ sym (ap table_names (items_done selects i select inside is)
         ∙ map-append (λ (x : ItemRef). x.table) (all_items (take i selects)) select.items);
@@ -106,7 +104,7 @@ module _ (named : List (List ℕ × List ℕ)) (selects : List Select) (i : ℕ)
       pure_as (Is (unless (unknown_table named select.items) select.items)) (Is (unless (unknown_table named (all_items selects)) a)) e
       (λ h. let here = some_unless _ e select.items h in
       let all : unknown_table named (all_items selects) ≡ Some e =
-      sym here_unknown ∙ ap (λ (o : Option Reason). first_reason o (unknown_table named (all_items (drop (i + 1) selects)))) here in
+      sym here_unknown ∙ ap (λ (o : Option Reason). option_or o (unknown_table named (all_items (drop (i + 1) selects)))) here in
       sym (ap (λ (o : Option Reason). unless o a) all))
 
 -- all selects were gone over

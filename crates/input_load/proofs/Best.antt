@@ -4,12 +4,13 @@ use Rattle.std.specs.List.{AllByRecursion}
 use Rattle.std.specs.Str.{bytes_eq}
 use Rattle.anyk_model.specs.Query.{Item, Query}
 use Rattle.anyk_model.specs.Table.{Table}
-use Rattle.query_bind.specs.WeighedQuery.{BoundQuery}
+use Rattle.bound_query.specs.WeighedQuery.{BoundQuery}
 use Rattle.refusal_lines.specs.Reason.{BranchShape, Reason, UnionBest, UnknownBest}
 use Rattle.verdict.specs.Loading.{Beside, Loaded, best_in, known_item, loaded_in, odd_branch}
 use Rattle.verdict.specs.StageResults.{Pure}
-use Rattle.verdict.specs.Stages.{Is, then_by, unless}
-use Rattle.input_load.specs.Input.{queries_in}
+use Rattle.session_script.specs.Script.{unless}
+use Rattle.verdict.specs.Stages.{Is, then_by}
+use Rattle.verdict.specs.AcceptedInput.{queries_in}
 use Rattle.input_load.proofs.Shapes.{Checked, odd_none, odd_told}
 
 -- ---- the item that has the alias

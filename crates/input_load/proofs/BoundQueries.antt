@@ -8,15 +8,16 @@ use Rattle.anyk_model.specs.Query.{Query}
 use Rattle.anyk_model.specs.Table.{Table}
 use Rattle.query_bind.specs.Bind.{bind_fault}
 use Rattle.query_bind.specs.Binding.{bound_query}
-use Rattle.query_bind.specs.WeighedQuery.{BoundQuery, Fits}
+use Rattle.bound_query.specs.WeighedQuery.{BoundQuery, Fits}
 use Rattle.query_select.specs.declared.select.ItemRef.{ItemRef}
 use Rattle.query_select.specs.declared.select.Select.{Select}
 use Rattle.refusal_lines.specs.Reason.{Reason}
 use Rattle.verdict.specs.Faults.{of_bind}
 use Rattle.verdict.specs.Loading.{all_items, are_several, bound_as, bound_from, bound_in, first_uses, table_numbers, told_branch}
 use Rattle.verdict.specs.StageResults.{Pure}
-use Rattle.verdict.specs.Stages.{Is, then_by, unless}
-use Rattle.input_load.specs.Input.{queries_in}
+use Rattle.session_script.specs.Script.{unless}
+use Rattle.verdict.specs.Stages.{Is, then_by}
+use Rattle.verdict.specs.AcceptedInput.{queries_in}
 use Rattle.input_load.proofs.AllItems.{items_left, pure_as}
 
 -- ---- the numbers of the tables of items

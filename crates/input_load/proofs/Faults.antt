@@ -23,7 +23,8 @@ use Rattle.proof_text.specs.Reading.{Fails as FailsToRead, proof_of}
 use Rattle.session_script.specs.Script.{Fails, steps_of}
 use Rattle.verdict.specs.Faults.{of_bind, of_flaw, of_parse, of_proof, of_script}
 use Rattle.verdict.specs.Loading.{IsParse, IsParseAll, IsReading, all_items, branches_of, proof_said, steps_said, told_proof, told_steps}
-use Rattle.verdict.specs.Stages.{Is, followed, unless}
+use Rattle.session_script.specs.Script.{unless}
+use Rattle.verdict.specs.Stages.{Is, followed}
 use Rattle.verdict.proofs.Staging.{pure_refused}
 use Rattle.verdict.specs.StageResults.{Pure}
 use Rattle.input_load.specs.Entries.{table_after}
@@ -32,7 +33,7 @@ use Rattle.input_load.specs.StageViews.{table_reason}
 use Rattle.input_load.proofs.AllItems.{all_items_cons}
 use Rattle.query_grammar.specs.Grammar.{IsBranch, IsItems, IsQuery, branch, items, query}
 use Rattle.query_grammar.specs.Reading.{Clauses}
-use Rattle.query_grammar.specs.Lexeme.{Lexeme}
+use Rattle.query_tokens.specs.Lexeme.{Lexeme}
 use Rattle.query_select.specs.declared.select.Equality.{Equality}
 use Rattle.query_select.specs.declared.select.ItemRef.{ItemRef}
 use Rattle.query_select.specs.declared.select.Select.{Select}

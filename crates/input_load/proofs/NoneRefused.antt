@@ -21,7 +21,8 @@ use Rattle.verdict.specs.Faults.{of_bind, of_flaw, of_parse}
 use Rattle.verdict.specs.Loading.{Beside, IsParse, IsReading, Loaded, all_items, are_several, bound_as, bound_from, bound_in, file_in, file_with, first_uses, first_uses_after, known_file, loaded_in, most_bytes, odd_branch, sound_table, beside_in, with_steps, table_in, table_names, table_numbers, tables_in, told_branch, unknown_table, unknown_with}
 use Rattle.verdict.specs.MadeFiles.{made_files}
 use Rattle.verdict.specs.StageResults.{Causes, Fits, Pure, Shelved}
-use Rattle.verdict.specs.Stages.{Is, Then, followed, refused, then_by, unless}
+use Rattle.session_script.specs.Script.{unless}
+use Rattle.verdict.specs.Stages.{Is, Then, followed, refused, then_by}
 use Rattle.verdict.specs.Verdict.{IsAccompanied, IsBound, IsLoadedOn, IsRead, IsSelected, IsTabled}
 use Rattle.verdict.specs.Words.{Named, Sought, load, nothing, sought_by}
 use Rattle.make_input.proofs.Short.{files_short}

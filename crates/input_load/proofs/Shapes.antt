@@ -6,7 +6,7 @@ use Rattle.anyk_model.specs.Query.{OrderKey, Query}
 use Rattle.refusal_lines.specs.Reason.{BranchShape, Reason}
 use Rattle.union_list.specs.TaggedRows.{HaveKeys}
 use Rattle.verdict.specs.Loading.{have_directions, have_one_shape, odd_branch, odd_from}
-use Rattle.verdict.specs.Stages.{unless}
+use Rattle.session_script.specs.Script.{unless}
 
 -- as many keys
 same_keys : (keys others : List OrderKey) → have_directions keys others ≡ true → length keys ≡ length others

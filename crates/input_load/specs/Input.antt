@@ -1,13 +1,13 @@
 -- An input, as contracts see it.
-use Rattle.std.specs.Prelude.{◌<◌, ◌≤◌, ℕ, List, [], length, map, Option, IfSome}
+use Rattle.std.specs.Prelude.{◌<◌, ◌≤◌, ℕ, List, [], length, Option, IfSome}
 use Rattle.std.specs.List.{All, AllByRecursion}
 use Rattle.anyk_model.specs.Table.{Table}
-use Rattle.anyk_model.specs.Query.{Query}
-use Rattle.query_bind.specs.WeighedQuery.{BoundQuery, Fits}
+use Rattle.bound_query.specs.WeighedQuery.{BoundQuery, Fits}
 use Rattle.proof_text.specs.Certificate.{Certificate}
 use Rattle.session_script.specs.declared.step.Step.{Step}
 use Rattle.session_script.specs.Script.{KeepsRules}
 use Rattle.union_list.specs.TaggedRows.{HaveKeys}
+use Rattle.verdict.specs.AcceptedInput.{queries_in}
 use Rattle.verdict.specs.Loading.{Loaded}
 
 pub record InputData : Type 0 where
@@ -20,9 +20,6 @@ pub record InputData : Type 0 where
   pub steps : List Step
   -- the certificate, and the empty one if there is none
   pub proof : Certificate
-
-abbrev pub queries_in : List BoundQuery → List Query
-queries_in queries = map (λ (q : BoundQuery). q.query) queries
 
 -- the queries were bound to the tables and have as many order keys each, a query has the item if one is
 -- named, and the steps keep the rules of scripts

@@ -10,16 +10,17 @@ use Rattle.anyk_model.specs.Query.{Query}
 use Rattle.proof_text.specs.declared.proof.Proof.{Proof}
 use Rattle.proof_text.specs.Certificate.{Certificate}
 use Rattle.proof_text.specs.ProofView.{seen_proof}
-use Rattle.query_bind.specs.WeighedQuery.{BoundQuery}
+use Rattle.bound_query.specs.WeighedQuery.{BoundQuery}
 use Rattle.query_select.specs.declared.select.Select.{Select}
 use Rattle.refusal_lines.specs.declared.refusal.Refusal.{Refusal}
 use Rattle.refusal_lines.specs.Reason as reason
 use Rattle.refusal_lines.specs.Reason.{Reason}
 use Rattle.refusal_lines.specs.RefusalReasons.{reason_of}
 use Rattle.session_script.specs.declared.step.Step.{Step}
+use Rattle.verdict.specs.AcceptedInput.{queries_in}
 use Rattle.verdict.specs.Loading.{Beside, Loaded}
 use Rattle.input_load.specs.declared.aside.Beside.{Beside as BesideRead}
-use Rattle.input_load.specs.Input.{InputData, loaded_of, queries_in}
+use Rattle.input_load.specs.Input.{InputData, loaded_of}
 
 abbrev pub shown_tables : Result (List Table) Refusal → Result (List Table) Reason
 shown_tables (Ok tables) = Ok tables

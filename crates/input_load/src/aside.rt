@@ -50,7 +50,7 @@ pub(crate) fn load_beside<'a, F: Shelf>(
     }
 }
 
-// The script in the file of this name.
+/// The script in the file of this name.
 fn load_script<'a, F: Shelf>(
     alloc: Global,
     name: &'a str,
@@ -69,7 +69,7 @@ fn load_script<'a, F: Shelf>(
     })
 }
 
-// The certificate in the file of this name.
+/// The certificate in the file of this name.
 fn load_proof<'a, F: Shelf>(
     alloc: Global,
     name: &'a str,
@@ -88,7 +88,7 @@ fn load_proof<'a, F: Shelf>(
     })
 }
 
-// The empty certificate.
+/// The empty certificate.
 fn no_proof(alloc: Global) -> Proof
     ensures { seen_proof result ≡ no_certificate }
 {
@@ -99,7 +99,7 @@ fn no_proof(alloc: Global) -> Proof
     }
 }
 
-// The steps that these bytes write, or the refusal for the script's fault.
+/// The steps that these bytes write, or the refusal for the script's fault.
 fn script_steps<'a>(alloc: Global, bytes: &[u8]) -> Result<Vec<Step>, Refusal<'a>>
     ensures said { Pure (Is (steps_said bytes.now)) (shown_steps result) }
     ensures rules { IfOk result (λ steps. KeepsRules [] steps.items) }
@@ -123,7 +123,7 @@ fn script_refusal<'a>(fault: ScriptFault) -> Refusal<'a>
     }
 }
 
-// The certificate that these bytes are, or the refusal for the first line that is not of its form.
+/// The certificate that these bytes are, or the refusal for the first line that is not of its form.
 fn proof_of<'a>(alloc: Global, bytes: &[u8]) -> Result<Proof, Refusal<'a>>
     ensures { Pure (Is (proof_said bytes.now)) (shown_proof result) }
 {

@@ -5,30 +5,32 @@ ghost use Rattle.std.specs.Str.{bytes_eq};
 ghost use Rattle.anyk_model.specs.Query.{Item};
 ghost use Rattle.query_bind.specs.Bind.{bind_fault};
 ghost use Rattle.query_bind.specs.Binding.{bound_query};
-ghost use Rattle.query_bind.specs.WeighedQuery.{Fits};
+ghost use Rattle.bound_query.specs.WeighedQuery.{Fits};
 ghost use Rattle.refusal_lines.specs.RefusalReasons.{reason_of};
 ghost use Rattle.session_script.specs.Script.{KeepsRules};
+ghost use Rattle.verdict.specs.AcceptedInput.{queries_in};
 ghost use Rattle.verdict.specs.Faults.{of_bind};
 ghost use Rattle.verdict.specs.Loading.{all_items, best_in, bound_in, first_uses};
 ghost use Rattle.verdict.specs.Loading.{have_directions, have_one_shape, odd_branch, table_numbers, told_branch};
-ghost use Rattle.verdict.specs.Stages.{Is, unless};
+ghost use Rattle.session_script.specs.Script.{unless};
+ghost use Rattle.verdict.specs.Stages.{Is};
 ghost use Rattle.verdict.specs.StageResults.{Pure};
 ghost use Rattle.verdict.specs.Verdict.{IsBound};
 ghost use Rattle.input_load.specs.Limits.{AreWithinLimits, IsWithinLimits};
-ghost use Rattle.input_load.specs.Input.{queries_in};
 ghost use Rattle.input_load.specs.StageViews.{seen_beside, shown_check, shown_input, shown_item, shown_queries, shown_query};
 ghost use Rattle.input_load.specs.Sought.{sought_shown};
 
 use crate::aside::Beside;
 use crate::sought::Sought;
-use csv_tables::Tables;
+use bound_query::Query;
 use proof_text::Proof;
-use query_bind::{BindFault, Query, bind};
+use query_bind::{BindFault, bind};
 use query_select::select::Select;
 use refusal_lines::Refusal;
 use session_script::Step;
 use std::alloc::Global;
 use std::marker::Model;
+use table_store::Tables;
 
 /// An input before its structure is found. The queries fit the tables and have as many order keys
 /// each, a query has the item if one is named, and the steps keep the rules of scripts.
@@ -105,7 +107,7 @@ pub(crate) fn bound_input<'a>(
     })
 }
 
-// The queries of these selects over the tables, or the refusal for the first fault of binding.
+/// The queries of these selects over the tables, or the refusal for the first fault of binding.
 fn bind_queries<'a>(
     alloc: Global,
     selects: &[Select],
@@ -135,7 +137,7 @@ fn bind_queries<'a>(
     Ok(queries)
 }
 
-// The number of the branch that comes after these, from 1, if there are several.
+/// The number of the branch that comes after these, from 1, if there are several.
 fn told_branch(several: bool, before: usize) -> Option<u32>
     requires { before < 8 }
     ensures { result ≡ told_branch several (before + 1) }
@@ -147,7 +149,7 @@ fn told_branch(several: bool, before: usize) -> Option<u32>
     }
 }
 
-// The query of this select over the tables, or the refusal for the first fault of binding.
+/// The query of this select over the tables, or the refusal for the first fault of binding.
 fn bind_query<'a>(
     alloc: Global,
     branch: Option<u32>,
@@ -169,7 +171,7 @@ fn bind_query<'a>(
     }
 }
 
-// `BranchShape` for the first branch, from 2, that is not of the shape of branch 1.
+/// `BranchShape` for the first branch, from 2, that is not of the shape of branch 1.
 fn check_shapes<'a>(queries: &[Query]) -> Result<(), Refusal<'a>>
     requires some { 1 ≤ length queries.now }
     requires few { length queries.now ≤ 8 }
@@ -183,14 +185,14 @@ fn check_shapes<'a>(queries: &[Query]) -> Result<(), Refusal<'a>>
     Ok(())
 }
 
-// Whether the two have as many selected columns, and keys of the same directions.
+/// Whether the two have as many selected columns, and keys of the same directions.
 fn have_one_shape(a: &Query, b: &Query) -> bool
     ensures { result ≡ have_one_shape a.now.query b.now.query }
 {
     a.columns().len() == b.columns().len() && have_directions(a, b)
 }
 
-// Whether the two have as many order keys, and each in the same direction.
+/// Whether the two have as many order keys, and each in the same direction.
 fn have_directions(a: &Query, b: &Query) -> bool
     ensures { result ≡ have_directions a.now.query.order b.now.query.order }
 {
@@ -205,8 +207,8 @@ fn have_directions(a: &Query, b: &Query) -> bool
     true
 }
 
-// The number of the item with this alias, from 0; none if no alias is named. `UnknownBest` if no
-// item has the alias, and `UnionBest` if there are several branches.
+/// The number of the item with this alias, from 0; none if no alias is named. `UnknownBest` if no
+/// item has the alias, and `UnionBest` if there are several branches.
 fn list_item<'a>(queries: &[Query], best_of: Option<&str>) -> Result<Option<u32>, Refusal<'a>>
     requires { 1 ≤ length queries.now }
     ensures best { let alias = option_map (λ alias. alias.now) best_of.entry in
@@ -227,7 +229,7 @@ fn list_item<'a>(queries: &[Query], best_of: Option<&str>) -> Result<Option<u32>
     }
 }
 
-// The number of the item with this alias, from 0.
+/// The number of the item with this alias, from 0.
 fn item_of(query: &Query, alias: &[u8]) -> Option<u32>
     ensures first { result
         ≡ position (λ (item : Item). bytes_eq item.alias alias.now) query.now.query.items }

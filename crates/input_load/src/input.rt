@@ -45,7 +45,7 @@ pub fn load_input<'a, F: Shelf>(
     read_input(alloc, sought, &bytes, shelf, keys)
 }
 
-// The stages after the query file was read.
+/// The stages after the query file was read.
 fn read_input<'a, F: Shelf>(
     alloc: Global,
     sought: &Sought<'a>,
@@ -64,7 +64,7 @@ fn read_input<'a, F: Shelf>(
     aside_input(alloc, sought, &selects, shelf, keys)
 }
 
-// The stages after the query, or each of its branches, was parsed.
+/// The stages after the query, or each of its branches, was parsed.
 fn aside_input<'a, F: Shelf>(
     alloc: Global,
     sought: &Sought<'a>,
@@ -84,7 +84,7 @@ fn aside_input<'a, F: Shelf>(
     select_input(alloc, sought, selects, beside, shelf, keys)
 }
 
-// The stages after the script or the certificate was read.
+/// The stages after the script or the certificate was read.
 fn select_input<'a, F: Shelf>(
     alloc: Global,
     sought: &Sought<'a>,
@@ -106,7 +106,7 @@ fn select_input<'a, F: Shelf>(
     table_input(alloc, sought, selects, beside, &entries, shelf, keys)
 }
 
-// The stages after each item's table was found among the words.
+/// The stages after each item's table was found among the words.
 fn table_input<'a, F: Shelf>(
     alloc: Global,
     sought: &Sought<'a>,

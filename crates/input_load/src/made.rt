@@ -36,7 +36,7 @@ pub fn load_made<'a>(alloc: Global, made: &'a MadeTables) -> Result<Input, Refus
     load_input(alloc, &sought, &mut shelf, Keys::Known)
 }
 
-// The file of the query and the files of the tables, in memory.
+/// The file of the query and the files of the tables, in memory.
 fn made_shelf(alloc: Global, made: &MadeTables) -> Result<Vec<MemFile>, NoMemory>
     ensures { IfOk result
         (λ files. map entry_of files.items ≡ made_files made.now.number made.now.rows) }

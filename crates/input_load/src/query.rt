@@ -33,7 +33,7 @@ pub(crate) fn read_selects<'a>(
     }
 }
 
-// The branches that these bytes write, each with the limit of the whole.
+/// The branches that these bytes write, each with the limit of the whole.
 fn read_branches<'a>(alloc: Global, bytes: &[u8]) -> Result<Vec<Select>, Refusal<'a>>
     ensures parsed { Pure (IsReading true bytes.now) (shown_selects result) }
     ensures limits { IfOk result (λ selects. AreWithinLimits selects.items) }
@@ -44,7 +44,7 @@ fn read_branches<'a>(alloc: Global, bytes: &[u8]) -> Result<Vec<Select>, Refusal
     }
 }
 
-// The branches, each with the limit of the whole.
+/// The branches, each with the limit of the whole.
 fn with_limit(all: SelectAll) -> Vec<Select>
     ensures { result.items ≡ branches_of all }
 {
@@ -54,7 +54,7 @@ fn with_limit(all: SelectAll) -> Vec<Select>
     selects
 }
 
-// Gives each select this limit.
+/// Gives each select this limit.
 fn set_limits(selects: &mut [Select], limit: Option<u64>)
     ensures { selects.new ≡ map (limited limit) selects.old }
 {
@@ -63,7 +63,7 @@ fn set_limits(selects: &mut [Select], limit: Option<u64>)
     }
 }
 
-// The one query that these bytes write.
+/// The one query that these bytes write.
 fn read_alone<'a>(alloc: Global, bytes: &[u8]) -> Result<Vec<Select>, Refusal<'a>>
     ensures parsed { Pure (IsReading false bytes.now) (shown_selects result) }
     ensures limits { IfOk result (λ selects. AreWithinLimits selects.items) }
@@ -75,7 +75,7 @@ fn read_alone<'a>(alloc: Global, bytes: &[u8]) -> Result<Vec<Select>, Refusal<'a
     }
 }
 
-// This select alone. `NoMemory` if memory is refused.
+/// This select alone. `NoMemory` if memory is refused.
 fn one_select(alloc: Global, select: Select) -> Result<Vec<Select>, NoMemory>
     ensures { IfOk result (λ selects. selects.items ≡ select ∷ []) }
 {

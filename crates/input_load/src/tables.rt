@@ -13,11 +13,12 @@ ghost use Rattle.input_load.specs.StageViews.{said_as, shown_tables, table_reaso
 
 use crate::file::load;
 use cmd_words::Named;
-use csv_tables::{TableFault, Tables};
+use csv_tables::TableFault;
 use hash_keys::Keys;
 use outer_io::Shelf;
 use refusal_lines::Refusal;
 use std::alloc::Global;
+use table_store::Tables;
 
 /// The tables of these entries, hashed with these keys. The tables are read one after another, and
 /// the error is the refusal of the first bad one, or `NoMemory`.
@@ -42,7 +43,7 @@ pub(crate) fn read_tables<'a, F: Shelf>(
     Ok(tables)
 }
 
-// Reads one more table.
+/// Reads one more table.
 fn read_table<'a, F: Shelf>(
     alloc: Global,
     entry: &'a Named,
@@ -61,7 +62,7 @@ fn read_table<'a, F: Shelf>(
     add_table(entry.table.as_bytes(), &bytes, tables)
 }
 
-// Adds the table of these bytes. The error is the refusal for its first flaw.
+/// Adds the table of these bytes. The error is the refusal for its first flaw.
 fn add_table<'a>(name: &'a [u8], bytes: &[u8], tables: &mut Tables) -> Result<(), Refusal<'a>>
     requires few { length tables.old < 16 }
     requires size { length bytes.now ≤ 67108864 }
@@ -69,7 +70,7 @@ fn add_table<'a>(name: &'a [u8], bytes: &[u8], tables: &mut Tables) -> Result<()
     ensures added { Pure (Is (table_after tables.old (sound_table name.now bytes.now)))
         (said_as tables.new result) }
 {
-    match tables.read(bytes) {
+    match csv_tables::read_table(tables, bytes) {
         Ok(_) => Ok(()),
         Err(fault) => Err(table_refusal(name, fault)),
     }

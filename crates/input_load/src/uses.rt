@@ -5,7 +5,8 @@ ghost use Rattle.std.specs.Str.{bytes_eq};
 ghost use Rattle.std.specs.String.{string_bytes};
 ghost use Rattle.cmd_words.specs.NamedPairs.{named_pair};
 ghost use Rattle.verdict.specs.Loading.{all_items, first_uses_after, table_names, unknown_table};
-ghost use Rattle.verdict.specs.Stages.{Is, unless};
+ghost use Rattle.session_script.specs.Script.{unless};
+ghost use Rattle.verdict.specs.Stages.{Is};
 ghost use Rattle.verdict.specs.StageResults.{Pure};
 ghost use Rattle.input_load.specs.Entries.{HasAdded, IsEntryOf, tables_of};
 ghost use Rattle.input_load.specs.StageViews.{said_as};
@@ -40,8 +41,8 @@ pub(crate) fn entries_of<'a>(
     Ok(entries)
 }
 
-// Adds the entry that names the table of each item. `UnknownTable` at the first item whose table has
-// no entry, and `NoMemory` if memory is refused.
+/// Adds the entry that names the table of each item. `UnknownTable` at the first item whose table has
+/// no entry, and `NoMemory` if memory is refused.
 fn add_entries<'a>(
     named: &'a [Named],
     items: &[ItemRef],
@@ -64,7 +65,7 @@ fn add_entries<'a>(
     Ok(())
 }
 
-// The first entry for this table, if there is one.
+/// The first entry for this table, if there is one.
 fn entry_of<'a>(named: &'a [Named], table: &[u8]) -> Option<&'a Named>
     ensures { option_map (λ e. e.now) result
         ≡ find (λ e. bytes_eq (string_bytes e.table) table.now) named.now }
@@ -121,7 +122,7 @@ pub(crate) fn table_numbers(
     Ok(numbers)
 }
 
-// The place of the table among `firsts`, from 0, or their number if it is not there.
+/// The place of the table among `firsts`, from 0, or their number if it is not there.
 fn table_number(firsts: &[&Named], table: &str) -> u32
     requires { length firsts.now ≤ 16 }
     ensures { result ≡ position_or_len

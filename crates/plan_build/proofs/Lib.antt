@@ -9,8 +9,6 @@ pub mod Reordered
 pub mod Planned
 pub mod Rooted
 pub mod Witnesses
-pub mod Places
 pub mod PlanRows
 pub mod Lines
 pub mod ShapeIs
-pub mod AnswersAgree

@@ -5,11 +5,11 @@ use Rattle.std.proofs.lemmas.Grind.{flat_map-append}
 use Rattle.std.proofs.lemmas.List.FromFn.{map-range_with_len_more}
 use Rattle.tdp_model.specs.KeyTuple.{KeyOf}
 use Rattle.anyk_model.specs.Table.{Table}
-use Rattle.query_bind.specs.WeighedQuery.{BoundQuery}
+use Rattle.bound_query.specs.WeighedQuery.{BoundQuery}
 use Rattle.join_tree.specs.Rerooting.{IsTree}
 use Rattle.query_shape.specs.Shape.{Shape}
 use Rattle.query_shape.specs.JoinTreeView.{HasItems}
-use Rattle.plan_build.specs.Plan.{IsPlanFor, PlanData, shape_of}
+use Rattle.plan_model.specs.Plan.{IsPlanFor, PlanData, shape_of}
 
 map_same : (ns : List ℕ) → map (λ (n : ℕ). n) ns ≡ ns
 map_same [] = sym (append-nil [])

@@ -16,8 +16,8 @@ use Rattle.tdp_core.specs.Solutions.{Extends, RawExtends, RawLinked}
 use Rattle.tdp_core.specs.WellFormed.{IsFormed}
 use Rattle.anyk_model.specs.Table.{Table}
 use Rattle.anyk_model.specs.Query.{item_table}
-use Rattle.query_bind.specs.Classes.{Passes}
-use Rattle.query_bind.specs.WeighedQuery.{BoundQuery}
+use Rattle.bound_query.specs.Classes.{Passes}
+use Rattle.bound_query.specs.WeighedQuery.{BoundQuery}
 use Rattle.rank_key.specs.Keys.{row_key}
 use Rattle.node_build.specs.Nodes.{IsBuilt, RowsAgree, RowsAlike, item_of, parent_of, row_parts}
 use Rattle.semi_join.specs.ReducedTrees.{IsReduced, ShareGroup}
@@ -25,8 +25,8 @@ use Rattle.semi_join.proofs.NodeRows.{row_field, rows_count}
 use Rattle.semi_join.proofs.SameShapes.{count_same, parent_same, shape_same}
 use Rattle.tree_dp.specs.SolvedTrees.{IsReordered, IsSolved}
 use Rattle.tree_dp.proofs.Reordered.{group_number_same}
-use Rattle.plan_build.specs.Plan.{HasReducedRows, RowPasses, RowsJoined, numbers}
-use Rattle.plan_build.proofs.Places.{Rises, extends_in, extends_out, member_place, place_member, rises_at, rises_of}
+use Rattle.plan_model.specs.Plan.{HasReducedRows, RowPasses, RowsJoined, numbers}
+use Rattle.plan_model.proofs.Places.{Rises, extends_in, extends_out, member_place, place_member, rises_at, rises_of}
 
 -- a group has the same members before and after the reduction
 group_same : {R : Type 0} (before after : List (NodeData R)) (nodes : (v : ℕ) → IsReordered (node_at before v) (node_at after v)) (q r : ℕ)

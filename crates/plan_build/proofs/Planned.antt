@@ -11,8 +11,8 @@ use Rattle.join_tree.specs.Rerooting.{IsTree}
 use Rattle.join_tree.specs.declared.tree.JoinTree.{JoinTree}
 use Rattle.anyk_model.specs.Table.{Table}
 use Rattle.anyk_model.specs.Query.{row_counts}
-use Rattle.query_bind.specs.Parts.{sum_of_all}
-use Rattle.query_bind.specs.WeighedQuery.{BoundQuery, Fits}
+use Rattle.bound_query.specs.Parts.{sum_of_all}
+use Rattle.bound_query.specs.WeighedQuery.{BoundQuery, Fits}
 use Rattle.query_shape.specs.Shape.{HasShape, IsShape, too_many_rows}
 use Rattle.query_shape.specs.JoinTreeView.{HasItems, HasStoredTree}
 use Rattle.node_build.specs.Nodes.{IsBuilt, IsJoinTreeOf, PassesBudget, item_of, parent_of}
@@ -20,7 +20,7 @@ use Rattle.node_build.proofs.ShapeOf.{flaw_if_many, join_tree_of, numbers_in_all
 use Rattle.step_bounds.proofs.NodeSums.{sum_fewer, sum_of_lengths}
 use Rattle.semi_join.specs.ReducedTrees.{IsReduced}
 use Rattle.tree_dp.specs.SolvedTrees.{IsSolved}
-use Rattle.plan_build.specs.Plan.{IsPlanFor, tree_shown}
+use Rattle.plan_model.specs.Plan.{IsPlanFor, tree_shown}
 use Rattle.plan_build.proofs.Kept.{kept_in_all}
 use Rattle.plan_build.proofs.PlanOf.{AreWitnesses, has_witnesses, ranking_agrees}
 use Rattle.plan_build.proofs.PlanRows.{ranks_are, reduced_rows}

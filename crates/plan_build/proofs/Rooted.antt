@@ -10,12 +10,12 @@ use Rattle.join_tree.specs.Rerooting.{AreLinked, HasAtom, IsSameTree}
 use Rattle.join_tree.specs.declared.tree.JoinTree.{JoinTree}
 use Rattle.anyk_model.specs.Table.{Table}
 use Rattle.anyk_model.specs.Query.{Query}
-use Rattle.query_bind.specs.WeighedQuery.{BoundQuery}
+use Rattle.bound_query.specs.WeighedQuery.{BoundQuery}
 use Rattle.query_shape.specs.Shape.{Shape}
 use Rattle.node_build.specs.Nodes.{IsJoinTreeOf, item_of, parent_of}
 use Rattle.plan_build.proofs.Witnesses.{items_ordered}
 use Rattle.plan_build.specs.declared.fault.PlanFault.{PlanFault}
-use Rattle.plan_build.specs.Plan.{IsPlan, IsPlanAt, IsPlanFor, IsPlanOf, PlanData, nodes_in, tree_shown}
+use Rattle.plan_model.specs.Plan.{IsPlan, IsPlanAt, IsPlanFor, IsPlanOf, PlanData, nodes_in, tree_shown}
 
 -- ---- trees that are equal node by node
 

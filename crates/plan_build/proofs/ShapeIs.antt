@@ -4,11 +4,11 @@ use Rattle.tdp_model.specs.KeyTuple.{KeyOf}
 use Rattle.tdp_core.specs.TreeData.{row_count}
 use Rattle.anyk_model.specs.Table.{Table}
 use Rattle.anyk_model.specs.Query.{Query}
-use Rattle.query_bind.specs.WeighedQuery.{BoundQuery}
+use Rattle.bound_query.specs.WeighedQuery.{BoundQuery}
 use Rattle.query_shape.specs.Shape.{Flaw, IsShape, Shape}
 use Rattle.query_shape.proofs.OneShape.{one_shape}
 use Rattle.query_shape.specs.Report.{total_rows}
-use Rattle.plan_build.specs.Plan.{IsPlanFor, PlanData, shape_of}
+use Rattle.plan_model.specs.Plan.{IsPlanFor, PlanData, shape_of}
 
 -- a query has one shape
 pub shape_is : (query : Query) (tables : List Table) (x y : Shape) → IsShape query tables (Ok x) → IsShape query tables (Ok y) → x ≡ y

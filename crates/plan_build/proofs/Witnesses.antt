@@ -12,10 +12,10 @@ use Rattle.tdp_core.specs.Solutions.{IsRawSolution, raw_solution_key}
 use Rattle.rank_key.specs.Keys.{row_key}
 use Rattle.anyk_model.specs.Table.{Table}
 use Rattle.anyk_model.specs.Query.{IsCombination, IsWitness, Query, item_table, row_counts}
-use Rattle.query_bind.specs.Classes.{HasVariable, PassAndAgreeAtLeast, Passes, row_field}
-use Rattle.query_bind.specs.WeighedQuery.{BoundQuery, Fits}
-use Rattle.query_bind.proofs.Least.{least_iff}
-use Rattle.query_bind.proofs.Witness.{witness_iff}
+use Rattle.bound_query.specs.Classes.{HasVariable, PassAndAgreeAtLeast, Passes, row_field}
+use Rattle.bound_query.specs.WeighedQuery.{BoundQuery, Fits}
+use Rattle.bound_query.proofs.Least.{least_iff}
+use Rattle.bound_query.proofs.Witness.{witness_iff}
 use Rattle.node_build.specs.Nodes.{IsBuilt, IsJoinTreeOf, RowsAgree, item_of, parent_of, row_parts}
 use Rattle.witness_key.specs.WitnessKey.{witness_key}
 use Rattle.tree_witnesses.proofs.TreeWitnesses.{links_witness}

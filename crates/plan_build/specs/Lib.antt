@@ -1,2 +1,2 @@
-pub mod Plan
+pub mod Faults
 pub mod RankedPlan

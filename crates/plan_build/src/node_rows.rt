@@ -5,7 +5,7 @@ ghost use Rattle.query_shape.specs.JoinTreeView.{HasItems};
 
 use join_tree::JoinTree;
 
-// The number of rows of each atom, from those of the nodes.
+/// The number of rows of each atom, from those of the nodes.
 fn rows_of_atoms(tree: &JoinTree, node_rows: &[u64]) -> [u64; 16]
     requires tree { IsTree tree.now.count tree.now.atom tree.now.parent }
     requires atoms { HasItems tree.now.count tree.now.atom 16 }

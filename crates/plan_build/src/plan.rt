@@ -1,9 +1,10 @@
 //! The plan of a query.
 ghost use Rattle.std.specs.Prelude.{◌≡◌, ◌≤◌, ◌+◌, ◌*◌, ◌<◌, ◌^◌, List, length, map, IfErr, IfOk, Ok, ℕ};
+ghost use Rattle.tdp_model.specs.NodeRows.{most_node_rows};
 ghost use Rattle.anyk_model.specs.Query.{row_counts};
 ghost use Rattle.anyk_model.specs.Table.{Table};
-ghost use Rattle.query_bind.specs.Parts.{sum_of_all};
-ghost use Rattle.query_bind.specs.WeighedQuery.{Fits};
+ghost use Rattle.bound_query.specs.Parts.{sum_of_all};
+ghost use Rattle.bound_query.specs.WeighedQuery.{Fits};
 ghost use Rattle.join_tree.specs.Rerooting.{IsTree};
 ghost use Rattle.query_shape.specs.JoinTreeView.{HasItems, HasStoredTree};
 ghost use Rattle.tdp_core.specs.RawData.{IsRawFormed, row_total};
@@ -11,14 +12,14 @@ ghost use Rattle.tdp_core.specs.Solutions.{IsTieFreeRaw};
 ghost use Rattle.tdp_core.specs.TreeData.{item, parent};
 ghost use Rattle.node_build.specs.Nodes.{CapsBelow, IsBuilt, IsJoinTreeOf, item_of, parent_of};
 ghost use Rattle.step_bounds.specs.RunBounds.{IsPrepared};
-ghost use Rattle.plan_build.specs.Plan.{IsPlan, IsPlanAt, IsPlanFor, TellsFlaw};
+ghost use Rattle.plan_model.specs.Plan.{IsPlan, IsPlanAt, IsPlanFor};
+ghost use Rattle.plan_build.specs.Faults.{TellsFlaw};
 
 use crate::fault::PlanFault;
 use crate::node_rows::in_order;
-use csv_tables::Tables;
+use bound_query::Query;
 use join_tree::{JoinTree, reroot};
 use node_build::{BuildFault, Built, build};
-use query_bind::Query;
 use query_shape::{ShapeFault, tree_shape};
 use rank_key::Rank;
 use semi_join::reduce;
@@ -26,10 +27,11 @@ use std::alloc::Global;
 use std::marker::Model;
 use std::sync::ledger::Ledger;
 use step_counter::Steps;
+use table_store::Tables;
 use tdp_core::Tree;
 use tree_dp::solve;
 
-// The greatest number of rows of all nodes of a join tree together.
+/// The greatest number of rows of all nodes of a join tree together.
 const MAX_NODE_ROWS: u64 = 4_194_304;
 
 /// A query's tree problem, prepared for ranked enumeration, with its join tree. Contracts see the
@@ -44,7 +46,7 @@ pub struct Plan<R: Rank> {
 }
 
 impl<R: Rank> Model for Plan<R> {
-    ghost use Rattle.plan_build.specs.Plan.{PlanData};
+    ghost use Rattle.plan_model.specs.Plan.{PlanData};
 
     ghost Value = { PlanData R };
 
@@ -113,8 +115,8 @@ pub fn prepare_at<R: Rank, L: Ledger>(
     plan_over(alloc, query, tables, &tree, &rooted, steps)
 }
 
-// The plan of a query whose tree has the nodes of `over`, any join tree of the query. What is kept
-// of the query's shape is in the order of `join`, the join tree that ear removal gives.
+/// The plan of a query whose tree has the nodes of `over`, any join tree of the query. What is kept
+/// of the query's shape is in the order of `join`, the join tree that ear removal gives.
 fn plan_over<R: Rank, L: Ledger>(
     alloc: Global,
     query: &Query,
@@ -156,7 +158,7 @@ fn plan_over<R: Rank, L: Ledger>(
     })
 }
 
-// The join tree of the query. `Cyclic` if there is none.
+/// The join tree of the query. `Cyclic` if there is none.
 fn join_tree_of(query: &Query) -> Result<JoinTree, PlanFault>
     requires fits { (tables : List Table) × Fits query.now tables }
     ensures tree { IfOk result (HasStoredTree query.now.query) }
@@ -175,8 +177,8 @@ fn join_tree_of(query: &Query) -> Result<JoinTree, PlanFault>
     }
 }
 
-// The nodes of the join tree with their rows and links. `TooManyRows` if more than 4,194,304 rows
-// pass.
+/// The nodes of the join tree with their rows and links. `TooManyRows` if more than 4,194,304 rows
+/// pass.
 fn nodes_of<R: Rank, L: Ledger>(
     alloc: Global,
     query: &Query,
@@ -197,7 +199,7 @@ fn nodes_of<R: Rank, L: Ledger>(
     ensures tie_free { IfOk result (λ built. IsTieFreeRaw built.tree) }
     ensures rows_of { IfOk result (λ built. built.rows_of.items ≡ map length built.tree.rows) }
     ensures used { IfOk result (λ built. built.used ≡ row_total built.tree) }
-    ensures within { IfOk result (λ built. built.used ≤ 4194304) }
+    ensures within { IfOk result (λ built. built.used ≤ most_node_rows) }
     ensures fewer { IfOk result
         (λ built. built.used ≤ sum_of_all (row_counts query.now.query.items tables.now)) }
     ensures refusal { IfErr result (TellsFlaw query.now.query tables.now) }
@@ -215,7 +217,7 @@ fn nodes_of<R: Rank, L: Ledger>(
     }
 }
 
-// The number of rows of the tables of all items. A table is counted once for each item.
+/// The number of rows of the tables of all items. A table is counted once for each item.
 fn rows_of_tables(query: &Query, tables: &Tables) -> u64
     requires fits { Fits query.now tables.now }
     ensures rows { result ≡ sum_of_all (row_counts query.now.query.items tables.now) }

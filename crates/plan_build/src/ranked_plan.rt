@@ -1,23 +1,24 @@
 //! The plan of a query, with ranks that have room for its order keys.
 ghost use Rattle.std.specs.Prelude.{◌↔◌, ◌^◌, ◌<◌, ◌≤◌, IfErr, IfOk, IfSome, IsTrue, List, length};
 ghost use Rattle.anyk_model.specs.Table.{Table};
-ghost use Rattle.query_bind.specs.WeighedQuery.{Fits};
+ghost use Rattle.bound_query.specs.WeighedQuery.{Fits};
 ghost use Rattle.node_build.specs.Nodes.{CapsBelow};
 ghost use Rattle.step_bounds.specs.RunBounds.{IsPrepared};
-ghost use Rattle.plan_build.specs.Plan.{IsPlanOf, TellsFlaw};
+ghost use Rattle.plan_model.specs.Plan.{IsPlanOf};
+ghost use Rattle.plan_build.specs.Faults.{TellsFlaw};
 ghost use Rattle.plan_build.specs.RankedPlan.{HasLeastRoom, HasRoom, IsRankedPlan, packed_room};
 
 use crate::fault::PlanFault;
 use crate::plan::{Plan, prepare, prepare_at};
-use csv_tables::Tables;
+use bound_query::Query;
 use packed_rank::PackedRank;
-use query_bind::Query;
 use rank_key::{LexRank, MiddleSumRank, Rank, SmallLexRank, SumRank};
 use std::alloc::Global;
 use std::sync::ledger::Ledger;
 use step_counter::Steps;
+use table_store::Tables;
 
-// The sums of packed ranks are below this in absolute value.
+/// The sums of packed ranks are below this in absolute value.
 const PACKED_LIMIT: u128 = 1 << 43;
 
 /// A query's plan, with the smallest ranks that have room for its order keys and its items.
@@ -76,7 +77,7 @@ pub fn prepare_ranked<L: Ledger>(
     Ok(RankedPlan::Lex(plan))
 }
 
-// Whether packed ranks have room for the query.
+/// Whether packed ranks have room for the query.
 fn has_packed_room(query: &Query) -> bool
     requires { (tables : List Table) × Fits query.now tables }
     ensures { (tables : List Table) → Fits query.now tables
@@ -85,7 +86,7 @@ fn has_packed_room(query: &Query) -> bool
     has_places(query, 1, 4) && has_small_sums(query)
 }
 
-// Whether there are as many sums as order keys, and as many slots as items.
+/// Whether there are as many sums as order keys, and as many slots as items.
 fn has_places(query: &Query, sums: u32, slots: u32) -> bool
     ensures { IsTrue result
         ↔ ((length query.now.query.order ≤ sums) × (length query.now.query.items ≤ slots)) }
@@ -93,7 +94,7 @@ fn has_places(query: &Query, sums: u32, slots: u32) -> bool
     query.keys() <= sums && query.items() <= slots
 }
 
-// Whether the caps of all items add up to less than 2^43, for an order of at most one key.
+/// Whether the caps of all items add up to less than 2^43, for an order of at most one key.
 fn has_small_sums(query: &Query) -> bool
     requires fits { (tables : List Table) × Fits query.now tables }
     requires keys { length query.now.query.order ≤ 1 }
@@ -110,7 +111,7 @@ fn has_small_sums(query: &Query) -> bool
     sum < PACKED_LIMIT
 }
 
-// The plan with this item at the root if one is given.
+/// The plan with this item at the root if one is given.
 fn prepare_of<R: Rank, L: Ledger>(
     alloc: Global,
     query: &Query,

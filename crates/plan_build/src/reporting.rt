@@ -3,16 +3,16 @@ ghost use Rattle.std.specs.Prelude.{◌≡◌, ◌<◌, ◌≤◌, ◌+◌, ◌+
 ghost use Rattle.join_tree.specs.Rerooting.{IsTree};
 ghost use Rattle.query_shape.specs.Report.{node_line, node_text, parent_number, report_of};
 ghost use Rattle.query_shape.specs.JoinTreeView.{HasItems};
-ghost use Rattle.plan_build.specs.Plan.{IsPlanFor, shape_of, tree_shown};
+ghost use Rattle.plan_model.specs.Plan.{IsPlanFor, shape_of, tree_shown};
 
 use crate::plan::Plan;
-use csv_tables::Tables;
+use bound_query::Query;
 use join_tree::JoinTree;
-use query_bind::Query;
-use query_grammar::name_text;
+use query_tokens::name_text;
 use rank_key::Rank;
 use std::alloc::Global;
 use step_counter::NoMemory;
+use table_store::Tables;
 
 /// The report of the join tree of a query's plan. Each node, in order, has a line with its number
 /// from 1, its parent's number (0 for the first node), the number of rows of its item that pass,
@@ -36,7 +36,7 @@ pub fn report<R: Rank>(
     Ok(text)
 }
 
-// Appends the line of one node.
+/// Appends the line of one node.
 fn push_node(
     alloc: Global,
     text: &mut Vec<u8>,
@@ -60,7 +60,7 @@ fn push_node(
     push_line(alloc, text, number, parent, rows, &name)
 }
 
-// The number of a node's parent from 1, or 0 for the first node.
+/// The number of a node's parent from 1, or 0 for the first node.
 fn parent_number(join: &JoinTree, node: usize) -> u32
     requires ordered { IsTree join.now.count join.now.atom join.now.parent }
     requires node { node < join.now.count }
@@ -69,7 +69,7 @@ fn parent_number(join: &JoinTree, node: usize) -> u32
     if node == 0 { 0 } else { join.parent[node] + 1 }
 }
 
-// Appends a node's line with these numbers and this name.
+/// Appends a node's line with these numbers and this name.
 fn push_line(
     alloc: Global,
     text: &mut Vec<u8>,
@@ -88,7 +88,7 @@ fn push_line(
     Ok(())
 }
 
-// Appends the last line.
+/// Appends the last line.
 fn push_total(alloc: Global, text: &mut Vec<u8>, total: u64) -> Result<(), NoMemory>
     ensures { OnOk result
         (text.new.items ≡ text.old.items ++ (codes "total " ++ (decimal total ++ codes "\n"))) }

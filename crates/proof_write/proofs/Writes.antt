@@ -13,11 +13,11 @@ use Rattle.tdp_model.proofs.KeyTuples.{tuple_keys}
 use Rattle.tdp_core.specs.TreeData.{NodeData, best, group_count, item, members, node_at, number, parent, rank, rows}
 use Rattle.tdp_core.specs.WellFormed.{IsFormed}
 use Rattle.anyk_model.specs.Table.{Table}
-use Rattle.query_bind.specs.Classes.{AreVariables}
-use Rattle.query_bind.specs.WeighedQuery.{BoundQuery}
-use Rattle.query_bind.specs.Weights.{part_of}
+use Rattle.bound_query.specs.Classes.{AreVariables}
+use Rattle.bound_query.specs.WeighedQuery.{BoundQuery}
+use Rattle.bound_query.specs.Weights.{part_of}
 use Rattle.rank_key.specs.Keys.{row_key}
-use Rattle.plan_build.specs.Plan.{HasReducedRows, numbers}
+use Rattle.plan_model.specs.Plan.{HasReducedRows, numbers}
 use Rattle.proof_text.specs.Certificate.{AnswerLine, BoundLine, Certificate}
 use Rattle.proof_text.specs.Writing.{answer_text}
 use Rattle.proof_model.specs.Problem.{Problem, IsSolutionAt, key_at, row_in}

@@ -6,8 +6,8 @@ ghost use Rattle.step_bounds.specs.Steps.{reaches};
 ghost use Rattle.witness_key.specs.WitnessKey.{combinations_in};
 ghost use Rattle.proof_text.specs.Writing.{answer_text};
 
+use bound_query::Query;
 use proof_text::push_answer;
-use query_bind::Query;
 use std::alloc::Global;
 use std::sync::ledger::Ledger;
 use step_counter::{NoMemory, Steps};

@@ -1,17 +1,17 @@
 //! The text of a certificate.
 ghost use Rattle.std.specs.Prelude.{◌≡◌, List, IfOk};
 ghost use Rattle.anyk_model.specs.Table.{Table};
-ghost use Rattle.query_bind.specs.WeighedQuery.{Fits};
+ghost use Rattle.bound_query.specs.WeighedQuery.{Fits};
 ghost use Rattle.tdp_model.specs.KeyTuple.{KeyOf};
 ghost use Rattle.tdp_core.specs.SeenAnswers.{answers_of};
 ghost use Rattle.tdp_core.specs.Solutions.{IsTreeRanking};
-ghost use Rattle.plan_build.specs.Plan.{IsPlan, PlanData};
+ghost use Rattle.plan_model.specs.Plan.{IsPlan, PlanData};
 ghost use Rattle.proof_model.specs.ProofTexts.{IsProofText};
 
 use crate::answers::push_answers;
 use crate::bounds::push_bounds;
+use bound_query::Query;
 use proof_text::{push_header, push_last};
-use query_bind::Query;
 use rank_key::Rank;
 use std::alloc::Global;
 use std::sync::ledger::Ledger;

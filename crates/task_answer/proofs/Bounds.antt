@@ -15,72 +15,21 @@ use Rattle.verdict.specs.SessionCalls.{session_reach}
 use Rattle.union_list.specs.TaggedRows.{Tagged, branch_at}
 use Rattle.union_list.specs.Union.{union_of}
 use Rattle.union_list.specs.UnionOutput.{union_output_of}
-use Rattle.query_bind.specs.WeighedQuery.{BoundQuery}
-use Rattle.input_load.specs.Input.{InputData, loaded_of, queries_in}
+use Rattle.bound_query.specs.WeighedQuery.{BoundQuery}
+use Rattle.input_load.specs.Input.{InputData, loaded_of}
+use Rattle.plan_model.specs.Plans.{ArePrepared, preparation_of}
 use Rattle.verdict.specs.Bound.{IsBounded, IsPaced, IsPrompt, IsWithin, cost_of}
-use Rattle.verdict.specs.AcceptedInput.{Found, found_of, is_union, query_of, structure_of}
+use Rattle.verdict.specs.AcceptedInput.{Found, found_of, is_union, queries_in, query_of, structure_of}
 use Rattle.verdict.specs.Loading.{are_several}
 use Rattle.verdict.specs.Output.{answers_text, asked_list, style_of, tagged_of}
 use Rattle.verdict.specs.Stages.{followed}
 use Rattle.verdict.specs.UnionBound.{HaveShapes, union_cost, union_records}
-use Rattle.verdict.specs.Verdict.{IsStructured, IsVerdict}
-use Rattle.verdict.specs.Words.{Asked, Command, Words, no_command, built, run, plan, session, load, prove, verify}
-use Rattle.verdict.proofs.One.{one_verdict}
+use Rattle.verdict.specs.Verdict.{IsStructured}
+use Rattle.verdict.specs.Words.{Asked, Command, Words, built, run, plan, session, load, prove, verify}
 use Rattle.verdict.proofs.Structure.{shapes_had}
-use Rattle.task_plan.specs.Plans.{ArePrepared, IsEarlyFor, IsEarlyWithin, preparation_of}
-use Rattle.task_print.proofs.Prepared.{prepared_over, union_prepared}
-use Rattle.task_answer.proofs.Ends.{Accepts}
+use Rattle.task_plan.specs.Plans.{IsEarlyFor, IsEarlyWithin}
+use Rattle.union_print.proofs.Prepared.{prepared_over, union_prepared}
 use Rattle.task_plan.proofs.Judging.{verdict_structured}
-
--- known files have one verdict
-found_is : (command : Command) (files : Files) (found other : Found) → Accepts command (Some files) found
-    → IsVerdict (built command) files (Ok other) → found ≡ other
-found_is command files found other accepts verdict = let e =
-    one_verdict (built command) files (Ok found) (Ok other) accepts verdict in cc
-
--- no step was taken
-within_still : (command : Command) (found : Found) (n : ℕ) → IsWithin command found n n
-within_still (run words) found n = omega arith
-within_still (plan words) found n = omega arith
-within_still (session script words) found n = omega arith
-within_still (load number rows) found n = omega arith
-within_still (prove words) found n = tt
-within_still (verify proof words) found n = tt
-
-pub bounded_still : (asked : Asked) (told : Option Files) (n : ℕ) → IsBounded asked told n n
-bounded_still no_command told n = tt
-bounded_still (built command) None n = tt
-bounded_still (built command) (Some files) n = λ found verdict. within_still command found n
-
-paced_still : (command : Command) (found : Found) (old new : Option (List ℕ)) (n : ℕ)
-    → IsPaced command found old new n n
-paced_still (run words) found old new n = λ start part is_old is_new. omega arith
-paced_still (plan words) found old new n = tt
-paced_still (session script words) found old new n = tt
-paced_still (load number rows) found old new n = tt
-paced_still (prove words) found old new n = tt
-paced_still (verify proof words) found old new n = tt
-
-pub prompt_still : (asked : Asked) (told : Option Files) (old new : Option (List ℕ)) (n : ℕ)
-    → IsPrompt asked told old new n n
-prompt_still no_command told old new n = tt
-prompt_still (built command) None old new n = tt
-prompt_still (built command) (Some files) old new n = λ found verdict. paced_still command found old new n
-
--- the steps for the input that is accepted
-pub bounded_found : (command : Command) (told : Option Files) (found : Found) (before now : ℕ)
-    → Accepts command told found → IsWithin command found before now
-    → IsBounded (built command) told before now
-bounded_found command None found before now accepts h = tt
-bounded_found command (Some files) found before now accepts h = λ other verdict.
-    subst (λ f. IsWithin command f before now) (found_is command files found other accepts verdict) h
-
-pub prompt_found : (command : Command) (told : Option Files) (found : Found) (old new : Option (List ℕ))
-    (before now : ℕ) → Accepts command told found
-    → IsPaced command found old new before now → IsPrompt (built command) told old new before now
-prompt_found command None found old new before now accepts h = tt
-prompt_found command (Some files) found old new before now accepts h = λ other verdict.
-    subst (λ f. IsPaced command f old new before now) (found_is command files found other accepts verdict) h
 
 -- ---- the steps of a preparation
 

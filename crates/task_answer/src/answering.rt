@@ -1,41 +1,44 @@
 //! A command that plans its queries, from its input to its output.
 ghost use Rattle.std.specs.Prelude.{◌<◌, [], ◌∷◌, IfErr, OnOk, length, ℕ};
-ghost use Rattle.input_load.specs.Input.{loaded_of, queries_in};
-ghost use Rattle.plan_build.specs.Plan.{IsPlanOf, shape_of};
+ghost use Rattle.input_load.specs.Input.{loaded_of};
+ghost use Rattle.plan_model.specs.Plan.{IsPlanOf, shape_of};
+ghost use Rattle.plan_model.specs.Plans.{ArePrepared, HavePlans};
 ghost use Rattle.proof_text.specs.Certificate.{Certificate};
-ghost use Rattle.query_bind.specs.WeighedQuery.{Fits};
+ghost use Rattle.bound_query.specs.WeighedQuery.{Fits};
 ghost use Rattle.refusal_lines.specs.Printing.{PrintedSome};
 ghost use Rattle.refusal_lines.specs.RefusalReasons.{reason_of};
 ghost use Rattle.refusal_lines.specs.SinkState.{state_of};
 ghost use Rattle.session_script.specs.Script.{KeepsRules};
 ghost use Rattle.step_bounds.specs.RunBounds.{IsPrepared};
 ghost use Rattle.verdict.specs.Bound.{IsBounded, IsPaced, IsPrompt, IsWithin};
-ghost use Rattle.verdict.specs.AcceptedInput.{found_of};
+ghost use Rattle.verdict.specs.AcceptedInput.{found_of, queries_in};
 ghost use Rattle.verdict.specs.MadeFiles.{known_to};
 ghost use Rattle.verdict.specs.Outcome.{IsReason, IsCaused, IsComplete, IsCut};
 ghost use Rattle.verdict.specs.Output.{HasOutput};
 ghost use Rattle.verdict.specs.Words.{built};
 ghost use Rattle.task_plan.specs.Judgement.{HasOne, IsUnnamed};
-ghost use Rattle.task_plan.specs.Plans.{ArePlans, ArePrepared, HavePlans, IsOnePlan, IsOnePlanOf, found_by};
+ghost use Rattle.task_plan.specs.Plans.{ArePlans, IsOnePlan, IsOnePlanOf, found_by};
 ghost use Rattle.task_plan.specs.Plans.{found_in, shape_in, shapes_of};
 ghost use Rattle.task_plan.specs.Tasks.{command_of};
-ghost use Rattle.task_answer.specs.Sides.{seen_by};
+ghost use Rattle.verdict.specs.Sides.{seen_by};
 
 use crate::prove::print_certificate;
-use csv_tables::Tables;
+use crate::style::style_in;
+use bound_query::Query;
 use hash_keys::Keys;
 use input_load::Input;
 use outer_io::{Shelf, Sink};
 use plan_build::{Plan, RankedPlan};
-use query_bind::Query;
 use rank_key::Rank;
 use refusal_lines::Refusal;
 use session_script::Step;
 use std::alloc::Global;
 use std::sync::ledger::Ledger;
 use step_counter::Steps;
+use table_store::Tables;
 use task_plan::{Planned, Plans, Task, plan_task};
-use task_print::{print_load, print_report, print_run, print_script, print_union_run};
+use task_print::{print_load, print_report, print_run, print_script};
+use union_print::print_union_run;
 
 /// Reads or makes the input of the command, plans its query, and prints the command's output. The
 /// result is an error if the input is refused, if a read or a write failed, or if memory is refused.
@@ -72,7 +75,7 @@ pub fn answer_task<'a, F: Shelf, S: Sink, L: Ledger>(
     }
 }
 
-// Prints the output, with the rank type of the plans.
+/// Prints the output, with the rank type of the plans.
 fn print_planned<'a, S: Sink, L: Ledger>(
     alloc: Global,
     task: &Task,
@@ -102,7 +105,7 @@ fn print_planned<'a, S: Sink, L: Ledger>(
     }
 }
 
-// Prints the output over one query, with the rank type of its plan.
+/// Prints the output over one query, with the rank type of its plan.
 fn print_one<'a, S: Sink, L: Ledger>(
     alloc: Global,
     task: &Task,
@@ -134,7 +137,7 @@ fn print_one<'a, S: Sink, L: Ledger>(
     }
 }
 
-// Prints the output over one query for one rank type.
+/// Prints the output over one query for one rank type.
 fn print_plan<'a, R: Rank, S: Sink, L: Ledger>(
     alloc: Global,
     task: &Task,
@@ -166,7 +169,7 @@ fn print_plan<'a, R: Rank, S: Sink, L: Ledger>(
     )
 }
 
-// Prints the output over several queries, which only `run` may have.
+/// Prints the output over several queries, which only `run` may have.
 fn print_branches<'a, R: Rank, S: Sink, L: Ledger>(
     alloc: Global,
     task: &Task,
@@ -192,14 +195,25 @@ fn print_branches<'a, R: Rank, S: Sink, L: Ledger>(
 {
     match task {
         Task::Run(words) => {
+            let style = style_in(words);
             let queries = input.queries.as_slice();
-            print_union_run(alloc, words, plans, queries, &input.tables, out, steps)
+            let tables = &input.tables;
+            print_union_run(
+                alloc,
+                words.engine,
+                &style,
+                plans,
+                queries,
+                tables,
+                out,
+                steps,
+            )
         }
         _ => Err(Refusal::NoMemory),
     }
 }
 
-// Prints the output of the command for one rank type.
+/// Prints the output of the command for one rank type.
 fn print_output<'a, R: Rank, S: Sink, L: Ledger>(
     alloc: Global,
     task: &Task,
@@ -230,10 +244,35 @@ fn print_output<'a, R: Rank, S: Sink, L: Ledger>(
         (S.written out.old) (S.written out.new) before steps.new }
 {
     match task {
-        Task::Run(words) => print_run(alloc, words, plan, query, tables, best, out, steps),
+        Task::Run(words) => {
+            let style = style_in(words);
+            print_run(
+                alloc,
+                words.engine,
+                &style,
+                plan,
+                query,
+                tables,
+                best,
+                out,
+                steps,
+            )
+        }
         Task::Plan(_) => print_report(alloc, plan, query, tables, out),
         Task::Session(_, words) => {
-            print_script(alloc, words, plan, query, tables, best, script, out, steps)
+            let style = style_in(words);
+            print_script(
+                alloc,
+                words.engine,
+                &style,
+                plan,
+                query,
+                tables,
+                best,
+                script,
+                out,
+                steps,
+            )
         }
         Task::Load(engine, _) => {
             print_load(alloc, *engine, plan, query, tables, best, out, steps)

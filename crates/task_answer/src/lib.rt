@@ -4,5 +4,6 @@
 
 mod answering;
 mod prove;
+mod style;
 
 pub use answering::answer_task;

@@ -1,24 +1,24 @@
 //! The command `prove`.
 ghost use Rattle.std.specs.Prelude.{None, List};
 ghost use Rattle.anyk_model.specs.Table.{Table};
-ghost use Rattle.plan_build.specs.Plan.{IsPlan};
+ghost use Rattle.plan_model.specs.Plan.{IsPlan};
 ghost use Rattle.proof_model.specs.ProofTexts.{IsProofText};
-ghost use Rattle.query_bind.specs.WeighedQuery.{Fits};
+ghost use Rattle.bound_query.specs.WeighedQuery.{Fits};
 ghost use Rattle.refusal_lines.specs.Printing.{PrintedSome};
 ghost use Rattle.refusal_lines.specs.SinkState.{state_of};
 
+use bound_query::Query;
 use bumpalo::Bump;
 use cmd_words::Engine;
 use command_prove::print_proof;
 use outer_io::Sink;
 use plan_build::Plan;
-use query_bind::Query;
+use plan_engine::engine_over;
 use rank_key::Rank;
 use refusal_lines::Refusal;
 use std::alloc::Global;
 use std::sync::ledger::Ledger;
 use step_counter::Steps;
-use task_print::engine_over;
 
 /// Prints the text of a certificate of the query's first answers, as many as the limit allows.
 /// `NoMemory` if memory is refused, before anything is written, and `WriteFault` if the write failed.

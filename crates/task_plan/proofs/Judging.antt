@@ -6,14 +6,15 @@ use Rattle.std.proofs.lemmas.List.Sums.{sum_by-cons}
 use Rattle.anyk_model.specs.Query.{Query}
 use Rattle.anyk_model.specs.Table.{Table}
 use Rattle.outer_io.specs.Files.{Files}
-use Rattle.query_bind.specs.WeighedQuery.{BoundQuery}
+use Rattle.bound_query.specs.WeighedQuery.{BoundQuery}
 use Rattle.query_shape.specs.Shape.{Shape}
 use Rattle.union_list.specs.TaggedRows.{branch_at}
-use Rattle.input_load.specs.Input.{InputData, loaded_of, queries_in}
+use Rattle.input_load.specs.Input.{InputData, loaded_of}
 use Rattle.input_load.specs.Turns.{IsTurn}
+use Rattle.plan_model.specs.Plans.{ArePrepared, preparation_of}
 use Rattle.refusal_lines.specs.Reason.{Reason}
 use Rattle.step_bounds.specs.RunBounds.{IsPrepared}
-use Rattle.verdict.specs.AcceptedInput.{Found, found_of}
+use Rattle.verdict.specs.AcceptedInput.{Found, found_of, queries_in}
 use Rattle.verdict.specs.Loading.{Loaded}
 use Rattle.verdict.specs.MadeFiles.{known_to, made_files}
 use Rattle.verdict.specs.StageResults.{NoTurn, Pure, Shelved}
@@ -26,7 +27,7 @@ use Rattle.task_plan.specs.Tasks.{command_of}
 use Rattle.task_plan.specs.declared.task.Task.{Task}
 use Rattle.task_plan.specs.declared.task.Task.TheVariants as task
 use Rattle.task_plan.specs.Judgement.{HasOne, IsJudged, IsJudgedOn, IsLooked, IsLookedUp, IsUnnamed}
-use Rattle.task_plan.specs.Plans.{ArePrepared, IsEarlyFor, IsEarlyWithin, preparation_of}
+use Rattle.task_plan.specs.Plans.{IsEarlyFor, IsEarlyWithin}
 
 -- a refusal while the input is read is that of the verdict
 up_refused : (command : Command) (old new : Shelved) (a : Reason)

@@ -1,3 +1,4 @@
 pub mod Judging
+pub mod Ends
 pub mod Inputs
 pub mod PlanList

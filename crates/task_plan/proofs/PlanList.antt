@@ -1,16 +1,18 @@
 -- The structures of the queries, from their plans, and the steps of the preparation.
 use Rattle.std.proofs.Common.{◌≡◌, ◌≤◌, ◌<◌, ◌+◌, ◌^◌, ◌∙◌, ℕ, Bool, true, false, List, [], ◌∷◌, ◌++◌, length, take, drop}
 use Rattle.std.proofs.Common.{get_or, append_assoc, Option, None, Some, Ok, Err, refl, sym, ap, subst, arith}
-use Rattle.std.specs.List.{All, AllByRecursion, AllZip, sum_by}
+use Rattle.std.specs.List.{All, AllByRecursion, sum_by}
 use Rattle.std.proofs.lemmas.Bool.{lt-ltb}
 use Rattle.std.proofs.lemmas.List.{length-map, length-take-le, map-append, take-append-drop, take_more}
 use Rattle.std.proofs.lemmas.List.Elements.{All-from_recursion, All-weaker}
 use Rattle.std.proofs.lemmas.List.Sums.{sum_by-cons, sum_by_more, sum_by_more_le}
+use Rattle.std.proofs.lemmas.Slice.Zip.{AllZip-long, all_zipped_more}
 use Rattle.std.proofs.Math.Seq.{take-length}
 use Rattle.anyk_model.specs.Query.{Query}
 use Rattle.anyk_model.specs.Table.{Table}
 use Rattle.hyper_graph.specs.Items.{items_of}
-use Rattle.plan_build.specs.Plan.{IsPlanOf, PlanData, TellsFlaw, shape_of}
+use Rattle.plan_model.specs.Plan.{IsPlanOf, PlanData, shape_of}
+use Rattle.plan_build.specs.Faults.{TellsFlaw}
 use Rattle.plan_build.specs.RankedPlan.{IsRankedPlan, fixed_key, key_of_packed}
 use Rattle.plan_build.specs.declared.fault.PlanFault.{PlanFault}
 use Rattle.plan_build.specs.declared.fault.PlanFault.TheVariants as fault
@@ -18,25 +20,26 @@ use Rattle.plan_build.specs.declared.ranked_plan.RankedPlan.{RankedPlan}
 use Rattle.plan_build.specs.declared.ranked_plan.RankedPlan.TheVariants.{Lex, MiddleSum, Packed, SmallLex, Sum}
 use Rattle.plan_build.proofs.Rooted.{whole_of}
 use Rattle.plan_build.proofs.ShapeIs.{plan_shape}
+use Rattle.plan_model.specs.Plans.{ArePrepared, HavePlans, preparation_of}
 use Rattle.node_build.specs.Nodes.{CapsBelow}
 use Rattle.node_build.proofs.Shaped.{caps_small}
-use Rattle.query_bind.specs.WeighedQuery.{BoundQuery, Fits}
+use Rattle.bound_query.specs.WeighedQuery.{BoundQuery, Fits}
 use Rattle.query_shape.specs.Shape.{Flaw, IsShape, Shape, cyclic, too_many_rows}
 use Rattle.refusal_lines.specs.Reason.{Reason}
 use Rattle.session_script.specs.declared.step.Step.{Step}
 use Rattle.step_bounds.specs.RunBounds.{IsPrepared}
 use Rattle.tdp_model.specs.KeyTuple.{KeyOf}
 use Rattle.union_list.specs.TaggedRows.{HaveKeys}
-use Rattle.input_load.specs.Input.{InputData, loaded_of, queries_in}
+use Rattle.input_load.specs.Input.{InputData, loaded_of}
 use Rattle.verdict.specs.Faults.{of_shape}
-use Rattle.verdict.specs.AcceptedInput.{found_of}
+use Rattle.verdict.specs.AcceptedInput.{found_of, queries_in}
 use Rattle.verdict.specs.Loading.{are_several}
 use Rattle.verdict.specs.StageResults.{Pure}
 use Rattle.verdict.specs.UnionBound.{HaveShapes}
 use Rattle.verdict.specs.Verdict.{AreStructures, IsFlawed, IsShaped, IsStructure}
 use Rattle.verdict.proofs.Staging.{pure_refused}
 use Rattle.verdict.proofs.Structure.{shapes_found, structures_refused}
-use Rattle.task_plan.specs.Plans.{ArePrepared, HavePlans, IsOnePlanOf, found_by, plan_reason, preparation_of, shapes_of}
+use Rattle.task_plan.specs.Plans.{IsOnePlanOf, found_by, plan_reason, shapes_of}
 use Rattle.task_plan.specs.Plans.{shown_shape}
 
 -- # One query
@@ -66,15 +69,10 @@ flawed_shown query tables (fault.TooManyRows most) tells =
 
 -- # Several queries
 
--- one more pair
-pub zip_push : {X Y : Type 0} (P : X → Y → Type 0) (xs : List X) (ys : List Y) (x : X) (y : Y) → AllZip P xs ys → P x y
-    → AllZip P (xs ++ x ∷ []) (ys ++ y ∷ [])
-zip_push P [] [] x y all one = (one, tt)
-zip_push P [] (b ∷ ys) x y all one = absurd all
-zip_push P (a ∷ xs) [] x y all one = absurd all
-zip_push P (a ∷ xs) (b ∷ ys) x y all one = (all.0, zip_push P xs ys x y all.1 one)
-
 module _ {R : Type 0} (d : ℕ) (key : R → KeyOf d 16) (tables : List Table) where
+  abbrev IsPlanned : BoundQuery → PlanData R → Type 0
+  IsPlanned query plan = IsPlanOf d key query tables None plan
+
   pub plans_shaped : (queries : List BoundQuery) (plans : List (PlanData R)) → HavePlans d key tables queries plans
       → HaveShapes tables (queries_in queries) (shapes_of plans)
   plans_shaped [] [] h = tt
@@ -82,13 +80,6 @@ module _ {R : Type 0} (d : ℕ) (key : R → KeyOf d 16) (tables : List Table) w
   plans_shaped (query ∷ queries) [] h = absurd h
   plans_shaped (query ∷ queries) (plan ∷ plans) h =
       (plan_structured d key query tables None plan h.0, plans_shaped queries plans h.1)
-
-  plans_counted : (queries : List BoundQuery) (plans : List (PlanData R)) → HavePlans d key tables queries plans
-      → length plans ≡ length queries
-  plans_counted [] [] h = refl
-  plans_counted [] (plan ∷ plans) h = absurd h
-  plans_counted (query ∷ queries) [] h = absurd h
-  plans_counted (query ∷ queries) (plan ∷ plans) h = let same = plans_counted queries plans h.1 in omega (arith, same)
 
   refused_list : (before : List BoundQuery) (query : BoundQuery) (later : List BoundQuery) (plans : List (PlanData R))
       (place : ℕ) (flaw : Flaw)
@@ -131,11 +122,10 @@ module _ {R : Type 0} (d : ℕ) (key : R → KeyOf d 16) (tables : List Table) w
   planned_more queries n plans before now new query plan was inside at is cost =
       let taken : take (n + 1) queries ≡ take n queries ++ query ∷ [] =
       take_more queries n query inside ∙ ap (λ (q : BoundQuery). take n queries ++ q ∷ []) (sym at) in
-      let more = zip_push (λ (q : BoundQuery) (p : PlanData R). IsPlanOf d key q tables None p) (take n queries) plans
-      query plan was.made is in
+      let more = all_zipped_more IsPlanned (take n queries) plans query plan was.made is in
       let all : HavePlans d key tables (take (n + 1) queries) (plans ++ plan ∷ []) =
       subst (λ (qs : List BoundQuery). HavePlans d key tables qs (plans ++ plan ∷ [])) (sym taken) more in
-      let counted = plans_counted (take (n + 1) queries) (plans ++ plan ∷ []) all in
+      let counted = AllZip-long IsPlanned (take (n + 1) queries) (plans ++ plan ∷ []) all in
       let length_taken = length-take-le (n + 1) queries (omega (arith, inside)) in
       let sum = sum_by_more (λ (q : BoundQuery). preparation_of tables q.query) queries n query inside in
       let own = ap (λ (q : BoundQuery). preparation_of tables q.query) at in

@@ -1,20 +1,18 @@
 -- The plans of an accepted input, as the verdict sees them.
-use Rattle.std.specs.Prelude.{◌≡◌, ◌<◌, ◌≤◌, ◌+◌, ◌*◌, ℕ, List, [], ◌∷◌, length, map}
-use Rattle.std.specs.Prelude.{Option, None, IfSome, Result, Ok, Err, Vec}
+use Rattle.std.specs.Prelude.{◌≡◌, ◌<◌, ℕ, List, [], ◌∷◌, length, map}
+use Rattle.std.specs.Prelude.{Option, IfSome, Result, Ok, Err, Vec}
 use Rattle.std.specs.Global.{Global}
-use Rattle.std.specs.List.{AllZip, sum_by}
-use Rattle.anyk_model.specs.Query.{Query, row_counts}
 use Rattle.anyk_model.specs.Table.{Table}
 use Rattle.hyper_graph.specs.Items.{items_of}
 use Rattle.outer_io.specs.Files.{Files}
-use Rattle.plan_build.specs.Plan.{IsPlanOf, PlanData, shape_of}
+use Rattle.plan_model.specs.Plan.{IsPlanOf, PlanData, shape_of}
+use Rattle.plan_model.specs.Plans.{ArePrepared, HavePlans}
 use Rattle.plan_build.specs.RankedPlan.{fixed_key, key_of_packed}
 use Rattle.plan_build.specs.declared.fault.PlanFault.{PlanFault}
 use Rattle.plan_build.specs.declared.fault.PlanFault.TheVariants as fault
 use Rattle.plan_build.specs.declared.ranked_plan.RankedPlan.{RankedPlan}
 use Rattle.plan_build.specs.declared.ranked_plan.RankedPlan.TheVariants.{Lex, MiddleSum, Packed, SmallLex, Sum}
-use Rattle.query_bind.specs.Parts.{sum_of_all}
-use Rattle.query_bind.specs.WeighedQuery.{BoundQuery}
+use Rattle.bound_query.specs.WeighedQuery.{BoundQuery}
 use Rattle.query_shape.specs.Shape.{Shape}
 use Rattle.proof_text.specs.Certificate.{Certificate}
 use Rattle.session_script.specs.declared.step.Step.{Step}
@@ -92,13 +90,6 @@ plan_reason branch fault.NoMemory = reason.NoMemory
 
 -- ---- the plans of the queries
 
--- the plan of each query in order
-abbrev pub HavePlans : {R : Type 0} (d : ℕ) → (R → KeyOf d 16) → List Table → List BoundQuery
-    → List (PlanData R)
-    → Type 0
-HavePlans d key tables queries plans =
-    AllZip (λ query made. IsPlanOf d key query tables None made) queries plans
-
 -- the plan of the one query
 pub record IsOnePlanOf {R : Type 0} (d : ℕ) (key : R → KeyOf d 16) (queries : List BoundQuery)
     (tables : List Table) (best : Option ℕ) (made : PlanData R)
@@ -126,18 +117,8 @@ ArePlans input (Lexes plans) =
 
 -- ---- the steps of the preparation
 
--- the most steps that the preparation of a query's plan may take
-abbrev pub preparation_of : List Table → Query → ℕ
-preparation_of tables query =
-    16 * (length query.items * length query.items
-    * (1 + sum_of_all (row_counts query.items tables)))
-
--- no more steps than the preparation of the plans of all queries may take
-abbrev pub ArePrepared : List Query → List Table → ℕ → ℕ → Type 0
-ArePrepared queries tables before now = now ≤ before + sum_by (preparation_of tables) queries
-
--- the same of what is found: `run` may have several queries, and each other command has one. Nothing is said
--- of the steps of `prove` and `verify`.
+-- No more steps than the preparation of the plans of what is found may take: `run` may have several queries, and
+-- each other command has one. Nothing is said of the steps of `prove` and `verify`.
 abbrev pub IsEarlyFor : Command → Found → ℕ → ℕ → Type 0
 IsEarlyFor (run words) found before now = ArePrepared found.queries found.tables before now
 IsEarlyFor (plan words) found before now = IsPrepared (query_of found) found.tables before now

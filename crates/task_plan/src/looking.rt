@@ -56,7 +56,7 @@ pub(crate) fn look_at<'a, F: Shelf>(
     }
 }
 
-// The text, if there is one.
+/// The text, if there is one.
 fn text_of(text: &Option<String>) -> Option<&str>
     ensures { option_map (λ t. t.now) result ≡ option_map string_bytes text.now }
 {

@@ -1,34 +1,36 @@
 //! The input of a command, with the plans of its queries.
 ghost use Rattle.std.specs.Prelude.{◌≡◌, ◌<◌, ◌≤◌, None, true, IfErr, IfOk, IfSome, length};
 ghost use Rattle.std.specs.List.{All};
-ghost use Rattle.input_load.specs.Input.{loaded_of, queries_in};
+ghost use Rattle.input_load.specs.Input.{loaded_of};
 ghost use Rattle.node_build.specs.Nodes.{CapsBelow};
+ghost use Rattle.plan_model.specs.Plans.{ArePrepared, HavePlans};
 ghost use Rattle.plan_build.specs.RankedPlan.{IsRankedPlan};
-ghost use Rattle.query_bind.specs.WeighedQuery.{Fits};
+ghost use Rattle.bound_query.specs.WeighedQuery.{Fits};
 ghost use Rattle.refusal_lines.specs.RefusalReasons.{reason_of};
 ghost use Rattle.step_bounds.specs.RunBounds.{IsPrepared};
+ghost use Rattle.verdict.specs.AcceptedInput.{queries_in};
 ghost use Rattle.verdict.specs.MadeFiles.{known_to};
 ghost use Rattle.verdict.specs.StageResults.{Pure, shelved};
 ghost use Rattle.verdict.specs.Verdict.{AreStructures, IsShaped, IsStructure};
 ghost use Rattle.verdict.specs.Words.{built};
 ghost use Rattle.task_plan.specs.Judgement.{HasOne, IsJudged};
-ghost use Rattle.task_plan.specs.Plans.{ArePlans, ArePrepared, HavePlans, IsEarlyWithin, plan_reason};
+ghost use Rattle.task_plan.specs.Plans.{ArePlans, IsEarlyWithin, plan_reason};
 ghost use Rattle.task_plan.specs.Plans.{shown_plans, shown_planned, shown_shape, shown_shapes};
 ghost use Rattle.task_plan.specs.Tasks.{command_of};
 
 use crate::looking::look_at;
 use crate::task::Task;
-use csv_tables::Tables;
+use bound_query::Query;
 use hash_keys::Keys;
 use input_load::Input;
 use outer_io::Shelf;
 use plan_build::{Plan, PlanFault, RankedPlan, prepare, prepare_ranked};
-use query_bind::Query;
 use rank_key::{LexRank, Rank, SumRank};
 use refusal_lines::Refusal;
 use std::alloc::Global;
 use std::sync::ledger::Ledger;
 use step_counter::Steps;
+use table_store::Tables;
 
 /// An accepted input, with the plans of its queries.
 #[derive(Drop)]
@@ -73,7 +75,7 @@ pub fn plan_task<'a, F: Shelf, L: Ledger>(
     Ok(Planned { input, plans })
 }
 
-// The plans of the input's queries, or the first refusal in their order.
+/// The plans of the input's queries, or the first refusal in their order.
 fn plans_of<'a, L: Ledger>(
     alloc: Global,
     input: &Input,
@@ -100,8 +102,8 @@ fn plans_of<'a, L: Ledger>(
     }
 }
 
-// The plan of the one query of an input. `Cyclic` if it has no join tree, and `TooManyNodeRows` if
-// its nodes have too many rows.
+/// The plan of the one query of an input. `Cyclic` if it has no join tree, and `TooManyNodeRows` if
+/// its nodes have too many rows.
 fn plan_of<'a, L: Ledger>(
     alloc: Global,
     query: &Query,
@@ -121,9 +123,9 @@ fn plan_of<'a, L: Ledger>(
     }
 }
 
-// The plan of each of several queries, by one rank type. The refusal is that of the first query
-// that has none, and `Cyclic` tells its number: `Cyclic` if it has no join tree, and
-// `TooManyNodeRows` if its nodes have too many rows.
+/// The plan of each of several queries, by one rank type. The refusal is that of the first query
+/// that has none, and `Cyclic` tells its number: `Cyclic` if it has no join tree, and
+/// `TooManyNodeRows` if its nodes have too many rows.
 fn plans_for<'a, R: Rank, L: Ledger>(
     alloc: Global,
     queries: &[Query],
@@ -155,7 +157,7 @@ fn plans_for<'a, R: Rank, L: Ledger>(
     Ok(plans)
 }
 
-// The refusal of the query of this branch, from 1, or of the one query if no branch is told.
+/// The refusal of the query of this branch, from 1, or of the one query if no branch is told.
 fn plan_refusal<'a>(branch: Option<u32>, fault: PlanFault) -> Refusal<'a>
     ensures { reason_of result ≡ plan_reason branch fault }
 {

@@ -2,26 +2,26 @@
 ghost use Rattle.std.specs.Prelude.{ℕ};
 ghost use Rattle.anyk_model.specs.Output.{cut};
 ghost use Rattle.best_list.specs.BestList.{list_of};
-ghost use Rattle.plan_build.specs.Plan.{IsPlanOf};
-ghost use Rattle.query_bind.specs.WeighedQuery.{Fits};
+ghost use Rattle.plan_model.specs.Plan.{IsPlanOf};
+ghost use Rattle.bound_query.specs.WeighedQuery.{Fits};
 ghost use Rattle.refusal_lines.specs.Printing.{Printed};
 ghost use Rattle.refusal_lines.specs.SinkState.{state_of};
 ghost use Rattle.step_bounds.specs.RunBounds.{IsPrepared, KeepsBound};
 ghost use Rattle.verdict.specs.Summary.{summary_text};
 
-use crate::engine::engine_over;
+use bound_query::Query;
 use bumpalo::Bump;
 use cmd_words::Engine;
 use command_load::print_summary;
-use csv_tables::Tables;
 use outer_io::Sink;
 use plan_build::Plan;
-use query_bind::Query;
+use plan_engine::engine_over;
 use rank_key::Rank;
 use refusal_lines::Refusal;
 use std::alloc::Global;
 use std::sync::ledger::Ledger;
 use step_counter::Steps;
+use table_store::Tables;
 
 /// Takes the first answers of the query, as many as the limit allows, and then prints their
 /// summary. `WriteFault` if the write failed, and `NoMemory` if memory is refused.

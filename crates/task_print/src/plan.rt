@@ -1,16 +1,16 @@
 //! The command `plan`.
-ghost use Rattle.plan_build.specs.Plan.{IsPlanFor, shape_of};
+ghost use Rattle.plan_model.specs.Plan.{IsPlanFor, shape_of};
 ghost use Rattle.query_shape.specs.Report.{report_of};
 ghost use Rattle.refusal_lines.specs.Printing.{Printed};
 ghost use Rattle.refusal_lines.specs.SinkState.{state_of};
 
-use csv_tables::Tables;
+use bound_query::Query;
 use outer_io::Sink;
 use plan_build::{Plan, report};
-use query_bind::Query;
 use rank_key::Rank;
 use refusal_lines::{Refusal, print};
 use std::alloc::Global;
+use table_store::Tables;
 
 /// Prints the report of the plan's join tree. `WriteFault` if the write failed, and `NoMemory` if
 /// memory is refused.

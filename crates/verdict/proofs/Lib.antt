@@ -3,3 +3,5 @@ pub mod Staging
 pub mod Structure
 pub mod Complete
 pub mod Whole
+pub mod Printed
+pub mod Steps

@@ -1,7 +1,8 @@
 -- What is known of an accepted input.
-use Rattle.std.specs.Prelude.{ℕ, nat_lt, List, [], Bool, Option, get_or, length}
+use Rattle.std.specs.Prelude.{ℕ, nat_lt, List, [], Bool, Option, get_or, length, map}
 use Rattle.anyk_model.specs.Table.{Table}
 use Rattle.anyk_model.specs.Query.{Query}
+use Rattle.bound_query.specs.WeighedQuery.{BoundQuery}
 use Rattle.query_shape.specs.Shape.{Shape}
 use Rattle.session_script.specs.declared.step.Step.{Step}
 use Rattle.proof_text.specs.Certificate.{Certificate}
@@ -20,6 +21,10 @@ pub record Found : Type 0 where
   pub steps : List Step
   -- the certificate, and the empty one if there is none
   pub proof : Certificate
+
+-- the queries alone, without what was found when they were bound
+abbrev pub queries_in : List BoundQuery → List Query
+queries_in queries = map (λ (q : BoundQuery). q.query) queries
 
 -- what was loaded, with its structure
 abbrev pub found_of : Loaded → List Shape → Found

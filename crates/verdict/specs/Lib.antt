@@ -12,6 +12,7 @@ pub mod SessionBound
 pub mod UnionBound
 pub mod Summary
 pub mod Outcome
+pub mod Sides
 pub mod Bound
 pub mod Laws
 pub mod StageResults

@@ -23,7 +23,8 @@ use Rattle.proof_text.specs.declared.fault.ProofFault.{ProofFault}
 use Rattle.proof_text.specs.Certificate.{Certificate}
 use Rattle.proof_text.specs.Reading.{proof_of}
 use Rattle.verdict.specs.Faults.{of_parse, of_script, of_proof, of_bind, of_flaw}
-use Rattle.verdict.specs.Stages.{Then, Is, then_by, unless}
+use Rattle.session_script.specs.Script.{unless}
+use Rattle.verdict.specs.Stages.{Then, Is, then_by}
 use Rattle.verdict.specs.Words.{Aside, nothing, script, certificate}
 
 -- ---- one file

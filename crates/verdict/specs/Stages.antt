@@ -1,5 +1,5 @@
 -- Stages, one after another: each one finds something, or refuses.
-use Rattle.std.specs.Prelude.{◌≡◌, Option, Some, None, Result, Ok, Err}
+use Rattle.std.specs.Prelude.{◌≡◌, Result, Ok, Err}
 use Rattle.refusal_lines.specs.Reason.{Reason}
 
 -- what the second stage finds after the first, or the first refusal
@@ -17,11 +17,6 @@ Is computed result = result ≡ computed
 abbrev pub then_by : {A B : Type 0} → Result A Reason → (A → Result B Reason) → Result B Reason
 then_by (Ok a) go = go a
 then_by (Err reason) go = Err reason
-
--- nothing, or a refusal
-abbrev pub unless : {A : Type 0} → Option Reason → A → Result A Reason
-unless None a = Ok a
-unless (Some reason) a = Err reason
 
 -- at most one value has P
 abbrev pub AtMostOne : {A : Type 0} → (A → Type 0) → Type 0

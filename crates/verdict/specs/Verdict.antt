@@ -17,7 +17,8 @@ use Rattle.verdict.specs.Words.{Asked, Sought, no_command, built, verify, sought
 use Rattle.verdict.specs.Loading.{Beside, Loaded, IsReading, all_items, are_several, beside_in, file_in, told_branch}
 use Rattle.verdict.specs.Loading.{unknown_table, tables_in, first_uses, bound_in, loaded_in}
 use Rattle.verdict.specs.AcceptedInput.{Found, found_of, query_of, structure_of}
-use Rattle.verdict.specs.Stages.{Then, Is, unless}
+use Rattle.session_script.specs.Script.{unless}
+use Rattle.verdict.specs.Stages.{Then, Is}
 
 -- ---- loading
 

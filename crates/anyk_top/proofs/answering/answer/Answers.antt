@@ -1,8 +1,25 @@
+use Rattle.std.proofs.Common.{ℕ, List, None, Option, Some}
 use Rattle.std.specs.String.{string_bytes}
 use Rattle.cmd_words.specs.ArgumentMeaning.{seen_words}
+use Rattle.outer_io.specs.Files.{Files}
+use Rattle.verdict.specs.Bound.{IsBounded, IsPrompt}
+use Rattle.verdict.specs.Words.{Words, built, verify}
 use Rattle.task_plan.specs.Tasks.{words_of}
-use Rattle.anyk_top.proofs.Verifying.{verify_bounded, verify_prompt}
 use Rattle.anyk_top.proofs.answering.answer.Goals as goal
+
+-- # The steps of `verify`, of which nothing is said
+
+verify_bounded : (proof : List ℕ) (words : Words) (told : Option Files) (before now : ℕ)
+    → IsBounded (built (verify proof words)) told before now
+verify_bounded proof words None before now = tt
+verify_bounded proof words (Some files) before now = λ found verdict. tt
+
+verify_prompt : (proof : List ℕ) (words : Words) (told : Option Files) (old new : Option (List ℕ)) (before now : ℕ)
+    → IsPrompt (built (verify proof words)) told old new before now
+verify_prompt proof words None old new before now = tt
+verify_prompt proof words (Some files) old new before now = λ found verdict. tt
+
+-- # The parts of an answer
 
 pub returns-in-Planned-clause-done : goal.returns-in-Planned-clause-done
 returns-in-Planned-clause-done g c = rw c.in-Planned.is c.answer_task.ensures.done

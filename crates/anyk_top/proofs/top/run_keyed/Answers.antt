@@ -2,12 +2,12 @@ use Rattle.std.proofs.Common.{map}
 use Rattle.std.specs.String.{string_bytes}
 use Rattle.cmd_words.specs.Commands.{said_of}
 use Rattle.anyk_top.specs.CommandLine.{asked_of}
-use Rattle.task_answer.proofs.Bounds.{bounded_still, prompt_still}
+use Rattle.verdict.proofs.Steps.{bounded_still, prompt_still}
 use Rattle.verdict.specs.MadeFiles.{known_to}
 use Rattle.verdict.specs.Outcome.{Outside}
 use Rattle.verdict.specs.Words.{built}
 use Rattle.anyk_top.specs.Requests.{asked_by}
-use Rattle.task_answer.specs.Sides.{seen_by}
+use Rattle.verdict.specs.Sides.{seen_by}
 use Rattle.anyk_top.proofs.Ends.{early_outcome, built_outcome}
 use Rattle.refusal_lines.specs.SinkState.{state_of}
 use Rattle.refusal_lines.proofs.Prints.{appends_nothing}

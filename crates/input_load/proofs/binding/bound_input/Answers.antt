@@ -3,7 +3,7 @@ use Rattle.refusal_lines.specs.RefusalReasons.{reason_of}
 use Rattle.verdict.specs.Loading.{bound_in, loaded_in}
 use Rattle.verdict.specs.Stages.{Is, followed}
 use Rattle.verdict.proofs.Staging.{pure_found, pure_refused}
-use Rattle.input_load.specs.Input.{queries_in}
+use Rattle.verdict.specs.AcceptedInput.{queries_in}
 use Rattle.input_load.specs.StageViews.{seen_beside}
 use Rattle.input_load.specs.Sought.{sought_shown}
 use Rattle.input_load.proofs.Best.{item_found, item_refused, shape_refused}

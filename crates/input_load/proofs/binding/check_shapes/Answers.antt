@@ -1,6 +1,6 @@
 use Rattle.std.proofs.Common.{◌≡◌, ◌∙◌, false, true, sym, rules, arith}
 use Rattle.std.proofs.lemmas.List.{length-map}
-use Rattle.input_load.specs.Input.{queries_in}
+use Rattle.verdict.specs.AcceptedInput.{queries_in}
 use Rattle.input_load.proofs.FirstUses.{mapped_at, mapped_inside}
 use Rattle.input_load.proofs.Shapes.{odd_begins, shape_kept, shape_odd, shapes_same}
 use Rattle.input_load.proofs.binding.check_shapes.Goals as goal

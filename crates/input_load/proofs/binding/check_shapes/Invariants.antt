@@ -1,6 +1,6 @@
 use Rattle.std.proofs.Common.{◌≡◌}
 use Rattle.verdict.specs.Loading.{odd_branch}
-use Rattle.input_load.specs.Input.{queries_in}
+use Rattle.verdict.specs.AcceptedInput.{queries_in}
 use Rattle.input_load.proofs.Shapes.{odd_after}
 use Rattle.input_load.proofs.binding.check_shapes.Given as goal
 

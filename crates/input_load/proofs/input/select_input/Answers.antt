@@ -1,7 +1,8 @@
 use Rattle.std.proofs.Common.{◌≡◌, Err, rules}
 use Rattle.verdict.specs.Loading.{all_items, unknown_table}
 use Rattle.verdict.specs.StageResults.{NoTurn}
-use Rattle.verdict.specs.Stages.{Is, unless}
+use Rattle.session_script.specs.Script.{unless}
+use Rattle.verdict.specs.Stages.{Is}
 use Rattle.verdict.specs.Verdict.{IsTabled}
 use Rattle.verdict.proofs.Staging.{found_then, pure_staged, refusal_then}
 use Rattle.input_load.specs.Turns.{IsTabledTurn}

@@ -2,7 +2,7 @@ use Rattle.std.proofs.Common.{◌≡◌, ◌∙◌, None, Option, [], ◌∷◌,
 use Rattle.std.proofs.lemmas.List.{map-append}
 use Rattle.cmd_words.specs.NamedPairs.{named_pair}
 use Rattle.refusal_lines.specs.Reason.{Reason}
-use Rattle.verdict.specs.Stages.{unless}
+use Rattle.session_script.specs.Script.{unless}
 use Rattle.input_load.proofs.FirstUses.{entries_all, entries_end, entries_more, entries_none, found_entry, found_table, none_file}
 use Rattle.input_load.proofs.uses.add_entries.Goals as goal
 

@@ -8,9 +8,11 @@ use Rattle.verdict.specs.StageResults.{Shelved, shelved}
 use Rattle.refusal_lines.proofs.Prints.{appends_nothing}
 use Rattle.task_plan.specs.Plans.{found_in}
 use Rattle.task_plan.specs.Tasks.{command_of}
-use Rattle.task_answer.specs.Sides.{seen_by}
-use Rattle.task_answer.proofs.Bounds.{bounded_early, bounded_found, prompt_early, prompt_found}
-use Rattle.task_answer.proofs.Ends.{judged_accepts, judged_reason, judged_caused, judged_cut, printed_caused, printed_complete, printed_cut, printed_fits}
+use Rattle.verdict.specs.Sides.{seen_by}
+use Rattle.verdict.proofs.Steps.{bounded_found, prompt_found}
+use Rattle.task_answer.proofs.Bounds.{bounded_early, prompt_early}
+use Rattle.task_plan.proofs.Ends.{judged_accepts, judged_reason, judged_caused, judged_cut}
+use Rattle.verdict.proofs.Printed.{printed_caused, printed_complete, printed_cut, printed_fits}
 use Rattle.task_answer.proofs.answering.answer_task.Goals as goal
 
 pub returns-in-Err-clause-fits : goal.returns-in-Err-clause-fits

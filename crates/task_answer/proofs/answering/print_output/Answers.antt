@@ -1,11 +1,15 @@
-use Rattle.std.proofs.Common.{◌≡◌, ℕ, None, Option, arith, refl, subst}
-use Rattle.plan_build.specs.Plan.{IsPlanOf, shape_of}
+use Rattle.std.proofs.Common.{◌≡◌, ℕ, None, Option, ap, arith, refl, subst}
+use Rattle.anyk_model.specs.Output.{Style, cut, output_of}
+use Rattle.best_list.specs.BestList.{list_of}
+use Rattle.plan_model.specs.Plan.{IsPlanOf, shape_of}
 use Rattle.refusal_lines.proofs.Prints.{printed_some}
+use Rattle.step_bounds.specs.RunBounds.{IsPrepared, KeepsPace}
+use Rattle.verdict.specs.Session.{session_text}
 use Rattle.task_plan.specs.Judgement.{IsUnnamed}
 use Rattle.task_plan.specs.Tasks.{command_of}
 use Rattle.task_plan.specs.declared.task.Task.{Task}
 use Rattle.plan_build.proofs.ShapeIs.{plan_shape}
-use Rattle.task_print.proofs.Prepared.{prepared_over}
+use Rattle.union_print.proofs.Prepared.{prepared_over}
 use Rattle.plan_build.proofs.Rooted.{whole_of}
 use Rattle.task_answer.proofs.answering.print_output.Goals as goal
 
@@ -17,7 +21,13 @@ returns-in-Run-clause-bounded g c =
 pub returns-in-Run-clause-paced : goal.returns-in-Run-clause-paced
 returns-in-Run-clause-paced g c =
     let has = plan_shape g.R.Rank.KEYS g.R.Rank.key c.args.query.now c.args.tables.now c.args.plan.now (whole_of g.R.Rank.KEYS g.R.Rank.key c.args.query.now c.args.tables.now c.args.best c.args.plan.now c.requires.plan) in
-    rw c.in-Run.is (λ proof before prepared. c.print_run.ensures.paced before prepared (shape_of c.args.plan.now) has)
+    let query = c.args.query.now.query in
+    let tables = c.args.tables.now in
+    let P = λ (style : Style). (before : ℕ) → IsPrepared query tables before c.args.steps.now
+    → KeepsPace query tables (list_of query tables c.args.best) style (g.S.Sink.written c.args.out.now)
+    (g.S.Sink.written c.print_run.new.out) before c.print_run.new.steps in
+    let paced = subst P c.style_in-style.ensures c.print_run.ensures.paced in
+    rw c.in-Run.is (λ proof before prepared. paced before prepared (shape_of c.args.plan.now) has)
 
 pub returns-in-Session-clause-bounded : goal.returns-in-Session-clause-bounded
 returns-in-Session-clause-bounded g c =
@@ -36,13 +46,23 @@ pub print_report-requires : goal.print_report-requires
 print_report-requires g c = record { plan = whole_of g.R.Rank.KEYS g.R.Rank.key c.args.query.now c.args.tables.now c.args.best c.args.plan.now c.requires.plan }
 
 pub returns-in-Run-clause-printed : goal.returns-in-Run-clause-printed
-returns-in-Run-clause-printed g c = rw c.in-Run.is (λ proof. printed_some _ _ _ _ _ refl c.print_run.ensures.printed)
+returns-in-Run-clause-printed g c =
+    let query = c.args.query.now.query in
+    let tables = c.args.tables.now in
+    let text = ap (λ (style : Style). output_of query tables style (cut query.limit (list_of query tables c.args.best)))
+    c.style_in-style.ensures in
+    rw c.in-Run.is (λ proof. printed_some _ _ _ _ _ text c.print_run.ensures.printed)
 
 pub returns-in-Plan-clause-printed : goal.returns-in-Plan-clause-printed
 returns-in-Plan-clause-printed g c = rw c.in-Plan.is (λ proof. printed_some _ _ _ _ _ refl c.print_report.ensures)
 
 pub returns-in-Session-clause-printed : goal.returns-in-Session-clause-printed
-returns-in-Session-clause-printed g c = rw c.in-Session.is (λ proof. printed_some _ _ _ _ _ refl c.print_script.ensures.printed)
+returns-in-Session-clause-printed g c =
+    let query = c.args.query.now.query in
+    let tables = c.args.tables.now in
+    let text = ap (λ (style : Style). session_text query tables style
+    (cut query.limit (list_of query tables c.args.best)) c.args.script.now) c.style_in-style-in-Session.ensures in
+    rw c.in-Session.is (λ proof. printed_some _ _ _ _ _ text c.print_script.ensures.printed)
 
 pub returns-in-Load-clause-printed : goal.returns-in-Load-clause-printed
 returns-in-Load-clause-printed g c = rw c.in-Load.is (λ proof. printed_some _ _ _ _ _ refl c.print_load.ensures.printed)

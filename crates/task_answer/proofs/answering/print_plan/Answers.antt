@@ -1,13 +1,14 @@
 use Rattle.std.proofs.Common.{◌∷◌, [], ℕ, sym, subst}
-use Rattle.input_load.specs.Input.{InputData, loaded_of, queries_in}
-use Rattle.plan_build.specs.Plan.{shape_of}
+use Rattle.input_load.specs.Input.{InputData, loaded_of}
+use Rattle.plan_model.specs.Plan.{shape_of}
+use Rattle.plan_model.specs.Plans.{ArePrepared}
 use Rattle.refusal_lines.specs.Printing.{PrintedSome}
 use Rattle.refusal_lines.specs.SinkState.{state_of}
 use Rattle.verdict.specs.Bound.{IsPaced, IsWithin}
-use Rattle.verdict.specs.AcceptedInput.{Found, found_of}
+use Rattle.verdict.specs.AcceptedInput.{Found, found_of, queries_in}
 use Rattle.verdict.specs.Output.{HasOutput}
 use Rattle.task_plan.specs.Judgement.{IsUnnamed}
-use Rattle.task_plan.specs.Plans.{ArePrepared, IsOnePlanOf}
+use Rattle.task_plan.specs.Plans.{IsOnePlanOf}
 use Rattle.task_plan.specs.Tasks.{command_of}
 use Rattle.task_plan.proofs.Inputs.{input_shown}
 use Rattle.task_plan.proofs.Judging.{unnamed_of}

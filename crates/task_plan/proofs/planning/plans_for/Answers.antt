@@ -1,9 +1,9 @@
 use Rattle.std.proofs.Common.{◌≡◌, ◌<◌, ◌+◌, true, Err, Some, length, subst, sym, arith}
-use Rattle.input_load.specs.Input.{queries_in}
 use Rattle.refusal_lines.specs.Reason.{Reason}
 use Rattle.verdict.specs.StageResults.{Pure}
 use Rattle.verdict.specs.Verdict.{AreStructures}
 use Rattle.verdict.proofs.Structure.{structures_found}
+use Rattle.verdict.specs.AcceptedInput.{queries_in}
 use Rattle.task_plan.specs.Plans.{plan_reason, shapes_of}
 use Rattle.task_plan.proofs.PlanList.{all_planned, next_flawed, planned_more, plans_shaped, some_prepared}
 use Rattle.task_plan.proofs.planning.plans_for.Goals as goal

@@ -1,12 +1,13 @@
 use Rattle.std.proofs.Common.{◌≡◌, ◌<◌, ◌∷◌, [], ◌∙◌, Err, Ok, length, sym, subst, ap, rules, arith}
+use Rattle.plan_model.specs.Plans.{HavePlans}
 use Rattle.plan_build.specs.RankedPlan.{fixed_key}
-use Rattle.query_bind.specs.WeighedQuery.{BoundQuery}
+use Rattle.bound_query.specs.WeighedQuery.{BoundQuery}
 use Rattle.refusal_lines.specs.RefusalReasons.{reason_of}
 use Rattle.input_load.specs.Input.{InputData, loaded_of}
 use Rattle.verdict.specs.AcceptedInput.{found_of}
 use Rattle.verdict.specs.StageResults.{Pure}
 use Rattle.verdict.specs.Verdict.{IsShaped}
-use Rattle.task_plan.specs.Plans.{HavePlans, shape_in, shapes_of}
+use Rattle.task_plan.specs.Plans.{shape_in, shapes_of}
 use Rattle.task_plan.proofs.Inputs.{input_shown}
 use Rattle.task_plan.proofs.PlanList.{caps_each, keys_within, one_found, one_refused, only_one, several_found, several_refused}
 use Rattle.task_plan.proofs.planning.plans_of.Goals as goal

@@ -4,7 +4,7 @@ use Rattle.refusal_lines.specs.declared.refusal.Refusal.TheVariants as refusal
 use Rattle.refusal_lines.proofs.Prints.{unprinted}
 use Rattle.plan_build.proofs.Rooted.{whole_of}
 use Rattle.plan_build.proofs.ShapeIs.{rows_counted}
-use Rattle.task_print.proofs.RunBounds.{called_by, started}
+use Rattle.plan_engine.proofs.RunBounds.{called_by, started}
 use Rattle.task_print.proofs.load.print_load.Goals as goal
 
 pub returns-in_err-chosen-clause-printed : goal.returns-in_err-chosen-clause-printed

@@ -1,0 +1,7 @@
+//! The engine of ranked enumeration over a plan: the one that the command line names, or that of the best answers of
+//! an item's rows.
+#![tactic(auto)]
+
+mod engine;
+
+pub use engine::engine_over;

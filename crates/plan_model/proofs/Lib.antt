@@ -1,0 +1,2 @@
+pub mod AnswersAgree
+pub mod Places

@@ -1,4 +1,0 @@
-pub mod Prepared
-pub mod RunBounds
-pub mod Left
-pub mod UnionRun

@@ -1,0 +1,110 @@
+//! Whether a certificate is valid for the query of an input.
+ghost use Rattle.std.specs.Prelude.{◌≡◌, ◌≤◌, IfErr, IfOk, List, None, length};
+ghost use Rattle.anyk_model.specs.Output.{cut};
+ghost use Rattle.anyk_model.specs.Ranking.{ranking_of};
+ghost use Rattle.anyk_model.specs.Table.{Table};
+ghost use Rattle.join_tree.specs.Rerooting.{IsTree};
+ghost use Rattle.node_build.specs.Nodes.{CapsBelow};
+ghost use Rattle.proof_check.specs.RowLists.{item_rows};
+ghost use Rattle.proof_text.specs.ProofView.{seen_proof};
+ghost use Rattle.bound_query.specs.WeighedQuery.{Fits};
+ghost use Rattle.query_shape.specs.JoinTreeView.{HasItems, HasStoredTree};
+ghost use Rattle.refusal_lines.specs.RefusalReasons.{reason_of};
+ghost use Rattle.verdict.specs.StageResults.{Pure};
+ghost use Rattle.verdict.specs.Verdict.{IsStructure};
+ghost use Rattle.task_verify.specs.Verifications.{IsCheckedFor, shape_reason, shown_done};
+
+use bound_query::Query;
+use input_load::proof_refusal;
+use join_tree::JoinTree;
+use proof_check::verify;
+use proof_text::Proof;
+use query_shape::{ShapeFault, tree_shape};
+use rank_key::{LexRank, Rank, SumRank};
+use refusal_lines::Refusal;
+use std::alloc::Global;
+use std::sync::ledger::Ledger;
+use step_counter::Steps;
+use table_store::Tables;
+
+/// The answers that a certificate lists, which are the first answers of the query: for each a row for
+/// each item, from 1, and 0 past the last item. `Cyclic` if the query has no join tree,
+/// `TooManyNodeRows` if its nodes have too many rows, and then the refusal for the certificate's first
+/// flaw. `NoMemory` if memory is refused.
+pub(crate) fn check_proof<'a, L: Ledger>(
+    alloc: Global,
+    query: &Query,
+    tables: &Tables,
+    proof: &Proof,
+    steps: &mut Steps<L>,
+) -> Result<Vec<[u32; 16]>, Refusal<'a>>
+    requires fits { Fits query.now tables.now }
+    ensures checked { Pure (IsCheckedFor query.now.query tables.now (seen_proof proof.now))
+        (shown_done result) }
+    ensures answers { IfOk result (λ found. item_rows query.now.query found.items
+        ≡ cut query.now.query.limit (ranking_of query.now.query tables.now)) }
+{
+    let join = join_of(query)?;
+    // there are at most 16 items
+    let _items = query.items();
+    if query.keys() <= 1 {
+        listed_answers::<SumRank, L>(alloc, query, tables, &join, proof, steps)
+    } else {
+        listed_answers::<LexRank, L>(alloc, query, tables, &join, proof, steps)
+    }
+}
+
+/// The join tree of the query. `Cyclic` if it has none.
+fn join_of<'a>(query: &Query) -> Result<JoinTree, Refusal<'a>>
+    requires fits { (tables : List Table) × Fits query.now tables }
+    ensures tree { IfOk result (λ join. HasStoredTree query.now.query join) }
+    ensures ordered { IfOk result (λ join. IsTree join.count join.atom join.parent) }
+    ensures count { IfOk result (λ join. join.count ≡ length query.now.query.items) }
+    ensures items { IfOk result
+        (λ join. HasItems join.count join.atom (length query.now.query.items)) }
+    ensures refusal { (tables : List Table)
+        → IfErr result (λ refusal. Pure (IsStructure None tables query.now.query)
+        (Err (reason_of refusal))) }
+{
+    match tree_shape(query) {
+        Ok(join) => Ok(join),
+        Err(fault) => Err(shape_refusal(fault)),
+    }
+}
+
+fn shape_refusal<'a>(fault: ShapeFault) -> Refusal<'a>
+    ensures { reason_of result ≡ shape_reason fault }
+{
+    match fault {
+        ShapeFault::Cyclic(core) => Refusal::Cyclic { branch: None, core },
+        ShapeFault::NoMemory => Refusal::NoMemory,
+    }
+}
+
+/// The answers that a certificate lists, by one rank type.
+fn listed_answers<'a, R: Rank, L: Ledger>(
+    alloc: Global,
+    query: &Query,
+    tables: &Tables,
+    join: &JoinTree,
+    proof: &Proof,
+    steps: &mut Steps<L>,
+) -> Result<Vec<[u32; 16]>, Refusal<'a>>
+    requires fits { Fits query.now tables.now }
+    requires keys { length query.now.query.order ≤ R.KEYS }
+    requires slots { length query.now.query.items ≤ R.ITEMS }
+    requires limit { CapsBelow R.LIMIT query.now tables.now }
+    requires tree { HasStoredTree query.now.query join.now }
+    requires ordered { IsTree join.now.count join.now.atom join.now.parent }
+    requires items { HasItems join.now.count join.now.atom (length query.now.query.items) }
+    requires count { join.now.count ≡ length query.now.query.items }
+    ensures checked { Pure (IsCheckedFor query.now.query tables.now (seen_proof proof.now))
+        (shown_done result) }
+    ensures answers { IfOk result (λ found. item_rows query.now.query found.items
+        ≡ cut query.now.query.limit (ranking_of query.now.query tables.now)) }
+{
+    match verify::<R, L>(alloc, query, tables, join, proof, steps) {
+        Ok(answers) => Ok(answers),
+        Err(fault) => Err(proof_refusal(fault)),
+    }
+}

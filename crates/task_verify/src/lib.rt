@@ -1,0 +1,8 @@
+//! The command `verify`, over a shelf of files and a sink: the input is read, its certificate is checked, and the
+//! answers that it lists are printed.
+#![tactic(auto)]
+
+mod checking;
+mod verify;
+
+pub use verify::answer_verified;

@@ -1,0 +1,27 @@
+use Rattle.union_print.proofs.UnionRun.{some_spent, started_more}
+use Rattle.union_print.proofs.union.engines_over.Goals as goal
+
+pub returns-in_err-started-clause-cost : goal.returns-in_err-started-clause-cost
+returns-in_err-started-clause-cost g c =
+    some_spent g.R.Rank.KEYS g.R.Rank.key c.args.plans.now c.loop-plan.plan-index c.loop-plan.engines.items
+    c.args.steps.now c.loop-plan.steps _ c.plan-item.result
+    c.loop-plan.invariant c.loop-plan-test.true c.plan-item.is c.engine_over.ensures.cost
+
+pub returns-in_err-push-clause-cost : goal.returns-in_err-push-clause-cost
+returns-in_err-push-clause-cost g c =
+    some_spent g.R.Rank.KEYS g.R.Rank.key c.args.plans.now c.loop-plan.plan-index c.loop-plan.engines.items
+    c.args.steps.now c.loop-plan.steps _ c.plan-item.result
+    c.loop-plan.invariant c.loop-plan-test.true c.plan-item.is c.engine_over.ensures.cost
+
+pub loop-plan-preserved : goal.loop-plan-preserved
+loop-plan-preserved g c =
+    rw c.in_ok-push.ensures.items
+    (started_more g.R.Rank.KEYS g.R.Rank.key c.args.plans.now c.loop-plan.plan-index c.loop-plan.engines.items
+    c.args.steps.now c.loop-plan.steps _ c.plan-item.result
+    c.in_ok-started.started c.loop-plan.invariant c.loop-plan-test.true c.plan-item.is
+    (record {
+      tree = c.in_ok-started.ensures.tree;
+      calls = c.in_ok-started.ensures.calls;
+      asked =
+          c.in_ok-started.ensures.asked;
+    }) c.engine_over.ensures.cost)
