@@ -3,11 +3,11 @@ use Rattle.std.proofs.Common.{◌≡◌, ◌<◌, ◌≤◌, ℕ, zero, suc, Lis
 use Rattle.std.proofs.lemmas.List.{get_or-map, get_or-take, length-map}
 use Rattle.anyk_model.specs.Table.{Table, table_at}
 use Rattle.anyk_model.specs.Query.{Query, Item, Column, IsCombination, row_counts}
-use Rattle.query_bind.specs.Inside.{HasTable, IsInside, IsWithin}
-use Rattle.query_bind.specs.Names.{item_at}
-use Rattle.query_bind.specs.StoredParts.{column_shown}
-use Rattle.query_bind.specs.Weights.{table_in}
-use Rattle.query_bind.proofs.Search.{all_at}
+use Rattle.bound_query.specs.Inside.{HasTable, IsInside, IsWithin}
+use Rattle.bound_query.specs.Items.{item_at}
+use Rattle.bound_query.specs.StoredParts.{column_shown}
+use Rattle.bound_query.specs.Weights.{table_in}
+use Rattle.bound_query.proofs.Lists.{all_at}
 
 combination_at : (counts rows : List ℕ) (i : ℕ) → IsCombination counts rows → i < length counts → (1 ≤ get_or rows i 0) × (get_or rows i 0 ≤ get_or counts i 0)
 combination_at [] rows i chosen inside = absurd (omega arith)

@@ -1,42 +1,17 @@
 -- The parts of a combination's rows, added one after another.
-use Rattle.std.proofs.Common.{◌≡◌, ◌+◌, ◌<◌, ◌≤◌, ℕ, zero, suc, nat_lt, Bool, true, false, cond, if◌then◌else◌, ℤ, pos, ◌+ℤ◌, ◌-ℤ◌, neg_ℤ, nat_abs, List, [], ◌∷◌, ◌++◌, map, length, get_or, slice_index, Option, Some, None, option_map, refl, sym, ap, ◌∙◌, arith, FitsSigned}
+use Rattle.std.proofs.Common.{◌≡◌, ◌+◌, ◌<◌, ◌≤◌, ℕ, zero, suc, Bool, true, false, if◌then◌else◌, ℤ, pos, ◌+ℤ◌, ◌-ℤ◌, neg_ℤ, nat_abs, List, [], ◌∷◌, ◌++◌, map, length, slice_index, sym, ap, ◌∙◌, arith, FitsSigned}
 use mir.Syntax.{w128}
-use Rattle.std.specs.List.{position_from, range_with_len}
-use Rattle.std.proofs.lemmas.Bool.{ltb-false}
+use Rattle.std.specs.List.{range_with_len}
 use Rattle.std.proofs.lemmas.Int.{ints, fits_signed_from_abs}
 use Rattle.std.proofs.lemmas.List.FromFn.{map-range_with_len_more}
 use Rattle.anyk_model.specs.Table.{Table}
 use Rattle.anyk_model.specs.Query.{Item, OrderKey, rank_of, sum_of, total}
-use Rattle.query_bind.specs.Inside.{KeyInside}
-use Rattle.query_bind.specs.Parts.{sum_of_all}
-use Rattle.query_bind.specs.WeighedQuery.{BoundQuery, Fits}
-use Rattle.query_bind.specs.Weights.{cap_of, key_at, most_sum, part_of, range_fault, terms_size}
-use Rattle.query_bind.specs.declared.fault.BindFault.TheVariants as fault
-use Rattle.query_bind.proofs.Parts.{caps_add, nat_abs_add, part_capped, parts_add}
-use Rattle.query_bind.proofs.Search.{all_at}
-
--- ---- a key that is in range
-
-passed_by : (b : Bool) (n : ℕ) (later : Option ℕ) → cond b (Some n) later ≡ None → (b ≡ false) × (later ≡ None)
-passed_by true n later e = absurd (cc e)
-passed_by false n later e = (refl, e)
-
--- if no element passes a test, each one fails it
-none_passes : {A : Type 0} (test : A → Bool) (n : ℕ) (xs : List A) (k : ℕ) (d : A) → position_from test n xs ≡ None → k < length xs → test (get_or xs k d) ≡ false
-none_passes test n [] k d e inside = absurd (omega arith)
-none_passes test n (x ∷ xs) zero d e inside = (passed_by (test x) n (position_from test (n + 1) xs) e).0
-none_passes test n (x ∷ xs) (suc k) d e inside = none_passes test (n + 1) xs k d (passed_by (test x) n (position_from test (n + 1) xs) e).1 (omega arith)
-
-no_fault : (o : Option ℕ) → option_map (λ n. fault.RankRange n) o ≡ None → o ≡ None
-no_fault None e = refl
-no_fault (Some n) e = absurd (cc e)
-
--- the greatest weights of a key have a sum that fits
-in_range : (tables : List Table) (items : List Item) (order : List OrderKey) (key : ℕ) → range_fault tables items order ≡ None → key < length order
-    → terms_size tables items (key_at order key).terms ≤ most_sum
-in_range tables items order key none inside =
-    ltb-false most_sum (terms_size tables items (key_at order key).terms)
-    (none_passes (λ (k : OrderKey). nat_lt most_sum (terms_size tables items k.terms)) 1 order key (record { terms = []; descending = false }) (no_fault (position_from (λ (k : OrderKey). nat_lt most_sum (terms_size tables items k.terms)) 1 order) none) inside)
+use Rattle.bound_query.specs.Inside.{KeyInside}
+use Rattle.bound_query.specs.Parts.{sum_of_all}
+use Rattle.bound_query.specs.WeighedQuery.{BoundQuery, Fits}
+use Rattle.bound_query.specs.Weights.{KeyInRange, cap_of, key_at, most_sum, part_of, terms_size}
+use Rattle.bound_query.proofs.Parts.{caps_add, nat_abs_add, part_capped, parts_add}
+use Rattle.bound_query.proofs.Lists.{all_at}
 
 -- ---- the parts so far
 
@@ -96,7 +71,7 @@ module _ (bound : BoundQuery) (tables : List Table) (fits : Fits bound tables) (
   inside = all_at (KeyInside tables bound.query.items) bound.query.order k (record { terms = []; descending = false }) fits.within.order there
 
   pub bounded : (n : ℕ) → n ≤ length bound.query.items → nat_abs (so_far n) ≤ most_sum
-  bounded n few = parts_bounded tables bound.query.items rows key n inside (in_range tables bound.query.items bound.query.order k fits.range there) few
+  bounded n few = parts_bounded tables bound.query.items rows key n inside (all_at (KeyInRange tables bound.query.items) bound.query.order k (record { terms = []; descending = false }) fits.range there) few
 
   pub sum_fits : (n : ℕ) (z : ℤ) → n ≤ length bound.query.items → z ≡ so_far n → FitsSigned w128 z
   sum_fits n z few is =

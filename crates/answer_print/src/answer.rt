@@ -3,18 +3,18 @@ ghost use Rattle.std.specs.Prelude.{◌≡◌, ◌<◌, ◌++◌, [], if◌then�
 ghost use Rattle.std.specs.Fmt.{decimal, signed_decimal};
 ghost use Rattle.anyk_model.specs.Output.{line_text, optional_field};
 ghost use Rattle.anyk_model.specs.Query.{IsCombination, row_counts, sum_of, value_of};
-ghost use Rattle.query_bind.specs.WeighedQuery.{Fits};
-ghost use Rattle.query_bind.specs.Weights.{key_at};
+ghost use Rattle.bound_query.specs.WeighedQuery.{Fits};
+ghost use Rattle.bound_query.specs.Weights.{key_at};
 ghost use Rattle.answer_print.specs.StyleView.{style_shown};
 
 use crate::fields::{Fields, push_numbers, push_optional};
 use crate::number::{Number, Numbers};
 use crate::style::Style;
 use crate::writer::AnswerWriter;
-use csv_tables::Tables;
-use query_bind::Query;
+use bound_query::Query;
 use std::alloc::Global;
 use step_counter::NoMemory;
+use table_store::Tables;
 
 /// The record of the answer with these rows, one for each item, counted from 1. Its fields are the
 /// cursor's name if there is one, the selected columns, and the sums of the order keys and the row

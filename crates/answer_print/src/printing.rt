@@ -3,7 +3,7 @@ ghost use Rattle.std.specs.Prelude.{length, take};
 ghost use Rattle.anyk_model.specs.Output.{header_text, line_text};
 ghost use Rattle.anyk_model.specs.Query.{IsCombination, row_counts};
 ghost use Rattle.answer_print.specs.StyleView.{style_shown};
-ghost use Rattle.query_bind.specs.WeighedQuery.{Fits};
+ghost use Rattle.bound_query.specs.WeighedQuery.{Fits};
 ghost use Rattle.refusal_lines.specs.Printing.{Printed};
 ghost use Rattle.refusal_lines.specs.SinkState.{state_of};
 
@@ -11,11 +11,11 @@ use crate::answer::write_line;
 use crate::style::Style;
 use crate::titles::header;
 use crate::writer::AnswerWriter;
-use csv_tables::Tables;
+use bound_query::Query;
 use outer_io::Sink;
-use query_bind::Query;
 use refusal_lines::{Refusal, print};
 use std::alloc::Global;
+use table_store::Tables;
 
 /// Prints the header. `WriteFault` if the write failed, and `NoMemory` if memory is refused.
 pub fn print_header<'a, S: Sink>(

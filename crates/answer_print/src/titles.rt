@@ -1,15 +1,15 @@
 //! The record above the answers.
 ghost use Rattle.std.specs.Prelude.{◌≡◌, ◌++◌, [], codes, if◌then◌else◌, length, map, option_map, string_bytes, IfOk, OnOk};
 ghost use Rattle.anyk_model.specs.Output.{column_name, cursor_title, header_text, numbered, optional_field};
-ghost use Rattle.query_bind.specs.WeighedQuery.{Fits};
+ghost use Rattle.bound_query.specs.WeighedQuery.{Fits};
 ghost use Rattle.answer_print.specs.StyleView.{style_shown};
 
 use crate::fields::{Fields, push_optional, push_texts};
 use crate::style::Style;
-use csv_tables::Tables;
-use query_bind::Query;
+use bound_query::Query;
 use std::alloc::Global;
 use step_counter::NoMemory;
+use table_store::Tables;
 
 /// The record of the columns' titles: `cursor` if a cursor is named, the names of the selected
 /// columns, `rank1` and so on if sums are shown, and `row1` and so on if row numbers are shown.

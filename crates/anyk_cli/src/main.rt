@@ -40,8 +40,8 @@ fn main(rt: HostRuntime) -> ExitCode {
     }
 }
 
-// Keys drawn at random, so that nobody who writes the files can choose texts that collide. If the system gives no
-// random words, the known keys are used.
+/// Keys drawn at random, so that nobody who writes the files can choose texts that collide. If the system gives no
+/// random words, the known keys are used.
 fn keys(rt: &HostRuntime) -> Keys {
     match RandomState::new(rt) {
         Ok(state) => Keys::Drawn(state),
@@ -49,7 +49,7 @@ fn keys(rt: &HostRuntime) -> Keys {
     }
 }
 
-// The arguments after the program's name, or the exit status if they cannot be had.
+/// The arguments after the program's name, or the exit status if they cannot be had.
 fn words(rt: &HostRuntime) -> Result<Vec<String>, u8> {
     let words = match env::args(rt) {
         Ok(args) => args.skip(1).collect(rt.alloc()),

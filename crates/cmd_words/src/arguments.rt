@@ -18,7 +18,7 @@ fn engine<'a>(alloc: Global) -> Arg<'a>
         .default_value("part")
 }
 
-// An option without a value.
+/// An option without a value.
 fn flag<'a>(alloc: Global, name: &'a str) -> Arg<'a>
     ensures rule { rule_of result ≡ flag_rule name.entry.now }
     ensures local { result.global ≡ false }
@@ -26,7 +26,7 @@ fn flag<'a>(alloc: Global, name: &'a str) -> Arg<'a>
     Arg::new(alloc, name).long(name).action(ArgAction::SetTrue)
 }
 
-// An option with a value.
+/// An option with a value.
 fn option<'a>(alloc: Global, name: &'a str) -> Arg<'a>
     ensures rule { rule_of result ≡ option_rule name.entry.now }
     ensures local { result.global ≡ false }
@@ -34,7 +34,7 @@ fn option<'a>(alloc: Global, name: &'a str) -> Arg<'a>
     Arg::new(alloc, name).long(name).action(ArgAction::Set)
 }
 
-// A required option with a value.
+/// A required option with a value.
 fn required<'a>(alloc: Global, name: &'a str) -> Arg<'a>
     ensures rule { rule_of result ≡ required_rule name.entry.now }
     ensures local { result.global ≡ false }
@@ -63,21 +63,21 @@ fn tables<'a>(alloc: Global) -> Arg<'a>
         .action(ArgAction::Append)
 }
 
-// The command with QUERYFILE and TABLE=FILE after its options.
+/// The command with QUERYFILE and TABLE=FILE after its options.
 fn with_files<'a>(alloc: Global, command: Parser<'a>) -> Result<Parser<'a>, AllocError>
     ensures { IfOk result (λ whole. app_of whole ≡ with_files (app_of command.entry)) }
 {
     command.arg(query(alloc))?.arg(tables(alloc))
 }
 
-// The command with the flags that say what is printed of an answer.
+/// The command with the flags that say what is printed of an answer.
 fn with_style<'a>(alloc: Global, command: Parser<'a>) -> Result<Parser<'a>, AllocError>
     ensures { IfOk result (λ whole. app_of whole ≡ with_style (app_of command.entry)) }
 {
     command.arg(flag(alloc, "ranks"))?.arg(flag(alloc, "rows"))
 }
 
-// The command with the options that say which answers are printed, and how.
+/// The command with the options that say which answers are printed, and how.
 fn with_answers<'a>(alloc: Global, command: Parser<'a>) -> Result<Parser<'a>, AllocError>
     ensures { IfOk result (λ whole. app_of whole ≡ with_answers (app_of command.entry)) }
 {

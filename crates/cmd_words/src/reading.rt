@@ -33,7 +33,7 @@ pub fn read_words(alloc: Global, words: &[String]) -> Result<Command, WordsFault
     }
 }
 
-// What the arguments say to the command of this name.
+/// What the arguments say to the command of this name.
 fn read_command(alloc: Global, name: &str, words: &[String]) -> Result<Command, WordsFault>
     ensures words { IfOk result
         (λ command. said_to name.now (map string_bytes words.now) ≡ Some (seen_command command)) }

@@ -130,7 +130,7 @@ fn is_set(text: Option<&str>) -> bool
     }
 }
 
-// The engine that a text names.
+/// The engine that a text names.
 fn read_engine(text: Option<&str>) -> Option<Engine>
     ensures { result ≡ engine_of (option_map (λ s. s.now) text.entry) }
 {
@@ -183,7 +183,7 @@ fn read_load_options(
     Ok((engine, number, rows))
 }
 
-// The whole number that a text is, if it is from `low` to `high`.
+/// The whole number that a text is, if it is from `low` to `high`.
 fn read_number(text: Option<&str>, low: u32, high: u32) -> Option<u32>
     ensures value { result
         ≡ option_and_then (number_in low high) (option_map (λ s. s.now) text.entry) }
@@ -196,7 +196,7 @@ fn read_number(text: Option<&str>, low: u32, high: u32) -> Option<u32>
     }
 }
 
-// Decimal digits are a number if no sign and no leading zero is before them.
+/// Decimal digits are a number if no sign and no leading zero is before them.
 fn number_in(text: &str, low: u32, high: u32) -> Option<u32>
     ensures value { result ≡ number_in low high text.now }
     ensures low { IfSome result (λ number. low ≤ number) }
@@ -211,7 +211,7 @@ fn number_in(text: &str, low: u32, high: u32) -> Option<u32>
     }
 }
 
-// Whether the text begins with no `+`, and with no `0` before another digit.
+/// Whether the text begins with no `+`, and with no `0` before another digit.
 fn begins_plainly(text: &str) -> bool
     ensures { result ≡ begins_plainly text.now }
 {

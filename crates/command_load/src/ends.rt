@@ -28,7 +28,7 @@ impl Ends {
         }
     }
 
-    // Adds one answer after the others.
+    /// Adds one answer after the others.
     fn push(&mut self, rows: [u32; 16])
         requires { self.old.count < 18446744073709551615 }
         ensures { (given : List Seen) (answer : Seen) → HasEnds given self.old → answer.rows ≡ rows

@@ -1,7 +1,7 @@
 //! Printing the summary, by one write.
 ghost use Rattle.std.specs.Prelude.{◌≡◌, ◌+◌, ◌≤◌};
 ghost use Rattle.anyk_model.specs.Output.{cut};
-ghost use Rattle.query_bind.specs.WeighedQuery.{Fits};
+ghost use Rattle.bound_query.specs.WeighedQuery.{Fits};
 ghost use Rattle.refusal_lines.specs.Printing.{Printed};
 ghost use Rattle.refusal_lines.specs.SinkState.{state_of};
 ghost use Rattle.step_bounds.specs.Steps.{calls_for, steps_for};
@@ -10,13 +10,13 @@ ghost use Rattle.witness_key.specs.WitnessKey.{AreCombinations, combinations_in}
 
 use crate::ends::take_ends;
 use crate::text::summary;
-use csv_tables::Tables;
+use bound_query::Query;
 use outer_io::Sink;
-use query_bind::Query;
 use refusal_lines::{Refusal, print};
 use std::alloc::Global;
 use std::sync::ledger::Ledger;
 use step_counter::Steps;
+use table_store::Tables;
 use tdp_core::Ranked;
 
 /// Takes the answers that the engine has left, as many as the limit allows, and then prints their

@@ -1,16 +1,16 @@
 //! The text of the summary.
 ghost use Rattle.std.specs.Prelude.{◌≡◌, ◌++◌, IfOk, IfSome, codes, decimal, length, option_map, string_bytes, take};
 ghost use Rattle.anyk_model.specs.Query.{IsCombination, row_counts};
-ghost use Rattle.query_bind.specs.WeighedQuery.{Fits};
+ghost use Rattle.bound_query.specs.WeighedQuery.{Fits};
 ghost use Rattle.verdict.specs.Summary.{member_text, rows_in_all};
 ghost use Rattle.command_load.specs.Ends.{ends_text};
 
 use crate::ends::Ends;
 use answer_print::key_sum;
-use csv_tables::Tables;
-use query_bind::Query;
+use bound_query::Query;
 use std::alloc::Global;
 use step_counter::NoMemory;
+use table_store::Tables;
 
 /// The summary of the answers with these ends. `NoMemory` if memory is refused.
 pub(crate) fn summary(
@@ -36,8 +36,8 @@ pub(crate) fn summary(
     Ok(text.into_bytes())
 }
 
-// The sum of the first order key over these rows, or `none` if there is no key or there are no
-// rows.
+/// The sum of the first order key over these rows, or `none` if there is no key or there are no
+/// rows.
 fn sum_text(
     alloc: Global,
     query: &Query,

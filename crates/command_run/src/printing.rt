@@ -3,20 +3,20 @@ ghost use Rattle.std.specs.Prelude.{◌≡◌, ◌+◌, ◌++◌, ◌≤◌, IfO
 ghost use Rattle.std.specs.List.{flat_map};
 ghost use Rattle.anyk_model.specs.Output.{cut, header_text, line_text, output_of};
 ghost use Rattle.answer_print.specs.StyleView.{style_shown};
-ghost use Rattle.query_bind.specs.WeighedQuery.{Fits};
+ghost use Rattle.bound_query.specs.WeighedQuery.{Fits};
 ghost use Rattle.witness_key.specs.WitnessKey.{AreCombinations, combinations_in};
 ghost use Rattle.step_bounds.specs.Steps.{Paced, calls_for, steps_for, whole_lines};
 ghost use Rattle.refusal_lines.specs.Printing.{Printed};
 ghost use Rattle.refusal_lines.specs.SinkState.{state_of};
 
 use answer_print::{AnswerWriter, Style, print_answer, print_header};
-use csv_tables::Tables;
+use bound_query::Query;
 use outer_io::Sink;
-use query_bind::Query;
 use refusal_lines::Refusal;
 use std::alloc::Global;
 use std::sync::ledger::Ledger;
 use step_counter::Steps;
+use table_store::Tables;
 use tdp_core::Ranked;
 
 /// Prints the header, and then the answers that the engine has left, as many as the limit allows.
@@ -49,7 +49,7 @@ pub fn print_ranking<'a, E: Ranked, S: Sink, L: Ledger>(
     print_answers(alloc, query, tables, style, engine, out, steps)
 }
 
-// Prints the answers, up to the limit or the engine's end.
+/// Prints the answers, up to the limit or the engine's end.
 fn print_answers<'a, E: Ranked, S: Sink, L: Ledger>(
     alloc: Global,
     query: &Query,

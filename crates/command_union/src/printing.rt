@@ -3,7 +3,7 @@ ghost use Rattle.std.specs.Prelude.{◌≡◌, ◌+◌, ◌++◌, ◌≤◌, Lis
 ghost use Rattle.std.specs.List.{All, flat_map};
 ghost use Rattle.anyk_model.specs.Output.{cut};
 ghost use Rattle.answer_print.specs.StyleView.{style_shown};
-ghost use Rattle.query_bind.specs.WeighedQuery.{Fits};
+ghost use Rattle.bound_query.specs.WeighedQuery.{Fits};
 ghost use Rattle.step_bounds.specs.Steps.{whole_lines};
 ghost use Rattle.refusal_lines.specs.Printing.{Printed};
 ghost use Rattle.refusal_lines.specs.SinkState.{state_of};
@@ -12,13 +12,13 @@ ghost use Rattle.union_all.specs.Firsts.{tagged_shown};
 ghost use Rattle.command_union.specs.UnionSteps.{AreMembers, IsMember, UnionPaced, union_steps};
 
 use answer_print::{AnswerWriter, Style};
-use csv_tables::Tables;
+use bound_query::Query;
 use outer_io::Sink;
-use query_bind::Query;
 use refusal_lines::{Refusal, print};
 use std::alloc::Global;
 use std::sync::ledger::Ledger;
 use step_counter::Steps;
+use table_store::Tables;
 use tdp_core::Ranked;
 use union_all::{Merge, Tagged, header_of, write_line_of};
 

@@ -4,16 +4,16 @@ ghost use Rattle.std.specs.List.{AllByRecursion, flat_map};
 ghost use Rattle.anyk_model.specs.Output.{line_text, output_of};
 ghost use Rattle.anyk_model.specs.Query.{IsCombination, row_counts};
 ghost use Rattle.answer_print.specs.StyleView.{style_shown};
-ghost use Rattle.query_bind.specs.WeighedQuery.{Fits};
+ghost use Rattle.bound_query.specs.WeighedQuery.{Fits};
 ghost use Rattle.refusal_lines.specs.Printing.{Printed};
 ghost use Rattle.refusal_lines.specs.SinkState.{state_of};
 
 use answer_print::{AnswerWriter, Style, print_answer, print_header};
-use csv_tables::Tables;
+use bound_query::Query;
 use outer_io::Sink;
-use query_bind::Query;
 use refusal_lines::Refusal;
 use std::alloc::Global;
+use table_store::Tables;
 
 /// Prints the header, and then the record of each answer. An answer is a row for each item, from 1.
 /// `NoMemory` if memory is refused, and `WriteFault` if a write failed.
@@ -37,7 +37,7 @@ pub fn print_listed<'a, S: Sink>(
     print_records(alloc, query, tables, style, answers, out)
 }
 
-// Prints the record of each answer.
+/// Prints the record of each answer.
 fn print_records<'a, S: Sink>(
     alloc: Global,
     query: &Query,

@@ -6,3 +6,7 @@ pub record IsTableOf (table links : List ℕ) : Type 0 where
   pub numbered : (link n : ℕ) → slice_index table link ≡ n + 1
       → (n < length links) × (slice_index links n ≡ link)
   pub whole : (n : ℕ) → n < length links → slice_index table (slice_index links n) ≡ n + 1
+
+-- the greatest number of links to which another one is added
+abbrev pub most_links : ℕ
+most_links = 4194304

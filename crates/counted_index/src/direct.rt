@@ -1,5 +1,6 @@
 //! Links that are small numbers, found by a table that has the number of each.
 ghost use Rattle.std.specs.Prelude.{◌≡◌, ◌<◌, ◌≤◌, ◌^◌, ◌+◌, ℕ, [], OnOk, IfOk, length, nat_eq, position, slice_index, vec_len};
+ghost use Rattle.counted_index.specs.LinkTable.{most_links};
 ghost use Rattle.indexmap.specs.IndexSet.{insert_key};
 
 use std::alloc::Global;
@@ -62,7 +63,7 @@ impl DirectIndex {
     /// The number of a link. A new link is added after the others, and a table that is too short for it grows. It counts
     /// one step. `NoMemory` if memory is refused.
     pub fn insert<L: Ledger>(&mut self, link: u32, steps: &mut Steps<L>) -> Result<u32, NoMemory>
-        requires { length self.old ≤ 4194304 }
+        requires { length self.old ≤ most_links }
         ensures links { OnOk result (self.new ≡ insert_key nat_eq self.old link) }
         ensures within { IfOk result (λ n. n < length self.new) }
         ensures stands { IfOk result (λ n. slice_index self.new n ≡ link) }

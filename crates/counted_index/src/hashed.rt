@@ -1,5 +1,6 @@
 //! Links that may be any numbers, found by hashing.
 ghost use Rattle.std.specs.Prelude.{◌≡◌, ◌<◌, ◌≤◌, ◌+◌, [], OnOk, IfOk, length, nat_eq, position, slice_index};
+ghost use Rattle.counted_index.specs.LinkTable.{most_links};
 ghost use Rattle.indexmap.specs.IndexSet.{insert_key};
 
 use hash_keys::Keys;
@@ -51,7 +52,7 @@ impl HashedIndex {
 
     /// The number of a link. A new link is added after the others. It counts one step. `NoMemory` if memory is refused.
     pub fn insert<L: Ledger>(&mut self, link: u32, steps: &mut Steps<L>) -> Result<u32, NoMemory>
-        requires { length self.old ≤ 4194304 }
+        requires { length self.old ≤ most_links }
         ensures links { OnOk result (self.new ≡ insert_key nat_eq self.old link) }
         ensures within { IfOk result (λ n. n < length self.new) }
         ensures stands { IfOk result (λ n. slice_index self.new n ≡ link) }

@@ -9,14 +9,14 @@ use step_counter::{NoMemory, Steps};
 use suffix_streams::Streams;
 use tdp_core::Ranked;
 
-// The rows of all items, if only these four have one.
+/// The rows of all items, if only these four have one.
 fn of_four(rows: &[u32; 4]) -> [u32; 16] {
     [
         rows[0], rows[1], rows[2], rows[3], 0, 0, 0, 0, 0, 0, 0, 0, 0, 0, 0, 0,
     ]
 }
 
-// Whether the next answer has these rows.
+/// Whether the next answer has these rows.
 fn next_has<E: Ranked, L: Ledger>(
     engine: &mut E,
     rows: &[u32; 4],

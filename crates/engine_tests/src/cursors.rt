@@ -54,7 +54,7 @@ impl<R: Rank> Ranked for Listed<R> {
     ghost due_within = { Prim.search rules };
 }
 
-// The answers with the row numbers below `count`.
+/// The answers with the row numbers below `count`.
 fn answers_of<R: Rank>(alloc: Global, count: u16) -> Result<Vec<Answer<R>>, NoMemory>
     requires slots { 1 ≤ R.ITEMS }
 {
@@ -69,7 +69,7 @@ fn answers_of<R: Rank>(alloc: Global, count: u16) -> Result<Vec<Answer<R>>, NoMe
     Ok(answers)
 }
 
-// No cursor yet over these answers.
+/// No cursor yet over these answers.
 fn cursors_over<R: Rank>(
     alloc: Global,
     count: u16,
@@ -86,7 +86,7 @@ fn cursors_over<R: Rank>(
     Ok(Cursors::new(alloc, engine))
 }
 
-// The row number of the first item in a cursor's next answer.
+/// The row number of the first item in a cursor's next answer.
 fn next_row<E: Ranked, L: Ledger>(
     cursors: &mut Cursors<E>,
     id: CursorId,
@@ -98,7 +98,7 @@ fn next_row<E: Ranked, L: Ledger>(
     }
 }
 
-// Whether a cursor returns these rows, and then its end.
+/// Whether a cursor returns these rows, and then its end.
 fn gives<E: Ranked, L: Ledger>(
     cursors: &mut Cursors<E>,
     id: CursorId,
@@ -113,7 +113,7 @@ fn gives<E: Ranked, L: Ledger>(
     true
 }
 
-// Whether two cursors move apart, the second of which was forked from the first at place 2 of 3.
+/// Whether two cursors move apart, the second of which was forked from the first at place 2 of 3.
 fn move_apart<E: Ranked, L: Ledger>(
     cursors: &mut Cursors<E>,
     a: CursorId,
@@ -127,7 +127,7 @@ fn move_apart<E: Ranked, L: Ledger>(
         && gives(cursors, b, &[Some(0)], steps)
 }
 
-// Whether each call on a cursor returns that it is not open.
+/// Whether each call on a cursor returns that it is not open.
 fn is_unknown<E: Ranked, L: Ledger>(
     cursors: &mut Cursors<E>,
     id: CursorId,
@@ -140,7 +140,7 @@ fn is_unknown<E: Ranked, L: Ledger>(
         && cursors.close(id) == Err(unknown)
 }
 
-// Whether the first cursor is closed and opened again, and the second, at place 1, does not move.
+/// Whether the first cursor is closed and opened again, and the second, at place 1, does not move.
 fn closes_and_opens<E: Ranked, L: Ledger>(
     cursors: &mut Cursors<E>,
     a: CursorId,
@@ -153,7 +153,7 @@ fn closes_and_opens<E: Ranked, L: Ledger>(
         && gives(cursors, b, &[Some(1)], steps)
 }
 
-// Whether cursors over three answers move as the calls say.
+/// Whether cursors over three answers move as the calls say.
 fn move_over_three<E: Ranked, L: Ledger>(
     cursors: &mut Cursors<E>,
     steps: &mut Steps<L>,
@@ -180,7 +180,7 @@ fn cursors_move<R: Rank, L: Ledger>(
     Ok(move_over_three(&mut cursors, &mut steps))
 }
 
-// Whether this many cursors can be opened.
+/// Whether this many cursors can be opened.
 fn open_all<E: Ranked>(cursors: &mut Cursors<E>, count: usize) -> bool {
     for _ in 0..count {
         if cursors.open().is_err() {
@@ -190,14 +190,14 @@ fn open_all<E: Ranked>(cursors: &mut Cursors<E>, count: usize) -> bool {
     true
 }
 
-// Whether a closed cursor is unknown, and is opened again under the same number.
+/// Whether a closed cursor is unknown, and is opened again under the same number.
 fn reopens<E: Ranked>(cursors: &mut Cursors<E>, first: CursorId) -> bool {
     cursors.close(first) == Ok(())
         && cursors.fork(first) == Err(CursorFault::Unknown(first))
         && cursors.open() == Ok(first)
 }
 
-// Whether the greatest allowed number of cursors can be open, and no more.
+/// Whether the greatest allowed number of cursors can be open, and no more.
 fn open_as_many_as_can_be<E: Ranked>(cursors: &mut Cursors<E>) -> Result<bool, CursorFault> {
     let first = cursors.open()?;
     Ok(
@@ -215,7 +215,7 @@ fn cursors_open<R: Rank>(alloc: Global) -> Result<Result<bool, CursorFault>, NoM
     Ok(open_as_many_as_can_be(&mut cursors))
 }
 
-// Drives a cursor from the start of the list.
+/// Drives a cursor from the start of the list.
 fn drive_from_the_front<E: Ranked, L: Ledger>(
     cursors: &mut Cursors<E>,
     members: u64,
@@ -226,8 +226,8 @@ fn drive_from_the_front<E: Ranked, L: Ledger>(
     Ok(drive(cursors, id, members, refusals, steps))
 }
 
-// The members and refusals up to which a cursor is driven, the answers and refusals that it meets, and whether it meets
-// the end.
+/// The members and refusals up to which a cursor is driven, the answers and refusals that it meets, and whether it meets
+/// the end.
 const DRIVES: &[(u64, u64, u64, u64, bool)] = &[
     (3, 1, 0, 2, false),
     (3, 1, 3, 1, false),
@@ -236,7 +236,7 @@ const DRIVES: &[(u64, u64, u64, u64, bool)] = &[
     (5, 0, 5, 0, false),
 ];
 
-// Whether cursors over five answers, one after another, are driven that far if the first three calls are refused.
+/// Whether cursors over five answers, one after another, are driven that far if the first three calls are refused.
 fn are_driven<E: Ranked, L: Ledger>(cursors: &mut Cursors<E>, steps: &mut Steps<L>) -> bool {
     for (members, refusals, given, refused, ended) in DRIVES {
         let driven = Driven {

@@ -14,7 +14,7 @@ type Made = (u32, u16);
 
 const SIZES: &[u16] = &[0, 1, 2, 3, 1000];
 
-// The number after `number` in a sequence without visible order, with many equal ones.
+/// The number after `number` in a sequence without visible order, with many equal ones.
 fn scrambled(number: u32) -> u32 {
     number.wrapping_mul(1_664_525).wrapping_add(1_013_904_223) % 65_521
 }
@@ -31,7 +31,7 @@ fn entry<R: Rank>(made: Made) -> Entry<R, Made>
     }
 }
 
-// This many entries, in no order.
+/// This many entries, in no order.
 fn entries_of<R: Rank>(alloc: Global, count: u16) -> Result<Vec<Entry<R, Made>>, NoMemory>
     requires slots { 1 ≤ R.ITEMS }
     requires limit { 2 ^ 32 ≤ R.LIMIT }
@@ -46,7 +46,7 @@ fn entries_of<R: Rank>(alloc: Global, count: u16) -> Result<Vec<Entry<R, Made>>,
     Ok(entries)
 }
 
-// Whether this many entries come out, each before the next.
+/// Whether this many entries come out, each before the next.
 fn ascends<R: Rank, L: Ledger>(
     heap: &mut HeapOf<R, Made, Global>,
     count: usize,
@@ -65,7 +65,7 @@ fn ascends<R: Rank, L: Ledger>(
     true
 }
 
-// Whether exactly this many entries come out, each before the next.
+/// Whether exactly this many entries come out, each before the next.
 fn drains<R: Rank, L: Ledger>(
     heap: &mut HeapOf<R, Made, Global>,
     count: usize,
@@ -92,7 +92,7 @@ fn heapified<R: Rank, L: Ledger>(
     Ok(drains(&mut heap, usize::from(count), steps))
 }
 
-// A heap of these entries, pushed one by one.
+/// A heap of these entries, pushed one by one.
 fn heap_of<R: Rank, L: Ledger>(
     alloc: Global,
     entries: &[Entry<R, Made>],
@@ -120,7 +120,7 @@ fn pushed<R: Rank, L: Ledger>(
     Ok(drains(&mut heap, usize::from(count), steps))
 }
 
-// Whether entries of each size leave in order of rank, both if made into a heap at once and if pushed one by one.
+/// Whether entries of each size leave in order of rank, both if made into a heap at once and if pushed one by one.
 fn all_drain<R: Rank, L: Ledger>(alloc: Global, steps: &mut Steps<L>) -> Result<bool, NoMemory>
     requires slots { 1 ≤ R.ITEMS }
     requires limit { 2 ^ 32 ≤ R.LIMIT }
@@ -146,14 +146,14 @@ fn leave_in_order<R: Rank, L: Ledger>(alloc: Global, blank: Blank) -> Result<boo
     all_drain::<R, L>(alloc, &mut steps)
 }
 
-// What replaces the top of two entries, the top that leaves, and the top that is there then.
+/// What replaces the top of two entries, the top that leaves, and the top that is there then.
 const REPLACED: &[(Made, Made, Made)] = &[
     ((9, 1), (2, 1), (7, 1)),
     ((7, 2), (7, 1), (7, 2)),
     ((1, 1), (7, 2), (1, 1)),
 ];
 
-// Whether the top of two entries is this one.
+/// Whether the top of two entries is this one.
 fn has_top(heap: &HeapOf<SumRank, Made, Global>, made: Made) -> bool {
     match heap.peek() {
         Some(top) => top.tag == made,
@@ -161,7 +161,7 @@ fn has_top(heap: &HeapOf<SumRank, Made, Global>, made: Made) -> bool {
     }
 }
 
-// Whether a replaced top of two entries leaves, and the new top is there.
+/// Whether a replaced top of two entries leaves, and the new top is there.
 fn replaces<L: Ledger>(
     heap: &mut HeapOf<SumRank, Made, Global>,
     made: Made,

@@ -9,7 +9,7 @@ use std::sync::ledger::{Blank, Ledger};
 use std::test::Fail;
 use step_counter::Steps;
 
-// Fails the test unless the first key is before the second, and the second not before the first.
+/// Fails the test unless the first key is before the second, and the second not before the first.
 fn expect_before<R: Rank, L: Ledger>(rt: &impl Abort, a: R, b: R, steps: &mut Steps<L>) {
     assert!(rt; R::less(&a, &b, steps));
     assert!(rt; !R::less(&b, &a, steps));
@@ -55,14 +55,14 @@ fn orders_lists<L: Ledger>(rt: &impl Abort, blank: Blank)
     expect_before(rt, SumRank::of_row(&[], 15, 1), most, &mut steps);
 }
 
-// The least and the greatest sum, and the last row number of a packed rank.
+/// The least and the greatest sum, and the last row number of a packed rank.
 const LEAST: i128 = 1 - (1 << 43);
 
 const MOST: i128 = (1 << 43) - 1;
 
 const LAST: u32 = (1 << 21) - 1;
 
-// No slot of a packed rank reaches into the one before it, and the first of them not into the sum.
+/// No slot of a packed rank reaches into the one before it, and the first of them not into the sum.
 fn orders_packed<L: Ledger>(rt: &impl Abort, blank: Blank)
     requires name { blank.name ≡ L.name }
     requires parts { blank.parts ≡ L.parts }

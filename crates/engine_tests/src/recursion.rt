@@ -24,7 +24,7 @@ enum Finder {
     Streams,
 }
 
-// Whether it finds the answers of the small tree, and no others.
+/// Whether it finds the answers of the small tree, and no others.
 fn finds_all<A: Allocator + Clone, L: Ledger>(
     finder: Finder,
     alloc: A,
@@ -41,7 +41,7 @@ fn finds_all<A: Allocator + Clone, L: Ledger>(
     }
 }
 
-// The same, over this allocator, in a tree that is made for it.
+/// The same, over this allocator, in a tree that is made for it.
 fn finds_over<A: Allocator + Clone, L: Ledger>(
     finder: Finder,
     alloc: A,
@@ -61,7 +61,7 @@ fn finds_in_arena<L: Ledger>(
     finds_over(finder, &arena, global, steps)
 }
 
-// The same, over the global allocator and over an arena.
+/// The same, over the global allocator and over an arena.
 fn finds_twice<L: Ledger>(finder: Finder, alloc: Global, blank: Blank) -> Result<bool, NoMemory>
     requires name { blank.name ≡ L.name }
     requires parts { blank.parts ≡ L.parts }

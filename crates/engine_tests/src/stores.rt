@@ -8,7 +8,7 @@ use std::sync::ledger::{Blank, Ledger};
 use step_counter::{NoMemory, Steps};
 use stream_store::{EntryId, Store};
 
-// Pushes the numbers below `count`, and keeps the names of their entries.
+/// Pushes the numbers below `count`, and keeps the names of their entries.
 fn fill<A: Allocator + Clone, L: Ledger>(
     store: &mut Store<u64, A>,
     ids: &mut Vec<EntryId>,
@@ -33,7 +33,7 @@ fn fill<A: Allocator + Clone, L: Ledger>(
 /// What a store has to hold, in one vector: each entry's value, and the place of its next entry.
 type Plain = Vec<(u64, Option<usize>)>;
 
-// Links the entry at one place to that at another, in the store and in the vector, if none follows it yet.
+/// Links the entry at one place to that at another, in the store and in the vector, if none follows it yet.
 fn link_both<A: Allocator + Clone, L: Ledger>(
     store: &mut Store<u64, A>,
     plain: &mut Plain,
@@ -53,7 +53,7 @@ fn link_both<A: Allocator + Clone, L: Ledger>(
     }
 }
 
-// Whether each entry of the store is that of the vector.
+/// Whether each entry of the store is that of the vector.
 fn agree<A: Allocator + Clone, L: Ledger>(
     store: &Store<u64, A>,
     plain: &Plain,
@@ -74,7 +74,7 @@ fn agree<A: Allocator + Clone, L: Ledger>(
     store.len() == plain.len()
 }
 
-// Pushes three entries, and links two pairs of those in the store.
+/// Pushes three entries, and links two pairs of those in the store.
 fn grow<A: Allocator + Clone, L: Ledger>(
     store: &mut Store<u64, A>,
     plain: &mut Plain,
@@ -96,7 +96,7 @@ fn grow<A: Allocator + Clone, L: Ledger>(
     Ok(())
 }
 
-// Whether a store and a vector that grow together agree.
+/// Whether a store and a vector that grow together agree.
 fn agree_after<A: Allocator + Clone, L: Ledger>(
     store: &mut Store<u64, A>,
     alloc: Global,
@@ -129,7 +129,7 @@ fn the_store_agrees_with_one_vector(rt: HostRuntime) {
     assert!(rt; agrees == Ok(true));
 }
 
-// Whether the entries are the numbers from 0, in their order.
+/// Whether the entries are the numbers from 0, in their order.
 fn counts_up<A: Allocator + Clone, L: Ledger>(
     store: &Store<u64, A>,
     ids: &[EntryId],
@@ -147,7 +147,7 @@ fn counts_up<A: Allocator + Clone, L: Ledger>(
     true
 }
 
-// Whether this many entries, pushed into an empty store, are read back.
+/// Whether this many entries, pushed into an empty store, are read back.
 fn reads_back<A: Allocator + Clone, L: Ledger>(
     store: &mut Store<u64, A>,
     alloc: Global,

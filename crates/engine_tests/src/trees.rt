@@ -12,7 +12,7 @@ use std::sync::ledger::{Blank, Ledger};
 use step_counter::{NoMemory, Steps};
 use tdp_core::{Groups, NodeRow, NodeShape, RawTree, Tree};
 
-// Appends a row whose sums are 0.
+/// Appends a row whose sums are 0.
 fn add<R: Rank>(
     tree: &mut RawTree<R>,
     node: u32,
@@ -35,7 +35,7 @@ fn add<R: Rank>(
     tree.add_row(node, row, own, children)
 }
 
-// A root of item 1 with one row, above a child of item 0 with two.
+/// A root of item 1 with one row, above a child of item 0 with two.
 fn linked<R: Rank>(alloc: Global) -> Result<RawTree<R>, NoMemory>
     requires slots { 16 ≤ R.ITEMS }
     requires limit { 100 ≤ R.LIMIT }
@@ -60,7 +60,7 @@ fn linked<R: Rank>(alloc: Global) -> Result<RawTree<R>, NoMemory>
     Ok(tree)
 }
 
-// Whether the rows of a node have these numbers and own links.
+/// Whether the rows of a node have these numbers and own links.
 fn has_rows<R: Rank>(tree: &RawTree<R>, node: u32, rows: &[(u32, u32)]) -> bool
     requires { node < length tree.now.shapes }
 {
@@ -76,7 +76,7 @@ fn has_rows<R: Rank>(tree: &RawTree<R>, node: u32, rows: &[(u32, u32)]) -> bool
     true
 }
 
-// Whether the rows of a node name these links for its first child.
+/// Whether the rows of a node name these links for its first child.
 fn has_links<R: Rank>(tree: &RawTree<R>, node: u32, links: &[u32]) -> bool
     requires node { node < length tree.now.shapes }
     requires child { 0 < shape_children tree.now.shapes node }
@@ -93,7 +93,7 @@ fn has_links<R: Rank>(tree: &RawTree<R>, node: u32, links: &[u32]) -> bool
     true
 }
 
-// Whether that tree is read back.
+/// Whether that tree is read back.
 fn is_linked<R: Rank>(tree: &RawTree<R>) -> bool
     requires nodes { length tree.now.shapes ≡ 2 }
     requires child { 0 < shape_children tree.now.shapes 0 }
@@ -116,7 +116,7 @@ fn rows_of_a_raw_tree_are_read_back(rt: HostRuntime) {
     assert!(rt; linked_is_read_back(rt.alloc()) == Ok(true));
 }
 
-// Whether the first group of a node has these members.
+/// Whether the first group of a node has these members.
 fn has_members<R: Rank, L: Ledger>(
     tree: &Tree<R>,
     node: u32,
@@ -138,7 +138,7 @@ fn has_members<R: Rank, L: Ledger>(
     true
 }
 
-// Whether a node has one group, with these members.
+/// Whether a node has one group, with these members.
 fn has_group<R: Rank, L: Ledger>(
     tree: &Tree<R>,
     node: u32,
@@ -150,7 +150,7 @@ fn has_group<R: Rank, L: Ledger>(
     tree.groups(node) == 1 && has_members(tree, node, members, steps)
 }
 
-// Whether the rows of a node have these numbers, and name these groups for its first child.
+/// Whether the rows of a node have these numbers, and name these groups for its first child.
 fn has_named<R: Rank, L: Ledger>(
     tree: &Tree<R>,
     node: u32,
@@ -173,7 +173,7 @@ fn has_named<R: Rank, L: Ledger>(
     true
 }
 
-// Whether the best of a row is more than the row's own rank.
+/// Whether the best of a row is more than the row's own rank.
 fn adds<R: Rank, L: Ledger>(tree: &Tree<R>, node: u32, row: u32, steps: &mut Steps<L>) -> bool
     requires node { node < length tree.now }
     requires row { row < rows tree.now node }
@@ -183,7 +183,7 @@ fn adds<R: Rank, L: Ledger>(tree: &Tree<R>, node: u32, row: u32, steps: &mut Ste
     R::less(&own, &best, steps)
 }
 
-// Whether the best of each row of a node is greater than the row's own rank exactly in the rows that `more` marks.
+/// Whether the best of each row of a node is greater than the row's own rank exactly in the rows that `more` marks.
 fn has_adds<R: Rank, L: Ledger>(
     tree: &Tree<R>,
     node: u32,
@@ -210,7 +210,7 @@ fn has_two_nodes<R: Rank>(tree: &Tree<R>) -> bool
     tree.live() && tree.nodes() == 2 && tree.shape(1).parent == 0 && tree.child_place(1) == 0
 }
 
-// Whether the small tree is read back.
+/// Whether the small tree is read back.
 fn is_small<R: Rank, L: Ledger>(tree: &Tree<R>, steps: &mut Steps<L>) -> bool
     requires nodes { length tree.now ≡ 2 }
     requires child { child_count tree.now 0 ≡ 1 }
@@ -253,7 +253,7 @@ fn are_groups(groups: &Groups, members: &[&[u32]]) -> bool {
     true
 }
 
-// Whether the members of one of four groups are exchanged, and a fifth group is pushed.
+/// Whether the members of one of four groups are exchanged, and a fifth group is pushed.
 fn exchanges(groups: &mut Groups) -> Result<bool, NoMemory> {
     if groups.len() != 4 || groups.group(2).len() != 2 {
         return Ok(false);

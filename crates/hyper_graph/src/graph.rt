@@ -28,7 +28,7 @@ impl Model for Graph {
     ghost invariant = { λ g. IsGraph (record { atoms = g.atom_count; vars = g.sets.items }) };
 }
 
-// Whether `f` has the variable of this set, if `a` shares it with one of the others; true if it does not.
+/// Whether `f` has the variable of this set, if `a` shares it with one of the others; true if it does not.
 fn keeps(set: u16, others: u16, a: u32, f: u32) -> bool
     requires a_in { a < 16 }
     requires f_in { f < 16 }
@@ -37,7 +37,7 @@ fn keeps(set: u16, others: u16, a: u32, f: u32) -> bool
     contains(set, f) || !contains(set, a) || !intersects(set, others)
 }
 
-// Whether each atom of the set but the first has its parent in the set.
+/// Whether each atom of the set but the first has its parent in the set.
 fn is_connected(set: u16, parents: &[u32]) -> bool
     requires few { length parents.now ≤ 16 }
     requires first { ParentsFirst parents.now }
@@ -115,7 +115,7 @@ impl Graph {
         None
     }
 
-    // Whether `f` is another live atom that has every variable which `a` shares with the others.
+    /// Whether `f` is another live atom that has every variable which `a` shares with the others.
     fn covers(&self, live: u16, a: u32, f: u32) -> bool
         requires a_in { a < self.now.atoms }
         requires f_in { f < self.now.atoms }

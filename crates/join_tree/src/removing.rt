@@ -9,7 +9,7 @@ ghost use Rattle.join_tree.specs.Removal.{HasOne, IsAnyRemoval, IsRemoval, IsSte
 use crate::outcome::Ears;
 use hyper_graph::{Graph, all_below, contains, without};
 
-// The least atom that covers `ear`, if `ear` is a live ear.
+/// The least atom that covers `ear`, if `ear` is a live ear.
 fn parent_of(graph: &Graph, live: u16, ear: u32) -> Option<u32>
     requires within { ear < graph.now.atoms }
     requires few { ear < 16 }
@@ -24,7 +24,7 @@ fn parent_of(graph: &Graph, live: u16, ear: u32) -> Option<u32>
     }
 }
 
-// The greatest ear, and the least atom that covers it.
+/// The greatest ear, and the least atom that covers it.
 fn greatest_ear(graph: &Graph, live: u16) -> Option<(u32, u32)>
     ensures { MatchOption result
         ((e : ℕ) → IsEar (HasVar graph.now) (IsLiveIn graph.now live) e → ⊥)

@@ -25,7 +25,7 @@ pub fn reroot(tree: &JoinTree, atom: u32) -> JoinTree
     reroot_at(tree, node_of(tree, atom))
 }
 
-// The same tree with this node as its root: its parent is made the root first.
+/// The same tree with this node as its root: its parent is made the root first.
 fn reroot_at(tree: &JoinTree, node: u32) -> JoinTree
     requires tree { IsTree tree.now.count tree.now.atom tree.now.parent }
     requires within { node < tree.now.count }
@@ -44,7 +44,7 @@ fn reroot_at(tree: &JoinTree, node: u32) -> JoinTree
     raise(&above, child)
 }
 
-// The node that is this atom.
+/// The node that is this atom.
 fn node_of(tree: &JoinTree, atom: u32) -> u32
     requires few { tree.now.count ≤ 16 }
     requires there { HasAtom tree.now.count tree.now.atom atom }
@@ -59,7 +59,7 @@ fn node_of(tree: &JoinTree, atom: u32) -> u32
     0
 }
 
-// The tree with a child of the root as its root.
+/// The tree with a child of the root as its root.
 fn raise(tree: &JoinTree, child: u32) -> JoinTree
     requires few { tree.now.count ≤ 16 }
     requires within { child < tree.now.count }
@@ -77,7 +77,7 @@ fn raise(tree: &JoinTree, child: u32) -> JoinTree
     raised
 }
 
-// The number that node `k` had before.
+/// The number that node `k` had before.
 fn number_before(child: u32, k: u32) -> u32
     ensures { result ≡ old_node child k }
 {
@@ -90,7 +90,7 @@ fn number_before(child: u32, k: u32) -> u32
     }
 }
 
-// The number that node `k` has now.
+/// The number that node `k` has now.
 fn number_after(child: u32, k: u32) -> u32
     ensures { result ≡ new_node child k }
 {
@@ -103,7 +103,7 @@ fn number_after(child: u32, k: u32) -> u32
     }
 }
 
-// The parent that node `k` has now.
+/// The parent that node `k` has now.
 fn parent_after(parents: &[u32; 16], child: u32, k: u32) -> u32
     requires child { child < 16 }
     requires within { k < 16 }

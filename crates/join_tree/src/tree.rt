@@ -39,7 +39,7 @@ pub fn tree_of(ears: &Ears) -> Option<JoinTree>
     Some(hang(ears, root))
 }
 
-// The one atom of a set, if it has exactly one.
+/// The one atom of a set, if it has exactly one.
 fn only_atom(set: u16) -> Option<u32>
     ensures { MatchOption result (HasOne set → ⊥)
         (λ a. IsIn set a × ((b : ℕ) → IsIn set b → b ≡ a)) }
@@ -52,7 +52,7 @@ fn only_atom(set: u16) -> Option<u32>
     }
 }
 
-// The tree of a removal that leaves only this root.
+/// The tree of a removal that leaves only this root.
 fn hang(ears: &Ears, root: u32) -> JoinTree
     requires removal { (graph : Hypergraph)
         × IsRemoval graph ears.now.parent ears.now.order ears.now.removed ears.now.core }

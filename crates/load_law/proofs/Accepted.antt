@@ -17,7 +17,8 @@ use Rattle.verdict.specs.Loading.{Loaded, bound_in, first_uses, most_bytes, no_c
 use Rattle.verdict.specs.Loading.{tables_in, with_steps}
 use Rattle.verdict.specs.MadeFiles.{made_files}
 use Rattle.verdict.specs.Outcome.{IsReason}
-use Rattle.verdict.specs.Stages.{followed, then_by, unless}
+use Rattle.session_script.specs.Script.{unless}
+use Rattle.verdict.specs.Stages.{followed, then_by}
 use Rattle.verdict.specs.Verdict.{IsLoaded, IsVerdict}
 use Rattle.verdict.specs.Words.{Asked, Command, built, load, no_command}
 use Rattle.verdict.proofs.One.{one_verdict}

@@ -1,5 +1,6 @@
 -- The query of `load`, bound to tables with its columns.
 use Rattle.std.proofs.Common.{◌≡◌, ℕ, List, [], ◌∷◌, Option, Some, None, false, refl, arith}
+use Rattle.std.specs.Option.{option_or}
 use Rattle.std.specs.Prelude.{codes, nat_lt}
 use Rattle.std.specs.List.{AllByRecursion}
 use Rattle.std.proofs.lemmas.Bool.{le-ltb}
@@ -7,8 +8,9 @@ use Rattle.anyk_model.specs.Table.{Fields, Table}
 use Rattle.anyk_model.specs.Query.{Item, OrderKey, Query, Term}
 use Rattle.query_bind.specs.declared.fault.BindFault.{BindFault}
 use Rattle.query_bind.specs.Bind.{bind_fault}
-use Rattle.query_bind.specs.Names.{names_fault, or_else}
-use Rattle.query_bind.specs.Weights.{most_sum, range_fault, terms_size, weights_fault}
+use Rattle.query_bind.specs.Names.{names_fault}
+use Rattle.bound_query.specs.Weights.{most_sum, terms_size}
+use Rattle.query_bind.specs.WeightFaults.{range_fault, weights_fault}
 use Rattle.load_law.proofs.Chain.{at, chain}
 use Rattle.load_law.proofs.Parsed.{load_select}
 use Rattle.load_law.proofs.Weights.{IsWeighed, none_missing, weights_small}
@@ -67,7 +69,7 @@ range_sound p q r s a b c d =
     le-ltb most_sum (terms_size (four_tables p q r s) four_items weight_key.terms) (omega (arith, first, second, third, fourth)) in
     rw within refl
 
-none_of : (a b c : Option BindFault) → a ≡ None → b ≡ None → c ≡ None → or_else a (or_else b c) ≡ None
+none_of : (a b c : Option BindFault) → a ≡ None → b ≡ None → c ≡ None → option_or a (option_or b c) ≡ None
 none_of a b c p q r = rw (p, q, r) refl
 
 pub bind_sound : (p q r s : List Fields) → AllByRecursion IsWeighed p → AllByRecursion IsWeighed q → AllByRecursion IsWeighed r → AllByRecursion IsWeighed s

@@ -6,8 +6,8 @@ use Rattle.anyk_model.specs.Table.{Fields, Table}
 use Rattle.anyk_model.specs.Query.{item_table}
 use Rattle.rankings.specs.Order.{BelowAll, IsAscending, IsMember}
 use Rattle.rankings.proofs.Members.{contains_member, member_contains}
-use Rattle.query_bind.specs.Classes.{Passes, row_field}
-use Rattle.query_bind.specs.Graph.{IsGraphOf}
+use Rattle.bound_query.specs.Classes.{Passes, row_field}
+use Rattle.bound_query.specs.Graph.{IsGraphOf}
 use Rattle.query_shape.specs.Shape.{HasNodeRows, HasTree, IsShape, Shape}
 use Rattle.load_law.proofs.Bound.{four_tables, load_bound}
 use Rattle.load_law.proofs.Chain.{chain_are_variables, chain_free, chain_variable, chain_variables, one_place}

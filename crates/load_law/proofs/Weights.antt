@@ -11,7 +11,7 @@ use Rattle.std.proofs.lemmas.Str.Parse.{IsNumeralModel, digit_from_value, numera
 use Rattle.make_input.specs.Input.{draw}
 use Rattle.anyk_model.specs.Table.{Fields}
 use Rattle.anyk_model.specs.Weight.{are_digits, fitting, magnitude, weight_of}
-use Rattle.query_bind.specs.Weights.{greatest, size_of}
+use Rattle.bound_query.specs.Weights.{greatest, size_of}
 use Rattle.load_law.proofs.Records.{each_made, made_rows}
 
 -- ---- the weight of a decimal

@@ -125,7 +125,7 @@ impl Held {
     }
 }
 
-// The place of the first file of this name, from 0.
+/// The place of the first file of this name, from 0.
 fn place_of(files: &[MemFile], name: &str) -> Option<usize>
     ensures { MatchOption result (bytes_of (map entry_of files.now) name.now ≡ None)
         (λ place. bytes_of (map entry_of files.now) name.now
@@ -140,7 +140,7 @@ fn first_named(files: &[MemFile], name: &str) -> Option<usize>
     files.iter().position(|file| file.name.as_str() == name)
 }
 
-// What is left of the open file, after the reading place.
+/// What is left of the open file, after the reading place.
 fn rest_of(files: &[MemFile], place: Option<usize>, at: usize) -> &[u8]
     ensures { result.now ≡ rest_at files.now place at }
 {

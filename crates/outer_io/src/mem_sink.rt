@@ -82,7 +82,7 @@ impl MemSink {
         &self.bytes
     }
 
-    // Counts a call, and returns how many of `len` bytes it takes, or `None` if it fails.
+    /// Counts a call, and returns how many of `len` bytes it takes, or `None` if it fails.
     fn answer(&mut self, len: usize) -> Option<usize>
         ensures answer { result ≡ answer_to self.old len }
         ensures after { self.new ≡ record self.old { calls = saturating self.old.calls 1 } }
@@ -100,7 +100,7 @@ impl MemSink {
         Some(len.min(self.most.min(self.room)))
     }
 
-    // Counts a fault.
+    /// Counts a fault.
     fn fault(&mut self)
         ensures after { self.new ≡ record self.old { faults = saturating self.old.faults 1 } }
         ensures rose { Rose self.old.faults self.new.faults }
@@ -109,7 +109,7 @@ impl MemSink {
         self.faults = self.faults.saturating_add(1);
     }
 
-    // Takes all of a piece, for which there is room.
+    /// Takes all of a piece, for which there is room.
     fn take(&mut self, piece: &[u8])
         requires { length piece.now ≤ self.old.room }
         ensures { self.new ≡ record self.old {

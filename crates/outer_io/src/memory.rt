@@ -54,7 +54,7 @@ impl MemShelf {
         }
     }
 
-    // Counts a call, and returns whether it fails.
+    /// Counts a call, and returns whether it fails.
     fn fails(&mut self) -> bool
         ensures fails { result ≡ has_number self.old.failing (saturating self.old.calls 1) }
         ensures after { self.new ≡ record self.old {

@@ -78,7 +78,7 @@ pub fn read_file<F: Shelf>(alloc: Global, shelf: &mut F, name: &str) -> Result<V
     }
 }
 
-// What is left of the open file.
+/// What is left of the open file.
 fn read_to_end<F: Shelf>(alloc: Global, shelf: &mut F) -> Result<Vec<u8>, FileFault>
     ensures files { F.files shelf.new ≡ F.files shelf.old }
     ensures bytes { IfOk result (λ bytes. IfSome (F.rest shelf.old) (λ all. bytes.items ≡ all)) }
@@ -109,7 +109,7 @@ fn read_to_end<F: Shelf>(alloc: Global, shelf: &mut F) -> Result<Vec<u8>, FileFa
     }
 }
 
-// One read after the first `filled` bytes. Room is made before it, so that no byte is lost if memory is refused.
+/// One read after the first `filled` bytes. Room is made before it, so that no byte is lost if memory is refused.
 fn read_more<F: Shelf>(
     shelf: &mut F,
     bytes: &mut Vec<u8>,
@@ -137,8 +137,8 @@ fn read_more<F: Shelf>(
     Ok(read_at(shelf, bytes.as_mut_slice(), filled)?)
 }
 
-// Makes the vector longer than `filled`, by zeros, unless it is already. Room that an earlier read left unfilled is
-// used first.
+/// Makes the vector longer than `filled`, by zeros, unless it is already. Room that an earlier read left unfilled is
+/// used first.
 fn make_room(bytes: &mut Vec<u8>, filled: usize) -> Result<(), AllocError>
     requires { filled ≤ vec_len bytes.old }
     ensures front { take filled bytes.new.items ≡ take filled bytes.old.items }
@@ -150,7 +150,7 @@ fn make_room(bytes: &mut Vec<u8>, filled: usize) -> Result<(), AllocError>
     Ok(())
 }
 
-// One read into the bytes after the place `at`.
+/// One read into the bytes after the place `at`.
 fn read_at<F: Shelf>(shelf: &mut F, bytes: &mut [u8], at: usize) -> Result<usize, ReadFailed>
     requires { at < length bytes.old }
     ensures files { F.files shelf.new ≡ F.files shelf.old }
@@ -169,7 +169,7 @@ fn read_at<F: Shelf>(shelf: &mut F, bytes: &mut [u8], at: usize) -> Result<usize
     read_front(shelf, &mut bytes[at..])
 }
 
-// One read, with separate clauses for the bytes and for the end.
+/// One read, with separate clauses for the bytes and for the end.
 fn read_front<F: Shelf>(shelf: &mut F, bytes: &mut [u8]) -> Result<usize, ReadFailed>
     ensures files { F.files shelf.new ≡ F.files shelf.old }
     ensures bound { ReadsAtMost result bytes.new }

@@ -122,7 +122,7 @@ impl<W: Write> Sink for StdSink<W> {
     }
 }
 
-// One read, made again if a signal interrupts it, up to `TRIES` times. An interrupted read has moved nothing.
+/// One read, made again if a signal interrupts it, up to `TRIES` times. An interrupted read has moved nothing.
 fn read_again<R: Read>(from: &mut R, buf: &mut [u8]) -> io::Result<usize>
     ensures { ReadsAtMost result buf.new }
 {
@@ -135,7 +135,7 @@ fn read_again<R: Read>(from: &mut R, buf: &mut [u8]) -> io::Result<usize>
     from.read(buf)
 }
 
-// One write, made again if a signal interrupts it, up to `TRIES` times. An interrupted write has taken nothing.
+/// One write, made again if a signal interrupts it, up to `TRIES` times. An interrupted write has taken nothing.
 fn write_again<W: Write>(to: &mut W, bytes: &[u8]) -> io::Result<usize>
     ensures { WritesAtMost result bytes.now }
 {

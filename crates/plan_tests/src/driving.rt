@@ -22,7 +22,7 @@ const WHOLE: Driven = Driven {
     ended: true,
 };
 
-// Whether 9 members take a cursor to the end, and again from the start.
+/// Whether 9 members take a cursor to the end, and again from the start.
 fn is_driven_twice<E: Ranked, L: Ledger>(
     cursors: &mut Cursors<E>,
     steps: &mut Steps<L>,
@@ -35,13 +35,13 @@ fn is_driven_twice<E: Ranked, L: Ledger>(
     Ok(drive(cursors, id, 9, 0, steps) == WHOLE)
 }
 
-// The same for a cursor over an engine.
+/// The same for a cursor over an engine.
 fn drives<E: Ranked + Drop, L: Ledger>(alloc: Global, engine: E, steps: &mut Steps<L>) -> bool {
     let mut cursors = Cursors::new(alloc, engine);
     is_driven_twice(&mut cursors, steps) == Ok(true)
 }
 
-// The same for the engine by regions over the tree.
+/// The same for the engine by regions over the tree.
 fn regions_drive<R: Rank, L: Ledger>(
     alloc: Global,
     tree: &Tree<R>,
@@ -53,7 +53,7 @@ fn regions_drive<R: Rank, L: Ledger>(
     Ok(drives(alloc, engine, steps))
 }
 
-// The same for the engine by recursion over the tree, in an arena.
+/// The same for the engine by recursion over the tree, in an arena.
 fn recursion_drives<R: Rank, L: Ledger>(
     alloc: Global,
     arena: &Bump,
@@ -66,7 +66,7 @@ fn recursion_drives<R: Rank, L: Ledger>(
     Ok(drives(alloc, engine, steps))
 }
 
-// The same for both engines.
+/// The same for both engines.
 fn both_drive<R: Rank, L: Ledger>(
     alloc: Global,
     tree: &Tree<R>,
@@ -81,7 +81,7 @@ fn both_drive<R: Rank, L: Ledger>(
     recursion_drives(alloc, &arena, tree, steps)
 }
 
-// Both engines over the plan of R and S.
+/// Both engines over the plan of R and S.
 fn both_drive_over_two_tables<R: Rank, L: Ledger>(alloc: Global, blank: Blank) -> bool
     requires slots { 16 ≤ R.ITEMS }
     requires limit { 2 ^ 127 ≤ R.LIMIT }

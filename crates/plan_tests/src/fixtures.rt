@@ -1,18 +1,20 @@
 //! Small tables, small queries over them, and their plans.
 ghost use Rattle.std.specs.Prelude.{◌≡◌, ◌^◌, ◌<◌, ◌≤◌, [], IfSome, OnOk, length};
 ghost use Rattle.std.specs.List.{AllByRecursion};
-ghost use Rattle.query_bind.specs.WeighedQuery.{Fits};
+ghost use Rattle.bound_query.specs.WeighedQuery.{Fits};
 ghost use Rattle.tdp_core.specs.WellFormed.{IsTieFreeTree};
 
-use csv_tables::{TableFault, Tables};
+use bound_query::Query;
+use csv_tables::TableFault;
 use plan_build::{Plan, prepare, prepare_at};
-use query_bind::{Query, bind};
+use query_bind::bind;
 use query_grammar::parse;
 use query_select::Select;
 use rank_key::Rank;
 use std::alloc::Global;
 use std::sync::ledger::Ledger;
 use step_counter::Steps;
+use table_store::Tables;
 use tdp_core::Answer;
 
 /// The texts of two tables.
@@ -32,13 +34,13 @@ pub(crate) fn read_two(tables: &mut Tables, files: Files) -> Result<(), TableFau
     if files.0.len() > 1000 || files.1.len() > 1000 {
         return Err(TableFault::NoMemory);
     }
-    tables.read(files.0.as_bytes())?;
-    tables.read(files.1.as_bytes())?;
+    csv_tables::read_table(tables, files.0.as_bytes())?;
+    csv_tables::read_table(tables, files.1.as_bytes())?;
     Ok(())
 }
 
-// The query bound to the tables; `which` names the table of each item. `None` if `which` has another length than its
-// items, or if it cannot be bound.
+/// The query bound to the tables; `which` names the table of each item. `None` if `which` has another length than its
+/// items, or if it cannot be bound.
 fn bound(alloc: Global, tables: &Tables, select: &Select, which: &[u32]) -> Option<Query>
     requires few { length which.now ≤ 16 }
     requires known { AllByRecursion (λ t. t < length tables.now) which.now }
@@ -51,7 +53,7 @@ fn bound(alloc: Global, tables: &Tables, select: &Select, which: &[u32]) -> Opti
     bind(alloc, select, tables, which).ok()
 }
 
-// The same for the query of this text.
+/// The same for the query of this text.
 fn bound_text(alloc: Global, tables: &Tables, text: &[u8], which: &[u32]) -> Option<Query>
     requires few { length which.now ≤ 16 }
     requires known { AllByRecursion (λ t. t < length tables.now) which.now }
@@ -83,7 +85,7 @@ pub(crate) fn query_of(
     Some(query)
 }
 
-// The plan of the query of this text over the tables.
+/// The plan of the query of this text over the tables.
 fn plan_over<R: Rank, L: Ledger>(
     alloc: Global,
     tables: &Tables,
@@ -123,7 +125,7 @@ pub(crate) fn plan_of<R: Rank, L: Ledger>(
     plan_over(alloc, &tables, text, which, steps)
 }
 
-// The plan of the query of this text over the tables, with this item at the root.
+/// The plan of the query of this text over the tables, with this item at the root.
 fn plan_over_at<R: Rank, L: Ledger>(
     alloc: Global,
     tables: &Tables,

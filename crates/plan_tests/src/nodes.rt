@@ -1,23 +1,23 @@
 //! The raw trees of two tables, by the columns in which rows must agree.
 ghost use Rattle.std.specs.Prelude.{◌≡◌, ◌^◌, ◌<◌, ◌≤◌, IfSome, List, length};
 ghost use Rattle.anyk_model.specs.Table.{Table};
-ghost use Rattle.query_bind.specs.WeighedQuery.{Fits};
+ghost use Rattle.bound_query.specs.WeighedQuery.{Fits};
 ghost use Rattle.node_build.specs.Nodes.{IsJoinTreeOf};
 
 use crate::fixtures::{TWO, query_of, read_two};
-use csv_tables::Tables;
+use bound_query::Query;
 use join_tree::JoinTree;
 use node_build::{BuildFault, Built, build};
-use query_bind::Query;
 use query_shape::tree_shape;
 use rank_key::{LexRank, Rank};
 use std::alloc::Global;
 use std::marker::Brand;
 use std::sync::ledger::{Blank, Ledger};
 use step_counter::Steps;
+use table_store::Tables;
 use tdp_core::RawTree;
 
-// The join tree of a query.
+/// The join tree of a query.
 fn tree_of_query(query: &Query) -> Option<JoinTree>
     requires fits { (tables : List Table) × Fits query.now tables }
     ensures { IfSome result (λ tree. IsJoinTreeOf query.now.query tree) }
@@ -25,7 +25,7 @@ fn tree_of_query(query: &Query) -> Option<JoinTree>
     tree_shape(query).ok()
 }
 
-// Whether the second and the third row of the second of two nodes have the link of its first row.
+/// Whether the second and the third row of the second of two nodes have the link of its first row.
 fn alike<R: Rank>(tree: &RawTree<R>) -> Option<(bool, bool)> {
     if tree.nodes() != 2 || tree.len(1) != 3 {
         return None;
@@ -44,7 +44,7 @@ fn counts<R: Rank>(built: &Built<R>) -> Option<Counts> {
     Some((*first, *second, built.used, alike(&built.tree)?))
 }
 
-// These counts for a query within a budget.
+/// These counts for a query within a budget.
 fn counts_of<R: Rank, L: Ledger>(
     alloc: Global,
     query: &Query,
@@ -65,7 +65,7 @@ fn counts_of<R: Rank, L: Ledger>(
     Ok(counts(&built))
 }
 
-// The same for the query of this text over R and S.
+/// The same for the query of this text over R and S.
 fn counts_of_text<R: Rank, L: Ledger>(
     alloc: Global,
     tables: &Tables,

@@ -1,22 +1,22 @@
 //! The plan of two tables that share a column, and a triangle.
 ghost use Rattle.std.specs.Prelude.{◌≡◌, ◌^◌, ◌<◌, ◌≤◌, length};
-ghost use Rattle.query_bind.specs.WeighedQuery.{Fits};
+ghost use Rattle.bound_query.specs.WeighedQuery.{Fits};
 ghost use Rattle.tdp_core.specs.WellFormed.{IsTieFreeTree};
 
 use crate::fixtures::{TWO, plan_of, query_of, read_two};
-use csv_tables::Tables;
+use bound_query::Query;
 use plan_build::{Plan, PlanFault, prepare, prepare_at};
-use query_bind::Query;
 use rank_key::{Rank, SumRank};
 use std::alloc::Global;
 use std::marker::Brand;
 use std::sync::ledger::{Blank, Ledger};
 use step_counter::Steps;
+use table_store::Tables;
 use tdp_core::Tree;
 use tree_dp::first;
 
-// Whether a rank has the sum 3: a key with the sum 3 and without rows is less than it, and a key with the sum 4 is
-// greater.
+/// Whether a rank has the sum 3: a key with the sum 3 and without rows is less than it, and a key with the sum 4 is
+/// greater.
 fn is_three<R: Rank, L: Ledger>(rank: &R, steps: &mut Steps<L>) -> bool
     requires slots { 16 ≤ R.ITEMS }
     requires limit { 2 ^ 127 ≤ R.LIMIT }
@@ -27,7 +27,7 @@ fn is_three<R: Rank, L: Ledger>(rank: &R, steps: &mut Steps<L>) -> bool
     R::less(&least, rank, steps) && R::less(rank, &past, steps)
 }
 
-// Whether the first two items have these rows in the first answer, and its sum is 3.
+/// Whether the first two items have these rows in the first answer, and its sum is 3.
 fn has_first<R: Rank, L: Ledger>(tree: &Tree<R>, rows: [u32; 2], steps: &mut Steps<L>) -> bool
     requires slots { 16 ≤ R.ITEMS }
     requires limit { 2 ^ 127 ≤ R.LIMIT }
@@ -40,7 +40,7 @@ fn has_first<R: Rank, L: Ledger>(tree: &Tree<R>, rows: [u32; 2], steps: &mut Ste
     }
 }
 
-// Whether the plan of R and S has 12 rows and this first answer.
+/// Whether the plan of R and S has 12 rows and this first answer.
 fn is_planned<R: Rank, L: Ledger>(alloc: Global, blank: Blank) -> bool
     requires slots { 16 ≤ R.ITEMS }
     requires limit { 2 ^ 127 ≤ R.LIMIT }
@@ -63,7 +63,7 @@ fn plans_two_tables(rt: HostRuntime) {
     assert!(rt; is_planned::<SumRank, Brand>(rt.alloc(), Blank::new(1)));
 }
 
-// Whether there is no plan, and three items are left.
+/// Whether there is no plan, and three items are left.
 fn leaves_three<R: Rank>(prepared: Result<Plan<R>, PlanFault>) -> bool {
     match prepared {
         Ok(_) => false,
@@ -71,7 +71,7 @@ fn leaves_three<R: Rank>(prepared: Result<Plan<R>, PlanFault>) -> bool {
     }
 }
 
-// Whether the query is cyclic, with three items left, also with its last item at the root.
+/// Whether the query is cyclic, with three items left, also with its last item at the root.
 fn is_cyclic<R: Rank, L: Ledger>(
     alloc: Global,
     query: &Query,
@@ -91,7 +91,7 @@ fn is_cyclic<R: Rank, L: Ledger>(
     leaves_three(whole) && leaves_three(rooted)
 }
 
-// Whether a triangle over the first table is cyclic.
+/// Whether a triangle over the first table is cyclic.
 fn is_triangle_cyclic<R: Rank, L: Ledger>(
     alloc: Global,
     tables: &Tables,

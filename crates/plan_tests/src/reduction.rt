@@ -116,7 +116,7 @@ fn has_named<R: Rank>(parts: &NodeParts<R>, named: &[u32]) -> bool {
     true
 }
 
-// Row 2 of the second node has no partner, and so row 6 of the root has none either.
+/// Row 2 of the second node has no partner, and so row 6 of the root has none either.
 fn link_partly<R: Rank>(tree: &mut RawTree<R>) -> Result<(), NoMemory>
     requires slots { 16 ≤ R.ITEMS }
     requires limit { 2 ^ 127 ≤ R.LIMIT }
@@ -169,7 +169,7 @@ fn rows_without_partner_go(rt: HostRuntime) {
     assert!(rt; reduced == Ok(true));
 }
 
-// No row of the second node has a partner.
+/// No row of the second node has a partner.
 fn link_none<R: Rank>(tree: &mut RawTree<R>) -> Result<(), NoMemory>
     requires slots { 16 ≤ R.ITEMS }
     requires limit { 2 ^ 127 ≤ R.LIMIT }

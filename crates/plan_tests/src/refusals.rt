@@ -20,14 +20,14 @@ const CHUNK: usize = 448;
 /// The number of refusals in one call after which the test gives up.
 const TRIES: usize = 200;
 
-// Lets the arena take more memory after each refusal: an engine that was not made leaves what it took in the arena.
+/// Lets the arena take more memory after each refusal: an engine that was not made leaves what it took in the arena.
 fn allow_more(arena: &Bump, refused: usize) {
     let limit = arena.allocation_limit().unwrap_or(0);
     let more = refused.saturating_add(1).saturating_mul(64);
     arena.set_allocation_limit(Some(limit.saturating_add(more)));
 }
 
-// The engine over the tree, in an arena that is allowed more memory until it is enough.
+/// The engine over the tree, in an arena that is allowed more memory until it is enough.
 fn engine_in<'t, 'a, R: Rank, L: Ledger>(
     arena: &'a Bump,
     tree: &'t Tree<R>,
@@ -44,7 +44,7 @@ fn engine_in<'t, 'a, R: Rank, L: Ledger>(
     Err(NoMemory)
 }
 
-// The next answer, and how often memory was refused before it came. At first the arena may take no memory.
+/// The next answer, and how often memory was refused before it came. At first the arena may take no memory.
 fn next_in<E: Ranked, L: Ledger>(
     engine: &mut E,
     arena: &Bump,
@@ -60,8 +60,8 @@ fn next_in<E: Ranked, L: Ledger>(
     Err(NoMemory)
 }
 
-// How often memory was refused while the engine returned all its answers, if these are the wanted rows of the first
-// four items.
+/// How often memory was refused while the engine returned all its answers, if these are the wanted rows of the first
+/// four items.
 fn refusals_of_engine<E: Ranked, L: Ledger>(
     engine: &mut E,
     arena: &Bump,
@@ -80,7 +80,7 @@ fn refusals_of_engine<E: Ranked, L: Ledger>(
     Ok(if end.is_none() { Some(refusals) } else { None })
 }
 
-// The same for an engine over the tree.
+/// The same for an engine over the tree.
 fn refusals_over<'t, 'a, R: Rank, L: Ledger>(
     arena: &'a Bump,
     tree: &'t Tree<R>,
@@ -93,7 +93,7 @@ fn refusals_over<'t, 'a, R: Rank, L: Ledger>(
     refusals_of_engine(&mut engine, arena, wanted, steps)
 }
 
-// The same over an arena from which this many bytes are already taken.
+/// The same over an arena from which this many bytes are already taken.
 fn refusals_in<R: Rank, L: Ledger>(
     alloc: Global,
     tree: &Tree<R>,
@@ -109,8 +109,8 @@ fn refusals_in<R: Rank, L: Ledger>(
     refusals_over(&arena, tree, wanted, steps)
 }
 
-// How often memory was refused in all runs, if the wanted rows came in each. What the arena has taken before a run
-// moves the places of the refusals.
+/// How often memory was refused in all runs, if the wanted rows came in each. What the arena has taken before a run
+/// moves the places of the refusals.
 fn refusals_in_all<R: Rank, L: Ledger>(
     alloc: Global,
     tree: &Tree<R>,
@@ -129,8 +129,8 @@ fn refusals_in_all<R: Rank, L: Ledger>(
     Ok(Some(refusals))
 }
 
-// Whether memory was refused more than 50 times over the plan of the query of this text, and the wanted rows came in
-// each run.
+/// Whether memory was refused more than 50 times over the plan of the query of this text, and the wanted rows came in
+/// each run.
 fn comes_back<R: Rank, L: Ledger>(
     alloc: Global,
     files: Files,
@@ -172,7 +172,7 @@ fn a_join_comes_back_after_each_refusal(rt: HostRuntime) {
     assert!(rt; comes_back::<SumRank, Brand>(rt.alloc(), TWO, text, &[0, 1], &wanted, blank));
 }
 
-// A row of C is joined with each pair of two rows of L, and with the row of C itself.
+/// A row of C is joined with each pair of two rows of L, and with the row of C itself.
 const OF_A_STAR: Files = ("k,v,w\nz,5,0\n", "k,v,w\nz,1,0\nz,2,0\n");
 
 #[test]

@@ -1,21 +1,21 @@
 //! The reports of two tables that share a column, and of a table that is joined to itself.
 ghost use Rattle.std.specs.Prelude.{◌≡◌, ◌<◌, ◌≤◌, IfSome, Option, length, ℕ};
 ghost use Rattle.std.specs.List.{AllByRecursion};
-ghost use Rattle.query_bind.specs.WeighedQuery.{Fits};
-ghost use Rattle.plan_build.specs.Plan.{IsPlanFor};
+ghost use Rattle.bound_query.specs.WeighedQuery.{Fits};
+ghost use Rattle.plan_model.specs.Plan.{IsPlanFor};
 ghost use Rattle.plan_build.specs.RankedPlan.{IsRankedPlan};
 
 use crate::fixtures::{TWO, query_of, read_two};
-use csv_tables::Tables;
+use bound_query::Query;
 use plan_build::{Plan, RankedPlan, prepare_ranked, report};
-use query_bind::Query;
 use rank_key::Rank;
 use std::alloc::Global;
 use std::marker::Brand;
 use std::sync::ledger::{Blank, Ledger};
 use step_counter::Steps;
+use table_store::Tables;
 
-// Whether the plan's report is the expected one.
+/// Whether the plan's report is the expected one.
 fn has_report<R: Rank>(
     alloc: Global,
     plan: &Plan<R>,
@@ -31,7 +31,7 @@ fn has_report<R: Rank>(
     }
 }
 
-// The same, by whichever ranks it is.
+/// The same, by whichever ranks it is.
 fn is_reported(
     alloc: Global,
     plan: &RankedPlan,
@@ -50,7 +50,7 @@ fn is_reported(
     }
 }
 
-// The same of the plan of this query, with this item at the root if one is given.
+/// The same of the plan of this query, with this item at the root if one is given.
 fn reports_at<L: Ledger>(
     alloc: Global,
     query: &Query,
@@ -68,7 +68,7 @@ fn reports_at<L: Ledger>(
     }
 }
 
-// The same of the plan of this query, whichever item is at the root.
+/// The same of the plan of this query, whichever item is at the root.
 fn reports_query<L: Ledger>(
     alloc: Global,
     query: &Query,
@@ -86,7 +86,7 @@ fn reports_query<L: Ledger>(
     reports_at(alloc, query, tables, None, expected, steps)
 }
 
-// The same of the query of this text.
+/// The same of the query of this text.
 fn reports_text<L: Ledger>(
     alloc: Global,
     tables: &Tables,
@@ -104,7 +104,7 @@ fn reports_text<L: Ledger>(
     }
 }
 
-// The same over R and S.
+/// The same over R and S.
 fn reports<L: Ledger>(
     alloc: Global,
     text: &[u8],
@@ -140,7 +140,7 @@ fn reports_a_path_by_two_keys(rt: HostRuntime) {
     assert!(rt; reports::<Brand>(rt.alloc(), text, &[0, 1], path, Blank::new(1)));
 }
 
-// A table counts once for each item, and rows that fail the test by the constant are not node rows.
+/// A table counts once for each item, and rows that fail the test by the constant are not node rows.
 #[test]
 fn reports_a_table_joined_to_itself(rt: HostRuntime) {
     let text = b"select \"x y\".a from R \"x y\", R b where \"x y\".b = b.b and b.a = '2'";

@@ -17,7 +17,7 @@ use std::sync::ledger::{Blank, Ledger};
 use step_counter::{NoMemory, Steps};
 use tdp_core::{RawTree, Tree};
 
-// Whether the best answers of the root's rows have these rows, and no other comes.
+/// Whether the best answers of the root's rows have these rows, and no other comes.
 fn gives<R: Rank, L: Ledger>(
     alloc: Global,
     tree: &Tree<R>,
@@ -30,7 +30,7 @@ fn gives<R: Rank, L: Ledger>(
     gives_all(&mut engine, expected, steps)
 }
 
-// The rows of the root, of which the last names a group that the first child has not.
+/// The rows of the root, of which the last names a group that the first child has not.
 fn add_root_rows<R: Rank>(tree: &mut RawTree<R>) -> Result<(), NoMemory>
     requires slots { 16 ≤ R.ITEMS }
     requires limit { 2 ^ 127 ≤ R.LIMIT }
@@ -49,7 +49,7 @@ fn add_root_rows<R: Rank>(tree: &mut RawTree<R>) -> Result<(), NoMemory>
     add(tree, 0, 0, 0, &[3, 1])
 }
 
-// The rows of both children.
+/// The rows of both children.
 fn add_leaf_rows<R: Rank>(tree: &mut RawTree<R>) -> Result<(), NoMemory>
     requires slots { 16 ≤ R.ITEMS }
     requires limit { 2 ^ 127 ≤ R.LIMIT }
@@ -105,12 +105,12 @@ fn each_row_of_the_root_has_its_best(rt: HostRuntime) {
     assert!(rt; six_are_given::<SumRank, Brand>(rt.alloc(), Blank::new(1)) == Ok(true));
 }
 
-// Whether the root of the tree is this item.
+/// Whether the root of the tree is this item.
 fn has_root<R: Rank>(tree: &Tree<R>, item: u32) -> bool {
     tree.nodes() > 0 && tree.shape(0).item == item
 }
 
-// Whether the plan with this item at the root has it there, and the best answers of its rows have these rows.
+/// Whether the plan with this item at the root has it there, and the best answers of its rows have these rows.
 fn gives_at<R: Rank, L: Ledger>(
     alloc: Global,
     files: Files,
@@ -151,7 +151,7 @@ fn each_item_of_two_tables_can_be_the_root(rt: HostRuntime) {
     assert!(rt; gives_at::<LexRank, Brand>(alloc, TWO, text, &[0, 1], 1, &second, Blank::new(1)));
 }
 
-// The sums are -2, 0 three times, and 2.
+/// The sums are -2, 0 three times, and 2.
 #[test]
 fn each_item_of_a_table_joined_to_itself_can_be_the_root(rt: HostRuntime) {
     let alloc = rt.alloc();
@@ -162,7 +162,7 @@ fn each_item_of_a_table_joined_to_itself_can_be_the_root(rt: HostRuntime) {
     assert!(rt; gives_at::<SumRank, Brand>(alloc, TWO, text, &[0, 0], 1, &second, Blank::new(1)));
 }
 
-// Whether the query of four items gives these as the best answers of the rows of this item.
+/// Whether the query of four items gives these as the best answers of the rows of this item.
 fn gives_of_four<L: Ledger>(alloc: Global, item: u32, expected: &[[u32; 4]], blank: Blank) -> bool
     requires name { blank.name ≡ L.name }
     requires parts { blank.parts ≡ L.parts }
@@ -185,7 +185,7 @@ fn each_item_of_four_can_be_the_root(rt: HostRuntime) {
     assert!(rt; gives_of_four::<Brand>(alloc, 3, &[least], Blank::new(1)));
 }
 
-// Whether the plan of a query without answers gives none.
+/// Whether the plan of a query without answers gives none.
 fn none_are_planned<R: Rank, L: Ledger>(alloc: Global, blank: Blank) -> bool
     requires slots { 16 ≤ R.ITEMS }
     requires limit { 2 ^ 127 ≤ R.LIMIT }

@@ -63,7 +63,7 @@ pub(crate) fn add<R: Rank>(
     tree.add_row(node, NodeRow { rank, row: number }, own, children)
 }
 
-// The solutions have the sums 5 + 4 + 3, 5 + 2 + 3 and 1 + 9 + 3, each twice.
+/// The solutions have the sums 5 + 4 + 3, 5 + 2 + 3 and 1 + 9 + 3, each twice.
 fn add_six_solutions<R: Rank>(tree: &mut RawTree<R>) -> Result<(), NoMemory>
     requires slots { 16 ≤ R.ITEMS }
     requires limit { 2 ^ 127 ≤ R.LIMIT }
@@ -92,7 +92,7 @@ fn six_solutions<R: Rank>(alloc: Global) -> Result<RawTree<R>, NoMemory>
     Ok(tree)
 }
 
-// The root's row names a link that no row of the right child has.
+/// The root's row names a link that no row of the right child has.
 fn add_no_solution<R: Rank>(tree: &mut RawTree<R>) -> Result<(), NoMemory>
     requires slots { 16 ≤ R.ITEMS }
     requires limit { 2 ^ 127 ≤ R.LIMIT }

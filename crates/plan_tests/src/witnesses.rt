@@ -29,7 +29,7 @@ pub(crate) fn gives_all<E: Ranked, L: Ledger>(
     Ok(engine.next(steps)?.is_none())
 }
 
-// The same for the engine by regions, with candidates as long as there are answers.
+/// The same for the engine by regions, with candidates as long as there are answers.
 fn is_emptied<R: Rank, L: Ledger>(
     engine: &mut Part<'_, R, Global>,
     expected: &[[u32; 4]],
@@ -42,7 +42,7 @@ fn is_emptied<R: Rank, L: Ledger>(
     Ok(waits != expected.is_empty() && engine.candidates() == 0)
 }
 
-// The same over a tree.
+/// The same over a tree.
 fn regions_give<R: Rank, L: Ledger>(
     alloc: Global,
     tree: &Tree<R>,
@@ -55,7 +55,7 @@ fn regions_give<R: Rank, L: Ledger>(
     is_emptied(&mut engine, expected, steps)
 }
 
-// Whether the engine by recursion over the tree, in an arena, returns these answers.
+/// Whether the engine by recursion over the tree, in an arena, returns these answers.
 fn recursion_gives<R: Rank, L: Ledger>(
     arena: &Bump,
     tree: &Tree<R>,
@@ -68,7 +68,7 @@ fn recursion_gives<R: Rank, L: Ledger>(
     gives_all(&mut engine, expected, steps)
 }
 
-// Whether both engines do.
+/// Whether both engines do.
 fn both_give<R: Rank, L: Ledger>(
     alloc: Global,
     tree: &Tree<R>,
@@ -84,7 +84,7 @@ fn both_give<R: Rank, L: Ledger>(
     recursion_gives(&arena, tree, expected, steps)
 }
 
-// The same over the plan of the query of this text.
+/// The same over the plan of the query of this text.
 fn gives<R: Rank, L: Ledger>(
     alloc: Global,
     files: Files,

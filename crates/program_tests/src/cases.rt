@@ -71,7 +71,7 @@ pub(super) fn file(alloc: Global, name: &str, text: &str) -> Result<MemFile, All
     Ok(MemFile { name, bytes })
 }
 
-// Appends a file.
+/// Appends a file.
 fn push_file(
     alloc: Global,
     files: &mut Vec<MemFile>,
@@ -82,7 +82,7 @@ fn push_file(
     Ok(())
 }
 
-// The file of the query, and the other files.
+/// The file of the query, and the other files.
 fn files_of(alloc: Global, case: &Case<'_>) -> Result<Vec<MemFile>, AllocError> {
     let mut files = Vec::new(alloc);
     push_file(alloc, &mut files, "q.sql", case.query)?;
@@ -92,13 +92,13 @@ fn files_of(alloc: Global, case: &Case<'_>) -> Result<Vec<MemFile>, AllocError> 
     Ok(files)
 }
 
-// Appends a word.
+/// Appends a word.
 fn push_word(alloc: Global, words: &mut Vec<String>, word: &str) -> Result<(), AllocError> {
     words.push(String::from_str(alloc, word)?)?;
     Ok(())
 }
 
-// The words of a text.
+/// The words of a text.
 fn words_of(alloc: Global, text: &str) -> Result<Vec<String>, AllocError> {
     let mut words = Vec::new(alloc);
     for word in text.split(' ') {
@@ -111,7 +111,7 @@ fn one(alloc: Global, number: u64) -> Result<Vec<u64>, AllocError> {
     Ok(vec![in alloc; number]?)
 }
 
-// The shelf with the files of the case, if their names differ.
+/// The shelf with the files of the case, if their names differ.
 fn shelf_of(alloc: Global, case: &Case<'_>) -> Result<Option<MemShelf>, AllocError> {
     let unread = one(alloc, case.unread)?;
     let files = files_of(alloc, case)?;
@@ -135,7 +135,7 @@ pub(super) fn sink_of(
         .ok_or(AllocError)
 }
 
-// The status of the call of these words.
+/// The status of the call of these words.
 fn status_of<L: Ledger>(
     alloc: Global,
     words: &[String],
@@ -152,7 +152,7 @@ fn status_of<L: Ledger>(
     run_words(alloc, words, shelf, out, err, &mut steps)
 }
 
-// Whether the call of these words does what the case says.
+/// Whether the call of these words does what the case says.
 fn comes_out(
     alloc: Global,
     case: &Case<'_>,
@@ -167,7 +167,7 @@ fn comes_out(
         && err.bytes() == case.err.as_bytes()
 }
 
-// The same, over this output.
+/// The same, over this output.
 fn comes_out_on(
     alloc: Global,
     case: &Case<'_>,
@@ -179,7 +179,7 @@ fn comes_out_on(
     Ok(comes_out(alloc, case, words, shelf, out, &mut err))
 }
 
-// The same, over this shelf.
+/// The same, over this shelf.
 fn comes_out_from(
     alloc: Global,
     case: &Case<'_>,
@@ -190,7 +190,7 @@ fn comes_out_from(
     comes_out_on(alloc, case, words, shelf, &mut out)
 }
 
-// The same with these words.
+/// The same with these words.
 fn holds_of(alloc: Global, case: &Case<'_>, words: &[String]) -> Result<bool, AllocError> {
     match shelf_of(alloc, case)? {
         Some(mut shelf) => comes_out_from(alloc, case, words, &mut shelf),
@@ -198,20 +198,20 @@ fn holds_of(alloc: Global, case: &Case<'_>, words: &[String]) -> Result<bool, Al
     }
 }
 
-// The same with the words of the case.
+/// The same with the words of the case.
 fn holds_as_said(alloc: Global, case: &Case<'_>) -> Result<bool, AllocError> {
     let words = words_of(alloc, case.words)?;
     holds_of(alloc, case, &words)
 }
 
-// The same with one word more, which names the engine by recursion.
+/// The same with one word more, which names the engine by recursion.
 fn holds_by_recursion(alloc: Global, case: &Case<'_>) -> Result<bool, AllocError> {
     let mut words = words_of(alloc, case.words)?;
     push_word(alloc, &mut words, "--engine=rec")?;
     holds_of(alloc, case, &words)
 }
 
-// Whether the command has engines to choose from, and the words name none.
+/// Whether the command has engines to choose from, and the words name none.
 fn leaves_engine_open(words: &str) -> bool {
     !words.starts_with("plan ") && !words.starts_with("verify ") && !words.contains("--engine")
 }

@@ -10,7 +10,7 @@ const ANSWERS: &str =
 const RECORDS: &str =
     "cursor,a,e,rank1\na,11,110,3\na,142,1,4\na,31,175,4\na,91,175,4\na,167,158,5\na,31,75,6\na,91,75,6\na,11,43,6\na,31,185,7\na,91,185,7\na,191,66,7\na,91,20,8\na,127,156,10\na,8,13,10\na,151,9,10\na,183,94,11\na,89,54,11\na,190,156,11\na,74,9,11\na,120,156,12\na,143,177,12\na,194,198,12\na,177,66,12\na,75,98,12\na,75,98,12\na,123,156,12\na,34,98,13\na,120,3,13\na,160,20,13\na,123,3,13\na,11,169,13\na,151,73,13\na,147,198,13\na,151,13,13\na,31,47,14\na,91,47,14\na,107,178,14\na,135,152,14\na,61,66,14\na,191,188,14\na,177,174,14\na,64,87,14\na,48,156,14\na,48,18,14\na,74,73,14\na,38,20,14\na,151,110,15\na,30,98,15\na,30,54,15\na,43,158,15\na,135,186,15\na,143,198,15\na,87,98,15\na,177,175,15\na,49,158,15\na,144,54,15\na,52,178,15\na,183,74,15\na,31,20,15\na,166,87,15\na,49,98,15\na,49,98,15\na,26,152,15\na,136,152,15\na,188,152,15\na,171,96,15\na,143,66,15\na,35,156,16\na,35,18,16\na,18,1,16\na,128,3,16\na,181,175,16\na,24,150,16\na,117,1,16\na,121,152,16\na,107,104,16\na,29,92,16\na,32,55,16\na,116,56,16\na,183,122,16\na,94,98,16\na,133,14,16\na,167,115,16\na,50,57,16\na,10,56,16\na,26,34,16\na,26,186,16\na,184,11,16\na,136,34,16\na,136,186,16\na,188,186,16\na,107,98,16\na,151,140,16\na,162,140,17\na,145,152,17\na,74,50,17\na,40,20,17\na,121,186,17\na,194,129,17\na,177,198,17\n";
 
-// The text of the table at a place, from 0.
+/// The text of the table at a place, from 0.
 fn text_of(tables: &[Vec<u8>], place: usize) -> &str {
     match tables.get(place) {
         Some(bytes) => str::from_utf8(bytes).unwrap_or(""),
@@ -18,7 +18,7 @@ fn text_of(tables: &[Vec<u8>], place: usize) -> &str {
     }
 }
 
-// Whether a call over these tables writes this, with each engine.
+/// Whether a call over these tables writes this, with each engine.
 fn writes<'a>(
     alloc: Global,
     words: &'a str,
@@ -39,7 +39,7 @@ fn writes<'a>(
     holds(alloc, &call)
 }
 
-// The same over the tables of 20,000 rows each that are made from the number 1.
+/// The same over the tables of 20,000 rows each that are made from the number 1.
 fn writes_over_many_rows(alloc: Global, words: &str, out: &str) -> Result<bool, AllocError> {
     match tables_of(alloc, 1, 20000) {
         Ok(tables) => writes(alloc, words, &tables, out),

@@ -20,7 +20,7 @@ const OF_RIGHT: Case<'static> = Case {
     ..OF_QUERY
 };
 
-// The first calls open the query's file, read it and find its end. The calls for each table follow.
+/// The first calls open the query's file, read it and find its end. The calls for each table follow.
 const READS: &[Case<'static>] = &[
     Case {
         unread: 1,
@@ -75,7 +75,7 @@ const UNWRITTEN: Case<'static> = Case {
     ..RUN
 };
 
-// A run that cannot write its record with one of these numbers ends there. The header is number 1.
+/// A run that cannot write its record with one of these numbers ends there. The header is number 1.
 const WRITES: &[Case<'static>] = &[
     Case {
         unwritten: 1,
@@ -152,8 +152,8 @@ fn failing_writes_end_a_run(rt: HostRuntime) {
     assert!(rt; first_failing(rt.alloc(), WRITES) == Ok(None));
 }
 
-// What a run does over a table that is cut off after each number of bytes from the first to the
-// second. A weight of which nothing is left is an empty field, which counts 0.
+/// What a run does over a table that is cut off after each number of bytes from the first to the
+/// second. A weight of which nothing is left is an empty field, which counts 0.
 const CUT: &[(usize, usize, u8, &str, &str)] = &[
     (0, 0, 5, "", "anyk: table S: no header\n"),
     (1, 2, 4, "", "anyk: byte 12: unknown column\n"),
@@ -186,7 +186,7 @@ const CUT: &[(usize, usize, u8, &str, &str)] = &[
     (23, 24, 0, FOUND, ""),
 ];
 
-// Whether a run over the first `length` bytes of the table gives this status and these texts.
+/// Whether a run over the first `length` bytes of the table gives this status and these texts.
 fn is_told(
     alloc: Global,
     length: usize,
@@ -199,7 +199,7 @@ fn is_told(
     holds(alloc, &over(RUN.words, &files, status, out, err))
 }
 
-// The least of these lengths at which the run gives something else.
+/// The least of these lengths at which the run gives something else.
 fn first_told_otherwise(
     alloc: Global,
     row: &(usize, usize, u8, &str, &str),

@@ -214,7 +214,7 @@ const OF_CYCLES: &[Case<'static>] = &[
     },
 ];
 
-// Each of these breaks two rules, and the refusal is of the one that is tested first.
+/// Each of these breaks two rules, and the refusal is of the one that is tested first.
 const IN_ORDER: &[Case<'static>] = &[
     Case {
         words: "run q.sql R=T.csv",

@@ -167,7 +167,7 @@ fn scripts_that_break_a_rule_are_refused(rt: HostRuntime) {
     assert!(rt; first_failing(rt.alloc(), REFUSED) == Ok(None));
 }
 
-// Lines that open `count` cursors with the names c1, c2 and so on, and then these lines.
+/// Lines that open `count` cursors with the names c1, c2 and so on, and then these lines.
 fn opened(alloc: Global, count: u32, lines: &str) -> Result<String, AllocError> {
     let mut script = String::new(alloc);
     for number in 0..count {
@@ -177,7 +177,7 @@ fn opened(alloc: Global, count: u32, lines: &str) -> Result<String, AllocError> 
     Ok(script)
 }
 
-// Whether a session over the two tables that follows this script gives this status and these texts.
+/// Whether a session over the two tables that follows this script gives this status and these texts.
 fn follows(
     alloc: Global,
     script: &str,
@@ -193,7 +193,7 @@ fn follows(
     holds(alloc, &over(SESSION.words, &files, status, out, err))
 }
 
-// The same with the script that opens `count` cursors before these lines.
+/// The same with the script that opens `count` cursors before these lines.
 fn follows_opened(
     alloc: Global,
     count: u32,
@@ -217,21 +217,21 @@ fn sixty_four_cursors_are_open_at_once(rt: HostRuntime) {
     assert!(rt; follows_opened(alloc, 64, "fork c1 d\n", 8, "", err) == Ok(true));
 }
 
-// Whether a script of 10,000 lines, which takes the first answer again and again, gives this.
+/// Whether a script of 10,000 lines, which takes the first answer again and again, gives this.
 fn follows_rewinds(alloc: Global, out: &str) -> Result<bool, AllocError> {
     let rewinds = "next a 1\nrewind a\n";
     let script = repeated(alloc, "open a\n", rewinds, 4999, "next a 6\n")?;
     follows(alloc, &script, 0, out, "")
 }
 
-// The first answer 4,999 times, and then all answers.
+/// The first answer 4,999 times, and then all answers.
 fn follows_ten_thousand_lines(alloc: Global) -> Result<bool, AllocError> {
     let all = "a,2,q\na,3,q\na,3,p\na,1,q\na,1,p\na\n";
     let out = repeated(alloc, "cursor,a,c\n", "a,2,q\n", 4999, all)?;
     follows_rewinds(alloc, &out)
 }
 
-// Whether a script with one line more is refused.
+/// Whether a script with one line more is refused.
 fn refuses_one_line_more(alloc: Global) -> Result<bool, AllocError> {
     let script = repeated(alloc, "", "#\n", 10001, "")?;
     let err = "anyk: script: more than 10000 lines\n";

@@ -5,13 +5,13 @@ use std::alloc::AllocError;
 const STAR: &str =
     "select h.k, l1.v, l2.v, l3.v, l4.v, l5.v, l6.v, l7.v, l8.v, l9.v, l10.v, l11.v, l12.v, l13.v, l14.v, l15.v from H h, L l1, L l2, L l3, L l4, L l5, L l6, L l7, L l8, L l9, L l10, L l11, L l12, L l13, L l14, L l15 where h.k = l1.k and h.k = l2.k and h.k = l3.k and h.k = l4.k and h.k = l5.k and h.k = l6.k and h.k = l7.k and h.k = l8.k and h.k = l9.k and h.k = l10.k and h.k = l11.k and h.k = l12.k and h.k = l13.k and h.k = l14.k and h.k = l15.k order by l1.w + l2.w + l3.w + l4.w + l5.w + l6.w + l7.w + l8.w + l9.w + l10.w + l11.w + l12.w + l13.w + l14.w + l15.w limit 18";
 
-// A hub with two values that leaves have, and leaves with three rows: two for x, and one for y.
+/// A hub with two values that leaves have, and leaves with three rows: two for x, and one for y.
 const HUB_AND_LEAVES: &[(&str, &str)] = &[
     ("H.csv", "k\nx\ny\nz\n"),
     ("L.csv", "k,v,w\nx,a,1\nx,b,2\ny,c,0\n"),
 ];
 
-// All c, all a, one b in each leaf from the last to the first, and then b in the last two.
+/// All c, all a, one b in each leaf from the last to the first, and then b in the last two.
 const BEST: &str =
     "k,v,v,v,v,v,v,v,v,v,v,v,v,v,v,v,rank1\ny,c,c,c,c,c,c,c,c,c,c,c,c,c,c,c,0\nx,a,a,a,a,a,a,a,a,a,a,a,a,a,a,a,15\nx,a,a,a,a,a,a,a,a,a,a,a,a,a,a,b,16\nx,a,a,a,a,a,a,a,a,a,a,a,a,a,b,a,16\nx,a,a,a,a,a,a,a,a,a,a,a,a,b,a,a,16\nx,a,a,a,a,a,a,a,a,a,a,a,b,a,a,a,16\nx,a,a,a,a,a,a,a,a,a,a,b,a,a,a,a,16\nx,a,a,a,a,a,a,a,a,a,b,a,a,a,a,a,16\nx,a,a,a,a,a,a,a,a,b,a,a,a,a,a,a,16\nx,a,a,a,a,a,a,a,b,a,a,a,a,a,a,a,16\nx,a,a,a,a,a,a,b,a,a,a,a,a,a,a,a,16\nx,a,a,a,a,a,b,a,a,a,a,a,a,a,a,a,16\nx,a,a,a,a,b,a,a,a,a,a,a,a,a,a,a,16\nx,a,a,a,b,a,a,a,a,a,a,a,a,a,a,a,16\nx,a,a,b,a,a,a,a,a,a,a,a,a,a,a,a,16\nx,a,b,a,a,a,a,a,a,a,a,a,a,a,a,a,16\nx,b,a,a,a,a,a,a,a,a,a,a,a,a,a,a,16\nx,a,a,a,a,a,a,a,a,a,a,a,a,a,b,b,17\n";
 

@@ -17,7 +17,7 @@ const THREE_BEST: &str = "select R.a, S.c from R, S where R.b = S.b order by R.w
 const FOUR_OF_TWO: &str =
     "select R.a from R order by R.w union all select S.c from S order by S.w limit 4";
 
-// The words of the command line.
+/// The words of the command line.
 fn words_of_row(alloc: Global) -> Result<Vec<String>, AllocError>
     ensures { IfOk result (λ words. map string_bytes words.items ≡ row_arguments) }
 {
@@ -29,7 +29,7 @@ fn words_of_row(alloc: Global) -> Result<Vec<String>, AllocError>
     Ok(words)
 }
 
-// A shelf with the files of the row.
+/// A shelf with the files of the row.
 fn shelf_of_row(alloc: Global) -> Result<MemShelf, AllocError>
     ensures { IfOk result (λ shelf. shelf.holding.files ≡ row_files) }
 {
@@ -40,7 +40,7 @@ fn shelf_of_row(alloc: Global) -> Result<MemShelf, AllocError>
     Ok(MemShelf::new(files, Vec::new(alloc)))
 }
 
-// A shelf with the files of the second row.
+/// A shelf with the files of the second row.
 fn shelf_of_union(alloc: Global) -> Result<MemShelf, AllocError>
     ensures { IfOk result (λ shelf. shelf.holding.files ≡ union_files) }
 {
@@ -51,8 +51,8 @@ fn shelf_of_union(alloc: Global) -> Result<MemShelf, AllocError>
     Ok(MemShelf::new(files, Vec::new(alloc)))
 }
 
-// Whether the call of the row gives its answers. It takes at most as many steps as the bound allows
-// for two items, 12 rows of tables and nodes, and three calls for answers.
+/// Whether the call of the row gives its answers. It takes at most as many steps as the bound allows
+/// for two items, 12 rows of tables and nodes, and three calls for answers.
 fn answers_row<L: Ledger>(alloc: Global, steps: &mut Steps<L>) -> Result<bool, AllocError>
     ensures { steps.new ≤ steps.old + 7936 }
 {
@@ -66,9 +66,9 @@ fn answers_row<L: Ledger>(alloc: Global, steps: &mut Steps<L>) -> Result<bool, A
     Ok(status == 0 && is_quiet && out.bytes() == "a,c\n2,q\n3,q\n3,p\n".as_bytes())
 }
 
-// Whether the call of the second row gives its answers. It takes at most as many steps as the bound
-// allows for two queries, each with one item and 6 rows: 4 calls of the first engine, and 2 of the
-// second one.
+/// Whether the call of the second row gives its answers. It takes at most as many steps as the bound
+/// allows for two queries, each with one item and 6 rows: 4 calls of the first engine, and 2 of the
+/// second one.
 fn answers_union<L: Ledger>(alloc: Global, steps: &mut Steps<L>) -> Result<bool, AllocError>
     ensures { steps.new ≤ steps.old + 2816 }
 {
@@ -82,7 +82,7 @@ fn answers_union<L: Ledger>(alloc: Global, steps: &mut Steps<L>) -> Result<bool,
     Ok(status == 0 && is_quiet && out.bytes() == "a\n2\n3\nq\n1\n".as_bytes())
 }
 
-// The same, with a counter of its own.
+/// The same, with a counter of its own.
 fn union_is_answered<L: Ledger>(alloc: Global, blank: Blank) -> Result<bool, AllocError>
     requires name { blank.name ≡ L.name }
     requires parts { blank.parts ≡ L.parts }
@@ -92,7 +92,7 @@ fn union_is_answered<L: Ledger>(alloc: Global, blank: Blank) -> Result<bool, All
     answers_union(alloc, &mut steps)
 }
 
-// The same as `answers_row`, with a counter of its own.
+/// The same as `answers_row`, with a counter of its own.
 fn row_is_answered<L: Ledger>(alloc: Global, blank: Blank) -> Result<bool, AllocError>
     requires name { blank.name ≡ L.name }
     requires parts { blank.parts ≡ L.parts }

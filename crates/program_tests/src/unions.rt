@@ -223,7 +223,7 @@ fn limits_are_those_of_the_whole(rt: HostRuntime) {
     assert!(rt; first_failing(rt.alloc(), OF_LIMITS) == Ok(None));
 }
 
-// Whether a run of this query does this, with each engine.
+/// Whether a run of this query does this, with each engine.
 fn is_told<'a>(
     alloc: Global,
     query: &'a str,
@@ -246,7 +246,7 @@ fn eight_branches_are_answered(alloc: Global) -> Result<bool, AllocError> {
     is_told(alloc, &query, 0, out, "")
 }
 
-// They have 18 items too, which is tested later.
+/// They have 18 items too, which is tested later.
 fn nine_branches_are_refused(alloc: Global) -> Result<bool, AllocError> {
     let more = " union all select a.a from R a, R b";
     let query = repeated(alloc, "select a.a from R a, R b", more, 8, "")?;
@@ -260,7 +260,7 @@ fn there_are_at_most_eight_branches(rt: HostRuntime) {
     assert!(rt; nine_branches_are_refused(alloc) == Ok(true));
 }
 
-// A line with a byte of the query needs no branch.
+/// A line with a byte of the query needs no branch.
 const AT_A_BYTE: &[Case<'static>] = &[
     Case {
         query: "select R.a from R union all select X.c from S",
@@ -392,7 +392,7 @@ const TRIANGLE: Case<'static> = Case {
     ..RUN
 };
 
-// Each of these breaks two rules, and the refusal is of the one that is tested first.
+/// Each of these breaks two rules, and the refusal is of the one that is tested first.
 const BY_STAGES: &[Case<'static>] = &[
     // Tables that no argument names, and the tables of all branches, come before the names.
     Case {
@@ -439,7 +439,7 @@ const BY_STAGES: &[Case<'static>] = &[
     },
 ];
 
-// The best answer of each row is that of one query.
+/// The best answer of each row is that of one query.
 const OF_BEST: &[Case<'static>] = &[
     Case {
         words: "run --best-of R q.sql R=R.csv S=S.csv",
@@ -481,7 +481,7 @@ const UNWRITTEN: Case<'static> = Case {
     ..ANSWERED
 };
 
-// The header is the first record, and each record is one write.
+/// The header is the first record, and each record is one write.
 const WRITES: &[Case<'static>] = &[
     Case {
         unwritten: 1,
@@ -542,7 +542,7 @@ const TWO_OF_LEFT: Case<'static> = Case {
     ..RUN
 };
 
-// Three calls for each file: the query's, and the tables in the order of their first use.
+/// Three calls for each file: the query's, and the tables in the order of their first use.
 const READS: &[Case<'static>] = &[
     Case {
         unread: 1,

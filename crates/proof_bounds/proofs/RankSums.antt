@@ -21,7 +21,7 @@ use Rattle.tdp_core.specs.declared.parts.NodeShape.{NodeShape}
 use Rattle.tdp_core.specs.RawData.{AreShapes, IsRawFormed, RawData, RawRowData, RawRowFits, raw_len, raw_rank, rows_at}
 use Rattle.tdp_core.specs.RawData.{shape_cap, shape_item, shape_parent}
 use Rattle.tdp_core.proofs.KeyRanges.{within_fits}
-use Rattle.query_bind.proofs.Parts.{nat_abs_add}
+use Rattle.bound_query.proofs.Parts.{nat_abs_add}
 use Rattle.proof_model.specs.Problem.{Problem, key_at, row_in}
 use Rattle.proof_model.specs.QueryProblem.{problem_in}
 use Rattle.proof_model.proofs.Wider.{wide_cond, wide_sum}

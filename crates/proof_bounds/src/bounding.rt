@@ -9,14 +9,14 @@ use crate::bounded::BoundedTree;
 use crate::groups::line_groups;
 use crate::lines::{PlacedLines, placed_lines};
 use crate::names::name_all;
-use csv_tables::Tables;
+use bound_query::Query;
 use join_tree::JoinTree;
 use proof_text::{Proof, ProofFault};
-use query_bind::Query;
 use rank_key::Rank;
 use std::alloc::Global;
 use std::sync::ledger::Ledger;
 use step_counter::Steps;
+use table_store::Tables;
 use tdp_core::RawTree;
 
 /// The rows of a query's nodes with the bounds of a certificate. `BadBound` and `BoundTwice`, each exactly if it tells

@@ -1,5 +1,6 @@
 //! The groups of bound lines, each found by its link.
 ghost use Rattle.std.specs.Prelude.{◌≡◌, ◌≢◌, ◌≤◌, ◌<◌, ◌++◌, ◌∷◌, ℕ, List, [], length, replicate, slice_index, true, false, IfErr, IfOk};
+ghost use Rattle.tdp_model.specs.NodeRows.{most_node_rows};
 ghost use Rattle.anyk_model.specs.Table.{Table};
 ghost use Rattle.anyk_model.specs.Query.{Query as SelectQuery};
 ghost use Rattle.join_tree.specs.declared.tree.JoinTree.{JoinTree};
@@ -28,7 +29,7 @@ pub(crate) fn group_link<R: Rank>(raw: &RawTree<R>, node: u32, place: u32) -> u3
     if node == 0 { 0 } else { raw.own(node, place) }
 }
 
-// For each node no group.
+/// For each node no group.
 fn no_groups(alloc: Global, nodes: u32, keys: Keys) -> Result<Vec<HashedIndex>, AllocError>
     ensures { IfOk result (λ groups. groups.items ≡ replicate nodes []) }
 {
@@ -39,13 +40,13 @@ fn no_groups(alloc: Global, nodes: u32, keys: Keys) -> Result<Vec<HashedIndex>, 
     Ok(groups)
 }
 
-// Adds the group with this link after the others, unless it is there. Whether it was not there.
+/// Adds the group with this link after the others, unless it is there. Whether it was not there.
 fn add_group<L: Ledger>(
     groups: &mut HashedIndex,
     link: u32,
     steps: &mut Steps<L>,
 ) -> Result<bool, NoMemory>
-    requires { length groups.old ≤ 4194304 }
+    requires { length groups.old ≤ most_node_rows }
     ensures added { IfOk result (λ new. new ≡ true → groups.new ≡ groups.old ++ link ∷ []) }
     ensures absent { IfOk result (λ new. new ≡ true
         → (b : ℕ) → b < length groups.old → slice_index groups.old b ≢ link) }

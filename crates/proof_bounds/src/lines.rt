@@ -29,8 +29,8 @@ pub(crate) struct PlacedLines<R> {
     pub bounds: Vec<NodeBounds<R>>,
 }
 
-// The places of the rows of a line, by node. `None` exactly if there is no such node or the rows are no solution of its
-// subtree.
+/// The places of the rows of a line, by node. `None` exactly if there is no such node or the rows are no solution of its
+/// subtree.
 fn line_places<R: Rank>(raw: &RawTree<R>, bound: &Bound) -> Option<[u32; 16]>
     ensures { (query : SelectQuery) (tables : List Table) (join : JoinTree)
         → HasProblemRows query tables join R.KEYS R.key raw.now
@@ -46,7 +46,7 @@ fn line_places<R: Rank>(raw: &RawTree<R>, bound: &Bound) -> Option<[u32; 16]>
     solution_places(raw, bound.node - 1, bound.rows.as_slice())
 }
 
-// For each node no bound.
+/// For each node no bound.
 fn no_bounds<R: Rank>(alloc: Global, nodes: u32) -> Result<Vec<NodeBounds<R>>, AllocError>
     ensures count { IfOk result (λ bounds. length bounds.items ≡ nodes) }
     ensures empty { IfOk result (λ bounds.

@@ -1,5 +1,6 @@
 //! The numbers of bounds, row by row.
 ghost use Rattle.std.specs.Prelude.{◌≡◌, ◌≤◌, ◌<◌, ℕ, List, [], length, map, nat_eq, position, slice_index_or, IfOk, OnOk, None};
+ghost use Rattle.tdp_model.specs.NodeRows.{most_node_rows};
 ghost use Rattle.tdp_core.specs.RawData.{raw_len, shape_parent};
 ghost use Rattle.proof_bounds.specs.Lines.{AreNamed, group_link, named_link};
 
@@ -13,9 +14,9 @@ use std::sync::ledger::Ledger;
 use step_counter::Steps;
 use tdp_core::RawTree;
 
-// The number of the group with this link, if it is there.
+/// The number of the group with this link, if it is there.
 fn group_number<L: Ledger>(groups: &HashedIndex, link: u32, steps: &mut Steps<L>) -> Option<u32>
-    requires { length groups.now ≤ 4194304 }
+    requires { length groups.now ≤ most_node_rows }
     ensures { result ≡ position (nat_eq link) groups.now }
 {
     match groups.number_of(link, steps) {
@@ -24,7 +25,7 @@ fn group_number<L: Ledger>(groups: &HashedIndex, link: u32, steps: &mut Steps<L>
     }
 }
 
-// For each row of a node the number of its group.
+/// For each row of a node the number of its group.
 fn own_numbers<R: Rank, L: Ledger>(
     alloc: Global,
     raw: &RawTree<R>,
@@ -33,7 +34,7 @@ fn own_numbers<R: Rank, L: Ledger>(
     steps: &mut Steps<L>,
 ) -> Result<Vec<Option<u32>>, AllocError>
     requires node { node < length raw.now.shapes }
-    requires groups { length groups.now ≤ 4194304 }
+    requires groups { length groups.now ≤ most_node_rows }
     ensures count { IfOk result (λ own. length own.items ≡ raw_len raw.now node) }
     ensures numbers { IfOk result (λ own. (i : ℕ) → i < raw_len raw.now node
         → slice_index_or own.items i None
@@ -47,7 +48,7 @@ fn own_numbers<R: Rank, L: Ledger>(
     Ok(own)
 }
 
-// For each row of the parent of a node the number of the group that it names.
+/// For each row of the parent of a node the number of the group that it names.
 fn named_numbers<R: Rank, L: Ledger>(
     alloc: Global,
     raw: &RawTree<R>,
@@ -57,7 +58,7 @@ fn named_numbers<R: Rank, L: Ledger>(
 ) -> Result<Vec<Option<u32>>, AllocError>
     requires below_root { 0 < node }
     requires node { node < length raw.now.shapes }
-    requires groups { length groups.now ≤ 4194304 }
+    requires groups { length groups.now ≤ most_node_rows }
     ensures count { IfOk result
         (λ named. length named.items ≡ raw_len raw.now (shape_parent raw.now.shapes node)) }
     ensures numbers { IfOk result
@@ -86,7 +87,7 @@ pub(crate) fn name_groups<R: Rank, L: Ledger>(
     steps: &mut Steps<L>,
 ) -> Result<(), AllocError>
     requires node { node < length raw.now.shapes }
-    requires groups { length groups.now ≤ 4194304 }
+    requires groups { length groups.now ≤ most_node_rows }
     ensures named { OnOk result
         (AreNamed raw.now groups.now node bounds.new.own.items bounds.new.named.items) }
     ensures ranks { bounds.new.ranks ≡ bounds.old.ranks }
@@ -109,7 +110,7 @@ pub(crate) fn name_all<R: Rank, L: Ledger>(
     requires each_group { length groups.now ≡ length raw.now.shapes }
     requires each_node { length bounds.old ≡ length raw.now.shapes }
     requires few { (v : ℕ) → v < length raw.now.shapes
-        → length (slice_index_or groups.now v []) ≤ 4194304 }
+        → length (slice_index_or groups.now v []) ≤ most_node_rows }
     ensures named { OnOk result ((v : ℕ) → v < length raw.now.shapes
         → AreNamed raw.now (slice_index_or groups.now v []) v
         (slice_index_or (map (λ b. b.own.items) bounds.new) v [])

@@ -17,7 +17,7 @@ use std::sync::ledger::Ledger;
 use step_counter::Steps;
 use tdp_core::RawTree;
 
-// Whether a row of a node has the link that a row of the node's parent names. Both are told by their places.
+/// Whether a row of a node has the link that a row of the node's parent names. Both are told by their places.
 fn is_linked<R: Rank>(raw: &RawTree<R>, node: u32, above: u32, place: u32) -> bool
     requires below_root { 0 < node }
     requires node { node < length raw.now.shapes }

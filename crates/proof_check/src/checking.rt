@@ -1,6 +1,6 @@
 //! Whether a certificate is valid.
 ghost use Rattle.std.specs.Prelude.{◌≡◌, ◌≤◌, ◌<◌, ℕ, length, map, take, IfErr, IfOk, OnOk, Ok};
-ghost use Rattle.query_bind.specs.WeighedQuery.{Fits};
+ghost use Rattle.bound_query.specs.WeighedQuery.{Fits};
 ghost use Rattle.query_shape.specs.Shape.{IsShape, Shape};
 ghost use Rattle.query_shape.specs.JoinTreeView.{HasItems, HasStoredTree};
 ghost use Rattle.join_tree.specs.Rerooting.{IsTree};
@@ -12,18 +12,18 @@ ghost use Rattle.proof_model.specs.Valid.{IsValid};
 ghost use Rattle.proof_check.specs.RowLists.{item_rows, list_at};
 ghost use Rattle.proof_text.specs.declared.fault.ProofFault.TheVariants.{NoMemory};
 
-use csv_tables::Tables;
+use bound_query::Query;
 use join_tree::JoinTree;
 use proof_answers::placed_answers;
 use proof_bounds::BoundedTree;
 use proof_choices::check_choices;
 use proof_rows::bounded_tree;
 use proof_text::{Listed, Proof, ProofFault};
-use query_bind::Query;
 use rank_key::Rank;
 use std::alloc::Global;
 use std::sync::ledger::Ledger;
 use step_counter::Steps;
+use table_store::Tables;
 
 /// The answers of a certificate: for each the row of each item, from 1, and 0 past the last item. Ok exactly if the
 /// certificate is valid and at most 4,194,304 rows of all nodes pass, and else the first fault in the order of

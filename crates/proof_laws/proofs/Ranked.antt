@@ -10,7 +10,7 @@ use Rattle.anyk_model.specs.Query.{IsWitness, Query}
 use Rattle.anyk_model.specs.Output.{cut}
 use Rattle.anyk_model.specs.Ranking.{ranking_of}
 use Rattle.anyk_model.proofs.Exists.{ranking_is}
-use Rattle.query_bind.specs.Inside.{IsWithin}
+use Rattle.bound_query.specs.Inside.{IsWithin}
 use Rattle.query_shape.specs.Shape.{HasTree}
 use Rattle.witness_key.specs.WitnessKey.{witness_key}
 use Rattle.witness_key.proofs.Rankings.{keys_tell_witnesses_lem, witness_length}

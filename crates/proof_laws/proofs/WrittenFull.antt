@@ -12,7 +12,7 @@ use Rattle.anyk_model.specs.Output.{cut}
 use Rattle.anyk_model.specs.Ranking.{IsBefore, Precedes, ranking_of}
 use Rattle.anyk_model.proofs.Exists.{ranking_is}
 use Rattle.anyk_model.proofs.Order.{before_irrefl}
-use Rattle.query_bind.specs.Inside.{IsWithin}
+use Rattle.bound_query.specs.Inside.{IsWithin}
 use Rattle.query_shape.specs.Shape.{HasTree}
 use Rattle.step_bounds.specs.Steps.{reaches}
 use Rattle.witness_key.specs.WitnessKey.{witness_key}

@@ -8,7 +8,7 @@ use Rattle.anyk_model.specs.Table.{Table}
 use Rattle.anyk_model.specs.Query.{Query}
 use Rattle.anyk_model.specs.Output.{cut}
 use Rattle.anyk_model.specs.Ranking.{ranking_of}
-use Rattle.query_bind.specs.Inside.{IsWithin}
+use Rattle.bound_query.specs.Inside.{IsWithin}
 use Rattle.query_shape.specs.Shape.{HasNodeRows, HasShape, HasTree, Shape}
 use Rattle.query_shape.proofs.OneShape.{one_tree}
 use Rattle.step_bounds.specs.Steps.{reaches}

@@ -4,7 +4,7 @@ use Rattle.anyk_model.specs.Table.{Table}
 use Rattle.anyk_model.specs.Query.{IsWitness, Query}
 use Rattle.anyk_model.specs.Output.{cut}
 use Rattle.anyk_model.specs.Ranking.{ranking_of}
-use Rattle.query_bind.specs.Inside.{IsWithin}
+use Rattle.bound_query.specs.Inside.{IsWithin}
 use Rattle.query_shape.specs.Shape.{HasTree}
 use Rattle.witness_key.specs.WitnessKey.{witness_key}
 use Rattle.proof_text.specs.Certificate.{AnswerLine, Certificate}

@@ -3,9 +3,9 @@ use Rattle.std.proofs.Common.{◌≡◌, ◌↔◌, ◌<◌, ◌≤◌, ℕ, suc
 use Rattle.rankings.specs.Order.{IsMember}
 use Rattle.anyk_model.specs.Table.{Table}
 use Rattle.anyk_model.specs.Query.{Query, Column, Equality}
-use Rattle.query_bind.specs.Classes.{AreVariables, HasVariable, IsLeast, IsShared, Linked, Passes, row_field, same, variable_at}
-use Rattle.query_bind.proofs.Least.{at_member, has_least, shared_along}
-use Rattle.query_bind.proofs.Witness.{linked_append, linked_back, texts_stable}
+use Rattle.bound_query.specs.Classes.{AreVariables, HasVariable, IsLeast, IsShared, Linked, Passes, row_field, same, variable_at}
+use Rattle.bound_query.proofs.Least.{at_member, has_least, shared_along}
+use Rattle.bound_query.proofs.Witness.{linked_append, linked_back, texts_stable}
 use Rattle.proof_model.specs.QueryProblem.{RowsEqual, RowsMatch}
 
 abbrev column : ℕ → ℕ → Column

@@ -12,7 +12,7 @@ use Rattle.tdp_model.proofs.KeyNumbers.{slot_of_lists}
 use Rattle.tdp_model.proofs.KeyTuples.{slot_of_add, slot_of_none}
 use Rattle.anyk_model.specs.Table.{Table}
 use Rattle.anyk_model.specs.Query.{Query}
-use Rattle.query_bind.specs.Weights.{part_of}
+use Rattle.bound_query.specs.Weights.{part_of}
 use Rattle.query_shape.specs.Shape.{HasTree}
 use Rattle.proof_model.specs.Problem.{Problem}
 use Rattle.proof_model.specs.QueryProblem.{problem_of}

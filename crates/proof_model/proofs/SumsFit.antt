@@ -19,13 +19,13 @@ use Rattle.tdp_model.proofs.Ranges as ranges
 use Rattle.rank_key.specs.Keys.{IsInRange}
 use Rattle.anyk_model.specs.Table.{Table, most_rows, table_at}
 use Rattle.anyk_model.specs.Query.{OrderKey}
-use Rattle.csv_tables.specs.Tables.{IsSound}
-use Rattle.csv_tables.proofs.Places.{sound_few_rows}
-use Rattle.query_bind.specs.Parts.{sum_of_all}
-use Rattle.query_bind.specs.WeighedQuery.{BoundQuery, Fits}
-use Rattle.query_bind.specs.Weights.{cap_of, key_at, part_of}
-use Rattle.query_bind.proofs.Parts.{nat_abs_add, part_capped}
-use Rattle.query_bind.proofs.Range.{caps_fit}
+use Rattle.table_store.specs.Tables.{IsSound}
+use Rattle.table_store.proofs.Places.{sound_few_rows}
+use Rattle.bound_query.specs.Parts.{sum_of_all}
+use Rattle.bound_query.specs.WeighedQuery.{BoundQuery, Fits}
+use Rattle.bound_query.specs.Weights.{cap_of, key_at, part_of}
+use Rattle.bound_query.proofs.Parts.{nat_abs_add, part_capped}
+use Rattle.bound_query.proofs.Range.{caps_fit}
 use Rattle.query_shape.specs.Shape.{HasTree}
 use Rattle.step_bounds.proofs.NodeSums.{AreApart, fewer_nodes, over, sum_range}
 use Rattle.proof_model.specs.Problem.{Problem}

@@ -1,5 +1,6 @@
 -- The faults that are told of a certificate.
 use Rattle.std.specs.Prelude.{◌≡◌, suc, List, Ok, Err}
+use Rattle.tdp_model.specs.NodeRows.{most_node_rows}
 use Rattle.anyk_model.specs.Table.{Table}
 use Rattle.anyk_model.specs.Query.{Query}
 use Rattle.join_tree.specs.declared.tree.JoinTree.{JoinTree}
@@ -36,7 +37,7 @@ module _ (query : Query) (tables : List Table) (join : JoinTree) (c : Certificat
   TellsFlaw fault.NoMemory = Unit {0}
   TellsFlaw fault.BadHeader = ⊥
   TellsFlaw (fault.BadLine n) = ⊥
-  TellsFlaw (fault.TooManyRows most) = (most ≡ 4194304) × IsShape query tables (Err too_many_rows)
+  TellsFlaw (fault.TooManyRows most) = (most ≡ most_node_rows) × IsShape query tables (Err too_many_rows)
   TellsFlaw (fault.BadBound n) = TellsFirst (fault.BadBound n)
   TellsFlaw (fault.BoundTwice n) = TellsFirst (fault.BoundTwice n)
   TellsFlaw (fault.Weak n) = TellsFirst (fault.Weak n)

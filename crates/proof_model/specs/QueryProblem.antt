@@ -4,8 +4,8 @@ use Rattle.join_tree.specs.declared.tree.JoinTree.{JoinTree}
 use Rattle.tdp_model.specs.KeyTuple.{KeyOf, key_below, key_add, key_none}
 use Rattle.anyk_model.specs.Table.{Table}
 use Rattle.anyk_model.specs.Query.{Query, item_table}
-use Rattle.query_bind.specs.Classes.{Linked, IsShared, Passes, row_field}
-use Rattle.query_bind.specs.Weights.{part_of}
+use Rattle.bound_query.specs.Classes.{Linked, IsShared, Passes, row_field}
+use Rattle.bound_query.specs.Weights.{part_of}
 use Rattle.rank_key.specs.Keys.{row_key}
 use Rattle.proof_model.specs.Problem.{Problem}
 

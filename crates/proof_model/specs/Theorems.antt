@@ -7,7 +7,7 @@ use Rattle.rankings.specs.Order.{IsRanking}
 use Rattle.tdp_model.specs.KeyTuple.{KeyOf, key_add, key_below, key_none}
 use Rattle.tdp_model.specs.TreeProblem.{sum_from}
 use Rattle.rank_key.specs.Keys.{IsInRange}
-use Rattle.query_bind.specs.WeighedQuery.{BoundQuery, Fits}
+use Rattle.bound_query.specs.WeighedQuery.{BoundQuery, Fits}
 use Rattle.query_shape.specs.Shape.{HasTree}
 use Rattle.proof_text.specs.Certificate.{Certificate}
 use Rattle.proof_model.specs.ProofTexts.{IsProofText}

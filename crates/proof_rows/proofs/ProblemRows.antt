@@ -6,11 +6,11 @@ use Rattle.anyk_model.specs.Table.{Table}
 use Rattle.anyk_model.specs.Query.{OrderKey}
 use Rattle.join_tree.specs.declared.tree.JoinTree.{JoinTree}
 use Rattle.tdp_model.specs.KeyTuple.{KeyOf}
-use Rattle.tdp_model.proofs.Keys.{get_member, member_get}
+use Rattle.rankings.proofs.Members.{get_member, member_get}
 use Rattle.rank_key.specs.Keys.{row_key}
 use Rattle.tdp_core.specs.RawData.{RawData, child_link, own_link, raw_len, raw_number, row_total, rows_at, shape_child_place}
-use Rattle.query_bind.specs.WeighedQuery.{BoundQuery, Fits}
-use Rattle.query_bind.specs.Weights.{part_of}
+use Rattle.bound_query.specs.WeighedQuery.{BoundQuery, Fits}
+use Rattle.bound_query.specs.Weights.{part_of}
 use Rattle.query_shape.specs.Shape.{IsShape, Shape, too_many_rows}
 use Rattle.query_shape.specs.JoinTreeView.{HasStoredTree}
 use Rattle.node_build.specs.Nodes.{IsBuilt, PassesBudget, item_of, parent_of, row_parts}

@@ -1,6 +1,6 @@
 //! The bounds of a certificate beside the rows of a query.
 ghost use Rattle.std.specs.Prelude.{◌≡◌, ◌≤◌, ◌<◌, ℕ, length, IfErr, IfOk};
-ghost use Rattle.query_bind.specs.WeighedQuery.{Fits};
+ghost use Rattle.bound_query.specs.WeighedQuery.{Fits};
 ghost use Rattle.query_shape.specs.JoinTreeView.{HasItems, HasStoredTree};
 ghost use Rattle.join_tree.specs.Rerooting.{IsTree};
 ghost use Rattle.node_build.specs.Nodes.{CapsBelow};
@@ -9,15 +9,15 @@ ghost use Rattle.proof_model.specs.Faults.{TellsFlaw};
 ghost use Rattle.proof_bounds.specs.BoundedRows.{IsBounded};
 
 use crate::rows::query_rows;
-use csv_tables::Tables;
+use bound_query::Query;
 use join_tree::JoinTree;
 use proof_bounds::{BoundedTree, with_bounds};
 use proof_text::{Proof, ProofFault};
-use query_bind::Query;
 use rank_key::Rank;
 use std::alloc::Global;
 use std::sync::ledger::Ledger;
 use step_counter::Steps;
+use table_store::Tables;
 
 /// The rows of a query's nodes with the bounds of a certificate. `TooManyRows` exactly if more than 4,194,304 rows of
 /// all nodes pass; then `BadBound` and `BoundTwice`, each exactly if it tells the first flaw. `NoMemory` if memory is

@@ -1,6 +1,6 @@
 //! The rows of the nodes of a query that pass.
 ghost use Rattle.std.specs.Prelude.{◌≡◌, ◌≤◌, length, IfErr, IfOk, OnOk, Ok};
-ghost use Rattle.query_bind.specs.WeighedQuery.{Fits};
+ghost use Rattle.bound_query.specs.WeighedQuery.{Fits};
 ghost use Rattle.query_shape.specs.Shape.{IsShape, Shape};
 ghost use Rattle.query_shape.specs.JoinTreeView.{HasStoredTree};
 ghost use Rattle.node_build.specs.Nodes.{CapsBelow};
@@ -8,19 +8,19 @@ ghost use Rattle.proof_text.specs.Certificate.{Certificate};
 ghost use Rattle.proof_model.specs.Faults.{TellsFlaw};
 ghost use Rattle.proof_bounds.specs.BoundedRows.{HasProblemRows};
 
-use csv_tables::Tables;
+use bound_query::Query;
 use join_tree::JoinTree;
 use node_build::{BuildFault, build};
 use proof_text::ProofFault;
-use query_bind::Query;
 use rank_key::Rank;
 use std::alloc::Global;
 use std::sync::ledger::Ledger;
 use step_counter::Steps;
+use table_store::Tables;
 use tdp_core::RawTree;
 
 /// The greatest number of rows of all nodes of a join tree together.
-const MOST_NODE_ROWS: u32 = 4_194_304;
+const MAX_NODE_ROWS: u32 = 4_194_304;
 
 /// The raw tree of a query. `TooManyRows` exactly if more than 4,194,304 rows of all nodes pass, and `NoMemory` if
 /// memory is refused.
@@ -42,12 +42,12 @@ pub(crate) fn query_rows<R: Rank, L: Ledger>(
     ensures fault { IfErr result
         (λ told. (c : Certificate) → TellsFlaw query.now.query tables.now join.now c told) }
 {
-    match build(alloc, query, tables, join, MOST_NODE_ROWS as u64, steps) {
+    match build(alloc, query, tables, join, MAX_NODE_ROWS as u64, steps) {
         Ok(built) => {
             let _nodes = built.tree.nodes();
             Ok(built.tree)
         }
-        Err(BuildFault::TooManyRows(_)) => Err(ProofFault::TooManyRows(MOST_NODE_ROWS)),
+        Err(BuildFault::TooManyRows(_)) => Err(ProofFault::TooManyRows(MAX_NODE_ROWS)),
         Err(BuildFault::NoMemory) => Err(ProofFault::NoMemory),
     }
 }

@@ -6,7 +6,8 @@ use Rattle.hyper_graph.proofs.Bits.{in_below}
 use Rattle.hyper_graph.specs.Graph.{is_in}
 use Rattle.hyper_graph.specs.Items.{items_below, items_of}
 use Rattle.rankings.specs.Order.{IsMember, IsAscending}
-use Rattle.query_bind.proofs.Lists.{ascending_filter, below_all, below_each, kept_member, member_kept, member_map, member_unmap}
+use Rattle.rankings.proofs.Ascending.{ascending_filter, below_all}
+use Rattle.rankings.proofs.Members.{below_member, kept_member, member_kept, member_map, member_unmap}
 use Rattle.query_shape.specs.Shape.{IsInCore}
 
 range_bounds : (a n k : ℕ) → IsMember k (range_with_len a n) → (a ≤ k) × (k < a + n)
@@ -33,7 +34,7 @@ next_ascending : (xs : List ℕ) → IsAscending (λ x y. x < y) xs → IsAscend
 next_ascending [] h = tt
 next_ascending (x ∷ xs) h = (
   below_all (λ x y. x < y) (x + 1) (map (λ p. p + 1) xs)
-      (λ y m. let (p, n, e) = member_unmap (λ (p : ℕ). p + 1) y xs m in omega (arith, e, below_each (λ x y. x < y) x xs p h.0 n)),
+      (λ y m. let (p, n, e) = member_unmap (λ (p : ℕ). p + 1) y xs m in omega (arith, e, below_member (λ x y. x < y) x p xs h.0 n)),
   next_ascending xs h.1,
 )
 

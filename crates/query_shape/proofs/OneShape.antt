@@ -12,10 +12,11 @@ use Rattle.anyk_model.specs.Table.{Table}
 use Rattle.anyk_model.specs.Query.{Query, Column, Equality}
 use Rattle.rankings.specs.Order.{IsMember, IsAscending}
 use Rattle.rankings.proofs.Unique.{ascending_unique_lem}
-use Rattle.query_bind.specs.Classes.{AreVariables, ColumnBefore, HasVariable}
-use Rattle.query_bind.specs.Graph.{IsGraphOf}
-use Rattle.query_bind.specs.Parts.{sum_of_all}
-use Rattle.query_shape.specs.Shape.{Flaw, cyclic, too_many_rows, IsInCore, IsCyclic, Shape, HasNodeRows, HasTree, HasShape, IsShape, most_node_rows}
+use Rattle.bound_query.specs.Classes.{AreVariables, ColumnBefore, HasVariable}
+use Rattle.bound_query.specs.Graph.{IsGraphOf}
+use Rattle.bound_query.specs.Parts.{sum_of_all}
+use Rattle.query_shape.specs.Shape.{Flaw, cyclic, too_many_rows, IsInCore, IsCyclic, Shape, HasNodeRows, HasTree, HasShape, IsShape}
+use Rattle.tdp_model.specs.NodeRows.{most_node_rows}
 use Rattle.query_shape.proofs.Alike.{runs_same, ends_same, core_same}
 
 before_asym : (a b : Column) → ColumnBefore a b → ColumnBefore b a → ⊥

@@ -3,9 +3,9 @@ use Rattle.std.specs.Prelude.{ℕ, ◌+◌, ◌==◌, if◌then◌else◌, List,
 use Rattle.std.specs.List.{flat_map, range_with_len}
 use Rattle.anyk_model.specs.Query.{Query, row_counts}
 use Rattle.anyk_model.specs.Table.{Table}
-use Rattle.query_bind.specs.Names.{item_at}
-use Rattle.query_bind.specs.Parts.{sum_of_all}
-use Rattle.query_grammar.specs.Text.{name_text_of}
+use Rattle.bound_query.specs.Items.{item_at}
+use Rattle.bound_query.specs.Parts.{sum_of_all}
+use Rattle.query_tokens.specs.Text.{name_text_of}
 use Rattle.query_shape.specs.Shape.{Shape}
 
 -- nodes count from 1, and the parent of the first is 0

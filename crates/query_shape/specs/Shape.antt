@@ -1,15 +1,16 @@
 -- The join tree of a query, and its node rows. These are relations, since the classes of columns
 -- are given by a closure and not computed.
 use Rattle.std.specs.Prelude.{◌≡◌, ◌↔◌, ℕ, ◌+◌, ◌<◌, ◌≤◌, List, length, slice_index, Result, Ok, Err}
+use Rattle.tdp_model.specs.NodeRows.{most_node_rows}
 use Rattle.hyper_graph.specs.Graph.{Hypergraph, IsIn}
 use Rattle.hyper_graph.specs.JoinTrees.{IsJoinTree, HasJoinTree}
 use Rattle.join_tree.specs.Removal.{IsRemoval, IsTreeOf}
 use Rattle.anyk_model.specs.Table.{Table}
 use Rattle.anyk_model.specs.Query.{Query, item_table}
 use Rattle.rankings.specs.Order.{IsMember, IsAscending}
-use Rattle.query_bind.specs.Classes.{Passes}
-use Rattle.query_bind.specs.Graph.{IsGraphOf}
-use Rattle.query_bind.specs.Parts.{sum_of_all}
+use Rattle.bound_query.specs.Classes.{Passes}
+use Rattle.bound_query.specs.Graph.{IsGraphOf}
+use Rattle.bound_query.specs.Parts.{sum_of_all}
 
 -- why a query has no shape: its core, as items from 1, or too many node rows
 pub data Flaw : Type 0 where
@@ -67,10 +68,6 @@ pub record HasShape (query : Query) (tables : List Table) (shape : Shape) : Type
   pub counts : length shape.node_rows ≡ length shape.atoms
   pub rows : (k : ℕ) → k < length shape.atoms
       → HasNodeRows query tables (slice_index shape.atoms k) (slice_index shape.node_rows k)
-
--- the greatest number of node rows, of all nodes together
-abbrev pub most_node_rows : ℕ
-most_node_rows = 4194304
 
 -- the shape, or no join tree exists, or there are too many node rows
 abbrev pub IsShape : Query → List Table → Result Shape Flaw → Type 0

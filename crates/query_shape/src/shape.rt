@@ -2,12 +2,12 @@
 ghost use Rattle.std.specs.Prelude.{◌≡◌, IfErr, IfOk, List, length};
 ghost use Rattle.anyk_model.specs.Table.{Table};
 ghost use Rattle.join_tree.specs.Rerooting.{IsTree};
-ghost use Rattle.query_bind.specs.WeighedQuery.{Fits};
+ghost use Rattle.bound_query.specs.WeighedQuery.{Fits};
 ghost use Rattle.query_shape.specs.JoinTreeView.{HasItems, HasStoredTree, TellsCycle};
 
 use crate::fault::ShapeFault;
+use bound_query::Query;
 use join_tree::{JoinTree, ears, tree_of};
-use query_bind::Query;
 
 /// The join tree of a query, by ear removal. Its atoms are the items, from 0. `Cyclic` exactly if
 /// there is none, and `NoMemory` if memory is refused.

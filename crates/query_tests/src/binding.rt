@@ -1,13 +1,14 @@
 //! What queries are bound to, and why some cannot be bound.
 ghost use Rattle.std.specs.Prelude.{◌≡◌, ◌<◌, ◌≤◌, length};
 ghost use Rattle.std.specs.List.{AllByRecursion};
-ghost use Rattle.query_bind.specs.WeighedQuery.{Fits};
+ghost use Rattle.bound_query.specs.WeighedQuery.{Fits};
 
 use crate::fixtures::{R, S, parse_small, read_two};
-use csv_tables::Tables;
-use query_bind::{BindFault, Query, bind};
+use bound_query::Query;
+use query_bind::{BindFault, bind};
 use query_select::select::Select;
 use std::alloc::Global;
+use table_store::Tables;
 
 const PAIRS: &[u8] = b"p,q\n1,1\n1,2\n";
 
@@ -19,7 +20,7 @@ const LEAST: &[u8] = b"a,b,w\n1,x,-170141183460469231731687303715884105728\n";
 
 const SUM: &[u8] = b"select R.a from R, S where R.b = S.b order by R.w + S.w";
 
-// What a bound query returns.
+/// What a bound query returns.
 #[derive(Clone, Copy)]
 struct Bound {
     // How many items, keys and variables there are.
@@ -71,7 +72,7 @@ fn graph(query: &Query, _tables: &Tables) -> [u16; 3]
     first
 }
 
-// Whether there is such a row, and it passes.
+/// Whether there is such a row, and it passes.
 fn passes(query: &Query, tables: &Tables, item: u32, row: u32) -> bool
     requires { Fits query.now tables.now }
 {
@@ -82,7 +83,7 @@ fn passes(query: &Query, tables: &Tables, item: u32, row: u32) -> bool
     table < tables.count() && row <= tables.len(table) && query.passes(tables, item, row)
 }
 
-// What the last row of an item adds to a key, or 0 if there is none.
+/// What the last row of an item adds to a key, or 0 if there is none.
 fn part(query: &Query, tables: &Tables, item: u32, key: u32) -> i128
     requires { Fits query.now tables.now }
 {
@@ -96,7 +97,7 @@ fn part(query: &Query, tables: &Tables, item: u32, key: u32) -> i128
     query.part(tables, item, tables.len(table), key)
 }
 
-// The most that a row of an item adds to a key, or 0 if there is no such item or key.
+/// The most that a row of an item adds to a key, or 0 if there is no such item or key.
 fn cap(query: &Query, _tables: &Tables, item: u32, key: u32) -> u128
     requires { Fits query.now _tables.now }
 {
@@ -150,7 +151,7 @@ fn tell(alloc: Global, query: &Query, tables: &Tables) -> Bound
     }
 }
 
-// What a query bound to these tables returns, or why it is refused.
+/// What a query bound to these tables returns, or why it is refused.
 fn told_of(
     alloc: Global,
     select: &Select,
@@ -181,7 +182,7 @@ fn told_over(
     Some(told_of(alloc, &select, tables, which))
 }
 
-// The same over the tables of two files.
+/// The same over the tables of two files.
 fn told(
     alloc: Global,
     files: (&[u8], &[u8]),
@@ -196,7 +197,7 @@ fn told(
     told_over(alloc, &tables, text, which)
 }
 
-// What the query returns, if it can be bound.
+/// What the query returns, if it can be bound.
 fn told_if_bound(alloc: Global, files: (&[u8], &[u8]), text: &[u8], which: &[u32]) -> Option<Bound>
     requires few { length which.now ≤ 16 }
     requires known { AllByRecursion (λ t. t < 2) which.now }
@@ -294,7 +295,7 @@ fn takes_constants_as_filters(rt: HostRuntime) {
     assert!(rt; none.passes[0] == [false, false]);
 }
 
-// Why the query is refused, if it is.
+/// Why the query is refused, if it is.
 fn fault_of(alloc: Global, files: (&[u8], &[u8]), text: &[u8]) -> Option<BindFault> {
     told(alloc, files, text, &[0, 1])?.err()
 }
@@ -336,7 +337,7 @@ fn refuses_weights_and_their_sums(rt: HostRuntime) {
     assert!(rt; fault == Some(BindFault::RankRange(2)));
 }
 
-// What the last row of each of two items adds to the first key, and the most that a row adds.
+/// What the last row of each of two items adds to the first key, and the most that a row adds.
 fn weights(alloc: Global, files: (&[u8], &[u8]), text: &[u8]) -> Option<([i128; 2], [u128; 2])> {
     let told = told_if_bound(alloc, files, text, &[0, 1])?;
     Some((

@@ -9,7 +9,7 @@ const QUERY: &str =
 const SPREAD: &str =
     "select R . a ,\tS.c\nfrom R,S as T\r\nwhere R.b=T.b and T.c='x'\n order by R.w-T.w desc,  R.a limit  3 ";
 
-// Each differs in a name, a constant, a sign, a direction or a limit.
+/// Each differs in a name, a constant, a sign, a direction or a limit.
 const OTHERS: &[&str] = &[
     "select R.A, S.c from R, S as T where R.b = T.b and T.c = 'x' order by R.w - T.w desc, R.a limit 3",
     "select R.a, S.c from R, S as T where R.b = T.b and T.c = 'y' order by R.w - T.w desc, R.a limit 3",
@@ -20,7 +20,7 @@ const OTHERS: &[&str] = &[
     "select * from R, S as T where R.b = T.b and T.c = 'x' order by R.w - T.w desc, R.a limit 3",
 ];
 
-// Whether the text is this query. `None` if it is not a query.
+/// Whether the text is this query. `None` if it is not a query.
 fn is_query(alloc: Global, query: &Select, text: &str) -> Option<bool> {
     match parse(alloc, text.as_bytes()) {
         Ok(other) => Some(*query == other),
@@ -28,7 +28,7 @@ fn is_query(alloc: Global, query: &Select, text: &str) -> Option<bool> {
     }
 }
 
-// Whether each of the texts is another query.
+/// Whether each of the texts is another query.
 fn are_others(alloc: Global, query: &Select, texts: &[&str]) -> bool {
     for text in texts {
         if is_query(alloc, query, text) != Some(false) {

@@ -1,10 +1,11 @@
 //! Two small tables and a small query, of sizes that binding takes.
 ghost use Rattle.std.specs.Prelude.{◌≡◌, ◌≤◌, [], length, IfSome, OnOk};
 
-use csv_tables::{TableFault, Tables};
+use csv_tables::TableFault;
 use query_grammar::parse;
 use query_select::select::Select;
 use std::alloc::Global;
+use table_store::Tables;
 
 pub(crate) const R: &[u8] = b"a,b,w\n1,x,3\n2,y,1\n3,x,1\n";
 
@@ -18,8 +19,8 @@ pub(crate) fn read_two(tables: &mut Tables, files: (&[u8], &[u8])) -> Result<(),
     if files.0.len() > 1000 || files.1.len() > 1000 {
         return Err(TableFault::NoMemory);
     }
-    tables.read(files.0)?;
-    tables.read(files.1)?;
+    csv_tables::read_table(tables, files.0)?;
+    csv_tables::read_table(tables, files.1)?;
     Ok(())
 }
 

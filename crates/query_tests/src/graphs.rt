@@ -4,7 +4,7 @@ ghost use Rattle.std.specs.Prelude.{◌≡◌, [], ◌∷◌};
 use hyper_graph::{Graph, all_below, contains, least, without};
 use std::alloc::Global;
 
-// Two relations that share a variable: each is an ear of the other.
+/// Two relations that share a variable: each is an ear of the other.
 fn is_chain(graph: &Graph) -> bool
     requires { graph.now ≡ record { atoms = 2; vars = 3 ∷ [] } }
 {
@@ -29,7 +29,7 @@ fn reads_a_chain(rt: HostRuntime) {
     assert!(rt; chain_is_read(rt.alloc()));
 }
 
-// Atoms A to E, with y in A, B and D, z in B and C, x in C, A and E, and w in D and E: no ear.
+/// Atoms A to E, with y in A, B and D, z in B and C, x in C, A and E, and w in D and E: no ear.
 fn has_no_ear(graph: &Graph) -> bool
     requires { graph.now ≡ record { atoms = 5; vars = 11 ∷ 6 ∷ 21 ∷ 24 ∷ [] } }
 {
@@ -41,7 +41,7 @@ fn has_no_ear(graph: &Graph) -> bool
         && graph.is_ear(4, 0b11111).is_none()
 }
 
-// Without E, the atom D of that graph shares only y, which A has. D and E are linked only in the first tree.
+/// Without E, the atom D of that graph shares only y, which A has. D and E are linked only in the first tree.
 fn has_links(graph: &Graph) -> bool
     requires { graph.now ≡ record { atoms = 5; vars = 11 ∷ 6 ∷ 21 ∷ 24 ∷ [] } }
 {
@@ -64,7 +64,7 @@ fn finds_no_ear_of_five(rt: HostRuntime) {
     assert!(rt; five_are_linked_without_ear(rt.alloc()));
 }
 
-// Atoms without common variables are ears of each other.
+/// Atoms without common variables are ears of each other.
 fn is_apart(graph: &Graph) -> bool
     requires { graph.now ≡ record { atoms = 3; vars = [] } }
 {

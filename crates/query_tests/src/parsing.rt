@@ -3,7 +3,7 @@ use query_grammar::parse_all;
 use query_parse::{ParseFault, Select, SelectList, Side, name_text, parse, text};
 use std::alloc::{AllocError, Global};
 
-// Whether a text is refused with this fault.
+/// Whether a text is refused with this fault.
 fn has_fault(alloc: Global, query: &[u8], fault: &ParseFault) -> bool {
     match parse(alloc, query) {
         Ok(_) => false,
@@ -11,7 +11,7 @@ fn has_fault(alloc: Global, query: &[u8], fault: &ParseFault) -> bool {
     }
 }
 
-// The same for a text of this many spaces.
+/// The same for a text of this many spaces.
 fn have_fault(alloc: Global, spaces: usize, fault: &ParseFault) -> Result<bool, AllocError> {
     let text = vec![in alloc; b' '; spaces]?;
     Ok(has_fault(alloc, text.as_slice(), fault))
@@ -46,7 +46,7 @@ const FAULTS: &[(&str, ParseFault)] = &[
     ),
 ];
 
-// The place of the first text that has another fault, or none.
+/// The place of the first text that has another fault, or none.
 fn first_failing(alloc: Global, texts: &[(&str, ParseFault)]) -> Option<usize> {
     for (i, (query, fault)) in texts.iter().enumerate() {
         if !has_fault(alloc, query.as_bytes(), fault) {
@@ -64,7 +64,7 @@ fn faults_have_their_places(rt: HostRuntime) {
     assert!(rt; have_fault(alloc, 65_536, &ParseFault::Syntax(65_536)) == Ok(true));
 }
 
-// Whether a text of several queries is refused with this fault.
+/// Whether a text of several queries is refused with this fault.
 fn has_fault_of_all(alloc: Global, queries: &[u8], fault: &ParseFault) -> bool {
     match parse_all(alloc, queries) {
         Ok(_) => false,
@@ -72,7 +72,7 @@ fn has_fault_of_all(alloc: Global, queries: &[u8], fault: &ParseFault) -> bool {
     }
 }
 
-// The same for one branch and this many more.
+/// The same for one branch and this many more.
 fn have_fault_of_all(alloc: Global, more: u32, fault: &ParseFault) -> Result<bool, AllocError> {
     let mut queries = String::from_str(alloc, "select a from R")?;
     for _ in 0..more {
@@ -116,7 +116,7 @@ const FAULTS_OF_ALL: &[(&str, ParseFault)] = &[
     ),
 ];
 
-// The place of the first text of several queries that has another fault, or none.
+/// The place of the first text of several queries that has another fault, or none.
 fn first_failing_of_all(alloc: Global, texts: &[(&str, ParseFault)]) -> Option<usize> {
     for (i, (queries, fault)) in texts.iter().enumerate() {
         if !has_fault_of_all(alloc, queries.as_bytes(), fault) {
@@ -133,7 +133,7 @@ fn faults_of_several_queries_have_their_places(rt: HostRuntime) {
     assert!(rt; have_fault_of_all(alloc, 8, &ParseFault::TooManyBranches) == Ok(true));
 }
 
-// How many items each branch has, if there are two.
+/// How many items each branch has, if there are two.
 fn items_of_two(branches: &[Select]) -> Option<[usize; 2]> {
     let [first, second] = branches else {
         return None;
@@ -141,7 +141,7 @@ fn items_of_two(branches: &[Select]) -> Option<[usize; 2]> {
     Some([first.items.as_slice().len(), second.items.as_slice().len()])
 }
 
-// Whether a text has two queries with these numbers of items, and this limit.
+/// Whether a text has two queries with these numbers of items, and this limit.
 fn are_two(alloc: Global, queries: &str, items: [usize; 2], limit: Option<u64>) -> bool {
     match parse_all(alloc, queries.as_bytes()) {
         Ok(all) => items_of_two(all.branches.as_slice()) == Some(items) && all.limit == limit,
@@ -178,7 +178,7 @@ const TWO_QUERIES: &[(&str, [usize; 2], Option<u64>)] = &[
     ),
 ];
 
-// The place of the first text that has other queries, or none.
+/// The place of the first text that has other queries, or none.
 fn first_read_otherwise(alloc: Global, texts: &[(&str, [usize; 2], Option<u64>)]) -> Option<usize> {
     for (i, text) in texts.iter().enumerate() {
         let (queries, items, limit) = *text;
@@ -194,7 +194,7 @@ fn two_queries_are_read(rt: HostRuntime) {
     assert_eq!(rt; first_read_otherwise(rt.alloc(), TWO_QUERIES), None);
 }
 
-// Whether a text has one query, and it is read with this limit of the whole.
+/// Whether a text has one query, and it is read with this limit of the whole.
 fn is_one_with_limit(alloc: Global, query: &str, limit: Option<u64>) -> bool {
     match parse_all(alloc, query.as_bytes()) {
         Ok(all) => all.branches.as_slice().len() == 1 && all.limit == limit,
@@ -209,7 +209,7 @@ fn one_query_is_read_as_one_branch(rt: HostRuntime) {
     assert!(rt; is_one_with_limit(alloc, "select a from R", None));
 }
 
-// Where the selected columns and the items begin, if there are two of each.
+/// Where the selected columns and the items begin, if there are two of each.
 fn places(select: &Select) -> Option<[u32; 4]> {
     let SelectList::Columns(list) = &select.list else {
         return None;
@@ -223,7 +223,7 @@ fn places(select: &Select) -> Option<[u32; 4]> {
     Some([first.at, second.at, left.at, right.at])
 }
 
-// Whether the first item of a query is this table, and its last equality is with this constant.
+/// Whether the first item of a query is this table, and its last equality is with this constant.
 fn names(select: &Select, table: &[u8], constant: &[u8]) -> bool {
     let [first, ..] = select.items.as_slice() else {
         return false;
@@ -240,7 +240,7 @@ fn names(select: &Select, table: &[u8], constant: &[u8]) -> bool {
 const FLIGHTS: &str =
     "SeLeCt a.dst, \"b\".\"d st\" FROM flights AS a INNER JOIN flights b ON a.dst = b.src\n\twhere 'O''slo' = a.src oRDER by -a.price + b.price dESC, x aSc LIMIT 007;";
 
-// Whether the query over flights is read.
+/// Whether the query over flights is read.
 fn is_read(alloc: Global) -> bool {
     match parse(alloc, FLIGHTS.as_bytes()) {
         Ok(select) => {
@@ -255,7 +255,7 @@ fn a_query_is_read(rt: HostRuntime) {
     assert!(rt; is_read(rt.alloc()));
 }
 
-// Whether this is the text that a query is written as.
+/// Whether this is the text that a query is written as.
 fn has_text(alloc: Global, query: &Select, wanted: &str) -> bool {
     match text(alloc, query) {
         Ok(written) => written.as_slice() == wanted.as_bytes(),
@@ -263,7 +263,7 @@ fn has_text(alloc: Global, query: &Select, wanted: &str) -> bool {
     }
 }
 
-// The same for the query of a text.
+/// The same for the query of a text.
 fn is_written_as(alloc: Global, query: &str, wanted: &str) -> bool {
     match parse(alloc, query.as_bytes()) {
         Ok(select) => has_text(alloc, &select, wanted),
@@ -290,7 +290,7 @@ const WRITTEN: &[(&str, &str)] = &[
     ),
 ];
 
-// The place of the first query that is written in another way, or whose text is not written as it is.
+/// The place of the first query that is written in another way, or whose text is not written as it is.
 fn first_written_otherwise(alloc: Global, queries: &[(&str, &str)]) -> Option<usize> {
     for (i, (query, wanted)) in queries.iter().enumerate() {
         if !is_written_as(alloc, query, wanted) || !is_written_as(alloc, wanted, wanted) {
@@ -321,7 +321,7 @@ fn is_name_written_as(alloc: Global, name: &str, wanted: &str) -> bool {
     }
 }
 
-// The place of the first name that is written in another way.
+/// The place of the first name that is written in another way.
 fn first_name_otherwise(alloc: Global, names: &[(&str, &str)]) -> Option<usize> {
     for (i, (name, wanted)) in names.iter().enumerate() {
         if !is_name_written_as(alloc, name, wanted) {

@@ -3,19 +3,19 @@ ghost use Rattle.std.specs.Prelude.{◌≡◌, ◌<◌, ◌≤◌, length};
 ghost use Rattle.std.specs.List.{AllByRecursion};
 
 use crate::fixtures::{R, S, parse_small, read_two};
-use csv_tables::Tables;
 use join_tree::JoinTree;
 use query_bind::bind;
 use query_select::select::Select;
 use query_shape::{ShapeFault, tree_shape};
 use std::alloc::Global;
+use table_store::Tables;
 
-// The number of nodes, the first two items, and the parent of the second.
+/// The number of nodes, the first two items, and the parent of the second.
 fn told(tree: &JoinTree) -> [u32; 4] {
     [tree.count, tree.atom[0], tree.atom[1], tree.parent[1]]
 }
 
-// What the join tree of a query tells, where it can be bound.
+/// What the join tree of a query tells, where it can be bound.
 fn tree_of_select(
     alloc: Global,
     tables: &Tables,
@@ -37,7 +37,7 @@ fn tree_of_select(
     }
 }
 
-// The same of the query of a text.
+/// The same of the query of a text.
 fn tree_of_text(
     alloc: Global,
     tables: &Tables,
@@ -52,7 +52,7 @@ fn tree_of_text(
     tree_of_select(alloc, tables, &select, which)
 }
 
-// The same over R and S.
+/// The same over R and S.
 fn tree(alloc: Global, text: &[u8], which: &[u32]) -> Option<Result<[u32; 4], ShapeFault>>
     requires few { length which.now ≤ 16 }
     requires known { AllByRecursion (λ t. t < 2) which.now }

@@ -10,7 +10,7 @@ use std::alloc::Global;
 use std::test::Fail;
 use step_counter::NoMemory;
 
-// The ears of the graph of this many atoms with these sets.
+/// The ears of the graph of this many atoms with these sets.
 fn ears_of(alloc: Global, atoms: u32, sets: &[u16]) -> Result<Ears, NoMemory>
     requires some { 1 ≤ atoms }
     requires few { atoms ≤ 16 }
@@ -54,7 +54,7 @@ fn reroots_a_path(rt: HostRuntime) -> Result<(), Fail> {
     Ok(())
 }
 
-// The atom that is reached from this one by going to the parent four times.
+/// The atom that is reached from this one by going to the parent four times.
 fn root_of(parents: &[u32; 4], atom: u32) -> u32 {
     let mut at = atom;
     for _ in 0..4 {
@@ -63,7 +63,7 @@ fn root_of(parents: &[u32; 4], atom: u32) -> u32 {
     at
 }
 
-// Whether every atom reaches one root, which is its own parent.
+/// Whether every atom reaches one root, which is its own parent.
 fn is_tree(parents: &[u32; 4]) -> bool {
     let root = root_of(parents, 0);
     parents[root as usize % 4] == root
@@ -76,7 +76,7 @@ fn is_in(set: u16, atom: u32) -> bool {
     set >> (atom % 4) & 1 == 1
 }
 
-// Whether a set of atoms is empty or connected in this tree: then it has one link fewer than atoms.
+/// Whether a set of atoms is empty or connected in this tree: then it has one link fewer than atoms.
 fn is_connected(parents: &[u32; 4], set: u16) -> bool {
     let mut atoms: u32 = 0;
     let mut links: u32 = 0;
@@ -92,7 +92,7 @@ fn is_connected(parents: &[u32; 4], set: u16) -> bool {
     atoms <= links.saturating_add(1)
 }
 
-// For each set of the four atoms, whether it is empty or connected in this tree.
+/// For each set of the four atoms, whether it is empty or connected in this tree.
 fn connected_sets(parents: &[u32; 4]) -> [bool; 16] {
     let mut connected = [false; 16];
     for set in 0..16u16 {
@@ -101,7 +101,7 @@ fn connected_sets(parents: &[u32; 4]) -> [bool; 16] {
     connected
 }
 
-// The connected sets of each tree of four atoms. A number of four digits to the base 4 names the parent of each atom.
+/// The connected sets of each tree of four atoms. A number of four digits to the base 4 names the parent of each atom.
 fn all_trees(alloc: Global) -> Result<Vec<[bool; 16]>, NoMemory> {
     let mut trees = Vec::new(alloc);
     for number in 0..256u32 {
@@ -113,14 +113,14 @@ fn all_trees(alloc: Global) -> Result<Vec<[bool; 16]>, NoMemory> {
     Ok(trees)
 }
 
-// Whether all three sets are among the connected ones.
+/// Whether all three sets are among the connected ones.
 fn connects(connected: &[bool; 16], sets: [u16; 3]) -> bool {
     connected[sets[0] as usize % 16]
         && connected[sets[1] as usize % 16]
         && connected[sets[2] as usize % 16]
 }
 
-// Whether the three sets are connected in one of the trees.
+/// Whether the three sets are connected in one of the trees.
 fn has_tree(trees: &[[bool; 16]], sets: [u16; 3]) -> bool {
     for connected in trees {
         if connects(connected, sets) {
@@ -130,7 +130,7 @@ fn has_tree(trees: &[[bool; 16]], sets: [u16; 3]) -> bool {
     false
 }
 
-// The parent of each of the four atoms in a tree of them.
+/// The parent of each of the four atoms in a tree of them.
 fn parents_of(tree: &JoinTree) -> [u32; 4] {
     let mut parents = [0; 4];
     for node in 0..4usize {
@@ -139,7 +139,7 @@ fn parents_of(tree: &JoinTree) -> [u32; 4] {
     parents
 }
 
-// Whether the tree of these variables is a join tree, or there is none and no tree is one.
+/// Whether the tree of these variables is a join tree, or there is none and no tree is one.
 fn is_right(alloc: Global, trees: &[[bool; 16]], x: u16, y: u16, z: u16) -> Result<bool, NoMemory>
     requires x { x < 16 }
     requires y { y < 16 }

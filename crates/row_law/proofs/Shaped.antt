@@ -9,8 +9,8 @@ use Rattle.hyper_graph.proofs.Bits.{in_all_below}
 use Rattle.hyper_graph.proofs.Graphs.{has_atom}
 use Rattle.join_tree.specs.Removal.{HasOne, IsLive, IsRun, IsStep, IsTreeOf}
 use Rattle.join_tree.proofs.FromRemoval.{removal_done, tree_from_removal}
-use Rattle.query_bind.specs.Classes.{AreVariables, ColumnBefore, HasVariable, IsFixedTo, IsLeast, IsShared, Linked, Passes, back, forth, row_field, same}
-use Rattle.query_bind.specs.Graph.{IsGraphOf}
+use Rattle.bound_query.specs.Classes.{AreVariables, ColumnBefore, HasVariable, IsFixedTo, IsLeast, IsShared, Linked, Passes, back, forth, row_field, same}
+use Rattle.bound_query.specs.Graph.{IsGraphOf}
 use Rattle.query_bind.proofs.Order.{before_self}
 use Rattle.query_shape.specs.Shape.{HasNodeRows, HasTree, IsShape, Shape}
 use Rattle.row_law.proofs.Loaded.{column, row_equality, row_query, row_tables}

@@ -8,8 +8,8 @@ use Rattle.hyper_graph.specs.Graph.{Hypergraph, IsGraph}
 use Rattle.hyper_graph.proofs.Bits.{in_all_below}
 use Rattle.join_tree.specs.Removal.{HasOne, IsRun, IsTreeOf}
 use Rattle.join_tree.proofs.FromRemoval.{removal_done, tree_from_removal}
-use Rattle.query_bind.specs.Classes.{AreVariables, IsFixedTo, IsShared, Linked, Passes, back, forth, row_field, same}
-use Rattle.query_bind.specs.Graph.{IsGraphOf}
+use Rattle.bound_query.specs.Classes.{AreVariables, IsFixedTo, IsShared, Linked, Passes, back, forth, row_field, same}
+use Rattle.bound_query.specs.Graph.{IsGraphOf}
 use Rattle.query_shape.specs.Shape.{HasNodeRows, HasTree, IsShape, Shape}
 
 -- without equalities a column is linked to itself alone

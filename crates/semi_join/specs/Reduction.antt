@@ -1,5 +1,6 @@
 -- What the bottom-up reduction of a raw tree computes, node by node.
 use Rattle.std.specs.Prelude.{◌≡◌, ℕ, suc, ◌-◌, ◌<◌, ◌≤◌, Bool, cond, nat_eq, List, [], ◌∷◌, ◌++◌, map, length, slice_index, slice_index_or, Some, IsPermutation, All}
+use Rattle.tdp_model.specs.NodeRows.{most_node_rows}
 use Rattle.std.specs.List.{Contains, filter, list_any, list_all, position_or_len, range_with_len, concat}
 use Rattle.indexmap.specs.IndexSet.{insert_all}
 use Rattle.tdp_core.specs.RawData.{RawData, shape_at, shape_parent, raw_len, raw_row_at, own_link, child_link}
@@ -16,7 +17,7 @@ links_of (Direct links) = links
 
 -- no node has more groups than a tree has rows
 abbrev pub AreFew : List (List ℕ) → Type 0
-AreFew = All (λ links. length links ≤ 4194304)
+AreFew = All (λ links. length links ≤ most_node_rows)
 
 -- The rows with one own link make one group, and each row is in its group once. `owns` has the own link of each row,
 -- and `links` that of each group.

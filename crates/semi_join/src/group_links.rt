@@ -1,5 +1,6 @@
 //! The links of a node's groups, with the number of each one's group.
 ghost use Rattle.std.specs.Prelude.{◌≡◌, ◌<◌, ◌≤◌, ◌+◌, [], OnOk, IfOk, length, nat_eq, position, slice_index};
+ghost use Rattle.tdp_model.specs.NodeRows.{most_node_rows};
 ghost use Rattle.indexmap.specs.IndexSet.{insert_key};
 ghost use Rattle.semi_join.specs.Reduction.{links_of};
 
@@ -64,7 +65,7 @@ impl GroupLinks {
         link: u32,
         steps: &mut Steps<L>,
     ) -> Result<u32, NoMemory>
-        requires { length (links_of self.old) ≤ 4194304 }
+        requires { length (links_of self.old) ≤ most_node_rows }
         ensures links { OnOk result
             (links_of self.new ≡ insert_key nat_eq (links_of self.old) link) }
         ensures within { IfOk result (λ n. n < length (links_of self.new)) }

@@ -1,5 +1,6 @@
 //! The rows of one node that are kept, in groups.
 ghost use Rattle.std.specs.Prelude.{◌≡◌, ◌+◌, ◌*◌, ◌<◌, ◌≤◌, [], ◌∷◌, ◌++◌, true, false, map, length, IfOk, IfSome, IfNone, OnOk, Some, nat_eq};
+ghost use Rattle.tdp_model.specs.NodeRows.{most_node_rows};
 ghost use Rattle.indexmap.specs.IndexSet.{insert_key};
 ghost use Rattle.tdp_core.specs.RawData.{AreShapes, raw_len, raw_row_at, row_total};
 ghost use Rattle.tdp_core.specs.TreeData.{node_data};
@@ -44,14 +45,14 @@ pub(crate) fn reduce_node<R: Rank, L: Ledger>(
 ) -> Result<GroupedNode<R>, NoMemory>
     requires node { node < length raw.now.shapes }
     requires shaped { AreShapes raw.now.shapes }
-    requires few_rows { row_total raw.now ≤ 4194304 }
+    requires few_rows { row_total raw.now ≤ most_node_rows }
     requires later { node + 1 + length later.now ≡ length raw.now.shapes }
     requires few { AreFew (map links_of later.now) }
     ensures reduced { IfOk result
         (λ r. IsReducedNode raw.now node (map links_of later.now) (node_data r.parts)) }
     ensures links { IfOk result
         (λ r. links_of r.links ≡ group_links raw.now node (map links_of later.now)) }
-    ensures few { IfOk result (λ r. length (links_of r.links) ≤ 4194304) }
+    ensures few { IfOk result (λ r. length (links_of r.links) ≤ most_node_rows) }
     ensures cost { steps.new ≤ steps.old + raw_len raw.now node * length raw.now.shapes }
 {
     let kept = keep_rows(alloc, raw, node, later, steps)?;
@@ -79,7 +80,7 @@ fn keep_rows<R: Rank, L: Ledger>(
 ) -> Result<KeptRows<R>, NoMemory>
     requires node { node < length raw.now.shapes }
     requires shaped { AreShapes raw.now.shapes }
-    requires few_rows { row_total raw.now ≤ 4194304 }
+    requires few_rows { row_total raw.now ≤ most_node_rows }
     requires later { node + 1 + length later.now ≡ length raw.now.shapes }
     requires few { AreFew (map links_of later.now) }
     ensures rows { IfOk result
@@ -95,7 +96,7 @@ fn keep_rows<R: Rank, L: Ledger>(
         (λ kept. IsNumbering
         (map (group_link raw.now node) (kept_rows raw.now node (map links_of later.now)))
         (links_of kept.links) kept.numbers.items) }
-    ensures few { IfOk result (λ kept. length kept.numbers.items ≤ 4194304) }
+    ensures few { IfOk result (λ kept. length kept.numbers.items ≤ most_node_rows) }
     ensures cost { steps.new ≤ steps.old + raw_len raw.now node * length raw.now.shapes }
 {
     let children = children_of(alloc, raw, node)?;
@@ -151,9 +152,9 @@ fn keep_row<R: Rank, L: Ledger>(
     own: u32,
     steps: &mut Steps<L>,
 ) -> Result<(), NoMemory>
-    requires few { length (links_of kept.old.links) ≤ 4194304 }
+    requires few { length (links_of kept.old.links) ≤ most_node_rows }
     requires width { length named.items ≡ kept.old.to_child.width }
-    requires few_rows { length kept.old.to_child.rows ≤ 4194304 }
+    requires few_rows { length kept.old.to_child.rows ≤ most_node_rows }
     ensures rows { OnOk result (kept.new.rows.items ≡ kept.old.rows.items ++ row ∷ []) }
     ensures to_child { OnOk result
         (kept.new.to_child ≡ record {

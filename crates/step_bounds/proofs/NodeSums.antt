@@ -5,8 +5,8 @@ use Rattle.std.proofs.lemmas.Bool.Decides.{Decides-eqb}
 use Rattle.std.proofs.lemmas.List.Sums.{sum_by-cons}
 use Rattle.tdp_model.specs.TreeProblem.{sum_from}
 use Rattle.tdp_model.proofs.Ranges as ranges
-use Rattle.query_bind.specs.Parts.{sum_of_all}
-use Rattle.query_bind.proofs.Parts.{counts}
+use Rattle.bound_query.specs.Parts.{sum_of_all}
+use Rattle.bound_query.proofs.Parts.{counts}
 
 -- ---- sums node by node
 

@@ -5,7 +5,7 @@ use Rattle.anyk_model.specs.Query.{Query, row_counts}
 use Rattle.anyk_model.specs.Output.{Style, cut, header_text, line_text}
 use Rattle.query_shape.specs.Report.{total_rows}
 use Rattle.query_shape.specs.Shape.{IsShape, Shape}
-use Rattle.query_bind.specs.Parts.{sum_of_all}
+use Rattle.bound_query.specs.Parts.{sum_of_all}
 use Rattle.step_bounds.specs.Steps.{calls_for, cost, whole_lines}
 
 -- the bound for this many calls for answers

@@ -1,5 +1,6 @@
 -- What contracts see of a raw tree.
 use Rattle.std.specs.Prelude.{◌≡◌, ℕ, ◌≤◌, ◌<◌, List, [], ◌∷◌, ◌++◌, map, length, slice_index, slice_index_or, slice_get, slice_set, Option}
+use Rattle.tdp_model.specs.NodeRows.{most_node_rows}
 use Rattle.std.specs.List.{All, sum_by}
 use Rattle.tdp_model.specs.KeyTuple.{KeyOf, key_none}
 use Rattle.tdp_core.specs.declared.parts.NodeShape.{NodeShape}
@@ -98,5 +99,5 @@ pub record IsRawFormed {R : Type 0} (d : ℕ) (key : R → KeyOf d 16) (t : RawD
   pub shaped : AreShapes t.shapes
   pub held : AreShapesHeld d key t.shapes
   pub each_node : length t.rows ≡ length t.shapes
-  pub few_rows : row_total t ≤ 4194304
+  pub few_rows : row_total t ≤ most_node_rows
   pub rows_fit : (v : ℕ) → v < length t.shapes → All (RawRowFits d key t.shapes v) (rows_at t v)

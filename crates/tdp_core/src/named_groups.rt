@@ -1,5 +1,6 @@
 //! The groups that the rows of a node name, in one block.
 ghost use Rattle.std.specs.Prelude.{◌≡◌, ℕ, ◌<◌, ◌≤◌, [], ◌∷◌, ◌++◌, length, slice_index, slice_index_or, IfOk, OnOk, OnErr};
+ghost use Rattle.tdp_model.specs.NodeRows.{most_node_rows};
 
 use crate::raw_rows::push_each;
 use std::alloc::Global;
@@ -45,7 +46,7 @@ impl NamedGroups {
     /// Appends the groups that one more row names. After `NoMemory` the rows are as before.
     pub fn push(&mut self, groups: &[u32]) -> Result<(), NoMemory>
         requires width { length groups.now ≡ self.old.width }
-        requires few { length self.old.rows ≤ 4194304 }
+        requires few { length self.old.rows ≤ most_node_rows }
         ensures ok { OnOk result (self.new
             ≡ record { width = self.old.width; rows = self.old.rows ++ groups.now ∷ [] }) }
         ensures err { OnErr result (self.new ≡ self.old) }

@@ -1,5 +1,6 @@
 //! Trees whose rows are not in groups yet.
 ghost use Rattle.std.specs.Prelude.{◌≡◌, ℕ, ◌+◌, ◌<◌, Some, [], length, replicate, IfOk, OnOk, OnErr};
+ghost use Rattle.tdp_model.specs.NodeRows.{most_node_rows};
 ghost use Rattle.tdp_core.specs.RawData.{AreShapes, AreShapesHeld, IsRawFormed, RawRowFits, row_total, with_row, without_rows, shape_at, shape_children, raw_len, raw_row_at, raw_rank, raw_number, own_link, child_link};
 
 use crate::parts::{NodeRow, NodeShape};
@@ -93,7 +94,7 @@ impl<R: Rank> RawTree<R> {
         requires node { node < length self.old.shapes }
         requires fits { RawRowFits R.KEYS R.key self.old.shapes node
             (record { row = row; own = own; children = children.now }) }
-        requires room { row_total self.old < 4194304 }
+        requires room { row_total self.old < most_node_rows }
         ensures ok { OnOk result
             (self.new ≡ with_row self.old node
             (record { row = row; own = own; children = children.now })) }

@@ -1,13 +1,15 @@
 //! Small tables, and small queries over them.
 ghost use Rattle.std.specs.Prelude.{◌≡◌, ◌<◌, [], IfSome, OnOk, length};
 ghost use Rattle.std.specs.List.{AllByRecursion};
-ghost use Rattle.query_bind.specs.WeighedQuery.{Fits};
+ghost use Rattle.bound_query.specs.WeighedQuery.{Fits};
 
-use csv_tables::{TableFault, Tables};
-use query_bind::{Query, bind};
+use bound_query::Query;
+use csv_tables::TableFault;
+use query_bind::bind;
 use query_grammar::parse;
 use query_select::Select;
 use std::alloc::Global;
+use table_store::Tables;
 
 pub(crate) const R: &str = "a,b,w\n1,x,3\n2,y,1\n3,x,1\n";
 
@@ -21,13 +23,13 @@ pub(crate) fn read_two(tables: &mut Tables, first: &str, second: &str) -> Result
     if first.len() > 1000 || second.len() > 1000 {
         return Err(TableFault::NoMemory);
     }
-    tables.read(first.as_bytes())?;
-    tables.read(second.as_bytes())?;
+    csv_tables::read_table(tables, first.as_bytes())?;
+    csv_tables::read_table(tables, second.as_bytes())?;
     Ok(())
 }
 
-// The query bound to the tables; `which` names the table of each item. `None` if `which` has another length than its
-// items, or if it cannot be bound.
+/// The query bound to the tables; `which` names the table of each item. `None` if `which` has another length than its
+/// items, or if it cannot be bound.
 fn bound(alloc: Global, tables: &Tables, select: &Select, which: &[u32]) -> Option<Query>
     requires { AllByRecursion (λ t. t < length tables.now) which.now }
     ensures { IfSome result (λ query. Fits query tables.now) }

@@ -9,7 +9,7 @@ const SMALL: &[&str] = &[
     "d,e,w\n0,0,60\n0,0,543\n",
 ];
 
-// The length of each table, its beginning, and its end.
+/// The length of each table, its beginning, and its end.
 const LARGE: &[(usize, &str, &str)] = &[
     (1981, "a,b,w\n2,0,409\n2,1,718\n", "2,2,420\n1,0,954\n"),
     (1981, "b,c,w\n2,1,366\n0,1,422\n", "1,2,672\n0,2,95\n"),
@@ -17,7 +17,7 @@ const LARGE: &[(usize, &str, &str)] = &[
     (1974, "d,e,w\n2,0,130\n1,0,25\n", "1,2,599\n0,0,429\n"),
 ];
 
-// Whether the tables are these texts.
+/// Whether the tables are these texts.
 fn are_texts(tables: &[Vec<u8>], texts: &[&str]) -> bool {
     if tables.len() != texts.len() {
         return false;
@@ -34,7 +34,7 @@ fn has_ends(table: &[u8], length: usize, first: &str, last: &str) -> bool {
     table.len() == length && table.starts_with(first.as_bytes()) && table.ends_with(last.as_bytes())
 }
 
-// Whether the tables have these lengths, beginnings and ends.
+/// Whether the tables have these lengths, beginnings and ends.
 fn have_ends(tables: &[Vec<u8>], ends: &[(usize, &str, &str)]) -> bool {
     if tables.len() != ends.len() {
         return false;

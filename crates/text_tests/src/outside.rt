@@ -15,7 +15,7 @@ enum Call {
     Whole(&'static str, Result<&'static str, FileFault>),
 }
 
-// Whether a read into a buffer of this many bytes moves these.
+/// Whether a read into a buffer of this many bytes moves these.
 fn gives<S: Shelf>(shelf: &mut S, size: usize, wanted: Result<&str, ReadFailed>) -> bool {
     if size > 16 {
         return false;
@@ -28,7 +28,7 @@ fn gives<S: Shelf>(shelf: &mut S, size: usize, wanted: Result<&str, ReadFailed>)
     }
 }
 
-// Whether a file has these bytes, or cannot be read for this reason.
+/// Whether a file has these bytes, or cannot be read for this reason.
 fn is_whole<S: Shelf>(
     alloc: Global,
     shelf: &mut S,
@@ -55,7 +55,7 @@ fn returns<S: Shelf>(alloc: Global, shelf: &mut S, call: Call) -> bool {
     }
 }
 
-// The place of the first of these calls, made in this order, that returns something else.
+/// The place of the first of these calls, made in this order, that returns something else.
 fn first_failing<S: Shelf>(alloc: Global, shelf: &mut S, calls: &[Call]) -> Option<usize> {
     for (i, call) in calls.iter().enumerate() {
         if !returns(alloc, shelf, *call) {
@@ -106,7 +106,7 @@ fn files_are_read_whole(rt: HostRuntime) {
     assert!(rt; first_failing_of_files(rt.alloc()) == Ok(None));
 }
 
-// Over a shelf that fails at its calls 2, 4 and 7. The lines here make calls 1 and 2, 3, 4, none, 5 and so on.
+/// Over a shelf that fails at its calls 2, 4 and 7. The lines here make calls 1 and 2, 3, 4, none, 5 and so on.
 const OF_FAILING_CALLS: &[Call] = &[
     Call::Whole("a", Err(FileFault::Failed)),
     Call::Open("a", Ok(())),
@@ -143,7 +143,7 @@ fn a_shelf_fails_at_its_numbers(rt: HostRuntime) {
 /// A text to be written whole, the result, and all bytes that the sink has then.
 type Written = (&'static str, Result<(), Unwritten>, &'static str);
 
-// Whether the texts, written one after another, give these results.
+/// Whether the texts, written one after another, give these results.
 fn are_written(sink: &mut MemSink, texts: &[Written]) -> bool {
     for (text, wanted, whole) in texts {
         if write_all(sink, text.as_bytes()) != *wanted || sink.bytes() != whole.as_bytes() {
@@ -169,7 +169,7 @@ const BYTE_BY_BYTE: &[Written] = &[
     ("", Ok(()), "byte by byte"),
 ];
 
-// Whether after the texts that were cut writing nothing is no fault, and a byte is refused when no room is left.
+/// Whether after the texts that were cut writing nothing is no fault, and a byte is refused when no room is left.
 fn is_filled(sink: &mut MemSink) -> bool {
     are_written(sink, CUT)
         && sink.write(b"") == Ok(0)
@@ -177,7 +177,7 @@ fn is_filled(sink: &mut MemSink) -> bool {
         && sink.write(b"x") == Err(WriteFailed)
 }
 
-// A sink with room for 12 bytes that takes four bytes a call, fails at call 2 and takes nothing at call 4.
+/// A sink with room for 12 bytes that takes four bytes a call, fails at call 2 and takes nothing at call 4.
 fn failing_sink(alloc: Global) -> Result<Option<MemSink>, AllocError> {
     let failing = vec![in alloc; 2]?;
     let zeros = vec![in alloc; 2, 4]?;

@@ -1,17 +1,17 @@
 //! Answers as records: the header and a line of worked examples.
 ghost use Rattle.std.specs.Prelude.{◌≡◌, IsTrue, length, take};
 ghost use Rattle.anyk_model.specs.Query.{IsCombination, row_counts};
-ghost use Rattle.query_bind.specs.WeighedQuery.{Fits};
+ghost use Rattle.bound_query.specs.WeighedQuery.{Fits};
 
 use crate::fixtures::{R, S, query_of, read_two};
 use answer_print::{AnswerWriter, Style, header, line, write_line};
-use csv_tables::Tables;
-use query_bind::Query;
+use bound_query::Query;
 use std::alloc::Global;
+use table_store::Tables;
 
 const SUM: &str = "select R.a, S.c from R, S where R.b = S.b order by R.w + S.w";
 
-// Whether each item has the row that is given for it.
+/// Whether each item has the row that is given for it.
 fn are_rows(query: &Query, tables: &Tables, rows: &[u32; 16]) -> bool
     requires { Fits query.now tables.now }
     ensures { IsTrue result
@@ -49,7 +49,7 @@ fn style_of(case: &Case) -> Style<'static> {
     }
 }
 
-// Whether the header is printed.
+/// Whether the header is printed.
 fn has_header(alloc: Global, query: &Query, tables: &Tables, case: &Case) -> bool
     requires { Fits query.now tables.now }
 {
@@ -59,7 +59,7 @@ fn has_header(alloc: Global, query: &Query, tables: &Tables, case: &Case) -> boo
     }
 }
 
-// Whether the line is printed.
+/// Whether the line is printed.
 fn has_line(alloc: Global, query: &Query, tables: &Tables, rows: &[u32; 16], case: &Case) -> bool
     requires fits { Fits query.now tables.now }
     requires rows { IsCombination (row_counts query.now.query.items tables.now)
@@ -71,7 +71,7 @@ fn has_line(alloc: Global, query: &Query, tables: &Tables, rows: &[u32; 16], cas
     }
 }
 
-// Whether the line is written as a record.
+/// Whether the line is written as a record.
 fn writes_line(alloc: Global, query: &Query, tables: &Tables, rows: &[u32; 16], case: &Case) -> bool
     requires fits { Fits query.now tables.now }
     requires rows { IsCombination (row_counts query.now.query.items tables.now)
@@ -82,7 +82,7 @@ fn writes_line(alloc: Global, query: &Query, tables: &Tables, rows: &[u32; 16], 
     written.is_ok() && records.text() == case.line.as_bytes()
 }
 
-// Whether the header and the line of a query over these tables are printed.
+/// Whether the header and the line of a query over these tables are printed.
 fn is_printed(alloc: Global, query: &Query, tables: &Tables, case: &Case) -> bool
     requires { Fits query.now tables.now }
 {
@@ -95,7 +95,7 @@ fn is_printed(alloc: Global, query: &Query, tables: &Tables, case: &Case) -> boo
         && writes_line(alloc, query, tables, &rows, case)
 }
 
-// The same for the query of the case's text.
+/// The same for the query of the case's text.
 fn prints_over(alloc: Global, tables: &Tables, case: &Case) -> bool
     requires { length tables.now ≡ 2 }
 {
@@ -105,13 +105,13 @@ fn prints_over(alloc: Global, tables: &Tables, case: &Case) -> bool
     }
 }
 
-// The same for the tables of the case's texts.
+/// The same for the tables of the case's texts.
 fn prints(alloc: Global, case: &Case) -> bool {
     let mut tables = Tables::new(alloc);
     read_two(&mut tables, case.first, case.second).is_ok() && prints_over(alloc, &tables, case)
 }
 
-// The place of the first case that is printed in another way.
+/// The place of the first case that is printed in another way.
 fn first_failing(alloc: Global, cases: &[Case]) -> Option<usize> {
     for (i, case) in cases.iter().enumerate() {
         if !prints(alloc, case) {

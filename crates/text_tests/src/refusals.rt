@@ -6,13 +6,13 @@ use std::alloc::{AllocError, Global};
 /// A refusal with its status and its line.
 type Row = (Refusal<'static>, u8, &'static str);
 
-// Whether a sink gets this line, and the status is that of the row.
+/// Whether a sink gets this line, and the status is that of the row.
 fn writes(err: &mut MemSink, row: &Row) -> bool {
     let (refusal, status, line) = *row;
     write_line(err, refusal).is_ok() && err.bytes() == line.as_bytes() && refusal.status() == status
 }
 
-// The same for a sink that takes this many bytes a call.
+/// The same for a sink that takes this many bytes a call.
 fn writes_by(alloc: Global, row: &Row, most: usize) -> bool {
     match MemSink::new(alloc, 200, most, Vec::new(alloc), Vec::new(alloc)) {
         Ok(mut err) => writes(&mut err, row),
@@ -20,7 +20,7 @@ fn writes_by(alloc: Global, row: &Row, most: usize) -> bool {
     }
 }
 
-// The place of the first row whose line is written in another way, whole or three bytes a call.
+/// The place of the first row whose line is written in another way, whole or three bytes a call.
 fn first_failing(alloc: Global, rows: &[Row]) -> Option<usize> {
     for (i, row) in rows.iter().enumerate() {
         if !writes_by(alloc, row, 200) || !writes_by(alloc, row, 3) {
@@ -275,7 +275,7 @@ fn writes_lines_on_files_and_limits(rt: HostRuntime) {
     assert_eq!(rt; first_failing(rt.alloc(), ON_FILES_AND_LIMITS), None);
 }
 
-// Whether the line is cut by a sink that fails at its fourth call.
+/// Whether the line is cut by a sink that fails at its fourth call.
 fn is_cut(err: &mut MemSink) -> bool {
     write_line(err, Refusal::NoFile("S.csv")) == Err(Unwritten { taken: 3 })
         && err.bytes() == b"anyk: fil".as_slice()

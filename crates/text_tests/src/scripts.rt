@@ -25,7 +25,7 @@ fn are_six(steps: &[Step]) -> bool {
     are_first(first, second, third) && are_last(fourth, fifth, last)
 }
 
-// Whether a script with comments and empty lines is read as its six steps.
+/// Whether a script with comments and empty lines is read as its six steps.
 fn reads_six_steps(alloc: Global) -> bool {
     let text = b"open a\r\n# c\n\r\n\nnext a 000000002\nfork a b_1\nrewind b_1\nclose a\nopen a";
     match read_script(alloc, text) {
@@ -34,7 +34,7 @@ fn reads_six_steps(alloc: Global) -> bool {
     }
 }
 
-// Whether an empty script has no steps.
+/// Whether an empty script has no steps.
 fn reads_none(alloc: Global) -> bool {
     match read_script(alloc, b"") {
         Ok(steps) => steps.is_empty(),
@@ -84,7 +84,7 @@ fn fault_of(alloc: Global, script: &str) -> Option<ScriptFault> {
     read_script(alloc, script.as_bytes()).err()
 }
 
-// The place of the first script that is read in another way.
+/// The place of the first script that is read in another way.
 fn first_failing(alloc: Global, scripts: &[Read]) -> Option<usize> {
     for (i, (script, fault)) in scripts.iter().enumerate() {
         if fault_of(alloc, script) != *fault {
@@ -99,7 +99,7 @@ fn faults_have_their_lines(rt: HostRuntime) {
     assert_eq!(rt; first_failing(rt.alloc(), READ), None);
 }
 
-// Opens this many cursors, and ends with one more line.
+/// Opens this many cursors, and ends with one more line.
 fn opened(alloc: Global, cursors: u32, last: &str) -> Result<String, AllocError> {
     let mut script = String::new(alloc);
     for cursor in 0..cursors {
@@ -109,7 +109,7 @@ fn opened(alloc: Global, cursors: u32, last: &str) -> Result<String, AllocError>
     Ok(script)
 }
 
-// The fault of such a script.
+/// The fault of such a script.
 fn fault_of_many(
     alloc: Global,
     cursors: u32,
@@ -119,7 +119,7 @@ fn fault_of_many(
     Ok(fault_of(alloc, script.as_str()))
 }
 
-// This many comments.
+/// This many comments.
 fn comments(alloc: Global, lines: u32) -> Result<String, AllocError> {
     let mut script = String::new(alloc);
     for _ in 0..lines {
@@ -128,7 +128,7 @@ fn comments(alloc: Global, lines: u32) -> Result<String, AllocError> {
     Ok(script)
 }
 
-// The fault of a script of this many comments.
+/// The fault of a script of this many comments.
 fn fault_of_comments(alloc: Global, lines: u32) -> Result<Option<ScriptFault>, AllocError> {
     let script = comments(alloc, lines)?;
     Ok(fault_of(alloc, script.as_str()))

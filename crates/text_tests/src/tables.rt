@@ -1,6 +1,7 @@
 //! Tables: worked files, and that each call succeeds with ample memory, which no clause says.
-use csv_tables::{RecordWriter, TableFault, Tables, line};
+use csv_tables::{RecordWriter, TableFault, line};
 use std::alloc::Global;
+use table_store::Tables;
 
 /// A table, a row and a column.
 type Place = (u32, u32, u32);
@@ -18,23 +19,23 @@ enum Call {
     Same(Place, Place, bool),
 }
 
-// Reads one more table; a test reads few and small ones.
+/// Reads one more table; a test reads few and small ones.
 fn read(tables: &mut Tables, bytes: &[u8]) -> Result<u32, TableFault> {
     if tables.count() < 16 && bytes.len() <= 67_108_864 {
-        tables.read(bytes)
+        csv_tables::read_table(tables, bytes)
     } else {
         Err(TableFault::NoMemory)
     }
 }
 
-// Whether there is such a column, and it has this name.
+/// Whether there is such a column, and it has this name.
 fn has_name(tables: &Tables, table: u32, column: u32, text: &str) -> bool {
     table < tables.count()
         && column < tables.width(table)
         && tables.name(table, column) == text.as_bytes()
 }
 
-// Whether there is such a field, and it has these bytes.
+/// Whether there is such a field, and it has these bytes.
 fn has_field(tables: &Tables, (table, row, column): Place, text: &str) -> bool {
     table < tables.count()
         && 1 <= row
@@ -43,7 +44,7 @@ fn has_field(tables: &Tables, (table, row, column): Place, text: &str) -> bool {
         && tables.field(table, row, column) == text.as_bytes()
 }
 
-// Whether there is such a field, and it has this weight, or none.
+/// Whether there is such a field, and it has this weight, or none.
 fn has_weight(tables: &Tables, (table, row, column): Place, weight: Option<i128>) -> bool {
     table < tables.count()
         && 1 <= row
@@ -52,7 +53,7 @@ fn has_weight(tables: &Tables, (table, row, column): Place, weight: Option<i128>
         && tables.weight(table, row, column) == weight
 }
 
-// The number of a field, if there is such a field.
+/// The number of a field, if there is such a field.
 fn number(tables: &Tables, (table, row, column): Place) -> Option<u32> {
     if table < tables.count()
         && 1 <= row
@@ -65,7 +66,7 @@ fn number(tables: &Tables, (table, row, column): Place) -> Option<u32> {
     }
 }
 
-// Whether there are such fields, and whether they have the same number is as given.
+/// Whether there are such fields, and whether they have the same number is as given.
 fn are_same(tables: &Tables, first: Place, second: Place, same: bool) -> bool {
     match (number(tables, first), number(tables, second)) {
         (Some(first), Some(second)) => (first == second) == same,
@@ -85,7 +86,7 @@ fn returns(tables: &mut Tables, call: Call) -> bool {
     }
 }
 
-// The place of the first call, made on tables one after another, that returns something else.
+/// The place of the first call, made on tables one after another, that returns something else.
 fn first_failing_on(tables: &mut Tables, calls: &[Call]) -> Option<usize> {
     for (i, call) in calls.iter().enumerate() {
         if !returns(tables, *call) {
@@ -95,7 +96,7 @@ fn first_failing_on(tables: &mut Tables, calls: &[Call]) -> Option<usize> {
     None
 }
 
-// The same, starting without a table.
+/// The same, starting without a table.
 fn first_failing(alloc: Global, calls: &[Call]) -> Option<usize> {
     first_failing_on(&mut Tables::new(alloc), calls)
 }
@@ -125,10 +126,10 @@ fn reads_tables(rt: HostRuntime) {
     assert_eq!(rt; first_failing(rt.alloc(), OF_TWO_TABLES), None);
 }
 
-// A header of 64 commas, and so of 65 columns.
+/// A header of 64 commas, and so of 65 columns.
 const TOO_WIDE: &str = ",,,,,,,,,,,,,,,,,,,,,,,,,,,,,,,,,,,,,,,,,,,,,,,,,,,,,,,,,,,,,,,,\n1\n";
 
-// A header with one comma less.
+/// A header with one comma less.
 const WIDE: &str = ",,,,,,,,,,,,,,,,,,,,,,,,,,,,,,,,,,,,,,,,,,,,,,,,,,,,,,,,,,,,,,,\n1\n";
 
 const OF_FLAWS: &[Call] = &[
@@ -217,7 +218,7 @@ fn is_written(records: &mut RecordWriter, fields: &[&[u8]], text: &[u8]) -> bool
     records.write(fields).is_ok() && records.text() == text
 }
 
-// Whether each of the records is written.
+/// Whether each of the records is written.
 fn are_written(records: &mut RecordWriter, wanted: &[Record]) -> bool {
     for (fields, text) in wanted {
         if !is_written(records, fields, text) {
@@ -227,7 +228,7 @@ fn are_written(records: &mut RecordWriter, wanted: &[Record]) -> bool {
     true
 }
 
-// Whether the records are written this many times.
+/// Whether the records are written this many times.
 fn are_written_often(records: &mut RecordWriter, times: u32) -> bool {
     for _ in 0..times {
         if !are_written(records, RECORDS) {
@@ -237,7 +238,7 @@ fn are_written_often(records: &mut RecordWriter, times: u32) -> bool {
     true
 }
 
-// Whether records are written one after another that are together longer than what a writer keeps of earlier ones.
+/// Whether records are written one after another that are together longer than what a writer keeps of earlier ones.
 fn writes_many(alloc: Global) -> bool {
     let mut records = RecordWriter::new(alloc);
     records.text().is_empty() && are_written_often(&mut records, 600)

@@ -193,7 +193,7 @@ const COMMANDS: &[Line] = &[
     ),
 ];
 
-// Whether the arguments are this command.
+/// Whether the arguments are this command.
 fn are_read(alloc: Global, words: &[String], read: &Read) -> bool {
     match read_words(alloc, words) {
         Ok(command) => is_command(&command, read),
@@ -201,13 +201,13 @@ fn are_read(alloc: Global, words: &[String], read: &Read) -> bool {
     }
 }
 
-// The same for these texts.
+/// The same for these texts.
 fn is_read(alloc: Global, texts: &[&str], read: &Read) -> Result<bool, AllocError> {
     let line = words(alloc, texts)?;
     Ok(are_read(alloc, line.as_slice(), read))
 }
 
-// The place of the first line that is read in another way.
+/// The place of the first line that is read in another way.
 fn first_failing(alloc: Global, lines: &[Line]) -> Result<Option<usize>, AllocError> {
     for (i, (texts, read)) in lines.iter().enumerate() {
         if !is_read(alloc, texts, read)? {
@@ -234,7 +234,7 @@ fn is_refused(alloc: Global, texts: &[&str]) -> Result<bool, AllocError> {
     Ok(is_usage(alloc, line.as_slice()))
 }
 
-// The place of the first line that is refused, or that is not refused.
+/// The place of the first line that is refused, or that is not refused.
 fn first_of(alloc: Global, lines: &[&[&str]], refused: bool) -> Result<Option<usize>, AllocError> {
     for (i, texts) in lines.iter().enumerate() {
         if is_refused(alloc, texts)? == refused {

@@ -8,11 +8,11 @@ use Rattle.tdp_model.specs.KeyTuple.{KeyOf, key_add, key_none}
 use Rattle.tdp_model.specs.TreeProblem.{sum_from}
 use Rattle.anyk_model.specs.Table.{Table}
 use Rattle.anyk_model.specs.Query.{Column, IsCombination, IsWitness, Query, row_counts}
-use Rattle.query_bind.specs.Classes.{Agree, AreVariables, HasVariable, Passes, row_field, variable_at}
-use Rattle.query_bind.specs.Graph.{IsGraphOf}
-use Rattle.query_bind.specs.Inside.{IsWithin}
-use Rattle.query_bind.proofs.Least.{at_member, least_iff, shared_along}
-use Rattle.query_bind.proofs.Witness.{linked_append, linked_back, witness_iff}
+use Rattle.bound_query.specs.Classes.{Agree, AreVariables, HasVariable, Passes, row_field, variable_at}
+use Rattle.bound_query.specs.Graph.{IsGraphOf}
+use Rattle.bound_query.specs.Inside.{IsWithin}
+use Rattle.bound_query.proofs.Least.{at_member, least_iff, shared_along}
+use Rattle.bound_query.proofs.Witness.{linked_append, linked_back, witness_iff}
 use Rattle.witness_key.specs.WitnessKey.{witness_key}
 use Rattle.tree_witnesses.specs.Laws.{AgreeAlongLinks, item_key}
 use Rattle.tree_witnesses.proofs.WitnessKeys.{keys_add}

@@ -7,10 +7,10 @@ use Rattle.std.proofs.lemmas.Int.{ints}
 use Rattle.std.proofs.lemmas.List.{get_or-map, get_or-replicate, get_or-set_other, get_or_past, length-map}
 use Rattle.anyk_model.specs.Table.{Table}
 use Rattle.anyk_model.specs.Query.{OrderKey, Query, rank_of, total}
-use Rattle.query_bind.specs.Inside.{IsWithin, KeyInside}
-use Rattle.query_bind.specs.Weights.{key_at, part_of}
-use Rattle.query_bind.proofs.Parts.{parts_add}
-use Rattle.query_bind.proofs.Search.{all_at}
+use Rattle.bound_query.specs.Inside.{IsWithin, KeyInside}
+use Rattle.bound_query.specs.Weights.{key_at, part_of}
+use Rattle.bound_query.proofs.Parts.{parts_add}
+use Rattle.bound_query.proofs.Lists.{all_at}
 use Rattle.tdp_model.specs.KeyTuple.{KeyOf, key_add, key_none, slot_of}
 use Rattle.tdp_model.specs.KeyNumbers.{sum_of}
 use Rattle.tdp_model.specs.TreeProblem.{sum_from}

@@ -4,8 +4,8 @@ use Rattle.std.proofs.lemmas.List.{get_or-map, length-map}
 use Rattle.rankings.specs.Order.{IsMember}
 use Rattle.anyk_model.specs.Table.{Table, table_at}
 use Rattle.anyk_model.specs.Query.{Column, Equality, IsCombination, Item, Query, item_table, row_counts}
-use Rattle.query_bind.specs.Classes.{AreVariables, HasVariable, Linked, variable_at}
-use Rattle.query_bind.proofs.Least.{at_member}
+use Rattle.bound_query.specs.Classes.{AreVariables, HasVariable, Linked, variable_at}
+use Rattle.bound_query.proofs.Least.{at_member}
 
 -- ---- combinations
 

@@ -5,7 +5,7 @@ use Rattle.std.proofs.lemmas.Bool.{cases_eq}
 use Rattle.std.proofs.lemmas.Bool.Decides.{Decides-eqb}
 use Rattle.std.proofs.lemmas.Int.{ints}
 use Rattle.anyk_model.specs.Query.{total}
-use Rattle.query_bind.proofs.Parts.{picks}
+use Rattle.bound_query.proofs.Parts.{picks}
 
 -- ---- tests of equal numbers
 

@@ -7,10 +7,10 @@ use Rattle.tdp_model.specs.TreeProblem.{sum_from}
 use Rattle.rank_key.specs.Keys.{row_key}
 use Rattle.anyk_model.specs.Table.{Table}
 use Rattle.anyk_model.specs.Query.{IsCombination, IsWitness, Query, row_counts}
-use Rattle.query_bind.specs.Classes.{Agree, Passes}
-use Rattle.query_bind.specs.Graph.{IsGraphOf}
-use Rattle.query_bind.specs.Inside.{IsWithin}
-use Rattle.query_bind.specs.Weights.{part_of}
+use Rattle.bound_query.specs.Classes.{Agree, Passes}
+use Rattle.bound_query.specs.Graph.{IsGraphOf}
+use Rattle.bound_query.specs.Inside.{IsWithin}
+use Rattle.bound_query.specs.Weights.{part_of}
 use Rattle.witness_key.specs.WitnessKey.{witness_key}
 
 -- the rows of each node and of its parent agree

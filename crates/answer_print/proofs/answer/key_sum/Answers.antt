@@ -2,7 +2,7 @@ use Rattle.std.proofs.Common.{◌≡◌, ◌+◌, ◌<◌, pos, ◌+ℤ◌, ◌-
 use mir.Syntax.{w128}
 use mir.Val.{of_z, to_z}
 use Rattle.std.proofs.lemmas.Int.{to_z-of_z}
-use Rattle.query_bind.specs.Weights.{key_at}
+use Rattle.bound_query.specs.Weights.{key_at}
 use Rattle.answer_print.proofs.Places.{row_there}
 use Rattle.answer_print.proofs.Sums.{ascending_sum, descending_sum, negated_fits, part_added, parts_so_far, sum_fits}
 use Rattle.answer_print.proofs.answer.key_sum.Goals as goal

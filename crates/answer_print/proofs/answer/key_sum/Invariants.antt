@@ -1,5 +1,5 @@
 use Rattle.std.proofs.Common.{◌≡◌, length, take}
-use Rattle.query_bind.specs.Weights.{key_at}
+use Rattle.bound_query.specs.Weights.{key_at}
 use Rattle.answer_print.proofs.Sums.{parts_so_far}
 use Rattle.answer_print.proofs.answer.key_sum.Given as goal
 

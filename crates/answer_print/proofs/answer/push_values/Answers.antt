@@ -1,8 +1,8 @@
 use Rattle.std.proofs.Common.{◌≡◌, ◌-◌, ℕ, get_or, length, take, ap, ◌∙◌, sym, arith}
 use Rattle.anyk_model.specs.Table.{field_at, table_at}
 use Rattle.anyk_model.specs.Query.{value_of}
-use Rattle.query_bind.specs.Names.{item_at}
-use Rattle.query_bind.specs.StoredParts.{column_shown}
+use Rattle.bound_query.specs.Items.{item_at}
+use Rattle.bound_query.specs.StoredParts.{column_shown}
 use Rattle.answer_print.proofs.Places.{column_there, row_there}
 use Rattle.answer_print.proofs.Pushing.{element_more}
 use Rattle.answer_print.proofs.answer.push_values.Goals as goal

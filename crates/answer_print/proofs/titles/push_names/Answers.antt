@@ -1,7 +1,7 @@
 use Rattle.std.proofs.Common.{◌≡◌, ℕ, [], get_or, ap, ◌∙◌}
 use Rattle.anyk_model.specs.Table.{table_at}
 use Rattle.anyk_model.specs.Output.{column_name}
-use Rattle.query_bind.specs.StoredParts.{column_shown}
+use Rattle.bound_query.specs.StoredParts.{column_shown}
 use Rattle.answer_print.proofs.Places.{column_there}
 use Rattle.answer_print.proofs.Pushing.{element_more}
 use Rattle.answer_print.proofs.titles.push_names.Goals as goal

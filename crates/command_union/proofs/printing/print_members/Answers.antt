@@ -1,6 +1,6 @@
 use Rattle.std.proofs.Common.{◌≡◌, ◌≤◌, [], ℕ, Option, None, Err, IfSome, map, refl, subst, sym, arith, rules}
 use Rattle.answer_print.specs.StyleView.{style_shown}
-use Rattle.query_bind.specs.WeighedQuery.{BoundQuery}
+use Rattle.bound_query.specs.WeighedQuery.{BoundQuery}
 use Rattle.refusal_lines.specs.declared.refusal.Refusal.TheVariants as refusal
 use Rattle.step_bounds.proofs.Calls.{limit_below, limit_reached, limit_within}
 use Rattle.refusal_lines.proofs.Prints.{appends_nothing}

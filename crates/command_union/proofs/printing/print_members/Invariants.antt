@@ -1,6 +1,6 @@
 use Rattle.std.proofs.Common.{map}
 use Rattle.answer_print.specs.StyleView.{style_shown}
-use Rattle.query_bind.specs.WeighedQuery.{BoundQuery}
+use Rattle.bound_query.specs.WeighedQuery.{BoundQuery}
 use Rattle.refusal_lines.specs.SinkState.{state_of}
 use Rattle.union_list.specs.UnionOutput.{union_line_text}
 use Rattle.command_union.proofs.Members.{HasPrinted}

@@ -1,7 +1,7 @@
 use Rattle.std.proofs.Common.{ℕ, List, inl, inr, refl}
 use Rattle.anyk_model.specs.Table.{Table}
 use Rattle.join_tree.specs.declared.tree.JoinTree.{JoinTree}
-use Rattle.query_bind.specs.WeighedQuery.{BoundQuery}
+use Rattle.bound_query.specs.WeighedQuery.{BoundQuery}
 use Rattle.node_build.specs.Nodes.{PassesBudget, TellsFault}
 use Rattle.node_build.specs.declared.built.BuildFault.TheVariants as fault
 use Rattle.node_build.proofs.ShapeOf.{join_tree_of}

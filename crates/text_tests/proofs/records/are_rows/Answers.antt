@@ -1,7 +1,7 @@
 use Rattle.std.proofs.Common.{◌<◌, ◌≤◌, ℕ, suc, List, [], ◌∷◌, get_or, length, take, arith, rules}
 use Rattle.anyk_model.specs.Table.{Table}
 use Rattle.anyk_model.specs.Query.{IsCombination, Item, row_counts}
-use Rattle.query_bind.specs.Weights.{table_in}
+use Rattle.bound_query.specs.Weights.{table_in}
 use Rattle.text_tests.proofs.records.are_rows.Goals as goal
 
 -- rows that are there, one for each item, are a combination

@@ -1,5 +1,5 @@
 use Rattle.std.proofs.Common.{ℕ, ◌<◌, ◌≤◌, get_or, length}
-use Rattle.query_bind.specs.Weights.{table_in}
+use Rattle.bound_query.specs.Weights.{table_in}
 use Rattle.text_tests.proofs.records.are_rows.Given as goal
 
 abbrev pub invariant-loop-item : goal.invariant-loop-item
