@@ -13,3 +13,4 @@ pub mod Grouping
 pub mod Walking
 pub mod Testing
 pub mod Preparing
+pub mod Nothing

@@ -23,6 +23,17 @@ rows_more (n ∷ rows) zero h = sum_by-cons length n rows
 rows_more (n ∷ rows) (suc v) h = let less : v < length rows = omega arith in rows_more rows v less
 
 module _ {R : Type 0} (raw : RawData R) where
+  -- the parts of no nodes
+  pub from_none : (node : ℕ) (parts : List (NodeData R)) → node ≡ length raw.shapes → parts ≡ [] → AreReducedLast raw (length raw.shapes - node) parts
+  from_none node parts all none =
+      let count : length parts ≡ 0 = ap length none in
+      record { size = omega (arith, count, all); node = λ k part l. absurd (omega (arith, l, all)) }
+
+  pub links_none : (node : ℕ) (later : List (List ℕ)) → node ≡ length raw.shapes → later ≡ [] → later ≡ links_last raw (length raw.shapes - node)
+  links_none node later all none =
+      let zero_left : 0 ≡ length raw.shapes - node = omega (arith, all) in
+      none ∙ ap (links_last raw) zero_left
+
   pub from_more : (n v : ℕ) (part : NodeData R) (parts : List (NodeData R)) → v + suc n ≡ length raw.shapes → AreReducedLast raw n parts → IsReducedNode raw v (links_last raw n) part → AreReducedLast raw (suc n) (part ∷ parts)
   from_more n v part parts s later here = record {
     size = ap suc later.size;
@@ -44,6 +55,9 @@ module _ {R : Type 0} (raw : RawData R) where
   links_more n v links later s e k =
       let one : length raw.shapes - suc n ≡ v = omega arith in
       ap (λ l. links ∷ l) e ∙ ap (λ x. x ∷ links_last raw n) (k ∙ ap (group_links raw v) e ∙ ap (λ u. group_links raw u (links_last raw n)) (sym one))
+
+pub few_none : (later : List (List ℕ)) → later ≡ [] → AreFew later
+few_none later none = λ k d l. absurd (omega (arith, l, ap length none))
 
 pub few_more : (links : List ℕ) (later : List (List ℕ)) → length links ≤ 4194304 → AreFew later → AreFew (links ∷ later)
 few_more links later h few = at

@@ -28,6 +28,16 @@ room_all i k n m h l =
     let three = mul-le-mul_left m h in
     omega (arith, one, three)
 
+numbering_none : IsNumbering [] [] []
+numbering_none = record {
+  size = refl;
+  distinct = λ i j l k e. absurd (omega (arith, l));
+  below = λ i d l. absurd (omega (arith, l));
+  named = λ i l. absurd (omega (arith, l));
+  used = λ n l. absurd (omega (arith, l));
+  few = omega arith;
+}
+
 module _ {R : Type 0} (raw : RawData R) (v : ℕ) (later : List (List ℕ)) where
   pub kids_below_lem : v < length raw.shapes → length (child_nodes raw v) + 1 ≤ length raw.shapes
   kids_below_lem h = let few = kids_few (shape_parent raw.shapes) v (length raw.shapes - suc v) in omega (arith, few)
@@ -39,6 +49,16 @@ module _ {R : Type 0} (raw : RawData R) (v : ℕ) (later : List (List ℕ)) wher
     pub names : links ≡ insert_all nat_eq [] (map (group_link raw v) (kept_first raw v later i))
     pub numbering : IsNumbering (map (group_link raw v) (kept_first raw v later i)) links numbers
     pub few : length (kept_first raw v later i) ≤ i
+
+  -- nothing stays of no rows
+  pub none_so_far : (kept : List (NodeRow R)) (named : List (List ℕ)) (links numbers : List ℕ) → kept ≡ [] → named ≡ [] → links ≡ [] → numbers ≡ [] → IsSoFar 0 kept named links numbers
+  none_so_far kept named links numbers no_rows no_names no_links no_numbers = record {
+    rows = ap (map Some) no_rows;
+    to_child = no_names;
+    names = no_links;
+    numbering = subst (λ ns. IsNumbering [] links ns) (sym no_numbers) (subst (λ ks. IsNumbering [] ks []) (sym no_links) numbering_none);
+    few = omega arith;
+  }
 
   kept_true : (i : ℕ) → has_partners raw v later i ≡ true → kept_first raw v later (i + 1) ≡ kept_first raw v later i ++ (i ∷ [])
   kept_true i m = ap (kept_first raw v later) (add-one i) ∙ kept_more raw v later i ∙ ap (λ b. cond b (kept_first raw v later i ++ (i ∷ [])) (kept_first raw v later i)) m

@@ -1,10 +1,10 @@
--- A node in which one queue changes.
-use Rattle.std.proofs.Common.{◌≡◌, ℕ, ◌<◌, List, [], length, get_or, slice_set, sym, ap, ◌∙◌, subst}
+-- A node in which one queue or one product changes.
+use Rattle.std.proofs.Common.{◌≡◌, ℕ, ◌<◌, List, [], length, get_or, slice_set, refl, sym, ap, ◌∙◌, subst}
 use Rattle.std.proofs.lemmas.List.{get_or-set_same}
 use Rattle.suffix_streams.specs.ProductData.{ProductData}
 use Rattle.suffix_streams.specs.StreamData.{StreamData}
-use Rattle.suffix_streams.specs.NodeLists.{NodeLists, stream_at, with_queue}
-use Rattle.suffix_streams.proofs.Stores.{any_default}
+use Rattle.suffix_streams.specs.NodeLists.{NodeLists, product_at, stream_at, with_product, with_queue}
+use Rattle.suffix_streams.proofs.Stores.{any_default, row_inside}
 
 -- a stream of a node, when a queue of the node changes
 pub queue_changed : {R : Type 0} (children : List ℕ) (streams : List (StreamData R)) (products : List (List (ProductData R))) (n : NodeLists R) (g : ℕ) (s old : StreamData R)
@@ -26,3 +26,20 @@ queue_changed {R} children streams products n g s old e o h l =
           get_or-set_same streams g s (record { head = 0; queue = []; room = 0 }) l,
           ap (λ (x : StreamData R). (let n : NodeLists R = record { children = children; streams = slice_set streams g x; products = products } in n)) is,
         )
+
+-- a product of a node, when it changes
+pub product_changed : {R : Type 0} (children : List ℕ) (streams : List (StreamData R)) (products : List (List (ProductData R))) (n : NodeLists R) (r c : ℕ) (p : ProductData R)
+    → record { children = children; streams = streams; products = products } ≡ n → c < length (get_or n.products r [])
+    → (product_at (record { children = children; streams = streams; products = slice_set products r (slice_set (get_or products r []) c p) }) r c ≡ p)
+    × (record { children = children; streams = streams; products = slice_set products r (slice_set (get_or products r []) c p) } ≡ with_product n r c p)
+product_changed {R} children streams products n r c p e l =
+    subst (λ (n : NodeLists R). c < length (get_or n.products r []) → (product_at (record { children = children; streams = streams; products = slice_set products r (slice_set (get_or products r []) c p) }) r c ≡ p)
+    × (record { children = children; streams = streams; products = slice_set products r (slice_set (get_or products r []) c p) } ≡ with_product n r c p)) e literal l
+  where
+    literal : c < length (get_or products r [])
+        → (product_at (record { children = children; streams = streams; products = slice_set products r (slice_set (get_or products r []) c p) }) r c ≡ p)
+        × (record { children = children; streams = streams; products = slice_set products r (slice_set (get_or products r []) c p) } ≡ with_product (record { children = children; streams = streams; products = products }) r c p)
+    literal l =
+        let none : ProductData R = record { found = []; ranks = []; frontier = []; room = 0; frontier_room = 0 } in
+        let here = get_or-set_same products r (slice_set (get_or products r []) c p) [] (row_inside products r c l) in
+        (ap (λ (ps : List (ProductData R)). get_or ps c none) here ∙ get_or-set_same (get_or products r []) c p none l, refl)

@@ -6,6 +6,7 @@ use Rattle.proof_bounds.specs.Lines.{AreLineGroups, ArePlacedLines}
 use Rattle.proof_bounds.proofs.LineFaults.{groups_few, rows_few, tells_bad, tells_twice}
 use Rattle.proof_bounds.proofs.NumberedGroups.{bounded}
 use Rattle.proof_bounds.proofs.Pushed.{take_front}
+use Rattle.std.proofs.lemmas.Result.{IfOk-from_err}
 use Rattle.proof_bounds.proofs.bounding.with_bounds.Goals as goal
 
 pub returns-in_err-tops-clause-fault : goal.returns-in_err-tops-clause-fault
@@ -88,3 +89,15 @@ returns-clause-bounded g c =
     (bounded query tables join g.R.Rank.KEYS g.R.Rank.key (record { raw = raw; bounds = c.name_all.new.bounds })
     c.nodes-nodes.ensures.formed.shaped certificate c.requires.rows shape.0 shape.1 c.as_slice.result.now c.as_slice-2.result.now
     p groups each c.in_ok-name_all.ensures.named)
+
+pub returns-in_err-tops-clause-bounded : goal.returns-in_err-tops-clause-bounded
+returns-in_err-tops-clause-bounded g c = IfOk-from_err c.from_residual.result _ c.from_residual.ensures.0
+
+pub returns-in_err-groups-clause-bounded : goal.returns-in_err-groups-clause-bounded
+returns-in_err-groups-clause-bounded g c = IfOk-from_err c.from_residual-in_err-groups.result _ c.from_residual-in_err-groups.ensures.0
+
+pub returns-in_err-name_all-clause-bounded : goal.returns-in_err-name_all-clause-bounded
+returns-in_err-name_all-clause-bounded g c = IfOk-from_err c.from_residual-in_err-name_all.result _ c.from_residual-in_err-name_all.ensures.0
+
+pub returns-clause-fault : goal.returns-clause-fault
+returns-clause-fault g c = tt

@@ -7,6 +7,7 @@ use Rattle.proof_text.specs.ProofView.{seen_bound, seen_proof}
 use Rattle.proof_text.specs.declared.fault.ProofFault.TheVariants as fault
 use Rattle.proof_bounds.specs.Lines.{AreLineGroups}
 use Rattle.proof_bounds.proofs.LineFaults.{groups_few, groups_more, line_is, node_read, node_within, rows_few, some_node_lem, twice}
+use Rattle.std.proofs.lemmas.Result.{IfOk-from_err}
 use Rattle.proof_bounds.proofs.groups.line_groups.Goals as goal
 
 pub overflow_sub-node : goal.overflow_sub-node
@@ -111,3 +112,15 @@ loop-line-preserved g c =
     c.loop-line.groups.items c.loop-line.invariant (c.bound-item.result.node - 1) c.group_link-link.result low inside node
     c.group_link-link.ensures
     (subst (λ xs. (b : ℕ) → b < length xs → get_or xs b 0 ≢ c.group_link-link.result) (sym read) absent))
+
+pub returns-in_err-groups-clause-groups : goal.returns-in_err-groups-clause-groups
+returns-in_err-groups-clause-groups g c = IfOk-from_err c.from_residual.result _ c.from_residual.ensures.0
+
+pub returns-in-Ok-false-clause-groups : goal.returns-in-Ok-false-clause-groups
+returns-in-Ok-false-clause-groups g c = tt
+
+pub returns-in-Err-clause-groups : goal.returns-in-Err-clause-groups
+returns-in-Err-clause-groups g c = tt
+
+pub returns-clause-fault : goal.returns-clause-fault
+returns-clause-fault g c = tt

@@ -10,6 +10,7 @@ use Rattle.proof_bounds.specs.Lines.{ArePlacedLines, line_node}
 use Rattle.proof_bounds.specs.Places.{ArePlacesOf}
 use Rattle.proof_bounds.proofs.LineFaults.{first_bad, line_is, line_number, lines_placed, none_read}
 use Rattle.proof_bounds.proofs.Pushed.{part_more}
+use Rattle.std.proofs.lemmas.Result.{IfOk-from_err}
 use Rattle.proof_bounds.proofs.lines.placed_lines.Goals as goal
 
 pub loop-bound-init : goal.loop-bound-init
@@ -129,3 +130,27 @@ returns-clause-placed g c = λ query tables join few has.
     subst (λ k. ArePlacedLines query tables join g.R.Rank.KEYS g.R.Rank.key c.args.raw.now (seen_proof c.args.proof.now) k
     c.loop-bound.tops.items (map (λ b. b.ranks.items) c.loop-bound.bounds.items)) end
     (c.loop-bound.invariant.placed query tables join few has)
+
+pub returns-in_err-bounds-clause-placed : goal.returns-in_err-bounds-clause-placed
+returns-in_err-bounds-clause-placed g c = IfOk-from_err c.from_residual.result _ c.from_residual.ensures.0
+
+pub returns-in_err-bounds-clause-each_node : goal.returns-in_err-bounds-clause-each_node
+returns-in_err-bounds-clause-each_node g c = IfOk-from_err c.from_residual.result _ c.from_residual.ensures.0
+
+pub returns-in_default-clause-placed : goal.returns-in_default-clause-placed
+returns-in_default-clause-placed g c = tt
+
+pub returns-in_default-clause-each_node : goal.returns-in_default-clause-each_node
+returns-in_default-clause-each_node g c = tt
+
+pub returns-clause-each_node : goal.returns-clause-each_node
+returns-clause-each_node g c = c.loop-bound.invariant.each_node
+
+pub returns-clause-fault : goal.returns-clause-fault
+returns-clause-fault g c = tt
+
+pub returns-in_err-push-clause-placed : goal.returns-in_err-push-clause-placed
+returns-in_err-push-clause-placed g c = IfOk-from_err c.from_residual-in_err-push.result _ c.from_residual-in_err-push.ensures.0
+
+pub returns-in_err-push-clause-each_node : goal.returns-in_err-push-clause-each_node
+returns-in_err-push-clause-each_node g c = IfOk-from_err c.from_residual-in_err-push.result _ c.from_residual-in_err-push.ensures.0

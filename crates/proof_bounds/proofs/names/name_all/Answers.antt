@@ -4,6 +4,7 @@ use Rattle.std.proofs.lemmas.Bool.{cases_eq}
 use Rattle.tdp_core.proofs.RawReads.{list_read}
 use Rattle.proof_bounds.specs.Lines.{AreNamed}
 use Rattle.proof_bounds.proofs.Pushed.{new_part, old_part, same_part}
+use Rattle.std.proofs.lemmas.Result.{IfOk-from_err}
 use Rattle.proof_bounds.proofs.names.name_all.Goals as goal
 
 pub returns-in_err-name_groups-clause-ranks : goal.returns-in_err-name_groups-clause-ranks
@@ -46,3 +47,6 @@ loop-node-preserved g c =
           (ap (λ r. r.items) c.name_groups.ensures.ranks)
           ∙ c.loop-node.invariant.ranks;
     }
+
+pub returns-in_err-name_groups-clause-named : goal.returns-in_err-name_groups-clause-named
+returns-in_err-name_groups-clause-named g c = IfOk-from_err c.from_residual.result _ c.from_residual.ensures.0

@@ -2,6 +2,7 @@ use Rattle.std.proofs.Common.{◌≡◌, ◌+◌, ◌∷◌, [], None, nat_eq, p
 use Rattle.tdp_core.specs.RawData.{child_link, shape_parent}
 use Rattle.proof_bounds.specs.Lines.{named_link}
 use Rattle.proof_bounds.proofs.Pushed.{pushed_more}
+use Rattle.std.proofs.lemmas.Result.{IfOk-from_err}
 use Rattle.proof_bounds.proofs.names.named_numbers.Goals as goal
 
 pub loop-row-preserved : goal.loop-row-preserved
@@ -20,3 +21,15 @@ loop-row-preserved g c =
           c.loop-row.invariant.numbers
           (c.group_number.ensures ∙ ap (λ x. position (nat_eq x) c.args.groups.now) link) r l;
     }
+
+pub returns-in_err-named-clause-count : goal.returns-in_err-named-clause-count
+returns-in_err-named-clause-count g c = IfOk-from_err c.from_residual.result _ c.from_residual.ensures.0
+
+pub returns-in_err-named-clause-numbers : goal.returns-in_err-named-clause-numbers
+returns-in_err-named-clause-numbers g c = IfOk-from_err c.from_residual.result _ c.from_residual.ensures.0
+
+pub returns-in_err-push-clause-count : goal.returns-in_err-push-clause-count
+returns-in_err-push-clause-count g c = IfOk-from_err c.from_residual-in_err-push.result _ c.from_residual-in_err-push.ensures.0
+
+pub returns-in_err-push-clause-numbers : goal.returns-in_err-push-clause-numbers
+returns-in_err-push-clause-numbers g c = IfOk-from_err c.from_residual-in_err-push.result _ c.from_residual-in_err-push.ensures.0

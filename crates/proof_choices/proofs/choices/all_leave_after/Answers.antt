@@ -1,10 +1,11 @@
 use Rattle.std.proofs.Common.{◌≡◌, ◌<◌, ℕ, option_map, length, slice_index, sym, ap, subst, inl, inr, arith}
-use Rattle.std.proofs.lemmas.Bool.{cases_lt}
+use Rattle.std.proofs.lemmas.Bool.{cases_lt, false≢true}
 use Rattle.tdp_model.specs.KeyTuple.{KeyOf}
 use Rattle.tdp_core.specs.RawData.{raw_len}
 use Rattle.proof_answers.proofs.Nodes.{all_nodes}
 use Rattle.proof_choices.specs.Levels.{IsPassedAt, IsPast, IsWay, list_at}
 use Rattle.proof_choices.proofs.Preparing.{start_rows}
+use Rattle.std.proofs.lemmas.Result.{IfOk-from_err}
 use Rattle.proof_choices.proofs.choices.all_leave_after.Goals as goal
 
 pub leaves_after-requires-clause-rows : goal.leaves_after-requires-clause-rows
@@ -94,3 +95,57 @@ returns-clause-passed g c _ p l =
       b.bounded.rows.nodes,
       all_nodes b.query b.tables join c.requires.ordered long,
     ))
+
+pub returns-in_err-prefixes-clause-room : goal.returns-in_err-prefixes-clause-room
+returns-in_err-prefixes-clause-room g c = omega arith
+
+pub returns-in_err-prefixes-clause-passed : goal.returns-in_err-prefixes-clause-passed
+returns-in_err-prefixes-clause-passed g c = IfOk-from_err c.from_residual.result _ c.from_residual.ensures.0
+
+pub returns-in_err-prefixes-clause-missed : goal.returns-in_err-prefixes-clause-missed
+returns-in_err-prefixes-clause-missed g c = IfOk-from_err c.from_residual.result _ c.from_residual.ensures.0
+
+pub returns-in_err-next-clause-room : goal.returns-in_err-next-clause-room
+returns-in_err-next-clause-room g c = omega arith
+
+pub returns-in_err-next-clause-passed : goal.returns-in_err-next-clause-passed
+returns-in_err-next-clause-passed g c = IfOk-from_err c.from_residual-in_err-next.result _ c.from_residual-in_err-next.ensures.0
+
+pub returns-in_err-next-clause-missed : goal.returns-in_err-next-clause-missed
+returns-in_err-next-clause-missed g c = IfOk-from_err c.from_residual-in_err-next.result _ c.from_residual-in_err-next.ensures.0
+
+pub returns-in_err-good-clause-room : goal.returns-in_err-good-clause-room
+returns-in_err-good-clause-room g c = omega arith
+
+pub returns-in_err-good-clause-passed : goal.returns-in_err-good-clause-passed
+returns-in_err-good-clause-passed g c = IfOk-from_err c.from_residual-in_err-good.result _ c.from_residual-in_err-good.ensures.0
+
+pub returns-in_err-good-clause-missed : goal.returns-in_err-good-clause-missed
+returns-in_err-good-clause-missed g c = IfOk-from_err c.from_residual-in_err-good.result _ c.from_residual-in_err-good.ensures.0
+
+pub loop-node-init : goal.loop-node-init
+loop-node-init g c = record { prefixes = c.in_ok-prefixes.ensures; passed = λ p l. absurd (omega (arith, l)) }
+
+pub with_node-requires-clause-prefixes : goal.with_node-requires-clause-prefixes
+with_node-requires-clause-prefixes g c = c.loop-node.invariant.prefixes
+
+pub leaves_after-requires-clause-ordered : goal.leaves_after-requires-clause-ordered
+leaves_after-requires-clause-ordered g c = c.requires.ordered
+
+pub leaves_after-requires-clause-bounded : goal.leaves_after-requires-clause-bounded
+leaves_after-requires-clause-bounded g c = c.requires.bounded
+
+pub leaves_after-requires-clause-long : goal.leaves_after-requires-clause-long
+leaves_after-requires-clause-long g c = omega arith
+
+pub returns-then-not-good-clause-room : goal.returns-then-not-good-clause-room
+returns-then-not-good-clause-room g c = omega arith
+
+pub returns-then-not-good-clause-passed : goal.returns-then-not-good-clause-passed
+returns-then-not-good-clause-passed g c good = absurd (false≢true good)
+
+pub returns-clause-room : goal.returns-clause-room
+returns-clause-room g c = omega arith
+
+pub returns-clause-missed : goal.returns-clause-missed
+returns-clause-missed g c bad = absurd (false≢true (sym bad))

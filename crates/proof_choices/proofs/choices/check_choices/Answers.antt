@@ -65,3 +65,21 @@ returns-in-Ok-false-clause-fault g c =
           (subst (λ xs. IsMissedAt join tree d key xs (option_map key c.if-proof.last)) c.deref.ensures.value
           (c.in-Ok-false.ensures.missed c.in-Ok-false.field-0-test)),
     )
+
+pub returns-then-is_none-clause-fault : goal.returns-then-is_none-clause-fault
+returns-then-is_none-clause-fault g c = tt
+
+pub all_leave_after-requires-clause-ordered : goal.all_leave_after-requires-clause-ordered
+all_leave_after-requires-clause-ordered g c = c.requires.ordered
+
+pub returns-in-Ok-true-clause-fault : goal.returns-in-Ok-true-clause-fault
+returns-in-Ok-true-clause-fault g c = tt
+
+pub returns-in-Ok-false-clause-passed : goal.returns-in-Ok-false-clause-passed
+returns-in-Ok-false-clause-passed g c = tt
+
+pub returns-in-Err-clause-passed : goal.returns-in-Err-clause-passed
+returns-in-Err-clause-passed g c = tt
+
+pub returns-in-Err-clause-fault : goal.returns-in-Err-clause-fault
+returns-in-Err-clause-fault g c = inl refl

@@ -6,6 +6,8 @@ use Rattle.proof_choices.proofs.Known.{in_some}
 use Rattle.proof_choices.proofs.Walking.{left_before, left_first, left_none, list_asked, lists_more, offer_is, row_fits, row_in}
 use Rattle.proof_choices.proofs.leaving.branch_leaves_after.Given.{Over}
 use Rattle.proof_choices.proofs.leaving.branch_leaves_after.Goals.{After-deref, In-Some, In_ok-fill}
+use Rattle.std.proofs.lemmas.Result.{IfOk-from_err}
+use Rattle.std.proofs.lemmas.Bool.{false≢true}
 use Rattle.proof_choices.proofs.leaving.branch_leaves_after.Goals as goal
 
 -- # What the proofs share
@@ -142,3 +144,30 @@ returns-in-Some-first_open-clause-missed g c bad =
     c.requires.node c.args.least.now c.args.groups.now c.requires.groups b c.requires.branch c.in-Some.known is last
     c.deref.result.now are c.args.taken.now c.args.number found.0 c.in-Some-first_open.offer found.1 found.2
     (ap (is_past d last) (sym c.join-rank.ensures.sum) ∙ sym c.is_past.ensures ∙ bad)
+
+pub returns-in_err-fill-clause-lists : goal.returns-in_err-fill-clause-lists
+returns-in_err-fill-clause-lists g c = IfOk-from_err c.from_residual.result _ c.from_residual.ensures.0
+
+pub returns-in_err-fill-clause-passed : goal.returns-in_err-fill-clause-passed
+returns-in_err-fill-clause-passed g c = IfOk-from_err c.from_residual.result _ c.from_residual.ensures.0
+
+pub returns-in_err-fill-clause-missed : goal.returns-in_err-fill-clause-missed
+returns-in_err-fill-clause-missed g c = IfOk-from_err c.from_residual.result _ c.from_residual.ensures.0
+
+pub fill-requires-clause-ordered : goal.fill-requires-clause-ordered
+fill-requires-clause-ordered g c = c.requires.ordered
+
+pub fill-requires-clause-bounded : goal.fill-requires-clause-bounded
+fill-requires-clause-bounded g c = c.requires.bounded
+
+pub fill-requires-clause-node : goal.fill-requires-clause-node
+fill-requires-clause-node g c = c.requires.node
+
+pub returns-in_default-clause-lists : goal.returns-in_default-clause-lists
+returns-in_default-clause-lists g c = c.requires.lists
+
+pub returns-in_default-clause-missed : goal.returns-in_default-clause-missed
+returns-in_default-clause-missed g c bad = absurd (false≢true (sym bad))
+
+pub returns-in-None-clause-missed : goal.returns-in-None-clause-missed
+returns-in-None-clause-missed g c bad = absurd (false≢true (sym bad))

@@ -5,6 +5,7 @@ use Rattle.std.proofs.lemmas.Bool.{cases_lt}
 use Rattle.std.proofs.lemmas.List.{get_or_append_left, get_or_push}
 use Rattle.proof_choices.specs.declared.branches.Branch.{Branch}
 use Rattle.proof_choices.specs.Levels.{IsBranch, IsNoBranch, list_at}
+use Rattle.std.proofs.lemmas.Result.{IfOk-from_err}
 use Rattle.proof_choices.proofs.leaving.branches_of.Goals as goal
 
 pub loop-n-preserved : goal.loop-n-preserved
@@ -34,3 +35,24 @@ loop-n-preserved g c =
       count = ap length c.in_ok-push.ensures.items ∙ length-append old (x ∷ []) ∙ ap (λ z. z + 1) size;
       each = subst (λ xs. (m : ℕ) → m < length xs → Is m (get_or xs m None)) (sym c.in_ok-push.ensures.items) both;
     }
+
+pub branch_of-requires-clause-ordered : goal.branch_of-requires-clause-ordered
+branch_of-requires-clause-ordered g c = c.requires.ordered
+
+pub branch_of-requires-clause-bounded : goal.branch_of-requires-clause-bounded
+branch_of-requires-clause-bounded g c = c.requires.bounded
+
+pub branch_of-requires-clause-node : goal.branch_of-requires-clause-node
+branch_of-requires-clause-node g c = c.requires.node
+
+pub branch_of-requires-clause-long : goal.branch_of-requires-clause-long
+branch_of-requires-clause-long g c = c.requires.long
+
+pub returns-in_err-push-clause-count : goal.returns-in_err-push-clause-count
+returns-in_err-push-clause-count g c = IfOk-from_err c.from_residual.result _ c.from_residual.ensures.0
+
+pub returns-in_err-push-clause-each : goal.returns-in_err-push-clause-each
+returns-in_err-push-clause-each g c = IfOk-from_err c.from_residual.result _ c.from_residual.ensures.0
+
+pub returns-clause-each : goal.returns-clause-each
+returns-clause-each g c = c.loop-n.invariant.each

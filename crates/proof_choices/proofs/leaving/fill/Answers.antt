@@ -2,6 +2,7 @@ use Rattle.std.proofs.Common.{◌≡◌, ◌<◌, Some, [], length, map, option_
 use Rattle.std.proofs.Math.ListN.{set}
 use Rattle.std.proofs.lemmas.List.{get_or-set_other, get_or-set_same, length-map, map-set}
 use Rattle.proof_choices.specs.Levels.{AreOffers, HasLow}
+use Rattle.std.proofs.lemmas.Result.{IfOk-from_err}
 use Rattle.proof_choices.proofs.leaving.fill.Goals as goal
 
 pub offers_of-requires-clause-fits : goal.offers_of-requires-clause-fits
@@ -32,3 +33,21 @@ returns-in_ok-lists-clause-list g c =
     (sym is)
     (subst (λ rows. AreOffers c.args.join.now c.args.tree.now d key c.args.node rows (key c.args.known)
     (option_map key c.args.last.now) new.items) c.group.ensures c.in_ok-lists.ensures)
+
+pub returns-in_err-lists-clause-count : goal.returns-in_err-lists-clause-count
+returns-in_err-lists-clause-count g c = IfOk-from_err c.from_residual.result _ c.from_residual.ensures.0
+
+pub returns-in_err-lists-clause-others : goal.returns-in_err-lists-clause-others
+returns-in_err-lists-clause-others g c = IfOk-from_err c.from_residual.result _ c.from_residual.ensures.0
+
+pub returns-in_err-lists-clause-list : goal.returns-in_err-lists-clause-list
+returns-in_err-lists-clause-list g c = IfOk-from_err c.from_residual.result _ c.from_residual.ensures.0
+
+pub offers_of-requires-clause-ordered : goal.offers_of-requires-clause-ordered
+offers_of-requires-clause-ordered g c = c.requires.ordered
+
+pub offers_of-requires-clause-bounded : goal.offers_of-requires-clause-bounded
+offers_of-requires-clause-bounded g c = c.requires.bounded
+
+pub offers_of-requires-clause-node : goal.offers_of-requires-clause-node
+offers_of-requires-clause-node g c = c.requires.node

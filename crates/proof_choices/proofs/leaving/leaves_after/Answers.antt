@@ -1,5 +1,5 @@
 use Rattle.std.proofs.Common.{◌≡◌, ◌<◌, None, Some, option_map, length, slice_index_or, sym, ap, subst, arith}
-use Rattle.std.proofs.lemmas.Result.{IfOk-weaker}
+use Rattle.std.proofs.lemmas.Result.{IfOk-from_err, IfOk-weaker}
 use Rattle.proof_bounds.specs.BoundedRows.{bound_ranks}
 use Rattle.proof_choices.specs.Levels.{AreGroups, AreLeast, IsTestable, own_bounds}
 use Rattle.proof_choices.proofs.Preparing.{few_rows_lem, own_within}
@@ -86,3 +86,48 @@ returns g c =
           (subst (λ xs. m.0 < length xs) value m.1.1) (subst (λ xs. slice_index_or xs m.0 None ≡ Some m.1.0) value m.1.2) m.1.3)
           c.numbers_leave_after.ensures.missed;
     }
+
+pub returns-in_err-groups-clause-passed : goal.returns-in_err-groups-clause-passed
+returns-in_err-groups-clause-passed g c = IfOk-from_err c.from_residual.result _ c.from_residual.ensures.0
+
+pub returns-in_err-groups-clause-missed : goal.returns-in_err-groups-clause-missed
+returns-in_err-groups-clause-missed g c = IfOk-from_err c.from_residual.result _ c.from_residual.ensures.0
+
+pub returns-in_err-branches-clause-passed : goal.returns-in_err-branches-clause-passed
+returns-in_err-branches-clause-passed g c = IfOk-from_err c.from_residual-in_err-branches.result _ c.from_residual-in_err-branches.ensures.0
+
+pub returns-in_err-branches-clause-missed : goal.returns-in_err-branches-clause-missed
+returns-in_err-branches-clause-missed g c = IfOk-from_err c.from_residual-in_err-branches.result _ c.from_residual-in_err-branches.ensures.0
+
+pub returns-in_err-least-clause-passed : goal.returns-in_err-least-clause-passed
+returns-in_err-least-clause-passed g c = IfOk-from_err c.from_residual-in_err-least.result _ c.from_residual-in_err-least.ensures.0
+
+pub returns-in_err-least-clause-missed : goal.returns-in_err-least-clause-missed
+returns-in_err-least-clause-missed g c = IfOk-from_err c.from_residual-in_err-least.result _ c.from_residual-in_err-least.ensures.0
+
+pub branches_of-requires-clause-ordered : goal.branches_of-requires-clause-ordered
+branches_of-requires-clause-ordered g c = c.requires.ordered
+
+pub branches_of-requires-clause-bounded : goal.branches_of-requires-clause-bounded
+branches_of-requires-clause-bounded g c = c.requires.bounded
+
+pub branches_of-requires-clause-node : goal.branches_of-requires-clause-node
+branches_of-requires-clause-node g c = c.requires.node
+
+pub branches_of-requires-clause-long : goal.branches_of-requires-clause-long
+branches_of-requires-clause-long g c = c.requires.long
+
+pub branches_of-requires-clause-rows : goal.branches_of-requires-clause-rows
+branches_of-requires-clause-rows g c = c.requires.rows
+
+pub numbers_leave_after-requires-clause-ordered : goal.numbers_leave_after-requires-clause-ordered
+numbers_leave_after-requires-clause-ordered g c = c.requires.ordered
+
+pub numbers_leave_after-requires-clause-bounded : goal.numbers_leave_after-requires-clause-bounded
+numbers_leave_after-requires-clause-bounded g c = c.requires.bounded
+
+pub numbers_leave_after-requires-clause-node : goal.numbers_leave_after-requires-clause-node
+numbers_leave_after-requires-clause-node g c = c.requires.node
+
+pub numbers_leave_after-requires-clause-long : goal.numbers_leave_after-requires-clause-long
+numbers_leave_after-requires-clause-long g c = c.requires.long

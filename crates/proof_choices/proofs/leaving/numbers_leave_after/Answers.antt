@@ -1,8 +1,9 @@
 use Rattle.std.proofs.Common.{◌≡◌, None, Some, option_map, slice_index_or, sym, ap, subst, ◌∙◌, inl, inr}
 use Rattle.std.proofs.Common.{arith}
-use Rattle.std.proofs.lemmas.Bool.{cases_lt}
+use Rattle.std.proofs.lemmas.Bool.{cases_lt, false≢true}
 use Rattle.std.proofs.lemmas.List.{get_or_default, length-map}
 use Rattle.proof_choices.specs.Levels.{IsLeftAfter}
+use Rattle.std.proofs.lemmas.Result.{IfOk-from_err}
 use Rattle.proof_choices.proofs.leaving.numbers_leave_after.Goals as goal
 
 pub loop-number-init : goal.loop-number-init
@@ -54,3 +55,39 @@ pub returns-clause-passed : goal.returns-clause-passed
 returns-clause-passed g c _ n b l e =
     let end = c.loop-number-test.false in
     c.loop-number.invariant.passed n b (omega (arith, l, end)) e
+
+pub returns-in_err-lists-clause-passed : goal.returns-in_err-lists-clause-passed
+returns-in_err-lists-clause-passed g c = IfOk-from_err c.from_residual.result _ c.from_residual.ensures.0
+
+pub returns-in_err-lists-clause-missed : goal.returns-in_err-lists-clause-missed
+returns-in_err-lists-clause-missed g c = IfOk-from_err c.from_residual.result _ c.from_residual.ensures.0
+
+pub returns-in_err-good-clause-passed : goal.returns-in_err-good-clause-passed
+returns-in_err-good-clause-passed g c = IfOk-from_err c.from_residual-in_err-good.result _ c.from_residual-in_err-good.ensures.0
+
+pub returns-in_err-good-clause-missed : goal.returns-in_err-good-clause-missed
+returns-in_err-good-clause-missed g c = IfOk-from_err c.from_residual-in_err-good.result _ c.from_residual-in_err-good.ensures.0
+
+pub number_leaves_after-requires-clause-ordered : goal.number_leaves_after-requires-clause-ordered
+number_leaves_after-requires-clause-ordered g c = c.requires.ordered
+
+pub number_leaves_after-requires-clause-bounded : goal.number_leaves_after-requires-clause-bounded
+number_leaves_after-requires-clause-bounded g c = c.requires.bounded
+
+pub number_leaves_after-requires-clause-node : goal.number_leaves_after-requires-clause-node
+number_leaves_after-requires-clause-node g c = c.requires.node
+
+pub number_leaves_after-requires-clause-long : goal.number_leaves_after-requires-clause-long
+number_leaves_after-requires-clause-long g c = c.requires.long
+
+pub number_leaves_after-requires-clause-groups : goal.number_leaves_after-requires-clause-groups
+number_leaves_after-requires-clause-groups g c = c.requires.groups
+
+pub number_leaves_after-requires-clause-lists : goal.number_leaves_after-requires-clause-lists
+number_leaves_after-requires-clause-lists g c = c.loop-number.invariant.lists
+
+pub returns-then-not-good-clause-passed : goal.returns-then-not-good-clause-passed
+returns-then-not-good-clause-passed g c good = absurd (false≢true good)
+
+pub returns-clause-missed : goal.returns-clause-missed
+returns-clause-missed g c bad = absurd (false≢true (sym bad))

@@ -1,5 +1,5 @@
 use Rattle.std.proofs.Common.{◌≡◌, ◌<◌, ◌+◌, ℕ, None, unwrap_or, length, get_or, sym, ap, subst, ◌∙◌, arith}
-use Rattle.std.proofs.lemmas.Result.{IfOk-weaker}
+use Rattle.std.proofs.lemmas.Result.{IfOk-from_err, IfOk-weaker}
 use Rattle.tdp_core.specs.RowGroups.{places_by_number}
 use Rattle.proof_choices.specs.Levels.{AreGroups}
 use Rattle.proof_choices.proofs.Grouping.{groups_are, numbers_within}
@@ -38,3 +38,6 @@ returns c =
     (λ groups e. subst (AreGroups own count)
     (sym (e ∙ ap (λ xs. places_by_number xs (count + 1)) c.deref.ensures.value)) (groups_are own count numbers size each))
     c.of_numbers.ensures
+
+pub returns-in_err-push : goal.returns-in_err-push
+returns-in_err-push c = IfOk-from_err c.from_residual.result _ c.from_residual.ensures.0

@@ -1,12 +1,12 @@
 use Rattle.std.proofs.Common.{◌≡◌, ◌<◌, ◌+◌, ◌≤◌, ◌++◌, ◌∷◌, [], map, length, sym, ap, subst, ◌∙◌, arith, true, nat_eq, IfSome}
-use Rattle.tdp_core.specs.RawData.{raw_len}
+use Rattle.tdp_core.specs.RawData.{raw_len, raw_row_at}
 use Rattle.tdp_core.proofs.RawReads.{length_within}
 use Rattle.semi_join.specs.Reduction.{links_of, child_nodes, has_partners, group_link, groups_named, EndsInPlaceOf, IsNumbering}
-use Rattle.indexmap.specs.IndexSet.{insert_key}
+use Rattle.indexmap.specs.IndexSet.{insert_all, insert_key}
 use Rattle.semi_join.proofs.FirstOnes.{kept_first}
 use Rattle.semi_join.proofs.Rows.{length-map}
 use Rattle.semi_join.proofs.NamedGroups.{named_count}
-use Rattle.semi_join.proofs.SoFar.{IsSoFar, room, room_all, kids_below_lem, few_links, few_numbers, missing_row, drop_row, keep_row_lem}
+use Rattle.semi_join.proofs.SoFar.{IsSoFar, room, room_all, kids_below_lem, none_so_far, few_links, few_numbers, missing_row, drop_row, keep_row_lem}
 use Rattle.semi_join.proofs.node.keep_rows.Goals as goal
 use Rattle.semi_join.proofs.node.keep_rows.Goals.{in-Some+in_ok-keep_row, in_default}
 
@@ -97,3 +97,39 @@ returns-clause-numbers g c =
     let now = c.loop-i.kept in
     let all : c.loop-i.i ≡ raw_len c.args.raw.now c.args.node = omega (arith, c.len-i-end.ensures) in
     subst (λ n. IsNumbering (map (group_link c.args.raw.now c.args.node) (kept_first c.args.raw.now c.args.node (map links_of c.args.later.now) n)) (links_of now.links) now.numbers.items) all c.loop-i.invariant.so_far.numbering
+
+pub loop-i-init : goal.loop-i-init
+loop-i-init g c =
+    let now = c.in_ok-kept.kept in
+    record {
+      so_far = none_so_far c.args.raw.now c.args.node (map links_of c.args.later.now) now.rows.items now.to_child.rows (links_of now.links) now.numbers.items
+          c.in_ok-kept.ensures.rows (ap (λ v. v.rows) c.in_ok-kept.ensures.to_child) c.in_ok-kept.ensures.links c.in_ok-kept.ensures.numbers;
+      width = omega (arith, ap (λ v. v.width) c.in_ok-kept.ensures.to_child, c.len.ensures, ap length c.in_ok-children.ensures);
+      counted = omega arith;
+    }
+
+pub child_groups-requires-clause-row : goal.child_groups-requires-clause-row
+child_groups-requires-clause-row g c = omega (arith, c.len-i-end.ensures)
+
+pub child_groups-requires-clause-children : goal.child_groups-requires-clause-children
+child_groups-requires-clause-children g c = c.deref.ensures.value ∙ c.in_ok-children.ensures
+
+pub group_link_of-own-requires-clause-row : goal.group_link_of-own-requires-clause-row
+group_link_of-own-requires-clause-row g c = omega (arith, c.len-i-end.ensures)
+
+pub returns-clause-rows : goal.returns-clause-rows
+returns-clause-rows g c =
+    let all : c.loop-i.i ≡ raw_len c.args.raw.now c.args.node = omega (arith, c.len-i-end.ensures) in
+    c.loop-i.invariant.so_far.rows ∙ ap (λ n. map (raw_row_at c.args.raw.now c.args.node) (kept_first c.args.raw.now c.args.node (map links_of c.args.later.now) n)) all
+
+pub returns-clause-to_child : goal.returns-clause-to_child
+returns-clause-to_child g c =
+    let all : c.loop-i.i ≡ raw_len c.args.raw.now c.args.node = omega (arith, c.len-i-end.ensures) in
+    c.loop-i.invariant.so_far.to_child
+    ∙ ap (λ n. map (groups_named c.args.raw.now c.args.node (map links_of c.args.later.now)) (kept_first c.args.raw.now c.args.node (map links_of c.args.later.now) n)) all
+
+pub returns-clause-links : goal.returns-clause-links
+returns-clause-links g c =
+    let all : c.loop-i.i ≡ raw_len c.args.raw.now c.args.node = omega (arith, c.len-i-end.ensures) in
+    c.loop-i.invariant.so_far.names
+    ∙ ap (λ n. insert_all nat_eq [] (map (group_link c.args.raw.now c.args.node) (kept_first c.args.raw.now c.args.node (map links_of c.args.later.now) n))) all

@@ -1,4 +1,5 @@
-use Rattle.std.proofs.Common.{◌≡◌, map, length, sym, ap, subst, ◌∙◌}
+use Rattle.std.proofs.Common.{◌≡◌, ◌<◌, map, length, sym, ap, subst, ◌∙◌, arith}
+use Rattle.std.specs.List.{All}
 use Rattle.tdp_core.specs.RowGroups.{places_by_number}
 use Rattle.semi_join.specs.Reduction.{links_of, kept_rows, group_link, group_links, IsGrouping}
 use Rattle.semi_join.proofs.PlacesByNumber.{numbered_grouping}
@@ -21,3 +22,19 @@ returns-clause-reduced g c =
       grouping = subst (IsGrouping owns (group_links raw node later)) (sym groups) grouping;
       best = c.new.ensures.items;
     }
+
+pub of_numbers-requires-clause-numbers : goal.of_numbers-requires-clause-numbers
+of_numbers-requires-clause-numbers g c =
+    let below = subst (λ k. All (λ n. n < k) c.in_ok-kept.kept.numbers.items) (sym c.len.ensures) c.in_ok-kept.ensures.numbers.below in
+    subst (λ ns. All (λ n. n < c.len.result) ns) (sym c.deref.ensures.value) below
+
+pub of_numbers-requires-clause-few : goal.of_numbers-requires-clause-few
+of_numbers-requires-clause-few g c = omega (arith, ap length c.deref.ensures.value, c.in_ok-kept.ensures.few)
+
+pub returns-clause-links : goal.returns-clause-links
+returns-clause-links g c = c.in_ok-kept.ensures.links
+
+pub returns-clause-few : goal.returns-clause-few
+returns-clause-few g c =
+    let numbering = c.in_ok-kept.ensures.numbers in
+    omega (arith, numbering.size, numbering.few, c.in_ok-kept.ensures.few)

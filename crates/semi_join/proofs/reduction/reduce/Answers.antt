@@ -1,11 +1,11 @@
-use Rattle.std.proofs.Common.{◌≡◌, ◌≢◌, suc, ◌+◌, ◌-◌, ◌<◌, ◌∷◌, [], map, length, sym, ap, subst, ◌∙◌, arith}
+use Rattle.std.proofs.Common.{◌≡◌, ◌≢◌, suc, ◌+◌, ◌-◌, ◌<◌, ◌∷◌, [], map, length, sym, ap, subst, ◌∙◌, refl, arith}
 use Rattle.std.proofs.lemmas.List.{get_or-set_other}
 use Rattle.tdp_core.specs.RawData.{IsRawFormed, RawData, rows_at}
 use Rattle.tdp_core.specs.TreeData.{node_data}
 use Rattle.tdp_core.proofs.RawFacts.{formed_less}
 use Rattle.semi_join.specs.Reduction.{links_of, IsReducedNode, AreFew, group_links}
 use Rattle.semi_join.proofs.FromLast.{links_last, AreReducedLast}
-use Rattle.semi_join.proofs.FromLast.{steps_more, steps_few, from_more, links_more, few_more}
+use Rattle.semi_join.proofs.FromLast.{steps_more, steps_few, few_more, few_none, from_more, from_none, links_more, links_none}
 use Rattle.semi_join.proofs.SameRows.{links_same, reduced_same, steps_same}
 use Rattle.semi_join.proofs.WholeReduction.{whole_reduction}
 use Rattle.semi_join.proofs.reduction.reduce.Goals as goal
@@ -84,3 +84,39 @@ returns-clause-reduced g c =
     let all : length c.args.raw.shapes - c.loop-node.node ≡ length c.args.raw.shapes = omega arith in
     whole_reduction g.R.Rank.KEYS g.R.Rank.key c.args.raw (map node_data c.loop-node.nodes.items) c.nodes-node.ensures.formed
     (subst (λ n. AreReducedLast c.args.raw n (map node_data c.loop-node.nodes.items)) all c.loop-node.invariant.reduced)
+
+pub loop-node-init : goal.loop-node-init
+loop-node-init g c =
+    let raw = c.args.raw in
+    let all = c.nodes-node.ensures.count in
+    let no_links = ap (map links_of) c.new-later.ensures.items in
+    record {
+      formed = c.nodes-node.ensures.formed;
+      shapes = refl;
+      rows = λ v h. refl;
+      reduced = from_none raw c.nodes-node.result (map node_data c.new-nodes.result.items) all (ap (map node_data) c.new-nodes.ensures.items);
+      links = links_none raw c.nodes-node.result (map links_of c.new-later.result.items) all no_links;
+      few = few_none (map links_of c.new-later.result.items) no_links;
+      count = omega (arith, all, ap length c.new-later.ensures.items);
+      counted = omega arith;
+    }
+
+pub reduce_node-requires-clause-node : goal.reduce_node-requires-clause-node
+reduce_node-requires-clause-node g c = omega (arith, c.loop-node.invariant.count, ap length c.loop-node.invariant.shapes)
+
+pub reduce_node-requires-clause-shaped : goal.reduce_node-requires-clause-shaped
+reduce_node-requires-clause-shaped g c = c.loop-node.invariant.formed.shaped
+
+pub reduce_node-requires-clause-few_rows : goal.reduce_node-requires-clause-few_rows
+reduce_node-requires-clause-few_rows g c = c.loop-node.invariant.formed.few_rows
+
+pub reduce_node-requires-clause-later : goal.reduce_node-requires-clause-later
+reduce_node-requires-clause-later g c = omega (arith, c.loop-node.invariant.count, ap length c.loop-node.invariant.shapes, ap length c.deref.ensures.value)
+
+pub reduce_node-requires-clause-few : goal.reduce_node-requires-clause-few
+reduce_node-requires-clause-few g c = subst (λ ls. AreFew (map links_of ls)) (sym c.deref.ensures.value) c.loop-node.invariant.few
+
+pub returns-clause-cost : goal.returns-clause-cost
+returns-clause-cost g c =
+    let raw = c.args.raw in
+    steps_few raw.rows c.loop-node.node (length raw.shapes) c.args.steps.now c.loop-node.steps c.loop-node.invariant.counted

@@ -73,3 +73,15 @@ first_stream-requires-clause-headed g c =
     let row = member_is_row d key t c.requires.formed c.args.node c.loop-group.group 0 c.requires.node (c.requires.formed.inhabited c.args.node c.loop-group.group c.requires.node within) in
     subst (λ (z : List (NodeLists g.row.R.Denot)). IsHeaded d key t c.loop-group.entries.entries z c.args.node (get_or (members t c.args.node c.loop-group.group) 0 0)) (sym c.as_slice.ensures.value)
     (headed_begun d key t c.requires.formed c.loop-group.entries.entries c.loop-group.nodes.items c.loop-group.invariant.begun.streams c.args.node (get_or (members t c.args.node c.loop-group.group) 0 0) c.requires.node row c.loop-group.invariant.begun.behind)
+
+pub first_stream-requires-clause-formed : goal.first_stream-requires-clause-formed
+first_stream-requires-clause-formed g c = c.requires.formed
+
+pub first_stream-requires-clause-node : goal.first_stream-requires-clause-node
+first_stream-requires-clause-node g c = c.requires.node
+
+pub first_stream-requires-clause-group : goal.first_stream-requires-clause-group
+first_stream-requires-clause-group g c = omega (arith, c.loop-group-test.true, c.groups-group-end.ensures)
+
+pub index_mut-requires : goal.index_mut-requires
+index_mut-requires g c = omega (arith, c.requires.node, c.loop-group.invariant.begun.streams.all_nodes)

@@ -1,4 +1,4 @@
-use Rattle.std.proofs.Common.{◌≡◌, None, [], ◌∷◌, ◌++◌, get_or, refl, sym, ap, ◌∙◌}
+use Rattle.std.proofs.Common.{◌≡◌, None, [], ◌∷◌, ◌++◌, length, get_or, refl, sym, ap, ◌∙◌, arith}
 use Rattle.stream_store.specs.declared.entry.Linked.{Linked}
 use Rattle.suffix_streams.specs.declared.stream.Found.{Found}
 use Rattle.suffix_streams.proofs.BeginNodes.{first_best, first_member}
@@ -28,3 +28,24 @@ returns-clause-entry g c =
 
 pub returns-clause-only : goal.returns-clause-only
 returns-clause-only g c = (c.first_solution-solution.result, queue_of g c, c.first_solution-solution.ensures.first)
+
+pub first_solution-solution-requires-clause-formed : goal.first_solution-solution-requires-clause-formed
+first_solution-solution-requires-clause-formed g c = c.requires.formed
+
+pub first_solution-solution-requires-clause-node : goal.first_solution-solution-requires-clause-node
+first_solution-solution-requires-clause-node g c = c.requires.node
+
+pub first_solution-solution-requires-clause-group : goal.first_solution-solution-requires-clause-group
+first_solution-solution-requires-clause-group g c = c.requires.group
+
+pub first_solution-solution-requires-clause-member : goal.first_solution-solution-requires-clause-member
+first_solution-solution-requires-clause-member g c = c.requires.formed.inhabited c.args.node c.args.group c.requires.node c.requires.group
+
+pub first_solution-solution-requires-clause-headed : goal.first_solution-solution-requires-clause-headed
+first_solution-solution-requires-clause-headed g c = c.requires.headed
+
+pub returns-clause-head : goal.returns-clause-head
+returns-clause-head g c = c.push_reserved-head.ensures.id ∙ ap length c.reserve.ensures.entries
+
+pub returns-clause-cost : goal.returns-clause-cost
+returns-clause-cost g c = omega (arith, c.first_solution-solution.ensures.cost, c.push_reserved-head.ensures.cost)

@@ -1,4 +1,4 @@
-use Rattle.std.proofs.Common.{◌≡◌, refl, suc, ◌+◌, ◌-◌, ◌<◌, length, get_or, sym, ap, ◌∙◌, subst, arith}
+use Rattle.std.proofs.Common.{[], ◌≡◌, refl, suc, ◌+◌, ◌-◌, ◌<◌, length, get_or, sym, ap, ◌∙◌, subst, arith}
 use Rattle.suffix_streams.specs.NodeLists.{product_at, known_of}
 use Rattle.suffix_streams.specs.StreamsData.{IsSumOf, lists_of, products_of, product_of, part_known}
 use Rattle.suffix_streams.proofs.Heads.{lists_at}
@@ -62,3 +62,41 @@ returns-clause-parts g c = (
       (record { found = λ some. omega (arith, known g at.After-cell-cell, ap (λ k. part_known n c.args.node c.args.row k) more); first = λ none. absurd (omega (arith, none, last g at.After-cell-cell)) })
       (λ x. c.cell-cell.ensures x ∙ ap (λ m. get_or (product_at m c.args.row (c.child_count-count.result - 1)).found c.args.place x) (sym (lists g at.After-cell-cell)))),
 )
+
+pub offset_bounds-nodes-node : goal.offset_bounds-nodes-node
+offset_bounds-nodes-node g c = omega (arith, c.requires.formed.all_nodes, c.requires.node)
+
+pub bounds-nodes-node : goal.bounds-nodes-node
+bounds-nodes-node g c = omega (arith, c.requires.formed.all_nodes, c.requires.node)
+
+pub known-requires : goal.known-requires
+known-requires g c =
+    let inside : c.args.node < length c.args.nodes.now = omega (arith, c.requires.formed.all_nodes, c.requires.node) in
+    let same : lists_of c.args.nodes.now c.args.node ≡ c.index-nodes-node.result = lists_at c.args.nodes.now c.args.node c.index-nodes-node.result c.index-nodes-node.is inside in
+    omega (arith, c.requires.opened, c.requires.formed.all_children c.args.node c.requires.node, ap (λ n. length n.children) same, ap (λ n. length (get_or n.products c.args.row [])) same, c.child_count-count.ensures)
+
+pub overflow_sub-child : goal.overflow_sub-child
+overflow_sub-child g c = omega (arith, c.if-count-eq0.false)
+
+pub cell-cell-requires-clause-child : goal.cell-cell-requires-clause-child
+cell-cell-requires-clause-child g c =
+    let inside : c.args.node < length c.args.nodes.now = omega (arith, c.requires.formed.all_nodes, c.requires.node) in
+    let same : lists_of c.args.nodes.now c.args.node ≡ c.index-nodes-node.result = lists_at c.args.nodes.now c.args.node c.index-nodes-node.result c.index-nodes-node.is inside in
+    omega (arith, c.requires.opened, c.requires.formed.all_children c.args.node c.requires.node, ap (λ n. length n.children) same, ap (λ n. length (get_or n.products c.args.row [])) same, c.child_count-count.ensures, c.if-count-eq0.false)
+
+pub cell-cell-requires-clause-place : goal.cell-cell-requires-clause-place
+cell-cell-requires-clause-place g c =
+    let more : c.child_count-count.result ≡ suc (c.child_count-count.result - 1) = omega (arith, c.if-count-eq0.false) in
+    omega (arith, c.known.ensures, ap (λ k. known_of c.index-nodes-node.result c.args.row k) more, c.if-known-place.false)
+
+pub cell_rank-rank-requires-clause-formed : goal.cell_rank-rank-requires-clause-formed
+cell_rank-rank-requires-clause-formed g c = c.requires.formed.tree
+
+pub cell_rank-rank-requires-clause-node : goal.cell_rank-rank-requires-clause-node
+cell_rank-rank-requires-clause-node g c = c.requires.node
+
+pub cell_rank-rank-requires-clause-row : goal.cell_rank-rank-requires-clause-row
+cell_rank-rank-requires-clause-row g c = c.requires.row
+
+pub returns-clause-source : goal.returns-clause-source
+returns-clause-source g c = (refl, refl)

@@ -1,11 +1,31 @@
-use Rattle.std.proofs.Common.{◌≡◌, ℕ, suc, zero, List, [], map, get_or, replicate, refl}
-use Rattle.suffix_streams.specs.OpenedRows.{list_numbered}
+use Rattle.std.proofs.Common.{◌≡◌, ℕ, suc, zero, List, [], length, map, get_or, replicate, refl, ap, ◌∙◌, arith}
+use Rattle.suffix_streams.specs.OpenedRows.{HaveOwnLists, list_numbered}
+use Rattle.suffix_streams.proofs.Stores.{map_length}
 use Rattle.suffix_streams.proofs.opened.RowProducts.with_rows.Goals as goal
 
 unopened : {A : Type 0} (lists : List (List A)) (n r : ℕ) → get_or (map (list_numbered lists) (replicate n 0)) r [] ≡ []
 unopened lists zero r = refl
 unopened lists (suc n) zero = refl
 unopened lists (suc n) (suc r) = unopened lists n r
+
+-- no row has a list
+numbers : (n r : ℕ) → ◌≡◌ {A = ℕ} (get_or (replicate n 0) r 0) 0
+numbers zero r = refl
+numbers (suc n) zero = refl
+numbers (suc n) (suc r) = numbers n r
+
+own : (n count : ℕ) → HaveOwnLists (replicate n 0) count
+own n count = record { within = λ r. omega (arith, numbers n r); apart = λ r s some same. absurd (omega (arith, some, numbers n r)) }
+
+all : (n : ℕ) → length {A = ℕ} (replicate n 0) ≡ n
+all zero = refl
+all (suc n) = ap suc (all n)
+
+pub invariant_of-result : goal.invariant_of-result
+invariant_of-result g c = rw (c.in_ok-opened.ensures.items_if_clones_equal (λ y same. same)) (own c.args.rows _)
+
+pub returns-clause-count : goal.returns-clause-count
+returns-clause-count g c = rw (c.in_ok-opened.ensures.items_if_clones_equal (λ y same. same)) (map_length _ (replicate c.args.rows 0) ∙ all c.args.rows)
 
 pub returns-clause-none : goal.returns-clause-none
 returns-clause-none g c r =

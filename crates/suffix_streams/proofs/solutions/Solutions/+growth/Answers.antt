@@ -11,13 +11,13 @@ use Rattle.suffix_streams.specs.StreamData.{StreamData}
 use Rattle.suffix_streams.specs.NodeLists.{NodeLists, product_at, stream_at, known_of}
 use Rattle.suffix_streams.specs.Firsts.{can_enter}
 use Rattle.suffix_streams.specs.Rankings.{child}
-use Rattle.suffix_streams.specs.StreamsData.{group_of, next_of, stream_of, part_known, row_known, IsStreams, IsHeaded}
+use Rattle.suffix_streams.specs.StreamsData.{group_of, next_of, node_of, stream_of, part_known, row_known, IsStreams, IsHeaded}
 use Rattle.suffix_streams.specs.Growing.{IsGrown, IsExtended, IsReached, IsAnswered}
 use Rattle.suffix_streams.proofs.Heads.{lists_at}
 use Rattle.suffix_streams.proofs.Entries.{headed_of}
 use Rattle.suffix_streams.proofs.Stores.{any_default}
 use Rattle.suffix_streams.proofs.StepCells.{no_top}
-use Rattle.suffix_streams.proofs.Searching.{answered_stays, last_of_all, sums_done, reached_none}
+use Rattle.suffix_streams.proofs.Searching.{answered_stays, extended_none, last_of_all, sums_done, reached_none}
 use Rattle.suffix_streams.proofs.NextCall.{IsOwned, IsTopRead, IsRowOpen, IsRowCounted, IsRowSearched, owned, top_read, row_within, row_open, row_counted, row_searched, only_opened, searched_grown, searched_queues, searched_steps, searched_stream, searched_queue, linked_grown, linked_queues}
 use Rattle.suffix_streams.proofs.RowSearch.{IsRoomMade, IsChildAsked, IsLeftSearched, room_made, made_none, made_queues, made_unstepped, child_asked, asked_extended, asked_queues, asked_within, asked_unstepped, left_searched, left_extended, left_queues, left_steps, one_more_extended, one_more_queues}
 use Rattle.suffix_streams.proofs.SearchCosts.{none_within}
@@ -768,3 +768,120 @@ search-returns-in_err-extend-clause-formed g t c =
 pub search-child_head-head-requires-clause-formed : goal.search-child_head-head-requires-clause-formed
 search-child_head-head-requires-clause-formed g t c =
     c.after.ensures.formed.tree
+
+pub after-returns-in-Some-clause-formed : goal.after-returns-in-Some-clause-formed
+after-returns-in-Some-clause-formed g t c =
+    c.requires.formed
+
+pub after-returns-in-Some-clause-grown : goal.after-returns-in-Some-clause-grown
+after-returns-in-Some-clause-grown g t c =
+    opened_grown c.args.self.now.tree.now (node_of c.args.self.now.entries.entries c.args.entry) c.args.self.now.entries.entries c.args.self.now.entries.entries c.args.self.now.nodes.items c.args.self.now.nodes.items refl (λ w other. refl)
+
+pub after-returns-in-Some-clause-queues : goal.after-returns-in-Some-clause-queues
+after-returns-in-Some-clause-queues g t c =
+    λ v r k. omega arith
+
+pub after-returns-in_default-top-clause-formed : goal.after-returns-in_default-top-clause-formed
+after-returns-in_default-top-clause-formed g t c =
+    c.requires.formed
+
+pub after-returns-in_default-top-clause-grown : goal.after-returns-in_default-top-clause-grown
+after-returns-in_default-top-clause-grown g t c =
+    opened_grown c.args.self.now.tree.now (node_of c.args.self.now.entries.entries c.args.entry) c.args.self.now.entries.entries c.args.self.now.entries.entries c.args.self.now.nodes.items c.args.self.now.nodes.items refl (λ w other. refl)
+
+pub after-returns-in_default-top-clause-queues : goal.after-returns-in_default-top-clause-queues
+after-returns-in_default-top-clause-queues g t c =
+    λ v r k. omega arith
+
+pub after-returns-in_default-top-clause-known : goal.after-returns-in_default-top-clause-known
+after-returns-in_default-top-clause-known g t c =
+    let none = next_is c.args.self.now.entries.entries c.args.entry None c.requires.entry (λ x. c.next_of.ensures.next x ∙ c.in_default.is) in
+    λ some. not_some (next_of c.args.self.now.entries.entries c.args.entry) none some
+
+pub after-returns-in_err-open_row-clause-tree : goal.after-returns-in_err-open_row-clause-tree
+after-returns-in_err-open_row-clause-tree g t c =
+    c.open_row.ensures.tree
+
+pub after-returns-in_err-extend-clause-tree : goal.after-returns-in_err-extend-clause-tree
+after-returns-in_err-extend-clause-tree g t c =
+    c.extend.ensures.tree ∙ c.open_row.ensures.tree
+
+pub after-advance-requires-clause-tie_free : goal.after-advance-requires-clause-tie_free
+after-advance-requires-clause-tie_free g t c =
+    subst IsTieFreeTree (sym (c.extend.ensures.tree ∙ c.open_row.ensures.tree)) c.requires.tie_free
+
+pub after-advance-requires-clause-last : goal.after-advance-requires-clause-last
+after-advance-requires-clause-last g t c =
+    omega (arith, c.requires.entry, c.extend.ensures.extended.store.longer, ap (λ z. length z.entries) c.open_row.ensures.entries)
+
+pub after-advance-requires-clause-count : goal.after-advance-requires-clause-count
+after-advance-requires-clause-count g t c =
+    c.extend.ensures.extended.count ∙ c.in_ok-open_row.ensures.count ∙ ap (λ z. child_count z c.get-found.result.now.node) (sym (c.extend.ensures.tree ∙ c.open_row.ensures.tree))
+
+pub after-advance-requires-clause-room : goal.after-advance-requires-clause-room
+after-advance-requires-clause-room g t c =
+    c.in_ok-extend.ensures.room
+
+pub after-returns-clause-tree : goal.after-returns-clause-tree
+after-returns-clause-tree g t c =
+    c.advance.ensures.tree ∙ c.extend.ensures.tree ∙ c.open_row.ensures.tree
+
+pub after-returns-clause-answer : goal.after-returns-clause-answer
+after-returns-clause-answer g t c =
+    subst (λ (z : List (NodeData g.row.R.Denot)). IsAnswered g.R.Rank.KEYS g.R.Rank.key z c.advance.new.self.entries.entries c.args.entry c.advance.result) (c.advance.ensures.tree ∙ c.extend.ensures.tree ∙ c.open_row.ensures.tree) (subst (λ (z : List (NodeData g.row.R.Denot)). IsAnswered g.R.Rank.KEYS g.R.Rank.key z c.advance.new.self.entries.entries c.args.entry c.advance.result) (sym c.advance.ensures.tree) c.advance.ensures.answer)
+
+pub extend-returns-then-place-known-clause-formed : goal.extend-returns-then-place-known-clause-formed
+extend-returns-then-place-known-clause-formed g t c =
+    subst (λ (z : List (Linked (Found g.row.R.Denot))). IsStreams g.R.Rank.KEYS g.R.Rank.key c.args.self.now.tree.now z c.args.self.now.nodes.items) (sym c.reserve.ensures.entries) c.requires.formed
+
+pub extend-returns-then-place-known-clause-extended : goal.extend-returns-then-place-known-clause-extended
+extend-returns-then-place-known-clause-extended g t c =
+    subst (λ (z : List (Linked (Found g.row.R.Denot))). IsExtended c.args.self.now.tree.now c.args.node c.args.row c.args.count c.args.self.now.entries.entries c.args.self.now.nodes.items z c.args.self.now.nodes.items) (sym c.reserve.ensures.entries) (extended_none g.R.Rank.KEYS g.R.Rank.key c.args.self.now.tree.now c.args.node c.args.row c.args.count c.args.self.now.entries.entries c.args.self.now.nodes.items)
+
+pub extend-returns-then-place-known-clause-queues : goal.extend-returns-then-place-known-clause-queues
+extend-returns-then-place-known-clause-queues g t c =
+    λ v r k. omega arith
+
+pub extend-returns-then-place-known-clause-room : goal.extend-returns-then-place-known-clause-room
+extend-returns-then-place-known-clause-room g t c =
+    c.reserve.ensures.ok
+
+pub search-returns-in_default-clause-formed : goal.search-returns-in_default-clause-formed
+search-returns-in_default-clause-formed g t c =
+    subst (λ (z : List (Linked (Found g.row.R.Denot))). IsStreams g.R.Rank.KEYS g.R.Rank.key c.args.self.now.tree.now z c.args.self.now.nodes.items) (sym c.reserve.ensures.entries) c.requires.formed
+
+pub search-returns-in_default-clause-extended : goal.search-returns-in_default-clause-extended
+search-returns-in_default-clause-extended g t c =
+    subst (λ (z : List (Linked (Found g.row.R.Denot))). IsExtended c.args.self.now.tree.now c.args.node c.args.row c.args.count c.args.self.now.entries.entries c.args.self.now.nodes.items z c.args.self.now.nodes.items) (sym c.reserve.ensures.entries) (extended_none g.R.Rank.KEYS g.R.Rank.key c.args.self.now.tree.now c.args.node c.args.row c.args.count c.args.self.now.entries.entries c.args.self.now.nodes.items)
+
+pub search-returns-in_default-clause-queues : goal.search-returns-in_default-clause-queues
+search-returns-in_default-clause-queues g t c =
+    λ v r k. omega arith
+
+pub search-returns-in_default-clause-room : goal.search-returns-in_default-clause-room
+search-returns-in_default-clause-room g t c =
+    c.reserve.ensures.ok
+
+pub search-overflow_sub-child : goal.search-overflow_sub-child
+search-overflow_sub-child g t c =
+    omega (arith, c.requires.some)
+
+pub search-child_head-head-requires-clause-node : goal.search-child_head-head-requires-clause-node
+search-child_head-head-requires-clause-node g t c =
+    omega (arith, c.requires.node, ap length c.after.ensures.tree)
+
+pub search-child_head-head-requires-clause-row : goal.search-child_head-head-requires-clause-row
+search-child_head-head-requires-clause-row g t c =
+    subst (λ (z : List (NodeData g.row.R.Denot)). c.args.row < rows z c.args.node) (sym c.after.ensures.tree) c.requires.row
+
+pub search-index-requires-2 : goal.search-index-requires-2
+search-index-requires-2 g t c =
+    omega (arith, c.requires.node, c.after.ensures.formed.all_nodes, ap length c.after.ensures.tree)
+
+pub search-returns-in_err-below-clause-tree : goal.search-returns-in_err-below-clause-tree
+search-returns-in_err-below-clause-tree g t c =
+    c.after.ensures.tree
+
+pub search-returns-in_err-extend-clause-tree : goal.search-returns-in_err-extend-clause-tree
+search-returns-in_err-extend-clause-tree g t c =
+    c.extend.ensures.tree ∙ c.after.ensures.tree

@@ -1,17 +1,20 @@
-use Rattle.std.proofs.Common.{◌≡◌, ℕ, ◌+◌, ◌*◌, ◌<◌, ◌≤◌, Some, IfSome, IfNone, is_some, List, [], length, get_or, sym, ap, ◌∙◌, subst, arith}
+use Rattle.std.proofs.Common.{◌≡◌, ◌≢◌, ℕ, ◌+◌, ◌*◌, ◌<◌, ◌≤◌, None, Some, IfSome, IfNone, is_some, List, [], length, get_or, refl, sym, ap, ◌∙◌, subst, arith}
 use Rattle.take2_heap.specs.Order.{IsLeast}
 use Rattle.tdp_core.specs.TreeData.{members, child_count}
 use Rattle.tdp_model.specs.KeyTuple.{key_none}
+use Rattle.stream_store.specs.declared.entry.Linked.{Linked}
+use Rattle.suffix_streams.specs.declared.stream.Found.{Found}
 use Rattle.suffix_streams.specs.NodeLists.{NodeLists, stream_at, with_queue}
 use Rattle.suffix_streams.specs.StreamsData.{IsSumOf, row_known, products_of, IsStreams, node_list, group_list_of, node_of, group_of, lists_of, stream_of}
 use Rattle.suffix_streams.specs.Growing.{IsAnswered}
-use Rattle.suffix_streams.proofs.Changes.{lists_same}
+use Rattle.suffix_streams.proofs.Changes.{lists_other, lists_same}
 use Rattle.suffix_streams.proofs.Heads.{lists_at}
 use Rattle.suffix_streams.proofs.Kept.{held_itself}
 use Rattle.suffix_streams.proofs.StepCells.{first_of, no_top}
 use Rattle.suffix_streams.proofs.Merging.{queued_products}
 use Rattle.suffix_streams.proofs.Entries.{stream_owned}
-use Rattle.suffix_streams.proofs.Stores.{node_length, set_length}
+use Rattle.suffix_streams.proofs.State.{count_more}
+use Rattle.suffix_streams.proofs.Stores.{at_more, next_value, node_length, set_length, store_stays}
 use Rattle.suffix_streams.proofs.Linked.{entry_held}
 use Rattle.rank_key.specs.Bits.{bit_length}
 use Rattle.rank_key.proofs.BitLemmas.{bit_length_rises}
@@ -19,7 +22,7 @@ use Rattle.stream_model.specs.Links.{owned, IsLinkedAt}
 use Rattle.suffix_streams.specs.Rankings.{part_list, group_list}
 use Rattle.suffix_streams.proofs.QueuePass.{IsGroupTop, IsQueuePassed, IsEntryLinked, group_top, queue_passed, passed_ends, passed_grows, entry_linked}
 use Rattle.suffix_streams.proofs.solutions.Solutions.advance.Given.{Over}
-use Rattle.suffix_streams.proofs.solutions.Solutions.advance.Goals.{After-as_slice, After-index, After-pass_last, After-set_next, In_ok-top}
+use Rattle.suffix_streams.proofs.solutions.Solutions.advance.Goals.{After-as_slice, After-index, After-pass_last, After-push_reserved-next, After-set_next, In_ok-top}
 use Rattle.suffix_streams.proofs.solutions.Solutions.advance.Goals as goal
 
 -- # What the proofs share
@@ -71,6 +74,19 @@ module _ (g : Over) where
 
   first_is : (c : In_ok-top g) → lists_of c.pass_last.new.nodes.items c.args.node ≡ c.index.result.now → c.in_ok-top.top ≡ get_or (stream_of c.pass_last.new.nodes.items c.args.node c.args.group).queue 0 c.in_ok-top.top
   first_is c read = c.in_ok-top.ensures.top c.in_ok-top.top ∙ ap (λ n. get_or (stream_at n c.args.group).queue 0 c.in_ok-top.top) (sym read)
+
+  -- the nodes but this one are as they were
+  others_of : (c : After-pass_last g) (v : ℕ) → v ≢ c.args.node → lists_of c.pass_last.new.nodes.items v ≡ lists_of c.args.self.now.nodes.items v
+  others_of c v other =
+      let n = c.args.self.now.nodes.items in
+      let queued = with_queue (lists_of n c.args.node) c.args.group (stream_of c.pass_last.new.nodes.items c.args.node c.args.group).queue (stream_of c.pass_last.new.nodes.items c.args.node c.args.group).room in
+      ap (λ (z : List (NodeLists g.row.R.Denot)). lists_of z v) c.pass_last.ensures.changed ∙ lists_other n c.args.node v queued other
+
+  -- one more entry
+  pushed_of : (c : After-push_reserved-next g) → length c.push_reserved-next.new.self.entries ≡ length c.args.self.now.entries.entries + 1
+  pushed_of c =
+      let e : Linked (Found g.row.R.Denot) = record { value = record { node = c.args.node; group = c.args.group; solution = c.in_ok-top.top }; next = None } in
+      omega (arith, ap length c.push_reserved-next.ensures.entries, count_more c.args.self.now.entries.entries e)
 
   linked_of : (c : After-set_next g) → IsGroupTop g.R.Rank.KEYS g.R.Rank.key c.args.self.now.tree.now c.args.self.now.entries.entries c.args.self.now.nodes.items c.args.last c.args.node c.args.group c.args.row → IsEntryLinked c.args.self.now.tree.now c.args.self.now.entries.entries c.set_next.new.self.entries c.args.last (record { node = c.args.node; group = c.args.group; solution = c.in_ok-top.top })
   linked_of c o = entry_linked o c.in_ok-top.top c.push_reserved-next.new.self.entries c.set_next.new.self.entries c.push_reserved-next.result c.requires.formed c.requires.last c.requires.node c.requires.group c.requires.none c.push_reserved-next.ensures.id c.push_reserved-next.ensures.entries c.set_next.ensures.entries
@@ -186,3 +202,81 @@ pub pass_last-requires-clause-group : goal.pass_last-requires-clause-group
 pass_last-requires-clause-group g c =
     let at = goal.at.pass_last-requires-clause-group g c in
     (top_of g at.After-as_slice).group
+
+pub row_offer-offer-requires-clause-formed : goal.row_offer-offer-requires-clause-formed
+row_offer-offer-requires-clause-formed g c =
+    subst (λ (z : List (NodeLists g.row.R.Denot)). IsStreams g.R.Rank.KEYS g.R.Rank.key c.args.self.now.tree.now c.args.self.now.entries.entries z) (sym c.as_slice.ensures.value) c.requires.formed
+
+pub row_offer-offer-requires-clause-node : goal.row_offer-offer-requires-clause-node
+row_offer-offer-requires-clause-node g c =
+    let at = goal.at.row_offer-offer-requires-clause-node g c in
+    (top_of g at.After-as_slice).node
+
+pub row_offer-offer-requires-clause-opened : goal.row_offer-offer-requires-clause-opened
+row_offer-offer-requires-clause-opened g c = ap (λ (z : List (NodeLists g.row.R.Denot)). length (products_of z c.args.node c.args.row)) c.as_slice.ensures.value ∙ c.requires.count
+
+pub pass_last-requires-clause-formed : goal.pass_last-requires-clause-formed
+pass_last-requires-clause-formed g c = c.requires.formed
+
+pub pass_last-requires-clause-node : goal.pass_last-requires-clause-node
+pass_last-requires-clause-node g c =
+    let at = goal.at.pass_last-requires-clause-node g c in
+    (top_of g at.After-as_slice).node
+
+pub pass_last-requires-clause-top : goal.pass_last-requires-clause-top
+pass_last-requires-clause-top g c = c.requires.top
+
+pub pass_last-requires-clause-room : goal.pass_last-requires-clause-room
+pass_last-requires-clause-room g c = c.requires.queue_room
+
+pub index-requires : goal.index-requires
+index-requires g c =
+    let at = goal.at.index-requires g c in
+    let o = top_of g at.After-as_slice in
+    let long = set_length c.args.self.now.nodes.items c.args.node (with_queue (lists_of c.args.self.now.nodes.items c.args.node) c.args.group (stream_of c.pass_last.new.nodes.items c.args.node c.args.group).queue (stream_of c.pass_last.new.nodes.items c.args.node c.args.group).room) in
+    omega (arith, o.in_nodes, ap length c.pass_last.ensures.changed, long)
+
+pub returns-in_err-top-clause-tree : goal.returns-in_err-top-clause-tree
+returns-in_err-top-clause-tree g c = refl
+
+pub returns-in_err-top-clause-store : goal.returns-in_err-top-clause-store
+returns-in_err-top-clause-store g c = store_stays c.args.node c.args.self.now.entries.entries
+
+pub returns-in_err-top-clause-above : goal.returns-in_err-top-clause-above
+returns-in_err-top-clause-above g c v other =
+    let at = goal.at.returns-in_err-top-clause-above g c in
+    others_of g at.After-pass_last v other
+
+pub returns-in_err-top-clause-growth : goal.returns-in_err-top-clause-growth
+returns-in_err-top-clause-growth g c v = omega arith
+
+pub push_reserved-next-requires : goal.push_reserved-next-requires
+push_reserved-next-requires g c = c.requires.room
+
+pub set_next-requires-clause-id : goal.set_next-requires-clause-id
+set_next-requires-clause-id g c =
+    let at = goal.at.set_next-requires-clause-id g c in
+    let pushed = pushed_of g at.After-push_reserved-next in
+    omega (arith, c.requires.last, pushed)
+
+pub set_next-requires-clause-to : goal.set_next-requires-clause-to
+set_next-requires-clause-to g c =
+    let at = goal.at.set_next-requires-clause-to g c in
+    let pushed = pushed_of g at.After-push_reserved-next in
+    omega (arith, c.push_reserved-next.ensures.id, pushed)
+
+pub set_next-requires-clause-none : goal.set_next-requires-clause-none
+set_next-requires-clause-none g c d =
+    let es = c.args.self.now.entries.entries in
+    let e : Linked (Found g.row.R.Denot) = record { value = record { node = c.args.node; group = c.args.group; solution = c.in_ok-top.top }; next = None } in
+    ap (λ (z : List (Linked (Found g.row.R.Denot))). (get_or z c.args.last d).next) c.push_reserved-next.ensures.entries
+    ∙ ap (λ (x : Linked (Found g.row.R.Denot)). x.next) (at_more es e d c.args.last c.requires.last)
+    ∙ sym (next_value es c.args.last d c.requires.last) ∙ c.requires.none
+
+pub returns-clause-tree : goal.returns-clause-tree
+returns-clause-tree g c = refl
+
+pub returns-clause-above : goal.returns-clause-above
+returns-clause-above g c v other =
+    let at = goal.at.returns-clause-above g c in
+    others_of g at.After-pass_last v other

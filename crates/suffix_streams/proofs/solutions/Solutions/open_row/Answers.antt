@@ -1,15 +1,20 @@
-use Rattle.std.proofs.Common.{◌≡◌, ℕ, ◌+◌, ◌<◌, ◌≤◌, max, List, [], length, slice_set, get_or, sym, ap, ◌∙◌, subst, arith}
-use Rattle.tdp_core.specs.TreeData.{child_count, rows}
+use Rattle.std.proofs.Common.{◌≡◌, ℕ, zero, suc, ◌+◌, ◌<◌, ◌≤◌, max, List, [], length, slice_set, get_or, refl, sym, ap, ◌∙◌, subst, arith}
+use Rattle.std.proofs.lemmas.List.{set-get_or}
+use Rattle.tdp_core.specs.TreeData.{child_count, members, rows}
 use Rattle.suffix_streams.specs.ProductData.{ProductData}
-use Rattle.suffix_streams.specs.NodeLists.{NodeLists}
-use Rattle.suffix_streams.specs.StreamsData.{IsHeaded, IsStreams, AreFreshTo, products_of, product_of}
+use Rattle.suffix_streams.specs.StreamData.{StreamData}
+use Rattle.suffix_streams.specs.Firsts.{can_enter}
+use Rattle.suffix_streams.specs.NodeLists.{NodeLists, known_of, with_queue}
+use Rattle.suffix_streams.specs.StreamsData.{IsHeaded, IsStreams, AreFreshTo, lists_of, products_of, product_of, stream_of}
+use Rattle.suffix_streams.proofs.Changes.{lists_same, lists_other}
 use Rattle.suffix_streams.proofs.Entries.{headed_of}
 use Rattle.suffix_streams.proofs.Heads.{lists_at}
 use Rattle.suffix_streams.proofs.Stores.{open_all}
-use Rattle.suffix_streams.proofs.Opening.{row_lacks, row_opened, opened_is, opened_row, opened_queues, put_back}
+use Rattle.suffix_streams.proofs.Opening.{row_lacks, row_whole, row_opened, opened_is, opened_row, opened_queues, put_back}
 use Rattle.suffix_streams.proofs.QueuePass.{IsRoomed, roomed}
+use Rattle.suffix_streams.proofs.SearchCalls.{on_ok}
 use Rattle.suffix_streams.proofs.solutions.Solutions.open_row.Given.{Over}
-use Rattle.suffix_streams.proofs.solutions.Solutions.open_row.Goals.{After-make_queue_room, After-set_products}
+use Rattle.suffix_streams.proofs.solutions.Solutions.open_row.Goals.{After-make_queue_room, After-set_products, In_ok-make_queue_room}
 use Rattle.suffix_streams.proofs.solutions.Solutions.open_row.Goals as goal
 
 -- the streams after the queue got room
@@ -20,6 +25,20 @@ room_of g c =
 -- the frontiers then
 room_queues : (g : Over) (c : After-make_queue_room g) (v r k : ℕ) → length (product_of c.make_queue_room.new.nodes.items v r k).frontier ≡ length (product_of c.args.self.now.nodes.items v r k).frontier
 room_queues g c v r k = ap (λ (ps : List (List (ProductData g.row.R.Denot))). length (get_or (get_or ps r []) k (record { found = []; ranks = []; frontier = []; room = 0; frontier_room = 0 })).frontier) ((room_of g c).products v)
+
+-- the room in the queue, in terms of the tree
+roomy : (g : Over) (c : In_ok-make_queue_room g) → can_enter (length (members c.args.self.now.tree.now c.args.node c.args.group)) ≤ (stream_of c.make_queue_room.new.nodes.items c.args.node c.args.group).room
+roomy g c = subst (λ k. can_enter k ≤ (stream_of c.make_queue_room.new.nodes.items c.args.node c.args.group).room) c.group_len-members.ensures c.in_ok-make_queue_room.ensures.room
+
+-- of a row with a second known solution there are products
+products_of_second : {R : Type 0} (n : NodeLists R) (r k p : ℕ) → 0 < p → p < known_of n r k → 0 < k
+products_of_second n r zero p some known = omega (arith, some, known)
+products_of_second n r (suc k) p some known = omega arith
+
+-- new products leave the streams of a node
+streams_stay : {R : Type 0} (nodes : List (NodeLists R)) (v r : ℕ) (m n : NodeLists R) (ps : List (ProductData R)) → v < length nodes → m ≡ get_or nodes v m → n ≡ record m { products = slice_set m.products r ps }
+    → (lists_of (slice_set nodes v n) v).streams ≡ (lists_of nodes v).streams
+streams_stay nodes v r m n ps l at e = ap (λ z. z.streams) (lists_same nodes v n l ∙ e) ∙ ap (λ z. z.streams) (sym (lists_at nodes v m at l))
 
 pub made_products-requires-clause-headed : goal.made_products-requires-clause-headed
 made_products-requires-clause-headed g c =
@@ -106,3 +125,170 @@ pub returns-else-product_count-child_count-clause-formed : goal.returns-else-pro
 returns-else-product_count-child_count-clause-formed g c =
     let at = goal.at.returns-else-product_count-child_count-clause-formed g c in
     (room_of g at.After-make_queue_room).formed
+
+pub returns-then-place-gt0-clause-above : goal.returns-then-place-gt0-clause-above
+returns-then-place-gt0-clause-above g c =
+    λ v n. refl
+
+pub returns-then-place-gt0-clause-streams : goal.returns-then-place-gt0-clause-streams
+returns-then-place-gt0-clause-streams g c =
+    sym (set-get_or (lists_of c.args.self.now.nodes.items c.args.node).streams c.args.group (record { head = 0; queue = []; room = 0 }))
+
+pub returns-then-place-gt0-clause-room : goal.returns-then-place-gt0-clause-room
+returns-then-place-gt0-clause-room g c =
+    λ none. absurd (omega (arith, none, c.if-place-gt0.true))
+
+pub returns-then-place-gt0-clause-count : goal.returns-then-place-gt0-clause-count
+returns-then-place-gt0-clause-count g c =
+    c.requires.formed.whole_rows c.args.node c.args.row c.requires.node c.requires.row (products_of_second (lists_of c.args.self.now.nodes.items c.args.node) c.args.row (length (products_of c.args.self.now.nodes.items c.args.node c.args.row)) c.args.place c.if-place-gt0.true c.requires.place)
+
+pub returns-then-place-gt0-clause-queues : goal.returns-then-place-gt0-clause-queues
+returns-then-place-gt0-clause-queues g c =
+    λ v r k. omega arith
+
+pub returns-then-place-gt0-clause-cost : goal.returns-then-place-gt0-clause-cost
+returns-then-place-gt0-clause-cost g c =
+    omega arith
+
+pub make_queue_room-requires-clause-node : goal.make_queue_room-requires-clause-node
+make_queue_room-requires-clause-node g c =
+    omega (arith, c.requires.node, c.requires.formed.all_nodes)
+
+pub make_queue_room-requires-clause-group : goal.make_queue_room-requires-clause-group
+make_queue_room-requires-clause-group g c =
+    omega (arith, c.requires.group, c.requires.formed.all_streams c.args.node c.requires.node)
+
+pub make_queue_room-requires-clause-few : goal.make_queue_room-requires-clause-few
+make_queue_room-requires-clause-few g c =
+    omega (arith, (c.requires.formed.streams c.args.node c.args.group c.requires.node c.requires.group).few, c.group_len-members.ensures)
+
+pub index-lists-requires : goal.index-lists-requires
+index-lists-requires g c =
+    let at = goal.at.index-lists-requires g c in
+    omega (arith, (room_of g at.After-make_queue_room).formed.all_nodes, c.requires.node)
+
+pub index_mut-requires : goal.index_mut-requires
+index_mut-requires g c =
+    let at = goal.at.index_mut-requires g c in
+    omega (arith, (room_of g at.After-make_queue_room).formed.all_nodes, c.requires.node)
+
+pub made_products-requires-clause-formed : goal.made_products-requires-clause-formed
+made_products-requires-clause-formed g c =
+    c.requires.formed.tree
+
+pub made_products-requires-clause-tie_free : goal.made_products-requires-clause-tie_free
+made_products-requires-clause-tie_free g c =
+    c.requires.tie_free
+
+pub made_products-requires-clause-node : goal.made_products-requires-clause-node
+made_products-requires-clause-node g c =
+    c.requires.node
+
+pub made_products-requires-clause-row : goal.made_products-requires-clause-row
+made_products-requires-clause-row g c =
+    c.requires.row
+
+pub returns-in_err-make_queue_room-clause-above : goal.returns-in_err-make_queue_room-clause-above
+returns-in_err-make_queue_room-clause-above g c =
+    let at = goal.at.returns-in_err-make_queue_room-clause-above g c in
+    (room_of g at.After-make_queue_room).above
+
+pub returns-in_err-make_queue_room-clause-streams : goal.returns-in_err-make_queue_room-clause-streams
+returns-in_err-make_queue_room-clause-streams g c =
+    let at = goal.at.returns-in_err-make_queue_room-clause-streams g c in
+    (room_of g at.After-make_queue_room).streams
+
+pub returns-in_err-make_queue_room-clause-queues : goal.returns-in_err-make_queue_room-clause-queues
+returns-in_err-make_queue_room-clause-queues g c =
+    let at = goal.at.returns-in_err-make_queue_room-clause-queues g c in
+    λ v r k. omega (arith, room_queues g at.After-make_queue_room v r k)
+
+pub returns-in_err-make_queue_room-clause-cost : goal.returns-in_err-make_queue_room-clause-cost
+returns-in_err-make_queue_room-clause-cost g c =
+    omega arith
+
+pub returns-else-product_count-child_count-clause-above : goal.returns-else-product_count-child_count-clause-above
+returns-else-product_count-child_count-clause-above g c =
+    let at = goal.at.returns-else-product_count-child_count-clause-above g c in
+    (room_of g at.After-make_queue_room).above
+
+pub returns-else-product_count-child_count-clause-streams : goal.returns-else-product_count-child_count-clause-streams
+returns-else-product_count-child_count-clause-streams g c =
+    let at = goal.at.returns-else-product_count-child_count-clause-streams g c in
+    (room_of g at.After-make_queue_room).streams
+
+pub returns-else-product_count-child_count-clause-queues : goal.returns-else-product_count-child_count-clause-queues
+returns-else-product_count-child_count-clause-queues g c =
+    let at = goal.at.returns-else-product_count-child_count-clause-queues g c in
+    λ v r k. omega (arith, room_queues g at.After-make_queue_room v r k)
+
+pub returns-else-product_count-child_count-clause-cost : goal.returns-else-product_count-child_count-clause-cost
+returns-else-product_count-child_count-clause-cost g c =
+    omega arith
+
+pub returns-else-product_count-child_count-clause-room : goal.returns-else-product_count-child_count-clause-room
+returns-else-product_count-child_count-clause-room g c =
+    let at = goal.at.returns-else-product_count-child_count-clause-room g c in
+    λ none. roomy g at.In_ok-make_queue_room
+
+pub returns-else-product_count-child_count-clause-count : goal.returns-else-product_count-child_count-clause-count
+returns-else-product_count-child_count-clause-count g c =
+    let at = goal.at.returns-else-product_count-child_count-clause-count g c in
+    row_whole g.R.Rank.KEYS g.R.Rank.key c.args.self.now.tree.now c.args.self.now.entries.entries c.make_queue_room.new.nodes.items (room_of g at.After-make_queue_room).formed c.args.node c.args.row c.requires.node c.requires.row c.index-lists.result.now c.index-lists.ensures c.product_count.result c.child_count.result c.product_count.ensures c.child_count.ensures c.if-product_count-child_count.false
+
+pub returns-in_err-products-clause-above : goal.returns-in_err-products-clause-above
+returns-in_err-products-clause-above g c =
+    let at = goal.at.returns-in_err-products-clause-above g c in
+    (room_of g at.After-make_queue_room).above
+
+pub returns-in_err-products-clause-room : goal.returns-in_err-products-clause-room
+returns-in_err-products-clause-room g c =
+    let at = goal.at.returns-in_err-products-clause-room g c in
+    on_ok c.from_residual-in_err-products.result (λ none. roomy g at.In_ok-make_queue_room)
+
+pub returns-in_err-products-clause-cost : goal.returns-in_err-products-clause-cost
+returns-in_err-products-clause-cost g c =
+    omega (arith, c.made_products.ensures.cost)
+
+pub returns-in_err-set_products-clause-above : goal.returns-in_err-set_products-clause-above
+returns-in_err-set_products-clause-above g c =
+    let at = goal.at.returns-in_err-set_products-clause-above g c in
+    λ v n. ap (λ z. lists_of z v) (refused g at.After-set_products c.in_err-set_products.ensures.refused) ∙ (room_of g at.After-make_queue_room).above v n
+
+pub returns-in_err-set_products-clause-streams : goal.returns-in_err-set_products-clause-streams
+returns-in_err-set_products-clause-streams g c =
+    let at = goal.at.returns-in_err-set_products-clause-streams g c in
+    subst (λ (z : List (NodeLists g.row.R.Denot)). (lists_of z c.args.node).streams ≡ (with_queue (lists_of c.args.self.now.nodes.items c.args.node) c.args.group (stream_of c.args.self.now.nodes.items c.args.node c.args.group).queue (stream_of z c.args.node c.args.group).room).streams) (sym (refused g at.After-set_products c.in_err-set_products.ensures.refused)) (room_of g at.After-make_queue_room).streams
+
+pub returns-in_err-set_products-clause-room : goal.returns-in_err-set_products-clause-room
+returns-in_err-set_products-clause-room g c =
+    let at = goal.at.returns-in_err-set_products-clause-room g c in
+    on_ok c.from_residual-in_err-set_products.result (λ none. subst (λ (z : List (NodeLists g.row.R.Denot)). can_enter (length (members c.args.self.now.tree.now c.args.node c.args.group)) ≤ (stream_of z c.args.node c.args.group).room) (sym (refused g at.After-set_products c.in_err-set_products.ensures.refused)) (roomy g at.In_ok-make_queue_room))
+
+pub returns-in_err-set_products-clause-cost : goal.returns-in_err-set_products-clause-cost
+returns-in_err-set_products-clause-cost g c =
+    omega (arith, c.made_products.ensures.cost)
+
+pub returns-in_ok-set_products-clause-above : goal.returns-in_ok-set_products-clause-above
+returns-in_ok-set_products-clause-above g c =
+    let at = goal.at.returns-in_ok-set_products-clause-above g c in
+    λ v n. lists_other c.make_queue_room.new.nodes.items c.args.node v c.set_products.new.self n ∙ (room_of g at.After-make_queue_room).above v n
+
+pub returns-in_ok-set_products-clause-streams : goal.returns-in_ok-set_products-clause-streams
+returns-in_ok-set_products-clause-streams g c =
+    let at = goal.at.returns-in_ok-set_products-clause-streams g c in
+    let inside : c.args.node < length c.make_queue_room.new.nodes.items = omega (arith, (room_of g at.After-make_queue_room).formed.all_nodes, c.requires.node) in
+    let stay = streams_stay c.make_queue_room.new.nodes.items c.args.node c.args.row c.index_mut.result.now c.set_products.new.self c.in_ok-products.products.items inside c.index_mut.ensures.value c.in_ok-set_products.ensures.set in
+    stay ∙ (room_of g at.After-make_queue_room).streams
+    ∙ ap (λ (z : List (StreamData g.row.R.Denot)). (with_queue (lists_of c.args.self.now.nodes.items c.args.node) c.args.group (stream_of c.args.self.now.nodes.items c.args.node c.args.group).queue (get_or z c.args.group (record { head = 0; queue = []; room = 0 })).room).streams) (sym stay)
+
+pub returns-in_ok-set_products-clause-room : goal.returns-in_ok-set_products-clause-room
+returns-in_ok-set_products-clause-room g c =
+    let at = goal.at.returns-in_ok-set_products-clause-room g c in
+    let inside : c.args.node < length c.make_queue_room.new.nodes.items = omega (arith, (room_of g at.After-make_queue_room).formed.all_nodes, c.requires.node) in
+    let stay = streams_stay c.make_queue_room.new.nodes.items c.args.node c.args.row c.index_mut.result.now c.set_products.new.self c.in_ok-products.products.items inside c.index_mut.ensures.value c.in_ok-set_products.ensures.set in
+    λ none. subst (λ (z : List (StreamData g.row.R.Denot)). can_enter (length (members c.args.self.now.tree.now c.args.node c.args.group)) ≤ (get_or z c.args.group (record { head = 0; queue = []; room = 0 })).room) (sym stay) (roomy g at.In_ok-make_queue_room)
+
+pub returns-in_ok-set_products-clause-cost : goal.returns-in_ok-set_products-clause-cost
+returns-in_ok-set_products-clause-cost g c =
+    omega (arith, c.made_products.ensures.cost)

@@ -14,6 +14,7 @@ use Rattle.suffix_streams.specs.Frontiers.{IsFrontier}
 use Rattle.suffix_streams.specs.Growing.{IsReached}
 use Rattle.suffix_streams.proofs.State.{count_more}
 use Rattle.suffix_streams.proofs.Heads.{lists_at}
+use Rattle.suffix_streams.proofs.Stores.{set_length}
 use Rattle.suffix_streams.proofs.Entries.{parts_of}
 use Rattle.suffix_streams.proofs.Changes.{counts_kept, lists_same}
 use Rattle.suffix_streams.proofs.StepCells.{cell_known, down_cell_known, beside_cell_known, none_beside, one_change, no_top}
@@ -223,3 +224,44 @@ pub pass_product-requires-clause-top : goal.pass_product-requires-clause-top
 pass_product-requires-clause-top g c =
     let inside : c.args.node < length c.args.self.now.nodes.items = omega (arith, c.requires.formed.all_nodes, c.requires.node) in
     subst (λ n. 0 < length (product_at n c.args.row c.args.child).frontier) (lists_at c.args.self.now.nodes.items c.args.node c.index_mut.result.now c.index_mut.ensures.value inside) c.requires.top
+
+pub index-requires-2 : goal.index-requires-2
+index-requires-2 g c =
+    omega (arith, c.requires.formed.all_nodes, c.requires.node, set_length c.args.self.now.nodes.items c.args.node c.pass_product.new.self)
+
+pub index_mut-requires-2 : goal.index_mut-requires-2
+index_mut-requires-2 g c =
+    omega (arith, c.requires.formed.all_nodes, c.requires.node, set_length c.args.self.now.nodes.items c.args.node c.pass_product.new.self)
+
+pub returns-in_default-clause-tree : goal.returns-in_default-clause-tree
+returns-in_default-clause-tree g c = refl
+
+pub returns-in_default-clause-entries : goal.returns-in_default-clause-entries
+returns-in_default-clause-entries g c = refl
+
+pub returns-in_default-clause-changed : goal.returns-in_default-clause-changed
+returns-in_default-clause-changed g c =
+    let at = goal.at.returns-in_default-clause-changed g c in
+    let n = c.args.self.now.nodes.items in
+    let a = passed_of g at.After-pass_product in
+    let product = ap (λ (m : NodeLists g.row.R.Denot). product_at m c.args.row c.args.child) (lists_same n c.args.node c.pass_product.new.self a.in_nodes) in
+    changed_of g at.After-pass_product a ∙ ap (λ z. slice_set n c.args.node (with_product (lists_of n c.args.node) c.args.row c.args.child z)) (sym product)
+
+pub keep-requires-clause-room : goal.keep-requires-clause-room
+keep-requires-clause-room g c =
+    let n = c.args.self.now.nodes.items in
+    let inside : c.args.node < length n = omega (arith, c.requires.formed.all_nodes, c.requires.node) in
+    let read = c.index_mut-2.ensures.value ∙ get_or-set_same n c.args.node c.pass_product.new.self c.index_mut-2.result.now inside in
+    omega (
+      arith,
+      c.requires.room,
+      c.pass_product.ensures.found_room,
+      ap (λ (m : NodeLists g.row.R.Denot). (product_at m c.args.row c.args.child).room) read,
+      ap (λ (m : NodeLists g.row.R.Denot). (product_at m c.args.row c.args.child).room) (lists_at n c.args.node c.index_mut.result.now c.index_mut.ensures.value inside),
+    )
+
+pub returns-clause-tree : goal.returns-clause-tree
+returns-clause-tree g c = refl
+
+pub returns-clause-entries : goal.returns-clause-entries
+returns-clause-entries g c = refl
