@@ -1,3 +1,4 @@
+pub mod ColumnOrder
 pub mod GraphOf
 pub mod Inside
 pub mod Least

@@ -7,7 +7,8 @@ use Rattle.hyper_graph.specs.Graph.{HasVar}
 use Rattle.bound_query.specs.Classes.{AreVariables, ColumnBefore, HasVariable, IsFixedTo, IsLeast, IsShared, Linked, same, forth, variable_at}
 use Rattle.query_bind.specs.Labels.{IsLabelling, replaced}
 use Rattle.query_bind.proofs.Labels.{labels_join, labels_none}
-use Rattle.query_bind.proofs.Order.{before_neither, same_tells}
+use Rattle.bound_query.proofs.ColumnOrder.{before_neither}
+use Rattle.query_bind.proofs.Order.{same_tells}
 use Rattle.load_law.proofs.ChainTree.{chain_graph, chain_has, has_chain}
 
 abbrev pub at : ℕ → ℕ → Column

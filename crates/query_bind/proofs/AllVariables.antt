@@ -24,7 +24,7 @@ use Rattle.rankings.proofs.Ascending.{ascending_append, below_all}
 use Rattle.rankings.proofs.Members.{member_either, member_left, member_right}
 use Rattle.bound_query.proofs.Inside.{shared_inside}
 use Rattle.bound_query.proofs.Lists.{all_at, at_last, at_left, length_last}
-use Rattle.query_bind.proofs.Order.{same_columns}
+use Rattle.bound_query.proofs.ColumnOrder.{same_columns}
 use Rattle.query_bind.proofs.VariablesFound.{least_labelled, variables_found}
 
 pub fewer_kept : {A : Type 0} (test : A → Bool) (xs : List A) → length (filter test xs) ≤ length xs

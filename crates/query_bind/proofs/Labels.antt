@@ -11,7 +11,8 @@ use Rattle.bound_query.specs.StoredParts.{column_shown, equality_shown}
 use Rattle.bound_query.specs.declared.bound.BoundEquality.{BoundEquality}
 use Rattle.query_bind.specs.declared.classes.Member.{Member}
 use Rattle.rankings.proofs.Members.{member_last, member_left, member_parts}
-use Rattle.query_bind.proofs.Order.{before_self, before_until, same_tells}
+use Rattle.bound_query.proofs.ColumnOrder.{before_self, before_until}
+use Rattle.query_bind.proofs.Order.{same_tells}
 use Rattle.bound_query.proofs.Lists.{drop_step}
 use Rattle.bound_query.proofs.Witness.{linked_append, linked_back}
 

@@ -13,7 +13,8 @@ use Rattle.bound_query.specs.declared.bound.BoundEquality.{BoundEquality}
 use Rattle.query_bind.specs.declared.classes.Member.{Member}
 use Rattle.rankings.proofs.Ascending.{ascending_append, ascending_filter}
 use Rattle.rankings.proofs.Members.{any_member, kept_member, map_filter, member_any, member_kept, member_last, member_left, member_map, member_parts, member_unmap}
-use Rattle.query_bind.proofs.Order.{before_neither, same_tells, same_true, true_same}
+use Rattle.bound_query.proofs.ColumnOrder.{before_neither}
+use Rattle.query_bind.proofs.Order.{same_tells, same_true, true_same}
 
 constant_is : (s : Side) → is_constant s ≡ true → (bytes : List ℕ) × (s ≡ of_constant bytes)
 constant_is (of_column c) h = absurd (let e : false ≡ true = h in cc)
