@@ -1,5 +1,5 @@
 -- Lists of values are the same exactly where the rows agree.
-use Rattle.std.proofs.Common.{◌≡◌, ◌↔◌, ◌<◌, ◌≤◌, ◌-◌, ℕ, List, [], None, length, get_or, sym, ap, ◌∙◌, arith}
+use Rattle.std.proofs.Common.{◌≡◌, ◌↔◌, ◌<◌, ◌≤◌, ◌-◌, ℕ, List, [], None, length, get_or, refl, sym, ap, ◌∙◌, arith}
 use Rattle.std.specs.List.{AllByRecursion}
 use Rattle.std.proofs.lemmas.List.{get_or-map, length-map, ext_get_or}
 use Rattle.anyk_model.specs.Table.{Table, field_at, header_flaw, rows_flaw, table_at}
@@ -9,13 +9,14 @@ use Rattle.table_store.specs.Values.{number_of}
 use Rattle.anyk_model.proofs.Flaws.{option_or_first, option_or_second, rows_width}
 use Rattle.table_store.proofs.Numbers.{numbers_tell_lem}
 use Rattle.bound_query.specs.Classes.{HasVariable, row_field, variable_at}
-use Rattle.bound_query.specs.Inside.{HasTable, IsInside}
+use Rattle.bound_query.specs.Inside.{IsInside}
 use Rattle.bound_query.specs.Items.{item_at}
 use Rattle.bound_query.specs.WeighedQuery.{BoundQuery, Fits}
 use Rattle.bound_query.specs.Weights.{table_in}
 use Rattle.bound_query.proofs.Inside.{shared_inside}
 use Rattle.bound_query.proofs.Least.{at_member, shared_along}
 use Rattle.bound_query.proofs.Lists.{all_at}
+use Rattle.node_build.proofs.Items.{table_there}
 use Rattle.node_build.specs.Columns.{AreShared}
 use Rattle.node_build.specs.Links.{values_in}
 use Rattle.node_build.specs.Nodes.{RowsAgree, RowsAlike}
@@ -61,9 +62,6 @@ module _ (bound : BoundQuery) (tables : List Table) (fits : Fits bound tables) (
     pub first : 1 ≤ row
     pub last : row ≤ length (table_in tables bound.query.items item).rows
 
-  pub item_table : (item : ℕ) → item < length bound.query.items → (item_at bound.query.items item).table < length tables
-  item_table item h = all_at (HasTable tables) bound.query.items item (record { table = 0; alias = [] }) fits.within.items h
-
   abbrev number : ℕ → ℕ → ℕ → ℕ
   number item row place = number_of tables (row_field bound.query tables item row place)
 
@@ -72,7 +70,7 @@ module _ (bound : BoundQuery) (tables : List Table) (fits : Fits bound tables) (
       → number item row place ≡ number other row' place' → row_field bound.query tables item row place ≡ row_field bound.query tables other row' place'
   tell item row place other row' place' here inside e =
       let t = (item_at bound.query.items item).table in
-      let there : t < length tables = item_table item here.known in
+      let there : t < length tables = table_there bound tables fits item t here.known refl in
       let table_sound : IsSound (table_at tables t) = all_at IsSound tables t (record { names = []; rows = [] }) sound there in
       let low = here.first in
       let high = here.last in
