@@ -1,14 +1,11 @@
 -- The rows of nodes, collected one node after another.
-use Rattle.std.specs.Prelude.{◌≡◌, ◌≤◌, ◌<◌, ◌*◌, ℕ, List, [], map, length, slice_index_or, Vec}
-use Rattle.std.specs.Global.{Global}
+use Rattle.std.specs.Prelude.{◌≡◌, ◌≤◌, ◌<◌, ◌*◌, ℕ, List, [], length, slice_index_or}
 use Rattle.std.specs.List.{sum_by}
 use Rattle.join_tree.specs.declared.tree.JoinTree.{JoinTree}
 use Rattle.anyk_model.specs.Table.{Table}
 use Rattle.anyk_model.specs.Query.{Query, item_table}
+pub use Rattle.table_store.specs.Values.{lists_of}
 use Rattle.node_build.specs.Nodes.{AreNodeRows, item_of}
-
-abbrev pub lists_of : List (Vec ℕ Global) → List (List ℕ)
-lists_of vs = map (λ (v : Vec ℕ Global). v.items) vs
 
 -- how many rows the table of a node's item has
 abbrev pub table_rows : Query → List Table → JoinTree → ℕ → ℕ
