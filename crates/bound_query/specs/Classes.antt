@@ -76,6 +76,11 @@ pub record Passes (query : Query) (tables : List Table) (item row : ℕ) : Type 
       → IsFixedTo query.equalities (record { item = item; place = a }) bytes
       → row_field query tables item row a ≡ bytes
 
+-- the item has the row, counted from 1, and it passes
+abbrev pub IsPassing : Query → List Table → ℕ → ℕ → Type 0
+IsPassing query tables item row = (1 ≤ row)
+    × (row ≤ length (item_table query tables item).rows) × Passes query tables item row
+
 -- the rows of two items agree on each variable that both have
 abbrev pub Agree : Query → List Table → List ℕ → ℕ → ℕ → Type 0
 Agree query tables rows i j =

@@ -1,5 +1,5 @@
 -- The nodes of a join tree, with the rows of their items and the links of these.
-use Rattle.std.specs.Prelude.{◌≡◌, ◌↔◌, ◌⊎◌, ◌<◌, ◌≤◌, ℕ, ℤ, nat_lt, cond, List, [], map, length, slice_index, slice_index_or, take}
+use Rattle.std.specs.Prelude.{◌≡◌, ◌↔◌, ◌⊎◌, ◌<◌, ℕ, ℤ, nat_lt, cond, List, [], map, length, slice_index, slice_index_or, take}
 use Rattle.std.specs.List.{sum_by}
 use Rattle.rankings.specs.Order.{IsMember, IsAscending}
 use Rattle.hyper_graph.specs.Graph.{Hypergraph}
@@ -9,8 +9,8 @@ use Rattle.tdp_model.specs.KeyTuple.{KeyOf}
 use Rattle.rank_key.specs.Keys.{row_key}
 use Rattle.tdp_core.specs.RawData.{RawData, child_link, own_link, raw_len, raw_number, raw_rank, rows_at, shape_cap, shape_child_place, shape_item, shape_parent}
 use Rattle.anyk_model.specs.Table.{Table}
-use Rattle.anyk_model.specs.Query.{Query, item_table}
-use Rattle.bound_query.specs.Classes.{HasVariable, Passes, row_field}
+use Rattle.anyk_model.specs.Query.{Query}
+use Rattle.bound_query.specs.Classes.{HasVariable, IsPassing, row_field}
 use Rattle.bound_query.specs.Graph.{IsGraphOf}
 use Rattle.bound_query.specs.Parts.{numbers_of, sum_of_all}
 use Rattle.bound_query.specs.WeighedQuery.{BoundQuery}
@@ -37,10 +37,7 @@ parent_of join v = slice_index join.parent v
 pub record AreNodeRows (query : Query) (tables : List Table) (item : ℕ)
     (rows : List ℕ) : Type 0 where
   pub ascending : IsAscending (λ a b. a < b) rows
-  pub members : (row : ℕ)
-      → IsMember row rows
-      ↔ ((1 ≤ row) × (row ≤ length (item_table query tables item).rows)
-      × Passes query tables item row)
+  pub members : (row : ℕ) → IsMember row rows ↔ IsPassing query tables item row
 
 module _ (bound : BoundQuery) (tables : List Table) where
   -- the rows of each node of a join tree are given

@@ -6,9 +6,9 @@ use Rattle.tdp_core.specs.TreeData.{NodeData, group, item, node_at, number, pare
 use Rattle.tdp_core.specs.Solutions.{Extends, IsTreeRanking, IsTreeSolution, solution_key}
 use Rattle.tdp_core.specs.WellFormed.{IsTieFreeTree}
 use Rattle.anyk_model.specs.Table.{Table}
-use Rattle.anyk_model.specs.Query.{Query, IsWitness, item_table}
+use Rattle.anyk_model.specs.Query.{Query, IsWitness}
 use Rattle.anyk_model.specs.Ranking.{ranking_of}
-use Rattle.bound_query.specs.Classes.{Passes}
+use Rattle.bound_query.specs.Classes.{IsPassing}
 use Rattle.bound_query.specs.Parts.{sum_of_all}
 use Rattle.bound_query.specs.WeighedQuery.{BoundQuery}
 use Rattle.bound_query.specs.Weights.{part_of}
@@ -58,8 +58,7 @@ module _ {R : Type 0} (d : ℕ) (key : R → KeyOf d 16) (query : Query) (tables
 module _ (bound : BoundQuery) (tables : List Table) {R : Type 0} (tree : List (NodeData R)) where
   -- this row of the item of node v passes
   abbrev pub RowPasses : ℕ → ℕ → Type 0
-  RowPasses v row = (1 ≤ row) × (row ≤ length (item_table bound.query tables (item tree v)).rows)
-      × Passes bound.query tables (item tree v) row
+  RowPasses v row = IsPassing bound.query tables (item tree v) row
 
   -- below the root, it also agrees with row `above` of the item of the node's parent on the
   -- variables that both items have

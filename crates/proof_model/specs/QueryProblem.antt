@@ -1,10 +1,11 @@
 -- The tree problem of a query: the nodes of its join tree, with the rows of their items that pass.
-use Rattle.std.specs.Prelude.{◌≡◌, ◌⊎◌, ℕ, ◌≤◌, List, map, length, slice_index, take}
+use Rattle.std.specs.Prelude.{◌≡◌, ◌⊎◌, ℕ, List, map, length, slice_index, take}
 use Rattle.join_tree.specs.declared.tree.JoinTree.{JoinTree}
 use Rattle.tdp_model.specs.KeyTuple.{KeyOf, key_below, key_add, key_none}
 use Rattle.anyk_model.specs.Table.{Table}
-use Rattle.anyk_model.specs.Query.{Query, item_table}
-use Rattle.bound_query.specs.Classes.{Linked, IsShared, Passes, row_field}
+use Rattle.anyk_model.specs.Query.{Query}
+pub use Rattle.bound_query.specs.Classes.{IsPassing}
+use Rattle.bound_query.specs.Classes.{Linked, IsShared, row_field}
 use Rattle.bound_query.specs.Weights.{part_of}
 use Rattle.rank_key.specs.Keys.{row_key}
 use Rattle.proof_model.specs.Problem.{Problem}
@@ -24,11 +25,6 @@ module _ (query : Query) (tables : List Table) where
       → Linked query.equalities (record { item = i; place = a }) (record { item = j; place = b })
       → row_field query tables i row a ≡ row_field query tables i other a
 
-  -- item i has the row, and it passes
-  abbrev pub IsPassing : ℕ → ℕ → Type 0
-  IsPassing i row = (1 ≤ row) × (row ≤ length (item_table query tables i).rows)
-      × Passes query tables i row
-
   -- the key of a row of item i alone
   abbrev pub row_rank : ℕ → ℕ → KeyOf (length query.order) 16
   row_rank i row = row_key (length query.order)
@@ -40,8 +36,8 @@ module _ (query : Query) (tables : List Table) where
     nodes = length atoms;
     parent = slice_index parents;
     item = slice_index atoms;
-    IsRow = λ v row. IsPassing (slice_index atoms v) row;
-    Fits = λ v above row. IsPassing (slice_index atoms v) row
+    IsRow = λ v row. IsPassing query tables (slice_index atoms v) row;
+    Fits = λ v above row. IsPassing query tables (slice_index atoms v) row
         × RowsMatch (slice_index atoms v) (slice_index atoms (slice_index parents v)) row above;
     IsGrouped = λ v row other. (v ≡ 0)
         ⊎ RowsEqual (slice_index atoms v) (slice_index atoms (slice_index parents v)) row other;

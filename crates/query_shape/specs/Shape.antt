@@ -6,9 +6,9 @@ use Rattle.hyper_graph.specs.Graph.{Hypergraph, IsIn}
 use Rattle.hyper_graph.specs.JoinTrees.{IsJoinTree, HasJoinTree}
 use Rattle.join_tree.specs.Removal.{IsRemoval, IsTreeOf}
 use Rattle.anyk_model.specs.Table.{Table}
-use Rattle.anyk_model.specs.Query.{Query, item_table}
+use Rattle.anyk_model.specs.Query.{Query}
 use Rattle.rankings.specs.Order.{IsMember, IsAscending}
-use Rattle.bound_query.specs.Classes.{Passes}
+use Rattle.bound_query.specs.Classes.{IsPassing}
 use Rattle.bound_query.specs.Graph.{IsGraphOf}
 use Rattle.bound_query.specs.Parts.{sum_of_all}
 
@@ -56,10 +56,7 @@ pub record Shape : Type 0 where
 pub record HasNodeRows (query : Query) (tables : List Table) (item count : ℕ) : Type 0 where
   pub rows : List ℕ
   pub ascending : IsAscending (λ a b. a < b) rows
-  pub members : (row : ℕ)
-      → IsMember row rows
-      ↔ ((1 ≤ row) × (row ≤ length (item_table query tables item).rows)
-      × Passes query tables item row)
+  pub members : (row : ℕ) → IsMember row rows ↔ IsPassing query tables item row
   pub counted : length rows ≡ count
 
 -- the join tree, with the numbers of its node rows
