@@ -7,4 +7,5 @@ pub mod Parts
 pub mod Range
 pub mod Readers
 pub mod RowTests
+pub mod Sums
 pub mod Witness

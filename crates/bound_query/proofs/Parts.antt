@@ -8,6 +8,7 @@ use Rattle.anyk_model.specs.Weight.{weight_of}
 use Rattle.anyk_model.specs.Query.{Query, Item, Column, Term, OrderKey, rank_of, sum_of, total}
 use Rattle.bound_query.specs.Inside.{KeyInside, TermInside}
 use Rattle.bound_query.specs.Parts.{caps_sum, numbers_of, parts_sum, sum_of_all}
+use Rattle.bound_query.proofs.Sums.{sum_ap, sum_zero}
 use Rattle.bound_query.specs.Weights.{cap_of, column_size, greatest, part_of, row_term, size_of, table_in, terms_in, terms_size, worth_at}
 
 -- ---- a value that counts only at one number of a range
@@ -126,14 +127,6 @@ module _ (m : ℕ) (v f : ℕ → ℕ) where
         ap (λ (b : Bool). cond b (v a + f a) (f a) + sum_of_all (map counted (range_with_len (a + 1) n))) e in
         omega (arith, step, rest)
   ]
-
-sum_zero : (ns : List ℕ) → sum_of_all (map (λ (i : ℕ). 0) ns) ≡ 0
-sum_zero [] = refl
-sum_zero (n ∷ ns) = let h = sum_zero ns in omega (arith, h)
-
-sum_ap : (f g : ℕ → ℕ) (ns : List ℕ) → ((i : ℕ) → f i ≡ g i) → sum_of_all (map f ns) ≡ sum_of_all (map g ns)
-sum_ap f g [] e = refl
-sum_ap f g (n ∷ ns) e = (λ j. e n j + sum_ap f g ns e j)
 
 module _ (tables : List Table) (items : List Item) where
   abbrev size_in : List Term → ℕ → ℕ

@@ -1,5 +1,5 @@
 -- The ranks of a query hold what the rows of its nodes add up to.
-use Rattle.std.proofs.Common.{◌≡◌, ◌<◌, ◌≤◌, ◌+◌, ◌-◌, ◌^◌, ◌==◌, ℕ, Bool, true, false, cond, nat_eq, List, length, map, refl, ap, ◌∙◌, inl, inr, arith}
+use Rattle.std.proofs.Common.{◌≡◌, ◌<◌, ◌≤◌, ◌+◌, ◌-◌, ◌^◌, ◌==◌, ℕ, Bool, true, false, cond, nat_eq, List, length, refl, ap, ◌∙◌, inl, inr, arith}
 use Rattle.std.specs.List.{range_with_len}
 use Rattle.std.proofs.lemmas.Bool.{cases_lt, cond-false, ne_eqb}
 use Rattle.tdp_model.specs.KeyTuple.{KeyOf}
@@ -10,13 +10,13 @@ use Rattle.tdp_core.specs.RawData.{AreShapesHeld, shape_cap, shape_item}
 use Rattle.join_tree.specs.declared.tree.JoinTree.{JoinTree}
 use Rattle.anyk_model.specs.Table.{Table}
 use Rattle.anyk_model.specs.Query.{Query}
-use Rattle.bound_query.specs.Parts.{sum_of_all}
+use Rattle.bound_query.proofs.Sums.{sum_ap, sum_zero}
 use Rattle.bound_query.specs.WeighedQuery.{BoundQuery}
 use Rattle.bound_query.proofs.Parts.{counts}
 use Rattle.step_bounds.proofs.NodeSums.{fewer_nodes, over, sum_fewer, sum_same}
 use Rattle.node_build.specs.Nodes.{CapsBelow, IsJoinTreeOf, cap_at, item_of}
 use Rattle.node_build.specs.Shapes.{AreShapesOf}
-use Rattle.node_build.proofs.Shaped.{apart, item_known, over_none}
+use Rattle.node_build.proofs.Shaped.{apart, item_known}
 
 -- what an item adds to slot i, if the numbers of its rows are at most `most`
 abbrev slot_most : (most i item : ℕ) → ℕ
@@ -29,15 +29,12 @@ slot_counted most i item = by (nat_eq i item)
     by true = omega arith
     by false = refl
 
-over_ap : (f g : ℕ → ℕ) (ns : List ℕ) → ((i : ℕ) → f i ≡ g i) → sum_of_all (map f ns) ≡ sum_of_all (map g ns)
-over_ap f g ns e = ap (λ (h : ℕ → ℕ). sum_of_all (map h ns)) (λ j i. e i j)
-
 -- of all items, one has slot i
 one_slot : (most i n : ℕ) → i < n → over (slot_most most i) n ≡ most
 one_slot most i n inside =
-    over_ap (slot_most most i) (λ k. cond (i == k) (most + 0) 0) (range_with_len 0 n) (slot_counted most i)
+    sum_ap (slot_most most i) (λ k. cond (i == k) (most + 0) 0) (range_with_len 0 n) (slot_counted most i)
     ∙ counts i (λ k. most) (λ k. 0) 0 n (omega arith) (omega (arith, inside))
-    ∙ (let none = over_none (range_with_len 0 n) in omega (arith, none))
+    ∙ (let none = sum_zero (range_with_len 0 n) in omega (arith, none))
 
 module _ (query : Query) (join : JoinTree) (tree : IsJoinTreeOf query join) (most : ℕ) where
   abbrev slot_total : ℕ → ℕ
@@ -56,7 +53,7 @@ module _ (query : Query) (join : JoinTree) (tree : IsJoinTreeOf query join) (mos
       let none = cond-false (nat_eq i (item_of join v)) most 0 (ne_eqb i (item_of join v) (λ same. omega (arith, same, known, past))) in
       omega (arith, none)) in
       let few = fewer_nodes (length query.items) (item_of join) join.count (λ item. 0) (apart query join tree) in
-      let zero = over_none (range_with_len 0 (length query.items)) in
+      let zero = sum_zero (range_with_len 0 (length query.items)) in
       omega (arith, each, few, zero)
 
 module _ (bound : BoundQuery) (tables : List Table) (join : JoinTree) (tree : IsJoinTreeOf bound.query join)

@@ -1,5 +1,5 @@
 -- The shapes of the nodes of a join tree are those of a tree.
-use Rattle.std.proofs.Common.{◌≡◌, ◌≢◌, ◌<◌, ◌≤◌, ◌+◌, ◌^◌, ℕ, Bool, true, false, cond, nat_lt, List, [], ◌∷◌, map, length, take, get_or, refl, sym, ap, ◌∙◌, inl, inr, arith}
+use Rattle.std.proofs.Common.{◌≡◌, ◌≢◌, ◌<◌, ◌≤◌, ◌+◌, ◌^◌, ℕ, Bool, true, false, cond, nat_lt, List, [], length, take, get_or, refl, sym, ap, ◌∙◌, inl, inr, arith}
 use Rattle.std.proofs.lemmas.Bool.{cases_lt, cases_order}
 use Rattle.std.proofs.lemmas.List.{get_or-take}
 use Rattle.tdp_model.specs.TreeProblem.{sum_from}
@@ -8,8 +8,9 @@ use Rattle.tdp_core.specs.RawData.{AreShapes, shape_cap}
 use Rattle.join_tree.specs.declared.tree.JoinTree.{JoinTree}
 use Rattle.anyk_model.specs.Table.{Table}
 use Rattle.anyk_model.specs.Query.{Query}
+use Rattle.bound_query.proofs.Sums.{sum_zero}
 use Rattle.bound_query.specs.Inside.{KeyInside}
-use Rattle.bound_query.specs.Parts.{numbers_of, sum_of_all}
+use Rattle.bound_query.specs.Parts.{numbers_of}
 use Rattle.bound_query.specs.WeighedQuery.{BoundQuery, Fits}
 use Rattle.bound_query.specs.Weights.{KeyInRange, cap_of, key_at}
 use Rattle.bound_query.proofs.Parts.{caps_add}
@@ -67,10 +68,6 @@ module _ (query : Query) (join : JoinTree) (tree : IsJoinTreeOf query join) wher
 
 -- ---- caps
 
-pub over_none : (ns : List ℕ) → sum_of_all (map (λ (i : ℕ). 0) ns) ≡ 0
-over_none [] = refl
-over_none (n ∷ ns) = let h = over_none ns in omega (arith, h)
-
 module _ (bound : BoundQuery) (tables : List Table) (fits : Fits bound tables) where
   key_in_range : (key : ℕ) → key < length bound.query.order → KeyInRange tables bound.query.items (key_at bound.query.order key)
   key_in_range key there = all_at (KeyInRange tables bound.query.items) bound.query.order key (record { terms = []; descending = false }) fits.range there
@@ -91,7 +88,7 @@ module _ (bound : BoundQuery) (tables : List Table) (fits : Fits bound tables) w
           let sum = caps_add tables bound.query.items (key_at bound.query.order i) inside in
           let small = key_in_range i there in
           omega (arith, sum, small)
-      by false e = let none = over_none (numbers_of bound.query.items) in omega (arith, none)
+      by false e = let none = sum_zero (numbers_of bound.query.items) in omega (arith, none)
 
   -- the shapes are those of a tree
   pub shapes_are : (join : JoinTree) (shapes : List NodeShape) → IsJoinTreeOf bound.query join → AreShapesOf bound tables join join.count shapes → AreShapes shapes

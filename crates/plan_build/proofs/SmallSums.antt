@@ -7,7 +7,8 @@ use Rattle.bound_query.specs.Parts.{numbers_of, sum_of_all}
 use Rattle.bound_query.specs.WeighedQuery.{BoundQuery, Fits}
 use Rattle.bound_query.specs.Weights.{cap_of, key_at}
 use Rattle.node_build.specs.Nodes.{CapsBelow, cap_at}
-use Rattle.node_build.proofs.Shaped.{caps_small, over_none}
+use Rattle.bound_query.proofs.Sums.{sum_zero}
+use Rattle.node_build.proofs.Shaped.{caps_small}
 use Rattle.plan_build.proofs.Sizes.{sum_one_more}
 
 take_fewer : (xs : List ℕ) (i : ℕ) → sum_of_all (take i xs) ≤ sum_of_all xs
@@ -44,7 +45,7 @@ module _ (bound : BoundQuery) (tables : List Table) where
   sum_first some = ap (sum_if 0) (lt-ltb 0 (length bound.query.order) some)
 
   sum_past : (key : ℕ) → length bound.query.order ≤ key → caps_of key ≡ 0
-  sum_past key past = ap (sum_if key) (not_below key (length bound.query.order) past) ∙ over_none (numbers_of bound.query.items)
+  sum_past key past = ap (sum_if key) (not_below key (length bound.query.order) past) ∙ sum_zero (numbers_of bound.query.items)
 
   -- without a key there is nothing to add up
   pub none_below : (limit : ℕ) → 0 < limit → length bound.query.order ≡ 0 → CapsBelow limit bound tables

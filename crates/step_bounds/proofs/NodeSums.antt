@@ -6,6 +6,7 @@ use Rattle.std.proofs.lemmas.List.Sums.{sum_by-cons}
 use Rattle.tdp_model.specs.TreeProblem.{sum_from}
 use Rattle.tdp_model.proofs.Ranges as ranges
 use Rattle.bound_query.specs.Parts.{sum_of_all}
+use Rattle.bound_query.proofs.Sums.{sum_ap}
 use Rattle.bound_query.proofs.Parts.{counts}
 
 -- ---- sums node by node
@@ -86,10 +87,6 @@ over f n = sum_of_all (map f (range_with_len 0 n))
 -- the values without that of one item
 abbrev without : ℕ → (ℕ → ℕ) → ℕ → ℕ
 without i f k = cond (i == k) 0 (f k)
-
-sum_ap : (f g : ℕ → ℕ) (ns : List ℕ) → ((i : ℕ) → f i ≡ g i) → sum_of_all (map f ns) ≡ sum_of_all (map g ns)
-sum_ap f g [] e = refl
-sum_ap f g (n ∷ ns) e = (λ j. e n j + sum_ap f g ns e j)
 
 split_at : (i : ℕ) (f : ℕ → ℕ) (k : ℕ) → f k ≡ cond (i == k) (f k + without i f k) (without i f k)
 split_at i f k = by (i == k)

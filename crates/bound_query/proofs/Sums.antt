@@ -1,0 +1,17 @@
+-- Sums of numbers in a list.
+use Rattle.std.proofs.Common.{◌≡◌, ◌+◌, ℕ, List, [], ◌∷◌, map, sum, refl, sym, ap, ◌∙◌, arith}
+use Rattle.std.proofs.lemmas.List.Sums.{sum_by-cons}
+use Rattle.bound_query.specs.Parts.{sum_of_all}
+
+-- the sum is the library's
+pub same_sum : (xs : List ℕ) → sum_of_all xs ≡ sum xs
+same_sum [] = refl
+same_sum (x ∷ xs) = ap (λ (n : ℕ). x + n) (same_sum xs) ∙ sym (sum_by-cons (λ (n : ℕ). n) x xs)
+
+pub sum_zero : (ns : List ℕ) → sum_of_all (map (λ (i : ℕ). 0) ns) ≡ 0
+sum_zero [] = refl
+sum_zero (n ∷ ns) = let h = sum_zero ns in omega (arith, h)
+
+pub sum_ap : (f g : ℕ → ℕ) (ns : List ℕ) → ((i : ℕ) → f i ≡ g i) → sum_of_all (map f ns) ≡ sum_of_all (map g ns)
+sum_ap f g [] e = refl
+sum_ap f g (n ∷ ns) e = (λ j. e n j + sum_ap f g ns e j)
