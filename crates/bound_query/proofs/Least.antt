@@ -24,7 +24,7 @@ column i p = record { item = i; place = p }
 
 module _ (es : List Equality) where
   -- the class of a column has a least one
-  least_column : (c : Column) → ((d : Column) → Linked es c d → IsLeast es d → ⊥) → ⊥
+  pub least_column : (c : Column) → ((d : Column) → Linked es c d → IsLeast es d → ⊥) → ⊥
   least_column c none =
       has_least (λ i. (p : ℕ) × Linked es c (column i p))
       (λ i at low. has_least (λ p. Linked es c (column i p))

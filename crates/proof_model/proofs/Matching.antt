@@ -1,30 +1,15 @@
 -- Rows of two items are equal in all columns of the variables of both if they are in the least ones.
-use Rattle.std.proofs.Common.{◌≡◌, ◌↔◌, ◌<◌, ◌≤◌, ℕ, suc, List, [], ◌∷◌, length, sym, subst, ◌∙◌, inl, inr, arith}
+use Rattle.std.proofs.Common.{◌≡◌, ◌↔◌, ◌<◌, ℕ, suc, List, [], ◌∷◌, length, sym, subst, ◌∙◌, inl, inr, arith}
 use Rattle.rankings.specs.Order.{IsMember}
 use Rattle.anyk_model.specs.Table.{Table}
 use Rattle.anyk_model.specs.Query.{Query, Column, Equality}
-use Rattle.bound_query.specs.Classes.{AreVariables, HasVariable, IsLeast, IsShared, Linked, Passes, row_field, same, variable_at}
-use Rattle.bound_query.proofs.Least.{at_member, has_least, shared_along}
+use Rattle.bound_query.specs.Classes.{AreVariables, HasVariable, IsShared, Linked, Passes, row_field, same, variable_at}
+use Rattle.bound_query.proofs.Least.{at_member, has_least, least_column, shared_along}
 use Rattle.bound_query.proofs.Witness.{linked_append, linked_back, texts_stable}
 use Rattle.proof_model.specs.QueryProblem.{RowsEqual, RowsMatch}
 
 abbrev column : ℕ → ℕ → Column
 column i p = record { item = i; place = p }
-
--- the class of a column has a least one
-least_column : (es : List Equality) (c : Column) → ((d : Column) → Linked es c d → IsLeast es d → ⊥) → ⊥
-least_column es c none =
-    has_least (λ i. (p : ℕ) × Linked es c (column i p))
-    (λ i at low. has_least (λ p. Linked es c (column i p))
-    (λ p h small. none (column i p) h (λ d link before. elim before [
-      | inl item ↦ let l : i ≤ d.item = low d.item (d.place, linked_append h link) in absurd (omega (arith, l, item))
-      | inr place ↦
-          let there : Linked es c (column i d.place) = subst (λ (n : ℕ). Linked es c (column n d.place)) place.0 (linked_append h link) in
-          let l : p ≤ d.place = small d.place there in
-          let less = place.1 in absurd (omega (arith, l, less))
-    ]))
-    at.0 at.1)
-    c.item (c.place, same)
 
 number_at : (c : Column) (list : List Column) → IsMember c list → (n : ℕ) × (n < length list) × (variable_at list n ≡ c)
 number_at c [] m = absurd m
