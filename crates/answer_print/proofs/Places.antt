@@ -1,25 +1,14 @@
 -- The rows of a combination and the columns of a query exist.
-use Rattle.std.proofs.Common.{◌≡◌, ◌<◌, ◌≤◌, ℕ, zero, suc, List, [], ◌∷◌, map, length, take, get_or, refl, sym, ap, ◌∙◌, subst, arith, length-take}
+use Rattle.std.proofs.Common.{◌≡◌, ◌<◌, ◌≤◌, ℕ, List, [], map, length, take, get_or, sym, ap, ◌∙◌, subst, arith, length-take}
 use Rattle.std.proofs.lemmas.List.{get_or-map, get_or-take, length-map}
 use Rattle.anyk_model.specs.Table.{Table, table_at}
 use Rattle.anyk_model.specs.Query.{Query, Item, Column, IsCombination, row_counts}
+use Rattle.anyk_model.proofs.Combinations.{combination_at, combination_length}
 use Rattle.bound_query.specs.Inside.{HasTable, IsInside, IsWithin}
 use Rattle.bound_query.specs.Items.{item_at}
 use Rattle.bound_query.specs.StoredParts.{column_shown}
 use Rattle.bound_query.specs.Weights.{table_in}
 use Rattle.bound_query.proofs.Lists.{all_at}
-
-combination_at : (counts rows : List ℕ) (i : ℕ) → IsCombination counts rows → i < length counts → (1 ≤ get_or rows i 0) × (get_or rows i 0 ≤ get_or counts i 0)
-combination_at [] rows i chosen inside = absurd (omega arith)
-combination_at (count ∷ counts) [] i chosen inside = absurd chosen
-combination_at (count ∷ counts) (row ∷ rows) zero chosen inside = (chosen.0, chosen.1)
-combination_at (count ∷ counts) (row ∷ rows) (suc i) chosen inside = combination_at counts rows i chosen.2 (omega arith)
-
-combination_length : (counts rows : List ℕ) → IsCombination counts rows → length rows ≡ length counts
-combination_length [] [] chosen = refl
-combination_length [] (row ∷ rows) chosen = absurd chosen
-combination_length (count ∷ counts) [] chosen = absurd chosen
-combination_length (count ∷ counts) (row ∷ rows) chosen = ap suc (combination_length counts rows chosen.2)
 
 -- an item has a row, which exists
 pub record HasRow (tables : List Table) (items : List Item) (rows : List ℕ) (i : ℕ) : Type 0 where

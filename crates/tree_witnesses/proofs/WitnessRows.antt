@@ -1,9 +1,10 @@
 -- Combinations of rows, place by place, and variables by their number in another list.
-use Rattle.std.proofs.Common.{◌≡◌, ◌<◌, ◌≤◌, ℕ, zero, suc, List, [], ◌∷◌, length, get_or, refl, sym, subst, ap, inl, inr, arith}
+use Rattle.std.proofs.Common.{◌≡◌, ◌<◌, ◌≤◌, ℕ, suc, List, [], ◌∷◌, length, get_or, sym, subst, inl, inr, arith}
 use Rattle.std.proofs.lemmas.List.{get_or-map, length-map}
 use Rattle.rankings.specs.Order.{IsMember}
 use Rattle.anyk_model.specs.Table.{Table, table_at}
 use Rattle.anyk_model.specs.Query.{Column, Equality, IsCombination, Item, Query, item_table, row_counts}
+use Rattle.anyk_model.proofs.Combinations.{combination_at, combination_length}
 use Rattle.bound_query.specs.Classes.{AreVariables, HasVariable, Linked, variable_at}
 use Rattle.bound_query.proofs.Least.{at_member}
 
@@ -17,18 +18,6 @@ combination_from (count ∷ counts) [] same each = absurd (omega arith)
 combination_from (count ∷ counts) (row ∷ rows) same each =
     let first = each 0 (omega arith) in
     (first.0, first.1, combination_from counts rows (omega arith) (λ i l. each (suc i) (omega arith)))
-
-combination_at : (counts rows : List ℕ) (i : ℕ) → IsCombination counts rows → i < length counts → (1 ≤ get_or rows i 0) × (get_or rows i 0 ≤ get_or counts i 0)
-combination_at [] rows i c inside = absurd (omega arith)
-combination_at (count ∷ counts) [] i c inside = absurd c
-combination_at (count ∷ counts) (row ∷ rows) zero c inside = (c.0, c.1)
-combination_at (count ∷ counts) (row ∷ rows) (suc i) c inside = combination_at counts rows i c.2 (omega arith)
-
-combination_length : (counts rows : List ℕ) → IsCombination counts rows → length rows ≡ length counts
-combination_length [] [] c = refl
-combination_length [] (row ∷ rows) c = absurd c
-combination_length (count ∷ counts) [] c = absurd c
-combination_length (count ∷ counts) (row ∷ rows) c = ap suc (combination_length counts rows c.2)
 
 module _ (query : Query) (tables : List Table) (rows : List ℕ) where
   abbrev rows_in : Item → ℕ

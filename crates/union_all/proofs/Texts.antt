@@ -8,7 +8,7 @@ use Rattle.anyk_model.specs.Table.{Table, table_at}
 use Rattle.anyk_model.specs.Query.{IsCombination, Item, OrderKey, Query, row_counts, sum_of, value_of}
 use Rattle.anyk_model.specs.Output.{Style, line_fields, optional_field}
 use Rattle.bound_query.specs.WeighedQuery.{BoundQuery, Fits}
-use Rattle.witness_key.proofs.Rankings.{combination_length}
+use Rattle.anyk_model.proofs.Combinations.{combination_length}
 use Rattle.union_list.specs.TaggedRows.{branch_at, tagged}
 use Rattle.union_list.specs.UnionOutput.{most_items, union_line_fields, without_rows}
 

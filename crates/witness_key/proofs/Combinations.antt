@@ -12,7 +12,7 @@ use Rattle.tdp_core.proofs.SeenFacts.{rows_of_key_at, rows_of_key_length}
 use Rattle.tdp_model.specs.KeyNumbers.{key_of_lists}
 use Rattle.tdp_model.proofs.KeyNumbers.{slot_of_lists}
 use Rattle.witness_key.specs.WitnessKey.{AreCombinations, answer_of_witness, answers_of_ranking, combinations_in}
-use Rattle.witness_key.proofs.Rankings.{combination_length}
+use Rattle.anyk_model.proofs.Combinations.{combination_length}
 
 -- the first rows of the answer that stands for a combination are the combination
 first_rows : (d n : ℕ) (query : Query) (tables : List Table) (rows : List ℕ) → length rows ≡ n → n ≤ 16

@@ -1,12 +1,13 @@
 -- The keys of a query's witnesses, as ranks have them, and their ranking.
-use Rattle.std.proofs.Common.{◌≡◌, ◌≤◌, ◌↔◌, ℕ, List, [], ◌∷◌, map, length, refl, sym, subst, ◌∙◌, arith}
+use Rattle.std.proofs.Common.{◌≡◌, ◌≤◌, ◌↔◌, ℕ, List, map, length, sym, subst, ◌∙◌, arith}
 use Rattle.std.proofs.lemmas.List.{length-map}
 use Rattle.rankings.specs.Order.{IsMember, IsRanking}
 use Rattle.rankings.proofs.Unique.{ranking_unique}
 use Rattle.tdp_model.specs.KeyTuple.{KeyOf, key_below}
 use Rattle.tdp_model.proofs.KeyTuples.{tuple_keys}
+use Rattle.anyk_model.proofs.Combinations.{combination_length}
 use Rattle.anyk_model.specs.Table.{Table, table_at}
-use Rattle.anyk_model.specs.Query.{Item, Query, IsCombination, IsWitness, rank_of, row_counts}
+use Rattle.anyk_model.specs.Query.{Item, Query, IsWitness, rank_of, row_counts}
 use Rattle.anyk_model.specs.Ranking.{Precedes, ranking_of}
 use Rattle.anyk_model.proofs.Exists.{ranking_is}
 use Rattle.witness_key.specs.WitnessKey.{IsWitnessKey, witness_key}
@@ -14,12 +15,6 @@ use Rattle.witness_key.proofs.Members.{ascending_map, map_member, member_map}
 use Rattle.witness_key.proofs.Orders.{keys_agree_lem, keys_tell}
 
 -- a combination has a row of each item
-pub combination_length : (counts rows : List ℕ) → IsCombination counts rows → length rows ≡ length counts
-combination_length [] [] c = refl
-combination_length [] (row ∷ rows) c = absurd c
-combination_length (count ∷ counts) [] c = absurd c
-combination_length (count ∷ counts) (row ∷ rows) c = let rest = combination_length counts rows c.2 in omega arith
-
 -- a witness has a row of each item
 pub witness_length : (query : Query) (tables : List Table) (rows : List ℕ) → IsWitness query tables rows → length rows ≡ length query.items
 witness_length query tables rows w =
