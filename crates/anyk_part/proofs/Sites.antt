@@ -1,5 +1,5 @@
 -- The candidates that deviate at one node.
-use Rattle.std.proofs.Common.{◌≡◌, ℕ, suc, ◌+◌, ◌-◌, ◌<◌, ◌≤◌, Bool, true, false, cond, nat_eq, List, [], ◌∷◌, ◌++◌, length, take, get_or, refl, sym, ap, ◌∙◌, subst, arith}
+use Rattle.std.proofs.Common.{◌≡◌, ℕ, suc, ◌+◌, ◌-◌, ◌<◌, ◌≤◌, Bool, true, false, cond, List, [], ◌∷◌, ◌++◌, length, take, get_or, refl, sym, ap, ◌∙◌, subst, arith}
 use Rattle.std.specs.List.{sum_by, All}
 use Rattle.std.specs.List.Sorted.{IsPermutation}
 use Rattle.std.proofs.lemmas.List.Sums.{sum_by-cons}
@@ -9,9 +9,8 @@ use Rattle.stream_store.specs.declared.entry.Linked.{Linked}
 use Rattle.take2_heap.specs.declared.entry.Entry.{Entry}
 use Rattle.rank_key.specs.Keys.{CanSwap}
 use Rattle.tdp_model.specs.KeyTuple.{KeyOf, key_below, key_add, key_none}
-use Rattle.tdp_model.specs.Regions.{Region, past, held, in_region, opening}
+use Rattle.tdp_model.specs.Regions.{in_region, opening}
 use Rattle.tdp_model.proofs.KeyTuples.{tuple_keys}
-use Rattle.tdp_model.proofs.Division.{past_same, held_past_end}
 use Rattle.tdp_model.proofs.TreeStaged.{bound_parts}
 use Rattle.tdp_core.specs.TreeData.{NodeData, parent, rows, members, group, rank, best}
 use Rattle.tdp_core.proofs.TreeFacts as facts
@@ -23,20 +22,6 @@ use Rattle.anyk_part.specs.Regions.{followers, Reached, least, region_of, region
 use Rattle.anyk_part.specs.Walks.{IsSite}
 use Rattle.anyk_part.proofs.ChainLemmas.{chain_length}
 use Rattle.anyk_part.proofs.LiveTrees.{tree, other}
-
-past_zero : (pre s : List ℕ) → past pre (λ t. 0) s ≡ 0
-unfolding past
-past_zero [] s = refl
-past_zero (x ∷ xs) [] = refl
-past_zero (x ∷ xs) (y ∷ ys) = at (nat_eq x y) (past xs (λ t. 0) ys) (past_zero xs ys)
-  where
-    at : (b : Bool) (z : ℕ) → z ≡ 0 → cond b z 0 ≡ 0
-    at true z e = e
-    at false z e = refl
-
-pub none_past : (members : List ℕ → List ℕ) (r : Region) (s : List ℕ) → length (members r.chosen) ≤ r.place → in_region members r s ≡ 0
-unfolding in_region
-none_past members r s l = past_same r.chosen (held members r.left r.chosen r.place) (λ t. 0) (held_past_end members r.left r.chosen r.place l) s ∙ past_zero r.chosen s
 
 pub sum_by_first : {X : Type 0} (f : X → ℕ) (xs : List X) (d : X) → 0 < length xs → sum_by f (take 1 xs) ≡ f (get_or xs 0 d)
 sum_by_first f [] d h = absurd (omega arith)

@@ -23,7 +23,7 @@ use Rattle.anyk_part.specs.Regions.{followers, Reached, least, region_of, region
 use Rattle.anyk_part.specs.Walks.{IsSite, IsAt, IsChoice, row_at}
 use Rattle.anyk_part.proofs.ChainLemmas.{chain_length, IsChain-kept, chain_kept, IsChain-new, chain_new}
 use Rattle.anyk_part.proofs.LiveTrees.{staged}
-use Rattle.anyk_part.proofs.Sites.{none_past}
+use Rattle.tdp_model.proofs.PartNext.{none_past}
 
 -- # Entries and a growing store
 

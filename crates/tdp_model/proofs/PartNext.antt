@@ -37,6 +37,10 @@ whole_at : (members : List ℕ → List ℕ) (n : ℕ) (s : List ℕ) → comple
 unfolding in_regions in_region past
 whole_at members n s = completes_held members n [] s ∙ omega arith
 
+pub none_past : (members : List ℕ → List ℕ) (r : Region) (s : List ℕ) → length (members r.chosen) ≤ r.place → in_region members r s ≡ 0
+unfolding in_region
+none_past members r s l = past_same r.chosen (held members r.left r.chosen r.place) (λ t. 0) (held_past_end members r.left r.chosen r.place l) s ∙ past_zero r.chosen s
+
 module _ {K : Type 0} (Below : K → K → Type 0) (o : IsOrder K Below) (members : List ℕ → List ℕ) (bound : List ℕ → K) (Reach : ℕ → List ℕ → Type 0)
     (staged : IsStaged K Below members bound Reach) where
   -- what the regions of the list hold is no less than a least rank
@@ -69,17 +73,13 @@ module _ {K : Type 0} (Below : K → K → Type 0) (o : IsOrder K Below) (member
       ks q.remains in
       (t.0, t.1 ∙ ap (λ z. z ∷ t.0) best, best, t.2)
 
-  none_past : (r : Region) (s : List ℕ) → length (members r.chosen) ≤ r.place → in_region members r s ≡ 0
-  unfolding in_region
-  none_past r s l = past_same r.chosen (held members r.left r.chosen r.place) (λ t. 0) (held_past_end members r.left r.chosen r.place l) s ∙ past_zero r.chosen s
-
   pub present_same : (rs : List Region) (s : List ℕ) → in_regions members (present members rs) s ≡ in_regions members rs s
   unfolding in_regions present
   present_same [] s = refl
   present_same (r ∷ rs) s = elim (cases_lt r.place (length (members r.chosen))) [
     | inl l ↦ ap (λ z. in_regions members z s) (kept r.place (length (members r.chosen)) (r ∷ present members rs) (present members rs) l) ∙ ap (λ z. in_region members r s + z) (present_same rs s)
     | inr g ↦ ap (λ z. in_regions members z s) (dropped r.place (length (members r.chosen)) (r ∷ present members rs) (present members rs) g)
-        ∙ omega (arith, present_same rs s, none_past r s g)
+        ∙ omega (arith, present_same rs s, none_past members r s g)
   ]
 
   pub present_open : (rs : List Region) → AllReached Reach rs → AllOpen members Reach (present members rs)
