@@ -252,16 +252,16 @@ passes item row = record {
   constant = λ a bytes fixed. absurd (free (column item a) bytes fixed);
 }
 
-abbrev numbers : List ℕ
+abbrev pub numbers : List ℕ
 numbers = 1 ∷ 2 ∷ 3 ∷ []
 
-low_high : (row : ℕ) → IsMember row numbers → (1 ≤ row) × (row ≤ 3)
+pub low_high : (row : ℕ) → IsMember row numbers → (1 ≤ row) × (row ≤ 3)
 low_high row (inl e) = (omega (arith, e), omega (arith, e))
 low_high row (inr (inl e)) = (omega (arith, e), omega (arith, e))
 low_high row (inr (inr (inl e))) = (omega (arith, e), omega (arith, e))
 low_high row (inr (inr (inr m))) = absurd m
 
-member : (row : ℕ) → 1 ≤ row → row ≤ 3 → IsMember row numbers
+pub member : (row : ℕ) → 1 ≤ row → row ≤ 3 → IsMember row numbers
 member zero low high = absurd (omega (arith, low))
 member (suc zero) low high = inl refl
 member (suc (suc zero)) low high = inr (inl refl)

@@ -1,7 +1,6 @@
 -- The shape of a query over one item without conditions: a join tree of one atom, and all rows pass.
-use Rattle.std.proofs.Common.{◌≡◌, ◌<◌, ◌≤◌, ◌^◌, ℕ, zero, suc, List, [], ◌∷◌, Option, length, slice_index, Ok, refl, sym, ap, subst, inl, inr, arith}
+use Rattle.std.proofs.Common.{◌≡◌, ◌<◌, ◌≤◌, ◌^◌, ℕ, zero, suc, List, [], ◌∷◌, Option, length, slice_index, Ok, refl, sym, ap, subst, arith}
 use Rattle.std.proofs.lemmas.List.Elements.{All-nil}
-use Rattle.rankings.specs.Order.{IsMember}
 use Rattle.anyk_model.specs.Query.{Column, OrderKey, Query, item_table}
 use Rattle.anyk_model.specs.Table.{Table}
 use Rattle.hyper_graph.specs.Graph.{Hypergraph, IsGraph}
@@ -11,6 +10,7 @@ use Rattle.join_tree.proofs.FromRemoval.{removal_done, tree_from_removal}
 use Rattle.bound_query.specs.Classes.{AreVariables, IsFixedTo, IsShared, Linked, Passes, back, forth, row_field, same}
 use Rattle.bound_query.specs.Graph.{IsGraphOf}
 use Rattle.query_shape.specs.Shape.{HasNodeRows, HasTree, IsShape, Shape}
+use Rattle.row_law.proofs.Shaped.{low_high, member, numbers}
 
 -- without equalities a column is linked to itself alone
 alone : {c d : Column} → Linked [] c d → c ≡ d
@@ -60,22 +60,6 @@ tree_of = record {
 }
 
 -- ---- the rows of the node
-
-abbrev numbers : List ℕ
-numbers = 1 ∷ 2 ∷ 3 ∷ []
-
-low_high : (row : ℕ) → IsMember row numbers → (1 ≤ row) × (row ≤ 3)
-low_high row (inl e) = (omega (arith, e), omega (arith, e))
-low_high row (inr (inl e)) = (omega (arith, e), omega (arith, e))
-low_high row (inr (inr (inl e))) = (omega (arith, e), omega (arith, e))
-low_high row (inr (inr (inr m))) = absurd m
-
-member : (row : ℕ) → 1 ≤ row → row ≤ 3 → IsMember row numbers
-member zero low high = absurd (omega (arith, low))
-member (suc zero) low high = inl refl
-member (suc (suc zero)) low high = inr (inl refl)
-member (suc (suc (suc zero))) low high = inr (inr (inl refl))
-member (suc (suc (suc (suc row)))) low high = absurd (omega (arith, high))
 
 -- the shape over a table of three rows
 abbrev pub single_shape : Shape
