@@ -1,11 +1,8 @@
 -- A certificate as it is written.
 use Rattle.std.specs.Prelude.{ℕ, Bool, if◌then◌else◌, List, ◌++◌, codes, decimal}
 use Rattle.std.specs.List.{flat_map}
+pub use Rattle.number_text.specs.SpacedNumbers.{spaced}
 use Rattle.proof_text.specs.Certificate.{BoundLine, AnswerLine, Certificate}
-
--- numbers with a space before each
-abbrev pub spaced : List ℕ → List ℕ
-spaced numbers = flat_map (λ n. codes " " ++ decimal n) numbers
 
 abbrev pub header_text : List ℕ
 header_text = codes "anyk-proof 1\n"

@@ -1,7 +1,7 @@
 -- Why a call ended before its output was complete: each reason with its status and its line. Branches, items,
 -- keys, columns, rows and lines count from 1. The branch is named only if the query has several.
 use Rattle.std.specs.Prelude.{ℕ, List, [], ◌++◌, Option, None, Some, codes, decimal}
-use Rattle.std.specs.List.{flat_map}
+pub use Rattle.number_text.specs.SpacedNumbers.{spaced}
 
 pub data Reason : Type 0 where
   Usage : Reason
@@ -92,10 +92,6 @@ status_of AnswerCount = 14
 status_of MissedAnswer = 14
 status_of (BranchShape branch) = 15
 status_of UnionBest = 15
-
--- items with a space before each
-abbrev pub spaced : List ℕ → List ℕ
-spaced items = flat_map (λ item. codes " " ++ decimal item) items
 
 abbrev pub on_table : List ℕ → List ℕ → List ℕ
 on_table table what = codes "table " ++ (table ++ (codes ": " ++ what))
