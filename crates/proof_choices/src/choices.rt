@@ -1,15 +1,15 @@
 //! Open choices, node by node.
-ghost use Rattle.std.specs.Prelude.{◌≡◌, ◌≤◌, ◌<◌, ℕ, true, false, length, option_map, IfErr, IfOk, OnOk};
+ghost use Rattle.std.specs.Prelude.{◌≡◌, ◌≤◌, ◌<◌, ◌+◌, ℕ, true, false, length, option_map, IfErr, IfOk, OnOk};
 ghost use Rattle.bound_query.specs.WeighedQuery.{Fits};
 ghost use Rattle.query_shape.specs.JoinTreeView.{HasItems, HasStoredTree};
 ghost use Rattle.join_tree.specs.Rerooting.{IsTree};
 ghost use Rattle.proof_text.specs.ProofView.{seen_proof};
 ghost use Rattle.proof_bounds.specs.BoundedRows.{IsBounded};
-ghost use Rattle.tdp_core.specs.RawData.{raw_len};
+ghost use Rattle.tdp_core.specs.RawData.{IsRawFormed, raw_len};
 ghost use Rattle.proof_answers.specs.Lows.{IsBoundedTree};
 ghost use Rattle.proof_answers.specs.RowPlaces.{ArePlaced, IsLastKey, place_at};
 ghost use Rattle.proof_choices.specs.Choices.{ArePassed, TellsMissed};
-ghost use Rattle.proof_choices.specs.Levels.{IsMissedAt, IsPassedAt};
+ghost use Rattle.proof_choices.specs.Levels.{ArePrefixes, IsMissedAt, IsPassedAt};
 
 use crate::leaving::leaves_after;
 use crate::prefixes::Prefixes;
@@ -90,22 +90,53 @@ fn all_leave_after<R: Rank, L: Ledger>(
 {
     let mut prefixes = Prefixes::before_first(alloc, places)?;
     for node in 0..tree.raw.nodes() {
-        let mut taken = TakenRows::new(alloc, tree.raw.keys());
-        let next = prefixes.with_node(alloc, places, node as usize, &mut taken)?;
-        let good = leaves_after(
-            alloc,
-            &join,
-            tree,
-            node,
-            &prefixes.starts,
-            &taken,
-            last,
-            steps,
-        )?;
+        let good = node_leaves_after(alloc, &join, tree, node, places, last, &mut prefixes, steps)?;
         if !good {
             return Ok(false);
         }
-        prefixes = next;
     }
     Ok(true)
+}
+
+/// The same of the ways to leave them at one node. The beginnings get this node more.
+fn node_leaves_after<R: Rank, L: Ledger>(
+    alloc: Global,
+    join: &JoinTree,
+    tree: &BoundedTree<R>,
+    node: u32,
+    places: &[[u32; 16]],
+    last: &Option<R>,
+    prefixes: &mut Prefixes,
+    steps: &mut Steps<L>,
+) -> Result<bool, NoMemory>
+    requires ordered { IsTree join.now.count join.now.atom join.now.parent }
+    requires bounded { IsBoundedTree join.now R.KEYS R.key tree.now }
+    requires formed { IsRawFormed R.KEYS R.key tree.now.raw }
+    requires long { length join.now.atom ≡ 16 }
+    requires node { node < join.now.count }
+    requires within { (i q : ℕ) → i < length places.now → q < join.now.count
+        → place_at places.now i q < raw_len tree.now.raw q }
+    requires prefixes { ArePrefixes node places.now prefixes.old.numbers.items
+        prefixes.old.starts.items }
+    ensures prefixes { OnOk result
+        (ArePrefixes (node + 1) places.now prefixes.new.numbers.items prefixes.new.starts.items) }
+    ensures passed { IfOk result (λ good. good ≡ true
+        → IsPassedAt join.now tree.now R.KEYS R.key places.now (option_map R.key last.now) node) }
+    ensures missed { IfOk result (λ good. good ≡ false
+        → IsMissedAt join.now tree.now R.KEYS R.key places.now (option_map R.key last.now)) }
+{
+    let mut taken = TakenRows::new(alloc, tree.raw.keys());
+    let next = prefixes.with_node(alloc, places, node as usize, &mut taken)?;
+    let good = leaves_after(
+        alloc,
+        join,
+        tree,
+        node,
+        &prefixes.starts,
+        &taken,
+        last,
+        steps,
+    )?;
+    *prefixes = next;
+    Ok(good)
 }
