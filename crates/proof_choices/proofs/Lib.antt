@@ -14,3 +14,4 @@ pub mod Walking
 pub mod Testing
 pub mod Preparing
 pub mod Nothing
+pub mod Parts

@@ -136,7 +136,7 @@ fn node_leaves_after<R: Rank, L: Ledger>(
         &taken,
         last,
         steps,
-    )?;
+    );
     *prefixes = next;
-    Ok(good)
+    good
 }

@@ -3,26 +3,26 @@ use Rattle.tdp_model.specs.KeyTuple.{KeyOf}
 use Rattle.tdp_core.specs.RawData.{raw_len}
 use Rattle.proof_choices.specs.Levels.{IsPast, IsWay, list_at}
 use Rattle.proof_choices.proofs.Preparing.{start_rows}
-use Rattle.std.proofs.lemmas.Result.{IfOk-from_err}
+use Rattle.std.proofs.lemmas.Result.{IfOk-from_err, IfOk-weaker}
 use Rattle.proof_choices.proofs.choices.node_leaves_after.Goals as goal
 
 pub with_node-requires-clause-prefixes : goal.with_node-requires-clause-prefixes
 with_node-requires-clause-prefixes g c = c.requires.prefixes
 
-pub leaves_after-requires-clause-ordered : goal.leaves_after-requires-clause-ordered
-leaves_after-requires-clause-ordered g c = c.requires.ordered
+pub leaves_after-good-requires-clause-ordered : goal.leaves_after-good-requires-clause-ordered
+leaves_after-good-requires-clause-ordered g c = c.requires.ordered
 
-pub leaves_after-requires-clause-bounded : goal.leaves_after-requires-clause-bounded
-leaves_after-requires-clause-bounded g c = c.requires.bounded
+pub leaves_after-good-requires-clause-bounded : goal.leaves_after-good-requires-clause-bounded
+leaves_after-good-requires-clause-bounded g c = c.requires.bounded
 
-pub leaves_after-requires-clause-long : goal.leaves_after-requires-clause-long
-leaves_after-requires-clause-long g c = c.requires.long
+pub leaves_after-good-requires-clause-long : goal.leaves_after-good-requires-clause-long
+leaves_after-good-requires-clause-long g c = c.requires.long
 
-pub leaves_after-requires-clause-node : goal.leaves_after-requires-clause-node
-leaves_after-requires-clause-node g c = c.requires.node
+pub leaves_after-good-requires-clause-node : goal.leaves_after-good-requires-clause-node
+leaves_after-good-requires-clause-node g c = c.requires.node
 
-pub leaves_after-requires-clause-rows : goal.leaves_after-requires-clause-rows
-leaves_after-requires-clause-rows g c n q l h =
+pub leaves_after-good-requires-clause-rows : goal.leaves_after-good-requires-clause-rows
+leaves_after-good-requires-clause-rows g c n q l h =
     let before = c.args.prefixes.now in
     let value = c.deref.ensures.value in
     subst (λ xs. slice_index (list_at xs n) q < raw_len c.args.tree.now.raw q) (sym value)
@@ -30,26 +30,30 @@ leaves_after-requires-clause-rows g c n q l h =
     before.starts.items c.requires.node c.requires.within c.requires.prefixes n q (subst (λ xs. n < length xs) value l) h)
 
 pub returns-clause-prefixes : goal.returns-clause-prefixes
-returns-clause-prefixes g c = c.in_ok-next.ensures.next
+returns-clause-prefixes g c =
+    IfOk-weaker c.leaves_after-good.result _ _ (λ good _. c.in_ok-next.ensures.next) c.leaves_after-good.ensures.passed
 
 pub returns-clause-passed : goal.returns-clause-passed
-returns-clause-passed g c good =
+returns-clause-passed g c =
     let d = g.R.Rank.KEYS in
     let key = g.R.Rank.key in
     let pairs = c.with_node.new.taken in
-    record {
+    IfOk-weaker c.leaves_after-good.result _ _
+    (λ good after is. record {
       numbers = c.args.prefixes.now.numbers.items;
       starts = c.args.prefixes.now.starts.items;
       pairs = pairs;
       beginnings = record { prefixes = c.requires.prefixes; taken = c.in_ok-next.ensures.taken };
       passed = subst (λ xs. (n i : ℕ) (k : KeyOf d 16) → IsWay c.args.join.now c.args.tree.now d key c.args.node xs pairs n i k
-          → IsPast d (option_map key c.args.last.now) k) c.deref.ensures.value (c.in_ok-good.ensures.passed good);
-    }
+          → IsPast d (option_map key c.args.last.now) k) c.deref.ensures.value (after is);
+    }) c.leaves_after-good.ensures.passed
 
 pub returns-clause-missed : goal.returns-clause-missed
-returns-clause-missed g c bad =
-    let m = c.in_ok-good.ensures.missed bad in
+returns-clause-missed g c =
     let pairs = c.with_node.new.taken in
+    IfOk-weaker c.leaves_after-good.result _ _
+    (λ good before is.
+    let m = before is in
     record {
       at = c.args.node;
       node = c.requires.node;
@@ -63,7 +67,7 @@ returns-clause-missed g c bad =
       way = subst (λ xs. IsWay c.args.join.now c.args.tree.now g.R.Rank.KEYS g.R.Rank.key c.args.node xs pairs m.0 m.1.0
           m.1.1.0) c.deref.ensures.value m.1.1.1;
       early = m.1.1.2;
-    }
+    }) c.leaves_after-good.ensures.missed
 
 pub returns-in_err-next-clause-prefixes : goal.returns-in_err-next-clause-prefixes
 returns-in_err-next-clause-prefixes g c = IfOk-from_err c.from_residual.result _ c.from_residual.ensures.0
@@ -74,14 +78,5 @@ returns-in_err-next-clause-passed g c = IfOk-from_err c.from_residual.result _ c
 pub returns-in_err-next-clause-missed : goal.returns-in_err-next-clause-missed
 returns-in_err-next-clause-missed g c = IfOk-from_err c.from_residual.result _ c.from_residual.ensures.0
 
-pub returns-in_err-good-clause-prefixes : goal.returns-in_err-good-clause-prefixes
-returns-in_err-good-clause-prefixes g c = IfOk-from_err c.from_residual-in_err-good.result _ c.from_residual-in_err-good.ensures.0
-
-pub returns-in_err-good-clause-passed : goal.returns-in_err-good-clause-passed
-returns-in_err-good-clause-passed g c = IfOk-from_err c.from_residual-in_err-good.result _ c.from_residual-in_err-good.ensures.0
-
-pub returns-in_err-good-clause-missed : goal.returns-in_err-good-clause-missed
-returns-in_err-good-clause-missed g c = IfOk-from_err c.from_residual-in_err-good.result _ c.from_residual-in_err-good.ensures.0
-
-pub leaves_after-requires-clause-formed : goal.leaves_after-requires-clause-formed
-leaves_after-requires-clause-formed g c = c.requires.formed
+pub leaves_after-good-requires-clause-formed : goal.leaves_after-good-requires-clause-formed
+leaves_after-good-requires-clause-formed g c = c.requires.formed

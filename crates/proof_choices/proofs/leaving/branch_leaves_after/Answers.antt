@@ -171,3 +171,8 @@ returns-in_default-clause-missed g c bad = absurd (false≢true (sym bad))
 
 pub returns-in-None-clause-missed : goal.returns-in-None-clause-missed
 returns-in-None-clause-missed g c bad = absurd (false≢true (sym bad))
+
+pub returns-in_default-clause-passed : goal.returns-in_default-clause-passed
+returns-in_default-clause-passed g c =
+    let known = get_or_default c.args.least.now c.args.branch.group None _ c.requires.branch.within in
+    absurd (c.in_default.not-Some c.requires.branch.known (sym known ∙ c.requires.branch.is_known))

@@ -56,3 +56,15 @@ returns-in_err-push-clause-each g c = IfOk-from_err c.from_residual.result _ c.f
 
 pub returns-clause-each : goal.returns-clause-each
 returns-clause-each g c = c.loop-n.invariant.each
+
+pub loop-n-init : goal.loop-n-init
+loop-n-init g c =
+    let none = c.new-branches.ensures.items in
+    record { count = ap length none; each = λ n l. absurd (omega (arith, l, ap length none)) }
+
+pub branch_of-requires-clause-rows : goal.branch_of-requires-clause-rows
+branch_of-requires-clause-rows g c q h = c.requires.rows c.loop-n.n q c.loop-n-test.true h
+
+pub returns-clause-count : goal.returns-clause-count
+returns-clause-count g c =
+    let v = c.loop-n.branches in omega (arith, c.loop-n.invariant.count, c.loop-n-test.false, c.loop-n.auto.n-end)

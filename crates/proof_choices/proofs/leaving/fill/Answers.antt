@@ -1,7 +1,8 @@
-use Rattle.std.proofs.Common.{◌≡◌, ◌<◌, Some, [], length, map, option_map, get_or, slice_index, sym, ap, subst, ◌∙◌, arith}
+use Rattle.std.proofs.Common.{◌≡◌, ◌<◌, Some, [], length, map, option_map, get_or, slice_index, sym, ap, subst, ◌∙◌, refl, arith}
 use Rattle.std.proofs.Math.ListN.{set}
 use Rattle.std.proofs.lemmas.List.{get_or-set_other, get_or-set_same, length-map, map-set}
 use Rattle.proof_choices.specs.Levels.{AreOffers, HasLow}
+use Rattle.tdp_core.specs.RawData.{raw_len}
 use Rattle.std.proofs.lemmas.Result.{IfOk-from_err}
 use Rattle.proof_choices.proofs.leaving.fill.Goals as goal
 
@@ -51,3 +52,27 @@ offers_of-requires-clause-bounded g c = c.requires.bounded
 
 pub offers_of-requires-clause-node : goal.offers_of-requires-clause-node
 offers_of-requires-clause-node g c = c.requires.node
+
+pub index-requires : goal.index-requires
+index-requires g c = c.requires.group
+
+pub index_mut-requires : goal.index_mut-requires
+index_mut-requires g c = c.requires.group
+
+pub group-requires : goal.group-requires
+group-requires g c = c.requires.groups
+
+pub offers_of-requires-clause-rows : goal.offers_of-requires-clause-rows
+offers_of-requires-clause-rows g c m l =
+    let e = c.group.ensures in
+    subst (λ xs. slice_index xs m < raw_len c.args.tree.now.raw c.args.node) (sym e)
+    (c.requires.rows m (subst (λ xs. m < length xs) e l))
+
+pub returns-in_ok-lists-clause-count : goal.returns-in_ok-lists-clause-count
+returns-in_ok-lists-clause-count g c = refl
+
+pub returns-else-is_empty-clause-count : goal.returns-else-is_empty-clause-count
+returns-else-is_empty-clause-count g c = refl
+
+pub returns-else-is_empty-clause-others : goal.returns-else-is_empty-clause-others
+returns-else-is_empty-clause-others g c h other = refl
