@@ -1,7 +1,7 @@
 -- Members that a cursor was given one by one.
-use Rattle.std.proofs.Common.{◌≡◌, ◌+◌, ◌-◌, ◌<◌, ◌≤◌, ℕ, zero, suc, List, [], ◌∷◌, ◌++◌, length, map, take, drop, set, get_or, Option, Some, None, IfSome, Result, Ok, Err, OnOk, refl, sym, ap, subst, ◌∙◌, arith}
+use Rattle.std.proofs.Common.{◌≡◌, ◌+◌, ◌-◌, ◌<◌, ◌≤◌, ℕ, zero, suc, List, [], ◌∷◌, ◌++◌, length, map, take, drop, set, get_or, Option, Some, None, IfSome, IsSomeAnd, Result, Ok, Err, OnOk, refl, sym, ap, subst, ◌∙◌, arith}
 use Rattle.std.specs.Prelude.{slice_get}
-use Rattle.std.proofs.lemmas.List.{drop_all, drop_more, get_or-map, get_or-set_same, get_or-take, set-set, length-drop, length-map, length-take, length-take-le, take_all}
+use Rattle.std.proofs.lemmas.List.{drop_all, drop_more, get_or-map, get_or-set_same, get_or-take, set-get_or, set-set, length-drop, length-map, length-take, length-take-le, take_all}
 use Rattle.std.proofs.lemmas.Option.{get_or_from_slice_get, slice_get_within}
 use Rattle.std.specs.List.{AllByRecursion}
 use Rattle.rankings.proofs.Members.{all_member, contains_member}
@@ -53,6 +53,15 @@ cut-length (Some n) f list = omega (arith, length-take n (map f list), length-ta
 cut_within : (limit : Option ℕ) (list : List (List ℕ)) (p : ℕ) → IfSome limit (λ n. p < n) → p < length list → p < length (cut limit list)
 cut_within None list p below inside = inside
 cut_within (Some n) list p below inside = omega (arith, length-take n list, below, inside)
+
+-- no more are left than there are, and none past the limit
+pub cut_short : {A : Type 0} (limit : Option ℕ) (list : List A) → length (cut limit list) ≤ length list
+cut_short None list = omega arith
+cut_short (Some n) list = omega (arith, length-take n list)
+
+pub cut_ended : {A : Type 0} (limit : Option ℕ) (list : List A) (p : ℕ) → IsSomeAnd limit (λ n. n ≤ p) → length (cut limit list) ≤ p
+cut_ended None list p past = absurd past
+cut_ended (Some n) list p past = omega (arith, length-take n list, past)
 
 pub cut_at : (limit : Option ℕ) (list : List (List ℕ)) (p : ℕ) (x : List ℕ) → IfSome limit (λ n. p < n) → get_or (cut limit list) p x ≡ get_or list p x
 cut_at None list p x below = refl
@@ -146,3 +155,10 @@ place_set places new i a b here is = ap (λ l. get_or l i None) is ∙ get_or-se
 
 pub places_set : {A : Type 0} (old mid new : List (Option A)) (i : ℕ) (a b : A) → mid ≡ set old i (Some a) → new ≡ set mid i (Some b) → new ≡ set old i (Some b)
 places_set old mid new i a b first second = second ∙ ap (λ l. set l i (Some b)) first ∙ set-set old i (Some a) (Some b)
+
+-- a place is put where it is
+pub place_kept : {A : Type 0} (places : List (Option A)) (i : ℕ) (a : A) → get_or places i None ≡ Some a → places ≡ set places i (Some a)
+place_kept places i a at = sym (subst (λ v. set places i v ≡ places) at (set-get_or places i None))
+
+pub same_place_in : (p q : ℕ) → ◌≡◌ {A = Option ℕ} (Some p) (Some q) → p ≡ q
+same_place_in p q e = cc

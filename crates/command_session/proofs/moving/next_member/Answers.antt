@@ -1,6 +1,8 @@
-use Rattle.std.proofs.Common.{◌+◌, inl, inr, Some, None, Ok, refl, arith}
+use Rattle.std.proofs.Common.{◌≡◌, ◌+◌, ◌≤◌, inl, inr, Some, None, Ok, length, refl, sym, subst, ◌∙◌, arith}
+use Rattle.anyk_model.specs.Output.{cut}
 use Rattle.command_session.specs.Costs.{IsWithin, Spent}
-use Rattle.command_session.proofs.Costs.{paid_spent, spent_call, spent_places, within_call}
+use Rattle.command_session.proofs.Costs.{paid_spent, spent_call, spent_places, within_call, within_spent}
+use Rattle.command_session.proofs.Follows.{cut_ended, cut_short, place_kept, same_place_in}
 use Rattle.command_session.proofs.Reach.{at_below, at_limit}
 use Rattle.command_session.proofs.moving.next_member.Goals as goal
 
@@ -42,3 +44,40 @@ returns-then-is_reached-clause-paid g c =
     (at_limit (λ calls. Spent g.E.Ranked.share c.args.set.now c.args.set.now (place + calls) calls c.args.steps.now c.args.steps.now)
     c.args.limit place (c.is_reached.ensures.reached c.if-is_reached.true)
     (spent_places g.E.Ranked.share g.met.E.Ranked.share_rises c.args.set.now c.args.set.now (place + 0) 0 c.args.steps.now c.args.steps.now refl (omega arith)))
+
+pub returns-then-is_reached-clause-end : goal.returns-then-is_reached-clause-end
+returns-then-is_reached-clause-end g c =
+    (refl, cut_ended c.args.limit c.args.set.now.answers c.args.cursor.now.place (c.is_reached.ensures.reached c.if-is_reached.true))
+
+pub returns-then-is_reached-clause-places : goal.returns-then-is_reached-clause-places
+returns-then-is_reached-clause-places g c = place_kept _ _ _ c.requires.place
+
+pub returns-in_default-clause-places : goal.returns-in_default-clause-places
+returns-in_default-clause-places g c = place_kept _ _ _ c.requires.place
+
+pub returns-in-Ok-None-clause-end : goal.returns-in-Ok-None-clause-end
+returns-in-Ok-None-clause-end g c =
+    let ended = rw c.in-Ok-None.field-0-is at c.in-Ok-None.ensures.end in
+    let answers = c.args.set.now.answers in
+    let at : length answers ≡ c.args.cursor.now.place = same_place_in _ _ (sym ended.0 ∙ c.requires.place) in
+    (refl, subst (λ n. length (cut c.args.limit answers) ≤ n) at (cut_short c.args.limit answers))
+
+pub returns-in-Ok-None-clause-places : goal.returns-in-Ok-None-clause-places
+returns-in-Ok-None-clause-places g c =
+    let ended = rw c.in-Ok-None.field-0-is at c.in-Ok-None.ensures.end in
+    ended.1 ∙ place_kept _ _ _ c.requires.place
+
+pub returns-in-Err-clause-places : goal.returns-in-Err-clause-places
+returns-in-Err-clause-places g c = c.in-Err.ensures.refused.1 ∙ place_kept _ _ _ c.requires.place
+
+pub returns-in_default-clause-paid : goal.returns-in_default-clause-paid
+returns-in_default-clause-paid g c =
+    let place = c.args.cursor.now.place in
+    let set = c.args.set.now in
+    record {
+      spent = tt;
+      within = at_below (λ calls. IsWithin g.E.Ranked.share set (place + calls) calls c.args.steps.now c.args.steps.now) c.args.limit place
+          (c.is_reached.ensures.within c.if-is_reached.false)
+          (within_spent g.E.Ranked.share g.met.E.Ranked.share_rises set set (place + 1) 1 c.args.steps.now c.args.steps.now
+          (spent_places g.E.Ranked.share g.met.E.Ranked.share_rises set set (place + 1) 1 c.args.steps.now c.args.steps.now refl (omega arith)));
+    }
