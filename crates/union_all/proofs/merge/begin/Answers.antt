@@ -1,6 +1,7 @@
 use Rattle.std.proofs.Common.{◌≡◌, ◌∷◌, ◌∙◌, [], length, get_or, sym, ap, append_assoc, arith, rules}
 use Rattle.std.specs.Vec.Iter.{into_iter_items}
 use Rattle.std.proofs.lemmas.List.{nil_from_length}
+use Rattle.std.proofs.lemmas.Result.{IfOk-from_err}
 use Rattle.union_all.proofs.Begun.{all_begun, begun_more, cost_within, has_next, none_begun}
 use Rattle.union_all.proofs.merge.begin.Goals as goal
 
@@ -52,3 +53,33 @@ returns g c =
     let all = all_begun _ _ _ c.args.queries.now c.args.engines.items at.yielded (into_iter_items at.engine-iterator) at.branches.items _ _
     c.requires.each at.invariant.2 none at.invariant.3 in
     record { bounds = all.bounds_are; lists = all.lists_are; engines = all.called; cost = all.cost }
+
+pub returns-in_err-branches-clause-bounds : goal.returns-in_err-branches-clause-bounds
+returns-in_err-branches-clause-bounds g c = IfOk-from_err c.from_residual.result _ c.from_residual.ensures.0
+
+pub returns-in_err-branches-clause-lists : goal.returns-in_err-branches-clause-lists
+returns-in_err-branches-clause-lists g c = IfOk-from_err c.from_residual.result _ c.from_residual.ensures.0
+
+pub returns-in_err-branches-clause-engines : goal.returns-in_err-branches-clause-engines
+returns-in_err-branches-clause-engines g c = IfOk-from_err c.from_residual.result _ c.from_residual.ensures.0
+
+pub returns-in_err-branch-clause-bounds : goal.returns-in_err-branch-clause-bounds
+returns-in_err-branch-clause-bounds g c = IfOk-from_err c.from_residual-in_err-branch.result _ c.from_residual-in_err-branch.ensures.0
+
+pub returns-in_err-branch-clause-lists : goal.returns-in_err-branch-clause-lists
+returns-in_err-branch-clause-lists g c = IfOk-from_err c.from_residual-in_err-branch.result _ c.from_residual-in_err-branch.ensures.0
+
+pub returns-in_err-branch-clause-engines : goal.returns-in_err-branch-clause-engines
+returns-in_err-branch-clause-engines g c = IfOk-from_err c.from_residual-in_err-branch.result _ c.from_residual-in_err-branch.ensures.0
+
+pub returns-in_err-push-clause-bounds : goal.returns-in_err-push-clause-bounds
+returns-in_err-push-clause-bounds g c = IfOk-from_err c.from_residual-in_err-push.result _ c.from_residual-in_err-push.ensures.0
+
+pub returns-in_err-push-clause-lists : goal.returns-in_err-push-clause-lists
+returns-in_err-push-clause-lists g c = IfOk-from_err c.from_residual-in_err-push.result _ c.from_residual-in_err-push.ensures.0
+
+pub returns-in_err-push-clause-engines : goal.returns-in_err-push-clause-engines
+returns-in_err-push-clause-engines g c = IfOk-from_err c.from_residual-in_err-push.result _ c.from_residual-in_err-push.ensures.0
+
+pub returns-in_err-branches-clause-cost : goal.returns-in_err-branches-clause-cost
+returns-in_err-branches-clause-cost g c = omega arith
