@@ -1,4 +1,6 @@
-use Rattle.std.proofs.Common.{◌≡◌, ◌<◌, ◌+◌, true, Err, Some, length, subst, sym, arith}
+use Rattle.std.proofs.Common.{◌≡◌, ◌<◌, ◌+◌, ◌≤◌, true, Err, Some, length, subst, sym, arith}
+use Rattle.std.proofs.lemmas.Result.{IfOk-from_err}
+use Rattle.bound_query.specs.WeighedQuery.{Fits}
 use Rattle.refusal_lines.specs.Reason.{Reason}
 use Rattle.verdict.specs.StageResults.{Pure}
 use Rattle.verdict.specs.Verdict.{AreStructures}
@@ -59,3 +61,25 @@ returns-clause-shaped g c =
     (omega arith) in
     structures_found true 1 tables (queries_in queries) (shapes_of at.plans.items)
     (plans_shaped d key tables queries at.plans.items all)
+
+pub returns-in_err-plans-clause-plans : goal.returns-in_err-plans-clause-plans
+returns-in_err-plans-clause-plans g c = IfOk-from_err c.from_residual.result _ c.from_residual.ensures.0
+
+pub returns-in_err-push-in-Ok-clause-plans : goal.returns-in_err-push-in-Ok-clause-plans
+returns-in_err-push-in-Ok-clause-plans g c = IfOk-from_err c.from_residual-in_err-push-in-Ok.result _ c.from_residual-in_err-push-in-Ok.ensures.0
+
+pub prepare-requires-clause-fits : goal.prepare-requires-clause-fits
+prepare-requires-clause-fits g c =
+    let inside : c.loop-query.query-index < length c.args.queries.now = omega arith in
+    subst (λ q. Fits q c.args.tables.now) (sym c.query-item.is) (c.requires.fits c.loop-query.query-index c.query-item.result inside)
+
+pub prepare-requires-clause-keys : goal.prepare-requires-clause-keys
+prepare-requires-clause-keys g c =
+    let inside : c.loop-query.query-index < length c.args.queries.now = omega arith in
+    subst (λ q. length q.query.order ≤ g.R.Rank.KEYS) (sym c.query-item.is) (c.requires.keys c.loop-query.query-index c.query-item.result inside)
+
+pub returns-clause-plans : goal.returns-clause-plans
+returns-clause-plans g c =
+    let at = c.loop-query in
+    all_planned g.R.Rank.KEYS g.R.Rank.key c.args.tables.now c.args.queries.now at.query-index at.plans.items c.args.steps.now
+    at.steps at.invariant (omega arith)

@@ -1,10 +1,11 @@
 use Rattle.std.proofs.Common.{◌≡◌, ◌<◌, ◌∷◌, [], ◌∙◌, Err, Ok, length, sym, subst, ap, rules, arith}
-use Rattle.plan_model.specs.Plans.{HavePlans}
+use Rattle.std.proofs.lemmas.Result.{IfOk-from_err}
+use Rattle.plan_model.specs.Plans.{ArePrepared, HavePlans}
 use Rattle.plan_build.specs.RankedPlan.{fixed_key}
 use Rattle.bound_query.specs.WeighedQuery.{BoundQuery}
 use Rattle.refusal_lines.specs.RefusalReasons.{reason_of}
 use Rattle.input_load.specs.Input.{InputData, loaded_of}
-use Rattle.verdict.specs.AcceptedInput.{found_of}
+use Rattle.verdict.specs.AcceptedInput.{found_of, queries_in}
 use Rattle.verdict.specs.StageResults.{Pure}
 use Rattle.verdict.specs.Verdict.{IsShaped}
 use Rattle.task_plan.specs.Plans.{shape_in, shapes_of}
@@ -126,3 +127,38 @@ returns-in_ok-plans-2-clause-plans g c =
     let more : 1 < length input.queries = omega (arith, some, value, c.if-queries-eq1.false) in
     subst (λ (i : InputData). (1 < length i.queries) × HavePlans 8 (fixed_key 8 16) i.tables i.queries plans)
     c.input.view_is (more, have)
+
+pub returns-in_err-plan-clause-plans : goal.returns-in_err-plan-clause-plans
+returns-in_err-plan-clause-plans g c = IfOk-from_err c.from_residual.result _ c.from_residual.ensures.0
+
+pub returns-in_err-plans-clause-plans : goal.returns-in_err-plans-clause-plans
+returns-in_err-plans-clause-plans g c = IfOk-from_err c.from_residual-in_err-plans.result _ c.from_residual-in_err-plans.ensures.0
+
+pub returns-in_err-plans-2-clause-plans : goal.returns-in_err-plans-2-clause-plans
+returns-in_err-plans-2-clause-plans g c = IfOk-from_err c.from_residual-in_err-plans-2.result _ c.from_residual-in_err-plans-2.ensures.0
+
+pub returns-in_err-plans-clause-cost : goal.returns-in_err-plans-clause-cost
+returns-in_err-plans-clause-cost g c =
+    subst (λ (i : InputData). ArePrepared (queries_in i.queries) i.tables c.args.steps.now c.plans_for.new.steps) c.input.view_is
+    (rw c.as_slice-queries.ensures.value at c.plans_for.ensures.cost)
+
+pub returns-in_ok-plans-clause-cost : goal.returns-in_ok-plans-clause-cost
+returns-in_ok-plans-clause-cost g c =
+    subst (λ (i : InputData). ArePrepared (queries_in i.queries) i.tables c.args.steps.now c.plans_for.new.steps) c.input.view_is
+    (rw c.as_slice-queries.ensures.value at c.plans_for.ensures.cost)
+
+pub returns-in_err-plans-2-clause-cost : goal.returns-in_err-plans-2-clause-cost
+returns-in_err-plans-2-clause-cost g c =
+    subst (λ (i : InputData). ArePrepared (queries_in i.queries) i.tables c.args.steps.now c.plans_for-else-keys-le1.new.steps) c.input.view_is
+    (rw c.as_slice-queries.ensures.value at c.plans_for-else-keys-le1.ensures.cost)
+
+pub returns-in_ok-plans-2-clause-cost : goal.returns-in_ok-plans-2-clause-cost
+returns-in_ok-plans-2-clause-cost g c =
+    subst (λ (i : InputData). ArePrepared (queries_in i.queries) i.tables c.args.steps.now c.plans_for-else-keys-le1.new.steps) c.input.view_is
+    (rw c.as_slice-queries.ensures.value at c.plans_for-else-keys-le1.ensures.cost)
+
+pub plans_for-requires-clause-fits : goal.plans_for-requires-clause-fits
+plans_for-requires-clause-fits g c = rw c.as_slice-queries.ensures.value c.input.invariant.fits
+
+pub plans_for-requires-else-keys-le1-clause-fits : goal.plans_for-requires-else-keys-le1-clause-fits
+plans_for-requires-else-keys-le1-clause-fits g c = rw c.as_slice-queries.ensures.value c.input.invariant.fits
