@@ -1,4 +1,5 @@
-use Rattle.std.proofs.Common.{◌≡◌, arith, length, sym, ap, ◌∙◌}
+use Rattle.std.proofs.Common.{◌≡◌, refl, arith, length, sym, ap, ◌∙◌}
+use Rattle.std.proofs.lemmas.Result.{IfOk-from_err}
 use Rattle.std.proofs.lemmas.List.{length-map}
 use Rattle.tdp_core.specs.RawData.{row_total}
 use Rattle.tdp_core.specs.TreeData.{node_data, tree_data, row_count}
@@ -57,3 +58,42 @@ returns-clause-cost g c =
     let alike : length c.in_ok-reduced.reduced.nodes.items ≡ length c.args.query.now.query.items = sym (length-map c.in_ok-reduced.reduced.nodes.items node_data) ∙ long ∙ nodes in
     let kept = kept_in_all g.R.Rank.KEYS g.R.Rank.key raw parts reduced built.formed.each_node in
     steps_of_plan _ _ _ _ _ _ _ (row_total raw) _ (row_count parts) c.requires.fits.some (omega (arith, built.used, built.fewer)) (rw long kept) nodes alike built.cost c.in_ok-reduced.ensures.cost c.solve.ensures.cost
+
+pub returns-in_err-built-clause-plan : goal.returns-in_err-built-clause-plan
+returns-in_err-built-clause-plan g c = IfOk-from_err c.from_residual.result _ c.from_residual.ensures.0
+
+pub returns-in_err-built-clause-join : goal.returns-in_err-built-clause-join
+returns-in_err-built-clause-join g c = IfOk-from_err c.from_residual.result _ c.from_residual.ensures.0
+
+pub returns-in_err-built-clause-items : goal.returns-in_err-built-clause-items
+returns-in_err-built-clause-items g c = IfOk-from_err c.from_residual.result _ c.from_residual.ensures.0
+
+pub returns-in_err-built-clause-parents : goal.returns-in_err-built-clause-parents
+returns-in_err-built-clause-parents g c = IfOk-from_err c.from_residual.result _ c.from_residual.ensures.0
+
+pub returns-in_err-reduced-clause-plan : goal.returns-in_err-reduced-clause-plan
+returns-in_err-reduced-clause-plan g c = IfOk-from_err c.from_residual-in_err-reduced.result _ c.from_residual-in_err-reduced.ensures.0
+
+pub returns-in_err-reduced-clause-join : goal.returns-in_err-reduced-clause-join
+returns-in_err-reduced-clause-join g c = IfOk-from_err c.from_residual-in_err-reduced.result _ c.from_residual-in_err-reduced.ensures.0
+
+pub returns-in_err-reduced-clause-items : goal.returns-in_err-reduced-clause-items
+returns-in_err-reduced-clause-items g c = IfOk-from_err c.from_residual-in_err-reduced.result _ c.from_residual-in_err-reduced.ensures.0
+
+pub returns-in_err-reduced-clause-parents : goal.returns-in_err-reduced-clause-parents
+returns-in_err-reduced-clause-parents g c = IfOk-from_err c.from_residual-in_err-reduced.result _ c.from_residual-in_err-reduced.ensures.0
+
+pub returns-in_err-tree-clause-plan : goal.returns-in_err-tree-clause-plan
+returns-in_err-tree-clause-plan g c = IfOk-from_err c.from_residual-in_err-tree.result _ c.from_residual-in_err-tree.ensures.0
+
+pub returns-in_err-tree-clause-join : goal.returns-in_err-tree-clause-join
+returns-in_err-tree-clause-join g c = IfOk-from_err c.from_residual-in_err-tree.result _ c.from_residual-in_err-tree.ensures.0
+
+pub returns-in_err-tree-clause-items : goal.returns-in_err-tree-clause-items
+returns-in_err-tree-clause-items g c = IfOk-from_err c.from_residual-in_err-tree.result _ c.from_residual-in_err-tree.ensures.0
+
+pub returns-in_err-tree-clause-parents : goal.returns-in_err-tree-clause-parents
+returns-in_err-tree-clause-parents g c = IfOk-from_err c.from_residual-in_err-tree.result _ c.from_residual-in_err-tree.ensures.0
+
+pub returns-clause-join : goal.returns-clause-join
+returns-clause-join g c = refl

@@ -1,4 +1,5 @@
 use Rattle.std.proofs.Common.{arith}
+use Rattle.std.proofs.lemmas.Result.{IfOk-from_err}
 use Rattle.node_build.proofs.Shaped.{caps_small}
 use Rattle.plan_build.proofs.Rooms.{denied, lex_least, middle_least, small_lex_least, sum_least}
 use Rattle.plan_build.proofs.ranked_plan.prepare_ranked.Goals as goal
@@ -40,3 +41,63 @@ returns-clause-smallest g c =
     (denied c.has_packed_room.result c.if-has_packed_room.false (c.has_packed_room.ensures c.args.tables.now c.requires.fits))
     (denied c.has_places.result c.if-has_places.false c.has_places.ensures) (denied c.has_places-2.result c.if-has_places-2.false c.has_places-2.ensures)
     c.in_ok-plan-5.plan (denied c.has_places-3.result c.if-has_places-3.false c.has_places-3.ensures) (omega arith, omega arith)
+
+pub returns-in_err-plan-clause-plan : goal.returns-in_err-plan-clause-plan
+returns-in_err-plan-clause-plan g c = IfOk-from_err c.from_residual.result _ c.from_residual.ensures.0
+
+pub returns-in_err-plan-clause-smallest : goal.returns-in_err-plan-clause-smallest
+returns-in_err-plan-clause-smallest g c = IfOk-from_err c.from_residual.result _ c.from_residual.ensures.0
+
+pub returns-in_err-plan-2-clause-plan : goal.returns-in_err-plan-2-clause-plan
+returns-in_err-plan-2-clause-plan g c = IfOk-from_err c.from_residual-in_err-plan-2.result _ c.from_residual-in_err-plan-2.ensures.0
+
+pub returns-in_err-plan-2-clause-smallest : goal.returns-in_err-plan-2-clause-smallest
+returns-in_err-plan-2-clause-smallest g c = IfOk-from_err c.from_residual-in_err-plan-2.result _ c.from_residual-in_err-plan-2.ensures.0
+
+pub returns-in_err-plan-3-clause-plan : goal.returns-in_err-plan-3-clause-plan
+returns-in_err-plan-3-clause-plan g c = IfOk-from_err c.from_residual-in_err-plan-3.result _ c.from_residual-in_err-plan-3.ensures.0
+
+pub returns-in_err-plan-3-clause-smallest : goal.returns-in_err-plan-3-clause-smallest
+returns-in_err-plan-3-clause-smallest g c = IfOk-from_err c.from_residual-in_err-plan-3.result _ c.from_residual-in_err-plan-3.ensures.0
+
+pub returns-in_err-plan-4-clause-plan : goal.returns-in_err-plan-4-clause-plan
+returns-in_err-plan-4-clause-plan g c = IfOk-from_err c.from_residual-in_err-plan-4.result _ c.from_residual-in_err-plan-4.ensures.0
+
+pub returns-in_err-plan-4-clause-smallest : goal.returns-in_err-plan-4-clause-smallest
+returns-in_err-plan-4-clause-smallest g c = IfOk-from_err c.from_residual-in_err-plan-4.result _ c.from_residual-in_err-plan-4.ensures.0
+
+pub returns-in_err-plan-5-clause-plan : goal.returns-in_err-plan-5-clause-plan
+returns-in_err-plan-5-clause-plan g c = IfOk-from_err c.from_residual-in_err-plan-5.result _ c.from_residual-in_err-plan-5.ensures.0
+
+pub returns-in_err-plan-5-clause-smallest : goal.returns-in_err-plan-5-clause-smallest
+returns-in_err-plan-5-clause-smallest g c = IfOk-from_err c.from_residual-in_err-plan-5.result _ c.from_residual-in_err-plan-5.ensures.0
+
+pub prepare_of-requires-clause-fits : goal.prepare_of-requires-clause-fits
+prepare_of-requires-clause-fits g c = c.requires.fits
+
+pub prepare_of-requires-clause-item : goal.prepare_of-requires-clause-item
+prepare_of-requires-clause-item g c = c.requires.item
+
+pub prepare_of-requires-then-has_places-clause-fits : goal.prepare_of-requires-then-has_places-clause-fits
+prepare_of-requires-then-has_places-clause-fits g c = c.requires.fits
+
+pub prepare_of-requires-then-has_places-clause-item : goal.prepare_of-requires-then-has_places-clause-item
+prepare_of-requires-then-has_places-clause-item g c = c.requires.item
+
+pub prepare_of-requires-then-has_places-2-clause-fits : goal.prepare_of-requires-then-has_places-2-clause-fits
+prepare_of-requires-then-has_places-2-clause-fits g c = c.requires.fits
+
+pub prepare_of-requires-then-has_places-2-clause-item : goal.prepare_of-requires-then-has_places-2-clause-item
+prepare_of-requires-then-has_places-2-clause-item g c = c.requires.item
+
+pub prepare_of-requires-then-has_places-3-clause-fits : goal.prepare_of-requires-then-has_places-3-clause-fits
+prepare_of-requires-then-has_places-3-clause-fits g c = c.requires.fits
+
+pub prepare_of-requires-then-has_places-3-clause-item : goal.prepare_of-requires-then-has_places-3-clause-item
+prepare_of-requires-then-has_places-3-clause-item g c = c.requires.item
+
+pub prepare_of-requires-2-clause-fits : goal.prepare_of-requires-2-clause-fits
+prepare_of-requires-2-clause-fits g c = c.requires.fits
+
+pub prepare_of-requires-2-clause-item : goal.prepare_of-requires-2-clause-item
+prepare_of-requires-2-clause-item g c = c.requires.item

@@ -1,4 +1,5 @@
 use Rattle.union_print.proofs.UnionRun.{some_spent, started_more}
+use Rattle.std.proofs.lemmas.Result.{IfOk-from_err}
 use Rattle.union_print.proofs.union.engines_over.Goals as goal
 
 pub returns-in_err-started-clause-cost : goal.returns-in_err-started-clause-cost
@@ -25,3 +26,12 @@ loop-plan-preserved g c =
       asked =
           c.in_ok-started.ensures.asked;
     }) c.engine_over.ensures.cost)
+
+pub returns-in_err-engines-clause-started : goal.returns-in_err-engines-clause-started
+returns-in_err-engines-clause-started g c = IfOk-from_err c.from_residual.result _ c.from_residual.ensures.0
+
+pub returns-in_err-started-clause-started : goal.returns-in_err-started-clause-started
+returns-in_err-started-clause-started g c = IfOk-from_err c.from_residual-in_err-started.result _ c.from_residual-in_err-started.ensures.0
+
+pub returns-in_err-push-clause-started : goal.returns-in_err-push-clause-started
+returns-in_err-push-clause-started g c = IfOk-from_err c.from_residual-in_err-push.result _ c.from_residual-in_err-push.ensures.0
