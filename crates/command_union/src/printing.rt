@@ -53,7 +53,18 @@ pub fn print_union<'a, 'q, E: Ranked + Drop, S: Sink, L: Ledger>(
         + 1) members) }
 {
     print_union_header(alloc, queries, tables, style, out)?;
-    print_members(alloc, queries, tables, style, limit, merge, out, steps)
+    let mut records = AnswerWriter::new(alloc);
+    print_members(
+        alloc,
+        &mut records,
+        queries,
+        tables,
+        style,
+        limit,
+        merge,
+        out,
+        steps,
+    )
 }
 
 /// Prints the record above the members. `WriteFault` if the write failed, and `NoMemory` if memory is refused.
@@ -74,9 +85,10 @@ fn print_union_header<'a, S: Sink>(
     print(out, &text)
 }
 
-/// Prints the members, up to the limit or the end of the union.
+/// Prints the members, up to the limit or the end of the union. `records` keeps the memory for a record.
 fn print_members<'a, 'q, E: Ranked + Drop, S: Sink, L: Ledger>(
     alloc: Global,
+    records: &mut AnswerWriter,
     queries: &[Query],
     tables: &Tables,
     style: &Style<'_>,
@@ -98,12 +110,11 @@ fn print_members<'a, 'q, E: Ranked + Drop, S: Sink, L: Ledger>(
         (S.written out.old) (S.written out.new) steps.old steps.new }
 {
     let most = limit.unwrap_or(u64::MAX);
-    let mut records = AnswerWriter::new(alloc);
     for _given in 0..most {
         let Some(tagged) = merge.next(steps)? else {
             return Ok(());
         };
-        print_member(alloc, &mut records, &tagged, queries, tables, style, out)?;
+        print_member(alloc, records, &tagged, queries, tables, style, out)?;
     }
     if limit.is_none() {
         return Err(Refusal::NoMemory);
