@@ -7,3 +7,4 @@ pub mod BestSums
 pub mod PlanProblem
 pub mod Writes
 pub mod PlanText
+pub mod Pushed
