@@ -1,7 +1,9 @@
 -- The numbers of a list that are not 0, and their places.
+use Rattle.std.proofs.lemmas.List.Elements.{filter-append}
 use Rattle.std.proofs.Common.{◌≡◌, ◌≢◌, ◌<◌, ◌≤◌, ◌+◌, ◌⊎◌, Less, Equal, Ordering, ℕ, zero, suc, cond, nat_lt, Bool}
 use Rattle.std.proofs.Common.{true, false, List, [], ◌∷◌, map, pos, length, get_or, refl, sym, ap, subst, ◌∙◌, inl}
-use Rattle.std.proofs.Common.{inr, arith}
+use Rattle.std.proofs.Common.{inr, arith, take, ◌++◌, append-nil}
+use Rattle.std.proofs.lemmas.List.{take_more}
 use Rattle.std.specs.Cmp.Lexicographic.{slice_cmp}
 use Rattle.std.specs.Ordering.{is_lt, nat_cmp, ordering_then}
 use Rattle.std.proofs.lemmas.Bool.{cases_eq, cases_lt}
@@ -193,3 +195,16 @@ listed_before (x ∷ xs) (y ∷ ys) (inr none, a) n h =
       | inl less ↦ let a = none.0 in let b = none.1 in absurd (omega (arith, a, b, less))
       | inr same ↦ listed_before xs ys a (λ e. n (ap (λ z. z ∷ xs) same.0 ∙ ap (λ z. y ∷ z) e)) same.1
     ]))
+
+-- the next number is listed unless it is 0
+pub listed_kept : (rows : List ℕ) (i : ℕ) → i < length rows → 0 < get_or rows i 0
+    → listed (take (i + 1) rows) ≡ listed (take i rows) ++ (get_or rows i 0 ∷ [])
+listed_kept rows i inside some =
+    ap listed (take_more rows i 0 inside) ∙ filter-append _ (take i rows) (get_or rows i 0 ∷ [])
+    ∙ ap (λ (t : List ℕ). listed (take i rows) ++ t) (lists_some (get_or rows i 0) [] some)
+
+pub listed_skipped : (rows : List ℕ) (i : ℕ) → i < length rows → get_or rows i 0 ≡ 0
+    → listed (take (i + 1) rows) ≡ listed (take i rows)
+listed_skipped rows i inside none =
+    ap listed (take_more rows i 0 inside) ∙ filter-append _ (take i rows) (get_or rows i 0 ∷ [])
+    ∙ ap (λ (t : List ℕ). listed (take i rows) ++ t) (lists_none (get_or rows i 0) [] none) ∙ append-nil _
