@@ -1,4 +1,5 @@
 use Rattle.std.proofs.Common.{◌<◌, length, sym, ap, subst, ◌∙◌, arith, below_more}
+use Rattle.std.proofs.lemmas.Bool.{false≢true}
 use Rattle.tdp_core.specs.RawData.{raw_len, raw_number}
 use Rattle.proof_model.specs.QueryProblem.{problem_in}
 use Rattle.proof_model.specs.Valid.{IsCovered}
@@ -35,3 +36,25 @@ returns-clause-covered g c same query tables cert few bounded row is_row =
     subst (λ r. IsCovered t cert v r) at.2
     (c.loop-row.invariant query tables cert few bounded at.0
     (omega (arith, at.1, c.loop-row-test.false, c.len-row-end.ensures, ap (λ z. raw_len z.raw v) c.tree.view_is)))
+
+pub loop-row-init : goal.loop-row-init
+loop-row-init g c query tables cert few bounded i l = absurd (omega (arith, l))
+
+pub is_covered-requires-clause-row : goal.is_covered-requires-clause-row
+is_covered-requires-clause-row g c =
+    omega (arith, c.loop-row-test.true, c.len-row-end.ensures, ap (λ z. raw_len z.raw c.args.node) c.tree.view_is)
+
+pub returns-then-not-is_covered-clause-covered : goal.returns-then-not-is_covered-clause-covered
+returns-then-not-is_covered-clause-covered g c same = absurd (false≢true (sym same))
+
+pub returns-clause-weak : goal.returns-clause-weak
+returns-clause-weak g c same = absurd (false≢true same)
+
+pub is_covered-requires-clause-ordered : goal.is_covered-requires-clause-ordered
+is_covered-requires-clause-ordered g c = c.requires.ordered
+
+pub is_covered-requires-clause-bounded : goal.is_covered-requires-clause-bounded
+is_covered-requires-clause-bounded g c = c.requires.bounded
+
+pub is_covered-requires-clause-node : goal.is_covered-requires-clause-node
+is_covered-requires-clause-node g c = c.requires.node
