@@ -97,3 +97,24 @@ returns-in_err-tree-clause-parents g c = IfOk-from_err c.from_residual-in_err-tr
 
 pub returns-clause-join : goal.returns-clause-join
 returns-clause-join g c = refl
+
+pub nodes_of-requires-clause-fits : goal.nodes_of-requires-clause-fits
+nodes_of-requires-clause-fits g c = c.requires.fits
+
+pub nodes_of-requires-clause-keys : goal.nodes_of-requires-clause-keys
+nodes_of-requires-clause-keys g c = c.requires.keys
+
+pub nodes_of-requires-clause-slots : goal.nodes_of-requires-clause-slots
+nodes_of-requires-clause-slots g c = c.requires.slots
+
+pub nodes_of-requires-clause-limit : goal.nodes_of-requires-clause-limit
+nodes_of-requires-clause-limit g c = c.requires.limit
+
+pub nodes_of-requires-clause-tree : goal.nodes_of-requires-clause-tree
+nodes_of-requires-clause-tree g c = c.requires.over
+
+pub rows_of_tables-requires : goal.rows_of_tables-requires
+rows_of_tables-requires g c = record { fits = c.requires.fits }
+
+pub in_order-node_rows-requires-clause-from : goal.in_order-node_rows-requires-clause-from
+in_order-node_rows-requires-clause-from g c = c.requires.over_ordered
