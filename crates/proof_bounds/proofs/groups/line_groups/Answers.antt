@@ -124,3 +124,18 @@ returns-in-Err-clause-groups g c = tt
 
 pub returns-clause-fault : goal.returns-clause-fault
 returns-clause-fault g c = tt
+
+pub bounds-bound-items-line : goal.bounds-bound-items-line
+bounds-bound-items-line g c = c.loop-line-test.true
+
+pub bounds-tops-line : goal.bounds-tops-line
+bounds-tops-line g c =
+    let inside = subst (λ xs. c.loop-line.line < length xs) c.deref-bound-items.ensures.value c.loop-line-test.true in
+    omega (arith, inside, c.requires.placed.count)
+
+pub returns-clause-groups : goal.returns-clause-groups
+returns-clause-groups g c =
+    let all : c.loop-line.line ≡ length c.args.proof.now.bounds.items =
+    omega (arith, c.loop-line-test.false, c.loop-line.auto.line-end, ap length c.deref-bound-items.ensures.value) in
+    subst (λ n. AreLineGroups c.args.raw.now (seen_proof c.args.proof.now) c.args.tops.now n c.loop-line.groups.items) all
+    c.loop-line.invariant
