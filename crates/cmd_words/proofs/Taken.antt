@@ -1,10 +1,11 @@
 -- What follows from what `clap` says of the words.
-use Rattle.std.proofs.Common.{◌≡◌, ℕ, List, [], ◌∷◌, Option, None, true, refl, sym, ap, ◌∙◌}
-use Rattle.std.specs.Prelude.{Result, Err, IsErrOf}
+use Rattle.std.proofs.Common.{◌≡◌, ℕ, List, [], ◌∷◌, Option, None, true, refl, sym, ap, ◌∙◌, subst, Ok}
+use Rattle.std.specs.Prelude.{Result, Err, IsErrOf, IfOk, IsOkAnd}
 use Rattle.clap.specs.Faults.{fault_of, is_simple_and_free}
 use Rattle.clap.specs.Kinds.{Kinds}
-use Rattle.clap.specs.Simple.{App, is_simple, matches_of}
+use Rattle.clap.specs.Simple.{App, app_of, is_simple, matches_of}
 use Rattle.clap.specs.Walk.{Row}
+use Rattle.clap.specs.declared.builder.command.Command.{Command}
 use Rattle.cmd_words.specs.Arguments.{run_app, session_app, plan_app, prove_app, verify_app, load_app}
 use Rattle.cmd_words.specs.Commands.{if_no, if_taken, run_of, session_of, plan_of, prove_of, verify_of, load_of}
 use Rattle.cmd_words.specs.ArgumentMeaning.{Texts, texts_of, run_texts, session_texts, plan_texts, prove_texts, verify_texts, said_by, session_by, verify_by, load_by, load_by_texts}
@@ -139,6 +140,17 @@ same_texts a a' b b' c c' d d' e e' f f' g g' h h' p q r s t u v w =
 pub same_options : (a b c x y z : Option (List ℕ)) → a ≡ x → b ≡ y → c ≡ z → load_by_texts x y z ≡ load_by_texts a b c
 same_options a b c x y z p q r =
     sym (ap (λ (o : Option (List ℕ)). load_by_texts o b c) p ∙ ap (λ (o : Option (List ℕ)). load_by_texts x o c) q ∙ ap (λ (o : Option (List ℕ)). load_by_texts x y o) r)
+
+-- what holds of the command that was made, where it is known
+module _ {E : Type 0} where
+  pub at_known : (command : Result Command E) (own : App) (P : App → Type 0) → IfOk command (λ c. app_of c ≡ own) → IsOkAnd command (λ c. P (app_of c)) → P own
+  at_known (Ok c) own P same holds = subst P same holds
+  at_known (Err e) own P same holds = absurd holds
+
+-- what holds of the value of a result
+module _ {T E : Type 0} where
+  pub holds_of : (r : Result T E) (x : T) (P : T → Type 0) → r ≡ Ok x → P x → IsOkAnd r P
+  holds_of r x P same holds = subst (λ (q : Result T E). IsOkAnd q P) (sym same) holds
 
 -- an error of one result is that of another
 module _ {S T E : Type 0} where

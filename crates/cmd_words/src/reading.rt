@@ -60,7 +60,7 @@ fn read_run(alloc: Global, words: &[String]) -> Result<Words, WordsFault>
         (λ said. run_of (map string_bytes words.now) ≡ Some (seen_words said)) }
     ensures usage { IsErrOf result WordsFault.Usage → run_of (map string_bytes words.now) ≡ None }
 {
-    let matches = parsed(run_command(alloc)?, words)?;
+    let matches = parsed(run_command(alloc), words)?;
     let mut texts = texts_of(&matches);
     texts.script = None;
     texts.proof = None;
@@ -73,7 +73,7 @@ fn read_session(alloc: Global, words: &[String]) -> Result<Words, WordsFault>
     ensures usage { IsErrOf result WordsFault.Usage
         → session_of (map string_bytes words.now) ≡ None }
 {
-    let matches = parsed(session_command(alloc)?, words)?;
+    let matches = parsed(session_command(alloc), words)?;
     let mut texts = texts_of(&matches);
     texts.proof = None;
     read_session_texts(alloc, texts)
@@ -84,7 +84,7 @@ fn read_plan(alloc: Global, words: &[String]) -> Result<Words, WordsFault>
         (λ said. plan_of (map string_bytes words.now) ≡ Some (seen_words said)) }
     ensures usage { IsErrOf result WordsFault.Usage → plan_of (map string_bytes words.now) ≡ None }
 {
-    let matches = parsed(plan_command(alloc)?, words)?;
+    let matches = parsed(plan_command(alloc), words)?;
     let texts = texts_of(&matches);
     read_texts(
         alloc,
@@ -106,7 +106,7 @@ fn read_prove(alloc: Global, words: &[String]) -> Result<Words, WordsFault>
         (λ said. prove_of (map string_bytes words.now) ≡ Some (seen_words said)) }
     ensures usage { IsErrOf result WordsFault.Usage → prove_of (map string_bytes words.now) ≡ None }
 {
-    let matches = parsed(prove_command(alloc)?, words)?;
+    let matches = parsed(prove_command(alloc), words)?;
     let texts = texts_of(&matches);
     read_texts(
         alloc,
@@ -129,7 +129,7 @@ fn read_verify(alloc: Global, words: &[String]) -> Result<Words, WordsFault>
     ensures usage { IsErrOf result WordsFault.Usage
         → verify_of (map string_bytes words.now) ≡ None }
 {
-    let matches = parsed(verify_command(alloc)?, words)?;
+    let matches = parsed(verify_command(alloc), words)?;
     let texts = texts_of(&matches);
     read_verify_texts(
         alloc,
@@ -152,6 +152,6 @@ fn read_load(alloc: Global, words: &[String]) -> Result<(Engine, u32, u32), Word
     ensures usage { IsErrOf result WordsFault.Usage → load_of (map string_bytes words.now) ≡ None }
     ensures ranges { IfOk result (λ said. IsInRange said.1 said.2) }
 {
-    let matches = parsed(load_command(alloc)?, words)?;
+    let matches = parsed(load_command(alloc), words)?;
     read_load_texts(&matches)
 }

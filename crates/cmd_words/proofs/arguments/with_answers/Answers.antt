@@ -1,11 +1,11 @@
-use Rattle.std.proofs.Common.{◌∙◌, ap, ap₂}
+use Rattle.std.proofs.Common.{◌≡◌, ◌∙◌, ap}
 use Rattle.std.proofs.lemmas.Result.{IfOk-weaker}
 use Rattle.clap.specs.Simple.{app_of, with_rule}
-use Rattle.cmd_words.specs.Arguments.{with_style}
+use Rattle.cmd_words.specs.Arguments.{with_style, engine_rule}
+use Rattle.cmd_words.proofs.Adding.{added, added_arg}
 use Rattle.cmd_words.proofs.arguments.with_answers.Goals as goal
 
 pub returns : goal.returns
 returns c =
-    let one = c.in_ok-arg.ensures.shape c.engine.ensures.local ∙ ap (with_rule (app_of c.args.command)) c.engine.ensures.rule in
-    let style = c.in_ok-style.ensures ∙ ap with_style one in
-    IfOk-weaker c.arg-2.result _ _ (λ whole h. h.shape c.option.ensures.local ∙ ap₂ with_rule style c.option.ensures.rule) c.arg-2.ensures
+    let engine = IfOk-weaker c.arg.result _ (λ e. app_of e ≡ with_rule (app_of c.args.command) engine_rule) (λ e h. h.shape c.engine.ensures.local ∙ ap (with_rule (app_of c.args.command)) c.engine.ensures.rule) c.arg.ensures in
+    added_arg _ _ _ _ _ c.option.ensures.rule (added _ _ _ with_style engine c.with_style-styled.ensures) c.with_arg.ensures

@@ -1,9 +1,5 @@
-use Rattle.std.proofs.Common.{◌∙◌, ap, ap₂}
-use Rattle.std.proofs.lemmas.Result.{IfOk-weaker}
-use Rattle.clap.specs.Simple.{app_of, with_rule}
+use Rattle.cmd_words.proofs.Adding.{added_two}
 use Rattle.cmd_words.proofs.arguments.with_files.Goals as goal
 
 pub returns : goal.returns
-returns c =
-    let one = c.in_ok-arg.ensures.shape c.query.ensures.local ∙ ap (with_rule (app_of c.args.command)) c.query.ensures.rule in
-    IfOk-weaker c.arg-2.result _ _ (λ whole h. h.shape c.tables.ensures.local ∙ ap₂ with_rule one c.tables.ensures.rule) c.arg-2.ensures
+returns c = added_two _ _ _ _ _ _ _ c.query.ensures.rule c.tables.ensures.rule c.with_arg-queried.ensures c.with_arg.ensures

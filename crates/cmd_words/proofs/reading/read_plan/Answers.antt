@@ -1,31 +1,36 @@
-use Rattle.std.proofs.Common.{◌≡◌, ◌∙◌, ap, map, refl, rules}
+use Rattle.std.proofs.Common.{◌≡◌, [], ◌∙◌, ap, map, refl, rules}
 use Rattle.std.specs.Prelude.{Err}
 use Rattle.std.specs.String.{string_bytes}
 use Rattle.std.proofs.lemmas.Result.{IfOk-weaker}
-use Rattle.clap.specs.Faults.{is_simple_and_free}
+use Rattle.clap.specs.Faults.{fault_of, is_simple_and_free}
 use Rattle.clap.specs.Matches.{found_of}
-use Rattle.clap.specs.Simple.{app_of, is_simple}
+use Rattle.clap.specs.Simple.{is_simple, matches_of}
 use Rattle.clap.specs.Walk.{rows_of}
 use Rattle.cmd_words.specs.ArgumentMeaning.{seen_texts}
-use Rattle.cmd_words.proofs.Taken.{same_error, plan_taken, plan_refused, plan_simple, plan_free}
+use Rattle.cmd_words.specs.Arguments.{plan_app}
+use Rattle.cmd_words.proofs.Taken.{at_known, same_error, plan_taken, plan_refused, plan_simple, plan_free}
 use Rattle.cmd_words.proofs.reading.read_plan.Goals as goal
 
 pub parsed-requires-clause-simple : goal.parsed-requires-clause-simple
-parsed-requires-clause-simple c = ap is_simple c.in_ok-plan_command.ensures ∙ plan_simple
+parsed-requires-clause-simple c = IfOk-weaker c.plan_command.result _ _ (λ p h. ap is_simple h ∙ plan_simple) c.plan_command.ensures
 
 pub parsed-requires-clause-free : goal.parsed-requires-clause-free
-parsed-requires-clause-free c = ap is_simple_and_free c.in_ok-plan_command.ensures ∙ plan_free
+parsed-requires-clause-free c = IfOk-weaker c.plan_command.result _ _ (λ p h. ap is_simple_and_free h ∙ plan_free) c.plan_command.ensures
 
 pub returns-in_err-matches-clause-usage : goal.returns-in_err-matches-clause-usage
 returns-in_err-matches-clause-usage c =
-    let same : c.from_residual-in_err-matches.result ≡ Err c.in_err-matches.field-0.0 = search rules in
-    λ h. plan_refused (app_of c.in_ok-plan_command.field-0) (map string_bytes c.args.words.now) c.in_ok-plan_command.ensures
-    (c.in_err-matches.ensures.usage (same_error c.from_residual-in_err-matches.result (Err c.in_err-matches.field-0.0) c.in_err-matches.field-0.0 _ same refl h))
+    let same : c.from_residual.result ≡ Err c.in_err-matches.field-0.0 = search rules in
+    λ h. plan_refused plan_app (map string_bytes c.args.words.now) refl
+    (at_known c.plan_command.result plan_app (λ app. fault_of app (map string_bytes c.args.words.now) ≡ [] → ⊥) c.plan_command.ensures (c.in_err-matches.ensures.usage (same_error c.from_residual.result (Err c.in_err-matches.field-0.0) c.in_err-matches.field-0.0 _ same refl h)))
 
 pub returns-clause-words : goal.returns-clause-words
-returns-clause-words c = IfOk-weaker c.read_texts.result _ _ (λ said h. plan_taken (app_of c.in_ok-plan_command.field-0) (map string_bytes c.args.words.now) (rows_of (found_of c.in_ok-matches.matches)) c.in_ok-matches.ensures.taken c.in_ok-matches.ensures.matches
-    (seen_texts c.texts_of-texts.result) c.texts_of-texts.ensures c.in_ok-plan_command.ensures ∙ h) c.read_texts.ensures.words
+returns-clause-words c = IfOk-weaker c.read_texts.result _ _ (λ said h. plan_taken plan_app (map string_bytes c.args.words.now) (rows_of (found_of c.in_ok-matches.matches))
+    (at_known c.plan_command.result plan_app (λ app. fault_of app (map string_bytes c.args.words.now) ≡ []) c.plan_command.ensures c.in_ok-matches.ensures.taken)
+    (at_known c.plan_command.result plan_app (λ app. rows_of (found_of c.in_ok-matches.matches) ≡ matches_of app (map string_bytes c.args.words.now)) c.plan_command.ensures c.in_ok-matches.ensures.matches)
+    (seen_texts c.texts_of-texts.result) c.texts_of-texts.ensures refl ∙ h) c.read_texts.ensures.words
 
 pub returns-clause-usage : goal.returns-clause-usage
-returns-clause-usage c = λ h. plan_taken (app_of c.in_ok-plan_command.field-0) (map string_bytes c.args.words.now) (rows_of (found_of c.in_ok-matches.matches)) c.in_ok-matches.ensures.taken c.in_ok-matches.ensures.matches
-    (seen_texts c.texts_of-texts.result) c.texts_of-texts.ensures c.in_ok-plan_command.ensures ∙ c.read_texts.ensures.usage h
+returns-clause-usage c = λ h. plan_taken plan_app (map string_bytes c.args.words.now) (rows_of (found_of c.in_ok-matches.matches))
+    (at_known c.plan_command.result plan_app (λ app. fault_of app (map string_bytes c.args.words.now) ≡ []) c.plan_command.ensures c.in_ok-matches.ensures.taken)
+    (at_known c.plan_command.result plan_app (λ app. rows_of (found_of c.in_ok-matches.matches) ≡ matches_of app (map string_bytes c.args.words.now)) c.plan_command.ensures c.in_ok-matches.ensures.matches)
+    (seen_texts c.texts_of-texts.result) c.texts_of-texts.ensures refl ∙ c.read_texts.ensures.usage h
