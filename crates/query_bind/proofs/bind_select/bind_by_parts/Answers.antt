@@ -1,4 +1,5 @@
 use Rattle.std.proofs.Common.{◌∙◌, sym, ap, subst}
+use Rattle.std.proofs.lemmas.Result.{IfOk-from_err}
 use Rattle.anyk_model.specs.Query.{Query}
 use Rattle.bound_query.specs.WeighedQuery.{BoundQuery, Fits}
 use Rattle.query_bind.proofs.SoundWeights.{keys_in_range, keys_weigh}
@@ -28,3 +29,51 @@ returns-clause-fits c =
       filtered = filters.filtered;
       filters = filters.filters;
     })
+
+pub returns-in_err-selection-clause-query : goal.returns-in_err-selection-clause-query
+returns-in_err-selection-clause-query c = IfOk-from_err c.from_residual.result _ c.from_residual.ensures.0
+
+pub returns-in_err-selection-clause-fits : goal.returns-in_err-selection-clause-fits
+returns-in_err-selection-clause-fits c = IfOk-from_err c.from_residual.result _ c.from_residual.ensures.0
+
+pub returns-in_err-selection-clause-sound : goal.returns-in_err-selection-clause-sound
+returns-in_err-selection-clause-sound c = IfOk-from_err c.from_residual.result _ c.from_residual.ensures.0
+
+pub returns-in_err-weighed-clause-query : goal.returns-in_err-weighed-clause-query
+returns-in_err-weighed-clause-query c = IfOk-from_err c.from_residual-in_err-weighed.result _ c.from_residual-in_err-weighed.ensures.0
+
+pub returns-in_err-weighed-clause-fits : goal.returns-in_err-weighed-clause-fits
+returns-in_err-weighed-clause-fits c = IfOk-from_err c.from_residual-in_err-weighed.result _ c.from_residual-in_err-weighed.ensures.0
+
+pub returns-in_err-weighed-clause-sound : goal.returns-in_err-weighed-clause-sound
+returns-in_err-weighed-clause-sound c = IfOk-from_err c.from_residual-in_err-weighed.result _ c.from_residual-in_err-weighed.ensures.0
+
+pub returns-in_err-classes-clause-query : goal.returns-in_err-classes-clause-query
+returns-in_err-classes-clause-query c = IfOk-from_err c.from_residual-in_err-classes.result _ c.from_residual-in_err-classes.ensures.0
+
+pub returns-in_err-classes-clause-fits : goal.returns-in_err-classes-clause-fits
+returns-in_err-classes-clause-fits c = IfOk-from_err c.from_residual-in_err-classes.result _ c.from_residual-in_err-classes.ensures.0
+
+pub returns-in_err-classes-clause-sound : goal.returns-in_err-classes-clause-sound
+returns-in_err-classes-clause-sound c = IfOk-from_err c.from_residual-in_err-classes.result _ c.from_residual-in_err-classes.ensures.0
+
+pub returns-in_err-variables-clause-query : goal.returns-in_err-variables-clause-query
+returns-in_err-variables-clause-query c = IfOk-from_err c.from_residual-in_err-variables.result _ c.from_residual-in_err-variables.ensures.0
+
+pub returns-in_err-variables-clause-fits : goal.returns-in_err-variables-clause-fits
+returns-in_err-variables-clause-fits c = IfOk-from_err c.from_residual-in_err-variables.result _ c.from_residual-in_err-variables.ensures.0
+
+pub returns-in_err-variables-clause-sound : goal.returns-in_err-variables-clause-sound
+returns-in_err-variables-clause-sound c = IfOk-from_err c.from_residual-in_err-variables.result _ c.from_residual-in_err-variables.ensures.0
+
+pub returns-in_err-filters-clause-query : goal.returns-in_err-filters-clause-query
+returns-in_err-filters-clause-query c = IfOk-from_err c.from_residual-in_err-filters.result _ c.from_residual-in_err-filters.ensures.0
+
+pub returns-in_err-filters-clause-fits : goal.returns-in_err-filters-clause-fits
+returns-in_err-filters-clause-fits c = IfOk-from_err c.from_residual-in_err-filters.result _ c.from_residual-in_err-filters.ensures.0
+
+pub returns-in_err-filters-clause-sound : goal.returns-in_err-filters-clause-sound
+returns-in_err-filters-clause-sound c = IfOk-from_err c.from_residual-in_err-filters.result _ c.from_residual-in_err-filters.ensures.0
+
+pub returns-clause-fault : goal.returns-clause-fault
+returns-clause-fault c = tt
