@@ -1,4 +1,5 @@
 use Rattle.std.proofs.Common.{◌≡◌, ◌∙◌, ◌+◌, ◌<◌, ℕ, List, length, Err, ap, subst, sym, rules, arith}
+use Rattle.std.proofs.lemmas.Result.{IfOk-from_err}
 use Rattle.std.specs.List.{AllByRecursion}
 use Rattle.refusal_lines.specs.RefusalReasons.{reason_of}
 use Rattle.verdict.specs.Loading.{all_items, are_several, first_uses, told_branch}
@@ -60,3 +61,9 @@ returns-clause-bound c =
 
 pub returns-clause-fits : goal.returns-clause-fits
 returns-clause-fits c = c.loop-select.invariant.fits
+
+pub returns-in_err-query-clause-count : goal.returns-in_err-query-clause-count
+returns-in_err-query-clause-count c = IfOk-from_err c.from_residual.result _ c.from_residual.ensures.0
+
+pub returns-in_err-query-clause-fits : goal.returns-in_err-query-clause-fits
+returns-in_err-query-clause-fits c = IfOk-from_err c.from_residual.result _ c.from_residual.ensures.0

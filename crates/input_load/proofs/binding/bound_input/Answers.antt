@@ -1,4 +1,5 @@
 use Rattle.std.proofs.Common.{◌≡◌, Err, rules, arith}
+use Rattle.std.proofs.lemmas.Result.{IfOk-from_err}
 use Rattle.refusal_lines.specs.RefusalReasons.{reason_of}
 use Rattle.verdict.specs.Loading.{bound_in, loaded_in}
 use Rattle.verdict.specs.Stages.{Is, followed}
@@ -61,3 +62,21 @@ returns-clause-bound c =
     let queries = queries_in c.in_ok-queries.queries.items in
     followed {a = queries} c.in_ok-queries.ensures.bound
     (item_found queries c.args.tables (seen_beside c.args.beside) sought.best_of c.in_ok-best.best (rw c.deref.ensures.value at c.in_ok-check_shapes.ensures) (rw c.deref-2.ensures.value at c.in_ok-best.ensures.best))
+
+pub returns-in_err-queries-clause-branches : goal.returns-in_err-queries-clause-branches
+returns-in_err-queries-clause-branches c = IfOk-from_err c.from_residual.result _ c.from_residual.ensures.0
+
+pub returns-in_err-queries-clause-unnamed : goal.returns-in_err-queries-clause-unnamed
+returns-in_err-queries-clause-unnamed c = λ _. IfOk-from_err c.from_residual.result _ c.from_residual.ensures.0
+
+pub returns-in_err-check_shapes-clause-branches : goal.returns-in_err-check_shapes-clause-branches
+returns-in_err-check_shapes-clause-branches c = IfOk-from_err c.from_residual-in_err-check_shapes.result _ c.from_residual-in_err-check_shapes.ensures.0
+
+pub returns-in_err-check_shapes-clause-unnamed : goal.returns-in_err-check_shapes-clause-unnamed
+returns-in_err-check_shapes-clause-unnamed c = λ _. IfOk-from_err c.from_residual-in_err-check_shapes.result _ c.from_residual-in_err-check_shapes.ensures.0
+
+pub returns-in_err-best-clause-branches : goal.returns-in_err-best-clause-branches
+returns-in_err-best-clause-branches c = IfOk-from_err c.from_residual-in_err-best.result _ c.from_residual-in_err-best.ensures.0
+
+pub returns-in_err-best-clause-unnamed : goal.returns-in_err-best-clause-unnamed
+returns-in_err-best-clause-unnamed c = λ _. IfOk-from_err c.from_residual-in_err-best.result _ c.from_residual-in_err-best.ensures.0

@@ -1,4 +1,5 @@
 use Rattle.std.proofs.Common.{sym, subst, map, ◌+◌, List}
+use Rattle.std.proofs.lemmas.Result.{IfOk-from_err}
 use Rattle.query_bind.specs.Filters.{HaveFilters}
 use Rattle.bound_query.specs.FilterViews.{filter_shown}
 use Rattle.query_bind.specs.Labels.{least_in}
@@ -15,3 +16,9 @@ loop-i-preserved c =
     subst (λ (l : List Filter). HaveFilters label es c.args.tables.now (items_shown items) (c.loop-i.i + 1) (map filter_shown l)) (sym c.in_ok-push.ensures.items)
     (filters_more label es c.args.tables.now items c.loop-i.i c.width-width.result c.index-items-i.result c.loop-i.filters.items c.in_ok-filter_of.field-0
     c.loop-i-test.true c.width-width.ensures.columns c.loop-i.invariant c.in_ok-filter_of.ensures.pairs c.in_ok-filter_of.ensures.constants)
+
+pub returns-in_err-filter_of : goal.returns-in_err-filter_of
+returns-in_err-filter_of c = IfOk-from_err c.from_residual.result _ c.from_residual.ensures.0
+
+pub returns-in_err-push : goal.returns-in_err-push
+returns-in_err-push c = IfOk-from_err c.from_residual-in_err-push.result _ c.from_residual-in_err-push.ensures.0

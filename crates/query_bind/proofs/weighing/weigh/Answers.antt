@@ -1,6 +1,6 @@
 use Rattle.std.proofs.Common.{◌≡◌, ◌<◌, ◌≤◌, ◌+◌, ◌∙◌, ◌∷◌, ◌++◌, [], sym, ap, subst, length, map, take, get_or, arith, ℕ, List, Option}
 use Rattle.std.proofs.lemmas.List.{get_or-map, length-map, map-append, take_all, take_more}
-use Rattle.std.proofs.lemmas.Result.{err_from_is_err_and}
+use Rattle.std.proofs.lemmas.Result.{IfOk-from_err, err_from_is_err_and}
 use Rattle.anyk_model.specs.Query.{OrderKey}
 use Rattle.query_bind.specs.Fits.{KeysInside}
 use Rattle.query_bind.specs.Measures.{HasKeys}
@@ -72,3 +72,33 @@ pub returns-in-Some-clause-fault : goal.returns-in-Some-clause-fault
 returns-in-Some-clause-fault c =
     let past : length (map key_shown c.args.keys.now) ≤ c.loop-i.i = let f = c.loop-i-test.false in omega (arith, f, length-map c.args.keys.now key_shown) in
     one_past c.args.tables.now (items_shown c.args.items.now) (map key_shown c.args.keys.now) c.loop-i.i c.loop-i.first c.loop-i.invariant.0 past c.in-Some.key c.in-Some.is
+
+pub returns-in_err-sum-clause-parts : goal.returns-in_err-sum-clause-parts
+returns-in_err-sum-clause-parts c = IfOk-from_err c.from_residual.result _ c.from_residual.ensures.0
+
+pub returns-in_err-sum-clause-weights : goal.returns-in_err-sum-clause-weights
+returns-in_err-sum-clause-weights c = IfOk-from_err c.from_residual.result _ c.from_residual.ensures.0
+
+pub returns-in_err-sum-clause-range : goal.returns-in_err-sum-clause-range
+returns-in_err-sum-clause-range c = IfOk-from_err c.from_residual.result _ c.from_residual.ensures.0
+
+pub returns-in_err-push-clause-parts : goal.returns-in_err-push-clause-parts
+returns-in_err-push-clause-parts c = IfOk-from_err c.from_residual-in_err-push.result _ c.from_residual-in_err-push.ensures.0
+
+pub returns-in_err-push-clause-weights : goal.returns-in_err-push-clause-weights
+returns-in_err-push-clause-weights c = IfOk-from_err c.from_residual-in_err-push.result _ c.from_residual-in_err-push.ensures.0
+
+pub returns-in_err-push-clause-range : goal.returns-in_err-push-clause-range
+returns-in_err-push-clause-range c = IfOk-from_err c.from_residual-in_err-push.result _ c.from_residual-in_err-push.ensures.0
+
+pub returns-in-None-clause-fault : goal.returns-in-None-clause-fault
+returns-in-None-clause-fault c = tt
+
+pub returns-in-Some-clause-parts : goal.returns-in-Some-clause-parts
+returns-in-Some-clause-parts c = tt
+
+pub returns-in-Some-clause-weights : goal.returns-in-Some-clause-weights
+returns-in-Some-clause-weights c = tt
+
+pub returns-in-Some-clause-range : goal.returns-in-Some-clause-range
+returns-in-Some-clause-range c = tt
