@@ -42,11 +42,26 @@ fn read_command(alloc: Global, name: &str, words: &[String]) -> Result<Command, 
     ensures ranges { IfOk result KeepsRange }
 {
     match name {
-        "run" => Ok(Command::Run(read_run(alloc, words)?)),
-        "session" => Ok(Command::Session(read_session(alloc, words)?)),
-        "plan" => Ok(Command::Plan(read_plan(alloc, words)?)),
-        "prove" => Ok(Command::Prove(read_prove(alloc, words)?)),
-        "verify" => Ok(Command::Verify(read_verify(alloc, words)?)),
+        "run" => {
+            let said = read_run(alloc, words)?;
+            Ok(Command::Run(said))
+        }
+        "session" => {
+            let said = read_session(alloc, words)?;
+            Ok(Command::Session(said))
+        }
+        "plan" => {
+            let said = read_plan(alloc, words)?;
+            Ok(Command::Plan(said))
+        }
+        "prove" => {
+            let said = read_prove(alloc, words)?;
+            Ok(Command::Prove(said))
+        }
+        "verify" => {
+            let said = read_verify(alloc, words)?;
+            Ok(Command::Verify(said))
+        }
         "load" => {
             let (engine, number, rows) = read_load(alloc, words)?;
             Ok(Command::Load(engine, number, rows))

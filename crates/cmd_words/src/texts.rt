@@ -56,14 +56,18 @@ pub fn read_texts(alloc: Global, texts: Texts<'_, '_>) -> Result<Words, WordsFau
         return Err(WordsFault::Usage);
     };
     let tables = read_tables(alloc, texts.tables)?;
+    let script = owned(alloc, texts.script)?;
+    let proof = owned(alloc, texts.proof)?;
+    let best_of = owned(alloc, texts.best_of)?;
+    let query = String::from_str(alloc, query)?;
     Ok(Words {
         engine,
         ranks: is_set(texts.ranks),
         rows: is_set(texts.rows),
-        script: owned(alloc, texts.script)?,
-        proof: owned(alloc, texts.proof)?,
-        best_of: owned(alloc, texts.best_of)?,
-        query: String::from_str(alloc, query)?,
+        script,
+        proof,
+        best_of,
+        query,
         tables,
     })
 }

@@ -65,10 +65,12 @@ fn column<'a, 't>(
     let (first, rest) = expect(tokens, end, Kind::Name)?;
     let (dot, rest) = optional(rest, Kind::Dot);
     if dot.is_none() {
-        return Ok((bare_column(alloc, first)?, rest));
+        let column = bare_column(alloc, first)?;
+        return Ok((column, rest));
     }
     let (second, rest) = expect(rest, end, Kind::Name)?;
-    Ok((qualified_column(alloc, first, second)?, rest))
+    let column = qualified_column(alloc, first, second)?;
+    Ok((column, rest))
 }
 
 /// A column that is named without an alias.
