@@ -1,5 +1,4 @@
 use Rattle.std.proofs.Common.{◌≡◌, Err, rules}
-use Rattle.std.proofs.lemmas.Result.{IfOk-from_err}
 use Rattle.verdict.specs.Loading.{IsReading}
 use Rattle.verdict.specs.StageResults.{NoTurn}
 use Rattle.verdict.specs.Verdict.{IsAccompanied}
@@ -22,9 +21,3 @@ returns-clause-staged g c =
     let sought = sought_shown c.args.sought.now in
     found_then (λ files. IsReading sought.several bytes) NoTurn (λ selects files. IsAccompanied sought files selects) (λ selects files. IsAccompaniedTurn sought files selects)
     _ _ _ c.in_ok-selects.selects.items _ (pure_staged (IsReading sought.several bytes) _ _ c.in_ok-selects.ensures.parsed) (rw c.deref.ensures.value at c.aside_input.ensures.staged)
-
-pub returns-in_err-selects-clause-alone : goal.returns-in_err-selects-clause-alone
-returns-in_err-selects-clause-alone g c = λ _. IfOk-from_err c.from_residual.result _ c.from_residual.ensures.0
-
-pub returns-in_err-selects-clause-unnamed : goal.returns-in_err-selects-clause-unnamed
-returns-in_err-selects-clause-unnamed g c = λ _. IfOk-from_err c.from_residual.result _ c.from_residual.ensures.0

@@ -1,5 +1,4 @@
 use Rattle.std.proofs.Common.{◌≡◌, Err, rules}
-use Rattle.std.proofs.lemmas.Result.{IfOk-from_err}
 use Rattle.verdict.specs.Loading.{all_items, unknown_table}
 use Rattle.verdict.specs.StageResults.{NoTurn}
 use Rattle.session_script.specs.Script.{unless}
@@ -28,9 +27,3 @@ returns-clause-staged g c =
     found_then (λ files. Is (unless (unknown_table sought.named (all_items selects)) selects)) NoTurn (λ known files. IsTabled sought files known beside) (λ known files. IsTabledTurn sought files known)
     _ _ _ selects _ (pure_staged (Is (unless (unknown_table sought.named (all_items selects)) selects)) _ _ c.in_ok-entries.ensures.known)
     c.table_input.ensures.staged
-
-pub returns-in_err-entries-clause-branches : goal.returns-in_err-entries-clause-branches
-returns-in_err-entries-clause-branches g c = IfOk-from_err c.from_residual.result _ c.from_residual.ensures.0
-
-pub returns-in_err-entries-clause-unnamed : goal.returns-in_err-entries-clause-unnamed
-returns-in_err-entries-clause-unnamed g c = λ _. IfOk-from_err c.from_residual.result _ c.from_residual.ensures.0

@@ -1,5 +1,4 @@
 use Rattle.std.proofs.Common.{◌≡◌, ◌∙◌, ◌<◌, [], ℕ, List, length, Err, map, ap, subst, sym, rules}
-use Rattle.std.proofs.lemmas.Result.{IfOk-from_err}
 use Rattle.std.proofs.lemmas.List.{length-map}
 use Rattle.std.specs.List.{AllByRecursion, position_or_len}
 use Rattle.std.specs.Str.{bytes_eq}
@@ -55,21 +54,3 @@ returns-clause-staged g c =
     found_then (λ files. Is (tables_in files sought.named (first_uses (all_items selects)))) (λ files file. IsMember file (files_read files sought.named (first_uses (all_items selects))))
     (λ tables files. IsBound sought selects tables beside) (λ tables. NoTurn) _ _ _ tables _ (rw (c.deref-2.ensures.value, firsts) at read)
     (pure_staged (IsBound sought selects tables beside) _ _ c.bound_input.ensures.bound)
-
-pub returns-in_err-firsts-clause-branches : goal.returns-in_err-firsts-clause-branches
-returns-in_err-firsts-clause-branches g c = IfOk-from_err c.from_residual.result _ c.from_residual.ensures.0
-
-pub returns-in_err-firsts-clause-unnamed : goal.returns-in_err-firsts-clause-unnamed
-returns-in_err-firsts-clause-unnamed g c = λ _. IfOk-from_err c.from_residual.result _ c.from_residual.ensures.0
-
-pub returns-in_err-which-clause-branches : goal.returns-in_err-which-clause-branches
-returns-in_err-which-clause-branches g c = IfOk-from_err c.from_residual-in_err-which.result _ c.from_residual-in_err-which.ensures.0
-
-pub returns-in_err-which-clause-unnamed : goal.returns-in_err-which-clause-unnamed
-returns-in_err-which-clause-unnamed g c = λ _. IfOk-from_err c.from_residual-in_err-which.result _ c.from_residual-in_err-which.ensures.0
-
-pub returns-in_err-tables-clause-branches : goal.returns-in_err-tables-clause-branches
-returns-in_err-tables-clause-branches g c = IfOk-from_err c.from_residual-in_err-tables.result _ c.from_residual-in_err-tables.ensures.0
-
-pub returns-in_err-tables-clause-unnamed : goal.returns-in_err-tables-clause-unnamed
-returns-in_err-tables-clause-unnamed g c = λ _. IfOk-from_err c.from_residual-in_err-tables.result _ c.from_residual-in_err-tables.ensures.0

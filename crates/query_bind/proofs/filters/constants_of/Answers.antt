@@ -1,11 +1,13 @@
-use Rattle.std.proofs.Common.{◌≡◌, ◌+◌, ◌∙◌, sym, ap, subst, map, take, ◌++◌, ◌∷◌, [], ℕ, List}
-use Rattle.std.proofs.lemmas.List.{map-append}
+use Rattle.std.proofs.Common.{◌≡◌, ◌≤◌, length, arith, ◌+◌, ◌∙◌, sym, ap, subst, map, take, ◌++◌, ◌∷◌, [], ℕ, List}
+use Rattle.std.proofs.lemmas.List.{map-append, take_all}
+use Rattle.std.proofs.lemmas.Result.{IfOk-from_err}
 use Rattle.anyk_model.specs.Query.{Column, Equality, of_column, of_constant}
 use Rattle.bound_query.specs.FilterViews.{constant_shown}
 use Rattle.query_bind.specs.Filters.{HaveConstants}
 use Rattle.query_bind.specs.Labels.{HasNoPlace, IsFirstPlace, least_in}
 use Rattle.bound_query.specs.StoredParts.{column_shown, equality_shown, side_shown}
 use Rattle.rankings.specs.Order.{IsMember}
+use Rattle.bound_query.specs.declared.bound.BoundEquality.{BoundEquality}
 use Rattle.bound_query.specs.declared.filters.Constant.{Constant}
 use Rattle.query_bind.proofs.Filtering.{constants_again, constants_more, constants_skip, equalities_more, listed_member}
 use Rattle.query_bind.proofs.filters.constants_of.Goals as goal
@@ -69,3 +71,15 @@ loop-equality-preserved c =
     subst (λ (l : List (ℕ × List ℕ)). HaveConstants label c.args.item c.args.width (map equality_shown (take (i + 1) es)) l) (sym pushed)
     (subst (λ (l : List Equality). HaveConstants label c.args.item c.args.width l (list ++ (p, bytes) ∷ [])) (equalities_more es i e c.loop-equality-test.true c.equality-item.is)
     (constants_more label c.args.item c.args.width (map equality_shown (take i es)) (equality_shown e) bytes p list c.loop-equality.invariant constant here))
+
+pub returns-in_err-from_slice : goal.returns-in_err-from_slice
+returns-in_err-from_slice c = IfOk-from_err c.from_residual.result _ c.from_residual.ensures.0
+
+pub returns-in_err-push : goal.returns-in_err-push
+returns-in_err-push c = IfOk-from_err c.from_residual-in_err-push.result _ c.from_residual-in_err-push.ensures.0
+
+pub returns : goal.returns
+returns c =
+    let past : length c.args.equalities.now ≤ c.loop-equality.equality-index = omega arith in
+    subst (λ (es : List BoundEquality). HaveConstants (least_in c.args.classes.now) c.args.item c.args.width (map equality_shown es) (map constant_shown c.loop-equality.constants.items))
+    (take_all c.loop-equality.equality-index c.args.equalities.now past) c.loop-equality.invariant
