@@ -17,13 +17,13 @@ pub record IsDriven (old new : CursorSet) (number given : ℕ) : Type 0 where
   pub places : new.places ≡ set old.places number (Some (start_of old number + given))
   pub kept : Keeps old new
 
-some_injective : (m n : ℕ) → Some m ≡ Some n → m ≡ n
+pub some_injective : (m n : ℕ) → Some m ≡ Some n → m ≡ n
 some_injective m n e = cc
 
 pub start_is : (s : CursorSet) (number place : ℕ) → place_of s number ≡ Some place → start_of s number ≡ place
 start_is s number place e = ap (λ o. unwrap_or o 0) e
 
-in_range : (places : List (Option ℕ)) (number place : ℕ) → get_or places number None ≡ Some place → number < length places
+pub in_range : (places : List (Option ℕ)) (number place : ℕ) → get_or places number None ≡ Some place → number < length places
 in_range [] number place e = let never : ⊥ = cc in absurd never
 in_range (p ∷ places) zero place e = omega arith
 in_range (p ∷ places) (suc number) place e = let below = in_range places number place e in omega arith

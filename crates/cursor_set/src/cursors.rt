@@ -132,7 +132,9 @@ impl<E: Ranked> Cursors<E> {
         ensures cost { steps.new ≤ steps.old + self.old.due + 4 }
         ensures share { steps.new ≤ steps.old + E.share self.old.size self.old.calls + 4 }
     {
-        let place = self.places[id.number].ok_or(CursorFault::Unknown(id))?;
+        let Some(place) = self.places[id.number] else {
+            return Err(CursorFault::Unknown(id));
+        };
         if place < self.found.len() {
             self.places[id.number] = Some(place + 1);
             return Ok(Some(self.found[place]));
