@@ -4,7 +4,7 @@ use Rattle.std.proofs.Math.ListN.{set}
 use Rattle.std.proofs.lemmas.Bool.{cases_eq}
 use Rattle.std.proofs.lemmas.List.{get_or-map, map-set, length-map, get_or-set_same, get_or-set_other}
 use Rattle.tdp_core.specs.declared.parts.NodeParts.{NodeParts}
-use Rattle.tdp_core.specs.TreeData.{NodeData, node_data, tree_data, node_at}
+use Rattle.tdp_core.specs.TreeData.{NodeData, node_data, tree_data, node_at, rows}
 use Rattle.tree_dp.specs.SolvedTrees.{IsReordered}
 use Rattle.tree_dp.proofs.Reordered.{reordered_refl}
 
@@ -15,6 +15,10 @@ no_node R = record { shape = record { parent = 0; item = 0; caps = [] }; rows = 
 -- a node that is read with some default
 pub read_node : {R : Type 0} (parts : List (NodeParts R)) (v : ℕ) (none : NodeParts R) → v < length parts → node_at (tree_data parts) v ≡ node_data (get_or parts v none)
 read_node {R} parts v none l = get_or-map node_data parts v none (no_node R) l
+
+-- the rows of a node that is read
+pub rows_read : {R : Type 0} (parts : List (NodeParts R)) (v : ℕ) (node : NodeParts R) → v < length parts → node ≡ get_or parts v node → length node.rows.items ≡ rows (tree_data parts) v
+rows_read parts v node l e = ap (λ p. length p.rows.items) e ∙ sym (ap (λ n. length n.rows) (read_node parts v node l))
 
 -- one node in place of another
 module _ {R : Type 0} (parts : List (NodeParts R)) (v : ℕ) (new : NodeParts R) where

@@ -1,9 +1,31 @@
-use Rattle.std.proofs.Common.{◌+◌, [], ◌∷◌, length, length-append, ap, ◌∙◌, arith}
-use Rattle.tdp_core.specs.TreeData.{tree_data}
+use Rattle.std.proofs.Common.{◌≡◌, ℕ, ◌+◌, ◌*◌, ◌<◌, ◌≤◌, Result, Ok, Err, IfOk, IsErr, [], ◌∷◌, length, length-append, sym, ap, ◌∙◌, arith}
+use Rattle.std.proofs.Math.Nat.{mul-le-mul_right}
+use Rattle.std.proofs.lemmas.Bool.{false≢true}
+use Rattle.tdp_core.specs.declared.parts.NodeParts.{NodeParts}
+use Rattle.tdp_core.specs.TreeData.{tree_data, rows}
 use Rattle.tree_dp.specs.Orders.{key_at}
 use Rattle.tree_dp.specs.Progress.{by_children}
 use Rattle.tree_dp.proofs.Leasts.{keys_pushed}
+use Rattle.tree_dp.proofs.NodeReads.{rows_read}
+use Rattle.tree_dp.proofs.bests.bests_of.Given.{Over}
+use Rattle.tree_dp.proofs.bests.bests_of.Goals.{After-len-row-end}
 use Rattle.tree_dp.proofs.bests.bests_of.Goals as goal
+
+none_given : {T E : Type 0} (P : T → Type 0) (r : Result T E) → IsErr r → IfOk r P
+none_given P (Ok x) h = absurd (false≢true h)
+none_given P (Err e) h = tt
+
+steps_more : (n k : ℕ) → n ≤ n + k
+steps_more n k = omega arith
+
+-- one more row, of those that a node has
+row_within : (start before after row count nodes : ℕ) → before ≤ start + row * nodes → after ≤ before + nodes → row < count → after ≤ start + count * nodes
+row_within start before after row count nodes h k l = omega (arith, mul-le-mul_right {m = row + 1} {n = count} nodes (omega (arith, l)))
+
+row_count : (g : Over) (c : After-len-row-end g) → c.len-row-end.result ≡ rows (tree_data c.args.nodes.now) c.args.node
+row_count g c =
+    let node = c.index-nodes-node-2.result in
+    c.len-row-end.ensures ∙ ap (λ (p : NodeParts g.row.R.Denot). p.rows.len) (sym c.index-nodes-node-2.is) ∙ node.rows.ok.0 ∙ rows_read c.args.nodes.now c.args.node node c.requires.node c.index-nodes-node-2.is
 
 pub loop-row-preserved : goal.loop-row-preserved
 loop-row-preserved g c =
@@ -18,3 +40,60 @@ loop-row-preserved g c =
       bests = λ r h. ap (λ xs. key_at d key xs r) pushed ∙ keys_pushed d key found l.bests.items best l.row l.invariant.long l.invariant.bests c.row_best-best.ensures.best r h;
       counted = omega (arith, l.invariant.counted, c.row_best-best.ensures.cost);
     }
+
+pub returns-in_err-bests-clause-count : goal.returns-in_err-bests-clause-count
+returns-in_err-bests-clause-count g c =
+    none_given _ _ c.from_residual.ensures.0
+
+pub returns-in_err-bests-clause-bests : goal.returns-in_err-bests-clause-bests
+returns-in_err-bests-clause-bests g c =
+    none_given _ _ c.from_residual.ensures.0
+
+pub returns-in_err-bests-clause-cost : goal.returns-in_err-bests-clause-cost
+returns-in_err-bests-clause-cost g c =
+    steps_more c.args.steps.now _
+
+pub loop-row-init : goal.loop-row-init
+loop-row-init g c =
+    record { long = ap length c.in_ok-bests.ensures.items; bests = λ r h. absurd (omega arith); counted = steps_more c.args.steps.now _ }
+
+pub row_best-best-requires : goal.row_best-best-requires
+row_best-best-requires g c =
+    let at = goal.at.row_best-best-requires g c in
+    let count = row_count g at.After-len-row-end in
+    record { node = c.requires.node; row = omega (arith, count, c.loop-row-test.true); laid_out = c.requires.laid_out; solved = c.requires.solved; leasts = c.requires.leasts }
+
+pub returns-in_err-push-clause-count : goal.returns-in_err-push-clause-count
+returns-in_err-push-clause-count g c =
+    none_given _ _ c.from_residual-in_err-push.ensures.0
+
+pub returns-in_err-push-clause-bests : goal.returns-in_err-push-clause-bests
+returns-in_err-push-clause-bests g c =
+    none_given _ _ c.from_residual-in_err-push.ensures.0
+
+pub returns-in_err-push-clause-cost : goal.returns-in_err-push-clause-cost
+returns-in_err-push-clause-cost g c =
+    let at = goal.at.returns-in_err-push-clause-cost g c in
+    let count = row_count g at.After-len-row-end in
+    row_within c.args.steps.now c.loop-row.steps c.row_best-best.new.steps c.loop-row.row (rows (tree_data c.args.nodes.now) c.args.node) (length c.args.nodes.now) c.loop-row.invariant.counted c.row_best-best.ensures.cost (omega (arith, count, c.loop-row-test.true))
+
+pub returns-clause-count : goal.returns-clause-count
+returns-clause-count g c =
+    let at = goal.at.returns-clause-count g c in
+    let count = row_count g at.After-len-row-end in
+    let all : c.loop-row.row ≡ rows (tree_data c.args.nodes.now) c.args.node = omega (arith, count, c.loop-row-test.false, c.loop-row.auto.row-end) in
+    c.loop-row.invariant.long ∙ all
+
+pub returns-clause-bests : goal.returns-clause-bests
+returns-clause-bests g c =
+    let at = goal.at.returns-clause-bests g c in
+    let count = row_count g at.After-len-row-end in
+    let all : c.loop-row.row ≡ rows (tree_data c.args.nodes.now) c.args.node = omega (arith, count, c.loop-row-test.false, c.loop-row.auto.row-end) in
+    λ r h. c.loop-row.invariant.bests r (omega (arith, h, all))
+
+pub returns-clause-cost : goal.returns-clause-cost
+returns-clause-cost g c =
+    let at = goal.at.returns-clause-cost g c in
+    let count = row_count g at.After-len-row-end in
+    let all : c.loop-row.row ≡ rows (tree_data c.args.nodes.now) c.args.node = omega (arith, count, c.loop-row-test.false, c.loop-row.auto.row-end) in
+    omega (arith, c.loop-row.invariant.counted, ap (λ n. n * length c.args.nodes.now) all)
