@@ -1,11 +1,12 @@
 -- How far a cursor has been driven.
-use Rattle.std.proofs.Common.{◌≡◌, ℕ, zero, suc, ◌+◌, ◌-◌, ◌^◌, ◌<◌, ◌≤◌, false, min, Option, Some, None, unwrap_or, List, [], ◌∷◌, length, get_or, refl, sym, ap, ◌∙◌, add-zero, arith}
+use Rattle.std.proofs.Common.{◌≡◌, ℕ, zero, suc, ◌+◌, ◌-◌, ◌^◌, ◌<◌, ◌≤◌, false, min, Option, Some, None, Err, unwrap_or, List, [], ◌∷◌, length, get_or, refl, sym, ap, ◌∙◌, add-zero, arith}
 use Rattle.std.proofs.Math.ListN.{set}
 use Rattle.std.proofs.lemmas.List.{get_or-set_same, set-set, set-get_or}
 use Rattle.cursor_set.specs.declared.cursor_id.CursorFault.{CursorFault}
 use Rattle.cursor_set.specs.declared.cursor_id.CursorFault.TheVariants.{Unknown, TooMany, NoMemory}
 use Rattle.cursor_set.specs.CursorSet.{CursorSet, Keeps, place_of}
-use Rattle.cursor_set.specs.Faults.{RefusesNext}
+use Rattle.tdp_core.specs.SeenAnswers.{counted}
+use Rattle.cursor_set.specs.Faults.{RefusesNext, refused_after}
 
 -- the place of an open cursor
 abbrev pub start_of : CursorSet → ℕ → ℕ
@@ -71,3 +72,20 @@ refused_at s number place NoMemory h at = rw at at h
 -- the count of refused calls, at the start
 pub counted_none : (n : ℕ) → n < 2 ^ 64 → n ≡ min (n + 0) (2 ^ 64 - 1)
 counted_none n h = omega arith
+
+-- a refused call is counted
+pub refused_counted : (A : Type 0) (s : CursorSet) (number place n : ℕ) (e : CursorFault) → RefusesNext s number e → place_of s number ≡ Some place → refused_after {A = A} (Err e) n ≡ counted n
+refused_counted A s number place n (Unknown id) h at = let never : ⊥ = cc in absurd never
+refused_counted A s number place n TooMany h at = absurd h
+refused_counted A s number place n NoMemory h at = refl
+
+-- where the cursor stands, by the place at which it was
+pub IsDriven-moved : (old new : CursorSet) (number given place : ℕ) → IsDriven old new number given → place_of old number ≡ Some place → new.places ≡ set old.places number (Some (place + given))
+IsDriven-moved old new number given place d at =
+    d.places ∙ ap (λ n. set old.places number (Some (n + given))) (start_is old number place at)
+
+-- a cursor that stands at the end has passed all that was left
+pub IsDriven-end : (old now : CursorSet) (number given place : ℕ) → IsDriven old now number given → place_of old number ≡ Some place → place_of now number ≡ Some (length now.answers) → place + given ≡ length old.answers
+IsDriven-end old now number given place d at end =
+    let here : start_of old number + given ≡ length now.answers = some_injective _ _ (sym (IsDriven-place old now number given d) ∙ end) in
+    ap (λ n. n + given) (sym (start_is old number place at)) ∙ here ∙ ap length d.kept.answers
