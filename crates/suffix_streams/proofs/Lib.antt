@@ -12,6 +12,7 @@ pub mod Heads
 pub mod Kept
 pub mod Changes
 pub mod Entries
+pub mod Errors
 pub mod FirstSums
 pub mod Stepping
 pub mod BeginFirsts

@@ -100,3 +100,21 @@ cell_rank-rank-requires-clause-row g c = c.requires.row
 
 pub returns-clause-source : goal.returns-clause-source
 returns-clause-source g c = (refl, refl)
+
+pub returns-then-count-eq0-clause-source : goal.returns-then-count-eq0-clause-source
+returns-then-count-eq0-clause-source g c = tt
+
+pub returns-then-count-eq0-clause-parts : goal.returns-then-count-eq0-clause-parts
+returns-then-count-eq0-clause-parts g c = tt
+
+pub returns-then-count-eq0-clause-known : goal.returns-then-count-eq0-clause-known
+returns-then-count-eq0-clause-known g c = tt
+
+pub returns-then-count-eq0-clause-key : goal.returns-then-count-eq0-clause-key
+returns-then-count-eq0-clause-key g c = tt
+
+pub returns-clause-none : goal.returns-clause-none
+returns-clause-none g c = tt
+
+pub returns-then-count-eq0-clause-cost : goal.returns-then-count-eq0-clause-cost
+returns-then-count-eq0-clause-cost g c = omega arith

@@ -257,3 +257,69 @@ add_sum_rows-returns-clause-cost g t c =
       kids_size_more g.R.Rank.KEYS g.R.Rank.key tree c.requires.formed.tree c.args.node c.args.child,
       ap (λ k. kids_size tree c.args.node k) last,
     )
+
+pub add_part_rows-part_cell-cell-requires-clause-formed : goal.add_part_rows-part_cell-cell-requires-clause-formed
+add_part_rows-part_cell-cell-requires-clause-formed g t c =
+    c.requires.formed
+
+pub add_part_rows-part_cell-cell-requires-clause-tie_free : goal.add_part_rows-part_cell-cell-requires-clause-tie_free
+add_part_rows-part_cell-cell-requires-clause-tie_free g t c =
+    c.requires.tie_free
+
+pub add_part_rows-part_cell-cell-requires-clause-node : goal.add_part_rows-part_cell-cell-requires-clause-node
+add_part_rows-part_cell-cell-requires-clause-node g t c =
+    c.requires.node
+
+pub add_part_rows-part_cell-cell-requires-clause-row : goal.add_part_rows-part_cell-cell-requires-clause-row
+add_part_rows-part_cell-cell-requires-clause-row g t c =
+    c.requires.row
+
+pub add_part_rows-part_cell-cell-requires-clause-child : goal.add_part_rows-part_cell-cell-requires-clause-child
+add_part_rows-part_cell-cell-requires-clause-child g t c =
+    omega (arith, c.requires.count, c.if-count-eq0.false)
+
+pub add_part_rows-part_cell-cell-requires-clause-place : goal.add_part_rows-part_cell-cell-requires-clause-place
+add_part_rows-part_cell-cell-requires-clause-place g t c =
+    let more : c.args.count ≡ c.args.count - 1 + 1 = omega (arith, c.if-count-eq0.false) in
+    subst (λ z. IsKnownPart c.args.self.now.nodes.items c.args.node c.args.row z c.args.place) more c.requires.place
+
+pub add_part_rows-overflow_sub-count : goal.add_part_rows-overflow_sub-count
+add_part_rows-overflow_sub-count g t c =
+    omega (arith, c.if-count-eq0.false)
+
+pub add_part_rows-overflow_sub-count-else-count-eq0 : goal.add_part_rows-overflow_sub-count-else-count-eq0
+add_part_rows-overflow_sub-count-else-count-eq0 g t c =
+    omega (arith, c.if-count-eq0.false)
+
+pub add_part_rows-add_own_row-requires-clause-formed : goal.add_part_rows-add_own_row-requires-clause-formed
+add_part_rows-add_own_row-requires-clause-formed g t c =
+    c.requires.formed.tree
+
+pub add_part_rows-add_own_row-requires-clause-node : goal.add_part_rows-add_own_row-requires-clause-node
+add_part_rows-add_own_row-requires-clause-node g t c =
+    c.requires.node
+
+pub add_part_rows-add_own_row-requires-clause-row : goal.add_part_rows-add_own_row-requires-clause-row
+add_part_rows-add_own_row-requires-clause-row g t c =
+    c.requires.row
+
+pub add_entry_rows-overflow_sub-count : goal.add_entry_rows-overflow_sub-count
+add_entry_rows-overflow_sub-count g t c =
+    omega (arith, c.if-count-eq0.false)
+
+pub add_entry_rows-get-found-requires : goal.add_entry_rows-get-found-requires
+add_entry_rows-get-found-requires g t c =
+    c.requires.entry
+
+pub add_entry_rows-add_own_row-requires-clause-formed : goal.add_entry_rows-add_own_row-requires-clause-formed
+add_entry_rows-add_own_row-requires-clause-formed g t c =
+    c.requires.formed.tree
+
+pub add_part_rows-returns-then-count-eq0-clause-cost : goal.add_part_rows-returns-then-count-eq0-clause-cost
+add_part_rows-returns-then-count-eq0-clause-cost g t c =
+    omega (arith, c.add_own_row.ensures.cost)
+
+pub add_part_rows-returns-else-count-eq0-clause-cost : goal.add_part_rows-returns-else-count-eq0-clause-cost
+add_part_rows-returns-else-count-eq0-clause-cost g t c =
+    let more : c.args.count ≡ c.args.count - 1 + 1 = omega (arith, c.if-count-eq0.false) in
+    omega (arith, c.part_cell-cell.ensures.cost, c.add_sum_rows.ensures.cost, ap (λ z. kids_size c.args.self.now.tree.now c.args.node z) more)

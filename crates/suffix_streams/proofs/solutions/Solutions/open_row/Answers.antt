@@ -1,3 +1,4 @@
+use Rattle.suffix_streams.proofs.Errors.{none_done}
 use Rattle.std.proofs.Common.{◌≡◌, ℕ, zero, suc, ◌+◌, ◌<◌, ◌≤◌, max, List, [], length, slice_set, get_or, refl, sym, ap, ◌∙◌, subst, arith}
 use Rattle.std.proofs.lemmas.List.{set-get_or}
 use Rattle.tdp_core.specs.TreeData.{child_count, members, rows}
@@ -292,3 +293,54 @@ returns-in_ok-set_products-clause-room g c =
 pub returns-in_ok-set_products-clause-cost : goal.returns-in_ok-set_products-clause-cost
 returns-in_ok-set_products-clause-cost g c =
     omega (arith, c.made_products.ensures.cost)
+
+pub returns-in_err-set_products-clause-tree : goal.returns-in_err-set_products-clause-tree
+returns-in_err-set_products-clause-tree g c = refl
+
+pub returns-in_err-set_products-clause-entries : goal.returns-in_err-set_products-clause-entries
+returns-in_err-set_products-clause-entries g c = refl
+
+pub returns-in_err-set_products-clause-count : goal.returns-in_err-set_products-clause-count
+returns-in_err-set_products-clause-count g c = none_done _ c.from_residual-in_err-set_products.result c.from_residual-in_err-set_products.ensures.0
+
+pub returns-in_err-products-clause-tree : goal.returns-in_err-products-clause-tree
+returns-in_err-products-clause-tree g c = refl
+
+pub returns-in_err-products-clause-entries : goal.returns-in_err-products-clause-entries
+returns-in_err-products-clause-entries g c = refl
+
+pub returns-in_err-products-clause-count : goal.returns-in_err-products-clause-count
+returns-in_err-products-clause-count g c = none_done _ c.from_residual-in_err-products.result c.from_residual-in_err-products.ensures.0
+
+pub returns-in_err-make_queue_room-clause-tree : goal.returns-in_err-make_queue_room-clause-tree
+returns-in_err-make_queue_room-clause-tree g c = refl
+
+pub returns-in_err-make_queue_room-clause-entries : goal.returns-in_err-make_queue_room-clause-entries
+returns-in_err-make_queue_room-clause-entries g c = refl
+
+pub returns-in_err-make_queue_room-clause-count : goal.returns-in_err-make_queue_room-clause-count
+returns-in_err-make_queue_room-clause-count g c = none_done _ c.from_residual.result c.from_residual.ensures.0
+
+pub returns-then-place-gt0-clause-tree : goal.returns-then-place-gt0-clause-tree
+returns-then-place-gt0-clause-tree g c = refl
+
+pub returns-then-place-gt0-clause-entries : goal.returns-then-place-gt0-clause-entries
+returns-then-place-gt0-clause-entries g c = refl
+
+pub returns-in_ok-set_products-clause-tree : goal.returns-in_ok-set_products-clause-tree
+returns-in_ok-set_products-clause-tree g c = refl
+
+pub returns-in_ok-set_products-clause-entries : goal.returns-in_ok-set_products-clause-entries
+returns-in_ok-set_products-clause-entries g c = refl
+
+pub returns-else-product_count-child_count-clause-tree : goal.returns-else-product_count-child_count-clause-tree
+returns-else-product_count-child_count-clause-tree g c = refl
+
+pub returns-else-product_count-child_count-clause-entries : goal.returns-else-product_count-child_count-clause-entries
+returns-else-product_count-child_count-clause-entries g c = refl
+
+pub returns-in_err-make_queue_room-clause-room : goal.returns-in_err-make_queue_room-clause-room
+returns-in_err-make_queue_room-clause-room g c = none_done _ c.from_residual.result c.from_residual.ensures.0
+
+pub returns-then-place-gt0-clause-formed : goal.returns-then-place-gt0-clause-formed
+returns-then-place-gt0-clause-formed g c = c.requires.formed

@@ -1,3 +1,4 @@
+use Rattle.suffix_streams.proofs.Errors.{none_given}
 use Rattle.std.proofs.Common.{◌-◌, List, [], sym, subst, arith}
 use Rattle.stream_store.specs.declared.entry.Linked.{Linked}
 use Rattle.suffix_streams.specs.declared.stream.Found.{Found}
@@ -49,3 +50,30 @@ returns-clause-prefixes g c =
 
 pub returns-clause-cost : goal.returns-clause-cost
 returns-clause-cost g c = omega (arith, c.loop-node.invariant.cost, start_steps g.R.Rank.KEYS g.R.Rank.key c.args.tree.now c.nodes-node.ensures.formed c.loop-node.node (omega (arith, c.loop-node.invariant.within)))
+
+pub returns-in_err-nodes-clause-tree : goal.returns-in_err-nodes-clause-tree
+returns-in_err-nodes-clause-tree g c = none_given _ c.from_residual-in_err-nodes.result c.from_residual-in_err-nodes.ensures.0
+
+pub returns-in_err-nodes-clause-prefixes : goal.returns-in_err-nodes-clause-prefixes
+returns-in_err-nodes-clause-prefixes g c = none_given _ c.from_residual-in_err-nodes.result c.from_residual-in_err-nodes.ensures.0
+
+pub returns-in_err-nodes-clause-calls : goal.returns-in_err-nodes-clause-calls
+returns-in_err-nodes-clause-calls g c = none_given _ c.from_residual-in_err-nodes.result c.from_residual-in_err-nodes.ensures.0
+
+pub returns-in_err-clone-clause-tree : goal.returns-in_err-clone-clause-tree
+returns-in_err-clone-clause-tree g c = none_given _ c.from_residual.result c.from_residual.ensures.0
+
+pub returns-in_err-clone-clause-prefixes : goal.returns-in_err-clone-clause-prefixes
+returns-in_err-clone-clause-prefixes g c = none_given _ c.from_residual.result c.from_residual.ensures.0
+
+pub returns-in_err-clone-clause-calls : goal.returns-in_err-clone-clause-calls
+returns-in_err-clone-clause-calls g c = none_given _ c.from_residual.result c.from_residual.ensures.0
+
+pub returns-in_err-begin_node-clause-tree : goal.returns-in_err-begin_node-clause-tree
+returns-in_err-begin_node-clause-tree g c = none_given _ c.from_residual-in_err-begin_node.result c.from_residual-in_err-begin_node.ensures.0
+
+pub returns-in_err-begin_node-clause-prefixes : goal.returns-in_err-begin_node-clause-prefixes
+returns-in_err-begin_node-clause-prefixes g c = none_given _ c.from_residual-in_err-begin_node.result c.from_residual-in_err-begin_node.ensures.0
+
+pub returns-in_err-begin_node-clause-calls : goal.returns-in_err-begin_node-clause-calls
+returns-in_err-begin_node-clause-calls g c = none_given _ c.from_residual-in_err-begin_node.result c.from_residual-in_err-begin_node.ensures.0
