@@ -1,4 +1,4 @@
-use Rattle.std.proofs.Common.{[], ◌≡◌, refl, suc, ◌+◌, ◌-◌, ◌<◌, length, get_or, sym, ap, ◌∙◌, subst, arith}
+use Rattle.std.proofs.Common.{[], ◌≡◌, refl, suc, ◌+◌, ◌-◌, ◌<◌, ◌≤◌, length, get_or, sym, ap, ◌∙◌, subst, arith}
 use Rattle.suffix_streams.specs.NodeLists.{product_at, known_of}
 use Rattle.suffix_streams.specs.StreamsData.{IsSumOf, lists_of, products_of, product_of, part_known}
 use Rattle.suffix_streams.proofs.Heads.{lists_at}
@@ -6,7 +6,7 @@ use Rattle.suffix_streams.proofs.Entries.{parts_of}
 use Rattle.suffix_streams.proofs.PartRows.{product_cell}
 use Rattle.suffix_streams.proofs.RowOffers.{offered_cell, offered_key}
 use Rattle.suffix_streams.proofs.reads.row_offer.Given.{Over}
-use Rattle.suffix_streams.proofs.reads.row_offer.Goals.{After-cell-cell}
+use Rattle.suffix_streams.proofs.reads.row_offer.Goals.{After-cell-cell, then-count-eq0-via-then-count-eq0, then-count-eq0-via-else-count-eq0+then-known-place}
 use Rattle.suffix_streams.proofs.reads.row_offer.Goals as goal
 
 -- # What the proofs share
@@ -118,3 +118,19 @@ returns-clause-none g c = tt
 
 pub returns-then-count-eq0-clause-cost : goal.returns-then-count-eq0-clause-cost
 returns-then-count-eq0-clause-cost g c = omega arith
+
+pub returns-clause-known : goal.returns-clause-known
+returns-clause-known g c =
+    let at = goal.at.returns-clause-known g c in
+    subst (λ k. c.args.place < part_known c.args.nodes.now c.args.node c.args.row k) (sym (last g at.After-cell-cell)) (known g at.After-cell-cell)
+
+pub returns-then-count-eq0-clause-none : goal.returns-then-count-eq0-clause-none
+returns-then-count-eq0-clause-none g c =
+    let n = c.args.nodes.now in
+    let inside : c.args.node < length n = omega (arith, c.requires.formed.all_nodes, c.requires.node) in
+    let same : lists_of n c.args.node ≡ c.index-nodes-node.result = lists_at n c.args.node c.index-nodes-node.result c.index-nodes-node.is inside in
+    let whole : c.child_count-count.result ≡ length (products_of n c.args.node c.args.row) = omega (arith, c.requires.opened, c.requires.formed.all_children c.args.node c.requires.node, ap (λ m. length m.children) same, c.child_count-count.ensures) in
+    elim c.then-count-eq0.branch [
+      | then-count-eq0-via-then-count-eq0 w ↦ subst (λ k. part_known n c.args.node c.args.row k ≤ c.args.place) (sym w.if-count-eq0.true ∙ whole) (omega (arith, c.requires.place))
+      | then-count-eq0-via-else-count-eq0+then-known-place w ↦ omega (arith, w.known.ensures, ap (λ m. known_of m c.args.row c.child_count-count.result) same, ap (λ k. part_known n c.args.node c.args.row k) whole, w.if-known-place.true)
+    ]

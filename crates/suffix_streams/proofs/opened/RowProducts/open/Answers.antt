@@ -1,7 +1,8 @@
 use Rattle.std.proofs.Common.{List, map, length, refl, sym, ap, ◌∙◌, subst, arith}
+use Rattle.std.proofs.lemmas.List.{length-map}
 use Rattle.std.specs.declared.vec.Vec.{Vec}
 use Rattle.suffix_streams.specs.declared.product.Product.{Product}
-use Rattle.suffix_streams.specs.OpenedRows.{HaveOwnLists}
+use Rattle.suffix_streams.specs.OpenedRows.{HaveOwnLists, list_numbered}
 use Rattle.suffix_streams.proofs.Errors.{none_done}
 use Rattle.suffix_streams.proofs.SearchCalls.{on_err}
 use Rattle.suffix_streams.proofs.OpenedRows.{rows_of, opened_own, opened_rows}
@@ -38,3 +39,16 @@ returns-in_err-push-clause-refused g c =
 pub invariant_of-self : goal.invariant_of-self
 invariant_of-self g c =
     subst (HaveOwnLists c.self.inside.opened.items) (sym (ap length c.in_err-push.ensures.items)) c.self.invariant
+
+pub overflow_cast-len : goal.overflow_cast-len
+overflow_cast-len g c =
+    omega (arith, c.if-len.false, c.len.ensures, c.len-2.ensures, c.in_ok-push.ensures.len)
+
+pub index_mut-requires : goal.index_mut-requires
+index_mut-requires g c =
+    let numbered = list_numbered (map (λ (l : Vec (Product g.row.R.Denot g.row.A.Denot) g.row.A.Denot). l.items) c.self.inside.lists.items) in
+    omega (arith, c.requires, ap length c.self.view_is, length-map c.self.inside.opened.items numbered, c.self.inside.opened.ok.0)
+
+pub overflow_cast-t-8 : goal.overflow_cast-t-8
+overflow_cast-t-8 g c =
+    omega arith
