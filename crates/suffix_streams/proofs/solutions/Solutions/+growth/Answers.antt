@@ -20,6 +20,7 @@ use Rattle.suffix_streams.proofs.StepCells.{no_top}
 use Rattle.suffix_streams.proofs.Searching.{answered_stays, extended_none, last_of_all, sums_done, reached_none}
 use Rattle.suffix_streams.proofs.NextCall.{IsOwned, IsTopRead, IsRowOpen, IsRowCounted, IsRowSearched, owned, top_read, row_within, row_open, row_counted, row_searched, only_opened, searched_grown, searched_queues, searched_steps, searched_stream, searched_queue, linked_grown, linked_queues}
 use Rattle.suffix_streams.proofs.RowSearch.{IsRoomMade, IsChildAsked, IsLeftSearched, room_made, made_none, made_queues, made_unstepped, child_asked, asked_extended, asked_queues, asked_within, asked_unstepped, left_searched, left_extended, left_queues, left_steps, one_more_extended, one_more_queues}
+use Rattle.suffix_streams.proofs.Errors.{none_given, none_done}
 use Rattle.suffix_streams.proofs.SearchCosts.{none_within}
 use Rattle.suffix_streams.proofs.SearchRoom.{unstepped_on}
 use Rattle.suffix_streams.proofs.SearchSteps.{searched, all_or_none, left_reached, left_within, none_within_known, count_few}
@@ -885,3 +886,59 @@ search-returns-in_err-below-clause-tree g t c =
 pub search-returns-in_err-extend-clause-tree : goal.search-returns-in_err-extend-clause-tree
 search-returns-in_err-extend-clause-tree g t c =
     c.extend.ensures.tree ∙ c.after.ensures.tree
+
+pub search-returns-in_err-make_room-clause-room : goal.search-returns-in_err-make_room-clause-room
+search-returns-in_err-make_room-clause-room g t c =
+    none_done _ c.from_residual.result c.from_residual.ensures.0
+
+pub search-returns-in_err-make_room-clause-reached : goal.search-returns-in_err-make_room-clause-reached
+search-returns-in_err-make_room-clause-reached g t c =
+    none_done _ c.from_residual.result c.from_residual.ensures.0
+
+pub search-returns-in_err-below-clause-room : goal.search-returns-in_err-below-clause-room
+search-returns-in_err-below-clause-room g t c =
+    none_done _ c.from_residual-in_err-below.result c.from_residual-in_err-below.ensures.0
+
+pub search-returns-in_err-below-clause-reached : goal.search-returns-in_err-below-clause-reached
+search-returns-in_err-below-clause-reached g t c =
+    none_done _ c.from_residual-in_err-below.result c.from_residual-in_err-below.ensures.0
+
+pub search-returns-in_err-extend-clause-room : goal.search-returns-in_err-extend-clause-room
+search-returns-in_err-extend-clause-room g t c =
+    none_done _ c.from_residual-in_err-extend.result c.from_residual-in_err-extend.ensures.0
+
+pub search-returns-in_err-extend-clause-reached : goal.search-returns-in_err-extend-clause-reached
+search-returns-in_err-extend-clause-reached g t c =
+    none_done _ c.from_residual-in_err-extend.result c.from_residual-in_err-extend.ensures.0
+
+pub after-returns-in_err-open_row-clause-answer : goal.after-returns-in_err-open_row-clause-answer
+after-returns-in_err-open_row-clause-answer g t c =
+    none_given _ c.from_residual.result c.from_residual.ensures.0
+
+pub after-returns-in_err-extend-clause-answer : goal.after-returns-in_err-extend-clause-answer
+after-returns-in_err-extend-clause-answer g t c =
+    none_given _ c.from_residual-in_err-extend.result c.from_residual-in_err-extend.ensures.0
+
+pub search-returns-in_err-make_room-clause-tree : goal.search-returns-in_err-make_room-clause-tree
+search-returns-in_err-make_room-clause-tree g t c =
+    refl
+
+pub search-returns-in_default-clause-tree : goal.search-returns-in_default-clause-tree
+search-returns-in_default-clause-tree g t c =
+    refl
+
+pub extend-returns-then-place-known-clause-tree : goal.extend-returns-then-place-known-clause-tree
+extend-returns-then-place-known-clause-tree g t c =
+    refl
+
+pub after-returns-in_default-top-clause-tree : goal.after-returns-in_default-top-clause-tree
+after-returns-in_default-top-clause-tree g t c =
+    refl
+
+pub after-returns-in-Some-clause-tree : goal.after-returns-in-Some-clause-tree
+after-returns-in-Some-clause-tree g t c =
+    refl
+
+pub search-returns-clause-refused : goal.search-returns-clause-refused
+search-returns-clause-refused g t c =
+    tt
