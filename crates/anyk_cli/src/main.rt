@@ -19,6 +19,7 @@ const NO_MEMORY: u8 = 12;
 /// The exit status if an argument is not valid text.
 const NO_TEXT: u8 = 16;
 
+/// Runs the program on the arguments, files and streams of the system.
 fn main(rt: HostRuntime) -> ExitCode {
     match words(&rt) {
         Ok(words) => {

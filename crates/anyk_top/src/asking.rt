@@ -29,6 +29,7 @@ pub(crate) fn read_request<'a>(alloc: Global, words: &[String]) -> Result<Reques
     }
 }
 
+/// What is asked by a command, with how it is answered. `NoMemory` if memory is refused.
 fn request_of<'a>(alloc: Global, command: Command) -> Result<Request, Refusal<'a>>
     requires { KeepsRange command }
     ensures built { IfOk result

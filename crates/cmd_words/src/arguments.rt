@@ -8,6 +8,7 @@ ghost use Rattle.cmd_words.specs.Arguments.{engine_rule, flag_rule, option_rule,
 use clap::{Arg, ArgAction, Command as Parser};
 use std::alloc::{AllocError, Global};
 
+/// The option `--engine`.
 fn engine<'a>(alloc: Global) -> Arg<'a>
     ensures rule { rule_of result ≡ engine_rule }
     ensures local { result.global ≡ false }
@@ -45,6 +46,7 @@ fn required<'a>(alloc: Global, name: &'a str) -> Arg<'a>
         .action(ArgAction::Set)
 }
 
+/// The argument QUERYFILE.
 fn query<'a>(alloc: Global) -> Arg<'a>
     ensures rule { rule_of result ≡ query_rule }
     ensures local { result.global ≡ false }
@@ -54,6 +56,7 @@ fn query<'a>(alloc: Global) -> Arg<'a>
         .action(ArgAction::Set)
 }
 
+/// The arguments TABLE=FILE, of which there is at least one.
 fn tables<'a>(alloc: Global) -> Arg<'a>
     ensures rule { rule_of result ≡ tables_rule }
     ensures local { result.global ≡ false }

@@ -34,6 +34,7 @@ pub fn parsed<'a>(
     }
 }
 
+/// What `clap`'s error means: memory was refused, or the arguments are no command.
 fn fault_of_error(error: &Error) -> WordsFault
     ensures { result ≡ WordsFault.Usage → kind_of error.now ≡ ErrorKind.OutOfMemory → ⊥ }
 {

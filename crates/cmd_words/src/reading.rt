@@ -70,6 +70,7 @@ fn read_command(alloc: Global, name: &str, words: &[String]) -> Result<Command, 
     }
 }
 
+/// What the arguments of `run` say. `Usage` if they say nothing.
 fn read_run(alloc: Global, words: &[String]) -> Result<Words, WordsFault>
     ensures words { IfOk result
         (λ said. run_of (map string_bytes words.now) ≡ Some (seen_words said)) }
@@ -82,6 +83,7 @@ fn read_run(alloc: Global, words: &[String]) -> Result<Words, WordsFault>
     read_texts(alloc, texts)
 }
 
+/// What the arguments of `session` say. `Usage` if they say nothing.
 fn read_session(alloc: Global, words: &[String]) -> Result<Words, WordsFault>
     ensures words { IfOk result
         (λ said. session_of (map string_bytes words.now) ≡ Some (seen_words said)) }
@@ -94,6 +96,7 @@ fn read_session(alloc: Global, words: &[String]) -> Result<Words, WordsFault>
     read_session_texts(alloc, texts)
 }
 
+/// What the arguments of `plan` say. `Usage` if they say nothing.
 fn read_plan(alloc: Global, words: &[String]) -> Result<Words, WordsFault>
     ensures words { IfOk result
         (λ said. plan_of (map string_bytes words.now) ≡ Some (seen_words said)) }
@@ -116,6 +119,7 @@ fn read_plan(alloc: Global, words: &[String]) -> Result<Words, WordsFault>
     )
 }
 
+/// What the arguments of `prove` say. `Usage` if they say nothing.
 fn read_prove(alloc: Global, words: &[String]) -> Result<Words, WordsFault>
     ensures words { IfOk result
         (λ said. prove_of (map string_bytes words.now) ≡ Some (seen_words said)) }
@@ -138,6 +142,7 @@ fn read_prove(alloc: Global, words: &[String]) -> Result<Words, WordsFault>
     )
 }
 
+/// What the arguments of `verify` say. `Usage` if they say nothing.
 fn read_verify(alloc: Global, words: &[String]) -> Result<Words, WordsFault>
     ensures words { IfOk result
         (λ said. verify_of (map string_bytes words.now) ≡ Some (seen_words said)) }
@@ -161,6 +166,8 @@ fn read_verify(alloc: Global, words: &[String]) -> Result<Words, WordsFault>
     )
 }
 
+/// What the arguments of `load` say: the engine, the generator's number and the rows. `Usage` if
+/// they say nothing.
 fn read_load(alloc: Global, words: &[String]) -> Result<(Engine, u32, u32), WordsFault>
     ensures words { IfOk result
         (λ said. load_of (map string_bytes words.now) ≡ Some (said.0, said.1, said.2)) }

@@ -98,6 +98,8 @@ pub fn read_verify_texts(alloc: Global, texts: Texts<'_, '_>) -> Result<Words, W
     }
 }
 
+/// The tables and files that the arguments name. `Usage` if one is no TABLE=FILE, or a table is
+/// named twice.
 fn read_tables(alloc: Global, words: Option<&[&str]>) -> Result<Vec<Named>, WordsFault>
     ensures tables { IfOk result
         (λ named. tables_of (option_map (λ s. map (λ v. v.now) s.now) words.entry)
@@ -115,6 +117,7 @@ fn read_tables(alloc: Global, words: Option<&[&str]>) -> Result<Vec<Named>, Word
     Ok(named)
 }
 
+/// The text as a string of its own, if there is one.
 fn owned(alloc: Global, text: Option<&str>) -> Result<Option<String>, AllocError>
     ensures { IfOk result
         (λ copy. option_map string_bytes copy ≡ option_map (λ s. s.now) text.entry) }
@@ -125,6 +128,7 @@ fn owned(alloc: Global, text: Option<&str>) -> Result<Option<String>, AllocError
     }
 }
 
+/// Whether a flag is set, by the text that `clap` gives for it.
 fn is_set(text: Option<&str>) -> bool
     ensures { result ≡ is_set (option_map (λ s. s.now) text.entry) }
 {
@@ -161,6 +165,8 @@ pub fn read_load_texts(matches: &ArgMatches<'_>) -> Result<(Engine, u32, u32), W
     )
 }
 
+/// The engine, the generator's number and the rows, by the texts of their options. `Usage` if one
+/// is missing or out of range.
 fn read_load_options(
     engine: Option<&str>,
     number: Option<&str>,

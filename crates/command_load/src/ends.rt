@@ -18,6 +18,7 @@ pub(crate) struct Ends {
 }
 
 impl Ends {
+    /// The ends of no answers.
     fn new() -> Ends
         ensures { HasEnds [] result }
     {

@@ -62,6 +62,7 @@ fn sum_text(
     }
 }
 
+/// The number of rows of all tables.
 fn rows_in_all(tables: &Tables) -> u32
     ensures { result ≡ rows_in_all tables.now }
 {

@@ -131,6 +131,7 @@ fn next_member<E: Ranked, L: Ledger>(
     }
 }
 
+/// Whether a place is at the limit, if there is one.
 fn is_reached(limit: Option<u64>, place: u64) -> bool
     ensures reached { IsTrue result → IsSomeAnd limit (λ n. n ≤ place) }
     ensures within { result ≡ false → IfSome limit (λ n. place < n) }

@@ -26,6 +26,7 @@ pub(crate) fn number_of(cursors: &OpenCursors<'_>, name: &[u8]) -> Option<usize>
     cursors.iter().position(|cursor| is_named(cursor, name))
 }
 
+/// Whether a place has an open cursor of this name.
 fn is_named(cursor: &Option<OpenCursor<'_>>, name: &[u8]) -> bool
     ensures { result ≡ is_named name.now cursor.now }
 {

@@ -121,6 +121,8 @@ fn print_steps<'a, E: Ranked, S: Sink, L: Ledger>(
     Ok(())
 }
 
+/// Takes one step of the script, and prints what it gives. An error if a write failed or memory is
+/// refused.
 fn take_step<'a, 's, E: Ranked, S: Sink, L: Ledger>(
     alloc: Global,
     records: &mut AnswerWriter,

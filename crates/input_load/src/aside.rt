@@ -110,6 +110,7 @@ fn script_steps<'a>(alloc: Global, bytes: &[u8]) -> Result<Vec<Step>, Refusal<'a
     }
 }
 
+/// The refusal for a fault of a script.
 fn script_refusal<'a>(fault: ScriptFault) -> Refusal<'a>
     ensures { reason_of result ≡ of_script fault }
 {

@@ -243,6 +243,7 @@ fn item_of(query: &Query, alias: &[u8]) -> Option<u32>
     None
 }
 
+/// The refusal for a fault of binding, in a branch if there are several.
 fn bind_refusal<'a>(branch: Option<u32>, fault: BindFault) -> Refusal<'a>
     ensures { reason_of result ≡ of_bind branch fault }
 {

@@ -27,6 +27,7 @@ pub(crate) fn load<'a, F: Shelf>(
     }
 }
 
+/// The refusal for a file that was not read.
 fn file_refusal<'a>(fault: FileFault, name: &'a str) -> Refusal<'a>
     ensures { reason_of result ≡ file_reason name.now fault }
 {

@@ -40,6 +40,7 @@ impl MadeTables {
     }
 }
 
+/// The four tables that are made, each with the name of its file.
 fn made_names(alloc: Global) -> Result<Vec<Named>, NoMemory>
     ensures { IfOk result (λ named. map named_pair named.items ≡ table_files) }
 {
@@ -51,6 +52,7 @@ fn made_names(alloc: Global) -> Result<Vec<Named>, NoMemory>
     Ok(named)
 }
 
+/// Puts a table and its file after the others.
 fn push_named(
     alloc: Global,
     named: &mut Vec<Named>,

@@ -84,6 +84,7 @@ fn one_select(alloc: Global, select: Select) -> Result<Vec<Select>, NoMemory>
     Ok(selects)
 }
 
+/// The refusal for a fault of a query's text.
 fn parse_refusal<'a>(fault: ParseFault) -> Refusal<'a>
     ensures { reason_of result ≡ of_parse fault }
 {

@@ -76,6 +76,7 @@ fn add_table<'a>(name: &'a [u8], bytes: &[u8], tables: &mut Tables) -> Result<()
     }
 }
 
+/// The refusal for a fault of a table's records.
 fn table_refusal<'a>(table: &'a [u8], fault: TableFault) -> Refusal<'a>
     ensures { reason_of result ≡ table_reason table.now fault }
 {

@@ -96,6 +96,7 @@ pub(crate) fn first_entries<'a>(
     Ok(firsts)
 }
 
+/// Whether one of the entries names this table.
 fn has_table(entries: &[&Named], table: &str) -> bool
     ensures { result ≡ list_any (λ e. bytes_eq (string_bytes e.now.table) table.now) entries.now }
 {

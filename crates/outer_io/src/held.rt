@@ -29,6 +29,7 @@ pub fn have_distinct_names(files: &[MemFile]) -> bool
     }
 }
 
+/// Whether one of the files has this name.
 fn has_name(files: &[MemFile], name: &str) -> bool
     ensures { result ≡ list_any (λ file. bytes_eq (string_bytes file.name) name.now) files.now }
 {
@@ -134,6 +135,7 @@ fn place_of(files: &[MemFile], name: &str) -> Option<usize>
     first_named(files, name)
 }
 
+/// The place of the first file of this name, from 0.
 fn first_named(files: &[MemFile], name: &str) -> Option<usize>
     ensures { result ≡ position (λ file. bytes_eq (string_bytes file.name) name.now) files.now }
 {

@@ -21,12 +21,14 @@ pub(crate) enum Line {
     Last(bool),
 }
 
+/// Whether a part is this word.
 fn is_word(text: &[u8], word: &[u8]) -> bool
     ensures { result ≡ bytes_eq text.now word.now }
 {
     text == word
 }
 
+/// The bound line of a node and its rows. `None` if there is no row.
 fn bound(mut numbers: Vec<u32>) -> Option<Line>
     ensures { bound_line numbers.items ≡ option_map seen_line result }
 {
@@ -37,6 +39,7 @@ fn bound(mut numbers: Vec<u32>) -> Option<Line>
     Some(Line::Bound(node, numbers))
 }
 
+/// The answer line of these rows. `None` if there is no row.
 fn answer(numbers: Vec<u32>) -> Option<Line>
     ensures { answer_line numbers.items ≡ option_map seen_line result }
 {
@@ -46,6 +49,7 @@ fn answer(numbers: Vec<u32>) -> Option<Line>
     Some(Line::Answer(numbers))
 }
 
+/// The last line of this word. `None` if it is neither `more` nor `end`.
 fn last(word: &[u8]) -> Option<Line>
     ensures { last_line word.now ≡ option_map seen_line result }
 {
@@ -58,6 +62,7 @@ fn last(word: &[u8]) -> Option<Line>
     }
 }
 
+/// The line of this word and the numbers after it. `None` if it has no such form.
 fn with_numbers(alloc: Global, word: &[u8], rest: &[u8]) -> Result<Option<Line>, AllocFailed<u32>>
     ensures { IfOk result
         (λ found. numbers_line word.now (parts rest.now) ≡ option_map seen_line found) }

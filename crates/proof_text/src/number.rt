@@ -12,12 +12,14 @@ use text_lines::first_part;
 
 const MAX_DIGITS: usize = 7;
 
+/// Whether each byte is a decimal digit.
 fn are_digits(text: &[u8]) -> bool
     ensures { result ≡ list_all is_ascii_digit text.now }
 {
     text.iter().all(|byte| byte.is_ascii_digit())
 }
 
+/// The number that at most 7 decimal digits write.
 fn value(digits: &[u8]) -> u32
     requires digits { list_all is_ascii_digit digits.now ≡ true }
     requires few { length digits.now ≤ 7 }

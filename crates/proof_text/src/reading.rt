@@ -99,6 +99,7 @@ fn read_lines(alloc: Global, bytes: &[u8]) -> Result<Proof, ProofFault>
     Err(ProofFault::BadLine(number))
 }
 
+/// Whether a line is a certificate's header.
 fn is_header(text: &[u8]) -> bool
     ensures { result ≡ bytes_eq text.now (codes "anyk-proof 1") }
 {

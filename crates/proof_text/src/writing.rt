@@ -18,6 +18,7 @@ fn push_numbers(line: &mut Vec<u8>, numbers: &[u32]) -> Result<(), NoMemory>
     Ok(())
 }
 
+/// The text of a bound line.
 fn bound_line(alloc: Global, node: u32, rows: &[u32]) -> Result<Vec<u8>, NoMemory>
     ensures { IfOk result (λ line. line.items ≡ bound_text node rows.now) }
 {
@@ -29,6 +30,7 @@ fn bound_line(alloc: Global, node: u32, rows: &[u32]) -> Result<Vec<u8>, NoMemor
     Ok(line)
 }
 
+/// The text of an answer line.
 fn answer_line(alloc: Global, rows: &[u32]) -> Result<Vec<u8>, NoMemory>
     ensures { IfOk result (λ line. line.items ≡ answer_text rows.now) }
 {

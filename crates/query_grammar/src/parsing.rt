@@ -82,6 +82,7 @@ fn have_many_items(branches: &[Select]) -> bool
     false
 }
 
+/// Whether a branch has more order keys than a query may have.
 fn has_many_keys(branch: &Select) -> bool
     ensures { result ≡ nat_lt 8 (length branch.now.keys) }
 {

@@ -13,6 +13,7 @@ use query_select::sequence::Sequence;
 use query_tokens::{Kind, Token};
 use std::alloc::{AllocError, Global};
 
+/// Whether a token is of this kind.
 fn is_kind(token: &Token<'_>, kind: Kind) -> bool
     ensures { result ≡ same token.now.kind kind }
 {
@@ -29,6 +30,7 @@ fn place(tokens: &[Token<'_>], end: u32) -> u32
     }
 }
 
+/// Reads a token of this kind. `Syntax` at the first token if it is of another kind.
 #[tactic(auto, unfolding(crate::specs::Reading::expect_at))]
 fn expect<'a, 't>(
     tokens: &'t [Token<'a>],
@@ -44,6 +46,7 @@ fn expect<'a, 't>(
     }
 }
 
+/// Reads a token of this kind, if the first token is one.
 #[tactic(auto, unfolding(crate::specs::Reading::optional_at))]
 fn optional<'a, 't>(tokens: &'t [Token<'a>], kind: Kind) -> (Option<Token<'a>>, &'t [Token<'a>])
     ensures { optional_at kind (lexemes tokens.now) ≡ (some_lexeme result.0, lexemes result.1.now) }
@@ -54,6 +57,7 @@ fn optional<'a, 't>(tokens: &'t [Token<'a>], kind: Kind) -> (Option<Token<'a>>, 
     }
 }
 
+/// Reads a column reference.
 #[tactic(auto, unfolding(crate::specs::Reading::column_at))]
 fn column<'a, 't>(
     alloc: Global,
@@ -105,6 +109,7 @@ fn qualified_column(
     Ok(ColumnRef { alias, column, at })
 }
 
+/// Reads a comma and a column reference, if there is a comma.
 #[tactic(auto, unfolding(crate::specs::Reading::next_column_at))]
 fn next_column<'a, 't>(
     alloc: Global,
@@ -122,6 +127,7 @@ fn next_column<'a, 't>(
     Ok(Some(found))
 }
 
+/// Reads column references with commas between them.
 #[tactic(auto, unfolding(crate::specs::Reading::columns_at))]
 fn columns<'a, 't>(
     alloc: Global,
@@ -140,6 +146,7 @@ fn columns<'a, 't>(
     Ok((Sequence::from_vec(columns), rest))
 }
 
+/// Reads what is selected: `*`, or column references.
 #[tactic(auto, unfolding(crate::specs::Reading::list_at))]
 fn list<'a, 't>(
     alloc: Global,
@@ -173,6 +180,7 @@ fn push_undoubled(bytes: &mut Vec<u8>, byte: u8, second: bool) -> Result<bool, A
     Ok(is_quote)
 }
 
+/// The bytes that a string stands for, with each two quotes as one.
 #[tactic(auto, unfolding(crate::specs::Reading::undoubled_from))]
 fn undoubled_text(alloc: Global, body: &[u8]) -> Result<Vec<u8>, AllocError>
     ensures { IfOk result (λ v. v.items ≡ undoubled body.now) }
@@ -185,6 +193,7 @@ fn undoubled_text(alloc: Global, body: &[u8]) -> Result<Vec<u8>, AllocError>
     Ok(bytes)
 }
 
+/// The digits with a minus before them.
 fn negative(alloc: Global, digits: &[u8]) -> Result<Vec<u8>, AllocError>
     ensures { IfOk result (λ v. v.items ≡ 45 ∷ digits.now) }
 {
@@ -194,6 +203,7 @@ fn negative(alloc: Global, digits: &[u8]) -> Result<Vec<u8>, AllocError>
     Ok(bytes)
 }
 
+/// Reads one side of a condition: a column or a constant.
 #[tactic(auto, unfolding(crate::specs::Reading::side_at))]
 fn side<'a, 't>(
     alloc: Global,
@@ -219,6 +229,7 @@ fn side<'a, 't>(
     Ok((Side::Column(column), rest))
 }
 
+/// Reads a condition.
 #[tactic(auto, unfolding(crate::specs::Reading::condition_at))]
 fn condition<'a, 't>(
     alloc: Global,
@@ -255,6 +266,7 @@ fn with_left<'a, 't>(
     }
 }
 
+/// Reads `and` and a condition, if there is an `and`.
 #[tactic(auto, unfolding(crate::specs::Reading::next_condition_at))]
 fn next_condition<'a, 't>(
     alloc: Global,
@@ -272,6 +284,7 @@ fn next_condition<'a, 't>(
     Ok(Some(found))
 }
 
+/// Reads conditions with `and` between them.
 #[tactic(auto, unfolding(crate::specs::Reading::conditions_at))]
 fn conditions<'a, 't>(
     alloc: Global,
@@ -291,6 +304,7 @@ fn conditions<'a, 't>(
     Ok((equalities, rest))
 }
 
+/// Reads a table and its alias.
 #[tactic(auto, unfolding(crate::specs::Reading::item_at))]
 fn item<'a, 't>(
     alloc: Global,
@@ -332,6 +346,7 @@ struct Joined {
     on: Vec<Equality>,
 }
 
+/// Reads an item that has no conditions of its own.
 #[tactic(auto, unfolding(crate::specs::Reading::plain_item_at))]
 fn plain_item<'a, 't>(
     alloc: Global,
@@ -346,6 +361,7 @@ fn plain_item<'a, 't>(
     Ok((Joined { item, on }, rest))
 }
 
+/// Reads an item, `on` and its conditions.
 #[tactic(auto, unfolding(crate::specs::Reading::joined_item_at))]
 fn joined_item<'a, 't>(
     alloc: Global,
@@ -361,6 +377,7 @@ fn joined_item<'a, 't>(
     Ok((Joined { item, on }, rest))
 }
 
+/// Reads `join` and an item with its conditions.
 #[tactic(auto, unfolding(crate::specs::Reading::inner_item_at))]
 fn inner_item<'a, 't>(
     alloc: Global,
@@ -374,6 +391,7 @@ fn inner_item<'a, 't>(
     joined_item(alloc, rest, end)
 }
 
+/// Reads a further item, if a comma or a `join` comes before it.
 #[tactic(auto, unfolding(crate::specs::Reading::next_item_at))]
 fn next_item<'a, 't>(
     alloc: Global,
@@ -406,6 +424,7 @@ struct FromItems {
 }
 
 impl FromItems {
+    /// Puts an item after the others, and its conditions after theirs.
     fn push(&mut self, joined: Joined) -> Result<(), AllocError>
         ensures items { OnOk result
             (self.new.items.items ≡ self.old.items.items ++ joined.item ∷ []) }
@@ -418,6 +437,7 @@ impl FromItems {
     }
 }
 
+/// Reads the items of a query, with the conditions of their joins.
 #[tactic(auto, unfolding(crate::specs::Reading::items_at))]
 fn items<'a, 't>(
     alloc: Global,
@@ -440,6 +460,7 @@ fn items<'a, 't>(
     Ok((found, rest))
 }
 
+/// Reads `where` and its conditions, if there is a `where`.
 #[tactic(auto, unfolding(crate::specs::Reading::where_at))]
 fn where_clause<'a, 't>(
     alloc: Global,
@@ -469,6 +490,7 @@ fn sign<'a, 't>(tokens: &'t [Token<'a>]) -> (Option<bool>, &'t [Token<'a>])
     (None, tokens)
 }
 
+/// Reads a column that an order key adds, or subtracts if there is a minus.
 #[tactic(auto, unfolding(crate::specs::Reading::term_at))]
 fn term<'a, 't>(
     alloc: Global,
@@ -482,6 +504,7 @@ fn term<'a, 't>(
     Ok((Term { minus, column }, rest))
 }
 
+/// Reads a sign and a column, if there is a sign.
 #[tactic(auto, unfolding(crate::specs::Reading::next_term_at))]
 fn next_term<'a, 't>(
     alloc: Global,
@@ -510,6 +533,7 @@ fn direction<'a, 't>(tokens: &'t [Token<'a>]) -> (bool, &'t [Token<'a>])
     (false, rest)
 }
 
+/// Reads the columns of an order key, with their signs.
 #[tactic(auto, unfolding(crate::specs::Reading::terms_at))]
 fn terms<'a, 't>(
     alloc: Global,
@@ -529,6 +553,7 @@ fn terms<'a, 't>(
     Ok((Sequence::from_vec(terms), rest))
 }
 
+/// Reads an order key and its direction.
 #[tactic(auto, unfolding(crate::specs::Reading::key_at))]
 fn key<'a, 't>(
     alloc: Global,
@@ -542,6 +567,7 @@ fn key<'a, 't>(
     Ok((KeyRef { terms, descending }, rest))
 }
 
+/// Reads a comma and an order key, if there is a comma.
 #[tactic(auto, unfolding(crate::specs::Reading::next_key_at))]
 fn next_key<'a, 't>(
     alloc: Global,
@@ -559,6 +585,7 @@ fn next_key<'a, 't>(
     Ok(Some(found))
 }
 
+/// Reads `by` and order keys with commas between them.
 #[tactic(auto, unfolding(crate::specs::Reading::keys_at))]
 fn keys<'a, 't>(
     alloc: Global,
@@ -578,6 +605,7 @@ fn keys<'a, 't>(
     Ok((keys, rest))
 }
 
+/// Reads `order by` and its keys, if there is an `order`.
 #[tactic(auto, unfolding(crate::specs::Reading::order_at))]
 fn order_clause<'a, 't>(
     alloc: Global,
@@ -593,6 +621,7 @@ fn order_clause<'a, 't>(
     keys(alloc, rest, end)
 }
 
+/// Reads `limit` and its digits, if there is a `limit`.
 #[tactic(auto, unfolding(crate::specs::Reading::limit_at))]
 fn limit_clause<'a, 't>(
     tokens: &'t [Token<'a>],
@@ -675,6 +704,7 @@ fn next_branch<'a, 't>(
     Ok(Some(found))
 }
 
+/// Reads queries with `union all` between them.
 #[tactic(auto, unfolding(crate::specs::Reading::branches_at))]
 fn branches<'a, 't>(
     alloc: Global,

@@ -10,6 +10,7 @@ use query_tokens::push_name;
 use std::alloc::{AllocError, Global};
 use step_counter::NoMemory;
 
+/// Appends a column reference.
 #[tactic(auto, unfolding(crate::specs::Text::column_text))]
 fn push_column(text: &mut Vec<u8>, column: &ColumnRef) -> Result<(), AllocError>
     ensures { OnOk result (text.new.items ≡ text.old.items ++ column_text column.now) }
@@ -21,6 +22,7 @@ fn push_column(text: &mut Vec<u8>, column: &ColumnRef) -> Result<(), AllocError>
     push_name(text, column.column.bytes())
 }
 
+/// Appends column references with commas between them.
 #[tactic(auto, unfolding(crate::specs::Text::columns_text))]
 fn push_columns(text: &mut Vec<u8>, columns: &[ColumnRef]) -> Result<(), AllocError>
     ensures { OnOk result (text.new.items ≡ text.old.items ++ columns_text columns.now) }
@@ -36,6 +38,7 @@ fn push_columns(text: &mut Vec<u8>, columns: &[ColumnRef]) -> Result<(), AllocEr
     Ok(())
 }
 
+/// Appends what is selected.
 #[tactic(auto, unfolding(crate::specs::Text::list_text))]
 fn push_list(text: &mut Vec<u8>, list: &SelectList) -> Result<(), AllocError>
     ensures { OnOk result (text.new.items ≡ text.old.items ++ list_text list.now) }
@@ -46,6 +49,7 @@ fn push_list(text: &mut Vec<u8>, list: &SelectList) -> Result<(), AllocError>
     }
 }
 
+/// Appends an item with its alias.
 #[tactic(auto, unfolding(crate::specs::Text::item_text))]
 fn push_item(text: &mut Vec<u8>, item: &ItemRef) -> Result<(), AllocError>
     ensures { OnOk result (text.new.items ≡ text.old.items ++ item_text item.now) }
@@ -55,6 +59,7 @@ fn push_item(text: &mut Vec<u8>, item: &ItemRef) -> Result<(), AllocError>
     push_name(text, item.alias.bytes())
 }
 
+/// Appends items with commas between them.
 #[tactic(auto, unfolding(crate::specs::Text::items_text))]
 fn push_items(text: &mut Vec<u8>, items: &[ItemRef]) -> Result<(), AllocError>
     ensures { OnOk result (text.new.items ≡ text.old.items ++ items_text items.now) }
@@ -70,6 +75,7 @@ fn push_items(text: &mut Vec<u8>, items: &[ItemRef]) -> Result<(), AllocError>
     Ok(())
 }
 
+/// Appends a byte of a string, a quote as two.
 fn push_text_byte(text: &mut Vec<u8>, byte: u8) -> Result<(), AllocError>
     ensures { OnOk result (text.new.items ≡ text.old.items ++ doubled (byte ∷ [])) }
 {
@@ -80,6 +86,7 @@ fn push_text_byte(text: &mut Vec<u8>, byte: u8) -> Result<(), AllocError>
     Ok(())
 }
 
+/// Appends the bytes of a string, each quote as two.
 fn push_doubled(text: &mut Vec<u8>, bytes: &[u8]) -> Result<(), AllocError>
     ensures { OnOk result (text.new.items ≡ text.old.items ++ doubled bytes.now) }
 {
@@ -89,6 +96,7 @@ fn push_doubled(text: &mut Vec<u8>, bytes: &[u8]) -> Result<(), AllocError>
     Ok(())
 }
 
+/// Appends a constant as a string.
 fn push_constant(text: &mut Vec<u8>, bytes: &[u8]) -> Result<(), AllocError>
     ensures { OnOk result (text.new.items ≡ text.old.items ++ constant_text bytes.now) }
 {
@@ -98,6 +106,7 @@ fn push_constant(text: &mut Vec<u8>, bytes: &[u8]) -> Result<(), AllocError>
     Ok(())
 }
 
+/// Appends one side of an equality.
 #[tactic(auto, unfolding(crate::specs::Text::side_text))]
 fn push_side(text: &mut Vec<u8>, side: &Side) -> Result<(), AllocError>
     ensures { OnOk result (text.new.items ≡ text.old.items ++ side_text side.now) }
@@ -108,6 +117,7 @@ fn push_side(text: &mut Vec<u8>, side: &Side) -> Result<(), AllocError>
     }
 }
 
+/// Appends an equality.
 #[tactic(auto, unfolding(crate::specs::Text::equality_text))]
 fn push_equality(text: &mut Vec<u8>, equality: &Equality) -> Result<(), AllocError>
     ensures { OnOk result (text.new.items ≡ text.old.items ++ equality_text equality.now) }
@@ -117,6 +127,7 @@ fn push_equality(text: &mut Vec<u8>, equality: &Equality) -> Result<(), AllocErr
     push_side(text, &equality.right)
 }
 
+/// Appends `where` and the equalities, if there are any.
 #[tactic(auto, unfolding(crate::specs::Text::where_text))]
 fn push_where(text: &mut Vec<u8>, equalities: &[Equality]) -> Result<(), AllocError>
     ensures { OnOk result (text.new.items ≡ text.old.items ++ where_text equalities.now) }
@@ -133,6 +144,7 @@ fn push_where(text: &mut Vec<u8>, equalities: &[Equality]) -> Result<(), AllocEr
     Ok(())
 }
 
+/// Appends the first term of an order key, with its minus.
 #[tactic(auto, unfolding(crate::specs::Text::first_term_text))]
 fn push_first_term(text: &mut Vec<u8>, term: &Term) -> Result<(), AllocError>
     ensures { OnOk result (text.new.items ≡ text.old.items ++ first_term_text term.now) }
@@ -143,6 +155,7 @@ fn push_first_term(text: &mut Vec<u8>, term: &Term) -> Result<(), AllocError>
     push_column(text, &term.column)
 }
 
+/// Appends a later term of an order key, with its sign.
 #[tactic(auto, unfolding(crate::specs::Text::term_text))]
 fn push_term(text: &mut Vec<u8>, term: &Term) -> Result<(), AllocError>
     ensures { OnOk result (text.new.items ≡ text.old.items ++ term_text term.now) }
@@ -155,6 +168,7 @@ fn push_term(text: &mut Vec<u8>, term: &Term) -> Result<(), AllocError>
     push_column(text, &term.column)
 }
 
+/// Appends the terms of an order key.
 #[tactic(auto, unfolding(crate::specs::Text::terms_text))]
 fn push_terms(text: &mut Vec<u8>, terms: &[Term]) -> Result<(), AllocError>
     ensures { OnOk result (text.new.items ≡ text.old.items ++ terms_text terms.now) }
@@ -169,6 +183,7 @@ fn push_terms(text: &mut Vec<u8>, terms: &[Term]) -> Result<(), AllocError>
     Ok(())
 }
 
+/// Appends an order key with its direction.
 #[tactic(auto, unfolding(crate::specs::Text::key_text))]
 fn push_key(text: &mut Vec<u8>, key: &KeyRef) -> Result<(), AllocError>
     ensures { OnOk result (text.new.items ≡ text.old.items ++ key_text key.now) }
@@ -180,6 +195,7 @@ fn push_key(text: &mut Vec<u8>, key: &KeyRef) -> Result<(), AllocError>
     Ok(())
 }
 
+/// Appends `order by` and the keys, if there are any.
 #[tactic(auto, unfolding(crate::specs::Text::order_text))]
 fn push_order(text: &mut Vec<u8>, keys: &[KeyRef]) -> Result<(), AllocError>
     ensures { OnOk result (text.new.items ≡ text.old.items ++ order_text keys.now) }
@@ -196,6 +212,7 @@ fn push_order(text: &mut Vec<u8>, keys: &[KeyRef]) -> Result<(), AllocError>
     Ok(())
 }
 
+/// Appends `limit` and its number, if there is one.
 #[tactic(auto, unfolding(crate::specs::Text::limit_text))]
 fn push_limit(alloc: Global, text: &mut Vec<u8>, limit: Option<u64>) -> Result<(), AllocError>
     ensures { OnOk result (text.new.items ≡ text.old.items ++ limit_text limit) }
@@ -208,6 +225,7 @@ fn push_limit(alloc: Global, text: &mut Vec<u8>, limit: Option<u64>) -> Result<(
     Ok(())
 }
 
+/// The canonical text of a query.
 #[tactic(auto, unfolding(crate::specs::Text::text_of))]
 fn write_select(alloc: Global, select: &Select) -> Result<Vec<u8>, AllocError>
     ensures { IfOk result (λ v. v.items ≡ text_of select.now) }

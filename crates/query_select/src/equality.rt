@@ -134,6 +134,7 @@ impl PartialEq for Select {
     }
 }
 
+/// Whether two queries agree in each part, apart from the offsets.
 fn have_same_parts(this: &Select, that: &Select) -> bool
     ensures { result ≡ same_select this.now that.now }
 {

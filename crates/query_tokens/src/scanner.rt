@@ -11,6 +11,7 @@ ghost use Rattle.query_tokens.specs.Tokens.{is_blank, is_letter, is_word_byte, k
 use crate::token::{Kind, Token};
 use std::alloc::{AllocError, Global};
 
+/// Whether a byte stands between tokens.
 fn is_blank_byte(byte: u8) -> bool
     ensures { result ≡ is_blank byte }
 {
@@ -31,12 +32,14 @@ pub(crate) fn goes_on_word(byte: u8) -> bool
     byte.is_ascii_alphanumeric() || byte == b'_'
 }
 
+/// The number of bytes at the front that go on a word.
 fn word_len(bytes: &[u8]) -> usize
     ensures { result ≡ prefix_len is_word_byte bytes.now }
 {
     bytes.iter().take_while(|byte| goes_on_word(**byte)).count()
 }
 
+/// The number of digits at the front.
 fn digits_len(bytes: &[u8]) -> usize
     ensures { result ≡ prefix_len is_ascii_digit bytes.now }
 {
@@ -46,12 +49,14 @@ fn digits_len(bytes: &[u8]) -> usize
         .count()
 }
 
+/// The place of the quote that ends a quoted name, from 0.
 fn name_len(bytes: &[u8]) -> Option<usize>
     ensures { result ≡ position (λ x. x == 34) bytes.now }
 {
     bytes.iter().position(|byte| *byte == b'"')
 }
 
+/// The place of the quote that ends a string, from 0. Two quotes one after the other end none.
 #[tactic(auto, using(crate::proofs::Strings::closing_from_start), unfolding(crate::proofs::Strings::closing_from))]
 fn text_len(bytes: &[u8]) -> Option<usize>
     ensures value { result ≡ closing bytes.now }
@@ -72,6 +77,7 @@ fn text_len(bytes: &[u8]) -> Option<usize>
     end
 }
 
+/// Whether a word is this keyword, in letters of either case.
 fn is_keyword(word: &[u8], keyword: &[u8]) -> bool
     ensures { result ≡ bytes_eq (map to_ascii_lowercase word.now)
         (map to_ascii_lowercase keyword.now) }
@@ -119,6 +125,7 @@ pub(crate) fn word_kind(word: &[u8]) -> Kind
     }
 }
 
+/// The kind of a sign, `Stray` for a byte that is none.
 fn sign_kind(byte: u8) -> Kind
     ensures { result ≡ kind_of_sign byte }
 {

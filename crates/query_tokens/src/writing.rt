@@ -11,18 +11,21 @@ use crate::token::Kind;
 use std::alloc::{AllocError, Global};
 use step_counter::NoMemory;
 
+/// Whether a word is a name.
 fn is_no_keyword(word: &[u8]) -> bool
     ensures { result ≡ same (kind_of_word word.now) Kind.Name }
 {
     word_kind(word) == Kind::Name
 }
 
+/// Whether all bytes go on a word.
 fn go_on_word(bytes: &[u8]) -> bool
     ensures { result ≡ list_all is_word_byte bytes.now }
 {
     bytes.iter().all(|byte| goes_on_word(*byte))
 }
 
+/// Whether a name can stand without quotes.
 fn is_bare_name(name: &[u8]) -> bool
     ensures { result ≡ is_bare name.now }
 {

@@ -37,6 +37,7 @@ pub type LexRank = FixedRank<8, 16>;
 /// A rank with two sums and four slots, for a query of at most four items and an order by at most two keys.
 pub type SmallLexRank = FixedRank<2, 4>;
 
+/// Adds sums to others, place by place.
 fn add_sums(to: &mut [Sum], from: &[Sum])
     requires len { length to.old ≡ length from.now }
     requires fits { All (FitsSigned w128) (plus to.old from.now) }
@@ -57,6 +58,7 @@ fn copy_sums(to: &mut [Sum], from: &[i128])
     }
 }
 
+/// Subtracts sums from others, place by place.
 fn subtract_sums(to: &mut [Sum], from: &[Sum])
     requires len { length to.old ≡ length from.now }
     requires fits { All (FitsSigned w128) (minus to.old from.now) }
@@ -81,6 +83,7 @@ fn compare_sums(a: &[Sum], b: &[Sum]) -> Ordering
     Ordering::Equal
 }
 
+/// Subtracts slots from others, place by place.
 fn subtract_slots(to: &mut [u32], from: &[u32])
     requires len { length to.old ≡ length from.now }
     requires fits { All (FitsUnsigned w32) (minus (map pos to.old) (map pos from.now)) }
@@ -91,6 +94,7 @@ fn subtract_slots(to: &mut [u32], from: &[u32])
     }
 }
 
+/// Adds slots to others, place by place.
 fn add_slots(to: &mut [u32], from: &[u32])
     requires len { length to.old ≡ length from.now }
     requires fits { All (FitsUnsigned w32) (plus (map pos to.old) (map pos from.now)) }
@@ -102,6 +106,7 @@ fn add_slots(to: &mut [u32], from: &[u32])
 }
 
 impl<const N: usize, const M: usize> FixedRank<N, M> {
+    /// The sum of two ranks by components.
     fn plus(self, other: Self) -> Self
         requires sums { All (FitsSigned w128) (plus self.sums other.sums) }
         requires slots { All (FitsUnsigned w32) (plus (map pos self.slots) (map pos other.slots)) }
@@ -116,6 +121,7 @@ impl<const N: usize, const M: usize> FixedRank<N, M> {
         FixedRank { sums, slots }
     }
 
+    /// The difference of two ranks by components.
     fn minus(self, other: Self) -> Self
         requires sums { All (FitsSigned w128) (minus self.sums other.sums) }
         requires slots { All (FitsUnsigned w32) (minus (map pos self.slots) (map pos other.slots)) }

@@ -280,6 +280,7 @@ fn write_item<E: Sink>(err: &mut E, core: u16, place: u32) -> Result<(), Unwritt
     }
 }
 
+/// Whether an item is in the core. Items count from 0.
 fn is_in(core: u16, place: u32) -> bool
     requires { place < 16 }
     ensures { result ≡ is_in core place }

@@ -49,6 +49,7 @@ impl Name {
         })
     }
 
+    /// The same name.
     pub(crate) fn copied(&self) -> Name
         ensures { result ≡ self.now }
     {
@@ -59,12 +60,14 @@ impl Name {
     }
 }
 
+/// Whether a byte can stand in the name of a cursor.
 fn is_name_byte(byte: u8) -> bool
     ensures { result ≡ is_name_byte byte }
 {
     byte.is_ascii_alphanumeric() || byte == b'_'
 }
 
+/// Whether all bytes can stand in the name of a cursor.
 fn are_name_bytes(text: &[u8]) -> bool
     ensures { result ≡ list_all is_name_byte text.now }
 {

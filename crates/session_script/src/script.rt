@@ -34,6 +34,8 @@ fn read_step(names: &mut Vec<Name>, line: &[u8], number: u32) -> Result<Step, Sc
     Ok(step)
 }
 
+/// The steps of a script of at most `MAX_LINES` lines, or the fault of the first line that breaks a
+/// rule.
 fn read_steps(alloc: Global, bytes: &[u8]) -> Result<Vec<Step>, ScriptFault>
     requires { length (lines bytes.now) ≤ 10000 }
     ensures { MatchResult result (λ v. steps_from 1 [] (lines bytes.now) ≡ Ok v.items)

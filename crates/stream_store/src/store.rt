@@ -85,6 +85,7 @@ impl<T, A: Allocator + Clone> Store<T, A> {
         Ok(())
     }
 
+    /// The number of entries for which room is reserved.
     fn spare(&self) -> usize
         ensures { result ≡ self.now.spare }
     {
@@ -135,6 +136,7 @@ impl<T, A: Allocator + Clone> Store<T, A> {
         Ok(self.push_reserved(value, steps))
     }
 
+    /// The entry of this name.
     fn entry(&self, id: EntryId) -> &Linked<T>
         requires { id < length self.now.entries }
         ensures { (d : Linked T) → slice_index_or self.now.entries id d ≡ result.now }

@@ -72,6 +72,7 @@ fn join_of<'a>(query: &Query) -> Result<JoinTree, Refusal<'a>>
     }
 }
 
+/// The refusal for a query that has no join tree.
 fn shape_refusal<'a>(fault: ShapeFault) -> Refusal<'a>
     ensures { reason_of result ≡ shape_reason fault }
 {

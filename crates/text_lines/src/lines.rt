@@ -5,12 +5,14 @@ ghost use Rattle.std.specs.List.{position};
 ghost use Rattle.std.specs.Str.Lines.{lines, strip_carriage_return};
 ghost use Rattle.text_lines.specs.Parts.{parts, parts_after};
 
+/// The place of the first line feed, from 0.
 fn line_end(bytes: &[u8]) -> Option<usize>
     ensures { result ≡ position (λ x. x == 10) bytes.now }
 {
     bytes.iter().position(|byte| *byte == b'\n')
 }
 
+/// The line without a carriage return at its end.
 fn without_return(line: &[u8]) -> &[u8]
     ensures { result.now ≡ strip_carriage_return line.now }
 {
@@ -38,6 +40,7 @@ pub fn first_line(bytes: &[u8]) -> Option<(&[u8], &[u8])>
     Some((bytes, &bytes[bytes.len()..]))
 }
 
+/// The place of the first space, from 0.
 fn space(line: &[u8]) -> Option<usize>
     ensures { result ≡ position (λ x. x == 32) line.now }
 {
