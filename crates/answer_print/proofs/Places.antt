@@ -6,7 +6,7 @@ use Rattle.anyk_model.specs.Query.{Query, Item, Column, IsCombination, row_count
 use Rattle.anyk_model.proofs.Combinations.{combination_at, combination_length}
 use Rattle.bound_query.specs.Inside.{HasTable, IsInside, IsWithin}
 use Rattle.bound_query.specs.Items.{item_at}
-use Rattle.bound_query.specs.StoredParts.{column_shown}
+use Rattle.bound_query.specs.StoredParts.{column_view}
 use Rattle.bound_query.specs.Weights.{table_in}
 use Rattle.bound_query.proofs.Lists.{all_at}
 
@@ -37,19 +37,19 @@ row_there tables items rows i chosen inside =
 -- pairs.
 pub record HasColumn (query : Query) (tables : List Table) (shown : List (ℕ × ℕ)) (i : ℕ) (d : ℕ × ℕ) : Type 0 where
   pub place : i < length query.list
-  pub same : column_shown (get_or shown i d) ≡ get_or query.list i (column_shown d)
+  pub same : column_view (get_or shown i d) ≡ get_or query.list i (column_view d)
   pub item : (get_or shown i d).0 < length query.items
   pub table : (item_at query.items (get_or shown i d).0).table < length tables
   pub column : (get_or shown i d).1 < length (table_in tables query.items (get_or shown i d).0).names
 
-pub column_there : (query : Query) (tables : List Table) (shown : List (ℕ × ℕ)) (i : ℕ) (d : ℕ × ℕ) → IsWithin query tables → map column_shown shown ≡ query.list
+pub column_there : (query : Query) (tables : List Table) (shown : List (ℕ × ℕ)) (i : ℕ) (d : ℕ × ℕ) → IsWithin query tables → map column_view shown ≡ query.list
     → i < length shown → HasColumn query tables shown i d
 column_there query tables shown i d within stored inside =
-    let place : i < length query.list = omega (arith, inside, ap length stored, length-map shown column_shown) in
-    let same : column_shown (get_or shown i d) ≡ get_or query.list i (column_shown d) =
-    sym (get_or-map column_shown shown i d (column_shown d) inside) ∙ ap (λ (l : List Column). get_or l i (column_shown d)) stored in
-    let there : IsInside tables query.items (column_shown (get_or shown i d)) =
-    subst (IsInside tables query.items) (sym same) (all_at (IsInside tables query.items) query.list i (column_shown d) within.list place) in
+    let place : i < length query.list = omega (arith, inside, ap length stored, length-map shown column_view) in
+    let same : column_view (get_or shown i d) ≡ get_or query.list i (column_view d) =
+    sym (get_or-map column_view shown i d (column_view d) inside) ∙ ap (λ (l : List Column). get_or l i (column_view d)) stored in
+    let there : IsInside tables query.items (column_view (get_or shown i d)) =
+    subst (IsInside tables query.items) (sym same) (all_at (IsInside tables query.items) query.list i (column_view d) within.list place) in
     record {
       place = place;
       same = same;

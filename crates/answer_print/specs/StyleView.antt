@@ -4,6 +4,6 @@ use Rattle.anyk_model.specs.Output as output
 use Rattle.answer_print.specs.declared.style.Style.{Style}
 
 -- the style, with the cursor's name as its bytes
-abbrev pub style_shown : Style → output.Style
-style_shown s = record
+abbrev pub style_view : Style → output.Style
+style_view s = record
     { ranks = s.ranks; rows = s.rows; cursor = option_map (λ name. name.now) s.cursor }

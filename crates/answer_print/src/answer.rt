@@ -5,7 +5,7 @@ ghost use Rattle.anyk_model.specs.Output.{line_text, optional_field};
 ghost use Rattle.anyk_model.specs.Query.{IsCombination, row_counts, sum_of, value_of};
 ghost use Rattle.bound_query.specs.WeighedQuery.{Fits};
 ghost use Rattle.bound_query.specs.Weights.{key_at};
-ghost use Rattle.answer_print.specs.StyleView.{style_shown};
+ghost use Rattle.answer_print.specs.StyleView.{style_view};
 
 use crate::fields::{Fields, push_numbers, push_optional};
 use crate::number::{Number, Numbers};
@@ -31,7 +31,7 @@ pub fn line(
         (take (length query.now.query.items) rows.now) }
     ensures { IfOk result
         (λ text. text.items
-        ≡ line_text query.now.query tables.now (style_shown style.now)
+        ≡ line_text query.now.query tables.now (style_view style.now)
         (take (length query.now.query.items) rows.now)) }
 {
     let mut numbers = Numbers::new(alloc);
@@ -63,7 +63,7 @@ pub fn write_line(
     requires rows { IsCombination (row_counts query.now.query.items tables.now)
         (take (length query.now.query.items) rows.now) }
     ensures { OnOk result
-        (writer.new ≡ line_text query.now.query tables.now (style_shown style.now)
+        (writer.new ≡ line_text query.now.query tables.now (style_view style.now)
         (take (length query.now.query.items) rows.now)) }
 {
     writer.numbers.clear();

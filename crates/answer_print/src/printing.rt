@@ -2,7 +2,7 @@
 ghost use Rattle.std.specs.Prelude.{length, take};
 ghost use Rattle.anyk_model.specs.Output.{header_text, line_text};
 ghost use Rattle.anyk_model.specs.Query.{IsCombination, row_counts};
-ghost use Rattle.answer_print.specs.StyleView.{style_shown};
+ghost use Rattle.answer_print.specs.StyleView.{style_view};
 ghost use Rattle.bound_query.specs.WeighedQuery.{Fits};
 ghost use Rattle.refusal_lines.specs.Printing.{Printed};
 ghost use Rattle.refusal_lines.specs.SinkState.{state_of};
@@ -27,7 +27,7 @@ pub fn print_header<'a, S: Sink>(
 ) -> Result<(), Refusal<'a>>
     requires fits { Fits query.now tables.now }
     ensures { Printed (state_of S.Sink out.old) (state_of S.Sink out.new)
-        (header_text query.now.query tables.now (style_shown style.now)) result }
+        (header_text query.now.query tables.now (style_view style.now)) result }
 {
     let text = header(alloc, query, tables, style)?;
     print(out, &text)
@@ -48,7 +48,7 @@ pub fn print_answer<'a, S: Sink>(
     requires rows { IsCombination (row_counts query.now.query.items tables.now)
         (take (length query.now.query.items) rows.now) }
     ensures { Printed (state_of S.Sink out.old) (state_of S.Sink out.new)
-        (line_text query.now.query tables.now (style_shown style.now)
+        (line_text query.now.query tables.now (style_view style.now)
         (take (length query.now.query.items) rows.now)) result }
 {
     write_line(alloc, writer, query, tables, rows, style)?;

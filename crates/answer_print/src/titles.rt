@@ -2,7 +2,7 @@
 ghost use Rattle.std.specs.Prelude.{◌≡◌, ◌++◌, [], codes, if◌then◌else◌, length, map, option_map, string_bytes, IfOk, OnOk};
 ghost use Rattle.anyk_model.specs.Output.{column_name, cursor_title, header_text, numbered, optional_field};
 ghost use Rattle.bound_query.specs.WeighedQuery.{Fits};
-ghost use Rattle.answer_print.specs.StyleView.{style_shown};
+ghost use Rattle.answer_print.specs.StyleView.{style_view};
 
 use crate::fields::{Fields, push_optional, push_texts};
 use crate::style::Style;
@@ -22,7 +22,7 @@ pub fn header(
 ) -> Result<Vec<u8>, NoMemory>
     requires { Fits query.now tables.now }
     ensures { IfOk result
-        (λ text. text.items ≡ header_text query.now.query tables.now (style_shown style.now)) }
+        (λ text. text.items ≡ header_text query.now.query tables.now (style_view style.now)) }
 {
     let titles = number_titles(alloc, query, style)?;
     let mut fields = Fields::new(alloc);
@@ -35,7 +35,7 @@ pub fn header(
 /// The title above the cursors' names, if a cursor is named.
 pub fn title_of_cursor<'a>(style: &Style<'_>) -> Option<&'a [u8]>
     ensures { optional_field (option_map (λ f. f.now) result)
-        ≡ cursor_title (style_shown style.now) }
+        ≡ cursor_title (style_view style.now) }
 {
     match style.cursor {
         None => None,

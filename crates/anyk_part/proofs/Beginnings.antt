@@ -20,7 +20,7 @@ use Rattle.tdp_model.proofs.Sums.{none_add}
 use Rattle.tdp_model.proofs.TreeStaged.{bound_parts, other_of}
 use Rattle.tdp_model.proofs.Begin.{part_begins, ranking_of_root}
 use Rattle.tdp_model.proofs.Enumeration.{group_ranking, group_keys}
-use Rattle.tdp_core.specs.TreeData.{NodeData, node_at, parent, rows, members, group_count, group, rank, best, item, number}
+use Rattle.tdp_core.specs.TreeView.{NodeView, node_at, parent, rows, members, group_count, group, rank, best, item, number}
 use Rattle.tdp_core.specs.WellFormed.{IsFormed, IsTieFreeTree}
 use Rattle.tdp_core.specs.Solutions.{IsTreeRanking}
 use Rattle.tdp_core.proofs.TreeFacts.{tie_free_of, member_is_row}
@@ -36,7 +36,7 @@ use Rattle.anyk_part.proofs.LiveTrees.{tree, staged}
 abbrev pub first_entry : {R : Type 0} → R → Entry R Candidate
 first_entry r = record { rank = r; tag = record { position = 0; place = 0; before = None } }
 
-module _ {R : Type 0} (d : ℕ) (key : R → KeyOf d 16) (t : List (NodeData R)) (formed : IsFormed d key t) (live : 0 < group_count t 0) where
+module _ {R : Type 0} (d : ℕ) (key : R → KeyOf d 16) (t : List (NodeView R)) (formed : IsFormed d key t) (live : 0 < group_count t 0) where
   abbrev pub K : Type 0
   K = KeyOf d 16
 
@@ -132,7 +132,7 @@ none_completes members (suc m) (r ∷ rest) l dead p =
     let both : (0 < stands r (members [])) × (0 < completes members m (r ∷ []) rest) = times_pos _ _ p in
     omega (arith, dead, stands_place r (members []) both.0)
 
-module _ {R : Type 0} (d : ℕ) (key : R → KeyOf d 16) (t : List (NodeData R)) (formed : IsFormed d key t) (dead : group_count t 0 ≤ 0) where
+module _ {R : Type 0} (d : ℕ) (key : R → KeyOf d 16) (t : List (NodeView R)) (formed : IsFormed d key t) (dead : group_count t 0 ≤ 0) where
   nothing_left : rest_keys d key t [] ≡ []
   unfolding held_solutions ranked
   nothing_left = refl

@@ -8,7 +8,7 @@ use Rattle.tdp_model.specs.KeyTuple.{KeyOf, key_below}
 use Rattle.tdp_model.specs.Remains.{AtMost, Remains}
 use Rattle.tdp_model.specs.Regions.{Region, in_region, in_regions}
 use Rattle.tdp_model.specs.Queue.{rank_of}
-use Rattle.tdp_core.specs.TreeData.{NodeData, group_count}
+use Rattle.tdp_core.specs.TreeView.{NodeView, group_count}
 use Rattle.tdp_core.specs.WellFormed.{IsFormed}
 use Rattle.anyk_part.specs.declared.candidate.Link.{Link}
 use Rattle.anyk_part.specs.declared.candidate.Candidate.{Candidate}
@@ -17,7 +17,7 @@ use Rattle.anyk_part.specs.Regions.{followers, least, region_of, regions_of, can
 use Rattle.anyk_part.proofs.Queues.{all_open, one_open, regions_seen}
 use Rattle.anyk_part.proofs.WholeSolutions.{remains_by, least_whole, all_whole, best_had, none_below}
 
-module _ {R : Type 0} (d : ℕ) (key : R → KeyOf d 16) (t : List (NodeData R)) (links : List (Linked Link)) where
+module _ {R : Type 0} (d : ℕ) (key : R → KeyOf d 16) (t : List (NodeView R)) (links : List (Linked Link)) where
   whole : (es : List (Entry R Candidate)) → IsFormed d key t → (0 < length es → 0 < group_count t 0) → All (IsEntry d key t links) es → (s : List ℕ) → 0 < in_regions (followers t) (regions_of links (length t) es) s
       → least d key t s ≡ key_of_rows d key t s
   unfolding in_regions

@@ -10,7 +10,7 @@ use Rattle.stream_store.specs.declared.entry.Linked.{Linked}
 use Rattle.take2_heap.specs.declared.entry.Entry.{Entry}
 use Rattle.tdp_model.specs.KeyTuple.{KeyOf}
 use Rattle.tdp_model.specs.Regions.{in_region, in_regions, completion, deviations, opening, best_of, divided}
-use Rattle.tdp_core.specs.TreeData.{NodeData}
+use Rattle.tdp_core.specs.TreeView.{NodeView}
 use Rattle.anyk_part.specs.declared.candidate.Link.{Link}
 use Rattle.anyk_part.specs.declared.candidate.Candidate.{Candidate}
 use Rattle.anyk_part.specs.declared.candidate.Choice.{Choice}
@@ -61,7 +61,7 @@ stands_no : (b : Bool) (n : ℕ) → b ≡ false → cond {A = ℕ} b 0 n ≡ n
 stands_no true n e = absurd (false≢true (sym e))
 stands_no false n e = refl
 
-module _ {R : Type 0} (d : ℕ) (key : R → KeyOf d 16) (t : List (NodeData R)) where
+module _ {R : Type 0} (d : ℕ) (key : R → KeyOf d 16) (t : List (NodeView R)) where
   pub division_init : (start : Walk) (links : List (Linked Link)) (before : List (Entry R Candidate)) → start.node < length t → start.top_stands ≡ true → All (IsEntry d key t links) before
       → IsDivision d key t start links before start links before
   unfolding best_of best_from divided divided_from opening

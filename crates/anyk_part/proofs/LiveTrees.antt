@@ -5,12 +5,12 @@ use Rattle.tdp_model.specs.StagedProblem.{IsStaged}
 use Rattle.tdp_model.specs.TreeProblem.{IsTree}
 use Rattle.tdp_model.proofs.KeyTuples.{tuple_keys}
 use Rattle.tdp_model.proofs.TreeStaged.{other_of, tree_staged}
-use Rattle.tdp_core.specs.TreeData.{NodeData, parent, rows, group_count, group, rank, best}
+use Rattle.tdp_core.specs.TreeView.{NodeView, parent, rows, group_count, group, rank, best}
 use Rattle.tdp_core.specs.WellFormed.{IsFormed}
 use Rattle.tdp_core.proofs.TreeFacts.{tree_of}
 use Rattle.anyk_part.specs.Regions.{followers, Reached, least}
 
-module _ {R : Type 0} (d : ℕ) (key : R → KeyOf d 16) (t : List (NodeData R)) (formed : IsFormed d key t) (live : 0 < group_count t 0) where
+module _ {R : Type 0} (d : ℕ) (key : R → KeyOf d 16) (t : List (NodeView R)) (formed : IsFormed d key t) (live : 0 < group_count t 0) where
   abbrev pub tree : IsTree (KeyOf d 16) (key_below d 16) (key_add d 16) (key_none d 16) (length t) (parent t) (rank t d key) (group t) (best t d key) (λ v r. r < rows t v)
   tree = tree_of d key t formed live
 

@@ -11,8 +11,8 @@ use Rattle.rankings.specs.Order.{ranked}
 use Rattle.tdp_model.specs.KeyTuple.{KeyOf}
 use Rattle.tdp_model.specs.KeyNumbers.{numbers}
 use Rattle.tdp_model.specs.Regions.{in_regions, divided, best_of}
-use Rattle.tdp_core.specs.SeenAnswers.{rows_of_key, answers_of}
-use Rattle.tdp_core.specs.TreeData.{NodeData}
+use Rattle.tdp_core.specs.AnswerView.{rows_of_key, answers_of}
+use Rattle.tdp_core.specs.TreeView.{NodeView}
 use Rattle.anyk_part.specs.declared.candidate.Link.{Link}
 use Rattle.anyk_part.specs.declared.candidate.Candidate.{Candidate}
 use Rattle.tdp_core.specs.Shares.{most_steps}
@@ -35,7 +35,7 @@ few_next n n' m calls calls' some few h limit more is = elim (cases_lt (calls + 
       omega (arith, product, some, few, limit, more)
 ]
 
-module _ {R : Type 0} (d : ℕ) (key : R → KeyOf d 16) (t : List (NodeData R)) (links links1 : List (Linked Link)) (entries entries1 : List (Entry R Candidate)) (calls : ℕ) (r : R) (tag : Candidate)
+module _ {R : Type 0} (d : ℕ) (key : R → KeyOf d 16) (t : List (NodeView R)) (links links1 : List (Linked Link)) (entries entries1 : List (Entry R Candidate)) (calls : ℕ) (r : R) (tag : Candidate)
     (same_links : links1 ≡ links) (same_entries : entries1 ≡ entries) (part : IsPart d key t links entries calls) (some : 0 < length entries) (top : (e : Entry R Candidate) → get_or entries 0 e ≡ record { rank = r; tag = tag }) where
   -- the queue's top, whose division is at hand
   abbrev first : Entry R Candidate
@@ -63,7 +63,7 @@ module _ {R : Type 0} (d : ℕ) (key : R → KeyOf d 16) (t : List (NodeData R))
       ∙ sym top_entry.ranked
 
 -- the answers that are seen before and after
-pub answer_found : {R : Type 0} (d : ℕ) (key : R → KeyOf d 16) (t : List (NodeData R)) (links links' : List (Linked Link)) (entries entries' : List (Entry R Candidate)) (r : R) (rows : List ℕ)
+pub answer_found : {R : Type 0} (d : ℕ) (key : R → KeyOf d 16) (t : List (NodeView R)) (links links' : List (Linked Link)) (entries entries' : List (Entry R Candidate)) (r : R) (rows : List ℕ)
     → rest_keys d key t (regions_of links (length t) entries) ≡ key r ∷ rest_keys d key t (regions_of links' (length t) entries') → rows ≡ rows_of_key d 16 (key r)
     → rest_of d key t (candidates_of links (length t) entries) ≡ record { rows = rows; key = numbers d 16 (key r) } ∷ rest_of d key t (candidates_of links' (length t) entries')
 answer_found d key t links links' entries entries' r rows e is =
@@ -73,7 +73,7 @@ answer_found d key t links links' entries entries' r rows e is =
     ∙ ap (λ rs. record { rows = rows; key = numbers d 16 (key r) } ∷ answers_of d (rest_keys d key t rs)) (sym (regions_seen links' (length t) entries'))
 
 -- no answer is left where the queue is empty
-pub answers_end : {R : Type 0} (d : ℕ) (key : R → KeyOf d 16) (t : List (NodeData R)) (links : List (Linked Link)) (entries : List (Entry R Candidate)) → length entries ≤ 0 → rest_of d key t (candidates_of links (length t) entries) ≡ []
+pub answers_end : {R : Type 0} (d : ℕ) (key : R → KeyOf d 16) (t : List (NodeView R)) (links : List (Linked Link)) (entries : List (Entry R Candidate)) → length entries ≤ 0 → rest_of d key t (candidates_of links (length t) entries) ≡ []
 unfolding held_solutions ranked
 answers_end d key t links [] empty = refl
 answers_end d key t links (e ∷ es) empty = absurd (omega arith)

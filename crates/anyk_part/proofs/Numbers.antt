@@ -6,10 +6,10 @@ use Rattle.std.proofs.lemmas.List.{get_or-take, length-take, get_or-set_same, ge
 use Rattle.tdp_model.specs.KeyTuple.{KeyOf, key_add, key_none, slot_of}
 use Rattle.tdp_model.specs.TreeProblem.{rows_key}
 use Rattle.tdp_model.proofs.Ties.{slot_key, slot_zero}
-use Rattle.tdp_core.specs.SeenAnswers.{rows_of_key}
-use Rattle.tdp_core.specs.TreeData.{NodeData, parent, item, rows, number, group, rank}
+use Rattle.tdp_core.specs.AnswerView.{rows_of_key}
+use Rattle.tdp_core.specs.TreeView.{NodeView, parent, item, rows, number, group, rank}
 use Rattle.tdp_core.specs.WellFormed.{IsFormed, IsTieFreeTree}
-use Rattle.tdp_core.proofs.SeenFacts.{rows_of_key_length, rows_of_key_at}
+use Rattle.tdp_core.proofs.AnswerFacts.{rows_of_key_length, rows_of_key_at}
 use Rattle.tdp_core.proofs.TreeFacts.{tie_free_of}
 
 pub same_places : (xs ys : List ℕ) → length xs ≡ length ys → ((i : ℕ) → i < length xs → get_or xs i 0 ≡ get_or ys i 0) → xs ≡ ys
@@ -40,7 +40,7 @@ module _ (m : ℕ) (item : ℕ → ℕ) (number : ℕ → ℕ) (below : (v : ℕ
   pub others_next : ((i : ℕ) → ((u : ℕ) → u < n → i ≢ item u) → get_or numbers i 0 ≡ 0) → (i : ℕ) → ((u : ℕ) → u < n + 1 → i ≢ item u) → get_or (set numbers (item n) (number n)) i 0 ≡ 0
   others_next others i no_one = get_or-set_other numbers (item n) i (number n) 0 (no_one n (omega arith)) ∙ others i (λ u h. no_one u (omega arith))
 
-module _ {R : Type 0} (d : ℕ) (key : R → KeyOf d 16) (t : List (NodeData R)) (formed : IsFormed d key t) (apart : IsTieFreeTree t) where
+module _ {R : Type 0} (d : ℕ) (key : R → KeyOf d 16) (t : List (NodeView R)) (formed : IsFormed d key t) (apart : IsTieFreeTree t) where
   pub numbers_are : (numbers chosen : List ℕ) → length numbers ≡ 16 → length chosen ≡ 16 → ((q : ℕ) → q < length t → get_or chosen q 0 < rows t q)
       → ((u : ℕ) → u < length t → get_or numbers (item t u) 0 ≡ number t u (get_or chosen u 0)) → ((i : ℕ) → ((u : ℕ) → u < length t → i ≢ item t u) → get_or numbers i 0 ≡ 0)
       → numbers ≡ rows_of_key d 16 (rows_key (key_add d 16) (key_none d 16) (rank t d key) (take (length t) chosen))

@@ -14,7 +14,7 @@ use Rattle.tdp_model.proofs.KeyTuples.{tuple_keys}
 use Rattle.tdp_model.proofs.KeyNumbers.{not_less_at_most}
 use Rattle.tdp_model.proofs.Removal.{Remains-same}
 use Rattle.tdp_model.proofs.PartNext.{part_keeps, in_regions_append, present_same}
-use Rattle.tdp_core.specs.TreeData.{NodeData, group_count}
+use Rattle.tdp_core.specs.TreeView.{NodeView, group_count}
 use Rattle.tdp_core.specs.WellFormed.{IsFormed}
 use Rattle.anyk_part.specs.declared.candidate.Link.{Link}
 use Rattle.anyk_part.specs.declared.candidate.Candidate.{Candidate}
@@ -28,7 +28,7 @@ pub regions_seen : {R : Type 0} (links : List (Linked Link)) (m : ℕ) (es : Lis
 regions_seen links m [] = refl
 regions_seen links m (e ∷ es) = ap (λ rs. region_of links m e.tag ∷ rs) (regions_seen links m es)
 
-module _ {R : Type 0} (d : ℕ) (key : R → KeyOf d 16) (t : List (NodeData R)) (links : List (Linked Link)) where
+module _ {R : Type 0} (d : ℕ) (key : R → KeyOf d 16) (t : List (NodeView R)) (links : List (Linked Link)) where
   -- the regions of the entries count what the entries hold
   pub regions_held : (es : List (Entry R Candidate)) (s : List ℕ) → in_regions (followers t) (regions_of links (length t) es) s ≡ held_by t links es s
   unfolding in_regions
@@ -98,7 +98,7 @@ pub first_and_rest : {X : Type 0} (xs : List X) (x : X) → 0 < length xs → x 
 first_and_rest [] x p e = absurd (omega arith)
 first_and_rest (y ∷ ys) x p e = (ys, ap (λ z. z ∷ ys) (sym e))
 
-module _ {R : Type 0} (d : ℕ) (key : R → KeyOf d 16) (t : List (NodeData R)) where
+module _ {R : Type 0} (d : ℕ) (key : R → KeyOf d 16) (t : List (NodeView R)) where
   pub part_next : (links links' : List (Linked Link)) (entries entries' : List (Entry R Candidate)) (calls calls' : ℕ) (e : Entry R Candidate) → IsPart d key t links entries calls
       → 0 < length entries → e ≡ get_or entries 0 e → heaps.IsLeast d key e entries
       → ((s : List ℕ) → in_regions (followers t) (divided (followers t) (region_of links (length t) e.tag)) s + held_by t links entries s ≡ held_by t links (take 1 entries) s + held_by t links' entries' s)

@@ -12,7 +12,7 @@ use Rattle.tdp_model.specs.KeyTuple.{KeyOf, key_below, key_add, key_none}
 use Rattle.tdp_model.specs.Regions.{in_region, opening}
 use Rattle.tdp_model.proofs.KeyTuples.{tuple_keys}
 use Rattle.tdp_model.proofs.TreeStaged.{bound_parts}
-use Rattle.tdp_core.specs.TreeData.{NodeData, parent, rows, members, group, rank, best}
+use Rattle.tdp_core.specs.TreeView.{NodeView, parent, rows, members, group, rank, best}
 use Rattle.tdp_core.proofs.TreeFacts as facts
 use Rattle.anyk_part.specs.declared.candidate.Link.{Link}
 use Rattle.anyk_part.specs.declared.candidate.Candidate.{Candidate}
@@ -27,7 +27,7 @@ pub sum_by_first : {X : Type 0} (f : X → ℕ) (xs : List X) (d : X) → 0 < le
 sum_by_first f [] d h = absurd (omega arith)
 sum_by_first f (x ∷ xs) d h = omega (arith, sum_by-cons f x [])
 
-module _ {R : Type 0} (d : ℕ) (key : R → KeyOf d 16) (t : List (NodeData R)) (links : List (Linked Link)) (s : Site R) (h : IsSite d key t links s) where
+module _ {R : Type 0} (d : ℕ) (key : R → KeyOf d 16) (t : List (NodeView R)) (links : List (Linked Link)) (s : Site R) (h : IsSite d key t links s) where
   abbrev pub prefix : List ℕ
   prefix = chain links s.node s.before
 
@@ -115,7 +115,7 @@ pub length_put : {X : Type 0} (stands : Bool) (e : X) (old new : List X) → (st
 length_put true e old new a b = omega (arith, length_permutation (e ∷ old) (get_or old 0 e ∷ new) (a refl))
 length_put false e old new a b = omega (arith, length_permutation (e ∷ old) new (b refl))
 
-module _ {R : Type 0} (d : ℕ) (key : R → KeyOf d 16) (t : List (NodeData R)) (links : List (Linked Link)) (s : Site R) (h : IsSite d key t links s) where
+module _ {R : Type 0} (d : ℕ) (key : R → KeyOf d 16) (t : List (NodeView R)) (links : List (Linked Link)) (s : Site R) (h : IsSite d key t links s) where
   pub held_put : (stands : Bool) (r : R) (place : ℕ) (old new : List (Entry R Candidate)) → (stands ≡ true → 0 < length old)
       → (stands ≡ true → IsPermutation (entry_at d key t links s h r place ∷ old) (get_or old 0 (entry_at d key t links s h r place) ∷ new)) → (stands ≡ false → IsPermutation (entry_at d key t links s h r place ∷ old) new)
       → (u : List ℕ) → in_region (followers t) (region_at t (prefix d key t links s h) place) u + held_by t links old u ≡ cond stands (held_by t links (take 1 old) u) 0 + held_by t links new u

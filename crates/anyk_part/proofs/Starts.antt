@@ -4,7 +4,7 @@ use Rattle.stream_store.specs.declared.entry.Linked.{Linked}
 use Rattle.take2_heap.specs.declared.entry.Entry.{Entry}
 use Rattle.tdp_model.specs.KeyTuple.{KeyOf}
 use Rattle.tdp_model.specs.Regions.{opening}
-use Rattle.tdp_core.specs.TreeData.{NodeData, group_count}
+use Rattle.tdp_core.specs.TreeView.{NodeView, group_count}
 use Rattle.tdp_core.specs.WellFormed.{IsFormed}
 use Rattle.anyk_part.specs.declared.candidate.Link.{Link}
 use Rattle.anyk_part.specs.declared.candidate.Candidate.{Candidate}
@@ -17,7 +17,7 @@ use Rattle.anyk_part.specs.Walks.{IsAt}
 abbrev pub entry_of : {R : Type 0} → R → Walk → Entry R Candidate
 entry_of r w = record { rank = r; tag = record { position = w.node; place = w.place; before = w.before } }
 
-module _ {R : Type 0} (d : ℕ) (key : R → KeyOf d 16) (t : List (NodeData R)) (links : List (Linked Link)) where
+module _ {R : Type 0} (d : ℕ) (key : R → KeyOf d 16) (t : List (NodeView R)) (links : List (Linked Link)) where
   pub starts_at : (r : R) (w : Walk) (chosen : List ℕ) → IsFormed d key t → 0 < group_count t 0 → IsEntry d key t links (entry_of r w) → length chosen ≡ 16 → take w.node chosen ≡ chain links w.node w.before
       → IsAt d key t r w chosen links
   unfolding opening

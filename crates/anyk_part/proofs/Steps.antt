@@ -12,7 +12,7 @@ use Rattle.take2_heap.specs.declared.entry.Entry.{Entry}
 use Rattle.tdp_model.specs.KeyTuple.{KeyOf, key_below}
 use Rattle.tdp_model.specs.StagedProblem.{IsStaged}
 use Rattle.tdp_model.specs.Regions.{in_region, opening}
-use Rattle.tdp_core.specs.TreeData.{NodeData, parent, rows, members, group_number, group_named, child_place, group, best}
+use Rattle.tdp_core.specs.TreeView.{NodeView, parent, rows, members, group_number, group_named, child_place, group, best}
 use Rattle.tdp_core.proofs.TreeFacts.{member_is_row, rows_within, group_rows_within}
 use Rattle.anyk_part.specs.declared.candidate.Link.{Link}
 use Rattle.anyk_part.specs.declared.candidate.Candidate.{Candidate}
@@ -27,7 +27,7 @@ use Rattle.tdp_model.proofs.PartNext.{none_past}
 
 -- # Entries and a growing store
 
-pub entry_kept : {R : Type 0} (d : ℕ) (key : R → KeyOf d 16) (t : List (NodeData R)) (links more : List (Linked Link)) (e : Entry R Candidate) → IsEntry d key t links e → IsEntry d key t (links ++ more) e
+pub entry_kept : {R : Type 0} (d : ℕ) (key : R → KeyOf d 16) (t : List (NodeView R)) (links more : List (Linked Link)) (e : Entry R Candidate) → IsEntry d key t links e → IsEntry d key t (links ++ more) e
 unfolding opening
 entry_kept d key t links more e h =
     let same : chain (links ++ more) e.tag.position e.tag.before ≡ chain links e.tag.position e.tag.before = chain_kept links more e.tag.position e.tag.before h.chained in
@@ -39,7 +39,7 @@ entry_kept d key t links more e h =
       ranked = h.ranked ∙ ap (λ p. least d key t (p ++ (get_or (followers t p) e.tag.place 0 ∷ []))) (sym same);
     }
 
-pub held_kept : {R : Type 0} (d : ℕ) (key : R → KeyOf d 16) (t : List (NodeData R)) (links more : List (Linked Link)) (es : List (Entry R Candidate)) → All (IsEntry d key t links) es → (u : List ℕ)
+pub held_kept : {R : Type 0} (d : ℕ) (key : R → KeyOf d 16) (t : List (NodeView R)) (links more : List (Linked Link)) (es : List (Entry R Candidate)) → All (IsEntry d key t links) es → (u : List ℕ)
     → held_by t (links ++ more) es u ≡ held_by t links es u
 held_kept d key t links more [] all u = refl
 held_kept d key t links more (e ∷ es) all u =
@@ -74,7 +74,7 @@ pub put_twice : (stood : Bool) (i j old top mid new : ℕ) → i + old ≡ cond 
 put_twice true i j old top mid new a b = omega (arith, a, b)
 put_twice false i j old top mid new a b = omega (arith, a, b)
 
-module _ {R : Type 0} (d : ℕ) (key : R → KeyOf d 16) (t : List (NodeData R)) (whole : R) (w : Walk) (chosen : List ℕ) (links : List (Linked Link)) (h : IsAt d key t whole w chosen links) (l : w.node < length t) where
+module _ {R : Type 0} (d : ℕ) (key : R → KeyOf d 16) (t : List (NodeView R)) (whole : R) (w : Walk) (chosen : List ℕ) (links : List (Linked Link)) (h : IsAt d key t whole w chosen links) (l : w.node < length t) where
   abbrev pub so_far : List ℕ
   so_far = chain links w.node w.before
 
@@ -195,7 +195,7 @@ module _ {R : Type 0} (d : ℕ) (key : R → KeyOf d 16) (t : List (NodeData R))
 
 -- # A choice, and the link that follows it
 
-module _ {R : Type 0} (d : ℕ) (key : R → KeyOf d 16) (t : List (NodeData R)) (w : Walk) (links more grown : List (Linked Link)) (chosen : List ℕ) (before : List (Entry R Candidate)) (c : Choice)
+module _ {R : Type 0} (d : ℕ) (key : R → KeyOf d 16) (t : List (NodeView R)) (w : Walk) (links more grown : List (Linked Link)) (chosen : List ℕ) (before : List (Entry R Candidate)) (c : Choice)
     (rows : List ℕ) (entries : List (Entry R Candidate)) (h : IsChoice d key t w links chosen before c rows entries) (is : grown ≡ links ++ more) where
   pub entries_after : All (IsEntry d key t grown) entries
   entries_after = λ k e l. subst (λ ls. IsEntry d key t ls (get_or entries k e)) (sym is) (entry_kept d key t links more (get_or entries k e) (h.each k e l))

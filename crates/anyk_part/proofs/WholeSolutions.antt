@@ -14,7 +14,7 @@ use Rattle.tdp_model.proofs.Division.{past_found, times_pos, exactly_at}
 use Rattle.tdp_model.proofs.Least.{region_least, best_bound}
 use Rattle.tdp_model.proofs.Ties.{completes_length}
 use Rattle.tdp_model.proofs.TreeStaged.{bound_whole}
-use Rattle.tdp_core.specs.TreeData.{NodeData, parent, rows, group_count, group, rank, best}
+use Rattle.tdp_core.specs.TreeView.{NodeView, parent, rows, group_count, group, rank, best}
 use Rattle.tdp_core.specs.WellFormed.{IsFormed}
 use Rattle.anyk_part.specs.Regions.{followers, Reached, least}
 use Rattle.anyk_part.specs.Candidates.{key_of_rows}
@@ -43,7 +43,7 @@ remains_by {X} {K} Below key other count ks is h = record {
   sound = λ k m. let f : (x : X) × (0 < count x) × (key x ≡ k) = h.sound k m in (f.0, f.1, sym (is f.0 f.1) ∙ f.2);
 }
 
-module _ {R : Type 0} (d : ℕ) (key : R → KeyOf d 16) (t : List (NodeData R)) (formed : IsFormed d key t) (live : 0 < group_count t 0) where
+module _ {R : Type 0} (d : ℕ) (key : R → KeyOf d 16) (t : List (NodeView R)) (formed : IsFormed d key t) (live : 0 < group_count t 0) where
   -- the bound of a list with a row for each node is the sum of the rows' keys
   pub least_whole : (s : List ℕ) → length s ≡ length t → least d key t s ≡ key_of_rows d key t s
   least_whole s e =

@@ -4,10 +4,10 @@ use Rattle.tdp_model.specs.KeyTuple.{KeyOf, key_below, key_add, key_none}
 use Rattle.tdp_model.specs.Regions.{in_region, in_regions}
 use Rattle.tdp_model.specs.Remains.{AtMost, Remains}
 use Rattle.tdp_model.specs.TreeProblem.{rows_key}
-use Rattle.tdp_core.specs.TreeData.{NodeData, rank}
+use Rattle.tdp_core.specs.TreeView.{NodeView, rank}
 use Rattle.anyk_part.specs.Regions.{RankedRegion, regions, followers, rest_keys}
 
-module _ {R : Type 0} (d : ℕ) (key : R → KeyOf d 16) (t : List (NodeData R)) where
+module _ {R : Type 0} (d : ℕ) (key : R → KeyOf d 16) (t : List (NodeView R)) where
   -- the key of a solution: the sum of its rows' keys
   abbrev pub key_of_rows : List ℕ → KeyOf d 16
   key_of_rows = rows_key (key_add d 16) (key_none d 16) (rank t d key)

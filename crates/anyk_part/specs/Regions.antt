@@ -9,8 +9,8 @@ use Rattle.tdp_model.specs.TreeProblem.{rows_after, bound_of, IsReached}
 use Rattle.tdp_model.specs.Queue.{rank_of}
 use Rattle.tdp_model.specs.Remains.{Remains}
 use Rattle.tdp_model.proofs.KeyTuples.{tuple_keys}
-use Rattle.tdp_core.specs.SeenAnswers.{Seen, answers_of}
-use Rattle.tdp_core.specs.TreeData.{NodeData, parent, rows, group, group_count, rank, best}
+use Rattle.tdp_core.specs.AnswerView.{AnswerView, answers_of}
+use Rattle.tdp_core.specs.TreeView.{NodeView, parent, rows, group, group_count, rank, best}
 use Rattle.tdp_core.specs.WellFormed.{IsFormed, IsTieFreeTree}
 use Rattle.anyk_part.specs.declared.candidate.Link.{Link}
 use Rattle.anyk_part.specs.declared.candidate.Candidate.{Candidate}
@@ -23,8 +23,8 @@ pub record RankedRegion (R : Type 0) : Type 0 where
   pub rank : R
 
 -- what an engine by regions is to its callers: the tree, the candidates in heap order, and the number of calls so far
-pub record PartState (R : Type 0) : Type 0 where
-  pub tree : List (NodeData R)
+pub record PartView (R : Type 0) : Type 0 where
+  pub tree : List (NodeView R)
   pub candidates : List (RankedRegion R)
   pub calls : ℕ
 
@@ -49,24 +49,24 @@ module _ {R : Type 0} where
   regions cs = map (λ c. c.region) cs
 
   -- the rows that may follow the rows `pre`
-  abbrev pub followers : List (NodeData R) → List ℕ → List ℕ
+  abbrev pub followers : List (NodeView R) → List ℕ → List ℕ
   followers t = rows_after (parent t) (group t)
 
   -- n rows more make the rows `pre` one row for each node
-  abbrev pub Reached : List (NodeData R) → ℕ → List ℕ → Type 0
+  abbrev pub Reached : List (NodeView R) → ℕ → List ℕ → Type 0
   Reached t = IsReached (length t) (λ v r. r < rows t v)
 
   -- the region of the solutions that begin with the rows, and whose next row is in the subtree of a place
-  abbrev pub region_at : List (NodeData R) → List ℕ → ℕ → Region
+  abbrev pub region_at : List (NodeView R) → List ℕ → ℕ → Region
   region_at t pre place = record { chosen = pre; place = place; left = length t - suc (length pre) }
 
   -- how many of the entries hold the solution
-  abbrev pub held_by : List (NodeData R) → List (Linked Link) → List (Entry R Candidate) → List ℕ
+  abbrev pub held_by : List (NodeView R) → List (Linked Link) → List (Entry R Candidate) → List ℕ
       → ℕ
   held_by t links es s = sum_by
       (λ e. in_region (followers t) (region_of links (length t) e.tag) s) es
 
-  module _ (d : ℕ) (key : R → KeyOf d 16) (t : List (NodeData R)) where
+  module _ (d : ℕ) (key : R → KeyOf d 16) (t : List (NodeView R)) where
     -- the least key of the solutions that begin with the rows
     abbrev pub least : List ℕ → KeyOf d 16
     least = bound_of (key_add d 16) (key_none d 16) (length t) (parent t) (rank t d key) (group t)
@@ -77,7 +77,7 @@ module _ {R : Type 0} where
     rest_keys rs = ranking_of (key_below d 16) (tuple_keys d 16).order (followers t) least rs
 
     -- the answers that the candidates hold
-    abbrev pub rest_of : List (RankedRegion R) → List Seen
+    abbrev pub rest_of : List (RankedRegion R) → List AnswerView
     rest_of cs = answers_of d (rest_keys (regions cs))
 
     -- An entry of the queue: its links are in the store, its place is one of its group, and its rank is the least key of its region.

@@ -5,7 +5,7 @@ use Rattle.stream_store.specs.declared.entry.Linked.{Linked}
 use Rattle.take2_heap.specs.declared.entry.Entry.{Entry}
 use Rattle.tdp_model.specs.KeyTuple.{KeyOf}
 use Rattle.tdp_model.specs.Regions.{Region, in_region, in_regions, completion, deviations, best_of, divided}
-use Rattle.tdp_core.specs.TreeData.{NodeData, parent, rows, group_count, group_number, best}
+use Rattle.tdp_core.specs.TreeView.{NodeView, parent, rows, group_count, group_number, best}
 use Rattle.tdp_core.specs.WellFormed.{IsFormed}
 use Rattle.anyk_part.specs.declared.candidate.Link.{Link}
 use Rattle.anyk_part.specs.declared.candidate.Candidate.{Candidate}
@@ -33,7 +33,7 @@ divided_from members (suc n) pre place =
 abbrev pub gone : Bool → Bool → ℕ → ℕ
 gone stood stands n = cond stood (cond stands 0 n) 0
 
-module _ {R : Type 0} (d : ℕ) (key : R → KeyOf d 16) (t : List (NodeData R)) where
+module _ {R : Type 0} (d : ℕ) (key : R → KeyOf d 16) (t : List (NodeView R)) where
   -- what the candidates that deviate at one node share is as it says
   pub record IsSite (links : List (Linked Link)) (s : Site R) : Type 0 where
     pub formed : IsFormed d key t

@@ -5,7 +5,7 @@ ghost use Rattle.std.specs.List.Sorted.{IsPermutation};
 ghost use Rattle.take2_heap.specs.Order.{IsLeast};
 ghost use Rattle.rank_key.specs.Bits.{bit_length};
 ghost use Rattle.tdp_model.specs.Regions.{in_region, in_regions, best_of, divided};
-ghost use Rattle.tdp_core.specs.TreeData.{members};
+ghost use Rattle.tdp_core.specs.TreeView.{members};
 ghost use Rattle.anyk_part.specs.Chains.{chain, IsChain};
 ghost use Rattle.anyk_part.specs.Places.{ArePlaces};
 ghost use Rattle.anyk_part.specs.Regions.{followers, Reached, region_at, held_by, IsEntry};

@@ -3,10 +3,10 @@ ghost use Rattle.std.specs.Prelude.{◌≡◌, ℕ, ◌+◌, ◌-◌, ◌*◌, �
 ghost use Rattle.stream_store.specs.declared.entry.Linked.{Linked};
 ghost use Rattle.std.specs.List.{All};
 ghost use Rattle.tdp_model.specs.KeyTuple.{KeyOf};
-ghost use Rattle.tdp_core.specs.TreeData.{group_count, row_count};
+ghost use Rattle.tdp_core.specs.TreeView.{group_count, row_count};
 ghost use Rattle.tdp_core.specs.WellFormed.{IsTieFreeTree};
 ghost use Rattle.tdp_core.specs.Solutions.{IsTreeRanking};
-ghost use Rattle.tdp_core.specs.SeenAnswers.{answers_of};
+ghost use Rattle.tdp_core.specs.AnswerView.{answers_of};
 ghost use Rattle.tdp_core.specs.Shares.{most_steps, share_of, size_of};
 ghost use Rattle.tdp_core.specs.RisingShares.{shares_rise, at_most_itself};
 ghost use Rattle.anyk_part.specs.Regions.{rest_of, rest_keys, regions_of, IsPart};
@@ -43,9 +43,9 @@ pub struct Part<'t, R: Rank, A: Allocator + Clone> {
 impl<'t, R: Rank, A: Allocator + Clone> Model for Part<'t, R, A> {
     ghost use Rattle.std.specs.Prelude.{length};
     ghost use Rattle.anyk_part.specs.Places.{ArePlaces};
-    ghost use Rattle.anyk_part.specs.Regions.{PartState, candidates_of, IsPart};
+    ghost use Rattle.anyk_part.specs.Regions.{PartView, candidates_of, IsPart};
 
-    ghost Value = { PartState R };
+    ghost Value = { PartView R };
 
     ghost view = { λ s. record {
       tree = s.tree.now;

@@ -2,8 +2,8 @@
 ghost use Rattle.std.specs.Prelude.{◌≡◌, ℕ, ◌+◌, ◌<◌, ◌≤◌, length, take, slice_index};
 ghost use Rattle.tdp_model.specs.KeyTuple.{key_add, key_none};
 ghost use Rattle.tdp_model.specs.TreeProblem.{rows_key};
-ghost use Rattle.tdp_core.specs.SeenAnswers.{rows_of_key};
-ghost use Rattle.tdp_core.specs.TreeData.{parent, rows, rank, group_number};
+ghost use Rattle.tdp_core.specs.AnswerView.{rows_of_key};
+ghost use Rattle.tdp_core.specs.TreeView.{parent, rows, rank, group_number};
 ghost use Rattle.tdp_core.specs.WellFormed.{IsFormed, IsTieFreeTree};
 ghost use Rattle.anyk_part.specs.Places.{ArePlaces};
 

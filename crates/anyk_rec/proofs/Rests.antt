@@ -6,9 +6,9 @@ use Rattle.rank_key.proofs.BitLemmas.{bit_length_rises, bit_length_below}
 use Rattle.tdp_model.specs.KeyTuple.{KeyOf, key_none}
 use Rattle.tdp_model.specs.KeyNumbers.{numbers}
 use Rattle.tdp_core.specs.declared.ranked.Answer.{Answer}
-use Rattle.tdp_core.specs.SeenAnswers.{Seen, rows_of_key, answers_of, answer_of}
+use Rattle.tdp_core.specs.AnswerView.{AnswerView, rows_of_key, answers_of, answer_of}
 use Rattle.tdp_core.specs.Shares.{size_of, share_of}
-use Rattle.tdp_core.specs.TreeData.{NodeData, group_count, row_count}
+use Rattle.tdp_core.specs.TreeView.{NodeView, group_count, row_count}
 use Rattle.tdp_core.specs.WellFormed.{IsFormed, IsTieFreeTree}
 use Rattle.tdp_core.specs.Solutions.{IsTreeRanking}
 use Rattle.suffix_streams.specs.Rankings.{group_list}
@@ -51,7 +51,7 @@ module _ {R : Type 0} (d : ℕ) (key : R → KeyOf d 16) where
       ∙ ap (λ t. answer_of d k ∷ answers_of d (drop r'.given (group_list d key t 0 0))) (sym t)
       ∙ ap (λ rs. seen rs (numbers d 16 k) ∷ rest_of d key r') (sym rows) ∙ ap (λ z. seen a.rows (numbers d 16 z) ∷ rest_of d key r') (sym rank)
     where
-      seen : List ℕ → List ℤ → Seen
+      seen : List ℕ → List ℤ → AnswerView
       seen rs ns = record { rows = rs; key = ns }
 
   -- the key of an entry of the root's stream
@@ -63,7 +63,7 @@ module _ {R : Type 0} (d : ℕ) (key : R → KeyOf d 16) where
       ∙ ap (λ n. get_or (group_list d key s.tree 0 0) n (key_none d 16)) p
 
   -- before the first answer
-  pub rest_begins : (t : List (NodeData R)) → IsFormed d key t → IsTieFreeTree t → (r : RecView R) → r.streams.tree ≡ t → r.given ≡ 0
+  pub rest_begins : (t : List (NodeView R)) → IsFormed d key t → IsTieFreeTree t → (r : RecView R) → r.streams.tree ≡ t → r.given ≡ 0
       → (ks : List (KeyOf d 16)) × IsTreeRanking t d key ks × (rest_of d key r ≡ answers_of d ks)
   rest_begins t formed free r e g =
       (group_list d key t 0 0, root_ranks d key t formed free, ap (λ t. answers_of d (drop r.given (group_list d key t 0 0))) e ∙ ap (λ n. answers_of d (drop n (group_list d key t 0 0))) g)
@@ -86,14 +86,14 @@ some_digit n l = above (bit_length n) n l (bit_length_below n)
     above zero n l h = absurd (omega arith)
     above (suc b) n l h = omega arith
 
-live_share : {R : Type 0} (t : List (NodeData R)) (calls : ℕ) → 0 < group_count t 0 → share_of (size_of t) calls ≡ 24 * (length t * (1 + bit_length (row_count t + (calls + 1) * length t)))
+live_share : {R : Type 0} (t : List (NodeView R)) (calls : ℕ) → 0 < group_count t 0 → share_of (size_of t) calls ≡ 24 * (length t * (1 + bit_length (row_count t + (calls + 1) * length t)))
 live_share t calls l = at (group_count t 0) (24 * (length t * (1 + bit_length (row_count t + (calls + 1) * length t)))) l
   where
     at : (g x : ℕ) → 0 < g → cond (nat_lt 0 g) x 0 ≡ x
     at g x l = grind (arith, nat_tests)
 
 -- a call of the streams, and two reads of the entry, are within the bound
-pub call_within : {R : Type 0} (t : List (NodeData R)) (before calls old new : ℕ) → 1 ≤ length t → 0 < group_count t 0 → before ≤ calls
+pub call_within : {R : Type 0} (t : List (NodeView R)) (before calls old new : ℕ) → 1 ≤ length t → 0 < group_count t 0 → before ≤ calls
     → new ≤ old + 20 * length t * (1 + bit_length (row_count t + (before + 1) * length t)) → new + (4 * length t + 4) ≤ old + share_of (size_of t) calls
 call_within t before calls old new some live few cost =
     let n : ℕ = row_count t + (calls + 1) * length t in

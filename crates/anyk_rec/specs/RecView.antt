@@ -1,7 +1,7 @@
 -- The answers of a tree, as they are taken from its streams, to callers.
 use Rattle.std.specs.Prelude.{◌≡◌, ℕ, ◌+◌, ◌<◌, ◌≤◌, Bool, nat_lt, Option, Some, None, IfSome, List, length, drop}
-use Rattle.tdp_core.specs.SeenAnswers.{Seen, answers_of}
-use Rattle.tdp_core.specs.TreeData.{group_count}
+use Rattle.tdp_core.specs.AnswerView.{AnswerView, answers_of}
+use Rattle.tdp_core.specs.TreeView.{group_count}
 use Rattle.tdp_core.specs.WellFormed.{IsFormed}
 use Rattle.tdp_model.specs.KeyTuple.{KeyOf}
 use Rattle.suffix_streams.specs.Rankings.{group_list}
@@ -14,7 +14,7 @@ pub record RecView (R : Type 0) : Type 0 where
   pub calls : ℕ
 
 -- the members of the root's ranking that were not given yet, as answers
-abbrev pub rest_of : {R : Type 0} (d : ℕ) (key : R → KeyOf d 16) → RecView R → List Seen
+abbrev pub rest_of : {R : Type 0} (d : ℕ) (key : R → KeyOf d 16) → RecView R → List AnswerView
 rest_of d key r = answers_of d (drop r.given (group_list d key r.streams.tree 0 0))
 
 -- an entry of the root's stream

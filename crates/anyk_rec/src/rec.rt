@@ -3,10 +3,10 @@ ghost use Rattle.std.specs.Prelude.{◌≡◌, ℕ, ◌+◌, ◌*◌, ◌^◌, �
 ghost use Rattle.rank_key.specs.Bits.{bit_length};
 ghost use Rattle.tdp_model.specs.KeyTuple.{KeyOf};
 ghost use Rattle.tdp_model.specs.KeyNumbers.{numbers};
-ghost use Rattle.tdp_core.specs.SeenAnswers.{answers_of, counted};
+ghost use Rattle.tdp_core.specs.AnswerView.{answers_of, counted};
 ghost use Rattle.tdp_core.specs.Shares.{size_of, share_of};
 ghost use Rattle.tdp_core.specs.RisingShares.{shares_rise, at_most_itself};
-ghost use Rattle.tdp_core.specs.TreeData.{group_count, row_count};
+ghost use Rattle.tdp_core.specs.TreeView.{group_count, row_count};
 ghost use Rattle.tdp_core.specs.WellFormed.{IsTieFreeTree};
 ghost use Rattle.tdp_core.specs.Solutions.{IsTreeRanking};
 ghost use Rattle.suffix_streams.specs.Rankings.{group_list};

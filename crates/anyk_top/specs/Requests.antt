@@ -1,5 +1,5 @@
 -- The commands, as their verdicts name them.
-use Rattle.cmd_words.specs.ArgumentMeaning.{seen_words}
+use Rattle.cmd_words.specs.ArgumentMeaning.{words_view}
 use Rattle.std.specs.Prelude.{string_bytes}
 use Rattle.verdict.specs.Words.{Command, verify}
 use Rattle.task_plan.specs.Tasks.{command_of, words_of}
@@ -9,4 +9,4 @@ use Rattle.anyk_top.specs.declared.request.Request.TheVariants.{Planned, Verify}
 -- any command
 abbrev pub asked_by : Request → Command
 asked_by (Planned task) = command_of task
-asked_by (Verify proof words) = verify (string_bytes proof) (words_of (seen_words words))
+asked_by (Verify proof words) = verify (string_bytes proof) (words_of (words_view words))

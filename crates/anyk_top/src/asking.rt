@@ -1,7 +1,7 @@
 //! The command that the arguments ask for.
 ghost use Rattle.std.specs.Prelude.{◌≡◌, Some, IfErr, IfOk, map};
 ghost use Rattle.std.specs.String.{string_bytes};
-ghost use Rattle.cmd_words.specs.Commands.{KeepsRange, said_of, seen_command};
+ghost use Rattle.cmd_words.specs.Commands.{KeepsRange, said_of, command_view};
 ghost use Rattle.refusal_lines.specs.RefusalReasons.{reason_of};
 ghost use Rattle.verdict.specs.Words.{built};
 ghost use Rattle.anyk_top.specs.CommandLine.{IsEarly, asked_of};
@@ -33,9 +33,9 @@ pub(crate) fn read_request<'a>(alloc: Global, words: &[String]) -> Result<Reques
 fn request_of<'a>(alloc: Global, command: Command) -> Result<Request, Refusal<'a>>
     requires { KeepsRange command }
     ensures built { IfOk result
-        (λ request. asked_of (Some (seen_command command)) ≡ built (asked_by request)) }
+        (λ request. asked_of (Some (command_view command)) ≡ built (asked_by request)) }
     ensures early { IfErr result
-        (λ refusal. IsEarly (asked_of (Some (seen_command command))) (reason_of refusal)) }
+        (λ refusal. IsEarly (asked_of (Some (command_view command))) (reason_of refusal)) }
 {
     match command {
         Command::Run(words) => Ok(Request::Planned(Task::Run(words))),
@@ -53,10 +53,10 @@ fn request_of<'a>(alloc: Global, command: Command) -> Result<Request, Refusal<'a
 /// The session that these words ask for. `Usage` if they name no script.
 fn session_of<'a>(words: Words) -> Result<Request, Refusal<'a>>
     ensures built { IfOk result
-        (λ request. asked_of (Some (seen_command (Command.Session words)))
+        (λ request. asked_of (Some (command_view (Command.Session words)))
         ≡ built (asked_by request)) }
     ensures early { IfErr result
-        (λ refusal. IsEarly (asked_of (Some (seen_command (Command.Session words))))
+        (λ refusal. IsEarly (asked_of (Some (command_view (Command.Session words))))
         (reason_of refusal)) }
 {
     let Words {
@@ -88,10 +88,10 @@ fn session_of<'a>(words: Words) -> Result<Request, Refusal<'a>>
 /// The check that these words ask for. `Usage` if they name no certificate.
 fn verify_of<'a>(words: Words) -> Result<Request, Refusal<'a>>
     ensures built { IfOk result
-        (λ request. asked_of (Some (seen_command (Command.Verify words)))
+        (λ request. asked_of (Some (command_view (Command.Verify words)))
         ≡ built (asked_by request)) }
     ensures early { IfErr result
-        (λ refusal. IsEarly (asked_of (Some (seen_command (Command.Verify words))))
+        (λ refusal. IsEarly (asked_of (Some (command_view (Command.Verify words))))
         (reason_of refusal)) }
 {
     let Words {

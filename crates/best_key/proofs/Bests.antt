@@ -9,7 +9,7 @@ use Rattle.tdp_model.proofs.Enumeration.{group_keys, group_ranking}
 use Rattle.tdp_model.proofs.KeyNumbers.{slot_of_lists}
 use Rattle.tdp_model.proofs.KeyTuples.{tuple_keys}
 use Rattle.tdp_core.specs.Solutions.{IsTreeRanking}
-use Rattle.tdp_core.specs.TreeData.{NodeData, parent, item, number, rows, members, group, rank, best}
+use Rattle.tdp_core.specs.TreeView.{NodeView, parent, item, number, rows, members, group, rank, best}
 use Rattle.tdp_core.specs.WellFormed.{IsFormed, IsTieFreeTree}
 use Rattle.tdp_core.proofs.TreeFacts.{member_is_row, best_had, best_least}
 use Rattle.anyk_model.specs.Table.{Table}
@@ -27,7 +27,7 @@ use Rattle.best_list.proofs.Least.{best_ranking}
 use Rattle.best_key.specs.BestKey.{RanksWitnesses}
 use Rattle.best_key.proofs.RootSlots.{RowOf, root_slot}
 
-module _ {R : Type 0} (d : ℕ) (key : R → KeyOf d 16) (t : List (NodeData R)) (formed : IsFormed d key t) where
+module _ {R : Type 0} (d : ℕ) (key : R → KeyOf d 16) (t : List (NodeView R)) (formed : IsFormed d key t) where
   some_node : 0 < length t
   some_node = omega (arith, formed.shaped.some_node)
 

@@ -7,11 +7,11 @@ use Rattle.tdp_model.proofs.Descent.{below_less}
 use Rattle.tdp_model.proofs.KeyTuples.{tuple_keys}
 use Rattle.tdp_model.proofs.SubtreeTies.{kid_yes, kid_no, slot_outside}
 use Rattle.tdp_model.proofs.Ties.{slot_zero}
-use Rattle.tdp_core.specs.TreeData.{NodeData, parent, item, number, group, rank}
+use Rattle.tdp_core.specs.TreeView.{NodeView, parent, item, number, group, rank}
 use Rattle.tdp_core.specs.WellFormed.{IsFormed, IsTieFreeTree}
 use Rattle.tdp_core.proofs.TreeFacts.{tie_free_of}
 
-module _ {R : Type 0} (d : ℕ) (key : R → KeyOf d 16) (t : List (NodeData R)) (formed : IsFormed d key t) (apart : IsTieFreeTree t) where
+module _ {R : Type 0} (d : ℕ) (key : R → KeyOf d 16) (t : List (NodeView R)) (formed : IsFormed d key t) (apart : IsTieFreeTree t) where
   abbrev pub RowOf : ℕ → ℕ → ℕ → KeyOf d 16 → Type 0
   RowOf depth v r k = RowHas (key_add d 16) (key_none d 16) (length t) (parent t) (rank t d key) (group t) depth v r k
 

@@ -3,7 +3,7 @@
 
 ghost use Rattle.std.specs.Prelude.{◌≡◌, ◌≤◌, List, length, map};
 ghost use Rattle.tdp_model.specs.KeyTuple.{KeyOf};
-ghost use Rattle.tdp_core.specs.TreeData.{NodeData, item};
+ghost use Rattle.tdp_core.specs.TreeView.{NodeView, item};
 ghost use Rattle.tdp_core.specs.WellFormed.{IsFormed, IsTieFreeTree};
 ghost use Rattle.anyk_model.specs.Table.{Table};
 ghost use Rattle.anyk_model.specs.Query.{Query};
@@ -18,7 +18,7 @@ use rank_key::Rank;
 /// If a tree ranks the witnesses of a query, then the best keys of its root's rows, in ascending
 /// order, are the keys of the best list of the root's item.
 pub fn bests_agree<R: Rank>()
-    ensures { (query : Query) (tables : List Table) (tree : List (NodeData R))
+    ensures { (query : Query) (tables : List Table) (tree : List (NodeView R))
         (ks : List (KeyOf R.KEYS 16)) → length query.order ≤ R.KEYS → length query.items ≤ 16
         → IsFormed R.KEYS R.key tree → IsTieFreeTree tree
         → RanksWitnesses R.KEYS R.key query tables tree → IsBestRanking tree R.KEYS R.key ks

@@ -13,7 +13,7 @@ use Rattle.tdp_model.proofs.KeyTuples.{tuple_keys}
 use Rattle.tdp_model.proofs.KeyNumbers.{not_less_at_most}
 use Rattle.tdp_model.proofs.Removal.{take_least}
 use Rattle.tdp_model.proofs.Subtrees.{same, same_at}
-use Rattle.tdp_core.specs.TreeData.{NodeData, node_at, group_count, rows, row_count}
+use Rattle.tdp_core.specs.TreeView.{NodeView, node_at, group_count, rows, row_count}
 use Rattle.tdp_core.specs.WellFormed.{IsFormed, IsTieFreeTree}
 use Rattle.tdp_core.proofs.TreeFacts.{group_rows_within, rows_within, term_within}
 use Rattle.tree_dp.specs.BestRanking.{IsBestRanking}
@@ -25,7 +25,7 @@ member_length : {K : Type 0} (k : K) (ks : List K) → IsMember k ks → 1 ≤ l
 member_length k [] m = absurd m
 member_length k (x ∷ ks) m = omega arith
 
-module _ {R : Type 0} (d : ℕ) (key : R → KeyOf d 16) (t : List (NodeData R)) where
+module _ {R : Type 0} (d : ℕ) (key : R → KeyOf d 16) (t : List (NodeView R)) where
   -- a heap with a place belongs to a tree with solutions
   pub heap_lives : (i : ℕ) → i < root_len t → 0 < group_count t 0
   heap_lives i l = some_group (node_at t 0).groups l

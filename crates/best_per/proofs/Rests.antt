@@ -16,7 +16,7 @@ use Rattle.tdp_model.specs.TreeProblem.{RowHas}
 use Rattle.tdp_model.proofs.KeyTuples.{tuple_keys}
 use Rattle.tdp_model.proofs.Sorting.{ranked_is_ranking}
 use Rattle.tdp_model.proofs.SubtreeTies.{rows_apart}
-use Rattle.tdp_core.specs.TreeData.{NodeData, parent, item, number, members, group, rank, best}
+use Rattle.tdp_core.specs.TreeView.{NodeView, parent, item, number, members, group, rank, best}
 use Rattle.tdp_core.specs.WellFormed.{IsFormed, IsTieFreeTree}
 use Rattle.tdp_core.proofs.TreeFacts.{member_is_row, members_apart, best_had, tie_free_of}
 use Rattle.tree_dp.specs.BestRanking.{IsBestRanking}
@@ -71,7 +71,7 @@ entries_within {R} n (e ∷ es) i h = elim (cases_lt 0 (holds n e.tag i)) [
   | inr none ↦ entries_within n es i (omega (arith, h, none, sum_by-cons (λ (x : Entry R ℕ). holds n x.tag i) e es))
 ]
 
-module _ {R : Type 0} (d : ℕ) (key : R → KeyOf d 16) (t : List (NodeData R)) where
+module _ {R : Type 0} (d : ℕ) (key : R → KeyOf d 16) (t : List (NodeView R)) where
   K : Type 0
   K = KeyOf d 16
 

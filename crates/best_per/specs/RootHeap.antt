@@ -8,15 +8,15 @@ use Rattle.tdp_model.specs.Heap.{under}
 use Rattle.tdp_model.specs.KeyTuple.{KeyOf, key_below}
 use Rattle.tdp_model.specs.Remains.{Remains}
 use Rattle.tdp_model.proofs.KeyTuples.{tuple_keys}
-use Rattle.tdp_core.specs.SeenAnswers.{Seen}
-use Rattle.tdp_core.specs.TreeData.{NodeData, members, best}
+use Rattle.tdp_core.specs.AnswerView.{AnswerView}
+use Rattle.tdp_core.specs.TreeView.{NodeView, members, best}
 use Rattle.tdp_core.specs.WellFormed.{IsFormed, IsTieFreeTree}
 
 -- an engine of best answers, as its callers see it: the tree, the answers that are left, and the
 -- number of calls so far
-pub record BestState (R : Type 0) : Type 0 where
-  pub tree : List (NodeData R)
-  pub rest : List Seen
+pub record BestView (R : Type 0) : Type 0 where
+  pub tree : List (NodeView R)
+  pub rest : List AnswerView
   pub calls : ℕ
 
 -- 1 if place i of a heap of n places is in the subtree of place j, else 0
@@ -32,10 +32,10 @@ abbrev pub places_left : {R : Type 0} → ℕ → List (Entry R ℕ) → List �
 places_left n es = filter (λ i. nat_lt 0 (held_by n es i)) (range_with_len 0 n)
 
 -- the number of places of the root's heap
-abbrev pub root_len : {R : Type 0} → List (NodeData R) → ℕ
+abbrev pub root_len : {R : Type 0} → List (NodeView R) → ℕ
 root_len t = length (members t 0 0)
 
-module _ {R : Type 0} (d : ℕ) (key : R → KeyOf d 16) (t : List (NodeData R)) where
+module _ {R : Type 0} (d : ℕ) (key : R → KeyOf d 16) (t : List (NodeView R)) where
   -- the best key of the row at a place
   abbrev pub place_key : ℕ → KeyOf d 16
   place_key i = best t d key 0 (slice_index (members t 0 0) i)

@@ -2,7 +2,7 @@
 ghost use Rattle.std.specs.Prelude.{◌≡◌, ℕ, ◌+◌, ◌*◌, ◌<◌, ◌≤◌, length, IfOk};
 ghost use Rattle.std.specs.List.{All};
 ghost use Rattle.rank_key.specs.Bits.{bit_length};
-ghost use Rattle.tdp_core.specs.TreeData.{group_count};
+ghost use Rattle.tdp_core.specs.TreeView.{group_count};
 ghost use Rattle.tdp_core.specs.WellFormed.{IsFormed, IsTieFreeTree};
 ghost use Rattle.tree_dp.specs.BestRanking.{IsBestRanking};
 ghost use Rattle.best_per.specs.RootHeap.{root_len, holds, held_by, IsPlace, rest_keys, IsQueue};

@@ -2,9 +2,9 @@
 ghost use Rattle.std.specs.Prelude.{◌≡◌, ℕ, ◌+◌, ◌*◌, ◌≤◌, List, [], ◌∷◌, length, IfOk, IfSome, IfNone, IsOk, OnErr};
 ghost use Rattle.tdp_model.specs.KeyTuple.{KeyOf};
 ghost use Rattle.tdp_model.specs.KeyNumbers.{numbers};
-ghost use Rattle.tdp_core.specs.TreeData.{row_count};
+ghost use Rattle.tdp_core.specs.TreeView.{row_count};
 ghost use Rattle.tdp_core.specs.WellFormed.{IsTieFreeTree};
-ghost use Rattle.tdp_core.specs.SeenAnswers.{Seen, answers_of, counted};
+ghost use Rattle.tdp_core.specs.AnswerView.{AnswerView, answers_of, counted};
 ghost use Rattle.tdp_core.specs.Shares.{share_of, size_of};
 ghost use Rattle.tdp_core.specs.RisingShares.{at_most_itself};
 ghost use Rattle.tree_dp.specs.BestRanking.{IsBestRanking};
@@ -35,10 +35,10 @@ pub struct BestPer<'t, R: Rank, A: Allocator> {
 }
 
 impl<'t, R: Rank, A: Allocator> Model for BestPer<'t, R, A> {
-    ghost use Rattle.tdp_core.specs.SeenAnswers.{answers_of};
-    ghost use Rattle.best_per.specs.RootHeap.{BestState, rest_keys, IsQueue};
+    ghost use Rattle.tdp_core.specs.AnswerView.{answers_of};
+    ghost use Rattle.best_per.specs.RootHeap.{BestView, rest_keys, IsQueue};
 
-    ghost Value = { BestState R };
+    ghost Value = { BestView R };
 
     ghost view = { λ s. record {
       tree = s.tree.now;

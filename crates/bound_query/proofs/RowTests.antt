@@ -9,7 +9,7 @@ use Rattle.anyk_model.specs.Query.{Query, Column, Equality}
 use Rattle.rankings.specs.Order.{IsMember}
 use Rattle.rankings.proofs.Members.{all_member, member_map, member_unmap}
 use Rattle.bound_query.specs.Classes.{Linked, Passes, row_field}
-use Rattle.bound_query.specs.FilterViews.{constant_shown, filter_shown}
+use Rattle.bound_query.specs.FilterViews.{constant_view, filter_view}
 use Rattle.bound_query.specs.Filters.{HasConstants, HasEqual, IsFilterOf, ItemFilter, Reaches, filter_at}
 use Rattle.bound_query.specs.Inside.{EqualityInside, IsInside, IsWithin}
 use Rattle.bound_query.specs.WeighedQuery.{BoundQuery, Fits}
@@ -53,13 +53,13 @@ texts_differ a b h e =
 pub texts_same : (a b : List ℕ) → not (bytes_eq a b) ≡ false → a ≡ b
 texts_same a b h = (bytes_eq-Decides a b).0 (not-false (bytes_eq a b) h)
 
-pub constants_each : (field : ℕ → List ℕ) (xs : List Constant) → ((y : Constant) → IsMember y xs → field y.place ≡ y.bytes) → HasConstants field (map constant_shown xs)
+pub constants_each : (field : ℕ → List ℕ) (xs : List Constant) → ((y : Constant) → IsMember y xs → field y.place ≡ y.bytes) → HasConstants field (map constant_view xs)
 constants_each field xs h v m =
-    let p = member_unmap constant_shown v xs m in
+    let p = member_unmap constant_view v xs m in
     subst (λ (z : ℕ × List ℕ). field z.0 ≡ z.1) (sym p.2) (h p.0 p.1)
 
-pub constants_one : (field : ℕ → List ℕ) (xs : List Constant) → HasConstants field (map constant_shown xs) → (y : Constant) → IsMember y xs → field y.place ≡ y.bytes
-constants_one field xs h y m = h (constant_shown y) (member_map constant_shown y xs m)
+pub constants_one : (field : ℕ → List ℕ) (xs : List Constant) → HasConstants field (map constant_view xs) → (y : Constant) → IsMember y xs → field y.place ≡ y.bytes
+constants_one field xs h y m = h (constant_view y) (member_map constant_view y xs m)
 
 -- ---- the places that the tests of an item name exist
 
@@ -95,11 +95,11 @@ module _ (query : Query) (tables : List Table) (within : IsWithin query tables) 
         ]
 
 -- the tests that are stored for an item
-pub stored_filter : (bound : BoundQuery) (tables : List Table) → Fits bound tables → (filters : List Filter) → map filter_shown filters ≡ bound.filters
-    → (item : ℕ) (f : Filter) → item < length bound.query.items → f ≡ get_or filters item f → IsFilterOf bound.query.equalities item (filter_shown f)
+pub stored_filter : (bound : BoundQuery) (tables : List Table) → Fits bound tables → (filters : List Filter) → map filter_view filters ≡ bound.filters
+    → (item : ℕ) (f : Filter) → item < length bound.query.items → f ≡ get_or filters item f → IsFilterOf bound.query.equalities item (filter_view f)
 stored_filter bound tables fits filters shown item f h is =
     let count = fits.filtered in
-    let inside : item < length filters = omega (arith, length-map filters filter_shown, ap length shown, count, h) in
-    let at : filter_at bound.filters item ≡ filter_shown f =
-    ap (λ (l : List ItemFilter). filter_at l item) (sym shown) ∙ get_or-map filter_shown filters item f (record { pairs = []; constants = [] }) inside ∙ ap filter_shown (sym is) in
+    let inside : item < length filters = omega (arith, length-map filters filter_view, ap length shown, count, h) in
+    let at : filter_at bound.filters item ≡ filter_view f =
+    ap (λ (l : List ItemFilter). filter_at l item) (sym shown) ∙ get_or-map filter_view filters item f (record { pairs = []; constants = [] }) inside ∙ ap filter_view (sym is) in
     subst (λ (g : ItemFilter). IsFilterOf bound.query.equalities item g) at (fits.filters item h)

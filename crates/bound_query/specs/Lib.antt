@@ -7,7 +7,7 @@ pub mod Items
 pub mod Parts
 pub mod QueryView
 pub mod StoredParts
-pub mod View
+pub mod SelectionView
 pub mod WeighedQuery
 pub mod WeighedView
 pub mod Weights

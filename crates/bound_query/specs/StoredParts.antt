@@ -9,28 +9,28 @@ use Rattle.bound_query.specs.declared.bound.BoundEquality.{BoundEquality}
 use Rattle.bound_query.specs.declared.bound.BoundTerm.{BoundTerm}
 use Rattle.bound_query.specs.declared.bound.BoundKey.{BoundKey}
 
-abbrev pub item_shown : BoundItem → Item
-item_shown i = record { table = i.table; alias = i.alias }
+abbrev pub item_view : BoundItem → Item
+item_view i = record { table = i.table; alias = i.alias }
 
-abbrev pub items_shown : List BoundItem → List Item
-items_shown items = map item_shown items
+abbrev pub items_view : List BoundItem → List Item
+items_view items = map item_view items
 
-abbrev pub column_shown : ℕ × ℕ → Column
-column_shown c = record { item = c.0; place = c.1 }
+abbrev pub column_view : ℕ × ℕ → Column
+column_view c = record { item = c.0; place = c.1 }
 
-abbrev pub side_shown : BoundSide → Side
-side_shown (bound.Column c) = of_column (column_shown c)
-side_shown (bound.Constant bytes) = of_constant bytes
+abbrev pub side_view : BoundSide → Side
+side_view (bound.Column c) = of_column (column_view c)
+side_view (bound.Constant bytes) = of_constant bytes
 
-abbrev pub equality_shown : BoundEquality → Equality
-equality_shown e = record { left = column_shown e.left; right = side_shown e.right }
+abbrev pub equality_view : BoundEquality → Equality
+equality_view e = record { left = column_view e.left; right = side_view e.right }
 
-abbrev pub term_shown : BoundTerm → Term
-term_shown t = record { minus = t.minus; column = column_shown t.column }
+abbrev pub term_view : BoundTerm → Term
+term_view t = record { minus = t.minus; column = column_view t.column }
 
-abbrev pub key_shown : BoundKey → OrderKey
-key_shown k = record { terms = map term_shown k.terms.items; descending = k.descending }
+abbrev pub key_view : BoundKey → OrderKey
+key_view k = record { terms = map term_view k.terms.items; descending = k.descending }
 
 -- the variables of each item
-abbrev pub lists_shown : List (Vec (ℕ × ℕ) Global) → List (List (ℕ × ℕ))
-lists_shown lists = map (λ (v : Vec (ℕ × ℕ) Global). v.items) lists
+abbrev pub lists_view : List (Vec (ℕ × ℕ) Global) → List (List (ℕ × ℕ))
+lists_view lists = map (λ (v : Vec (ℕ × ℕ) Global). v.items) lists

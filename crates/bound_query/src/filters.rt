@@ -3,7 +3,7 @@ ghost use Rattle.std.specs.Prelude.{◌≡◌, ◌≤◌, ◌<◌, ◌-◌, ◌�
 ghost use Rattle.std.specs.List.{AllByRecursion};
 ghost use Rattle.anyk_model.specs.Table.{field_at, table_at};
 ghost use Rattle.bound_query.specs.Filters.{HasConstants, HasEqual};
-ghost use Rattle.bound_query.specs.FilterViews.{constant_shown, filter_shown};
+ghost use Rattle.bound_query.specs.FilterViews.{constant_view, filter_view};
 
 use query_select::name::Bytes;
 use table_store::Tables;
@@ -49,7 +49,7 @@ fn has_constants(constants: &[Constant], tables: &Tables, table: u32, row: u32) 
         (λ c. c.place < length (table_at tables.now table).names) constants.now }
     ensures { IsTrue result
         ↔ HasConstants (field_at (table_at tables.now table) (row - 1))
-        (map constant_shown constants.now) }
+        (map constant_view constants.now) }
 {
     for constant in constants {
         if tables.field(table, row, constant.place) != constant.bytes.bytes() {
@@ -71,9 +71,9 @@ pub(crate) fn stands(filter: &Filter, tables: &Tables, table: u32, row: u32) -> 
     requires places { AllByRecursion
         (λ c. c.place < length (table_at tables.now table).names) filter.now.constants.items }
     ensures { IsTrue result
-        ↔ (HasEqual (field_at (table_at tables.now table) (row - 1)) (filter_shown filter.now).pairs
+        ↔ (HasEqual (field_at (table_at tables.now table) (row - 1)) (filter_view filter.now).pairs
         × HasConstants (field_at (table_at tables.now table) (row - 1))
-        (filter_shown filter.now).constants) }
+        (filter_view filter.now).constants) }
 {
     has_pairs(filter.pairs.as_slice(), tables, table, row)
         && has_constants(filter.constants.as_slice(), tables, table, row)

@@ -2,7 +2,7 @@
 ghost use Rattle.std.specs.Prelude.{◌≡◌, ◌+◌, ◌↔◌, ◌⊎◌, ◌<◌, ◌≤◌, ◌^◌, ℕ, length, IfOk};
 ghost use Rattle.hyper_graph.specs.Graph.{IsIn};
 ghost use Rattle.bound_query.specs.Graph.{AreItemSets, IsItemSet, has_number};
-ghost use Rattle.bound_query.specs.StoredParts.{lists_shown};
+ghost use Rattle.bound_query.specs.StoredParts.{lists_view};
 
 use std::alloc::{AllocError, Global};
 
@@ -25,7 +25,7 @@ fn with_item(set: u16, item: u32) -> u16
 /// The items that have a variable.
 fn items_with(of_items: &[Vec<(u32, u32)>], number: u32) -> u16
     requires { length of_items.now ≤ 16 }
-    ensures { IsItemSet (lists_shown of_items.now) number (length of_items.now) result }
+    ensures { IsItemSet (lists_view of_items.now) number (length of_items.now) result }
 {
     let mut set: u16 = 0;
     for i in 0..of_items.len() {
@@ -45,7 +45,7 @@ pub(crate) fn item_sets(
 ) -> Result<Vec<u16>, AllocError>
     requires { length of_items.now ≤ 16 }
     ensures { IfOk result
-        (λ v. AreItemSets (lists_shown of_items.now) (length of_items.now) count v.items) }
+        (λ v. AreItemSets (lists_view of_items.now) (length of_items.now) count v.items) }
 {
     let mut sets = Vec::new(alloc);
     for number in 0..count {

@@ -3,11 +3,11 @@ ghost use Rattle.std.specs.Prelude.{◌≡◌, ◌↔◌, IsTrue, ◌<◌, ◌�
 ghost use Rattle.anyk_model.specs.Table.{Table};
 ghost use Rattle.bound_query.specs.Items.{item_at};
 ghost use Rattle.bound_query.specs.Graph.{IsGraphOf};
-ghost use Rattle.bound_query.specs.StoredParts.{column_shown, equality_shown, lists_shown};
+ghost use Rattle.bound_query.specs.StoredParts.{column_view, equality_view, lists_view};
 ghost use Rattle.bound_query.specs.Classes.{AreVariablesOf, Passes};
-ghost use Rattle.bound_query.specs.FilterViews.{filter_shown};
+ghost use Rattle.bound_query.specs.FilterViews.{filter_view};
 ghost use Rattle.bound_query.specs.WeighedQuery.{Fits, variables_at};
-ghost use Rattle.bound_query.specs.WeighedView.{weighed_shown};
+ghost use Rattle.bound_query.specs.WeighedView.{weighed_view};
 ghost use Rattle.bound_query.specs.Weights.{cap_of, key_at, part_of, table_in};
 
 use crate::bound::{BoundEquality, ItemWeights, Variables, part_at};
@@ -36,9 +36,9 @@ impl Model for Query {
 
     ghost Value = { BoundQuery };
 
-    ghost use Rattle.bound_query.specs.QueryView.{bound_shown};
+    ghost use Rattle.bound_query.specs.QueryView.{query_view};
 
-    ghost view = { bound_shown };
+    ghost view = { query_view };
 }
 
 impl Query {
@@ -54,10 +54,10 @@ impl Query {
         ensures { result
             ≡ record {
               query = selection;
-              weighed = map weighed_shown weighed.items;
-              variables = map column_shown variables.least.items;
-              lists = lists_shown variables.of_items.items;
-              filters = map filter_shown filters.items;
+              weighed = map weighed_view weighed.items;
+              variables = map column_view variables.least.items;
+              lists = lists_view variables.of_items.items;
+              filters = map filter_view filters.items;
             } }
     {
         Query {
@@ -110,14 +110,14 @@ impl Query {
 
     /// The equalities, each with its columns.
     pub fn equalities(&self) -> &[BoundEquality]
-        ensures { map equality_shown result.now ≡ self.now.query.equalities }
+        ensures { map equality_view result.now ≡ self.now.query.equalities }
     {
         self.selection.equalities()
     }
 
     /// The selected columns, each with its item before it.
     pub fn columns(&self) -> &[(u32, u32)]
-        ensures { map column_shown result.now ≡ self.now.query.list }
+        ensures { map column_view result.now ≡ self.now.query.list }
     {
         self.selection.columns()
     }

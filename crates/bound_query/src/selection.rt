@@ -1,7 +1,7 @@
 //! A query with a column for each reference, before its weights.
 ghost use Rattle.std.specs.Prelude.{◌≡◌, ◌<◌, ◌≤◌, length, map};
 ghost use Rattle.bound_query.specs.Items.{item_at};
-ghost use Rattle.bound_query.specs.StoredParts.{column_shown, equality_shown, items_shown, key_shown};
+ghost use Rattle.bound_query.specs.StoredParts.{column_view, equality_view, items_view, key_view};
 ghost use Rattle.bound_query.specs.Weights.{key_at};
 
 use crate::bound::{BoundEquality, BoundItem, BoundKey};
@@ -22,9 +22,9 @@ impl Model for Selection {
 
     ghost Value = { Query };
 
-    ghost use Rattle.bound_query.specs.View.{query_shown, IsSmall};
+    ghost use Rattle.bound_query.specs.SelectionView.{selection_view, IsSmall};
 
-    ghost view = { query_shown };
+    ghost view = { selection_view };
 
     ghost invariant = { IsSmall };
 }
@@ -42,10 +42,10 @@ impl Selection {
         requires keys { length keys.items ≤ 8 }
         ensures { result
             ≡ record {
-              items = items_shown items.items;
-              equalities = map equality_shown equalities.items;
-              order = map key_shown keys.items;
-              list = map column_shown list.items;
+              items = items_view items.items;
+              equalities = map equality_view equalities.items;
+              order = map key_view keys.items;
+              list = map column_view list.items;
               limit = limit;
             } }
     {
@@ -60,7 +60,7 @@ impl Selection {
 
     /// The items as they are stored.
     pub fn bound_items(&self) -> &[BoundItem]
-        ensures items { items_shown result.now ≡ self.now.items }
+        ensures items { items_view result.now ≡ self.now.items }
         ensures few { length result.now ≤ 16 }
     {
         self.items.as_slice()
@@ -68,7 +68,7 @@ impl Selection {
 
     /// The order keys as they are stored.
     pub fn bound_keys(&self) -> &[BoundKey]
-        ensures keys { map key_shown result.now ≡ self.now.order }
+        ensures keys { map key_view result.now ≡ self.now.order }
         ensures few { length result.now ≤ 8 }
     {
         self.keys.as_slice()
@@ -115,14 +115,14 @@ impl Selection {
 
     /// The equalities, each with its columns.
     pub fn equalities(&self) -> &[BoundEquality]
-        ensures { map equality_shown result.now ≡ self.now.equalities }
+        ensures { map equality_view result.now ≡ self.now.equalities }
     {
         self.equalities.as_slice()
     }
 
     /// The selected columns, each with its item before it.
     pub fn columns(&self) -> &[(u32, u32)]
-        ensures { map column_shown result.now ≡ self.now.list }
+        ensures { map column_view result.now ≡ self.now.list }
     {
         self.list.as_slice()
     }

@@ -144,8 +144,8 @@ abbrev pub load_by : List Row → Option (Engine × ℕ × ℕ)
 load_by rows = load_by_texts (first_of (codes "engine") rows) (first_of (codes "number") rows)
     (first_of (codes "rows") rows)
 
-abbrev pub seen_texts : TextsRead → Texts
-seen_texts texts = record {
+abbrev pub arguments_view : TextsRead → Texts
+arguments_view texts = record {
   engine = option_map (λ s. s.now) texts.engine;
   ranks = option_map (λ s. s.now) texts.ranks;
   rows = option_map (λ s. s.now) texts.rows;
@@ -156,8 +156,8 @@ seen_texts texts = record {
   tables = option_map (λ s. map (λ v. v.now) s.now) texts.tables;
 }
 
-abbrev pub seen_words : Words → WordsSaid
-seen_words words = record {
+abbrev pub words_view : Words → WordsSaid
+words_view words = record {
   engine = words.engine;
   ranks = words.ranks;
   rows = words.rows;

@@ -6,7 +6,7 @@ use Rattle.clap.specs.Kinds.{Kinds}
 use Rattle.clap.specs.Simple.{App, matches_of}
 use Rattle.clap.specs.Walk.{Row}
 use Rattle.cmd_words.specs.Arguments.{run_app, session_app, plan_app, prove_app, verify_app, load_app}
-use Rattle.cmd_words.specs.ArgumentMeaning.{WordsSaid, texts_of, run_texts, session_texts, plan_texts, prove_texts, verify_texts, said_by, session_by, verify_by, load_by, seen_words}
+use Rattle.cmd_words.specs.ArgumentMeaning.{WordsSaid, texts_of, run_texts, session_texts, plan_texts, prove_texts, verify_texts, said_by, session_by, verify_by, load_by, words_view}
 use Rattle.cmd_words.specs.Numbers.{IsInRange}
 use Rattle.cmd_words.specs.declared.command.Engine.{Engine}
 use Rattle.cmd_words.specs.declared.command.Command.{Command}
@@ -65,13 +65,13 @@ abbrev pub said_of : List (List ℕ) → Option CommandSaid
 said_of [] = None
 said_of (first ∷ others) = said_to first (first ∷ others)
 
-abbrev pub seen_command : Command → CommandSaid
-seen_command (Run words) = run_said (seen_words words)
-seen_command (Session words) = session_said (seen_words words)
-seen_command (Plan words) = plan_said (seen_words words)
-seen_command (Prove words) = prove_said (seen_words words)
-seen_command (Verify words) = verify_said (seen_words words)
-seen_command (Load engine number rows) = load_said engine number rows
+abbrev pub command_view : Command → CommandSaid
+command_view (Run words) = run_said (words_view words)
+command_view (Session words) = session_said (words_view words)
+command_view (Plan words) = plan_said (words_view words)
+command_view (Prove words) = prove_said (words_view words)
+command_view (Verify words) = verify_said (words_view words)
+command_view (Load engine number rows) = load_said engine number rows
 
 -- the numbers of `load` are in its range
 abbrev pub KeepsRange : Command → Type 0

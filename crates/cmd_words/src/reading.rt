@@ -2,9 +2,9 @@
 
 ghost use Rattle.std.specs.Prelude.{◌≡◌, Some, None, map, IfOk, IsErrOf};
 ghost use Rattle.std.specs.String.{string_bytes};
-ghost use Rattle.cmd_words.specs.Commands.{run_of, session_of, plan_of, prove_of, verify_of, load_of, said_of, said_to, seen_command, KeepsRange};
+ghost use Rattle.cmd_words.specs.Commands.{run_of, session_of, plan_of, prove_of, verify_of, load_of, said_of, said_to, command_view, KeepsRange};
 ghost use Rattle.cmd_words.specs.Numbers.{IsInRange};
-ghost use Rattle.cmd_words.specs.ArgumentMeaning.{seen_words};
+ghost use Rattle.cmd_words.specs.ArgumentMeaning.{words_view};
 
 use crate::WordsFault;
 use crate::arguments::{
@@ -23,7 +23,7 @@ use std::alloc::Global;
 /// table. `NoMemory` if memory is refused.
 pub fn read_words(alloc: Global, words: &[String]) -> Result<Command, WordsFault>
     ensures words { IfOk result
-        (λ command. said_of (map string_bytes words.now) ≡ Some (seen_command command)) }
+        (λ command. said_of (map string_bytes words.now) ≡ Some (command_view command)) }
     ensures usage { IsErrOf result WordsFault.Usage → said_of (map string_bytes words.now) ≡ None }
     ensures ranges { IfOk result KeepsRange }
 {
@@ -36,7 +36,7 @@ pub fn read_words(alloc: Global, words: &[String]) -> Result<Command, WordsFault
 /// What the arguments say to the command of this name.
 fn read_command(alloc: Global, name: &str, words: &[String]) -> Result<Command, WordsFault>
     ensures words { IfOk result
-        (λ command. said_to name.now (map string_bytes words.now) ≡ Some (seen_command command)) }
+        (λ command. said_to name.now (map string_bytes words.now) ≡ Some (command_view command)) }
     ensures usage { IsErrOf result WordsFault.Usage
         → said_to name.now (map string_bytes words.now) ≡ None }
     ensures ranges { IfOk result KeepsRange }
@@ -73,7 +73,7 @@ fn read_command(alloc: Global, name: &str, words: &[String]) -> Result<Command, 
 /// What the arguments of `run` say. `Usage` if they say nothing.
 fn read_run(alloc: Global, words: &[String]) -> Result<Words, WordsFault>
     ensures words { IfOk result
-        (λ said. run_of (map string_bytes words.now) ≡ Some (seen_words said)) }
+        (λ said. run_of (map string_bytes words.now) ≡ Some (words_view said)) }
     ensures usage { IsErrOf result WordsFault.Usage → run_of (map string_bytes words.now) ≡ None }
 {
     let matches = parsed(run_command(alloc), words)?;
@@ -86,7 +86,7 @@ fn read_run(alloc: Global, words: &[String]) -> Result<Words, WordsFault>
 /// What the arguments of `session` say. `Usage` if they say nothing.
 fn read_session(alloc: Global, words: &[String]) -> Result<Words, WordsFault>
     ensures words { IfOk result
-        (λ said. session_of (map string_bytes words.now) ≡ Some (seen_words said)) }
+        (λ said. session_of (map string_bytes words.now) ≡ Some (words_view said)) }
     ensures usage { IsErrOf result WordsFault.Usage
         → session_of (map string_bytes words.now) ≡ None }
 {
@@ -99,7 +99,7 @@ fn read_session(alloc: Global, words: &[String]) -> Result<Words, WordsFault>
 /// What the arguments of `plan` say. `Usage` if they say nothing.
 fn read_plan(alloc: Global, words: &[String]) -> Result<Words, WordsFault>
     ensures words { IfOk result
-        (λ said. plan_of (map string_bytes words.now) ≡ Some (seen_words said)) }
+        (λ said. plan_of (map string_bytes words.now) ≡ Some (words_view said)) }
     ensures usage { IsErrOf result WordsFault.Usage → plan_of (map string_bytes words.now) ≡ None }
 {
     let matches = parsed(plan_command(alloc), words)?;
@@ -122,7 +122,7 @@ fn read_plan(alloc: Global, words: &[String]) -> Result<Words, WordsFault>
 /// What the arguments of `prove` say. `Usage` if they say nothing.
 fn read_prove(alloc: Global, words: &[String]) -> Result<Words, WordsFault>
     ensures words { IfOk result
-        (λ said. prove_of (map string_bytes words.now) ≡ Some (seen_words said)) }
+        (λ said. prove_of (map string_bytes words.now) ≡ Some (words_view said)) }
     ensures usage { IsErrOf result WordsFault.Usage → prove_of (map string_bytes words.now) ≡ None }
 {
     let matches = parsed(prove_command(alloc), words)?;
@@ -145,7 +145,7 @@ fn read_prove(alloc: Global, words: &[String]) -> Result<Words, WordsFault>
 /// What the arguments of `verify` say. `Usage` if they say nothing.
 fn read_verify(alloc: Global, words: &[String]) -> Result<Words, WordsFault>
     ensures words { IfOk result
-        (λ said. verify_of (map string_bytes words.now) ≡ Some (seen_words said)) }
+        (λ said. verify_of (map string_bytes words.now) ≡ Some (words_view said)) }
     ensures usage { IsErrOf result WordsFault.Usage
         → verify_of (map string_bytes words.now) ≡ None }
 {

@@ -6,7 +6,7 @@ ghost use Rattle.clap.specs.Matches.{found_of};
 ghost use Rattle.clap.specs.Walk.{rows_of};
 ghost use Rattle.cmd_words.specs.NamedPairs.{named_pair};
 ghost use Rattle.cmd_words.specs.Numbers.{IsInRange, begins_plainly, number_in};
-ghost use Rattle.cmd_words.specs.ArgumentMeaning.{engine_of, is_set, load_by, load_by_texts, said_by, session_by, seen_texts, seen_words, tables_of, texts_of, verify_by};
+ghost use Rattle.cmd_words.specs.ArgumentMeaning.{engine_of, is_set, load_by, load_by_texts, said_by, session_by, arguments_view, words_view, tables_of, texts_of, verify_by};
 
 use crate::WordsFault;
 use crate::command::{Engine, Words};
@@ -29,7 +29,7 @@ pub struct Texts<'m, 'a> {
 
 /// The values that the matches hold.
 pub fn texts_of<'m, 'a>(matches: &'m ArgMatches<'a>) -> Texts<'m, 'a>
-    ensures { seen_texts result ≡ texts_of (rows_of (found_of matches.entry.now)) }
+    ensures { arguments_view result ≡ texts_of (rows_of (found_of matches.entry.now)) }
 {
     Texts {
         engine: matches.get_str("engine"),
@@ -46,8 +46,8 @@ pub fn texts_of<'m, 'a>(matches: &'m ArgMatches<'a>) -> Texts<'m, 'a>
 /// What the values say. `Usage` if they say nothing, and `NoMemory` if memory is refused.
 pub fn read_texts(alloc: Global, texts: Texts<'_, '_>) -> Result<Words, WordsFault>
     ensures words { IfOk result
-        (λ said. said_by (seen_texts texts.entry) ≡ Some (seen_words said)) }
-    ensures usage { IsErrOf result WordsFault.Usage → said_by (seen_texts texts.entry) ≡ None }
+        (λ said. said_by (arguments_view texts.entry) ≡ Some (words_view said)) }
+    ensures usage { IsErrOf result WordsFault.Usage → said_by (arguments_view texts.entry) ≡ None }
 {
     let Some(engine) = read_engine(texts.engine) else {
         return Err(WordsFault::Usage);
@@ -76,8 +76,8 @@ pub fn read_texts(alloc: Global, texts: Texts<'_, '_>) -> Result<Words, WordsFau
 /// refused.
 pub fn read_session_texts(alloc: Global, texts: Texts<'_, '_>) -> Result<Words, WordsFault>
     ensures words { IfOk result
-        (λ said. session_by (seen_texts texts.entry) ≡ Some (seen_words said)) }
-    ensures usage { IsErrOf result WordsFault.Usage → session_by (seen_texts texts.entry) ≡ None }
+        (λ said. session_by (arguments_view texts.entry) ≡ Some (words_view said)) }
+    ensures usage { IsErrOf result WordsFault.Usage → session_by (arguments_view texts.entry) ≡ None }
 {
     match texts.script {
         Some(_) => read_texts(alloc, texts),
@@ -89,8 +89,8 @@ pub fn read_session_texts(alloc: Global, texts: Texts<'_, '_>) -> Result<Words, 
 /// refused.
 pub fn read_verify_texts(alloc: Global, texts: Texts<'_, '_>) -> Result<Words, WordsFault>
     ensures words { IfOk result
-        (λ said. verify_by (seen_texts texts.entry) ≡ Some (seen_words said)) }
-    ensures usage { IsErrOf result WordsFault.Usage → verify_by (seen_texts texts.entry) ≡ None }
+        (λ said. verify_by (arguments_view texts.entry) ≡ Some (words_view said)) }
+    ensures usage { IsErrOf result WordsFault.Usage → verify_by (arguments_view texts.entry) ≡ None }
 {
     match texts.proof {
         Some(_) => read_texts(alloc, texts),

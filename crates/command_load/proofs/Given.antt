@@ -5,7 +5,7 @@ use Rattle.std.specs.Option.{option_or}
 use Rattle.std.proofs.lemmas.Bool.{cases_lt}
 use Rattle.std.proofs.lemmas.List.{drop_all, drop_more, length-append, length-drop, take_all, take_more}
 use Rattle.anyk_model.specs.Output.{cut}
-use Rattle.tdp_core.specs.SeenAnswers.{Seen}
+use Rattle.tdp_core.specs.AnswerView.{AnswerView}
 use Rattle.step_bounds.specs.Steps.{steps_for}
 use Rattle.step_bounds.proofs.Pacing.{steps_more}
 use Rattle.step_bounds.proofs.Calls.{HasCalled, rises_from}
@@ -13,7 +13,7 @@ use Rattle.command_load.specs.Ends.{HasEnds}
 use Rattle.command_load.specs.declared.ends.Ends.{Ends}
 
 -- the first i answers were given, and the engine has the others left
-pub record HasTaken (answers : List Seen) (i : ℕ) (left : List Seen) (ends : Ends) (share : List ℕ → ℕ → ℕ) (size : List ℕ) (calls : ℕ) (size_now : List ℕ) (calls_now started spent : ℕ) : Type 0 where
+pub record HasTaken (answers : List AnswerView) (i : ℕ) (left : List AnswerView) (ends : Ends) (share : List ℕ → ℕ → ℕ) (size : List ℕ) (calls : ℕ) (size_now : List ℕ) (calls_now started spent : ℕ) : Type 0 where
   pub rest : left ≡ drop i answers
   pub within : i ≤ length answers
   pub kept : HasEnds (take i answers) ends
@@ -29,10 +29,10 @@ first_behind : {A B : Type 0} (f : A → B) (xs : List A) (x : A) → option_or 
 first_behind f [] x = refl
 first_behind f (y ∷ xs) x = refl
 
-abbrev rows_of : Seen → List ℕ
+abbrev rows_of : AnswerView → List ℕ
 rows_of answer = answer.rows
 
-pub ends_more : (given : List Seen) (answer : Seen) (rows : List ℕ) (old new : Ends) → HasEnds given old → answer.rows ≡ rows
+pub ends_more : (given : List AnswerView) (answer : AnswerView) (rows : List ℕ) (old new : Ends) → HasEnds given old → answer.rows ≡ rows
     → new.count ≡ old.count + 1 → new.first ≡ option_or old.first (Some rows) → new.last ≡ Some rows → HasEnds (given ++ answer ∷ []) new
 ends_more given answer rows old new h same count first last = record {
   count = let before = h.count in omega (arith, count, before, length-append given (answer ∷ []));
@@ -43,9 +43,9 @@ ends_more given answer rows old new h same count first last = record {
 
 -- ---- the answers so far
 
-module _ (answers : List Seen) (i : ℕ) where
+module _ (answers : List AnswerView) (i : ℕ) where
   -- an answer was given, so one was left
-  one_left : (answer : Seen) (rest : List Seen) → answer ∷ rest ≡ drop i answers → i < length answers
+  one_left : (answer : AnswerView) (rest : List AnswerView) → answer ∷ rest ≡ drop i answers → i < length answers
   one_left answer rest is = elim (cases_lt i (length answers)) [ inl inside ↦ inside | inr end ↦ none (drop_all i answers end) ]
     where
       none : drop i answers ≡ [] → i < length answers
@@ -55,9 +55,9 @@ module _ (answers : List Seen) (i : ℕ) where
   none_left : drop i answers ≡ [] → length answers ≤ i
   none_left empty = omega (arith, ap length empty, length-drop i answers)
 
-  module _ (left : List Seen) (ends : Ends) (share : List ℕ → ℕ → ℕ) (size : List ℕ) (calls : ℕ) (size_now : List ℕ) (calls_now started spent : ℕ)
+  module _ (left : List AnswerView) (ends : Ends) (share : List ℕ → ℕ → ℕ) (size : List ℕ) (calls : ℕ) (size_now : List ℕ) (calls_now started spent : ℕ)
       (h : HasTaken answers i left ends share size calls size_now calls_now started spent) where
-    pub taken_more : (answer : Seen) (rest : List Seen) (new : Ends) (size_later : List ℕ) (calls_later later : ℕ) → left ≡ answer ∷ rest
+    pub taken_more : (answer : AnswerView) (rest : List AnswerView) (new : Ends) (size_later : List ℕ) (calls_later later : ℕ) → left ≡ answer ∷ rest
         → HasEnds (take i answers ++ answer ∷ []) new → HasCalled share size calls (i + 1) size_later calls_later started later
         → HasTaken answers (i + 1) rest new share size calls size_later calls_later started later
     taken_more answer rest new size_later calls_later later is ends_are called =
@@ -67,17 +67,17 @@ module _ (answers : List Seen) (i : ℕ) where
         let same : answer ≡ get_or answers i answer = cc in
         let behind : rest ≡ drop (i + 1) answers = cc in
         let all : take i answers ++ answer ∷ [] ≡ take (i + 1) answers =
-        ap (λ (a : Seen). take i answers ++ a ∷ []) same ∙ sym (take_more answers i answer inside) in
+        ap (λ (a : AnswerView). take i answers ++ a ∷ []) same ∙ sym (take_more answers i answer inside) in
         record {
           rest = behind;
           within = omega (arith, inside);
-          kept = subst (λ (given : List Seen). HasEnds given new) all ends_are;
+          kept = subst (λ (given : List AnswerView). HasEnds given new) all ends_are;
           called = called;
         }
 
     -- the engine has none left
     pub taken_all : (limit : Option ℕ) → IfSome limit (λ n. i ≤ n) → left ≡ [] → HasEnds (cut limit answers) ends
-    taken_all limit low empty = subst (λ (given : List Seen). HasEnds given ends) (by limit low) h.kept
+    taken_all limit low empty = subst (λ (given : List AnswerView). HasEnds given ends) (by limit low) h.kept
       where
         end : length answers ≤ i
         end = none_left (sym h.rest ∙ empty)

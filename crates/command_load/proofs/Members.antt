@@ -5,7 +5,7 @@ use Rattle.std.proofs.lemmas.List.{length-map}
 use Rattle.anyk_model.specs.Table.{Table}
 use Rattle.anyk_model.specs.Query.{Query, IsCombination, row_counts}
 use Rattle.anyk_model.specs.Output.{cut}
-use Rattle.tdp_core.specs.SeenAnswers.{Seen}
+use Rattle.tdp_core.specs.AnswerView.{AnswerView}
 use Rattle.step_bounds.specs.Steps.{calls_for}
 use Rattle.witness_key.specs.WitnessKey.{AreCombinations, combinations_in}
 use Rattle.verdict.specs.Summary.{member_text, rows_in_all, summary_text}
@@ -41,35 +41,35 @@ all_cut P (Some n) xs all = all_take P n xs all
 -- ---- answers, and the combinations that they stand for
 
 module _ (width : ℕ) (counts : List ℕ) where
-  abbrev combination : Seen → List ℕ
+  abbrev combination : AnswerView → List ℕ
   combination answer = take width answer.rows
 
-  abbrev Chosen : Seen → Type 0
+  abbrev Chosen : AnswerView → Type 0
   Chosen answer = IsCombination counts (take width answer.rows)
 
-  abbrev rows_of : Option Seen → Option (List ℕ)
-  rows_of answer = option_map (λ (a : Seen). a.rows) answer
+  abbrev rows_of : Option AnswerView → Option (List ℕ)
+  rows_of answer = option_map (λ (a : AnswerView). a.rows) answer
 
-  first_same : (answers : List Seen) → option_map (take width) (rows_of (slice_get answers 0)) ≡ slice_get (map combination answers) 0
+  first_same : (answers : List AnswerView) → option_map (take width) (rows_of (slice_get answers 0)) ≡ slice_get (map combination answers) 0
   first_same [] = refl
   first_same (answer ∷ answers) = refl
 
-  first_chosen : (answers : List Seen) → AllByRecursion Chosen answers → IfSome (rows_of (slice_get answers 0)) (λ rows. IsCombination counts (take width rows))
+  first_chosen : (answers : List AnswerView) → AllByRecursion Chosen answers → IfSome (rows_of (slice_get answers 0)) (λ rows. IsCombination counts (take width rows))
   first_chosen [] all = tt
   first_chosen (answer ∷ answers) all = all.0
 
-  last_same : (earlier : Option Seen) (answers : List Seen)
+  last_same : (earlier : Option AnswerView) (answers : List AnswerView)
       → option_map (take width) (rows_of (last_or earlier answers)) ≡ last_or (option_map combination earlier) (map combination answers)
   last_same None [] = refl
   last_same (Some answer) [] = refl
   last_same earlier (answer ∷ answers) = last_same (Some answer) answers
 
-  last_chosen : (earlier : Option Seen) (answers : List Seen) → IfSome (rows_of earlier) (λ rows. IsCombination counts (take width rows)) → AllByRecursion Chosen answers
+  last_chosen : (earlier : Option AnswerView) (answers : List AnswerView) → IfSome (rows_of earlier) (λ rows. IsCombination counts (take width rows)) → AllByRecursion Chosen answers
       → IfSome (rows_of (last_or earlier answers)) (λ rows. IsCombination counts (take width rows))
   last_chosen earlier [] before all = before
   last_chosen earlier (answer ∷ answers) before all = last_chosen (Some answer) answers all.0 all.1
 
-module _ (query : Query) (tables : List Table) (ends : Ends) (answers : List Seen) (all : AreCombinations query tables answers)
+module _ (query : Query) (tables : List Table) (ends : Ends) (answers : List AnswerView) (all : AreCombinations query tables answers)
     (h : HasEnds (cut query.limit answers) ends) where
   abbrev width : ℕ
   width = length query.items
@@ -77,7 +77,7 @@ module _ (query : Query) (tables : List Table) (ends : Ends) (answers : List See
   abbrev counts : List ℕ
   counts = row_counts query.items tables
 
-  abbrev given : List Seen
+  abbrev given : List AnswerView
   given = cut query.limit answers
 
   all_given : AllByRecursion (Chosen width counts) given

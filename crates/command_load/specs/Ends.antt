@@ -4,15 +4,15 @@ use Rattle.std.specs.List.{last_or, slice_get}
 use Rattle.std.specs.Prelude.{None}
 use Rattle.anyk_model.specs.Table.{Table}
 use Rattle.anyk_model.specs.Query.{Query}
-use Rattle.tdp_core.specs.SeenAnswers.{Seen}
+use Rattle.tdp_core.specs.AnswerView.{AnswerView}
 use Rattle.verdict.specs.Summary.{member_text, rows_in_all}
 use Rattle.command_load.specs.declared.ends.Ends.{Ends}
 
 -- the number of answers that were given, and the rows of the first and of the last of them
-pub record HasEnds (given : List Seen) (ends : Ends) : Type 0 where
+pub record HasEnds (given : List AnswerView) (ends : Ends) : Type 0 where
   pub count : ends.count ≡ length given
-  pub first : ends.first ≡ option_map (λ (answer : Seen). answer.rows) (slice_get given 0)
-  pub last : ends.last ≡ option_map (λ (answer : Seen). answer.rows) (last_or None given)
+  pub first : ends.first ≡ option_map (λ (answer : AnswerView). answer.rows) (slice_get given 0)
+  pub last : ends.last ≡ option_map (λ (answer : AnswerView). answer.rows) (last_or None given)
 
 -- the summary of answers with these ends
 abbrev pub ends_text : Query → List Table → Ends → List ℕ

@@ -2,7 +2,7 @@
 ghost use Rattle.std.specs.Prelude.{◌≡◌, ◌+◌, ◌++◌, ◌∷◌, ◌≤◌, ◌<◌, [], IfOk, List, length};
 ghost use Rattle.anyk_model.specs.Output.{cut};
 ghost use Rattle.step_bounds.specs.Steps.{calls_for, steps_for};
-ghost use Rattle.tdp_core.specs.SeenAnswers.{Seen};
+ghost use Rattle.tdp_core.specs.AnswerView.{AnswerView};
 ghost use Rattle.command_load.specs.Ends.{HasEnds};
 
 use std::sync::ledger::Ledger;
@@ -32,7 +32,7 @@ impl Ends {
     /// Adds one answer after the others.
     fn push(&mut self, rows: [u32; 16])
         requires { self.old.count < 18446744073709551615 }
-        ensures { (given : List Seen) (answer : Seen) → HasEnds given self.old → answer.rows ≡ rows
+        ensures { (given : List AnswerView) (answer : AnswerView) → HasEnds given self.old → answer.rows ≡ rows
             → HasEnds (given ++ answer ∷ []) self.new }
     {
         self.count += 1;

@@ -1,12 +1,12 @@
 //! Printing the text of a certificate.
 ghost use Rattle.std.specs.Prelude.{◌≡◌, List};
 ghost use Rattle.anyk_model.specs.Table.{Table};
-ghost use Rattle.plan_model.specs.Plan.{IsPlan, PlanData};
+ghost use Rattle.plan_model.specs.Plan.{IsPlan, PlanView};
 ghost use Rattle.proof_model.specs.ProofTexts.{IsProofText};
 ghost use Rattle.bound_query.specs.WeighedQuery.{Fits};
 ghost use Rattle.refusal_lines.specs.Printing.{PrintedSome};
 ghost use Rattle.refusal_lines.specs.SinkState.{state_of};
-ghost use Rattle.tdp_core.specs.SeenAnswers.{answers_of};
+ghost use Rattle.tdp_core.specs.AnswerView.{answers_of};
 ghost use Rattle.tdp_core.specs.Solutions.{IsTreeRanking};
 ghost use Rattle.tdp_model.specs.KeyTuple.{KeyOf};
 
@@ -31,11 +31,11 @@ pub fn print_proof<'a, R: Rank, E: Ranked<Key = R>, S: Sink, L: Ledger>(
     out: &mut S,
     steps: &mut Steps<L>,
 ) -> Result<(), Refusal<'a>>
-    requires planned { (tables : List Table) × (plan : PlanData R) × Fits query.now tables
+    requires planned { (tables : List Table) × (plan : PlanView R) × Fits query.now tables
         × IsPlan R.KEYS R.key query.now tables plan × (plan.tree ≡ tree.now) }
     requires rest { (ks : List (KeyOf R.KEYS 16)) × IsTreeRanking tree.now R.KEYS R.key ks
         × (E.rest engine.old ≡ answers_of R.KEYS ks) }
-    ensures printed { (tables : List Table) (plan : PlanData R) → Fits query.now tables
+    ensures printed { (tables : List Table) (plan : PlanView R) → Fits query.now tables
         → IsPlan R.KEYS R.key query.now tables plan → plan.tree ≡ tree.now
         → PrintedSome (IsProofText query.now.query tables) (state_of S.Sink out.old)
         (state_of S.Sink out.new) result }

@@ -2,7 +2,7 @@
 ghost use Rattle.std.specs.Prelude.{◌≡◌, ◌+◌, ◌++◌, ◌≤◌, IfOk, List, Some, drop, length, map, take, ℕ};
 ghost use Rattle.std.specs.List.{flat_map};
 ghost use Rattle.anyk_model.specs.Output.{cut, header_text, line_text, output_of};
-ghost use Rattle.answer_print.specs.StyleView.{style_shown};
+ghost use Rattle.answer_print.specs.StyleView.{style_view};
 ghost use Rattle.bound_query.specs.WeighedQuery.{Fits};
 ghost use Rattle.witness_key.specs.WitnessKey.{AreCombinations, combinations_in};
 ghost use Rattle.step_bounds.specs.Steps.{Paced, calls_for, steps_for, whole_lines};
@@ -33,7 +33,7 @@ pub fn print_ranking<'a, E: Ranked, S: Sink, L: Ledger>(
     requires fits { Fits query.now tables.now }
     requires rows { AreCombinations query.now.query tables.now (E.rest engine.old) }
     ensures printed { Printed (state_of S.Sink out.old) (state_of S.Sink out.new)
-        (output_of query.now.query tables.now (style_shown style.now)
+        (output_of query.now.query tables.now (style_view style.now)
         (cut query.now.query.limit (combinations_in query.now.query (E.rest engine.old)))) result }
     ensures bounded { steps.new ≤ steps.old
         + steps_for (λ n. E.share (E.size engine.old) (E.calls engine.old + n))
@@ -41,9 +41,9 @@ pub fn print_ranking<'a, E: Ranked, S: Sink, L: Ledger>(
     ensures prompt { (start part : List ℕ) → S.written out.old ≡ Some start
         → S.written out.new ≡ Some (start ++ part) → steps.new ≤ steps.old
         + steps_for (λ n. E.share (E.size engine.old) (E.calls engine.old + n)) (whole_lines
-        (map (line_text query.now.query tables.now (style_shown style.now))
+        (map (line_text query.now.query tables.now (style_view style.now))
         (cut query.now.query.limit (combinations_in query.now.query (E.rest engine.old))))
-        (drop (length (header_text query.now.query tables.now (style_shown style.now))) part) + 1) }
+        (drop (length (header_text query.now.query tables.now (style_view style.now))) part) + 1) }
 {
     print_header(alloc, query, tables, style, out)?;
     print_answers(alloc, query, tables, style, engine, out, steps)
@@ -62,10 +62,10 @@ fn print_answers<'a, E: Ranked, S: Sink, L: Ledger>(
     requires fits { Fits query.now tables.now }
     requires rows { AreCombinations query.now.query tables.now (E.rest engine.old) }
     ensures printed { Printed (state_of S.Sink out.old) (state_of S.Sink out.new)
-        (flat_map (line_text query.now.query tables.now (style_shown style.now))
+        (flat_map (line_text query.now.query tables.now (style_view style.now))
         (cut query.now.query.limit (combinations_in query.now.query (E.rest engine.old)))) result }
     ensures paced { Paced (λ n. E.share (E.size engine.old) (E.calls engine.old + n))
-        (map (line_text query.now.query tables.now (style_shown style.now))
+        (map (line_text query.now.query tables.now (style_view style.now))
         (cut query.now.query.limit (combinations_in query.now.query (E.rest engine.old))))
         (calls_for query.now.query.limit (combinations_in query.now.query (E.rest engine.old)))
         (S.written out.old) (S.written out.new) steps.old steps.new }

@@ -1,7 +1,7 @@
 //! The step `next`: members from a cursor's place.
 ghost use Rattle.std.specs.Prelude.{◌≡◌, ◌≤◌, ◌<◌, ◌+◌, ◌++◌, IfNone, IfOk, IfSome, IsSomeAnd, IsTrue, OnOk, Some, false, codes, drop, length, slice_get, take};
 ghost use Rattle.anyk_model.specs.Output.{cut, line_text};
-ghost use Rattle.answer_print.specs.StyleView.{style_shown};
+ghost use Rattle.answer_print.specs.StyleView.{style_view};
 ghost use Rattle.cursor_set.specs.CursorSet.{place_of, with_place};
 ghost use Rattle.bound_query.specs.WeighedQuery.{Fits};
 ghost use Rattle.refusal_lines.specs.Printing.{Printed};
@@ -45,7 +45,7 @@ pub(crate) fn print_next<'a, E: Ranked, S: Sink, L: Ledger>(
     requires place { place_of set.old id.number ≡ Some cursor.old.place }
     ensures printed { Printed (state_of S.Sink out.old) (state_of S.Sink out.new)
         (next_text (line_text query.now.query tables.now
-        (with_name (style_shown style.now) cursor.old.name.now)) (cursor.old.name.now ++ codes "\n")
+        (with_name (style_view style.now) cursor.old.name.now)) (cursor.old.name.now ++ codes "\n")
         (drop cursor.old.place
         (cut query.now.query.limit
         (combinations_in query.now.query set.old.answers))) count) result }

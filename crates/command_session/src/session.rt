@@ -1,7 +1,7 @@
 //! A session, one step after another.
 ghost use Rattle.std.specs.Prelude.{◌≡◌, ◌≤◌, ◌+◌, ◌*◌, [], IsSome, None, OnOk, map, option_map, replicate};
 ghost use Rattle.anyk_model.specs.Output.{cut, line_text};
-ghost use Rattle.answer_print.specs.StyleView.{style_shown};
+ghost use Rattle.answer_print.specs.StyleView.{style_view};
 ghost use Rattle.bound_query.specs.WeighedQuery.{Fits};
 ghost use Rattle.refusal_lines.specs.Printing.{Printed};
 ghost use Rattle.refusal_lines.specs.SinkState.{state_of};
@@ -47,7 +47,7 @@ pub fn print_session<'a, E: Ranked + Drop, S: Sink, L: Ledger>(
     requires rows { AreCombinations query.now.query tables.now (E.rest engine) }
     requires rules { KeepsRules [] script.now }
     ensures printed { Printed (state_of S.Sink out.old) (state_of S.Sink out.new)
-        (session_text query.now.query tables.now (style_shown style.now)
+        (session_text query.now.query tables.now (style_view style.now)
         (cut query.now.query.limit
         (combinations_in query.now.query (E.rest engine))) script.now) result }
     ensures bounded { steps.new ≤ steps.old
@@ -88,7 +88,7 @@ fn print_steps<'a, E: Ranked, S: Sink, L: Ledger>(
     requires rules { KeepsRules [] script.now }
     ensures printed { Printed (state_of S.Sink out.old) (state_of S.Sink out.new)
         (steps_text (λ name. line_text query.now.query tables.now
-        (with_name (style_shown style.now) name))
+        (with_name (style_view style.now) name))
         (cut query.now.query.limit
         (combinations_in query.now.query set.old.answers)) no_cursors script.now) result }
     ensures within { IsWithin E.share set.old
@@ -142,7 +142,7 @@ fn take_step<'a, 's, E: Ranked, S: Sink, L: Ledger>(
         → CanStep places step.now
         → Printed (state_of S.Sink out.old) (state_of S.Sink out.new)
         (step_text (λ name. line_text query.now.query tables.now
-        (with_name (style_shown style.now) name))
+        (with_name (style_view style.now) name))
         (cut query.now.query.limit
         (combinations_in query.now.query set.old.answers)) places step.now) result }
     ensures held { (places : Places) → IsHeld set.old cursors.old places → CanStep places step.now
@@ -204,7 +204,7 @@ fn take_next<'a, E: Ranked, S: Sink, L: Ledger>(
         → IsSome (places name.now)
         → Printed (state_of S.Sink out.old) (state_of S.Sink out.new)
         (step_text (λ name. line_text query.now.query tables.now
-        (with_name (style_shown style.now) name))
+        (with_name (style_view style.now) name))
         (cut query.now.query.limit (combinations_in query.now.query set.old.answers)) places
         (Next name.now count)) result }
     ensures held { (places : Places) → IsHeld set.old cursors.old places → IsSome (places name.now)

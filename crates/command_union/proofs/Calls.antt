@@ -3,12 +3,12 @@ use Rattle.std.proofs.Common.{◌≡◌, ◌≢◌, ◌≤◌, ◌<◌, ◌+◌,
 use Rattle.std.proofs.lemmas.Bool.{cases_eq, cases_lt, eq-eqb}
 use Rattle.std.proofs.lemmas.List.{get_or_past, length-append}
 use Rattle.std.proofs.lemmas.List.Elements.{filter-append}
-use Rattle.tdp_core.specs.SeenAnswers.{counted}
+use Rattle.tdp_core.specs.AnswerView.{counted}
 use Rattle.step_bounds.specs.Steps.{steps_for}
 use Rattle.step_bounds.proofs.Pacing.{steps_more, steps_next}
 use Rattle.union_list.specs.TaggedRows.{Tagged}
 use Rattle.union_list.specs.Union.{members_in}
-use Rattle.union_all.specs.Merge.{EngineSeen, IsCalled, Merged, engine_at}
+use Rattle.union_all.specs.Merge.{EngineView, IsCalled, MergeView, engine_at}
 use Rattle.command_union.specs.UnionSteps.{steps_from, union_steps}
 
 -- ---- members of a branch
@@ -28,11 +28,11 @@ one_of b m e = by (m.branch == b) (eq-eqb m.branch b e)
 -- ---- steps of the calls
 
 module _ (share : List ℕ → ℕ → ℕ) (rises : (s : List ℕ) (c d : ℕ) → c ≤ d → share s c ≤ share s d) where
-  rises_at : (e : EngineSeen) (c d : ℕ) → c ≤ d → share e.size (e.calls + c) ≤ share e.size (e.calls + d)
+  rises_at : (e : EngineView) (c d : ℕ) → c ≤ d → share e.size (e.calls + c) ≤ share e.size (e.calls + d)
   rises_at e c d h = rises e.size (e.calls + c) (e.calls + d) (omega (arith, h))
 
   -- members that are added add steps
-  pub steps_rise : (xs ys : List Tagged) (b : ℕ) (engines : List EngineSeen)
+  pub steps_rise : (xs ys : List Tagged) (b : ℕ) (engines : List EngineView)
       → steps_from share xs b engines ≤ steps_from share (xs ++ ys) b engines
   steps_rise xs ys b [] = omega arith
   steps_rise xs ys b (e ∷ engines) =
@@ -43,7 +43,7 @@ module _ (share : List ℕ → ℕ → ℕ) (rises : (s : List ℕ) (c d : ℕ) 
       omega (arith, here, there)
 
   -- one call more of one engine
-  steps_one : (e : EngineSeen) (i : ℕ) → steps_for (λ n. share e.size (e.calls + n)) i + share e.size (e.calls + i)
+  steps_one : (e : EngineView) (i : ℕ) → steps_for (λ n. share e.size (e.calls + n)) i + share e.size (e.calls + i)
       ≤ steps_for (λ n. share e.size (e.calls + n)) (i + 1)
   steps_one e i =
       let all = steps_next (λ n. share e.size (e.calls + n)) (rises_at e) i 0
@@ -52,7 +52,7 @@ module _ (share : List ℕ → ℕ → ℕ) (rises : (s : List ℕ) (c d : ℕ) 
       omega (arith, all)
 
   -- one member more of branch b + j
-  pub steps_add : (xs : List Tagged) (m : Tagged) (b j : ℕ) (engines : List EngineSeen) → m.branch ≡ b + j
+  pub steps_add : (xs : List Tagged) (m : Tagged) (b j : ℕ) (engines : List EngineView) → m.branch ≡ b + j
       → j < length engines
       → steps_from share xs b engines + share (engine_at engines j).size
       ((engine_at engines j).calls + members_in m.branch xs)
@@ -79,7 +79,7 @@ module _ (share : List ℕ → ℕ → ℕ) (rises : (s : List ℕ) (c d : ℕ) 
 -- ---- engines that gave members
 
 -- these members were given, and each branch's engine was called for its own ones and for no others
-pub record AreCalled (share : List ℕ → ℕ → ℕ) (old new : List EngineSeen) (given : List Tagged) (before now : ℕ) :
+pub record AreCalled (share : List ℕ → ℕ → ℕ) (old new : List EngineView) (given : List Tagged) (before now : ℕ) :
     Type 0 where
   pub count : length new ≡ length old
   pub size : (b : ℕ) → (engine_at new b).size ≡ (engine_at old b).size
@@ -87,7 +87,7 @@ pub record AreCalled (share : List ℕ → ℕ → ℕ) (old new : List EngineSe
   pub spent : now ≤ before + union_steps share old given
 
 -- none was given yet
-pub none_called : (share : List ℕ → ℕ → ℕ) (engines : List EngineSeen) (steps : ℕ)
+pub none_called : (share : List ℕ → ℕ → ℕ) (engines : List EngineView) (steps : ℕ)
     → AreCalled share engines engines [] steps steps
 none_called share engines steps = record {
   count = refl;
@@ -97,23 +97,23 @@ none_called share engines steps = record {
 }
 
 -- a call counts only at an engine that is there
-called_inside : (share : List ℕ → ℕ → ℕ) (old new : Merged) (b before now : ℕ) → IsCalled share old new b before now
+called_inside : (share : List ℕ → ℕ → ℕ) (old new : MergeView) (b before now : ℕ) → IsCalled share old new b before now
     → b < length old.engines
 called_inside share old new b before now h = elim (cases_lt b (length old.engines))
     [ inl inside ↦ inside | inr past ↦ absurd (none past) ]
   where
     none : length old.engines ≤ b → ⊥
     none past =
-        let none_there : EngineSeen = record { calls = 0; due = 0; size = [] } in
-        let first = ap (λ (e : EngineSeen). e.calls) (get_or_past old.engines b none_there past) in
-        let later = ap (λ (e : EngineSeen). e.calls) (get_or_past new.engines b none_there
+        let none_there : EngineView = record { calls = 0; due = 0; size = [] } in
+        let first = ap (λ (e : EngineView). e.calls) (get_or_past old.engines b none_there past) in
+        let later = ap (λ (e : EngineView). e.calls) (get_or_past new.engines b none_there
         (let count = h.count in omega (arith, count, past))) in
         let one : (engine_at new.engines b).calls ≡ counted (engine_at old.engines b).calls = h.called.calls in
         omega (arith, first, later, one)
 
 module _ (share : List ℕ → ℕ → ℕ) (rises : (s : List ℕ) (c d : ℕ) → c ≤ d → share s c ≤ share s d) where
   -- one member more
-  pub called_more : (first : List EngineSeen) (old new : Merged) (given : List Tagged) (m : Tagged)
+  pub called_more : (first : List EngineView) (old new : MergeView) (given : List Tagged) (m : Tagged)
       (before now later : ℕ)
       → AreCalled share first old.engines given before now → IsCalled share old new m.branch now later
       → AreCalled share first new.engines (given ++ m ∷ []) before later
@@ -141,7 +141,7 @@ module _ (share : List ℕ → ℕ → ℕ) (rises : (s : List ℕ) (c d : ℕ) 
           → (engine_at new.engines b).size ≡ (engine_at first b).size
       by_size b (inl same) = subst (λ n. (engine_at new.engines n).size ≡ (engine_at first n).size) (sym same)
           (one.called.size ∙ h.size m.branch)
-      by_size b (inr other) = ap (λ (e : EngineSeen). e.size) (one.others b other) ∙ h.size b
+      by_size b (inr other) = ap (λ (e : EngineView). e.size) (one.others b other) ∙ h.size b
 
       by_few : (b : ℕ) → (b ≡ m.branch) ⊎ (b ≢ m.branch)
           → (engine_at new.engines b).calls ≤ (engine_at first b).calls + members_in b (given ++ m ∷ [])
@@ -157,7 +157,7 @@ module _ (share : List ℕ → ℕ → ℕ) (rises : (s : List ℕ) (c d : ℕ) 
           subst (λ n. (engine_at new.engines n).calls ≤ (engine_at first n).calls + members_in n (given ++ m ∷ []))
           (sym same) here
       by_few b (inr other) =
-          let kept = ap (λ (e : EngineSeen). e.calls) (one.others b other) in
+          let kept = ap (λ (e : EngineView). e.calls) (one.others b other) in
           let low = h.few b in
           let more = members_append b given (m ∷ []) in
           omega (arith, kept, low, more)

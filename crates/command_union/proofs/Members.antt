@@ -7,9 +7,9 @@ use Rattle.anyk_model.specs.Query.{Query}
 use Rattle.anyk_model.specs.Table.{Table}
 use Rattle.refusal_lines.specs.SinkState.{SinkState}
 use Rattle.union_list.specs.TaggedRows.{Tagged}
-use Rattle.union_all.specs.Merge.{IsCalled, Merged}
+use Rattle.union_all.specs.Merge.{IsCalled, MergeView}
 use Rattle.refusal_lines.proofs.Prints.{appends_nothing}
-use Rattle.union_all.specs.Firsts.{tagged_shown}
+use Rattle.union_all.specs.Firsts.{tagged_view}
 use Rattle.union_all.specs.declared.tagged.Tagged as stored
 use Rattle.command_run.proofs.Given.{HasGiven, given_more}
 use Rattle.command_union.specs.UnionSteps.{AreMembers, IsMember, UnionPaced, union_steps}
@@ -22,7 +22,7 @@ itself m = m
 
 -- the first i members were given and printed, with a call for each
 pub record HasPrinted (share : List ℕ → ℕ → ℕ) (all : List Query) (tables : List Table) (f : Tagged → List ℕ)
-    (first : Merged) (i : ℕ) (now : Merged)
+    (first : MergeView) (i : ℕ) (now : MergeView)
     (old new : SinkState) (before spent : ℕ) : Type 0 where
   pub given : HasGiven (IsMember all tables) f itself first.rest i now.rest old new
   pub called : AreCalled share first.engines now.engines (take i first.rest) before spent
@@ -41,7 +41,7 @@ take_next xs i m later e = let same : i + 1 ≡ suc i = omega arith in ap (λ n.
 
 -- the call for the next member
 pub called_next : (share : List ℕ → ℕ → ℕ) → ((s : List ℕ) (c d : ℕ) → c ≤ d → share s c ≤ share s d)
-    → (first now new : Merged) (i : ℕ) (m : Tagged) (later : List Tagged)
+    → (first now new : MergeView) (i : ℕ) (m : Tagged) (later : List Tagged)
     (before spent after : ℕ) → map itself now.rest ≡ drop i first.rest → now.rest ≡ m ∷ later
     → AreCalled share first.engines now.engines (take i first.rest) before spent
     → IsCalled share now new m.branch spent after → AreCalled share first.engines new.engines
@@ -53,7 +53,7 @@ called_next share rises first now new i m later before spent after rest head cal
     (called_more share rises first.engines now new (take i first.rest) m before spent after called one)
 
 module _ (share : List ℕ → ℕ → ℕ) (rises : (s : List ℕ) (c d : ℕ) → c ≤ d → share s c ≤ share s d) (all : List Query)
-    (tables : List Table) (f : Tagged → List ℕ) (first : Merged) where
+    (tables : List Table) (f : Tagged → List ℕ) (first : MergeView) where
   -- before the first call
   pub none_printed : (s : SinkState) (steps : ℕ) → AreMembers all tables first.rest
       → HasPrinted share all tables f first 0 first s s steps steps
@@ -69,7 +69,7 @@ module _ (share : List ℕ → ℕ → ℕ) (rises : (s : List ℕ) (c d : ℕ) 
     queries = refl;
   }
 
-  module _ (limit : Option ℕ) (i : ℕ) (now : Merged) (old mid : SinkState) (before spent : ℕ)
+  module _ (limit : Option ℕ) (i : ℕ) (now : MergeView) (old mid : SinkState) (before spent : ℕ)
       (h : HasPrinted share all tables f first i now old mid before spent) where
     -- the steps, if no call was made after the last record
     pub paced_same : IfSome limit (λ n. i ≤ n) → UnionPaced (union_steps share first.engines) f (cut limit first.rest)
@@ -79,7 +79,7 @@ module _ (share : List ℕ → ℕ → ℕ) (rises : (s : List ℕ) (c d : ℕ) 
         (λ xs ys. steps_rise share rises xs ys 0 first.engines) i before spent (omega arith) low h.called.spent
         old.written mid.written mid.written [] h.given.sent (appends_nothing mid.written)
 
-    module _ (m : Tagged) (later : List Tagged) (next : Merged) (after : ℕ) (head : now.rest ≡ m ∷ later)
+    module _ (m : Tagged) (later : List Tagged) (next : MergeView) (after : ℕ) (head : now.rest ≡ m ∷ later)
         (one : IsCalled share now next m.branch spent after) where
       -- the steps, if one call was made after the last record, and a part of the next record was written
       pub paced_next : IfSome limit (λ n. i < n) → IfSome limit (λ n. i ≤ n)
@@ -106,8 +106,8 @@ module _ (share : List ℕ → ℕ → ℕ) (rises : (s : List ℕ) (c d : ℕ) 
       }
 
 -- what was stored of a member, seen by the same queries
-pub seen_by : (now : Merged) (t : stored.Tagged) (later : List Tagged) (all first : List Query) → now.queries ≡ first
-    → first ≡ all → now.rest ≡ tagged_shown now.queries t ∷ later
-    → now.rest ≡ tagged_shown all t ∷ later
-seen_by now t later all first same is found = subst (λ (qs : List Query). now.rest ≡ tagged_shown qs t ∷ later)
+pub seen_by : (now : MergeView) (t : stored.Tagged) (later : List Tagged) (all first : List Query) → now.queries ≡ first
+    → first ≡ all → now.rest ≡ tagged_view now.queries t ∷ later
+    → now.rest ≡ tagged_view all t ∷ later
+seen_by now t later all first same is found = subst (λ (qs : List Query). now.rest ≡ tagged_view qs t ∷ later)
     (same ∙ is) found

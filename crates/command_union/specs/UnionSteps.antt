@@ -6,17 +6,17 @@ use Rattle.anyk_model.specs.Table.{Table}
 use Rattle.step_bounds.specs.Steps.{steps_for, whole_lines}
 use Rattle.union_list.specs.TaggedRows.{Tagged, branch_at}
 use Rattle.union_list.specs.Union.{members_in}
-use Rattle.union_all.specs.Merge.{EngineSeen}
+use Rattle.union_all.specs.Merge.{EngineView}
 
 -- the most steps of the calls of each branch's engine for its members in the list; the first of these
 -- branches has the number b
-abbrev pub steps_from : (List ℕ → ℕ → ℕ) → List Tagged → ℕ → List EngineSeen → ℕ
+abbrev pub steps_from : (List ℕ → ℕ → ℕ) → List Tagged → ℕ → List EngineView → ℕ
 steps_from share list b [] = 0
 steps_from share list b (engine ∷ engines) =
     steps_for (λ n. share engine.size (engine.calls + n)) (members_in b list)
     + steps_from share list (b + 1) engines
 
-abbrev pub union_steps : (List ℕ → ℕ → ℕ) → List EngineSeen → List Tagged → ℕ
+abbrev pub union_steps : (List ℕ → ℕ → ℕ) → List EngineView → List Tagged → ℕ
 union_steps share engines list = steps_from share list 0 engines
 
 -- members are combinations of rows of their branches

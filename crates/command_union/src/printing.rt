@@ -2,13 +2,13 @@
 ghost use Rattle.std.specs.Prelude.{◌≡◌, ◌+◌, ◌++◌, ◌≤◌, List, Some, drop, length, map, take, ℕ};
 ghost use Rattle.std.specs.List.{All, flat_map};
 ghost use Rattle.anyk_model.specs.Output.{cut};
-ghost use Rattle.answer_print.specs.StyleView.{style_shown};
+ghost use Rattle.answer_print.specs.StyleView.{style_view};
 ghost use Rattle.bound_query.specs.WeighedQuery.{Fits};
 ghost use Rattle.step_bounds.specs.Steps.{whole_lines};
 ghost use Rattle.refusal_lines.specs.Printing.{Printed};
 ghost use Rattle.refusal_lines.specs.SinkState.{state_of};
 ghost use Rattle.union_list.specs.UnionOutput.{union_header_text, union_line_text, union_output_of};
-ghost use Rattle.union_all.specs.Firsts.{tagged_shown};
+ghost use Rattle.union_all.specs.Firsts.{tagged_view};
 ghost use Rattle.command_union.specs.UnionSteps.{AreMembers, IsMember, UnionPaced, union_steps};
 
 use answer_print::{AnswerWriter, Style};
@@ -40,7 +40,7 @@ pub fn print_union<'a, 'q, E: Ranked + Drop, S: Sink, L: Ledger>(
     requires members { AreMembers (map (λ q. q.query) queries.now) tables.now merge.old.rest }
     ensures printed { let all = map (λ q. q.query) queries.now in
         Printed (state_of S.Sink out.old) (state_of S.Sink out.new)
-        (union_output_of all tables.now (style_shown style.now) (cut limit merge.old.rest)) result }
+        (union_output_of all tables.now (style_view style.now) (cut limit merge.old.rest)) result }
     ensures bounded { steps.new
         ≤ steps.old + union_steps E.share merge.old.engines (cut limit merge.old.rest) }
     ensures prompt { let all = map (λ q. q.query) queries.now in
@@ -48,8 +48,8 @@ pub fn print_union<'a, 'q, E: Ranked + Drop, S: Sink, L: Ledger>(
         (start part : List ℕ) → S.written out.old ≡ Some start
         → S.written out.new ≡ Some (start ++ part)
         → steps.new ≤ steps.old + union_steps E.share merge.old.engines
-        (take (whole_lines (map (union_line_text all tables.now (style_shown style.now)) members)
-        (drop (length (union_header_text all tables.now (style_shown style.now))) part)
+        (take (whole_lines (map (union_line_text all tables.now (style_view style.now)) members)
+        (drop (length (union_header_text all tables.now (style_view style.now))) part)
         + 1) members) }
 {
     print_union_header(alloc, queries, tables, style, out)?;
@@ -79,7 +79,7 @@ fn print_union_header<'a, S: Sink>(
     requires fits { All (λ q. Fits q tables.now) queries.now }
     ensures { Printed (state_of S.Sink out.old) (state_of S.Sink out.new)
         (union_header_text (map (λ q. q.query) queries.now) tables.now
-        (style_shown style.now)) result }
+        (style_view style.now)) result }
 {
     let text = header_of(alloc, queries, tables, style)?;
     print(out, &text)
@@ -102,11 +102,11 @@ fn print_members<'a, 'q, E: Ranked + Drop, S: Sink, L: Ledger>(
     requires members { AreMembers (map (λ q. q.query) queries.now) tables.now merge.old.rest }
     ensures printed { let all = map (λ q. q.query) queries.now in
         Printed (state_of S.Sink out.old) (state_of S.Sink out.new)
-        (flat_map (union_line_text all tables.now (style_shown style.now))
+        (flat_map (union_line_text all tables.now (style_view style.now))
         (cut limit merge.old.rest)) result }
     ensures paced { let all = map (λ q. q.query) queries.now in
         UnionPaced (union_steps E.share merge.old.engines)
-        (union_line_text all tables.now (style_shown style.now)) (cut limit merge.old.rest)
+        (union_line_text all tables.now (style_view style.now)) (cut limit merge.old.rest)
         (S.written out.old) (S.written out.new) steps.old steps.new }
 {
     let most = limit.unwrap_or(u64::MAX);
@@ -135,11 +135,11 @@ fn print_member<'a, S: Sink>(
 ) -> Result<(), Refusal<'a>>
     requires fits { All (λ q. Fits q tables.now) queries.now }
     requires member { let all = map (λ q. q.query) queries.now in
-        IsMember all tables.now (tagged_shown all tagged.now) }
+        IsMember all tables.now (tagged_view all tagged.now) }
     ensures { let all = map (λ q. q.query) queries.now in
         Printed (state_of S.Sink out.old) (state_of S.Sink out.new)
-        (union_line_text all tables.now (style_shown style.now)
-        (tagged_shown all tagged.now)) result }
+        (union_line_text all tables.now (style_view style.now)
+        (tagged_view all tagged.now)) result }
 {
     write_line_of(alloc, records, tagged, queries, tables, style)?;
     print(out, records.text())

@@ -3,7 +3,7 @@ ghost use Rattle.std.specs.Prelude.{length, map, take};
 ghost use Rattle.std.specs.List.{AllByRecursion, flat_map};
 ghost use Rattle.anyk_model.specs.Output.{line_text, output_of};
 ghost use Rattle.anyk_model.specs.Query.{IsCombination, row_counts};
-ghost use Rattle.answer_print.specs.StyleView.{style_shown};
+ghost use Rattle.answer_print.specs.StyleView.{style_view};
 ghost use Rattle.bound_query.specs.WeighedQuery.{Fits};
 ghost use Rattle.refusal_lines.specs.Printing.{Printed};
 ghost use Rattle.refusal_lines.specs.SinkState.{state_of};
@@ -30,7 +30,7 @@ pub fn print_listed<'a, S: Sink>(
         (λ rows. IsCombination (row_counts query.now.query.items tables.now)
         (take (length query.now.query.items) rows)) answers.now }
     ensures { Printed (state_of S.Sink out.old) (state_of S.Sink out.new)
-        (output_of query.now.query tables.now (style_shown style.now)
+        (output_of query.now.query tables.now (style_view style.now)
         (map (take (length query.now.query.items)) answers.now)) result }
 {
     print_header(alloc, query, tables, style, out)?;
@@ -51,7 +51,7 @@ fn print_records<'a, S: Sink>(
         (λ rows. IsCombination (row_counts query.now.query.items tables.now)
         (take (length query.now.query.items) rows)) answers.now }
     ensures { Printed (state_of S.Sink out.old) (state_of S.Sink out.new)
-        (flat_map (line_text query.now.query tables.now (style_shown style.now))
+        (flat_map (line_text query.now.query tables.now (style_view style.now))
         (map (take (length query.now.query.items)) answers.now)) result }
 {
     let mut records = AnswerWriter::new(alloc);

@@ -5,7 +5,7 @@ use Rattle.std.proofs.lemmas.List.{get_or-set_same, set-set, set-get_or}
 use Rattle.cursor_set.specs.declared.cursor_id.CursorFault.{CursorFault}
 use Rattle.cursor_set.specs.declared.cursor_id.CursorFault.TheVariants.{Unknown, TooMany, NoMemory}
 use Rattle.cursor_set.specs.CursorSet.{CursorSet, Keeps, place_of}
-use Rattle.tdp_core.specs.SeenAnswers.{counted}
+use Rattle.tdp_core.specs.AnswerView.{counted}
 use Rattle.cursor_set.specs.Faults.{RefusesNext, refused_after}
 
 -- the place of an open cursor

@@ -4,7 +4,7 @@ use Rattle.std.proofs.Math.ListN.{set}
 use Rattle.std.specs.List.{All, slice_get}
 use Rattle.std.proofs.lemmas.Bool.{false≢true}
 use Rattle.std.proofs.lemmas.List.Elements.{All-set}
-use Rattle.tdp_core.specs.SeenAnswers.{Seen}
+use Rattle.tdp_core.specs.AnswerView.{AnswerView}
 use Rattle.cursor_set.specs.CursorSet.{CursorSet, IsKnownAt, place_of, seen_of, with_place}
 use Rattle.cursor_set.proofs.Driving.{in_range, some_injective}
 
@@ -94,7 +94,7 @@ end_there v old id p n e at same all =
     subst (λ s. place_of s id ≡ Some (length s.answers)) e (at ∙ ap Some (sym same ∙ sym all))
 
 -- the answer at the place of a cursor, which moved on
-pub some_at : (v old : CursorSet) (id p known : ℕ) (places : List (Option ℕ)) (r : Seen) → v ≡ old → place_of v id ≡ Some p → slice_get v.answers p ≡ Some r → places ≡ set v.places id (Some (p + 1)) → p + 1 ≤ known → IsSomeAnd (place_of old id) (λ place. (slice_get old.answers place ≡ Some r) × (places ≡ (with_place old id (Some (place + 1))).places) × (place + 1 ≤ known))
+pub some_at : (v old : CursorSet) (id p known : ℕ) (places : List (Option ℕ)) (r : AnswerView) → v ≡ old → place_of v id ≡ Some p → slice_get v.answers p ≡ Some r → places ≡ set v.places id (Some (p + 1)) → p + 1 ≤ known → IsSomeAnd (place_of old id) (λ place. (slice_get old.answers place ≡ Some r) × (places ≡ (with_place old id (Some (place + 1))).places) × (place + 1 ≤ known))
 some_at v old id p known places r e at got same within =
     subst (λ x. IsSomeAnd (place_of x id) (λ place. (slice_get x.answers place ≡ Some r) × (places ≡ (with_place x id (Some (place + 1))).places) × (place + 1 ≤ known))) e
     (subst (λ o. IsSomeAnd o (λ place. (slice_get v.answers place ≡ Some r) × (places ≡ (with_place v id (Some (place + 1))).places) × (place + 1 ≤ known))) (sym at) (got, same, within))

@@ -1,11 +1,11 @@
 -- What contracts see of a set of cursors.
 use Rattle.std.specs.Prelude.{◌≡◌, ℕ, ◌+◌, ◌≤◌, Bool, true, if◌then◌else◌, ◌⊎◌, Option, Some, None, IfSome, is_none, List, All, position, slice_index_or, slice_set}
-use Rattle.tdp_core.specs.SeenAnswers.{Seen}
+use Rattle.tdp_core.specs.AnswerView.{AnswerView}
 
 -- cursors over one list of answers
 pub record CursorSet : Type 0 where
   -- the answers, found or not
-  pub answers : List Seen
+  pub answers : List AnswerView
   -- how many of them were found
   pub known : ℕ
   -- whether the end was seen

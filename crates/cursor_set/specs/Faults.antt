@@ -1,6 +1,6 @@
 -- Why calls on a set of cursors are refused.
 use Rattle.std.specs.Prelude.{◌≡◌, ℕ, ◌≤◌, false, None, Result, Ok, Err, IsSome, IsSomeAnd}
-use Rattle.tdp_core.specs.SeenAnswers.{counted}
+use Rattle.tdp_core.specs.AnswerView.{counted}
 use Rattle.cursor_set.specs.declared.cursor_id.CursorFault.{CursorFault}
 use Rattle.cursor_set.specs.declared.cursor_id.CursorFault.TheVariants.{Unknown, TooMany, NoMemory}
 use Rattle.cursor_set.specs.CursorSet.{CursorSet, place_of, first_free}

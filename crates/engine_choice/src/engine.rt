@@ -1,11 +1,11 @@
 //! The engine that was asked for.
 ghost use Rattle.std.specs.Prelude.{◌≡◌, ◌+◌, ◌*◌, ◌≤◌, IfOk, List, length};
 ghost use Rattle.tdp_model.specs.KeyTuple.{KeyOf};
-ghost use Rattle.tdp_core.specs.SeenAnswers.{answers_of};
+ghost use Rattle.tdp_core.specs.AnswerView.{answers_of};
 ghost use Rattle.tdp_core.specs.RisingShares.{at_most_itself, shares_rise};
 ghost use Rattle.tdp_core.specs.Shares.{share_of, size_of};
 ghost use Rattle.tdp_core.specs.Solutions.{IsTreeRanking};
-ghost use Rattle.tdp_core.specs.TreeData.{row_count};
+ghost use Rattle.tdp_core.specs.TreeView.{row_count};
 ghost use Rattle.tdp_core.specs.WellFormed.{IsTieFreeTree};
 ghost use Rattle.tree_dp.specs.BestRanking.{IsBestRanking};
 ghost use Rattle.engine_choice.specs.Engines.{calls_of, rest_of, tree_of};

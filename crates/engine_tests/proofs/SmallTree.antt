@@ -12,8 +12,8 @@ use Rattle.rank_key.specs.Keys.{IsHeld, IsWithin, KeyFits, row_key}
 use Rattle.engine_tests.specs.SmallNodes.{small_caps, small_shape, root_node, leaf_node}
 use Rattle.tdp_core.specs.declared.parts.NodeShape.{NodeShape}
 use Rattle.tdp_core.specs.declared.parts.NodeParts.{NodeParts}
-use Rattle.tdp_core.specs.RawData.{AreShapes, AreShapesHeld, shape_children}
-use Rattle.tdp_core.specs.TreeData.{NodeData, node_data, tree_data, kids_below, parent, item, cap, rows, number, child_count, child_place, group_count, group_named, members, group, rank, best, node_at}
+use Rattle.tdp_core.specs.RawView.{AreShapes, AreShapesHeld, shape_children}
+use Rattle.tdp_core.specs.TreeView.{NodeView, node_view, tree_view, kids_below, parent, item, cap, rows, number, child_count, child_place, group_count, group_named, members, group, rank, best, node_at}
 use Rattle.tdp_core.specs.WellFormed.{AreHeld, IsShaped, IsFormed, RowFits}
 use Rattle.tdp_core.proofs.RowKeys.{row_key_fits}
 use Rattle.engine_tests.proofs.Held.{two_nodes_held, two_rows_held}
@@ -81,7 +81,7 @@ unfolding kids_below
 leaf_children = refl
 
 module _ {R : Type 0} (top later sooner whole : R) where
-  abbrev pub small_nodes : List (NodeData R)
+  abbrev pub small_nodes : List (NodeView R)
   small_nodes = root_node top whole ∷ leaf_node later sooner ∷ []
 
   pub one_child : child_count small_nodes 0 ≡ 1
@@ -196,9 +196,9 @@ module _ {R : Type 0} (top later sooner whole : R) where
     }
 
 -- the parts that a function makes are these nodes
-pub small_data : {R : Type 0} {top later sooner whole : R} {root leaf : NodeParts R} {parts : List (NodeParts R)} → parts ≡ root ∷ leaf ∷ [] → node_data root ≡ root_node top whole
-    → node_data leaf ≡ leaf_node later sooner → tree_data parts ≡ small_nodes top later sooner whole
-small_data {top = top} {whole = whole} {leaf = leaf} e r l = ap tree_data e ∙ ap (λ n. n ∷ node_data leaf ∷ []) r ∙ ap (λ n. root_node top whole ∷ n ∷ []) l
+pub small_data : {R : Type 0} {top later sooner whole : R} {root leaf : NodeParts R} {parts : List (NodeParts R)} → parts ≡ root ∷ leaf ∷ [] → node_view root ≡ root_node top whole
+    → node_view leaf ≡ leaf_node later sooner → tree_view parts ≡ small_nodes top later sooner whole
+small_data {top = top} {whole = whole} {leaf = leaf} e r l = ap tree_view e ∙ ap (λ n. n ∷ node_view leaf ∷ []) r ∙ ap (λ n. root_node top whole ∷ n ∷ []) l
 
 module _ {R : Type 0} {d items limit rows : ℕ} (key : R → KeyOf d 16)
     (holds : (k : KeyOf d 16) → IsWithin d items limit rows k → IsHeld d key k)

@@ -2,7 +2,7 @@
 -- 0 with two rows.
 use Rattle.std.specs.Prelude.{ℕ, List, [], ◌∷◌}
 use Rattle.tdp_core.specs.declared.parts.NodeShape.{NodeShape}
-use Rattle.tdp_core.specs.TreeData.{NodeData}
+use Rattle.tdp_core.specs.TreeView.{NodeView}
 
 -- the caps of each node
 abbrev pub small_caps : List ℕ
@@ -13,7 +13,7 @@ abbrev pub small_shape : ℕ → NodeShape
 small_shape item = record { parent = 0; item = item; caps = small_caps }
 
 -- the root, whose row has one rank, and with the best row below it another
-abbrev pub root_node : {R : Type 0} (top whole : R) → NodeData R
+abbrev pub root_node : {R : Type 0} (top whole : R) → NodeView R
 root_node top whole = record {
   shape = small_shape 1;
   rows = record { rank = top; row = 4 } ∷ [];
@@ -23,7 +23,7 @@ root_node top whole = record {
 }
 
 -- the child, whose second row has the lesser rank
-abbrev pub leaf_node : {R : Type 0} (later sooner : R) → NodeData R
+abbrev pub leaf_node : {R : Type 0} (later sooner : R) → NodeView R
 leaf_node later sooner = record {
   shape = small_shape 0;
   rows = record { rank = later; row = 3 } ∷ record { rank = sooner; row = 1 } ∷ [];

@@ -1,6 +1,6 @@
 //! Compares the rows of items 0 to 3 with what an engine returns, and with the solutions of streams.
 ghost use Rattle.std.specs.Prelude.{◌<◌, length};
-ghost use Rattle.tdp_core.specs.TreeData.{group_count};
+ghost use Rattle.tdp_core.specs.TreeView.{group_count};
 
 use rank_key::Rank;
 use std::alloc::Allocator;

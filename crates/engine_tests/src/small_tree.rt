@@ -1,7 +1,7 @@
 //! A small tree for the tests of both engines.
 ghost use Rattle.std.specs.Prelude.{◌≡◌, ◌≤◌, ◌<◌, [], ◌∷◌, length, IfOk};
 ghost use Rattle.engine_tests.specs.SmallNodes.{small_shape, root_node, leaf_node};
-ghost use Rattle.tdp_core.specs.TreeData.{node_data, child_count, group_count};
+ghost use Rattle.tdp_core.specs.TreeView.{node_view, child_count, group_count};
 ghost use Rattle.tdp_core.specs.WellFormed.{IsTieFreeTree};
 
 use rank_key::Rank;
@@ -68,7 +68,7 @@ fn shape_of(item: u32) -> NodeShape
 }
 
 fn root_parts<R: Rank>(alloc: Global, top: R, whole: R) -> Result<NodeParts<R>, NoMemory>
-    ensures { IfOk result (λ p. node_data p ≡ root_node top whole) }
+    ensures { IfOk result (λ p. node_view p ≡ root_node top whole) }
 {
     Ok(NodeParts {
         shape: shape_of(1),
@@ -80,7 +80,7 @@ fn root_parts<R: Rank>(alloc: Global, top: R, whole: R) -> Result<NodeParts<R>, 
 }
 
 fn leaf_parts<R: Rank>(alloc: Global, later: R, sooner: R) -> Result<NodeParts<R>, NoMemory>
-    ensures { IfOk result (λ p. node_data p ≡ leaf_node later sooner) }
+    ensures { IfOk result (λ p. node_view p ≡ leaf_node later sooner) }
 {
     Ok(NodeParts {
         shape: shape_of(0),

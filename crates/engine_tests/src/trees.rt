@@ -1,7 +1,7 @@
 //! Raw trees, trees and groups, as they are read back.
 ghost use Rattle.std.specs.Prelude.{◌≡◌, ℕ, ◌+◌, ◌^◌, ◌<◌, ◌≤◌, [], ◌∷◌, length, IfOk, OnOk};
-ghost use Rattle.tdp_core.specs.RawData.{row_total, shape_children};
-ghost use Rattle.tdp_core.specs.TreeData.{node_data, child_count, group_count, rows};
+ghost use Rattle.tdp_core.specs.RawView.{row_total, shape_children};
+ghost use Rattle.tdp_core.specs.TreeView.{node_view, child_count, group_count, rows};
 
 use crate::small_tree::small_tree;
 use packed_rank::PackedRank;

@@ -10,7 +10,7 @@ use Rattle.union_list.specs.TaggedRows.{HaveKeys}
 use Rattle.verdict.specs.AcceptedInput.{queries_in}
 use Rattle.verdict.specs.Loading.{Loaded}
 
-pub record InputData : Type 0 where
+pub record InputView : Type 0 where
   -- the query of each branch, and one query if there are no branches
   pub queries : List BoundQuery
   pub tables : List Table
@@ -23,7 +23,7 @@ pub record InputData : Type 0 where
 
 -- the queries were bound to the tables and have as many order keys each, a query has the item if one is
 -- named, and the steps keep the rules of scripts
-pub record IsSound (input : InputData) : Type 0 where
+pub record IsSound (input : InputView) : Type 0 where
   pub some : 1 ≤ length input.queries
   pub few : length input.queries ≤ 8
   pub fits : All (λ (q : BoundQuery). Fits q input.tables) input.queries
@@ -33,7 +33,7 @@ pub record IsSound (input : InputData) : Type 0 where
   pub rules : KeepsRules [] input.steps
 
 -- what is known of the input
-abbrev pub loaded_of : InputData → Loaded
+abbrev pub loaded_of : InputView → Loaded
 loaded_of input = record {
   queries = queries_in input.queries;
   tables = input.tables;

@@ -7,17 +7,17 @@ use Rattle.input_load.specs.declared.sought.Sought.{Sought as SoughtText}
 use Rattle.verdict.specs.Words.{Aside, Sought, nothing, script, certificate}
 
 -- the file of the script or of the certificate, by the bytes of its name
-abbrev pub aside_shown : AsideText → Aside
-aside_shown Nothing = nothing
-aside_shown (Script name) = script name.now
-aside_shown (Certificate name) = certificate name.now
+abbrev pub aside_view : AsideText → Aside
+aside_view Nothing = nothing
+aside_view (Script name) = script name.now
+aside_view (Certificate name) = certificate name.now
 
 -- the names of files, tables and items by their bytes
-abbrev pub sought_shown : SoughtText → Sought
-sought_shown sought = record {
+abbrev pub sought_view : SoughtText → Sought
+sought_view sought = record {
   query = sought.query.now;
   several = sought.several;
-  aside = aside_shown sought.aside;
+  aside = aside_view sought.aside;
   named = map named_pair sought.named.now;
   best_of = option_map (λ alias. alias.now) sought.best_of;
 }

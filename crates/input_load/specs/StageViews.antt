@@ -9,7 +9,7 @@ use Rattle.anyk_model.specs.Table.{Table}
 use Rattle.anyk_model.specs.Query.{Query}
 use Rattle.proof_text.specs.declared.proof.Proof.{Proof}
 use Rattle.proof_text.specs.Certificate.{Certificate}
-use Rattle.proof_text.specs.ProofView.{seen_proof}
+use Rattle.proof_text.specs.ProofView.{proof_view}
 use Rattle.bound_query.specs.WeighedQuery.{BoundQuery}
 use Rattle.query_select.specs.declared.select.Select.{Select}
 use Rattle.refusal_lines.specs.declared.refusal.Refusal.{Refusal}
@@ -20,11 +20,11 @@ use Rattle.session_script.specs.declared.step.Step.{Step}
 use Rattle.verdict.specs.AcceptedInput.{queries_in}
 use Rattle.verdict.specs.Loading.{Beside, Loaded}
 use Rattle.input_load.specs.declared.aside.Beside.{Beside as BesideRead}
-use Rattle.input_load.specs.Input.{InputData, loaded_of}
+use Rattle.input_load.specs.Input.{InputView, loaded_of}
 
-abbrev pub shown_tables : Result (List Table) Refusal → Result (List Table) Reason
-shown_tables (Ok tables) = Ok tables
-shown_tables (Err refusal) = Err (reason_of refusal)
+abbrev pub tables_result_view : Result (List Table) Refusal → Result (List Table) Reason
+tables_result_view (Ok tables) = Ok tables
+tables_result_view (Err refusal) = Err (reason_of refusal)
 
 -- a result in which this value stands for the value at `Ok`
 abbrev pub said_as : {A B : Type 0} → B → Result A Refusal → Result B Reason
@@ -45,46 +45,46 @@ table_reason name table.TooManyRows = reason.TooManyTableRows name
 table_reason name (table.Ragged row) = reason.Ragged name row
 table_reason name table.NoMemory = reason.NoMemory
 
-abbrev pub shown_bytes : Result (Vec ℕ Global) Refusal → Result (List ℕ) Reason
-shown_bytes (Ok bytes) = Ok bytes.items
-shown_bytes (Err refusal) = Err (reason_of refusal)
+abbrev pub bytes_result_view : Result (Vec ℕ Global) Refusal → Result (List ℕ) Reason
+bytes_result_view (Ok bytes) = Ok bytes.items
+bytes_result_view (Err refusal) = Err (reason_of refusal)
 
-abbrev pub shown_steps : Result (Vec Step Global) Refusal → Result (List Step) Reason
-shown_steps (Ok steps) = Ok steps.items
-shown_steps (Err refusal) = Err (reason_of refusal)
+abbrev pub steps_result_view : Result (Vec Step Global) Refusal → Result (List Step) Reason
+steps_result_view (Ok steps) = Ok steps.items
+steps_result_view (Err refusal) = Err (reason_of refusal)
 
-abbrev pub shown_proof : Result Proof Refusal → Result Certificate Reason
-shown_proof (Ok proof) = Ok (seen_proof proof)
-shown_proof (Err refusal) = Err (reason_of refusal)
+abbrev pub proof_result_view : Result Proof Refusal → Result Certificate Reason
+proof_result_view (Ok proof) = Ok (proof_view proof)
+proof_result_view (Err refusal) = Err (reason_of refusal)
 
 -- what was read beside the query and the tables
-abbrev pub seen_beside : BesideRead → Beside
-seen_beside beside = record { steps = beside.script.items; proof = seen_proof beside.proof }
+abbrev pub beside_view : BesideRead → Beside
+beside_view beside = record { steps = beside.script.items; proof = proof_view beside.proof }
 
-abbrev pub shown_beside : Result BesideRead Refusal → Result Beside Reason
-shown_beside (Ok beside) = Ok (seen_beside beside)
-shown_beside (Err refusal) = Err (reason_of refusal)
+abbrev pub beside_result_view : Result BesideRead Refusal → Result Beside Reason
+beside_result_view (Ok beside) = Ok (beside_view beside)
+beside_result_view (Err refusal) = Err (reason_of refusal)
 
-abbrev pub shown_query : Result BoundQuery Refusal → Result Query Reason
-shown_query (Ok bound) = Ok bound.query
-shown_query (Err refusal) = Err (reason_of refusal)
+abbrev pub query_result_view : Result BoundQuery Refusal → Result Query Reason
+query_result_view (Ok bound) = Ok bound.query
+query_result_view (Err refusal) = Err (reason_of refusal)
 
-abbrev pub shown_selects : Result (Vec Select Global) Refusal → Result (List Select) Reason
-shown_selects (Ok selects) = Ok selects.items
-shown_selects (Err refusal) = Err (reason_of refusal)
+abbrev pub selects_result_view : Result (Vec Select Global) Refusal → Result (List Select) Reason
+selects_result_view (Ok selects) = Ok selects.items
+selects_result_view (Err refusal) = Err (reason_of refusal)
 
-abbrev pub shown_queries : Result (Vec BoundQuery Global) Refusal → Result (List Query) Reason
-shown_queries (Ok queries) = Ok (queries_in queries.items)
-shown_queries (Err refusal) = Err (reason_of refusal)
+abbrev pub queries_result_view : Result (Vec BoundQuery Global) Refusal → Result (List Query) Reason
+queries_result_view (Ok queries) = Ok (queries_in queries.items)
+queries_result_view (Err refusal) = Err (reason_of refusal)
 
-abbrev pub shown_check : Result (Unit {0}) Refusal → Result (Unit {0}) Reason
-shown_check (Ok done) = Ok done
-shown_check (Err refusal) = Err (reason_of refusal)
+abbrev pub check_result_view : Result (Unit {0}) Refusal → Result (Unit {0}) Reason
+check_result_view (Ok done) = Ok done
+check_result_view (Err refusal) = Err (reason_of refusal)
 
-abbrev pub shown_item : Result (Option ℕ) Refusal → Result (Option ℕ) Reason
-shown_item (Ok item) = Ok item
-shown_item (Err refusal) = Err (reason_of refusal)
+abbrev pub item_result_view : Result (Option ℕ) Refusal → Result (Option ℕ) Reason
+item_result_view (Ok item) = Ok item
+item_result_view (Err refusal) = Err (reason_of refusal)
 
-abbrev pub shown_input : Result InputData Refusal → Result Loaded Reason
-shown_input (Ok input) = Ok (loaded_of input)
-shown_input (Err refusal) = Err (reason_of refusal)
+abbrev pub input_result_view : Result InputView Refusal → Result Loaded Reason
+input_result_view (Ok input) = Ok (loaded_of input)
+input_result_view (Err refusal) = Err (reason_of refusal)

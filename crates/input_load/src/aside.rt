@@ -1,15 +1,15 @@
 //! The script or the certificate, if there is one.
 ghost use Rattle.std.specs.Prelude.{◌≡◌, [], IfOk, Some};
 ghost use Rattle.refusal_lines.specs.RefusalReasons.{reason_of};
-ghost use Rattle.proof_text.specs.ProofView.{seen_proof};
+ghost use Rattle.proof_text.specs.ProofView.{proof_view};
 ghost use Rattle.session_script.specs.Script.{KeepsRules};
 ghost use Rattle.verdict.specs.Faults.{of_proof, of_script};
 ghost use Rattle.verdict.specs.Loading.{beside_in, no_certificate, proof_said, steps_said};
 ghost use Rattle.verdict.specs.Stages.{Is};
 ghost use Rattle.verdict.specs.StageResults.{Pure, Staged, shelved};
 ghost use Rattle.verdict.specs.Words.{aside_name, certificate, script};
-ghost use Rattle.input_load.specs.StageViews.{shown_beside, shown_proof, shown_steps};
-ghost use Rattle.input_load.specs.Sought.{aside_shown};
+ghost use Rattle.input_load.specs.StageViews.{beside_result_view, proof_result_view, steps_result_view};
+ghost use Rattle.input_load.specs.Sought.{aside_view};
 
 use crate::file::load;
 use crate::sought::Aside;
@@ -35,9 +35,9 @@ pub(crate) fn load_beside<'a, F: Shelf>(
     aside: Aside<'a>,
     shelf: &mut F,
 ) -> Result<Beside, Refusal<'a>>
-    ensures staged { let asked = aside_shown aside.entry in
+    ensures staged { let asked = aside_view aside.entry in
         Staged (λ files. Is (beside_in files asked)) (λ files file. aside_name asked ≡ Some file)
-        (shelved F.Shelf shelf.old) (shelved F.Shelf shelf.new) (shown_beside result) }
+        (shelved F.Shelf shelf.old) (shelved F.Shelf shelf.new) (beside_result_view result) }
     ensures rules { IfOk result (λ beside. KeepsRules [] beside.script.items) }
 {
     match aside {
@@ -58,7 +58,7 @@ fn load_script<'a, F: Shelf>(
 ) -> Result<Beside, Refusal<'a>>
     ensures staged { let asked = script name.now in
         Staged (λ files. Is (beside_in files asked)) (λ files file. aside_name asked ≡ Some file)
-        (shelved F.Shelf shelf.old) (shelved F.Shelf shelf.new) (shown_beside result) }
+        (shelved F.Shelf shelf.old) (shelved F.Shelf shelf.new) (beside_result_view result) }
     ensures rules { IfOk result (λ beside. KeepsRules [] beside.script.items) }
 {
     let bytes = load(alloc, shelf, name)?;
@@ -77,7 +77,7 @@ fn load_proof<'a, F: Shelf>(
 ) -> Result<Beside, Refusal<'a>>
     ensures staged { let asked = certificate name.now in
         Staged (λ files. Is (beside_in files asked)) (λ files file. aside_name asked ≡ Some file)
-        (shelved F.Shelf shelf.old) (shelved F.Shelf shelf.new) (shown_beside result) }
+        (shelved F.Shelf shelf.old) (shelved F.Shelf shelf.new) (beside_result_view result) }
     ensures rules { IfOk result (λ beside. KeepsRules [] beside.script.items) }
 {
     let bytes = load(alloc, shelf, name)?;
@@ -90,7 +90,7 @@ fn load_proof<'a, F: Shelf>(
 
 /// The empty certificate.
 fn no_proof(alloc: Global) -> Proof
-    ensures { seen_proof result ≡ no_certificate }
+    ensures { proof_view result ≡ no_certificate }
 {
     Proof {
         bounds: Vec::new(alloc),
@@ -101,7 +101,7 @@ fn no_proof(alloc: Global) -> Proof
 
 /// The steps that these bytes write, or the refusal for the script's fault.
 fn script_steps<'a>(alloc: Global, bytes: &[u8]) -> Result<Vec<Step>, Refusal<'a>>
-    ensures said { Pure (Is (steps_said bytes.now)) (shown_steps result) }
+    ensures said { Pure (Is (steps_said bytes.now)) (steps_result_view result) }
     ensures rules { IfOk result (λ steps. KeepsRules [] steps.items) }
 {
     match read_script(alloc, bytes) {
@@ -126,7 +126,7 @@ fn script_refusal<'a>(fault: ScriptFault) -> Refusal<'a>
 
 /// The certificate that these bytes are, or the refusal for the first line that is not of its form.
 fn proof_of<'a>(alloc: Global, bytes: &[u8]) -> Result<Proof, Refusal<'a>>
-    ensures { Pure (Is (proof_said bytes.now)) (shown_proof result) }
+    ensures { Pure (Is (proof_said bytes.now)) (proof_result_view result) }
 {
     match read_proof(alloc, bytes) {
         Ok(proof) => Ok(proof),

@@ -17,8 +17,8 @@ ghost use Rattle.verdict.specs.Stages.{Is};
 ghost use Rattle.verdict.specs.StageResults.{Pure};
 ghost use Rattle.verdict.specs.Verdict.{IsBound};
 ghost use Rattle.input_load.specs.Limits.{AreWithinLimits, IsWithinLimits};
-ghost use Rattle.input_load.specs.StageViews.{seen_beside, shown_check, shown_input, shown_item, shown_queries, shown_query};
-ghost use Rattle.input_load.specs.Sought.{sought_shown};
+ghost use Rattle.input_load.specs.StageViews.{beside_view, check_result_view, input_result_view, item_result_view, queries_result_view, query_result_view};
+ghost use Rattle.input_load.specs.Sought.{sought_view};
 
 use crate::aside::Beside;
 use crate::sought::Sought;
@@ -49,10 +49,10 @@ pub struct Input {
 }
 
 impl Model for Input {
-    ghost use Rattle.input_load.specs.Input.{InputData, IsSound};
-    ghost use Rattle.proof_text.specs.ProofView.{seen_proof};
+    ghost use Rattle.input_load.specs.Input.{InputView, IsSound};
+    ghost use Rattle.proof_text.specs.ProofView.{proof_view};
 
-    ghost Value = { InputData };
+    ghost Value = { InputView };
 
     ghost view = { λ a.
         record {
@@ -60,7 +60,7 @@ impl Model for Input {
           tables = a.tables;
           best = a.best;
           steps = a.script.items;
-          proof = seen_proof a.proof;
+          proof = proof_view a.proof;
         } };
 
     ghost invariant = { λ a. IsSound
@@ -69,7 +69,7 @@ impl Model for Input {
           tables = a.tables;
           best = a.best;
           steps = a.script.items;
-          proof = seen_proof a.proof;
+          proof = proof_view a.proof;
         }) };
 }
 
@@ -90,8 +90,8 @@ pub(crate) fn bound_input<'a>(
         which.now ≡ table_numbers (first_uses items) items }
     requires known { AllByRecursion (λ t. t < length tables) which.now }
     requires rules { KeepsRules [] beside.script.items }
-    ensures bound { let asked = sought_shown sought.now in
-        Pure (IsBound asked selects.now tables (seen_beside beside)) (shown_input result) }
+    ensures bound { let asked = sought_view sought.now in
+        Pure (IsBound asked selects.now tables (beside_view beside)) (input_result_view result) }
     ensures branches { IfOk result (λ input. length input.queries ≡ length selects.now) }
     ensures unnamed { sought.now.best_of ≡ None → IfOk result (λ input. input.best ≡ None) }
 {
@@ -118,7 +118,7 @@ fn bind_queries<'a>(
     requires numbers { let items = all_items selects.now in
         which.now ≡ table_numbers (first_uses items) items }
     requires known { AllByRecursion (λ t. t < length tables.now) which.now }
-    ensures bound { Pure (Is (bound_in selects.now tables.now)) (shown_queries result) }
+    ensures bound { Pure (Is (bound_in selects.now tables.now)) (queries_result_view result) }
     ensures count { IfOk result (λ queries. length queries.items ≡ length selects.now) }
     ensures fits { IfOk result (λ queries. All (λ q. Fits q tables.now) queries.items) }
 {
@@ -162,7 +162,7 @@ fn bind_query<'a>(
     requires known { AllByRecursion (λ t. t < length tables.now) which.now }
     ensures bound { let fault = bind_fault select.now tables.now which.now in
         let query = bound_query select.now tables.now which.now in
-        Pure (Is (unless (option_map (of_bind branch) fault) query)) (shown_query result) }
+        Pure (Is (unless (option_map (of_bind branch) fault) query)) (query_result_view result) }
     ensures fits { IfOk result (λ query. Fits query tables.now) }
 {
     match bind(alloc, select, tables, which) {
@@ -175,7 +175,7 @@ fn bind_query<'a>(
 fn check_shapes<'a>(queries: &[Query]) -> Result<(), Refusal<'a>>
     requires some { 1 ≤ length queries.now }
     requires few { length queries.now ≤ 8 }
-    ensures { shown_check result ≡ unless (odd_branch (queries_in queries.now)) tt }
+    ensures { check_result_view result ≡ unless (odd_branch (queries_in queries.now)) tt }
 {
     for branch in 1..queries.len() {
         if !have_one_shape(&queries[0], &queries[branch]) {
@@ -212,7 +212,7 @@ fn have_directions(a: &Query, b: &Query) -> bool
 fn list_item<'a>(queries: &[Query], best_of: Option<&str>) -> Result<Option<u32>, Refusal<'a>>
     requires { 1 ≤ length queries.now }
     ensures best { let alias = option_map (λ alias. alias.now) best_of.entry in
-        shown_item result ≡ best_in alias (queries_in queries.now) }
+        item_result_view result ≡ best_in alias (queries_in queries.now) }
     ensures item { IfOk result (λ best. IfSome best
         (λ item. AllByRecursion (λ q. item < length q.query.items) queries.now)) }
     ensures unnamed { best_of.entry ≡ None → IfOk result (λ best. best ≡ None) }

@@ -4,7 +4,7 @@ ghost use Rattle.verdict.specs.Loading.{file_in};
 ghost use Rattle.verdict.specs.Stages.{Is};
 ghost use Rattle.verdict.specs.StageResults.{Staged, shelved};
 ghost use Rattle.refusal_lines.specs.RefusalReasons.{reason_of};
-ghost use Rattle.input_load.specs.StageViews.{file_reason, shown_bytes};
+ghost use Rattle.input_load.specs.StageViews.{file_reason, bytes_result_view};
 
 use outer_io::{FileFault, Shelf, read_file};
 use refusal_lines::Refusal;
@@ -18,7 +18,7 @@ pub(crate) fn load<'a, F: Shelf>(
     name: &'a str,
 ) -> Result<Vec<u8>, Refusal<'a>>
     ensures staged { Staged (λ files. Is (file_in files name.now)) (λ files file. file ≡ name.now)
-        (shelved F.Shelf shelf.old) (shelved F.Shelf shelf.new) (shown_bytes result) }
+        (shelved F.Shelf shelf.old) (shelved F.Shelf shelf.new) (bytes_result_view result) }
     ensures short { IfOk result (λ bytes. length bytes.items ≤ 67108864) }
 {
     match read_file(alloc, shelf, name) {

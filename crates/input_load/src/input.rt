@@ -8,8 +8,8 @@ ghost use Rattle.verdict.specs.StageResults.{Staged, shelved};
 ghost use Rattle.verdict.specs.Verdict.{IsAccompanied, IsLoadedOn, IsRead, IsSelected, IsTabled};
 ghost use Rattle.input_load.specs.Entries.{IsEntryOf, tables_of};
 ghost use Rattle.input_load.specs.Limits.{AreWithinLimits};
-ghost use Rattle.input_load.specs.StageViews.{seen_beside, shown_input};
-ghost use Rattle.input_load.specs.Sought.{sought_shown};
+ghost use Rattle.input_load.specs.StageViews.{beside_view, input_result_view};
+ghost use Rattle.input_load.specs.Sought.{sought_view};
 ghost use Rattle.input_load.specs.Turns.{IsAccompaniedTurn, IsReadTurn, IsSelectedTurn, IsTabledTurn, IsTurn};
 
 use crate::aside::{Beside, load_beside};
@@ -34,9 +34,9 @@ pub fn load_input<'a, F: Shelf>(
     shelf: &mut F,
     keys: Keys,
 ) -> Result<Input, Refusal<'a>>
-    ensures staged { let asked = sought_shown sought.now in
+    ensures staged { let asked = sought_view sought.now in
         Staged (IsLoadedOn asked) (IsTurn asked)
-        (shelved F.Shelf shelf.old) (shelved F.Shelf shelf.new) (shown_input result) }
+        (shelved F.Shelf shelf.old) (shelved F.Shelf shelf.new) (input_result_view result) }
     // If several branches are not allowed, there is one query, and if no item is named, there is none.
     ensures alone { sought.now.several ≡ false → IfOk result (λ input. length input.queries ≡ 1) }
     ensures unnamed { sought.now.best_of ≡ None → IfOk result (λ input. input.best ≡ None) }
@@ -53,10 +53,10 @@ fn read_input<'a, F: Shelf>(
     shelf: &mut F,
     keys: Keys,
 ) -> Result<Input, Refusal<'a>>
-    ensures staged { let asked = sought_shown sought.now in
+    ensures staged { let asked = sought_view sought.now in
         Staged (λ files. IsRead asked files bytes.now)
         (λ files. IsReadTurn asked files bytes.now)
-        (shelved F.Shelf shelf.old) (shelved F.Shelf shelf.new) (shown_input result) }
+        (shelved F.Shelf shelf.old) (shelved F.Shelf shelf.new) (input_result_view result) }
     ensures alone { sought.now.several ≡ false → IfOk result (λ input. length input.queries ≡ 1) }
     ensures unnamed { sought.now.best_of ≡ None → IfOk result (λ input. input.best ≡ None) }
 {
@@ -73,10 +73,10 @@ fn aside_input<'a, F: Shelf>(
     keys: Keys,
 ) -> Result<Input, Refusal<'a>>
     requires { AreWithinLimits selects.now }
-    ensures staged { let asked = sought_shown sought.now in
+    ensures staged { let asked = sought_view sought.now in
         Staged (λ files. IsAccompanied asked files selects.now)
         (λ files. IsAccompaniedTurn asked files selects.now)
-        (shelved F.Shelf shelf.old) (shelved F.Shelf shelf.new) (shown_input result) }
+        (shelved F.Shelf shelf.old) (shelved F.Shelf shelf.new) (input_result_view result) }
     ensures branches { IfOk result (λ input. length input.queries ≡ length selects.now) }
     ensures unnamed { sought.now.best_of ≡ None → IfOk result (λ input. input.best ≡ None) }
 {
@@ -95,10 +95,10 @@ fn select_input<'a, F: Shelf>(
 ) -> Result<Input, Refusal<'a>>
     requires limits { AreWithinLimits selects.now }
     requires rules { KeepsRules [] beside.script.items }
-    ensures staged { let asked = sought_shown sought.now in
-        Staged (λ files. IsSelected asked files selects.now (seen_beside beside))
+    ensures staged { let asked = sought_view sought.now in
+        Staged (λ files. IsSelected asked files selects.now (beside_view beside))
         (λ files. IsSelectedTurn asked files selects.now)
-        (shelved F.Shelf shelf.old) (shelved F.Shelf shelf.new) (shown_input result) }
+        (shelved F.Shelf shelf.old) (shelved F.Shelf shelf.new) (input_result_view result) }
     ensures branches { IfOk result (λ input. length input.queries ≡ length selects.now) }
     ensures unnamed { sought.now.best_of ≡ None → IfOk result (λ input. input.best ≡ None) }
 {
@@ -120,12 +120,12 @@ fn table_input<'a, F: Shelf>(
     requires rules { KeepsRules [] beside.script.items }
     requires tables { let names = tables_of (map (λ e. named_pair e.now) entries.now) in
         names ≡ table_names (all_items selects.now) }
-    requires entries { let asked = sought_shown sought.now in
+    requires entries { let asked = sought_view sought.now in
         AllByRecursion (IsEntryOf asked.named) (map (λ e. named_pair e.now) entries.now) }
-    ensures staged { let asked = sought_shown sought.now in
-        Staged (λ files. IsTabled asked files selects.now (seen_beside beside))
+    ensures staged { let asked = sought_view sought.now in
+        Staged (λ files. IsTabled asked files selects.now (beside_view beside))
         (λ files. IsTabledTurn asked files selects.now)
-        (shelved F.Shelf shelf.old) (shelved F.Shelf shelf.new) (shown_input result) }
+        (shelved F.Shelf shelf.old) (shelved F.Shelf shelf.new) (input_result_view result) }
     ensures branches { IfOk result (λ input. length input.queries ≡ length selects.now) }
     ensures unnamed { sought.now.best_of ≡ None → IfOk result (λ input. input.best ≡ None) }
 {

@@ -5,7 +5,7 @@ ghost use Rattle.verdict.specs.MadeFiles.{made_files};
 ghost use Rattle.verdict.specs.StageResults.{Pure};
 ghost use Rattle.verdict.specs.Verdict.{IsLoadedOn};
 ghost use Rattle.verdict.specs.Words.{load, sought_by};
-ghost use Rattle.input_load.specs.StageViews.{shown_input};
+ghost use Rattle.input_load.specs.StageViews.{input_result_view};
 
 use crate::binding::Input;
 use crate::generated::MadeTables;
@@ -22,7 +22,7 @@ use step_counter::NoMemory;
 /// tables are the program's own, so that they are hashed with known keys.
 pub fn load_made<'a>(alloc: Global, made: &'a MadeTables) -> Result<Input, Refusal<'a>>
     ensures made { let asked = sought_by (load made.now.number made.now.rows) in
-        Pure (IsLoadedOn asked (made_files made.now.number made.now.rows)) (shown_input result) }
+        Pure (IsLoadedOn asked (made_files made.now.number made.now.rows)) (input_result_view result) }
     ensures alone { IfOk result (λ input. length input.queries ≡ 1) }
 {
     let mut shelf = PureShelf::new(made_shelf(alloc, made)?);

@@ -5,7 +5,7 @@ ghost use Rattle.verdict.specs.Faults.{of_parse};
 ghost use Rattle.verdict.specs.Loading.{IsReading, branches_of};
 ghost use Rattle.verdict.specs.StageResults.{Pure};
 ghost use Rattle.input_load.specs.Limits.{AreWithinLimits, limited};
-ghost use Rattle.input_load.specs.StageViews.{shown_selects};
+ghost use Rattle.input_load.specs.StageViews.{selects_result_view};
 
 use query_grammar::fault::ParseFault;
 use query_grammar::{parse, parse_all};
@@ -21,7 +21,7 @@ pub(crate) fn read_selects<'a>(
     several: bool,
     bytes: &[u8],
 ) -> Result<Vec<Select>, Refusal<'a>>
-    ensures parsed { Pure (IsReading several bytes.now) (shown_selects result) }
+    ensures parsed { Pure (IsReading several bytes.now) (selects_result_view result) }
     ensures limits { IfOk result (λ selects. AreWithinLimits selects.items) }
     // If several branches are not allowed, there is one.
     ensures alone { several ≡ false → IfOk result (λ selects. length selects.items ≡ 1) }
@@ -35,7 +35,7 @@ pub(crate) fn read_selects<'a>(
 
 /// The branches that these bytes write, each with the limit of the whole.
 fn read_branches<'a>(alloc: Global, bytes: &[u8]) -> Result<Vec<Select>, Refusal<'a>>
-    ensures parsed { Pure (IsReading true bytes.now) (shown_selects result) }
+    ensures parsed { Pure (IsReading true bytes.now) (selects_result_view result) }
     ensures limits { IfOk result (λ selects. AreWithinLimits selects.items) }
 {
     match parse_all(alloc, bytes) {
@@ -65,7 +65,7 @@ fn set_limits(selects: &mut [Select], limit: Option<u64>)
 
 /// The one query that these bytes write.
 fn read_alone<'a>(alloc: Global, bytes: &[u8]) -> Result<Vec<Select>, Refusal<'a>>
-    ensures parsed { Pure (IsReading false bytes.now) (shown_selects result) }
+    ensures parsed { Pure (IsReading false bytes.now) (selects_result_view result) }
     ensures limits { IfOk result (λ selects. AreWithinLimits selects.items) }
     ensures alone { IfOk result (λ selects. length selects.items ≡ 1) }
 {

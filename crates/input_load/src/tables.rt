@@ -9,7 +9,7 @@ ghost use Rattle.verdict.specs.Loading.{files_read, sound_table, table_in, table
 ghost use Rattle.verdict.specs.Stages.{Is};
 ghost use Rattle.verdict.specs.StageResults.{Pure, Staged, shelved};
 ghost use Rattle.input_load.specs.Entries.{IsEntryOf, table_after, tables_of};
-ghost use Rattle.input_load.specs.StageViews.{said_as, shown_tables, table_reason};
+ghost use Rattle.input_load.specs.StageViews.{said_as, tables_result_view, table_reason};
 
 use crate::file::load;
 use cmd_words::Named;
@@ -33,7 +33,7 @@ pub(crate) fn read_tables<'a, F: Shelf>(
         (named : List (List ℕ × List ℕ)) → AllByRecursion (IsEntryOf named) words
         → Staged (λ files. Is (tables_in files named (tables_of words)))
         (λ files file. IsMember file (files_read files named (tables_of words)))
-        (shelved F.Shelf shelf.old) (shelved F.Shelf shelf.new) (shown_tables result) }
+        (shelved F.Shelf shelf.old) (shelved F.Shelf shelf.new) (tables_result_view result) }
     ensures count { IfOk result (λ tables. length tables ≡ length entries.now) }
 {
     let mut tables = Tables::with_keys(alloc, keys);

@@ -6,7 +6,7 @@ use Rattle.std.proofs.lemmas.List.{get_or-replicate, get_or_past, length-replica
 use Rattle.std.proofs.lemmas.List.Sums.{sum_by-cons}
 use Rattle.tdp_model.specs.KeyTuple.{KeyOf}
 use Rattle.tdp_core.specs.declared.parts.NodeShape.{NodeShape}
-use Rattle.tdp_core.specs.RawData.{RawData, RawRowData, row_total}
+use Rattle.tdp_core.specs.RawView.{RawView, RawRowView, row_total}
 use Rattle.join_tree.specs.declared.tree.JoinTree.{JoinTree}
 use Rattle.anyk_model.specs.Table.{Table}
 use Rattle.bound_query.specs.WeighedQuery.{BoundQuery}
@@ -36,22 +36,22 @@ pub names_count : (names : List (List (ℕ × ℕ))) (n : ℕ) → names ≡ rep
 names_count names n is = let none : List (ℕ × ℕ) = [] in ap length is ∙ length-replicate n none
 
 pub no_rows_yet : {R : Type 0} (bound : BoundQuery) (tables : List Table) (join : JoinTree) (own above : List (List ℕ)) (d : ℕ) (key : R → KeyOf d 16) (names : List (List (ℕ × ℕ)))
-    (rows : List (List ℕ)) (shapes : List NodeShape) (tree : RawData R) → length shapes ≡ join.count → tree ≡ record { shapes = shapes; rows = replicate (length shapes) [] }
+    (rows : List (List ℕ)) (shapes : List NodeShape) (tree : RawView R) → length shapes ≡ join.count → tree ≡ record { shapes = shapes; rows = replicate (length shapes) [] }
     → AreFilled bound tables join own above d key names 0 rows tree
 no_rows_yet {R = R} bound tables join own above d key names rows shapes tree count is =
-    let none : List (RawRowData R) = [] in
-    let list : tree.rows ≡ replicate (length shapes) none = ap (λ (t : RawData R). t.rows) is in
-    let total : row_total tree ≡ 0 = ap (sum_by length) list ∙ sum_none (RawRowData R) (length shapes) in
+    let none : List (RawRowView R) = [] in
+    let list : tree.rows ≡ replicate (length shapes) none = ap (λ (t : RawView R). t.rows) is in
+    let total : row_total tree ≡ 0 = ap (sum_by length) list ∙ sum_none (RawRowView R) (length shapes) in
     record {
       each_node = ap length list ∙ length-replicate (length shapes) none ∙ count;
       filled = λ v l. absurd (omega (arith, l));
-      empty = λ v l. ap (λ (xs : List (List (RawRowData R))). get_or xs v none) list ∙ none_at (RawRowData R) (length shapes) v;
+      empty = λ v l. ap (λ (xs : List (List (RawRowView R))). get_or xs v none) list ∙ none_at (RawRowView R) (length shapes) v;
       total = total;
     }
 
 -- a tree keeps the shapes with which it was begun
-pub shapes_kept : {R : Type 0} (bound : BoundQuery) (tables : List Table) (join : JoinTree) (shapes list : List NodeShape) (begun tree : RawData R)
+pub shapes_kept : {R : Type 0} (bound : BoundQuery) (tables : List Table) (join : JoinTree) (shapes list : List NodeShape) (begun tree : RawView R)
     → AreShapesOf bound tables join join.count shapes → list ≡ shapes → begun ≡ record { shapes = list; rows = replicate (length list) [] } → tree.shapes ≡ begun.shapes
     → AreShapesOf bound tables join join.count tree.shapes
 shapes_kept {R = R} bound tables join shapes list begun tree of_join same is kept =
-    subst (AreShapesOf bound tables join join.count) (sym (kept ∙ ap (λ (t : RawData R). t.shapes) is ∙ same)) of_join
+    subst (AreShapesOf bound tables join join.count) (sym (kept ∙ ap (λ (t : RawView R). t.shapes) is ∙ same)) of_join

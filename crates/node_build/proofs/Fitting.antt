@@ -8,8 +8,8 @@ use Rattle.tdp_model.specs.KeyTuple.{KeyOf}
 use Rattle.tdp_model.specs.TreeProblem.{sum_from}
 use Rattle.rank_key.specs.Keys.{row_key}
 use Rattle.tdp_core.specs.declared.parts.NodeShape.{NodeShape}
-use Rattle.tdp_core.specs.RawData.{shape_cap, shape_children, shape_item, shape_parent}
-use Rattle.tdp_core.specs.TreeData.{kids_below}
+use Rattle.tdp_core.specs.RawView.{shape_cap, shape_children, shape_item, shape_parent}
+use Rattle.tdp_core.specs.TreeView.{kids_below}
 use Rattle.tdp_core.specs.WellFormed.{RowFits}
 use Rattle.tdp_core.proofs.RowKeys.{row_key_fits}
 use Rattle.join_tree.specs.declared.tree.JoinTree.{JoinTree}

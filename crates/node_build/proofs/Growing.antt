@@ -7,7 +7,7 @@ use Rattle.std.proofs.lemmas.List.{get_or-set_other, get_or-set_same, get_or_app
 use Rattle.std.proofs.lemmas.List.Sums.{sum_by-cons, sum_by_more}
 use Rattle.std.proofs.lemmas.Option.{get_or_from_slice_get, slice_get_read, slice_get_within}
 use Rattle.tdp_model.specs.KeyTuple.{KeyOf}
-use Rattle.tdp_core.specs.RawData.{RawData, RawRowData, row_total, rows_at, with_row}
+use Rattle.tdp_core.specs.RawView.{RawView, RawRowView, row_total, rows_at, with_row}
 use Rattle.join_tree.specs.declared.tree.JoinTree.{JoinTree}
 use Rattle.anyk_model.specs.Table.{Table}
 use Rattle.bound_query.specs.WeighedQuery.{BoundQuery}
@@ -23,22 +23,22 @@ sum_set (xs ∷ xss) (suc v) x l =
     omega (arith, sum_by-cons length xs xss, sum_by-cons length xs (set xss v (get_or xss v [] ++ x ∷ [])), sum_set xss v x (omega arith))
 
 module _ {R : Type 0} where
-  pub only_none : (v : ℕ) (t : RawData R) → HasOnlyMore v 0 t t
+  pub only_none : (v : ℕ) (t : RawView R) → HasOnlyMore v 0 t t
   only_none v t = record { shapes = refl; each_node = refl; others = λ u other. refl; total = omega arith }
 
   -- the rows of a node with one more
-  pub rows_now : (t new : RawData R) (v : ℕ) (x : RawRowData R) → v < length t.rows → new ≡ with_row t v x → rows_at new v ≡ rows_at t v ++ x ∷ []
-  rows_now t new v x inside is = ap (λ (n : RawData R). rows_at n v) is ∙ get_or-set_same t.rows v (rows_at t v ++ x ∷ []) [] inside
+  pub rows_now : (t new : RawView R) (v : ℕ) (x : RawRowView R) → v < length t.rows → new ≡ with_row t v x → rows_at new v ≡ rows_at t v ++ x ∷ []
+  rows_now t new v x inside is = ap (λ (n : RawView R). rows_at n v) is ∙ get_or-set_same t.rows v (rows_at t v ++ x ∷ []) [] inside
 
-  pub only_more : (first t new : RawData R) (v n : ℕ) (x : RawRowData R) → v < length t.rows → HasOnlyMore v n first t → new ≡ with_row t v x → HasOnlyMore v (n + 1) first new
+  pub only_more : (first t new : RawView R) (v n : ℕ) (x : RawRowView R) → v < length t.rows → HasOnlyMore v n first t → new ≡ with_row t v x → HasOnlyMore v (n + 1) first new
   only_more first t new v n x inside so_far is =
       let before = so_far.total in
       let one = sum_set t.rows v x inside in
-      let now : row_total new ≡ row_total (with_row t v x) = ap (λ (m : RawData R). row_total m) is in
+      let now : row_total new ≡ row_total (with_row t v x) = ap (λ (m : RawView R). row_total m) is in
       record {
-        shapes = ap (λ (m : RawData R). m.shapes) is ∙ so_far.shapes;
-        each_node = ap (λ (m : RawData R). length m.rows) is ∙ length-set t.rows v (rows_at t v ++ x ∷ []) ∙ so_far.each_node;
-        others = λ u other. ap (λ (m : RawData R). rows_at m u) is ∙ get_or-set_other t.rows v u (rows_at t v ++ x ∷ []) [] other ∙ so_far.others u other;
+        shapes = ap (λ (m : RawView R). m.shapes) is ∙ so_far.shapes;
+        each_node = ap (λ (m : RawView R). length m.rows) is ∙ length-set t.rows v (rows_at t v ++ x ∷ []) ∙ so_far.each_node;
+        others = λ u other. ap (λ (m : RawView R). rows_at m u) is ∙ get_or-set_other t.rows v u (rows_at t v ++ x ∷ []) [] other ∙ so_far.others u other;
         total = omega (arith, now, one, before);
       }
 
@@ -54,7 +54,7 @@ last_or_before xs x y r e = elim (cases_lt r (length xs)) [
 
 module _ (bound : BoundQuery) (tables : List Table) (join : JoinTree) (own above : List (List ℕ)) {R : Type 0} (d : ℕ) (key : R → KeyOf d 16) where
   -- a row keeps its links when more pairs are numbered
-  row_kept : (old new : List (List (ℕ × ℕ))) (v row : ℕ) (x : RawRowData R) → AreMore old new → IsRowOf bound tables join own above d key old v row x
+  row_kept : (old new : List (List (ℕ × ℕ))) (v row : ℕ) (x : RawRowView R) → AreMore old new → IsRowOf bound tables join own above d key old v row x
       → IsRowOf bound tables join own above d key new v row x
   row_kept old new v row x more h = record {
     number = h.number;
@@ -63,25 +63,25 @@ module _ (bound : BoundQuery) (tables : List Table) (join : JoinTree) (own above
     children = λ q some l is. link_kept old new q _ _ more (h.children q some l is);
   }
 
-  pub rows_kept : (old new : List (List (ℕ × ℕ))) (v n : ℕ) (rows : List ℕ) (xs : List (RawRowData R)) → AreMore old new
+  pub rows_kept : (old new : List (List (ℕ × ℕ))) (v n : ℕ) (rows : List ℕ) (xs : List (RawRowView R)) → AreMore old new
       → HasRowsOf bound tables join own above d key old v n rows xs → HasRowsOf bound tables join own above d key new v n rows xs
   rows_kept old new v n rows xs more h = record { count = h.count; each = λ r x is. row_kept old new v (get_or rows r 0) x more (h.each r x is) }
 
-  pub no_rows : (names : List (List (ℕ × ℕ))) (v : ℕ) (rows : List ℕ) (xs : List (RawRowData R)) → xs ≡ [] → HasRowsOf bound tables join own above d key names v 0 rows xs
+  pub no_rows : (names : List (List (ℕ × ℕ))) (v : ℕ) (rows : List ℕ) (xs : List (RawRowView R)) → xs ≡ [] → HasRowsOf bound tables join own above d key names v 0 rows xs
   no_rows names v rows xs none =
       let n : length xs ≡ 0 = ap length none in
       record { count = n; each = λ r x is. absurd (let l = slice_get_within xs r x is in omega (arith, l, n)) }
 
   -- one more row of a node
-  pub rows_more : (old new : List (List (ℕ × ℕ))) (v n row : ℕ) (rows : List ℕ) (xs now : List (RawRowData R)) (x : RawRowData R) → AreMore old new → row ≡ get_or rows n 0
+  pub rows_more : (old new : List (List (ℕ × ℕ))) (v n row : ℕ) (rows : List ℕ) (xs now : List (RawRowView R)) (x : RawRowView R) → AreMore old new → row ≡ get_or rows n 0
       → now ≡ xs ++ x ∷ [] → HasRowsOf bound tables join own above d key old v n rows xs → IsRowOf bound tables join own above d key new v row x
       → HasRowsOf bound tables join own above d key new v (n + 1) rows now
   rows_more old new v n row rows xs now x more at is so_far here =
-      let Has : ℕ → RawRowData R → Type 0 = λ r y. IsRowOf bound tables join own above d key new v r y in
+      let Has : ℕ → RawRowView R → Type 0 = λ r y. IsRowOf bound tables join own above d key new v r y in
       let count = so_far.count in
       record {
         count = ap length is ∙ length-append xs (x ∷ []) ∙ ap (λ (k : ℕ). k + 1) count;
-        each = λ r y e. elim (last_or_before xs x y r (ap (λ (l : List (RawRowData R)). slice_get l r) (sym is) ∙ e)) [
+        each = λ r y e. elim (last_or_before xs x y r (ap (λ (l : List (RawRowView R)). slice_get l r) (sym is) ∙ e)) [
           | inl before ↦ row_kept old new v (get_or rows r 0) y more (so_far.each r y before)
           | inr (place, same) ↦
               let here_at : IsRowOf bound tables join own above d key new v (get_or rows r 0) x =
@@ -91,7 +91,7 @@ module _ (bound : BoundQuery) (tables : List Table) (join : JoinTree) (own above
       }
 
   -- the rows of one more node
-  pub filled_more : (old new : List (List (ℕ × ℕ))) (n : ℕ) (rows : List (List ℕ)) (t now : RawData R) → AreMore old new → n < length rows
+  pub filled_more : (old new : List (List (ℕ × ℕ))) (n : ℕ) (rows : List (List ℕ)) (t now : RawView R) → AreMore old new → n < length rows
       → AreFilled bound tables join own above d key old n rows t → HasOnlyMore n (length (get_or rows n [])) t now
       → HasRowsOf bound tables join own above d key new n (length (get_or rows n [])) (get_or rows n []) (rows_at now n)
       → AreFilled bound tables join own above d key new (n + 1) rows now

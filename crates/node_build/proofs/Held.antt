@@ -6,7 +6,7 @@ use Rattle.tdp_model.specs.KeyTuple.{KeyOf}
 use Rattle.tdp_model.specs.TreeProblem.{sum_from}
 use Rattle.rank_key.specs.Keys.{IsHeld, IsWithin}
 use Rattle.tdp_core.specs.declared.parts.NodeShape.{NodeShape}
-use Rattle.tdp_core.specs.RawData.{AreShapesHeld, shape_cap, shape_item}
+use Rattle.tdp_core.specs.RawView.{AreShapesHeld, shape_cap, shape_item}
 use Rattle.join_tree.specs.declared.tree.JoinTree.{JoinTree}
 use Rattle.anyk_model.specs.Table.{Table}
 use Rattle.anyk_model.specs.Query.{Query}

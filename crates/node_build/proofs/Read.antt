@@ -7,9 +7,9 @@ use Rattle.std.proofs.lemmas.List.Sums.{sum-map}
 use Rattle.std.proofs.lemmas.Option.{slice_get-get_or}
 use Rattle.tdp_model.specs.KeyTuple.{KeyOf, key_none}
 use Rattle.rank_key.specs.Keys.{row_key}
-use Rattle.tdp_core.specs.RawData.{RawData, RawRowData, child_link, own_link, raw_len, raw_number, raw_rank, row_total, rows_at, shape_child_place, shape_parent}
+use Rattle.tdp_core.specs.RawView.{RawView, RawRowView, child_link, own_link, raw_len, raw_number, raw_rank, row_total, rows_at, shape_child_place, shape_parent}
 use Rattle.tdp_core.specs.Solutions.{IsTieFreeRaw}
-use Rattle.tdp_core.specs.TreeData.{kids_below}
+use Rattle.tdp_core.specs.TreeView.{kids_below}
 use Rattle.tdp_core.proofs.RawReads.{field_read}
 use Rattle.join_tree.specs.declared.tree.JoinTree.{JoinTree}
 use Rattle.anyk_model.specs.Table.{Table}
@@ -34,12 +34,12 @@ there [] i l = absurd (omega (arith, l))
 there (x ∷ xs) i l = (get_or (x ∷ xs) i x, slice_get-get_or (x ∷ xs) i x l)
 
 module _ {R : Type 0} (bound : BoundQuery) (tables : List Table) (fits : Fits bound tables) (sound : AllByRecursion IsSound tables) (join : JoinTree)
-    (is_tree : IsJoinTreeOf bound.query join) (d : ℕ) (key : R → KeyOf d 16) (rows : List (List ℕ)) (tree : RawData R)
+    (is_tree : IsJoinTreeOf bound.query join) (d : ℕ) (key : R → KeyOf d 16) (rows : List (List ℕ)) (tree : RawView R)
     (of_nodes : HaveRows bound.query tables join join.count rows) (shapes : AreShapesOf bound tables join join.count tree.shapes)
     (filled : IsFilledTree bound tables join d key rows tree) where
   -- a row of a node, with the number in its item's table
   record IsRead (v r : ℕ) : Type 0 where
-    row : RawRowData R
+    row : RawRowView R
     at : slice_get (rows_at tree v) r ≡ Some row
     of_row : IsRowOf bound tables join filled.own filled.above d key filled.names v (get_or (get_or rows v []) r 0) row
     member : r < length (get_or rows v [])
@@ -56,14 +56,14 @@ module _ {R : Type 0} (bound : BoundQuery) (tables : List Table) (fits : Fits bo
         at = x.1;
         of_row = of_row;
         member = omega (arith, h, count);
-        number = field_read (λ (y : RawRowData R). y.row.row) (rows_at tree v) r x.0 0 x.1 ∙ of_row.number;
+        number = field_read (λ (y : RawRowView R). y.row.row) (rows_at tree v) r x.0 0 x.1 ∙ of_row.number;
       }
 
   numbers_are : (v : ℕ) → v < join.count → map (λ x. x.row.row) (rows_at tree v) ≡ get_or rows v []
   numbers_are v l =
       let has = filled.filled.filled v l in
       let count = has.count in
-      let size = length-map (rows_at tree v) (λ (x : RawRowData R). x.row.row) in
+      let size = length-map (rows_at tree v) (λ (x : RawRowView R). x.row.row) in
       ext_get_or 0 (map (λ x. x.row.row) (rows_at tree v)) (get_or rows v []) (size ∙ count)
       (λ r h. (read v r l (omega (arith, h, size))).number)
 
@@ -92,8 +92,8 @@ module _ {R : Type 0} (bound : BoundQuery) (tables : List Table) (fits : Fits bo
       let below : p < join.count = omega (arith, up, l) in
       let x = read q i l h in
       let y = read p r below k in
-      let own : own_link tree q i ≡ x.row.own = field_read (λ (z : RawRowData R). z.own) (rows_at tree q) i x.row 0 x.at in
-      let children : get_or (map (λ z. z.children) (rows_at tree p)) r [] ≡ y.row.children = field_read (λ (z : RawRowData R). z.children) (rows_at tree p) r y.row [] y.at in
+      let own : own_link tree q i ≡ x.row.own = field_read (λ (z : RawRowView R). z.own) (rows_at tree q) i x.row 0 x.at in
+      let children : get_or (map (λ z. z.children) (rows_at tree p)) r [] ≡ y.row.children = field_read (λ (z : RawRowView R). z.children) (rows_at tree p) r y.row [] y.at in
       let same_parent : shape_parent tree.shapes q ≡ p = shapes.parents q l in
       let place : shape_child_place tree.shapes q ≡ kids_below (parent_of join) p q =
       ap (λ (w : ℕ). kids_below (shape_parent tree.shapes) w q) same_parent
@@ -119,8 +119,8 @@ module _ {R : Type 0} (bound : BoundQuery) (tables : List Table) (fits : Fits bo
       let p = parent_of join q in
       let x = read q i l h in
       let y = read q j l k in
-      let own : own_link tree q i ≡ x.row.own = field_read (λ (z : RawRowData R). z.own) (rows_at tree q) i x.row 0 x.at in
-      let other : own_link tree q j ≡ y.row.own = field_read (λ (z : RawRowData R). z.own) (rows_at tree q) j y.row 0 y.at in
+      let own : own_link tree q i ≡ x.row.own = field_read (λ (z : RawRowView R). z.own) (rows_at tree q) i x.row 0 x.at in
+      let other : own_link tree q j ≡ y.row.own = field_read (λ (z : RawRowView R). z.own) (rows_at tree q) j y.row 0 y.at in
       let names = link_iff filled.names q x.row.own y.row.own
       (values q (get_or (get_or rows q []) i 0) (get_or filled.own q [])) (values q (get_or (get_or rows q []) j 0) (get_or filled.own q []))
       filled.numbers (as_many q (get_or (get_or rows q []) i 0) (get_or filled.own q []) ∙ sym (as_many q (get_or (get_or rows q []) j 0) (get_or filled.own q [])))
@@ -137,7 +137,7 @@ module _ {R : Type 0} (bound : BoundQuery) (tables : List Table) (fits : Fits bo
       → raw_rank tree d key v r ≡ row_key d (row_parts bound tables (item_of join v) (raw_number tree v r)) (item_of join v) (raw_number tree v r)
   ranks_are v r l h =
       let x = read v r l h in
-      field_read (λ (z : RawRowData R). key z.row.rank) (rows_at tree v) r x.row (key_none d 16) x.at ∙ x.of_row.rank
+      field_read (λ (z : RawRowView R). key z.row.rank) (rows_at tree v) r x.row (key_none d 16) x.at ∙ x.of_row.rank
       ∙ ap (λ (n : ℕ). row_key d (row_parts bound tables (item_of join v) n) (item_of join v) n) (sym x.number)
 
   pub built : IsBuilt bound tables d key join tree
@@ -174,7 +174,7 @@ module _ {R : Type 0} (bound : BoundQuery) (tables : List Table) (fits : Fits bo
       let count = of_nodes.count in
       let each_node = filled.filled.each_node in
       let left = length-map rows (λ (xs : List ℕ). length xs) in
-      let right = length-map tree.rows (λ (xs : List (RawRowData R)). length xs) in
+      let right = length-map tree.rows (λ (xs : List (RawRowView R)). length xs) in
       ext_get_or 0 (map length rows) (map length tree.rows) (omega (arith, left, right, count, each_node))
       (λ v h.
       let l : v < join.count = omega (arith, h, left, count) in

@@ -2,7 +2,7 @@
 use Rattle.std.proofs.Common.{◌≡◌, ◌<◌, ◌≤◌, ℕ, List, [], ◌∷◌, map, take, length, slice_index, slice_index_or, Ok, Err, refl, sym, ap, ◌∙◌, subst, arith}
 use Rattle.std.proofs.lemmas.List.{get_or-map, get_or-take, length-map}
 use Rattle.tdp_model.specs.KeyTuple.{KeyOf}
-use Rattle.tdp_core.specs.RawData.{RawData, row_total, rows_at}
+use Rattle.tdp_core.specs.RawView.{RawView, row_total, rows_at}
 use Rattle.join_tree.specs.declared.tree.JoinTree.{JoinTree}
 use Rattle.anyk_model.specs.Table.{Table}
 use Rattle.anyk_model.specs.Query.{Query}
@@ -19,18 +19,18 @@ pub join_tree_of : (query : Query) (join : JoinTree) → HasStoredTree query joi
 join_tree_of query join stored count = record { count = count; graph = stored.graph; of_query = stored.of_query; tree = stored.join_tree }
 
 -- the numbers of the rows of each node
-abbrev pub numbers_of : {R : Type 0} → RawData R → List (List ℕ)
+abbrev pub numbers_of : {R : Type 0} → RawView R → List (List ℕ)
 numbers_of raw = map (map (λ x. x.row.row)) raw.rows
 
 pub same_lengths : {A : Type 0} (f : A → ℕ) (xss : List (List A)) → map length (map (map f) xss) ≡ map length xss
 same_lengths f [] = refl
 same_lengths f (xs ∷ xss) = λ i. length-map xs f i ∷ same_lengths f xss i
 
-pub numbers_in_all : {R : Type 0} (raw : RawData R) → sum_of_all (map length (numbers_of raw)) ≡ row_total raw
+pub numbers_in_all : {R : Type 0} (raw : RawView R) → sum_of_all (map length (numbers_of raw)) ≡ row_total raw
 numbers_in_all raw = ap sum_of_all (same_lengths (λ x. x.row.row) raw.rows) ∙ sum_of_lengths raw.rows
 
 -- the rows of a raw tree that is built are those of the nodes
-pub rows_of_built : (bound : BoundQuery) (tables : List Table) (join : JoinTree) {R : Type 0} (d : ℕ) (key : R → KeyOf d 16) (raw : RawData R)
+pub rows_of_built : (bound : BoundQuery) (tables : List Table) (join : JoinTree) {R : Type 0} (d : ℕ) (key : R → KeyOf d 16) (raw : RawView R)
     → IsBuilt bound tables d key join raw → length raw.rows ≡ length raw.shapes → AreRowsOfNodes bound tables join (numbers_of raw)
 rows_of_built bound tables join d key raw built each_node = record {
   count = length-map raw.rows (map (λ x. x.row.row)) ∙ each_node ∙ built.nodes;

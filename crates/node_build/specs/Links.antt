@@ -2,8 +2,8 @@
 use Rattle.std.specs.Prelude.{◌≡◌, ◌<◌, ◌-◌, ℕ, List, [], ◌∷◌, map, length, slice_index, slice_index_or, slice_get, Some}
 use Rattle.rank_key.specs.Keys.{row_key}
 use Rattle.tdp_model.specs.KeyTuple.{KeyOf}
-use Rattle.tdp_core.specs.TreeData.{kids_below}
-use Rattle.tdp_core.specs.RawData.{RawRowData}
+use Rattle.tdp_core.specs.TreeView.{kids_below}
+use Rattle.tdp_core.specs.RawView.{RawRowView}
 use Rattle.join_tree.specs.declared.tree.JoinTree.{JoinTree}
 use Rattle.anyk_model.specs.Table.{Table, field_at}
 use Rattle.table_store.specs.Values.{number_of}
@@ -45,7 +45,7 @@ module _ (bound : BoundQuery) (tables : List Table) (join : JoinTree)
 
   -- the raw tree's row for a row of node v
   pub record IsRowOf {R : Type 0} (d : ℕ) (key : R → KeyOf d 16) (names : List (List (ℕ × ℕ)))
-      (v row : ℕ) (x : RawRowData R) : Type 0 where
+      (v row : ℕ) (x : RawRowView R) : Type 0 where
     pub number : x.row.row ≡ row
     pub rank : key x.row.rank
         ≡ row_key d (row_parts bound tables (item_of join v) row) (item_of join v) row
@@ -54,7 +54,7 @@ module _ (bound : BoundQuery) (tables : List Table) (join : JoinTree)
 
   -- the rows of node v are the first n of a list
   pub record HasRowsOf {R : Type 0} (d : ℕ) (key : R → KeyOf d 16) (names : List (List (ℕ × ℕ)))
-      (v n : ℕ) (rows : List ℕ) (xs : List (RawRowData R)) : Type 0 where
+      (v n : ℕ) (rows : List ℕ) (xs : List (RawRowView R)) : Type 0 where
     pub count : length xs ≡ n
-    pub each : (r : ℕ) (x : RawRowData R) → slice_get xs r ≡ Some x
+    pub each : (r : ℕ) (x : RawRowView R) → slice_get xs r ≡ Some x
         → IsRowOf d key names v (slice_index rows r) x

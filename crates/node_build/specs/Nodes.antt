@@ -7,7 +7,7 @@ use Rattle.hyper_graph.specs.JoinTrees.{IsJoinTree}
 use Rattle.join_tree.specs.declared.tree.JoinTree.{JoinTree}
 use Rattle.tdp_model.specs.KeyTuple.{KeyOf}
 use Rattle.rank_key.specs.Keys.{row_key}
-use Rattle.tdp_core.specs.RawData.{RawData, child_link, own_link, raw_len, raw_number, raw_rank, rows_at, shape_cap, shape_child_place, shape_item, shape_parent}
+use Rattle.tdp_core.specs.RawView.{RawView, child_link, own_link, raw_len, raw_number, raw_rank, rows_at, shape_cap, shape_child_place, shape_item, shape_parent}
 use Rattle.anyk_model.specs.Table.{Table}
 use Rattle.anyk_model.specs.Query.{Query}
 use Rattle.bound_query.specs.Classes.{HasVariable, IsPassing, row_field}
@@ -71,7 +71,7 @@ module _ (bound : BoundQuery) (tables : List Table) where
 
   -- the raw tree of a join tree
   pub record IsBuilt {R : Type 0} (d : ℕ) (key : R → KeyOf d 16) (join : JoinTree)
-      (tree : RawData R) : Type 0 where
+      (tree : RawView R) : Type 0 where
     pub nodes : length tree.shapes ≡ join.count
     pub parents : (v : ℕ) → v < join.count → shape_parent tree.shapes v ≡ parent_of join v
     pub items : (v : ℕ) → v < join.count → shape_item tree.shapes v ≡ item_of join v

@@ -2,7 +2,7 @@
 use Rattle.std.specs.Prelude.{◌≡◌, ◌≢◌, ◌<◌, ◌≤◌, ◌+◌, ℕ, List, [], length, slice_index_or, take}
 use Rattle.std.specs.List.{sum_by}
 use Rattle.tdp_model.specs.KeyTuple.{KeyOf}
-use Rattle.tdp_core.specs.RawData.{RawData, row_total, rows_at}
+use Rattle.tdp_core.specs.RawView.{RawView, row_total, rows_at}
 use Rattle.join_tree.specs.declared.tree.JoinTree.{JoinTree}
 use Rattle.anyk_model.specs.Table.{Table}
 use Rattle.bound_query.specs.WeighedQuery.{BoundQuery}
@@ -11,7 +11,7 @@ use Rattle.counted_index.specs.Pairs.{AreNumbers}
 use Rattle.node_build.specs.Links.{HasRowsOf}
 
 -- node v has n rows more, and the other nodes have the same rows as before
-pub record HasOnlyMore {R : Type 0} (v n : ℕ) (old new : RawData R) : Type 0 where
+pub record HasOnlyMore {R : Type 0} (v n : ℕ) (old new : RawView R) : Type 0 where
   pub shapes : new.shapes ≡ old.shapes
   pub each_node : length new.rows ≡ length old.rows
   pub others : (u : ℕ) → u ≢ v → rows_at new u ≡ rows_at old u
@@ -20,7 +20,7 @@ pub record HasOnlyMore {R : Type 0} (v n : ℕ) (old new : RawData R) : Type 0 w
 -- the first n nodes have their rows, and the others have none
 pub record AreFilled {R : Type 0} (bound : BoundQuery) (tables : List Table) (join : JoinTree)
     (own above : List (List ℕ)) (d : ℕ) (key : R → KeyOf d 16)
-    (names : List (List (ℕ × ℕ))) (n : ℕ) (rows : List (List ℕ)) (tree : RawData R) : Type 0 where
+    (names : List (List (ℕ × ℕ))) (n : ℕ) (rows : List (List ℕ)) (tree : RawView R) : Type 0 where
   pub each_node : length tree.rows ≡ join.count
   pub filled : (v : ℕ) → v < n
       → HasRowsOf bound tables join own above d key names v (length (slice_index_or rows v []))
@@ -31,7 +31,7 @@ pub record AreFilled {R : Type 0} (bound : BoundQuery) (tables : List Table) (jo
 -- the nodes have their rows, with links by the columns of shared variables
 pub record IsFilledTree {R : Type 0} (bound : BoundQuery) (tables : List Table) (join : JoinTree)
     (d : ℕ) (key : R → KeyOf d 16)
-    (rows : List (List ℕ)) (tree : RawData R) : Type 0 where
+    (rows : List (List ℕ)) (tree : RawView R) : Type 0 where
   pub own : List (List ℕ)
   pub above : List (List ℕ)
   pub names : List (List (ℕ × ℕ))

@@ -1,7 +1,7 @@
 -- The shapes of the nodes of a join tree.
 use Rattle.std.specs.Prelude.{◌≡◌, ◌<◌, ℕ, List, length}
 use Rattle.tdp_core.specs.declared.parts.NodeShape.{NodeShape}
-use Rattle.tdp_core.specs.RawData.{shape_cap, shape_item, shape_parent}
+use Rattle.tdp_core.specs.RawView.{shape_cap, shape_item, shape_parent}
 use Rattle.join_tree.specs.declared.tree.JoinTree.{JoinTree}
 use Rattle.anyk_model.specs.Table.{Table}
 use Rattle.bound_query.specs.WeighedQuery.{BoundQuery}

@@ -1,7 +1,7 @@
 //! Building the raw tree of a query.
 ghost use Rattle.std.specs.Prelude.{◌≡◌, ◌<◌, ◌≤◌, ◌+◌, ◌*◌, ◌^◌, length, map, sum, IfErr, IfOk};
 ghost use Rattle.tdp_model.specs.NodeRows.{most_node_rows};
-ghost use Rattle.tdp_core.specs.RawData.{row_total};
+ghost use Rattle.tdp_core.specs.RawView.{row_total};
 ghost use Rattle.tdp_core.specs.Solutions.{IsTieFreeRaw};
 ghost use Rattle.anyk_model.specs.Query.{row_counts};
 ghost use Rattle.bound_query.specs.Parts.{sum_of_all};

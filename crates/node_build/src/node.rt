@@ -2,8 +2,8 @@
 ghost use Rattle.std.specs.Prelude.{◌≡◌, ◌<◌, ◌≤◌, ◌+◌, ◌*◌, ℕ, [], length, IfOk, OnOk};
 ghost use Rattle.tdp_model.specs.NodeRows.{most_node_rows};
 ghost use Rattle.rankings.specs.Order.{IsMember};
-ghost use Rattle.tdp_core.specs.RawData.{RawRowData, row_total, rows_at, with_row};
-ghost use Rattle.tdp_core.specs.TreeData.{kids_below};
+ghost use Rattle.tdp_core.specs.RawView.{RawRowView, row_total, rows_at, with_row};
+ghost use Rattle.tdp_core.specs.TreeView.{kids_below};
 ghost use Rattle.bound_query.specs.WeighedQuery.{Fits};
 ghost use Rattle.bound_query.specs.Weights.{table_in};
 ghost use Rattle.node_build.specs.Columns.{HaveColumns};
@@ -98,7 +98,7 @@ fn add_row<R: Rank, L: Ledger>(
     requires shapes { AreShapesOf query.now tables.now join.now join.now.count tree.old.shapes }
     requires room { row_total tree.old < most_node_rows }
     ensures more { OnOk result (AreMore links.old links.new) }
-    ensures added { OnOk result ((x : RawRowData R) × (tree.new ≡ with_row tree.old node x)
+    ensures added { OnOk result ((x : RawRowView R) × (tree.new ≡ with_row tree.old node x)
         × IsRowOf query.now tables.now join.now (lists_of columns.now.own.items)
         (lists_of columns.now.above.items) R.KEYS R.key links.new node row x) }
     ensures cost { steps.new ≤ steps.old + join.now.count }

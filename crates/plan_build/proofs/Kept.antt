@@ -3,13 +3,13 @@ use Rattle.std.proofs.Common.{◌≡◌, ℕ, ◌+◌, ◌<◌, ◌≤◌, List,
 use Rattle.std.proofs.lemmas.List.{get_or_default, length-map}
 use Rattle.tdp_model.specs.KeyTuple.{KeyOf}
 use Rattle.tdp_model.specs.TreeProblem.{sum_from}
-use Rattle.tdp_core.specs.RawData.{RawData, raw_len, raw_row_at, row_total}
-use Rattle.tdp_core.specs.TreeData.{NodeData, node_at, rows}
+use Rattle.tdp_core.specs.RawView.{RawView, raw_len, raw_row_at, row_total}
+use Rattle.tdp_core.specs.TreeView.{NodeView, node_at, rows}
 use Rattle.step_bounds.proofs.NodeSums.{lengths_in_all, sum_fewer}
 use Rattle.semi_join.specs.ReducedTrees.{IsReduced}
 use Rattle.plan_build.proofs.Sizes.{few_below}
 
-module _ {R : Type 0} (d : ℕ) (key : R → KeyOf d 16) (raw : RawData R) (parts : List (NodeData R)) (reduced : IsReduced d key raw parts) where
+module _ {R : Type 0} (d : ℕ) (key : R → KeyOf d 16) (raw : RawView R) (parts : List (NodeView R)) (reduced : IsReduced d key raw parts) where
   kept_few : (v : ℕ) → v < length raw.shapes → rows parts v ≤ raw_len raw v
   kept_few v l =
       let long : rows parts v ≡ length (reduced.kept v) =

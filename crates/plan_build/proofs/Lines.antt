@@ -9,7 +9,7 @@ use Rattle.bound_query.specs.WeighedQuery.{BoundQuery}
 use Rattle.join_tree.specs.Rerooting.{IsTree}
 use Rattle.query_shape.specs.Shape.{Shape}
 use Rattle.query_shape.specs.JoinTreeView.{HasItems}
-use Rattle.plan_model.specs.Plan.{IsPlanFor, PlanData, shape_of}
+use Rattle.plan_model.specs.Plan.{IsPlanFor, PlanView, shape_of}
 
 map_same : (ns : List ℕ) → map (λ (n : ℕ). n) ns ≡ ns
 map_same [] = sym (append-nil [])
@@ -27,7 +27,7 @@ lines_more line n old new so_far one =
     one ∙ ap (λ (l : List ℕ). l ++ line n) so_far ∙ ap (λ (l : List ℕ). flat_map line (range_with_len 0 n) ++ l) (sym (append-nil (line n)))
     ∙ sym (flat_map-append line (range_with_len 0 n) (n ∷ [])) ∙ ap (flat_map line) (sym (range_more n))
 
-module _ {R : Type 0} (d : ℕ) (key : R → KeyOf d 16) (bound : BoundQuery) (tables : List Table) (plan : PlanData R) (is : IsPlanFor d key bound tables plan) where
+module _ {R : Type 0} (d : ℕ) (key : R → KeyOf d 16) (bound : BoundQuery) (tables : List Table) (plan : PlanView R) (is : IsPlanFor d key bound tables plan) where
   pub nodes_counted : length (shape_of plan).atoms ≡ plan.join.count
   nodes_counted = ap (λ (s : Shape). length s.atoms) (sym is.shown) ∙ is.is_shape.0.hung.join_tree.nodes ∙ is.is_shape.0.hung.of_query.atoms ∙ sym is.count
 
@@ -35,21 +35,21 @@ module _ {R : Type 0} (d : ℕ) (key : R → KeyOf d 16) (bound : BoundQuery) (t
   rows_counted = ap (λ (s : Shape). length s.node_rows) (sym is.shown) ∙ is.is_shape.0.counts ∙ ap (λ (s : Shape). length s.atoms) is.shown ∙ nodes_counted
 
 -- a plan as it is stored and as it is seen
-module _ {R : Type 0} (a b : PlanData R) (same : a ≡ b) where
+module _ {R : Type 0} (a b : PlanView R) (same : a ≡ b) where
   pub shape_same : shape_of a ≡ shape_of b
-  shape_same = ap (λ (p : PlanData R). shape_of p) same
+  shape_same = ap (λ (p : PlanView R). shape_of p) same
 
   pub count_same : a.join.count ≡ b.join.count
-  count_same = ap (λ (p : PlanData R). p.join.count) same
+  count_same = ap (λ (p : PlanView R). p.join.count) same
 
   pub rows_same : length a.node_rows ≡ length b.node_rows
-  rows_same = ap (λ (p : PlanData R). length p.node_rows) same
+  rows_same = ap (λ (p : PlanView R). length p.node_rows) same
 
   pub total_same : a.total ≡ b.total
-  total_same = ap (λ (p : PlanData R). p.total) same
+  total_same = ap (λ (p : PlanView R). p.total) same
 
   pub ordered_same : IsTree b.join.count b.join.atom b.join.parent → IsTree a.join.count a.join.atom a.join.parent
-  ordered_same = subst (λ (p : PlanData R). IsTree p.join.count p.join.atom p.join.parent) (sym same)
+  ordered_same = subst (λ (p : PlanView R). IsTree p.join.count p.join.atom p.join.parent) (sym same)
 
   pub atoms_same : (items : ℕ) → HasItems b.join.count b.join.atom items → HasItems a.join.count a.join.atom items
-  atoms_same items = subst (λ (p : PlanData R). HasItems p.join.count p.join.atom items) (sym same)
+  atoms_same items = subst (λ (p : PlanView R). HasItems p.join.count p.join.atom items) (sym same)

@@ -5,8 +5,8 @@ use Rattle.tdp_model.specs.KeyTuple.{KeyOf, key_add, key_below, key_none}
 use Rattle.tdp_model.specs.TreeProblem.{sum_from}
 use Rattle.tdp_model.proofs.KeyTuples.{tuple_keys}
 use Rattle.tdp_model.proofs.Sums.{sum_same}
-use Rattle.tdp_core.specs.RawData.{RawData, raw_rank}
-use Rattle.tdp_core.specs.TreeData.{NodeData, parent, rank}
+use Rattle.tdp_core.specs.RawView.{RawView, raw_rank}
+use Rattle.tdp_core.specs.TreeView.{NodeView, parent, rank}
 use Rattle.tdp_core.specs.Solutions.{IsRawSolution, IsTreeRanking, IsTreeSolution, raw_solution_key, solution_key}
 use Rattle.tdp_core.specs.WellFormed.{IsFormed, IsTieFreeTree}
 use Rattle.anyk_model.specs.Table.{Table}
@@ -21,11 +21,11 @@ use Rattle.plan_build.proofs.TreeSolutions.{has_solution, solution_has, solution
 
 module _ {R : Type 0} (d : ℕ) (key : R → KeyOf d 16) (query : Query) (tables : List Table) where
   -- the solutions of a raw tree are the witnesses, with their keys
-  pub record AreWitnesses (raw : RawData R) : Type 0 where
+  pub record AreWitnesses (raw : RawView R) : Type 0 where
     pub witness : (s : ℕ → ℕ) → IsRawSolution raw s → (found : List ℕ) × IsWitness query tables found × (raw_solution_key raw d key s ≡ witness_key d query tables found)
     pub solution : (found : List ℕ) → IsWitness query tables found → (s : ℕ → ℕ) × IsRawSolution raw s × (raw_solution_key raw d key s ≡ witness_key d query tables found)
 
-  module _ (raw : RawData R) (parts tree : List (NodeData R)) (reduced : IsReduced d key raw parts) (solved : IsSolved parts tree) where
+  module _ (raw : RawView R) (parts tree : List (NodeView R)) (reduced : IsReduced d key raw parts) (solved : IsSolved parts tree) where
     pub same_length : length parts ≡ length raw.shapes
     same_length = sym (length-map parts (λ n. n.shape)) ∙ ap length reduced.shapes
 

@@ -10,8 +10,8 @@ use Rattle.rankings.specs.Order.{IsMember}
 use Rattle.join_tree.specs.declared.tree.JoinTree.{JoinTree}
 use Rattle.tdp_model.specs.KeyTuple.{KeyOf, key_none}
 use Rattle.tdp_model.specs.Regions.{place_of}
-use Rattle.tdp_core.specs.RawData.{RawData, child_link, own_link, raw_len, raw_number, raw_rank, rows_at, shape_child_place, shape_parent}
-use Rattle.tdp_core.specs.TreeData.{NodeData, group, group_number, item, members, node_at, number, parent, rank, rows}
+use Rattle.tdp_core.specs.RawView.{RawView, child_link, own_link, raw_len, raw_number, raw_rank, rows_at, shape_child_place, shape_parent}
+use Rattle.tdp_core.specs.TreeView.{NodeView, group, group_number, item, members, node_at, number, parent, rank, rows}
 use Rattle.tdp_core.specs.Solutions.{Extends, RawExtends, RawLinked}
 use Rattle.tdp_core.specs.WellFormed.{IsFormed}
 use Rattle.anyk_model.specs.Table.{Table}
@@ -29,7 +29,7 @@ use Rattle.plan_model.specs.Plan.{HasReducedRows, RowPasses, RowsJoined, numbers
 use Rattle.plan_model.proofs.Places.{Rises, extends_in, extends_out, member_place, place_member, rises_at, rises_of}
 
 -- a group has the same members before and after the reduction
-group_same : {R : Type 0} (before after : List (NodeData R)) (nodes : (v : ℕ) → IsReordered (node_at before v) (node_at after v)) (q r : ℕ)
+group_same : {R : Type 0} (before after : List (NodeView R)) (nodes : (v : ℕ) → IsReordered (node_at before v) (node_at after v)) (q r : ℕ)
     → IsPermutation (group before q r) (group after q r)
 group_same before after nodes q r =
     subst (λ g. IsPermutation (group before q r) (members after q g)) (sym (group_number_same before after nodes q r)) ((nodes q).groups (group_number before q r))
@@ -51,8 +51,8 @@ increasing_at xs up i j less l =
     let e = ap (λ k. get_or xs k 0) there in
     omega (arith, step, e)
 
-module _ {R : Type 0} (d : ℕ) (key : R → KeyOf d 16) (bound : BoundQuery) (tables : List Table) (join : JoinTree) (raw : RawData R)
-    (built : IsBuilt bound tables d key join raw) (parts tree : List (NodeData R)) (reduced : IsReduced d key raw parts) (solved : IsSolved parts tree)
+module _ {R : Type 0} (d : ℕ) (key : R → KeyOf d 16) (bound : BoundQuery) (tables : List Table) (join : JoinTree) (raw : RawView R)
+    (built : IsBuilt bound tables d key join raw) (parts tree : List (NodeView R)) (reduced : IsReduced d key raw parts) (solved : IsSolved parts tree)
     (formed : IsFormed d key tree) where
   -- # The tree beside the raw tree
 

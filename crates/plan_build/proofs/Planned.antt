@@ -3,8 +3,8 @@ use Rattle.std.proofs.Common.{◌≡◌, ℕ, ◌+◌, ◌<◌, ◌≤◌, List,
 use Rattle.std.proofs.lemmas.List.{ext_get_or, get_or-map, length-map}
 use Rattle.tdp_model.specs.KeyTuple.{KeyOf}
 use Rattle.tdp_model.specs.TreeProblem.{sum_from}
-use Rattle.tdp_core.specs.RawData.{RawData, row_total, shape_at}
-use Rattle.tdp_core.specs.TreeData.{NodeData, item, node_at, parent, rows}
+use Rattle.tdp_core.specs.RawView.{RawView, row_total, shape_at}
+use Rattle.tdp_core.specs.TreeView.{NodeView, item, node_at, parent, rows}
 use Rattle.tdp_core.specs.Solutions.{IsTieFreeRaw}
 use Rattle.tdp_core.specs.WellFormed.{IsFormed}
 use Rattle.join_tree.specs.Rerooting.{IsTree}
@@ -20,7 +20,7 @@ use Rattle.node_build.proofs.ShapeOf.{flaw_if_many, join_tree_of, numbers_in_all
 use Rattle.step_bounds.proofs.NodeSums.{sum_fewer, sum_of_lengths}
 use Rattle.semi_join.specs.ReducedTrees.{IsReduced}
 use Rattle.tree_dp.specs.SolvedTrees.{IsSolved}
-use Rattle.plan_model.specs.Plan.{IsPlanFor, tree_shown}
+use Rattle.plan_model.specs.Plan.{IsPlanFor, shape_view}
 use Rattle.plan_build.proofs.Kept.{kept_in_all}
 use Rattle.plan_build.proofs.PlanOf.{AreWitnesses, has_witnesses, ranking_agrees}
 use Rattle.plan_build.proofs.PlanRows.{ranks_are, reduced_rows}
@@ -28,8 +28,8 @@ use Rattle.plan_build.proofs.Reordered.{moved_count, moved_length, moved_rows, m
 use Rattle.plan_build.proofs.Witnesses.{raw_witness, witness_raw}
 
 -- the nodes of the solved tree are those of the join tree of which they are built
-module _ {R : Type 0} (bound : BoundQuery) (tables : List Table) (d : ℕ) (key : R → KeyOf d 16) (over : JoinTree) (raw : RawData R) (built : IsBuilt bound tables d key over raw)
-    (parts tree : List (NodeData R)) (reduced : IsReduced d key raw parts) (solved : IsSolved parts tree) where
+module _ {R : Type 0} (bound : BoundQuery) (tables : List Table) (d : ℕ) (key : R → KeyOf d 16) (over : JoinTree) (raw : RawView R) (built : IsBuilt bound tables d key over raw)
+    (parts tree : List (NodeView R)) (reduced : IsReduced d key raw parts) (solved : IsSolved parts tree) where
   pub nodes_before : length parts ≡ length raw.shapes
   nodes_before = sym (length-map parts (λ n. n.shape)) ∙ ap length reduced.shapes
 
@@ -70,8 +70,8 @@ module _ (bound : BoundQuery) (tables : List Table) (join : JoinTree) (stored : 
 
   module _ {R : Type 0} (d : ℕ) (key : R → KeyOf d 16) (fits : Fits bound tables) (few : length bound.query.order ≤ d) (items : length bound.query.items ≤ 16)
       (ordered : IsTree join.count join.atom join.parent) (atoms : HasItems join.count join.atom (length bound.query.items))
-      (raw : RawData R) (built : IsBuilt bound tables d key over raw) (each_node : length raw.rows ≡ length raw.shapes) (tie_free : IsTieFreeRaw raw)
-      (parts tree : List (NodeData R)) (reduced : IsReduced d key raw parts) (solved : IsSolved parts tree) (formed : IsFormed d key tree) where
+      (raw : RawView R) (built : IsBuilt bound tables d key over raw) (each_node : length raw.rows ≡ length raw.shapes) (tie_free : IsTieFreeRaw raw)
+      (parts tree : List (NodeView R)) (reduced : IsReduced d key raw parts) (solved : IsSolved parts tree) (formed : IsFormed d key tree) where
     are_witnesses : AreWitnesses d key bound.query tables raw
     are_witnesses = record {
       witness = raw_witness bound tables d key over raw fits few joined built;
@@ -120,13 +120,13 @@ module _ (bound : BoundQuery) (tables : List Table) (join : JoinTree) (stored : 
           let all : sum_of_all node_rows ≡ used =
           ap sum_of_all (sym in_order) ∙ moved_sum bound tables over join joined by_ears (numbers_of raw) numbers_count ∙ numbers_in_all raw ∙ sym is in
           let of_nodes = moved_rows bound tables over join joined by_ears (numbers_of raw) (rows_of_built bound tables over d key raw built each_node) in
-          let hung : HasShape bound.query tables (tree_shown join node_rows) =
-          subst (λ (rows : List ℕ). HasShape bound.query tables (tree_shown join rows)) in_order (shape_of_rows bound tables join stored count moved of_nodes) in
+          let hung : HasShape bound.query tables (shape_view join node_rows) =
+          subst (λ (rows : List ℕ). HasShape bound.query tables (shape_view join rows)) in_order (shape_of_rows bound tables join stored count moved of_nodes) in
           let apart = solved.tie_free (reduced.tie_free tie_free) in
           let has = has_witnesses d key bound.query tables raw parts tree reduced solved are_witnesses formed apart in
           record {
             keys = few;
-            shape = tree_shown join node_rows;
+            shape = shape_view join node_rows;
             is_shape = (hung, omega (arith, all, within));
             shown = refl;
             total = omega (arith, sum, all);

@@ -5,7 +5,7 @@ use Rattle.rank_key.specs.declared.fixed_rank.FixedRank.{FixedRank}
 use Rattle.anyk_model.specs.Table.{Table}
 use Rattle.bound_query.specs.WeighedQuery.{BoundQuery, Fits}
 use Rattle.node_build.proofs.Shaped.{caps_small}
-use Rattle.plan_model.specs.Plan.{PlanData}
+use Rattle.plan_model.specs.Plan.{PlanView}
 use Rattle.plan_build.specs.RankedPlan.{HasLeastRoom, HasRoom, fixed_room, packed_room}
 use Rattle.plan_build.specs.declared.ranked_plan.RankedPlan.TheVariants.{Lex, MiddleSum, SmallLex, Sum}
 
@@ -24,26 +24,26 @@ module _ (bound : BoundQuery) (tables : List Table) (fits : Fits bound tables) w
   no_fixed n m never room = never (room.keys, room.items)
 
   module _ (packed : HasRoom bound tables packed_room → ⊥) where
-    pub middle_least : (plan : PlanData (FixedRank 1 8)) → HasPlaces 1 8 → HasLeastRoom bound tables (MiddleSum plan)
+    pub middle_least : (plan : PlanView (FixedRank 1 8)) → HasPlaces 1 8 → HasLeastRoom bound tables (MiddleSum plan)
     middle_least plan places = record {
       enough = fixed_enough 1 8 places;
       least = ((λ h. absurd (packed h)), ((λ h. omega arith), ((λ h. omega arith), ((λ h. omega arith), ((λ h. omega arith), tt)))));
     }
 
-    pub small_lex_least : (plan : PlanData (FixedRank 2 4)) → HasPlaces 2 4 → HasLeastRoom bound tables (SmallLex plan)
+    pub small_lex_least : (plan : PlanView (FixedRank 2 4)) → HasPlaces 2 4 → HasLeastRoom bound tables (SmallLex plan)
     small_lex_least plan places = record {
       enough = fixed_enough 2 4 places;
       least = ((λ h. absurd (packed h)), ((λ h. omega arith), ((λ h. omega arith), ((λ h. omega arith), ((λ h. omega arith), tt)))));
     }
 
     module _ (middle : HasPlaces 1 8 → ⊥) (small_lex : HasPlaces 2 4 → ⊥) where
-      pub sum_least : (plan : PlanData (FixedRank 1 16)) → HasPlaces 1 16 → HasLeastRoom bound tables (Sum plan)
+      pub sum_least : (plan : PlanView (FixedRank 1 16)) → HasPlaces 1 16 → HasLeastRoom bound tables (Sum plan)
       sum_least plan places = record {
         enough = fixed_enough 1 16 places;
         least = ((λ h. absurd (packed h)), ((λ h. absurd (no_fixed 1 8 middle h)), ((λ h. omega arith), ((λ h. absurd (no_fixed 2 4 small_lex h)), ((λ h. omega arith), tt)))));
       }
 
-      pub lex_least : (plan : PlanData (FixedRank 8 16)) → (HasPlaces 1 16 → ⊥) → HasPlaces 8 16 → HasLeastRoom bound tables (Lex plan)
+      pub lex_least : (plan : PlanView (FixedRank 8 16)) → (HasPlaces 1 16 → ⊥) → HasPlaces 8 16 → HasLeastRoom bound tables (Lex plan)
       lex_least plan sum places = record {
         enough = fixed_enough 8 16 places;
         least = ((λ h. absurd (packed h)), ((λ h. absurd (no_fixed 1 8 middle h)), ((λ h. absurd (no_fixed 1 16 sum h)), ((λ h. absurd (no_fixed 2 4 small_lex h)), ((λ h. omega arith), tt)))));

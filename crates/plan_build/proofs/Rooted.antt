@@ -2,7 +2,7 @@
 use Rattle.std.proofs.Common.{◌≡◌, ℕ, ◌<◌, List, length, take, slice_index, Option, None, Some, Result, Ok, Err, IfOk, sym, ap, ◌∙◌, subst, inl, inr, arith}
 use Rattle.std.proofs.lemmas.List.{ext_get_or, get_or-map, get_or-take, length-map, length-take-le}
 use Rattle.tdp_model.specs.KeyTuple.{KeyOf}
-use Rattle.tdp_core.specs.TreeData.{item, parent}
+use Rattle.tdp_core.specs.TreeView.{item, parent}
 use Rattle.hyper_graph.specs.Graph.{Hypergraph}
 use Rattle.hyper_graph.specs.Trees.{IsLinked}
 use Rattle.hyper_graph.specs.JoinTrees.{IsJoinTree}
@@ -15,7 +15,7 @@ use Rattle.query_shape.specs.Shape.{Shape}
 use Rattle.node_build.specs.Nodes.{IsJoinTreeOf, item_of, parent_of}
 use Rattle.plan_build.proofs.Witnesses.{items_ordered}
 use Rattle.plan_build.specs.declared.fault.PlanFault.{PlanFault}
-use Rattle.plan_model.specs.Plan.{IsPlan, IsPlanAt, IsPlanFor, IsPlanOf, PlanData, nodes_in, tree_shown}
+use Rattle.plan_model.specs.Plan.{IsPlan, IsPlanAt, IsPlanFor, IsPlanOf, PlanView, nodes_in, shape_view}
 
 -- ---- trees that are equal node by node
 
@@ -77,12 +77,12 @@ module _ (query : Query) (join : JoinTree) (joined : IsJoinTreeOf query join) wh
 
 -- ---- the nodes of a plan's tree
 
-module _ {R : Type 0} (d : ℕ) (key : R → KeyOf d 16) (bound : BoundQuery) (tables : List Table) (plan : PlanData R) (join over : JoinTree)
+module _ {R : Type 0} (d : ℕ) (key : R → KeyOf d 16) (bound : BoundQuery) (tables : List Table) (plan : PlanView R) (join over : JoinTree)
     (whole : IsPlanFor d key bound tables plan) (kept : plan.join ≡ join) (joined : IsJoinTreeOf bound.query over)
     (items : (v : ℕ) → v < length plan.tree → item plan.tree v ≡ item_of over v)
     (parents : (v : ℕ) → v < length plan.tree → parent plan.tree v ≡ parent_of over v) where
-  shape_is : whole.shape ≡ tree_shown join plan.node_rows
-  shape_is = whole.shown ∙ ap (λ (j : JoinTree). tree_shown j plan.node_rows) kept
+  shape_is : whole.shape ≡ shape_view join plan.node_rows
+  shape_is = whole.shown ∙ ap (λ (j : JoinTree). shape_view j plan.node_rows) kept
 
   nodes_many : length plan.tree ≡ over.count
   nodes_many = whole.nodes ∙ sym joined.count
@@ -90,7 +90,7 @@ module _ {R : Type 0} (d : ℕ) (key : R → KeyOf d 16) (bound : BoundQuery) (t
   -- the nodes are those of the join tree that the plan keeps
   pub plan_of : over ≡ join → IsPlan d key bound tables plan
   plan_of same =
-      let over_shown : whole.shape ≡ tree_shown over plan.node_rows = shape_is ∙ ap (λ (j : JoinTree). tree_shown j plan.node_rows) (sym same) in
+      let over_shown : whole.shape ≡ shape_view over plan.node_rows = shape_is ∙ ap (λ (j : JoinTree). shape_view j plan.node_rows) (sym same) in
       record {
         whole = whole;
         items = λ v l.
@@ -143,7 +143,7 @@ module _ {R : Type 0} (d : ℕ) (key : R → KeyOf d 16) (bound : BoundQuery) (t
   }
 
 -- what all plans have, whether an item is given or not
-pub whole_of : {R : Type 0} (d : ℕ) (key : R → KeyOf d 16) (bound : BoundQuery) (tables : List Table) (at : Option ℕ) (plan : PlanData R)
+pub whole_of : {R : Type 0} (d : ℕ) (key : R → KeyOf d 16) (bound : BoundQuery) (tables : List Table) (at : Option ℕ) (plan : PlanView R)
     → IsPlanOf d key bound tables at plan → IsPlanFor d key bound tables plan
 whole_of d key bound tables None plan is = is.whole
 whole_of d key bound tables (Some item) plan is = is.whole
@@ -151,14 +151,14 @@ whole_of d key bound tables (Some item) plan is = is.whole
 -- ---- the same of a result
 
 module _ {R : Type 0} (d : ℕ) (key : R → KeyOf d 16) (bound : BoundQuery) (tables : List Table) (join over : JoinTree) (joined : IsJoinTreeOf bound.query over) where
-  pub plan_given : (result : Result (PlanData R) PlanFault) → IfOk result (IsPlanFor d key bound tables) → IfOk result (λ plan. plan.join ≡ join)
+  pub plan_given : (result : Result (PlanView R) PlanFault) → IfOk result (IsPlanFor d key bound tables) → IfOk result (λ plan. plan.join ≡ join)
       → IfOk result (λ plan. (v : ℕ) → v < length plan.tree → item plan.tree v ≡ item_of over v)
       → IfOk result (λ plan. (v : ℕ) → v < length plan.tree → parent plan.tree v ≡ parent_of over v)
       → over ≡ join → IfOk result (IsPlan d key bound tables)
   plan_given (Ok plan) whole kept items parents same = plan_of d key bound tables plan join over whole kept joined items parents same
   plan_given (Err fault) whole kept items parents same = tt
 
-  pub plan_at_given : (result : Result (PlanData R) PlanFault) → IfOk result (IsPlanFor d key bound tables) → IfOk result (λ plan. plan.join ≡ join)
+  pub plan_at_given : (result : Result (PlanView R) PlanFault) → IfOk result (IsPlanFor d key bound tables) → IfOk result (λ plan. plan.join ≡ join)
       → IfOk result (λ plan. (v : ℕ) → v < length plan.tree → item plan.tree v ≡ item_of over v)
       → IfOk result (λ plan. (v : ℕ) → v < length plan.tree → parent plan.tree v ≡ parent_of over v)
       → (at : ℕ) → 0 < length bound.query.items → item_of over 0 ≡ at → over.count ≡ join.count

@@ -1,14 +1,14 @@
 -- A query has one shape, so that of a plan is this one.
 use Rattle.std.proofs.Common.{◌≡◌, ◌≤◌, ℕ, List, Ok, Err, subst, arith}
 use Rattle.tdp_model.specs.KeyTuple.{KeyOf}
-use Rattle.tdp_core.specs.TreeData.{row_count}
+use Rattle.tdp_core.specs.TreeView.{row_count}
 use Rattle.anyk_model.specs.Table.{Table}
 use Rattle.anyk_model.specs.Query.{Query}
 use Rattle.bound_query.specs.WeighedQuery.{BoundQuery}
 use Rattle.query_shape.specs.Shape.{Flaw, IsShape, Shape}
 use Rattle.query_shape.proofs.OneShape.{one_shape}
 use Rattle.query_shape.specs.Report.{total_rows}
-use Rattle.plan_model.specs.Plan.{IsPlanFor, PlanData, shape_of}
+use Rattle.plan_model.specs.Plan.{IsPlanFor, PlanView, shape_of}
 
 -- a query has one shape
 pub shape_is : (query : Query) (tables : List Table) (x y : Shape) → IsShape query tables (Ok x) → IsShape query tables (Ok y) → x ≡ y
@@ -18,7 +18,7 @@ shape_is query tables x y a b = let e = one_shape query tables (Ok x) (Ok y) a b
 pub has_no_flaw : {A : Type 0} (query : Query) (tables : List Table) (x : Shape) (flaw : Flaw) → IsShape query tables (Ok x) → IsShape query tables (Err flaw) → A
 has_no_flaw query tables x flaw a b = let e = one_shape query tables (Ok x) (Err flaw) a b in cc
 
-module _ {R : Type 0} (d : ℕ) (key : R → KeyOf d 16) (bound : BoundQuery) (tables : List Table) (plan : PlanData R) (is : IsPlanFor d key bound tables plan) where
+module _ {R : Type 0} (d : ℕ) (key : R → KeyOf d 16) (bound : BoundQuery) (tables : List Table) (plan : PlanView R) (is : IsPlanFor d key bound tables plan) where
   -- the shape that the plan keeps is the query's
   pub plan_shape : IsShape bound.query tables (Ok (shape_of plan))
   plan_shape = subst (λ (s : Shape). IsShape bound.query tables (Ok s)) is.shown is.is_shape

@@ -10,7 +10,7 @@ use Rattle.tdp_model.proofs.Division.{get_place, place_le, stands_place, stands_
 use Rattle.tdp_model.proofs.Sums.{sum_same}
 use Rattle.tdp_model.proofs.KeyTuples.{tuple_keys}
 use Rattle.tdp_model.proofs.Ties.{completes_length, solutions_apart}
-use Rattle.tdp_core.specs.TreeData.{NodeData, group, item, number, parent, rank}
+use Rattle.tdp_core.specs.TreeView.{NodeView, group, item, number, parent, rank}
 use Rattle.tdp_core.specs.Solutions.{IsTreeSolution, solution_key}
 use Rattle.tdp_core.specs.WellFormed.{IsFormed, IsTieFreeTree}
 use Rattle.tdp_core.proofs.TreeFacts.{tie_free_of}
@@ -55,7 +55,7 @@ all_complete members (suc n) pre (r ∷ rest) long each =
 
 -- ---- trees
 
-module _ {R : Type 0} (t : List (NodeData R)) (earlier : (q : ℕ) → 0 < q → q < length t → parent t q < q) where
+module _ {R : Type 0} (t : List (NodeView R)) (earlier : (q : ℕ) → 0 < q → q < length t → parent t q < q) where
   abbrev after : List ℕ → List ℕ
   after = rows_after (parent t) (group t)
 
@@ -113,7 +113,7 @@ module _ {R : Type 0} (t : List (NodeData R)) (earlier : (q : ℕ) → 0 < q →
     solution_has rows solution is = (listed rows, solution_list rows solution, listed_key d key rows ∙ is)
 
 -- Two solutions with the same key are the same rows.
-pub solutions_once : {R : Type 0} (d : ℕ) (key : R → KeyOf d 16) (t : List (NodeData R)) → IsFormed d key t → IsTieFreeTree t
+pub solutions_once : {R : Type 0} (d : ℕ) (key : R → KeyOf d 16) (t : List (NodeView R)) → IsFormed d key t → IsTieFreeTree t
     → (r s : ℕ → ℕ) → IsTreeSolution t r → IsTreeSolution t s → solution_key t d key r ≡ solution_key t d key s → (q : ℕ) → q < length t → r q ≡ s q
 solutions_once d key t formed apart r s first second same q l =
     let earlier = formed.shaped.parents_first in

@@ -7,7 +7,7 @@ use Rattle.rankings.proofs.Members.{contains_member, member_contains}
 use Rattle.join_tree.specs.declared.tree.JoinTree.{JoinTree}
 use Rattle.tdp_model.specs.KeyTuple.{KeyOf, key_add, key_none}
 use Rattle.tdp_model.specs.TreeProblem.{sum_from}
-use Rattle.tdp_core.specs.RawData.{RawData, child_link, own_link, raw_len, raw_number, raw_rank, rows_at, shape_child_place}
+use Rattle.tdp_core.specs.RawView.{RawView, child_link, own_link, raw_len, raw_number, raw_rank, rows_at, shape_child_place}
 use Rattle.tdp_core.specs.Solutions.{IsRawSolution, raw_solution_key}
 use Rattle.rank_key.specs.Keys.{row_key}
 use Rattle.anyk_model.specs.Table.{Table}
@@ -66,7 +66,7 @@ module _ (query : Query) (join : JoinTree) (tree : IsJoinTreeOf query join) wher
         each = λ a l. let k = atom_of a l in (k.0, k.1, sym (item_at k.0 k.1) ∙ k.2);
       }
 
-module _ {R : Type 0} (bound : BoundQuery) (tables : List Table) (d : ℕ) (key : R → KeyOf d 16) (join : JoinTree) (raw : RawData R)
+module _ {R : Type 0} (bound : BoundQuery) (tables : List Table) (d : ℕ) (key : R → KeyOf d 16) (join : JoinTree) (raw : RawView R)
     (fits : Fits bound tables) (tree : IsJoinTreeOf bound.query join) (built : IsBuilt bound tables d key join raw) where
   abbrev n : ℕ
   n = length bound.query.items
@@ -259,7 +259,7 @@ module _ {R : Type 0} (bound : BoundQuery) (tables : List Table) (d : ℕ) (key 
           (at.0, (omega (arith, size, inside), sym at.2 ∙ get_or_default_zero numbers at.0 (slice_index rows (item v)) inside))
 
 -- A solution of the raw tree gives a witness with its key.
-pub raw_witness : {R : Type 0} (bound : BoundQuery) (tables : List Table) (d : ℕ) (key : R → KeyOf d 16) (join : JoinTree) (raw : RawData R)
+pub raw_witness : {R : Type 0} (bound : BoundQuery) (tables : List Table) (d : ℕ) (key : R → KeyOf d 16) (join : JoinTree) (raw : RawView R)
     → Fits bound tables → length bound.query.order ≤ d → IsJoinTreeOf bound.query join → IsBuilt bound tables d key join raw
     → (s : ℕ → ℕ) → IsRawSolution raw s
     → (rows : List ℕ) × IsWitness bound.query tables rows × (raw_solution_key raw d key s ≡ witness_key d bound.query tables rows)
@@ -268,7 +268,7 @@ raw_witness bound tables d key join raw fits few tree built s solution =
     (found.0, is_witness bound tables d key join raw fits tree built s found.0 found.1 solution, keys_match bound tables d key join raw fits tree built s found.0 found.1)
 
 -- And a witness gives a solution of the raw tree with its key.
-pub witness_raw : {R : Type 0} (bound : BoundQuery) (tables : List Table) (d : ℕ) (key : R → KeyOf d 16) (join : JoinTree) (raw : RawData R)
+pub witness_raw : {R : Type 0} (bound : BoundQuery) (tables : List Table) (d : ℕ) (key : R → KeyOf d 16) (join : JoinTree) (raw : RawView R)
     → Fits bound tables → length bound.query.order ≤ d → IsJoinTreeOf bound.query join → IsBuilt bound tables d key join raw
     → (rows : List ℕ) → IsWitness bound.query tables rows
     → (s : ℕ → ℕ) × IsRawSolution raw s × (raw_solution_key raw d key s ≡ witness_key d bound.query tables rows)

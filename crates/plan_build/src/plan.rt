@@ -7,9 +7,9 @@ ghost use Rattle.bound_query.specs.Parts.{sum_of_all};
 ghost use Rattle.bound_query.specs.WeighedQuery.{Fits};
 ghost use Rattle.join_tree.specs.Rerooting.{IsTree};
 ghost use Rattle.query_shape.specs.JoinTreeView.{HasItems, HasStoredTree};
-ghost use Rattle.tdp_core.specs.RawData.{IsRawFormed, row_total};
+ghost use Rattle.tdp_core.specs.RawView.{IsRawFormed, row_total};
 ghost use Rattle.tdp_core.specs.Solutions.{IsTieFreeRaw};
-ghost use Rattle.tdp_core.specs.TreeData.{item, parent};
+ghost use Rattle.tdp_core.specs.TreeView.{item, parent};
 ghost use Rattle.node_build.specs.Nodes.{CapsBelow, IsBuilt, IsJoinTreeOf, item_of, parent_of};
 ghost use Rattle.step_bounds.specs.RunBounds.{IsPrepared};
 ghost use Rattle.plan_model.specs.Plan.{IsPlan, IsPlanAt, IsPlanFor};
@@ -46,9 +46,9 @@ pub struct Plan<R: Rank> {
 }
 
 impl<R: Rank> Model for Plan<R> {
-    ghost use Rattle.plan_model.specs.Plan.{PlanData};
+    ghost use Rattle.plan_model.specs.Plan.{PlanView};
 
-    ghost Value = { PlanData R };
+    ghost Value = { PlanView R };
 
     ghost view = { λ p. record
         { tree = p.tree; join = p.join; node_rows = p.node_rows.items; total = p.total } };

@@ -3,7 +3,7 @@ ghost use Rattle.std.specs.Prelude.{◌≡◌, ◌<◌, ◌≤◌, ◌+◌, ◌+
 ghost use Rattle.join_tree.specs.Rerooting.{IsTree};
 ghost use Rattle.query_shape.specs.Report.{node_line, node_text, parent_number, report_of};
 ghost use Rattle.query_shape.specs.JoinTreeView.{HasItems};
-ghost use Rattle.plan_model.specs.Plan.{IsPlanFor, shape_of, tree_shown};
+ghost use Rattle.plan_model.specs.Plan.{IsPlanFor, shape_of, shape_view};
 
 use crate::plan::Plan;
 use bound_query::Query;
@@ -51,7 +51,7 @@ fn push_node(
     requires node { node < join.now.count }
     ensures { OnOk result
         (text.new.items ≡ text.old.items
-        ++ node_line query.now.query (tree_shown join.now node_rows.now) node) }
+        ++ node_line query.now.query (shape_view join.now node_rows.now) node) }
 {
     let number = node as u32 + 1;
     let parent = parent_number(join, node);
@@ -64,7 +64,7 @@ fn push_node(
 fn parent_number(join: &JoinTree, node: usize) -> u32
     requires ordered { IsTree join.now.count join.now.atom join.now.parent }
     requires node { node < join.now.count }
-    ensures { (node_rows : List ℕ) → result ≡ parent_number (tree_shown join.now node_rows) node }
+    ensures { (node_rows : List ℕ) → result ≡ parent_number (shape_view join.now node_rows) node }
 {
     if node == 0 { 0 } else { join.parent[node] + 1 }
 }

@@ -10,23 +10,23 @@ use Rattle.best_list.specs.BestList.{best_list, list_of}
 use Rattle.best_list.proofs.Least.{best_ranking}
 use Rattle.bound_query.specs.WeighedQuery.{BoundQuery}
 use Rattle.tdp_model.specs.KeyTuple.{KeyOf}
-use Rattle.tdp_core.specs.SeenAnswers.{Seen, answers_of}
+use Rattle.tdp_core.specs.AnswerView.{AnswerView, answers_of}
 use Rattle.tdp_core.specs.Solutions.{IsTreeRanking}
 use Rattle.tdp_core.specs.WellFormed.{IsFormed}
 use Rattle.tree_dp.specs.BestRanking.{IsBestRanking}
 use Rattle.witness_key.specs.WitnessKey.{AreCombinations, answers_of_ranking, combinations_in, witness_key}
 use Rattle.witness_key.proofs.Combinations.{combinations_all, combinations_told, members_combine}
-use Rattle.plan_model.specs.Plan.{IsPlan, IsPlanAt, IsPlanFor, PlanData}
+use Rattle.plan_model.specs.Plan.{IsPlan, IsPlanAt, IsPlanFor, PlanView}
 use Rattle.plan_model.proofs.AnswersAgree.{answers_agree}
 use Rattle.plan_engine.specs.AskedList.{IsAskedList}
 
 module _ {R : Type 0} (d : ℕ) (key : R → KeyOf d 16) (bound : BoundQuery) (tables : List Table) where
-  few : (plan : PlanData R) → IsPlanFor d key bound tables plan → length bound.query.items ≤ 16
+  few : (plan : PlanView R) → IsPlanFor d key bound tables plan → length bound.query.items ≤ 16
   few plan is = let small = is.ordered.few in let count = is.count in omega (arith, small, count)
 
   -- a list of combinations is left
   list_left : (best : Option ℕ) → length bound.query.items ≤ 16 → AllByRecursion (IsCombination (row_counts bound.query.items tables)) (list_of bound.query tables best)
-      → (rest : List Seen) (ks : List (KeyOf d 16)) → ks ≡ map (witness_key d bound.query tables) (list_of bound.query tables best) → rest ≡ answers_of d ks
+      → (rest : List AnswerView) (ks : List (KeyOf d 16)) → ks ≡ map (witness_key d bound.query tables) (list_of bound.query tables best) → rest ≡ answers_of d ks
       → IsAskedList bound.query tables best rest
   list_left best small all rest ks keys left =
       let list : List (List ℕ) = list_of bound.query tables best in
@@ -37,7 +37,7 @@ module _ {R : Type 0} (d : ℕ) (key : R → KeyOf d 16) (bound : BoundQuery) (t
       }
 
   -- the engines over all answers
-  pub ranking_left : (plan : PlanData R) → IsPlan d key bound tables plan → (rest : List Seen) (ks : List (KeyOf d 16)) → IsTreeRanking plan.tree d key ks
+  pub ranking_left : (plan : PlanView R) → IsPlan d key bound tables plan → (rest : List AnswerView) (ks : List (KeyOf d 16)) → IsTreeRanking plan.tree d key ks
       → rest ≡ answers_of d ks → IsAskedList bound.query tables None rest
   ranking_left plan is rest ks ranking left =
       let small = few plan is.whole in
@@ -45,8 +45,8 @@ module _ {R : Type 0} (d : ℕ) (key : R → KeyOf d 16) (bound : BoundQuery) (t
       list_left None small all rest ks (is.whole.ranking ks ranking) left
 
   -- the engine over the best answer of each row of the root
-  pub best_left : (item : ℕ) (plan : PlanData R) → IsPlanAt d key bound tables item plan → IsFormed d key plan.tree
-      → (rest : List Seen) (ks : List (KeyOf d 16)) → IsBestRanking plan.tree d key ks → rest ≡ answers_of d ks → IsAskedList bound.query tables (Some item) rest
+  pub best_left : (item : ℕ) (plan : PlanView R) → IsPlanAt d key bound tables item plan → IsFormed d key plan.tree
+      → (rest : List AnswerView) (ks : List (KeyOf d 16)) → IsBestRanking plan.tree d key ks → rest ≡ answers_of d ks → IsAskedList bound.query tables (Some item) rest
   best_left item plan is formed rest ks best left =
       let small = few plan is.whole in
       let all = members_combine d bound.query tables small (best_list item (ranking_of bound.query tables)) (λ rows m. ((best_ranking bound.query tables item).sound rows m).witness) in

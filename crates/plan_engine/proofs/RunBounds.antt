@@ -7,11 +7,11 @@ use Rattle.bound_query.specs.Parts.{sum_of_all}
 use Rattle.query_shape.specs.Shape.{Shape}
 use Rattle.rank_key.specs.Bits.{bit_length}
 use Rattle.tdp_model.specs.KeyTuple.{KeyOf}
-use Rattle.tdp_core.specs.TreeData.{NodeData, group_count, row_count}
+use Rattle.tdp_core.specs.TreeView.{NodeView, group_count, row_count}
 use Rattle.tdp_core.specs.Shares.{most_steps, share_of, size_of}
 use Rattle.step_bounds.specs.Steps.{steps_for}
 use Rattle.step_bounds.proofs.Shares.{shares}
-use Rattle.plan_model.specs.Plan.{PlanData}
+use Rattle.plan_model.specs.Plan.{PlanView}
 use Rattle.query_shape.specs.Report.{total_rows}
 use Rattle.step_bounds.specs.RunBounds.{cost_over}
 
@@ -31,7 +31,7 @@ module _ {R : Type 0} (d : ℕ) (key : R → KeyOf d 16) (query : Query) (tables
   abbrev table_total : ℕ
   table_total = sum_of_all (row_counts query.items tables)
 
-  module _ (plan : PlanData R) (m_same : length plan.tree ≡ length query.items) (n_few : row_count plan.tree ≤ total_rows query tables shape) where
+  module _ (plan : PlanView R) (m_same : length plan.tree ≡ length query.items) (n_few : row_count plan.tree ≤ total_rows query tables shape) where
     -- when memory ran out for the engine
     pub started : (before prepared now calls : ℕ) → prepared ≤ before + 16 * (length query.items * length query.items * (1 + table_total))
         → now ≤ prepared + 16 * (length plan.tree * (1 + row_count plan.tree)) → now ≤ before + cost_over query tables shape calls
@@ -63,7 +63,7 @@ module _ {R : Type 0} (d : ℕ) (key : R → KeyOf d 16) (query : Query) (tables
             omega (arith, one, same, moved)
 
     -- by an engine over that tree that was not called yet
-    pub called_by : (tree : List (NodeData R)) (earlier : ℕ) → tree ≡ plan.tree → earlier ≡ 0 → (before prepared made now calls : ℕ)
+    pub called_by : (tree : List (NodeView R)) (earlier : ℕ) → tree ≡ plan.tree → earlier ≡ 0 → (before prepared made now calls : ℕ)
         → prepared ≤ before + 16 * (length query.items * length query.items * (1 + table_total)) → made ≤ prepared + 16 * (length plan.tree * (1 + row_count plan.tree))
         → now ≤ made + steps_for (λ n. share_of (size_of tree) (earlier + n)) calls → now ≤ before + cost_over query tables shape calls
     called_by tree earlier same none before prepared made now calls first second third =

@@ -1,7 +1,7 @@
 -- The answers as which keys are seen are those of the witnesses with these keys.
 use Rattle.std.proofs.Common.{◌≡◌, ◌∙◌, [], ◌∷◌, ℕ, List, map, refl, ap}
 use Rattle.tdp_model.specs.KeyTuple.{KeyOf}
-use Rattle.tdp_core.specs.SeenAnswers.{answer_of, answers_of}
+use Rattle.tdp_core.specs.AnswerView.{answer_of, answers_of}
 use Rattle.anyk_model.specs.Table.{Table}
 use Rattle.anyk_model.specs.Query.{Query}
 use Rattle.witness_key.specs.WitnessKey.{answers_of_ranking, witness_key}

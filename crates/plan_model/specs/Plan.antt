@@ -2,7 +2,7 @@
 use Rattle.std.specs.Prelude.{◌≡◌, ◌↔◌, ◌⊎◌, ℕ, ◌<◌, ◌≤◌, List, Contains, map, length, slice_index, take, Ok, Option, None, Some}
 use Rattle.rankings.specs.Order.{IsAscending, IsMember}
 use Rattle.tdp_model.specs.KeyTuple.{KeyOf}
-use Rattle.tdp_core.specs.TreeData.{NodeData, group, item, node_at, number, parent, rank, row_count, rows}
+use Rattle.tdp_core.specs.TreeView.{NodeView, group, item, node_at, number, parent, rank, row_count, rows}
 use Rattle.tdp_core.specs.Solutions.{Extends, IsTreeRanking, IsTreeSolution, solution_key}
 use Rattle.tdp_core.specs.WellFormed.{IsTieFreeTree}
 use Rattle.anyk_model.specs.Table.{Table}
@@ -24,27 +24,27 @@ use Rattle.witness_key.specs.WitnessKey.{witness_key}
 
 -- a solved tree, its join tree, the number of rows of each node before the reduction, and the
 -- number of rows of the tables of all items and of the nodes together
-pub record PlanData (R : Type 0) : Type 0 where
-  pub tree : List (NodeData R)
+pub record PlanView (R : Type 0) : Type 0 where
+  pub tree : List (NodeView R)
   pub join : JoinTree
   pub node_rows : List ℕ
   pub total : ℕ
 
 -- the nodes of a stored join tree, with these numbers of rows
-abbrev pub tree_shown : JoinTree → List ℕ → Shape
-tree_shown join node_rows = record {
+abbrev pub shape_view : JoinTree → List ℕ → Shape
+shape_view join node_rows = record {
   atoms = take join.count join.atom;
   parents = take join.count join.parent;
   node_rows = node_rows;
 }
 
-abbrev pub shape_of : {R : Type 0} → PlanData R → Shape
-shape_of plan = tree_shown plan.join plan.node_rows
+abbrev pub shape_of : {R : Type 0} → PlanView R → Shape
+shape_of plan = shape_view plan.join plan.node_rows
 
 module _ {R : Type 0} (d : ℕ) (key : R → KeyOf d 16) (query : Query) (tables : List Table) where
   -- A solution of the tree has the key of a witness, and each witness has the key of a solution.
   -- Two solutions with the same key are the same rows.
-  pub record HasWitnesses (tree : List (NodeData R)) : Type 0 where
+  pub record HasWitnesses (tree : List (NodeView R)) : Type 0 where
     pub witness : (rows : ℕ → ℕ) → IsTreeSolution tree rows
         → (found : List ℕ) × IsWitness query tables found
         × (solution_key tree d key rows ≡ witness_key d query tables found)
@@ -55,7 +55,7 @@ module _ {R : Type 0} (d : ℕ) (key : R → KeyOf d 16) (query : Query) (tables
         → solution_key tree d key t ≡ solution_key tree d key u
         → (q : ℕ) → q < length tree → t q ≡ u q
 
-module _ (bound : BoundQuery) (tables : List Table) {R : Type 0} (tree : List (NodeData R)) where
+module _ (bound : BoundQuery) (tables : List Table) {R : Type 0} (tree : List (NodeView R)) where
   -- this row of the item of node v passes
   abbrev pub RowPasses : ℕ → ℕ → Type 0
   RowPasses v row = IsPassing bound.query tables (item tree v) row
@@ -92,7 +92,7 @@ module _ (bound : BoundQuery) (tables : List Table) {R : Type 0} (tree : List (N
 
 -- a tree of rows for the query over these tables, with the shape of the query: what all its plans have
 pub record IsPlanFor {R : Type 0} (d : ℕ) (key : R → KeyOf d 16) (bound : BoundQuery)
-    (tables : List Table) (plan : PlanData R) : Type 0 where
+    (tables : List Table) (plan : PlanView R) : Type 0 where
   -- the ranks have room for the order keys
   pub keys : length bound.query.order ≤ d
   pub shape : Shape
@@ -120,14 +120,14 @@ pub record IsPlanFor {R : Type 0} (d : ℕ) (key : R → KeyOf d 16) (bound : Bo
 
 -- the plan of the query over these tables: the nodes of its tree are those of the join tree
 pub record IsPlan {R : Type 0} (d : ℕ) (key : R → KeyOf d 16) (bound : BoundQuery)
-    (tables : List Table) (plan : PlanData R) : Type 0 where
+    (tables : List Table) (plan : PlanView R) : Type 0 where
   pub whole : IsPlanFor d key bound tables plan
   pub items : (v : ℕ) → v < length plan.tree → item plan.tree v ≡ slice_index whole.shape.atoms v
   pub parents : (v : ℕ) → v < length plan.tree
       → parent plan.tree v ≡ slice_index whole.shape.parents v
 
 -- the nodes of a tree, by their items and their parents
-abbrev pub nodes_in : {R : Type 0} → List (NodeData R) → JoinTree
+abbrev pub nodes_in : {R : Type 0} → List (NodeView R) → JoinTree
 nodes_in tree = record {
   count = length tree;
   atom = map (λ n. n.shape.item) tree;
@@ -136,7 +136,7 @@ nodes_in tree = record {
 
 -- the plan with the item `at` at the root: the nodes of its tree are those of a join tree that has the same links
 pub record IsPlanAt {R : Type 0} (d : ℕ) (key : R → KeyOf d 16) (bound : BoundQuery)
-    (tables : List Table) (at : ℕ) (plan : PlanData R) : Type 0 where
+    (tables : List Table) (at : ℕ) (plan : PlanView R) : Type 0 where
   pub whole : IsPlanFor d key bound tables plan
   pub root : item plan.tree 0 ≡ at
   pub joined : IsJoinTreeOf bound.query (nodes_in plan.tree)
@@ -145,6 +145,6 @@ pub record IsPlanAt {R : Type 0} (d : ℕ) (key : R → KeyOf d 16) (bound : Bou
 
 -- the plan with a given item at the root, or with that of the join tree if none is given
 abbrev pub IsPlanOf : {R : Type 0} (d : ℕ) → (R → KeyOf d 16) → BoundQuery → List Table → Option ℕ
-    → PlanData R → Type 0
+    → PlanView R → Type 0
 IsPlanOf d key bound tables None plan = IsPlan d key bound tables plan
 IsPlanOf d key bound tables (Some at) plan = IsPlanAt d key bound tables at plan

@@ -6,11 +6,11 @@ use Rattle.anyk_model.specs.Table.{Table}
 use Rattle.bound_query.specs.Parts.{sum_of_all}
 use Rattle.bound_query.specs.WeighedQuery.{BoundQuery}
 use Rattle.tdp_model.specs.KeyTuple.{KeyOf}
-use Rattle.plan_model.specs.Plan.{IsPlanOf, PlanData}
+use Rattle.plan_model.specs.Plan.{IsPlanOf, PlanView}
 
 -- the plan of each query in order
 abbrev pub HavePlans : {R : Type 0} (d : ℕ) → (R → KeyOf d 16) → List Table → List BoundQuery
-    → List (PlanData R)
+    → List (PlanView R)
     → Type 0
 HavePlans d key tables queries plans =
     AllZip (λ query made. IsPlanOf d key query tables None made) queries plans

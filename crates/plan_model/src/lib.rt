@@ -5,7 +5,7 @@
 ghost use Rattle.std.specs.Prelude.{◌≡◌, ℕ, List, map};
 ghost use Rattle.anyk_model.specs.Query.{Query};
 ghost use Rattle.anyk_model.specs.Table.{Table};
-ghost use Rattle.tdp_core.specs.SeenAnswers.{answers_of};
+ghost use Rattle.tdp_core.specs.AnswerView.{answers_of};
 ghost use Rattle.tdp_model.specs.KeyTuple.{KeyOf};
 ghost use Rattle.witness_key.specs.WitnessKey.{answers_of_ranking, witness_key};
 

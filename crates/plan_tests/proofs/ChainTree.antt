@@ -5,8 +5,8 @@ use Rattle.tdp_model.specs.KeyTuple.{KeyOf}
 use Rattle.tdp_model.specs.TreeProblem.{sum_from}
 use Rattle.rank_key.specs.Keys.{IsHeld, IsWithin}
 use Rattle.tdp_core.specs.declared.parts.NodeShape.{NodeShape}
-use Rattle.tdp_core.specs.RawData.{AreShapes, AreShapesHeld, shape_item, shape_parent, shape_cap, shape_children}
-use Rattle.tdp_core.specs.TreeData.{kids_below}
+use Rattle.tdp_core.specs.RawView.{AreShapes, AreShapesHeld, shape_item, shape_parent, shape_cap, shape_children}
+use Rattle.tdp_core.specs.TreeView.{kids_below}
 use Rattle.plan_tests.specs.ChainTrees.{IsChain, chain_children}
 use Rattle.plan_tests.proofs.Held.{three_nodes_held}
 

@@ -7,8 +7,8 @@ use Rattle.std.proofs.lemmas.List.{map-append, get_or_append_left, get_or_push, 
 use Rattle.tdp_model.specs.KeyTuple.{KeyOf}
 use Rattle.tdp_model.specs.TreeProblem.{sum_from}
 use Rattle.rank_key.specs.Keys.{IsHeld, IsWithin}
-use Rattle.tdp_core.specs.RawData.{RawData, RawRowData, AreShapes, AreShapesHeld, raw_len, rows_at, with_row, shape_item, shape_parent, shape_cap, shape_children}
-use Rattle.tdp_core.specs.TreeData.{kids_below}
+use Rattle.tdp_core.specs.RawView.{RawView, RawRowView, AreShapes, AreShapesHeld, raw_len, rows_at, with_row, shape_item, shape_parent, shape_cap, shape_children}
+use Rattle.tdp_core.specs.TreeView.{kids_below}
 use Rattle.tdp_core.specs.Solutions.{IsTieFreeRaw}
 use Rattle.plan_tests.specs.SampleTrees.{IsSample, hundreds, sample_shapes, sample_children}
 use Rattle.plan_tests.proofs.Held.{three_nodes_held}
@@ -76,10 +76,10 @@ sum_capped (suc zero) zero s h few = few
 sum_capped (suc (suc zero)) zero s h few = few
 sum_capped (suc (suc (suc v))) zero s h few = absurd (omega arith)
 
-abbrev numbers_of : {R : Type 0} → List (RawRowData R) → List ℕ
+abbrev numbers_of : {R : Type 0} → List (RawRowView R) → List ℕ
 numbers_of xs = map (λ x. x.row.row) xs
 
-number_more : {R : Type 0} (xs : List (RawRowData R)) (x : RawRowData R) → x.row.row ≡ length xs → ((i : ℕ) → i < length xs → get_or (numbers_of xs) i 0 ≡ i) → (i : ℕ) → i < length (xs ++ x ∷ []) → get_or (numbers_of (xs ++ x ∷ [])) i 0 ≡ i
+number_more : {R : Type 0} (xs : List (RawRowView R)) (x : RawRowView R) → x.row.row ≡ length xs → ((i : ℕ) → i < length xs → get_or (numbers_of xs) i 0 ≡ i) → (i : ℕ) → i < length (xs ++ x ∷ []) → get_or (numbers_of (xs ++ x ∷ [])) i 0 ≡ i
 number_more xs x is before i l =
     let long : length (numbers_of xs) ≡ length xs = length-map xs (λ y. y.row.row) in
     ap (λ ns. get_or ns i 0) (map-append (λ y. y.row.row) xs (x ∷ []))
@@ -91,7 +91,7 @@ number_more xs x is before i l =
     ]
 
 module _ {R : Type 0} where
-  pub sample_more : (t : RawData R) (v : ℕ) (x : RawRowData R) → IsSample t → v < 3 → x.row.row ≡ raw_len t v → IsSample (with_row t v x)
+  pub sample_more : (t : RawView R) (v : ℕ) (x : RawRowView R) → IsSample t → v < 3 → x.row.row ≡ raw_len t v → IsSample (with_row t v x)
   sample_more t v x sample l is =
       let more = rows_at t v ++ x ∷ [] in
       record {
@@ -108,7 +108,7 @@ module _ {R : Type 0} where
       }
 
   -- rows with different places have different numbers
-  pub sample_tie_free : (t : RawData R) → IsSample t → IsTieFreeRaw t
+  pub sample_tie_free : (t : RawView R) → IsSample t → IsTieFreeRaw t
   sample_tie_free t sample v i j l hi hj linked same = sym (sample.numbered v i hi) ∙ same ∙ sample.numbered v j hj
 
 -- what one result's value has, from what another clause says of it

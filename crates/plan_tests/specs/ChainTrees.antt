@@ -1,7 +1,7 @@
 -- The trees that the tests of the reduction build: three nodes, each below the one before.
 use Rattle.std.specs.Prelude.{◌≡◌, ℕ, ◌<◌, cond, nat_lt, List, length}
 use Rattle.tdp_core.specs.declared.parts.NodeShape.{NodeShape}
-use Rattle.tdp_core.specs.RawData.{shape_children}
+use Rattle.tdp_core.specs.RawView.{shape_children}
 
 -- how many children node v has
 abbrev pub chain_children : ℕ → ℕ

@@ -1,7 +1,7 @@
 -- The trees that the tests build: a root with two children, whose rows are numbered by their places.
 use Rattle.std.specs.Prelude.{◌≡◌, ℕ, ◌<◌, cond, nat_eq, List, [], ◌∷◌, length}
 use Rattle.tdp_core.specs.declared.parts.NodeShape.{NodeShape}
-use Rattle.tdp_core.specs.RawData.{RawData, raw_len, raw_number}
+use Rattle.tdp_core.specs.RawView.{RawView, raw_len, raw_number}
 
 -- the caps of each node
 abbrev pub hundreds : List ℕ
@@ -18,7 +18,7 @@ abbrev pub sample_children : ℕ → ℕ
 sample_children v = cond (nat_eq v 0) 2 0
 
 -- a raw tree of these nodes, in which the number of each row is its place at its node
-pub record IsSample {R : Type 0} (t : RawData R) : Type 0 where
+pub record IsSample {R : Type 0} (t : RawView R) : Type 0 where
   pub shapes : t.shapes ≡ sample_shapes
   pub every_node : length t.rows ≡ 3
   pub numbered : (v i : ℕ) → i < raw_len t v → raw_number t v i ≡ i

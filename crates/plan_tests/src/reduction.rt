@@ -1,7 +1,7 @@
 //! What the reduction leaves of raw trees.
 ghost use Rattle.std.specs.Prelude.{◌≡◌, ℕ, ◌+◌, ◌^◌, ◌<◌, ◌≤◌, length, IfOk, OnOk};
 ghost use Rattle.plan_tests.specs.ChainTrees.{IsChain, chain_children};
-ghost use Rattle.tdp_core.specs.RawData.{row_total};
+ghost use Rattle.tdp_core.specs.RawView.{row_total};
 
 use rank_key::{Rank, SumRank};
 use semi_join::{Reduced, reduce};

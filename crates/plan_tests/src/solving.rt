@@ -1,6 +1,6 @@
 //! Raw trees that are reduced and solved, and their first answers.
 ghost use Rattle.std.specs.Prelude.{◌≡◌, ℕ, ◌+◌, ◌^◌, ◌<◌, ◌≤◌, length, unsigned_abs, IfOk, OnOk};
-ghost use Rattle.tdp_core.specs.RawData.{row_total};
+ghost use Rattle.tdp_core.specs.RawView.{row_total};
 ghost use Rattle.tdp_core.specs.WellFormed.{IsTieFreeTree};
 ghost use Rattle.plan_tests.specs.SampleTrees.{IsSample, sample_children};
 

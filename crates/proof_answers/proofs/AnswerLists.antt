@@ -4,15 +4,15 @@ use Rattle.std.proofs.Math.ListN.{get_or-append}
 use Rattle.std.proofs.Math.Seq.{get_or-append_seam}
 use Rattle.std.proofs.lemmas.List.{get_or-map, length-map}
 use Rattle.proof_text.specs.Certificate.{AnswerLine}
-use Rattle.proof_text.specs.ProofView.{seen_answer}
+use Rattle.proof_text.specs.ProofView.{listed_view}
 use Rattle.proof_text.specs.declared.proof.Listed.{Listed}
 
 pub seen_at : (items : List Listed) (i : ℕ) (x : Listed) (z : AnswerLine) → i < length items → x ≡ get_or items i x
-    → get_or (map seen_answer items) i z ≡ seen_answer x
-seen_at items i x z l e = get_or-map seen_answer items i x z l ∙ ap seen_answer (sym e)
+    → get_or (map listed_view items) i z ≡ listed_view x
+seen_at items i x z l e = get_or-map listed_view items i x z l ∙ ap listed_view (sym e)
 
-pub seen_count : (items : List Listed) → length (map seen_answer items) ≡ length items
-seen_count items = length-map items seen_answer
+pub seen_count : (items : List Listed) → length (map listed_view items) ≡ length items
+seen_count items = length-map items listed_view
 
 -- one more element of a list
 module _ {A : Type 0} (P : ℕ → A → Type 0) (xs : List A) (x z : A) (n : ℕ) (long : length xs ≡ n)

@@ -10,14 +10,14 @@ use Rattle.tdp_model.specs.KeyTuple.{KeyOf, key_below}
 use Rattle.tdp_model.specs.Remains.{AtMost}
 use Rattle.tdp_model.proofs.KeyNumbers.{not_less_at_most, at_most_not_less}
 use Rattle.tdp_model.proofs.KeyTuples.{tuple_keys}
-use Rattle.tdp_core.specs.RawData.{raw_len, raw_number}
+use Rattle.tdp_core.specs.RawView.{raw_len, raw_number}
 use Rattle.proof_text.specs.Certificate.{Certificate}
 use Rattle.proof_model.specs.Problem.{Problem}
 use Rattle.proof_model.specs.QueryProblem.{problem_in}
 use Rattle.proof_model.specs.Valid.{IsCovered, bound_key}
 use Rattle.proof_model.specs.Wide.{wide}
 use Rattle.proof_model.proofs.Wider.{wide_below}
-use Rattle.proof_bounds.specs.BoundedRows.{BoundedData, IsBounded, own_bound, query_key, rank_of_bound}
+use Rattle.proof_bounds.specs.BoundedRows.{BoundedView, IsBounded, own_bound, query_key, rank_of_bound}
 use Rattle.proof_answers.specs.Lows.{IsLow, low_key}
 use Rattle.proof_answers.proofs.Nodes.{option_none, option_some}
 
@@ -48,7 +48,7 @@ test_false false P holds fails = (λ h. holds refl, λ p. refl)
 test_false true P holds fails = (λ h. absurd (not-true h), λ p. absurd (fails refl p))
 
 module _ {R : Type 0} (query : Query) (tables : List Table) (join : JoinTree) (d : ℕ) (key : R → KeyOf d 16)
-    (c : Certificate) (tree : BoundedData R) (few : length query.order ≤ d)
+    (c : Certificate) (tree : BoundedView R) (few : length query.order ≤ d)
     (bounded : IsBounded query tables join d key c tree) (v i : ℕ) (node : v < (problem_in query tables join).nodes)
     (row : i < raw_len tree.raw v) where
   abbrev t : Problem (KeyOf (length query.order) 16)

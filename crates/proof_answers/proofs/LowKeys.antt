@@ -10,18 +10,18 @@ use Rattle.tdp_model.specs.TreeProblem.{sum_from, kid_key}
 use Rattle.tdp_model.proofs.KeyTuples.{tuple_keys}
 use Rattle.tdp_model.proofs.SubtreeTies.{kid_yes, kid_no}
 use Rattle.tdp_model.proofs.Sums.{sum_same}
-use Rattle.tdp_core.specs.RawData.{raw_len, raw_number, raw_rank}
+use Rattle.tdp_core.specs.RawView.{raw_len, raw_number, raw_rank}
 use Rattle.proof_text.specs.Certificate.{Certificate}
 use Rattle.proof_model.specs.Problem.{Problem}
 use Rattle.proof_model.specs.QueryProblem.{problem_in}
 use Rattle.proof_model.specs.Valid.{Serves, bound_key}
 use Rattle.proof_model.proofs.Wider.{wide_add, wide_none, wide_sum}
-use Rattle.proof_bounds.specs.BoundedRows.{BoundedData, IsBounded, named_bound, query_key, rank_of_bound}
+use Rattle.proof_bounds.specs.BoundedRows.{BoundedView, IsBounded, named_bound, query_key, rank_of_bound}
 use Rattle.proof_answers.specs.Lows.{AreServed, IsLow, low_key}
 use Rattle.proof_answers.proofs.LowParts.{AreNamed, low_part, named_key}
 
 module _ {R : Type 0} (query : Query) (tables : List Table) (join : JoinTree) (d : ℕ) (key : R → KeyOf d 16)
-    (c : Certificate) (tree : BoundedData R) (few : length query.order ≤ d)
+    (c : Certificate) (tree : BoundedView R) (few : length query.order ≤ d)
     (bounded : IsBounded query tables join d key c tree) (v i : ℕ) (node : v < (problem_in query tables join).nodes)
     (row : i < raw_len tree.raw v) where
   abbrev t : Problem (KeyOf (length query.order) 16)

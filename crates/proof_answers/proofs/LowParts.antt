@@ -13,13 +13,13 @@ use Rattle.tdp_model.proofs.KeyTuples.{tuple_keys}
 use Rattle.tdp_model.proofs.SubtreeTies.{kid_yes, kid_no}
 use Rattle.tdp_model.proofs.Sums.{sum_last, sum_same}
 use Rattle.rank_key.specs.Keys.{KeyFits}
-use Rattle.tdp_core.specs.RawData.{IsRawFormed, raw_len, raw_rank}
+use Rattle.tdp_core.specs.RawView.{IsRawFormed, raw_len, raw_rank}
 use Rattle.proof_text.specs.Certificate.{Certificate}
 use Rattle.proof_model.specs.Problem.{Problem, IsSolutionAt, row_in}
 use Rattle.proof_model.specs.QueryProblem.{problem_in}
 use Rattle.proof_model.specs.Valid.{bound_at, bound_key}
 use Rattle.proof_model.proofs.Sums.{pick_eq, pick_ne, sum_none, sum_one}
-use Rattle.proof_bounds.specs.BoundedRows.{BoundedData, IsBounded, bound_ranks, named_bound, query_key, rank_of_bound}
+use Rattle.proof_bounds.specs.BoundedRows.{BoundedView, IsBounded, bound_ranks, named_bound, query_key, rank_of_bound}
 use Rattle.proof_bounds.proofs.RankSums.{IsRawPart}
 use Rattle.proof_model.proofs.Wider.{wide_cond, wide_sum}
 use Rattle.proof_answers.proofs.Nodes.{option_some}
@@ -27,7 +27,7 @@ use Rattle.proof_answers.proofs.RawSums.{double_sums_fit}
 
 -- # Parts
 
-module _ {R : Type 0} (d : ℕ) (key : R → KeyOf d 16) (tree : BoundedData R) (up : ℕ → ℕ) (v i : ℕ) where
+module _ {R : Type 0} (d : ℕ) (key : R → KeyOf d 16) (tree : BoundedView R) (up : ℕ → ℕ) (v i : ℕ) where
   -- the key of the bound that row i of node v names at node q
   abbrev pub named_key : ℕ → KeyOf d 16
   named_key q = unwrap_or (option_map (rank_of_bound tree d key q) (named_bound tree q i)) (key_none d 16)
@@ -84,7 +84,7 @@ module _ {R : Type 0} (d : ℕ) (key : R → KeyOf d 16) (tree : BoundedData R) 
 -- # The problem of a query
 
 module _ {R : Type 0} (query : Query) (tables : List Table) (join : JoinTree) (d : ℕ) (key : R → KeyOf d 16)
-    (c : Certificate) (tree : BoundedData R) (few : length query.order ≤ d)
+    (c : Certificate) (tree : BoundedView R) (few : length query.order ≤ d)
     (bounded : IsBounded query tables join d key c tree) where
   abbrev t : Problem (KeyOf (length query.order) 16)
   t = problem_in query tables join

@@ -4,11 +4,11 @@ use Rattle.tdp_model.specs.KeyTuple.{KeyOf, key_below, key_add, key_none}
 use Rattle.tdp_model.specs.TreeProblem.{sum_from}
 use Rattle.tdp_model.proofs.KeyTuples.{tuple_keys}
 use Rattle.rank_key.specs.Keys.{KeyFits}
-use Rattle.tdp_core.specs.RawData.{RawData, IsRawFormed}
+use Rattle.tdp_core.specs.RawView.{RawView, IsRawFormed}
 use Rattle.proof_bounds.proofs.RankSums.{IsRawPart, parts_fit}
 use Rattle.proof_answers.proofs.DoubleSums.{sum_swap, sum_choice}
 
-module _ {R : Type 0} (d : ℕ) (key : R → KeyOf d 16) (raw : RawData R) (formed : IsRawFormed d key raw) where
+module _ {R : Type 0} (d : ℕ) (key : R → KeyOf d 16) (raw : RawView R) (formed : IsRawFormed d key raw) where
   abbrev m : ℕ
   m = length raw.shapes
 

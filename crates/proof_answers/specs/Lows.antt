@@ -9,7 +9,7 @@ use Rattle.proof_text.specs.Certificate.{Certificate}
 use Rattle.proof_model.specs.Problem.{Problem}
 use Rattle.proof_model.specs.QueryProblem.{problem_in}
 use Rattle.proof_model.specs.Valid.{Serves, bound_key}
-use Rattle.proof_bounds.specs.BoundedRows.{BoundedData, IsBounded, query_key}
+use Rattle.proof_bounds.specs.BoundedRows.{BoundedView, IsBounded, query_key}
 
 module _ {K : Type 0} (t : Problem K) (c : Certificate) (v row : ℕ) where
   -- the group that the row names at each child has this bound
@@ -36,7 +36,7 @@ module _ (query : Query) (tables : List Table) (join : JoinTree) (d : ℕ) (c : 
 
 -- the tree is that of some query, with the bounds of some certificate, and ranks have room for the query's order keys
 pub record IsBoundedTree (join : JoinTree) (d : ℕ) {R : Type 0} (key : R → KeyOf d 16)
-    (tree : BoundedData R) : Type 0 where
+    (tree : BoundedView R) : Type 0 where
   pub query : Query
   pub tables : List Table
   pub c : Certificate
@@ -45,7 +45,7 @@ pub record IsBoundedTree (join : JoinTree) (d : ℕ) {R : Type 0} (key : R → K
 
 -- this holds of whichever query and certificate the tree is of
 abbrev pub OfEach : (join : JoinTree) (d : ℕ) {R : Type 0} (key : R → KeyOf d 16)
-    (tree : BoundedData R)
+    (tree : BoundedView R)
     → (Query → List Table → Certificate → Type 0) → Type 0
 OfEach join d key tree P =
     (query : Query) (tables : List Table) (c : Certificate) → length query.order ≤ d

@@ -4,7 +4,7 @@ use Rattle.anyk_model.specs.Table.{Table}
 use Rattle.anyk_model.specs.Query.{Query}
 use Rattle.join_tree.specs.declared.tree.JoinTree.{JoinTree}
 use Rattle.tdp_model.specs.KeyTuple.{KeyOf}
-use Rattle.tdp_core.specs.RawData.{RawData, raw_len, raw_number}
+use Rattle.tdp_core.specs.RawView.{RawView, raw_len, raw_number}
 use Rattle.proof_text.specs.Certificate.{Certificate}
 use Rattle.proof_model.specs.Problem.{IsSolutionAt}
 use Rattle.proof_model.specs.QueryProblem.{problem_in}
@@ -26,7 +26,7 @@ IsLastKey query tables join d c (Some k) =
 module _ (query : Query) (tables : List Table) (join : JoinTree) (c : Certificate) where
   -- Each answer has a row for each node, told by its place. Rows are compared with the bounds, and the answers
   -- are solutions in order, as many as they may be.
-  pub record ArePlaced {R : Type 0} (raw : RawData R) (places : List (List ℕ)) : Type 0 where
+  pub record ArePlaced {R : Type 0} (raw : RawView R) (places : List (List ℕ)) : Type 0 where
     pub count : length places ≡ length c.answers
     pub within : (i q : ℕ) → i < length c.answers → q < (problem_in query tables join).nodes
         → place_at places i q < raw_len raw q

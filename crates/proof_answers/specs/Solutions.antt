@@ -4,7 +4,7 @@ use Rattle.anyk_model.specs.Table.{Table}
 use Rattle.anyk_model.specs.Query.{Query}
 use Rattle.join_tree.specs.declared.tree.JoinTree.{JoinTree}
 use Rattle.tdp_model.specs.KeyTuple.{KeyOf}
-use Rattle.tdp_core.specs.RawData.{RawData}
+use Rattle.tdp_core.specs.RawView.{RawView}
 use Rattle.proof_text.specs.Certificate.{Certificate}
 use Rattle.proof_text.specs.declared.fault.ProofFault.{ProofFault}
 use Rattle.proof_text.specs.declared.fault.ProofFault.TheVariants as fault
@@ -43,7 +43,7 @@ module _ {K : Type 0} (t : Problem K) (c : Certificate) where
 
 -- the places of the rows of each answer
 pub record AreAnswers {R : Type 0} (query : Query) (tables : List Table) (join : JoinTree)
-    (raw : RawData R)
+    (raw : RawView R)
     (c : Certificate)
     (places : List (List ℕ)) : Type 0 where
   pub count : length places ≡ length c.answers
@@ -52,7 +52,7 @@ pub record AreAnswers {R : Type 0} (query : Query) (tables : List Table) (join :
       (slice_index_or places i [])
 
 -- the raw tree has the rows of some query, ranks have room for its order keys, and the places are those of the answers
-pub record HasAnswers {R : Type 0} (d : ℕ) (key : R → KeyOf d 16) (raw : RawData R)
+pub record HasAnswers {R : Type 0} (d : ℕ) (key : R → KeyOf d 16) (raw : RawView R)
     (c : Certificate)
     (places : List (List ℕ)) : Type 0 where
   pub query : Query

@@ -3,7 +3,7 @@ ghost use Rattle.std.specs.Prelude.{◌≡◌, ◌≤◌, ◌<◌, ℕ, length, 
 ghost use Rattle.bound_query.specs.WeighedQuery.{Fits};
 ghost use Rattle.query_shape.specs.JoinTreeView.{HasItems, HasStoredTree};
 ghost use Rattle.join_tree.specs.Rerooting.{IsTree};
-ghost use Rattle.proof_text.specs.ProofView.{seen_proof};
+ghost use Rattle.proof_text.specs.ProofView.{proof_view};
 ghost use Rattle.proof_model.specs.Faults.{TellsFlaw};
 ghost use Rattle.proof_bounds.specs.BoundedRows.{IsBounded};
 ghost use Rattle.proof_answers.specs.RowPlaces.{ArePlaced, IsLastKey};
@@ -50,15 +50,15 @@ pub fn placed_answers<R: Rank, L: Ledger>(
     requires items { HasItems join.now.count join.now.atom (length query.now.query.items) }
     requires count { join.now.count ≡ length query.now.query.items }
     requires bounded { IsBounded query.now.query tables.now join.now R.KEYS R.key
-        (seen_proof proof.now) tree.now }
+        (proof_view proof.now) tree.now }
     ensures placed { IfOk result (λ answers.
         ArePlaced query.now.query tables.now join.now
-        (seen_proof proof.now) tree.now.raw answers.places.items) }
+        (proof_view proof.now) tree.now.raw answers.places.items) }
     ensures last { IfOk result (λ answers.
-        IsLastKey query.now.query tables.now join.now R.KEYS (seen_proof proof.now)
+        IsLastKey query.now.query tables.now join.now R.KEYS (proof_view proof.now)
         (option_map R.key answers.last)) }
     ensures fault { IfErr result
-        (TellsFlaw query.now.query tables.now join.now (seen_proof proof.now)) }
+        (TellsFlaw query.now.query tables.now join.now (proof_view proof.now)) }
 {
     if let Some(node) = first_weak(join, tree, steps) {
         return Err(ProofFault::Weak(node + 1));

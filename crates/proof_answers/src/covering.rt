@@ -4,7 +4,7 @@ ghost use Rattle.std.specs.Prelude.{option_map, slice_index_or, MatchOption};
 ghost use Rattle.anyk_model.specs.Table.{Table};
 ghost use Rattle.anyk_model.specs.Query.{Query as SelectQuery};
 ghost use Rattle.join_tree.specs.Rerooting.{IsTree};
-ghost use Rattle.tdp_core.specs.RawData.{raw_len, raw_number};
+ghost use Rattle.tdp_core.specs.RawView.{raw_len, raw_number};
 ghost use Rattle.proof_text.specs.Certificate.{Certificate};
 ghost use Rattle.proof_model.specs.QueryProblem.{problem_in};
 ghost use Rattle.proof_model.specs.Valid.{IsCovered};

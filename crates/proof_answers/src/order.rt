@@ -4,7 +4,7 @@ ghost use Rattle.anyk_model.specs.Table.{Table};
 ghost use Rattle.anyk_model.specs.Query.{Query as SelectQuery};
 ghost use Rattle.join_tree.specs.declared.tree.JoinTree.{JoinTree};
 ghost use Rattle.tdp_model.specs.KeyNumbers.{key_less};
-ghost use Rattle.proof_text.specs.ProofView.{seen_proof};
+ghost use Rattle.proof_text.specs.ProofView.{proof_view};
 ghost use Rattle.proof_model.specs.QueryProblem.{problem_in};
 ghost use Rattle.proof_bounds.specs.BoundedRows.{HasProblemRows};
 ghost use Rattle.proof_answers.specs.RowPlaces.{IsLastKey};
@@ -26,24 +26,24 @@ pub(crate) fn last_rank<R: Rank, L: Ledger>(
     steps: &mut Steps<L>,
 ) -> Result<Option<R>, ProofFault>
     requires some { 0 < length raw.now.shapes }
-    requires answers { HasAnswers R.KEYS R.key raw.now (seen_proof proof.now) places.now }
+    requires answers { HasAnswers R.KEYS R.key raw.now (proof_view proof.now) places.now }
     ensures last { (query : SelectQuery) (tables : List Table) (join : JoinTree)
         → length query.order ≤ R.KEYS
         → HasProblemRows query tables join R.KEYS R.key raw.now
-        → AreAnswers query tables join raw.now (seen_proof proof.now) places.now
-        → IfOk result (λ last. IsLastKey query tables join R.KEYS (seen_proof proof.now)
+        → AreAnswers query tables join raw.now (proof_view proof.now) places.now
+        → IfOk result (λ last. IsLastKey query tables join R.KEYS (proof_view proof.now)
         (option_map R.key last)) }
     ensures ordered { (query : SelectQuery) (tables : List Table) (join : JoinTree)
         → length query.order ≤ R.KEYS
         → HasProblemRows query tables join R.KEYS R.key raw.now
-        → AreAnswers query tables join raw.now (seen_proof proof.now) places.now
-        → IfOk result (λ last. AreOrdered (problem_in query tables join) (seen_proof proof.now)
+        → AreAnswers query tables join raw.now (proof_view proof.now) places.now
+        → IfOk result (λ last. AreOrdered (problem_in query tables join) (proof_view proof.now)
         (length places.now)) }
     ensures fault { (query : SelectQuery) (tables : List Table) (join : JoinTree)
         → length query.order ≤ R.KEYS
         → HasProblemRows query tables join R.KEYS R.key raw.now
-        → AreAnswers query tables join raw.now (seen_proof proof.now) places.now
-        → IfErr result (TellsBehind (problem_in query tables join) (seen_proof proof.now)) }
+        → AreAnswers query tables join raw.now (proof_view proof.now) places.now
+        → IfErr result (TellsBehind (problem_in query tables join) (proof_view proof.now)) }
 {
     let mut last = None;
     for i in 0..places.len() {

@@ -3,7 +3,7 @@ ghost use Rattle.std.specs.Prelude.{◌<◌, List, length, IfErr, IfOk};
 ghost use Rattle.anyk_model.specs.Table.{Table};
 ghost use Rattle.anyk_model.specs.Query.{Query as SelectQuery};
 ghost use Rattle.join_tree.specs.declared.tree.JoinTree.{JoinTree};
-ghost use Rattle.proof_text.specs.ProofView.{seen_proof};
+ghost use Rattle.proof_text.specs.ProofView.{proof_view};
 ghost use Rattle.proof_model.specs.QueryProblem.{problem_in};
 ghost use Rattle.proof_bounds.specs.BoundedRows.{HasProblemRows};
 ghost use Rattle.proof_answers.specs.Solutions.{AreAnswers, TellsBad};
@@ -25,10 +25,10 @@ pub(crate) fn answer_places<R: Rank>(
     ensures places { (query : SelectQuery) (tables : List Table) (join : JoinTree)
         → HasProblemRows query tables join R.KEYS R.key raw.now
         → IfOk result (λ places. AreAnswers query tables join raw.now
-        (seen_proof proof.now) places.items) }
+        (proof_view proof.now) places.items) }
     ensures fault { (query : SelectQuery) (tables : List Table) (join : JoinTree)
         → HasProblemRows query tables join R.KEYS R.key raw.now
-        → IfErr result (TellsBad (problem_in query tables join) (seen_proof proof.now)) }
+        → IfErr result (TellsBad (problem_in query tables join) (proof_view proof.now)) }
 {
     let mut places = Vec::with_capacity(alloc, proof.answers.len())?;
     for answer in &proof.answers {

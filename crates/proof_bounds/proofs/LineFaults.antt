@@ -12,10 +12,10 @@ use Rattle.join_tree.specs.declared.tree.JoinTree.{JoinTree}
 use Rattle.tdp_model.specs.Below.{is_below}
 use Rattle.tdp_model.specs.KeyTuple.{KeyOf}
 use Rattle.tdp_model.proofs.Sums.{get_end, get_front, length_end}
-use Rattle.tdp_core.specs.RawData.{AreShapes, IsRawFormed, RawData, own_link, raw_len, raw_number}
+use Rattle.tdp_core.specs.RawView.{AreShapes, IsRawFormed, RawView, own_link, raw_len, raw_number}
 use Rattle.tdp_core.proofs.RawReads.{length_within}
 use Rattle.proof_text.specs.Certificate.{BoundLine, Certificate}
-use Rattle.proof_text.specs.ProofView.{seen_bound, seen_proof}
+use Rattle.proof_text.specs.ProofView.{bound_view, proof_view}
 use Rattle.proof_text.specs.declared.proof.Bound.{Bound}
 use Rattle.proof_text.specs.declared.proof.Proof.{Proof}
 use Rattle.proof_text.specs.declared.fault.ProofFault.{ProofFault}
@@ -38,10 +38,10 @@ use Rattle.proof_bounds.proofs.Subtrees.{below_self}
 
 -- a line as it is read
 pub line_is : (xs : List Bound) (n : ℕ) (b : Bound) (d : BoundLine) → n < length xs → b ≡ get_or xs n b
-    → get_or (map seen_bound xs) n d ≡ seen_bound b
-line_is xs n b d l e = get_or-map seen_bound xs n b d l ∙ ap seen_bound (sym e)
+    → get_or (map bound_view xs) n d ≡ bound_view b
+line_is xs n b d l e = get_or-map bound_view xs n b d l ∙ ap bound_view (sym e)
 
-module _ (query : Query) (tables : List Table) (join : JoinTree) {R : Type 0} (raw : RawData R) (k : ℕ) (rows : List ℕ) where
+module _ (query : Query) (tables : List Table) (join : JoinTree) {R : Type 0} (raw : RawView R) (k : ℕ) (rows : List ℕ) where
   -- a node from 1 is a node from 0
   pub line_placed : (o : Option (List ℕ)) → k ≢ 0 → k ≤ length raw.shapes
       → MatchOption o (IsSolutionAt (problem_in query tables join) (k - 1) rows → ⊥) (ArePlacesOf query tables join raw (k - 1) rows)
@@ -53,7 +53,7 @@ module _ (query : Query) (tables : List Table) (join : JoinTree) {R : Type 0} (r
   line_placed (Some places) some few h = (k - 1, omega (arith, some, few), omega (arith, some), h)
 
 pub line_number : (xs : List Bound) (n : ℕ) (b : Bound) (d : BoundLine) → n < length xs → b ≡ get_or xs n b
-    → (get_or (map seen_bound xs) n d).node ≡ b.node
+    → (get_or (map bound_view xs) n d).node ≡ b.node
 line_number xs n b d l e = ap (λ x. x.node) (line_is xs n b d l e)
 
 -- ---- first flaws
@@ -133,7 +133,7 @@ map_same : (xs : List ℕ) → map (λ (x : ℕ). x) xs ≡ xs
 map_same [] = refl
 map_same (x ∷ xs) = ap (λ ys. x ∷ ys) (map_same xs)
 
-module _ {R : Type 0} (raw : RawData R) where
+module _ {R : Type 0} (raw : RawView R) where
   pub link_own : (v i : ℕ) → 0 < v → group_link raw v i ≡ own_link raw v i
   link_own v i l = below_root v (own_link raw v i) l
     where
@@ -147,10 +147,10 @@ module _ {R : Type 0} (raw : RawData R) where
       at_root v x e = grind (arith, nat_tests)
 
 -- a node has no more rows than the tree
-pub rows_few : {R : Type 0} (d : ℕ) (key : R → KeyOf d 16) (raw : RawData R) → IsRawFormed d key raw → (v : ℕ) → raw_len raw v ≤ 4194304
+pub rows_few : {R : Type 0} (d : ℕ) (key : R → KeyOf d 16) (raw : RawView R) → IsRawFormed d key raw → (v : ℕ) → raw_len raw v ≤ 4194304
 rows_few d key raw formed v = let a = length_within raw.rows v in let b = formed.few_rows in omega (arith, a, b)
 
-module _ (query : Query) (tables : List Table) (join : JoinTree) {R : Type 0} (d : ℕ) (key : R → KeyOf d 16) (raw : RawData R)
+module _ (query : Query) (tables : List Table) (join : JoinTree) {R : Type 0} (d : ℕ) (key : R → KeyOf d 16) (raw : RawView R)
     (shaped : AreShapes raw.shapes) (has : HasProblemRows query tables join d key raw) (c : Certificate) where
   abbrev t : Problem (KeyOf (length query.order) 16)
   t = problem_in query tables join
@@ -344,33 +344,33 @@ module _ (query : Query) (tables : List Table) (join : JoinTree) {R : Type 0} (d
 
 -- ---- a line that is read
 
-module _ (query : Query) (tables : List Table) (join : JoinTree) {R : Type 0} (d : ℕ) (key : R → KeyOf d 16) (raw : RawData R)
+module _ (query : Query) (tables : List Table) (join : JoinTree) {R : Type 0} (d : ℕ) (key : R → KeyOf d 16) (raw : RawView R)
     (shaped : AreShapes raw.shapes) (has : HasProblemRows query tables join d key raw) (proof : Proof) (tops : List ℕ)
     (ranks : List (List R))
-    (p : ArePlacedLines query tables join d key raw (seen_proof proof) (length proof.bounds.items) tops ranks) (i : ℕ) (b : Bound)
+    (p : ArePlacedLines query tables join d key raw (proof_view proof) (length proof.bounds.items) tops ranks) (i : ℕ) (b : Bound)
     (inside : i < length proof.bounds.items) (is : b ≡ get_or proof.bounds.items i b) where
-  number_read : line_node (seen_proof proof) i ≡ b.node
+  number_read : line_node (proof_view proof) i ≡ b.node
   number_read = line_number proof.bounds.items i b (record { line = 0; node = 0; rows = [] }) inside is
 
   pub some_node_lem : 1 ≤ b.node
   some_node_lem = let s = p.solutions i inside in let e = s.1 in let n = number_read in omega (arith, e, n)
 
-  pub node_read : line_node (seen_proof proof) i ≡ suc (b.node - 1)
+  pub node_read : line_node (proof_view proof) i ≡ suc (b.node - 1)
   node_read = let n = number_read in let s = some_node_lem in omega (arith, n, s)
 
   pub node_within : b.node - 1 < length raw.shapes
   node_within =
-      line_within query tables join d key raw shaped has (seen_proof proof) (length proof.bounds.items) tops ranks p i inside (b.node - 1) node_read
+      line_within query tables join d key raw shaped has (proof_view proof) (length proof.bounds.items) tops ranks p i inside (b.node - 1) node_read
 
 -- the line is no solution
 pub none_read : (query : Query) (tables : List Table) (join : JoinTree) (proof : Proof) (i : ℕ) (b : Bound)
     → i < length proof.bounds.items → b ≡ get_or proof.bounds.items i b
     → ((v : ℕ) → b.node ≡ suc v → IsSolutionAt (problem_in query tables join) v b.rows.items → ⊥)
-    → Holds (problem_in query tables join) (seen_proof proof) query.limit (no_solution i)
+    → Holds (problem_in query tables join) (proof_view proof) query.limit (no_solution i)
 none_read query tables join proof i b inside is none =
     let none_at : BoundLine = record { line = 0; node = 0; rows = [] } in
     let read = line_is proof.bounds.items i b none_at inside is in
-    let all = length-map proof.bounds.items seen_bound in (
+    let all = length-map proof.bounds.items bound_view in (
       omega (arith, all, inside),
       λ v e s. none v (sym (ap (λ x. x.node) read) ∙ e)
           (subst (λ rows. IsSolutionAt (problem_in query tables join) v rows) (ap (λ x. x.rows) read) s),

@@ -12,12 +12,12 @@ use Rattle.anyk_model.specs.Query.{Query}
 use Rattle.join_tree.specs.declared.tree.JoinTree.{JoinTree}
 use Rattle.query_shape.specs.Shape.{IsShape, Shape}
 use Rattle.tdp_model.specs.KeyTuple.{KeyOf, key_none}
-use Rattle.tdp_core.specs.RawData.{AreShapes, RawData, child_link, own_link, raw_len, raw_number, shape_child_place, shape_parent}
+use Rattle.tdp_core.specs.RawView.{AreShapes, RawView, child_link, own_link, raw_len, raw_number, shape_child_place, shape_parent}
 use Rattle.proof_text.specs.Certificate.{Certificate}
 use Rattle.proof_model.specs.Problem.{Problem}
 use Rattle.proof_model.specs.QueryProblem.{problem_in}
 use Rattle.proof_model.specs.Valid.{Serves, StandsFor, bound_key}
-use Rattle.proof_bounds.specs.BoundedRows.{BoundedData, HasProblemRows, IsBounded, bound_ranks, named_bound, own_bound, query_key}
+use Rattle.proof_bounds.specs.BoundedRows.{BoundedView, HasProblemRows, IsBounded, bound_ranks, named_bound, own_bound, query_key}
 use Rattle.proof_bounds.specs.Lines.{AreLineGroups, AreNamed, ArePlacedLines, group_link, line_node, lines_of, named_link}
 use Rattle.proof_bounds.proofs.BoundLines.{lines_are}
 use Rattle.proof_bounds.proofs.LineFaults.{group_iff, groups_apart, line_place, lines_long, link_own, place_line}
@@ -41,7 +41,7 @@ range_rises n k l =
     let next = get_or-range_with_len 0 n (k + 1) 0 (omega (arith, l, size)) in
     omega (arith, here, next)
 
-module _ (query : Query) (tables : List Table) (join : JoinTree) {R : Type 0} (d : ℕ) (key : R → KeyOf d 16) (tree : BoundedData R)
+module _ (query : Query) (tables : List Table) (join : JoinTree) {R : Type 0} (d : ℕ) (key : R → KeyOf d 16) (tree : BoundedView R)
     (shaped : AreShapes tree.raw.shapes) (c : Certificate) (has : HasProblemRows query tables join d key tree.raw)
     (shape : Shape) (is_shape : IsShape query tables (Ok shape)) (tops : List ℕ) (groups : List (List ℕ))
     (p : ArePlacedLines query tables join d key tree.raw c (length c.bounds) tops (map (λ b. b.ranks.items) tree.bounds))
@@ -51,7 +51,7 @@ module _ (query : Query) (tables : List Table) (join : JoinTree) {R : Type 0} (d
   abbrev t : Problem (KeyOf (length query.order) 16)
   t = problem_in query tables join
 
-  abbrev raw : RawData R
+  abbrev raw : RawView R
   raw = tree.raw
 
   abbrev n : ℕ

@@ -4,7 +4,7 @@ use Rattle.std.proofs.Common.{sym, ap, subst, ◌∙◌, inl, inr, arith}
 use Rattle.std.proofs.Math.ListN.{set}
 use Rattle.std.proofs.lemmas.Bool.{cases_eq, cases_lt}
 use Rattle.std.proofs.lemmas.List.{get_or-set_same, get_or-set_other, get_or-replicate, get_or_past, length-replicate}
-use Rattle.tdp_core.specs.RawData.{AreShapes, RawData, raw_len, raw_number, shape_parent}
+use Rattle.tdp_core.specs.RawView.{AreShapes, RawView, raw_len, raw_number, shape_parent}
 use Rattle.proof_bounds.specs.Subtrees.{ArePlacedBefore, HasLinkOf, raw_below, raw_place}
 use Rattle.proof_bounds.proofs.Subtrees.{below_after, parents_first_lem, parent_low}
 
@@ -17,7 +17,7 @@ zeros q = elim (cases_lt q 16) [
   | inr l ↦ get_or_past no_places q 0 (let long = length-replicate {A = ℕ} 16 0 in omega (arith, long))
 ]
 
-module _ {R : Type 0} (raw : RawData R) (shaped : AreShapes raw.shapes) (v : ℕ) (rows : List ℕ) where
+module _ {R : Type 0} (raw : RawView R) (shaped : AreShapes raw.shapes) (v : ℕ) (rows : List ℕ) where
   abbrev m : ℕ
   m = length raw.shapes
 

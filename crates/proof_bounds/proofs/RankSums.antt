@@ -18,8 +18,8 @@ use Rattle.tdp_model.proofs.Ranges as ranges
 use Rattle.tdp_model.proofs.Sums.{sum_last, sum_same}
 use Rattle.rank_key.specs.Keys.{KeyFits}
 use Rattle.tdp_core.specs.declared.parts.NodeShape.{NodeShape}
-use Rattle.tdp_core.specs.RawData.{AreShapes, IsRawFormed, RawData, RawRowData, RawRowFits, raw_len, raw_rank, rows_at}
-use Rattle.tdp_core.specs.RawData.{shape_cap, shape_item, shape_parent}
+use Rattle.tdp_core.specs.RawView.{AreShapes, IsRawFormed, RawView, RawRowView, RawRowFits, raw_len, raw_rank, rows_at}
+use Rattle.tdp_core.specs.RawView.{shape_cap, shape_item, shape_parent}
 use Rattle.tdp_core.proofs.KeyRanges.{within_fits}
 use Rattle.bound_query.proofs.Parts.{nat_abs_add}
 use Rattle.proof_model.specs.Problem.{Problem, key_at, row_in}
@@ -60,14 +60,14 @@ module _ {R : Type 0} (d : ℕ) (key : R → KeyOf d 16) where
   in_cap row s true l e = omega (arith, e)
   in_cap row s false l e = omega (arith, e)
 
-  row_weight : (shapes : List NodeShape) (v s : ℕ) (xs : List (RawRowData R)) (i : ℕ) → i < length xs → s < d
+  row_weight : (shapes : List NodeShape) (v s : ℕ) (xs : List (RawRowView R)) (i : ℕ) → i < length xs → s < d
       → All (RawRowFits d key shapes v) xs → weight s (get_or (map (λ x. key x.row.rank) xs) i (key_none d 16)) ≤ shape_cap shapes v s
   row_weight shapes v s [] i l h all = absurd (omega (arith, l))
   row_weight shapes v s (x ∷ xs) zero l h all = (All-head (RawRowFits d key shapes v) x xs all).0.1 s h
   row_weight shapes v s (x ∷ xs) (suc i) l h all =
       row_weight shapes v s xs i (omega (arith, l)) h (All-tail (RawRowFits d key shapes v) x xs all)
 
-  row_slot : (shapes : List NodeShape) (v s : ℕ) (xs : List (RawRowData R)) (i : ℕ) → i < length xs → s < 16
+  row_slot : (shapes : List NodeShape) (v s : ℕ) (xs : List (RawRowView R)) (i : ℕ) → i < length xs → s < 16
       → All (RawRowFits d key shapes v) xs
       → slot_of d 16 s (get_or (map (λ x. key x.row.rank) xs) i (key_none d 16)) ≤ slot_cap s (shape_item shapes v)
   row_slot shapes v s [] i l h all = absurd (omega (arith, l))
@@ -78,10 +78,10 @@ module _ {R : Type 0} (d : ℕ) (key : R → KeyOf d 16) where
       row_slot shapes v s xs i (omega (arith, l)) h (All-tail (RawRowFits d key shapes v) x xs all)
 
   -- what node q gives: nothing, or the rank of a row
-  abbrev pub IsRawPart : RawData R → ℕ → KeyOf d 16 → Type 0
+  abbrev pub IsRawPart : RawView R → ℕ → KeyOf d 16 → Type 0
   IsRawPart raw q k = (k ≡ key_none d 16) ⊎ ((i : ℕ) × (i < raw_len raw q) × (k ≡ raw_rank raw d key q i))
 
-  module _ (raw : RawData R) (formed : IsRawFormed d key raw) where
+  module _ (raw : RawView R) (formed : IsRawFormed d key raw) where
     module _ (part : ℕ → KeyOf d 16) (parts : (q : ℕ) → q < length raw.shapes → IsRawPart raw q (part q)) where
       part_weight : (s q : ℕ) → s < d → q < length raw.shapes → weight s (part q) ≤ shape_cap raw.shapes q s
       part_weight s q h l = elim (parts q l) [
@@ -129,7 +129,7 @@ module _ {R : Type 0} (d : ℕ) (key : R → KeyOf d 16) where
 
   -- ---- the rank of a subtree solution
 
-  module _ (raw : RawData R) (v : ℕ) (places : List ℕ) where
+  module _ (raw : RawView R) (v : ℕ) (places : List ℕ) where
     -- the rank of the row of node q, if q is in the subtree
     abbrev pub placed_rank : ℕ → KeyOf d 16
     placed_rank q = cond (nat_eq (raw_below raw v q) 1) (raw_rank raw d key q (get_or places q 0)) (key_none d 16)
@@ -169,7 +169,7 @@ module _ {R : Type 0} (d : ℕ) (key : R → KeyOf d 16) where
 
 -- ---- the key of a solution
 
-module _ (query : Query) (tables : List Table) (join : JoinTree) {R : Type 0} (d : ℕ) (key : R → KeyOf d 16) (raw : RawData R)
+module _ (query : Query) (tables : List Table) (join : JoinTree) {R : Type 0} (d : ℕ) (key : R → KeyOf d 16) (raw : RawView R)
     (shaped : AreShapes raw.shapes) (few : length query.order ≤ d) (has : HasProblemRows query tables join d key raw)
     (v : ℕ) (rows places : List ℕ) (placed : ArePlacesOf query tables join raw v rows places) where
   abbrev p : Problem (KeyOf (length query.order) 16)
@@ -204,7 +204,7 @@ module _ (query : Query) (tables : List Table) (join : JoinTree) {R : Type 0} (d
       ∙ sym (wide_sum (length query.order) d few term p.nodes 0)
 
 -- the places of a solution are those of rows
-pub solution_within : {R : Type 0} (d : ℕ) (key : R → KeyOf d 16) (raw : RawData R) (shaped : AreShapes raw.shapes) (v : ℕ) (places : List ℕ)
+pub solution_within : {R : Type 0} (d : ℕ) (key : R → KeyOf d 16) (raw : RawView R) (shaped : AreShapes raw.shapes) (v : ℕ) (places : List ℕ)
     → HasSolutionAt d key raw v places → (q : ℕ) → q < length raw.shapes → nat_eq (raw_below raw v q) 1 ≡ true
     → get_or places q 0 < raw_len raw q
 solution_within d key raw shaped v places s q l e =

@@ -8,8 +8,8 @@ use Rattle.join_tree.specs.declared.tree.JoinTree.{JoinTree}
 use Rattle.tdp_model.specs.Below.{ascends, is_below}
 use Rattle.tdp_model.specs.KeyTuple.{KeyOf}
 use Rattle.tdp_model.specs.TreeProblem.{sum_from}
-use Rattle.tdp_core.specs.RawData.{AreShapes, RawData, child_link, own_link, raw_len, raw_number}
-use Rattle.tdp_core.specs.RawData.{shape_child_place, shape_item, shape_parent}
+use Rattle.tdp_core.specs.RawView.{AreShapes, RawView, child_link, own_link, raw_len, raw_number}
+use Rattle.tdp_core.specs.RawView.{shape_child_place, shape_item, shape_parent}
 use Rattle.step_bounds.proofs.NodeSums.{sum_same}
 use Rattle.proof_model.specs.Problem.{IsSolutionAt, Problem, place_in, row_in, size}
 use Rattle.proof_model.specs.QueryProblem.{problem_in}
@@ -27,7 +27,7 @@ module _ (m : ℕ) (f g : ℕ → ℕ) (low : (q : ℕ) → q < m → f q ≤ q)
       ap (λ w. cond (nat_eq q v) 1 (cond (nat_eq q 0) 0 w))
       (ascends_same n v (f q) (let h = low q l in omega (arith, h)) ∙ ap (ascends g n v) (agree q l))
 
-module _ (query : Query) (tables : List Table) (join : JoinTree) {R : Type 0} (d : ℕ) (key : R → KeyOf d 16) (raw : RawData R)
+module _ (query : Query) (tables : List Table) (join : JoinTree) {R : Type 0} (d : ℕ) (key : R → KeyOf d 16) (raw : RawView R)
     (shaped : AreShapes raw.shapes) (has : HasProblemRows query tables join d key raw) where
   abbrev pub t : Problem (KeyOf (length query.order) 16)
   t = problem_in query tables join

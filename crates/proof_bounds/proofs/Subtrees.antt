@@ -8,18 +8,18 @@ use Rattle.std.proofs.lemmas.List.{get_or-set_same, get_or-set_other, get_or-rep
 use Rattle.tdp_model.specs.TreeProblem.{sum_from}
 use Rattle.tdp_model.proofs.Descent.{below_itself, below_less, below_once, below_parent}
 use Rattle.tdp_model.proofs.Keys.{ascending_below}
-use Rattle.tdp_core.specs.RawData.{AreShapes, RawData, raw_len, raw_number, rows_at, shape_item, shape_parent}
+use Rattle.tdp_core.specs.RawView.{AreShapes, RawView, raw_len, raw_number, rows_at, shape_item, shape_parent}
 use Rattle.proof_bounds.specs.Subtrees.{AreAscending, AreBelow, raw_below, raw_place, raw_size}
 use Rattle.proof_bounds.proofs.LeftOut.{sum_less, sum_more}
 
 -- later rows have greater numbers
-pub rows_ascend : {R : Type 0} (raw : RawData R) (v i j : ℕ) → AreAscending raw v → i < j → j < raw_len raw v
+pub rows_ascend : {R : Type 0} (raw : RawView R) (v i j : ℕ) → AreAscending raw v → i < j → j < raw_len raw v
     → raw_number raw v i < raw_number raw v j
 rows_ascend raw v i j up l h =
     let same = length-map (rows_at raw v) (λ x. x.row.row) in
     ascending_below (λ a b. a < b) (map (λ x. x.row.row) (rows_at raw v)) i j 0 up l (omega (arith, same))
 
-module _ {R : Type 0} (raw : RawData R) (shaped : AreShapes raw.shapes) where
+module _ {R : Type 0} (raw : RawView R) (shaped : AreShapes raw.shapes) where
   abbrev pub m : ℕ
   m = length raw.shapes
 

@@ -6,8 +6,8 @@ use Rattle.anyk_model.specs.Query.{Query}
 use Rattle.join_tree.specs.declared.tree.JoinTree.{JoinTree}
 use Rattle.query_shape.specs.Shape.{IsShape, Shape}
 use Rattle.tdp_model.specs.KeyTuple.{KeyOf, key_none}
-use Rattle.tdp_core.specs.RawData.{RawData, child_link, own_link, raw_len, raw_number, raw_rank, rows_at}
-use Rattle.tdp_core.specs.RawData.{shape_child_place, shape_item, shape_parent}
+use Rattle.tdp_core.specs.RawView.{RawView, child_link, own_link, raw_len, raw_number, raw_rank, rows_at}
+use Rattle.tdp_core.specs.RawView.{shape_child_place, shape_item, shape_parent}
 use Rattle.proof_text.specs.Certificate.{Certificate}
 use Rattle.proof_model.specs.Problem.{IsSolutionAt}
 use Rattle.proof_model.specs.QueryProblem.{problem_in}
@@ -16,11 +16,11 @@ use Rattle.proof_model.specs.Wide.{wide}
 use Rattle.proof_bounds.specs.declared.bounded.NodeBounds.{NodeBounds}
 
 -- rows in nodes, and for each node its bounds
-pub record BoundedData (R : Type 0) : Type 0 where
-  pub raw : RawData R
+pub record BoundedView (R : Type 0) : Type 0 where
+  pub raw : RawView R
   pub bounds : List (NodeBounds R)
 
-module _ {R : Type 0} (tree : BoundedData R) where
+module _ {R : Type 0} (tree : BoundedView R) where
   -- the number of the bound of the group of row i of node v, if it has one
   abbrev pub own_bound : ℕ → ℕ → Option ℕ
   own_bound v i = slice_index_or (slice_index_or (map (λ b. b.own.items) tree.bounds) v []) i None
@@ -46,7 +46,7 @@ query_key query d k = wide (length query.order) d 16 k
 module _ (query : Query) (tables : List Table) (join : JoinTree) (d : ℕ) where
   -- a raw tree has exactly the rows of the query's problem, those of a node in ascending order, and its links are the
   -- groups of the problem
-  pub record HasProblemRows {R : Type 0} (key : R → KeyOf d 16) (raw : RawData R) : Type 0 where
+  pub record HasProblemRows {R : Type 0} (key : R → KeyOf d 16) (raw : RawView R) : Type 0 where
     pub nodes : length raw.shapes ≡ (problem_in query tables join).nodes
     pub parents : (v : ℕ) → v < (problem_in query tables join).nodes
         → shape_parent raw.shapes v ≡ (problem_in query tables join).parent v
@@ -80,7 +80,7 @@ module _ (query : Query) (tables : List Table) (join : JoinTree) (d : ℕ) where
   -- Each bound line has a number at its node, and each row has the numbers of the bounds of its own group and of those
   -- that it names. The lines are solutions of their subtrees, and no group has two.
   pub record IsBounded {R : Type 0} (key : R → KeyOf d 16) (c : Certificate)
-      (tree : BoundedData R) : Type 0 where
+      (tree : BoundedView R) : Type 0 where
     pub rows : HasProblemRows key tree.raw
     pub shape : Shape
     pub is_shape : IsShape query tables (Ok shape)

@@ -5,7 +5,7 @@ use Rattle.anyk_model.specs.Table.{Table}
 use Rattle.anyk_model.specs.Query.{Query}
 use Rattle.join_tree.specs.declared.tree.JoinTree.{JoinTree}
 use Rattle.tdp_model.specs.KeyTuple.{KeyOf}
-use Rattle.tdp_core.specs.RawData.{RawData, child_link, own_link, raw_len, raw_number, shape_child_place, shape_parent}
+use Rattle.tdp_core.specs.RawView.{RawView, child_link, own_link, raw_len, raw_number, shape_child_place, shape_parent}
 use Rattle.proof_text.specs.Certificate.{Certificate}
 use Rattle.proof_model.specs.Problem.{IsSolutionAt}
 use Rattle.proof_model.specs.QueryProblem.{problem_in}
@@ -22,7 +22,7 @@ module _ (c : Certificate) where
   lines_of v n = filter (λ i. nat_eq (line_node i) (suc v)) (range_with_len 0 n)
 
 -- the raw tree has the rows of a query
-pub record HasProblem {R : Type 0} (d : ℕ) (key : R → KeyOf d 16) (raw : RawData R) : Type 0 where
+pub record HasProblem {R : Type 0} (d : ℕ) (key : R → KeyOf d 16) (raw : RawView R) : Type 0 where
   pub query : Query
   pub tables : List Table
   pub join : JoinTree
@@ -32,7 +32,7 @@ pub record HasProblem {R : Type 0} (d : ℕ) (key : R → KeyOf d 16) (raw : Raw
 -- are these, in the order of the lines.
 pub record ArePlacedLines {R : Type 0} (query : Query) (tables : List Table) (join : JoinTree)
     (d : ℕ)
-    (key : R → KeyOf d 16) (raw : RawData R) (c : Certificate) (n : ℕ) (tops : List ℕ)
+    (key : R → KeyOf d 16) (raw : RawView R) (c : Certificate) (n : ℕ) (tops : List ℕ)
     (ranks : List (List R)) : Type 0 where
   pub count : length tops ≡ n
   pub each_node : length ranks ≡ length raw.shapes
@@ -47,7 +47,7 @@ pub record ArePlacedLines {R : Type 0} (query : Query) (tables : List Table) (jo
       ≡ map (λ i. query_key query d (bound_key (problem_in query tables join) c v i))
       (lines_of c v n)
 
-module _ {R : Type 0} (raw : RawData R) where
+module _ {R : Type 0} (raw : RawView R) where
   -- the link by which the group of row i of node v is found; all rows of the root are in one group
   abbrev pub group_link : ℕ → ℕ → ℕ
   group_link v i = cond (nat_eq v 0) 0 (own_link raw v i)
@@ -75,7 +75,7 @@ module _ {R : Type 0} (raw : RawData R) where
         → slice_index_or named r None ≡ position (nat_eq (named_link v r)) groups
 
 -- the tree has the rows of a query, and the lines are placed
-pub record HasPlacedLines {R : Type 0} (d : ℕ) (key : R → KeyOf d 16) (raw : RawData R)
+pub record HasPlacedLines {R : Type 0} (d : ℕ) (key : R → KeyOf d 16) (raw : RawView R)
     (c : Certificate) (n : ℕ)
     (tops : List ℕ) : Type 0 where
   pub query : Query

@@ -3,10 +3,10 @@ use Rattle.std.specs.Prelude.{◌≡◌, ℕ, ◌+◌, ◌*◌, ◌<◌, cond, n
 use Rattle.rankings.specs.Order.{IsAscending}
 use Rattle.tdp_model.specs.Below.{is_below}
 use Rattle.tdp_model.specs.TreeProblem.{sum_from}
-use Rattle.tdp_core.specs.RawData.{RawData, child_link, own_link, raw_len, raw_number, rows_at}
-use Rattle.tdp_core.specs.RawData.{shape_child_place, shape_item, shape_parent}
+use Rattle.tdp_core.specs.RawView.{RawView, child_link, own_link, raw_len, raw_number, rows_at}
+use Rattle.tdp_core.specs.RawView.{shape_child_place, shape_item, shape_parent}
 
-module _ {R : Type 0} (raw : RawData R) where
+module _ {R : Type 0} (raw : RawView R) where
   -- the rows of node v have ascending numbers
   abbrev pub AreAscending : ℕ → Type 0
   AreAscending v = IsAscending (λ a b. a < b) (map (λ x. x.row.row) (rows_at raw v))

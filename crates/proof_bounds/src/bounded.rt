@@ -23,9 +23,9 @@ pub struct BoundedTree<R: Rank> {
 }
 
 impl<R: Rank> Model for BoundedTree<R> {
-    ghost use Rattle.proof_bounds.specs.BoundedRows.{BoundedData};
+    ghost use Rattle.proof_bounds.specs.BoundedRows.{BoundedView};
 
-    ghost Value = { BoundedData R };
+    ghost Value = { BoundedView R };
 
     ghost view = { λ t. record { raw = t.raw; bounds = t.bounds.items } };
 }

@@ -1,7 +1,7 @@
 //! From a certificate to the bounds of groups.
 ghost use Rattle.std.specs.Prelude.{◌≡◌, ◌≤◌, ◌<◌, ℕ, length, IfErr, IfOk, Ok};
 ghost use Rattle.query_shape.specs.Shape.{IsShape, Shape};
-ghost use Rattle.proof_text.specs.ProofView.{seen_proof};
+ghost use Rattle.proof_text.specs.ProofView.{proof_view};
 ghost use Rattle.proof_model.specs.Faults.{TellsFlaw};
 ghost use Rattle.proof_bounds.specs.BoundedRows.{HasProblemRows, IsBounded};
 
@@ -34,9 +34,9 @@ pub fn with_bounds<R: Rank, L: Ledger>(
     requires rows { HasProblemRows query.now.query tables.now join.now R.KEYS R.key raw }
     requires shape { (shape : Shape) × IsShape query.now.query tables.now (Ok shape) }
     ensures bounded { IfOk result
-        (IsBounded query.now.query tables.now join.now R.KEYS R.key (seen_proof proof.now)) }
+        (IsBounded query.now.query tables.now join.now R.KEYS R.key (proof_view proof.now)) }
     ensures fault { IfErr result
-        (TellsFlaw query.now.query tables.now join.now (seen_proof proof.now)) }
+        (TellsFlaw query.now.query tables.now join.now (proof_view proof.now)) }
 {
     let _nodes = raw.nodes();
     let PlacedLines { tops, mut bounds } = placed_lines(alloc, &raw, proof, steps)?;

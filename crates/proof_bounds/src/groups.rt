@@ -4,8 +4,8 @@ ghost use Rattle.tdp_model.specs.NodeRows.{most_node_rows};
 ghost use Rattle.anyk_model.specs.Table.{Table};
 ghost use Rattle.anyk_model.specs.Query.{Query as SelectQuery};
 ghost use Rattle.join_tree.specs.declared.tree.JoinTree.{JoinTree};
-ghost use Rattle.tdp_core.specs.RawData.{raw_len};
-ghost use Rattle.proof_text.specs.ProofView.{seen_proof};
+ghost use Rattle.tdp_core.specs.RawView.{raw_len};
+ghost use Rattle.proof_text.specs.ProofView.{proof_view};
 ghost use Rattle.proof_bounds.specs.BoundedRows.{HasProblemRows};
 ghost use Rattle.proof_bounds.specs.Faults.{TellsBoundTwice};
 ghost use Rattle.proof_bounds.specs.Lines.{AreLineGroups, ArePlacedLines, HasPlacedLines, group_link};
@@ -72,17 +72,17 @@ pub(crate) fn line_groups<R: Rank, L: Ledger>(
     tops: &[u32],
     steps: &mut Steps<L>,
 ) -> Result<Vec<HashedIndex>, ProofFault>
-    requires { HasPlacedLines R.KEYS R.key raw.now (seen_proof proof.now)
+    requires { HasPlacedLines R.KEYS R.key raw.now (proof_view proof.now)
         (length proof.now.bounds.items) tops.now }
     ensures groups { IfOk result (λ groups.
-        AreLineGroups raw.now (seen_proof proof.now) tops.now
+        AreLineGroups raw.now (proof_view proof.now) tops.now
         (length proof.now.bounds.items) groups.items) }
     ensures fault { IfErr result
         (λ told. (query : SelectQuery) (tables : List Table) (join : JoinTree)
         (ranks : List (List R)) → HasProblemRows query tables join R.KEYS R.key raw.now
-        → ArePlacedLines query tables join R.KEYS R.key raw.now (seen_proof proof.now)
+        → ArePlacedLines query tables join R.KEYS R.key raw.now (proof_view proof.now)
         (length proof.now.bounds.items) tops.now ranks
-        → TellsBoundTwice query tables join (seen_proof proof.now) told) }
+        → TellsBoundTwice query tables join (proof_view proof.now) told) }
 {
     let mut groups = no_groups(alloc, raw.nodes(), keys)?;
     for (line, bound) in proof.bounds.iter().enumerate() {

@@ -3,7 +3,7 @@ ghost use Rattle.std.specs.Prelude.{◌≡◌, ◌≤◌, ◌<◌, [], List, ℕ
 ghost use Rattle.anyk_model.specs.Table.{Table};
 ghost use Rattle.anyk_model.specs.Query.{Query as SelectQuery};
 ghost use Rattle.join_tree.specs.declared.tree.JoinTree.{JoinTree};
-ghost use Rattle.proof_text.specs.ProofView.{seen_proof};
+ghost use Rattle.proof_text.specs.ProofView.{proof_view};
 ghost use Rattle.proof_model.specs.Problem.{IsSolutionAt};
 ghost use Rattle.proof_model.specs.QueryProblem.{problem_in};
 ghost use Rattle.proof_bounds.specs.BoundedRows.{HasProblemRows};
@@ -75,14 +75,14 @@ pub(crate) fn placed_lines<R: Rank, L: Ledger>(
     ensures placed { IfOk result
         (λ lines. (query : SelectQuery) (tables : List Table) (join : JoinTree)
         → length query.order ≤ R.KEYS → HasProblemRows query tables join R.KEYS R.key raw.now
-        → ArePlacedLines query tables join R.KEYS R.key raw.now (seen_proof proof.now)
+        → ArePlacedLines query tables join R.KEYS R.key raw.now (proof_view proof.now)
         (length proof.now.bounds.items)
         lines.tops.items (map (λ b. b.ranks.items) lines.bounds.items)) }
     ensures each_node { IfOk result (λ lines. length lines.bounds.items ≡ length raw.now.shapes) }
     ensures fault { IfErr result
         (λ told. (query : SelectQuery) (tables : List Table) (join : JoinTree)
         → length query.order ≤ R.KEYS → HasProblemRows query tables join R.KEYS R.key raw.now
-        → TellsBadBound query tables join (seen_proof proof.now) told) }
+        → TellsBadBound query tables join (proof_view proof.now) told) }
 {
     let mut tops = Vec::new(alloc);
     let mut bounds = no_bounds(alloc, raw.nodes())?;

@@ -1,7 +1,7 @@
 //! The numbers of bounds, row by row.
 ghost use Rattle.std.specs.Prelude.{◌≡◌, ◌≤◌, ◌<◌, ℕ, List, [], length, map, nat_eq, position, slice_index_or, IfOk, OnOk, None};
 ghost use Rattle.tdp_model.specs.NodeRows.{most_node_rows};
-ghost use Rattle.tdp_core.specs.RawData.{raw_len, shape_parent};
+ghost use Rattle.tdp_core.specs.RawView.{raw_len, shape_parent};
 ghost use Rattle.proof_bounds.specs.Lines.{AreNamed, group_link, named_link};
 
 use crate::bounded::NodeBounds;

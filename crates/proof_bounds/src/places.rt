@@ -3,7 +3,7 @@ ghost use Rattle.std.specs.Prelude.{◌≡◌, ◌↔◌, ◌≤◌, ◌<◌, Is
 ghost use Rattle.anyk_model.specs.Table.{Table};
 ghost use Rattle.anyk_model.specs.Query.{Query as SelectQuery};
 ghost use Rattle.join_tree.specs.declared.tree.JoinTree.{JoinTree};
-ghost use Rattle.tdp_core.specs.RawData.{raw_len, shape_parent};
+ghost use Rattle.tdp_core.specs.RawView.{raw_len, shape_parent};
 ghost use Rattle.proof_model.specs.Problem.{IsSolutionAt, key_at};
 ghost use Rattle.proof_model.specs.QueryProblem.{problem_in};
 ghost use Rattle.proof_bounds.specs.BoundedRows.{HasProblemRows, query_key};

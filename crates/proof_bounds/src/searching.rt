@@ -1,6 +1,6 @@
 //! Rows found by their numbers.
 ghost use Rattle.std.specs.Prelude.{◌≡◌, ◌≢◌, ℕ, ◌<◌, length, IfNone, IfSome};
-ghost use Rattle.tdp_core.specs.RawData.{raw_len, raw_number};
+ghost use Rattle.tdp_core.specs.RawView.{raw_len, raw_number};
 ghost use Rattle.proof_bounds.specs.Subtrees.{AreAscending};
 
 use rank_key::Rank;

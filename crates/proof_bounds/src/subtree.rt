@@ -1,6 +1,6 @@
 //! The nodes of a subtree, and the places of their items in its lists of rows.
 ghost use Rattle.std.specs.Prelude.{◌≡◌, ℕ, ◌<◌, ◌≤◌, length, slice_index};
-ghost use Rattle.tdp_core.specs.RawData.{shape_child_place, shape_children, shape_parent};
+ghost use Rattle.tdp_core.specs.RawView.{shape_child_place, shape_children, shape_parent};
 ghost use Rattle.proof_bounds.specs.Subtrees.{AreBelow, raw_below, raw_place, raw_size};
 
 use rank_key::Rank;

@@ -8,7 +8,7 @@ use Rattle.anyk_model.specs.Query.{Query}
 use Rattle.anyk_model.specs.Table.{Table}
 use Rattle.proof_text.specs.declared.proof.Listed.{Listed}
 use Rattle.proof_text.specs.Certificate.{AnswerLine}
-use Rattle.proof_text.specs.ProofView.{seen_answer}
+use Rattle.proof_text.specs.ProofView.{listed_view}
 use Rattle.proof_model.specs.Problem.{Problem, size}
 use Rattle.proof_model.specs.Laws.{IsProblem}
 use Rattle.proof_model.specs.QueryProblem.{problem_in}
@@ -39,12 +39,12 @@ tree_size query tables join ordered long some =
     ∙ nodes
 
 -- the rows of an answer
-pub rows_seen : (xs : List Listed) → map (λ (a : AnswerLine). a.rows) (map seen_answer xs) ≡ map (λ (a : Listed). a.rows.items) xs
+pub rows_seen : (xs : List Listed) → map (λ (a : AnswerLine). a.rows) (map listed_view xs) ≡ map (λ (a : Listed). a.rows.items) xs
 rows_seen [] = refl
 rows_seen (x ∷ xs) = ap (λ ys. x.rows.items ∷ ys) (rows_seen xs)
 
 pub rows_at : (xs : List Listed) (i : ℕ) → i < length xs
-    → list_at (map (λ (a : Listed). a.rows.items) xs) i ≡ (slice_index_or (map seen_answer xs) i (record { line = 0; rows = [] })).rows
+    → list_at (map (λ (a : Listed). a.rows.items) xs) i ≡ (slice_index_or (map listed_view xs) i (record { line = 0; rows = [] })).rows
 rows_at [] i l = absurd (omega (arith, l))
 rows_at (x ∷ xs) zero l = refl
 rows_at (x ∷ xs) (suc i) l = rows_at xs i (omega (arith, l))

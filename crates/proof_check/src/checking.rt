@@ -5,7 +5,7 @@ ghost use Rattle.query_shape.specs.Shape.{IsShape, Shape};
 ghost use Rattle.query_shape.specs.JoinTreeView.{HasItems, HasStoredTree};
 ghost use Rattle.join_tree.specs.Rerooting.{IsTree};
 ghost use Rattle.node_build.specs.Nodes.{CapsBelow};
-ghost use Rattle.proof_text.specs.ProofView.{seen_proof};
+ghost use Rattle.proof_text.specs.ProofView.{proof_view};
 ghost use Rattle.proof_model.specs.Faults.{TellsFlaw};
 ghost use Rattle.proof_model.specs.QueryProblem.{problem_in};
 ghost use Rattle.proof_model.specs.Valid.{IsValid};
@@ -45,13 +45,13 @@ pub fn verify<R: Rank, L: Ledger>(
     requires items { HasItems join.now.count join.now.atom (length query.now.query.items) }
     requires count { join.now.count ≡ length query.now.query.items }
     ensures valid { OnOk result
-        (IsValid (problem_in query.now.query tables.now join.now) (seen_proof proof.now)
+        (IsValid (problem_in query.now.query tables.now join.now) (proof_view proof.now)
         query.now.query.limit) }
     ensures few { OnOk result ((shape : Shape) × IsShape query.now.query tables.now (Ok shape)) }
     ensures rows { IfOk result (λ found. item_rows query.now.query found.items ≡ map
-        (λ a. a.rows) (seen_proof proof.now).answers) }
+        (λ a. a.rows) (proof_view proof.now).answers) }
     ensures fault { IfErr result
-        (TellsFlaw query.now.query tables.now join.now (seen_proof proof.now)) }
+        (TellsFlaw query.now.query tables.now join.now (proof_view proof.now)) }
 {
     let tree: BoundedTree<R> = bounded_tree(alloc, query, tables, join, proof, steps)?;
     let answers = placed_answers(alloc, query, tables, join, &tree, proof, steps)?;

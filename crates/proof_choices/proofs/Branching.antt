@@ -8,16 +8,16 @@ use Rattle.tdp_model.specs.TreeProblem.{sum_from}
 use Rattle.tdp_model.proofs.KeyTuples.{tuple_keys}
 use Rattle.tdp_model.proofs.Sums.{sum_same}
 use Rattle.rank_key.specs.Keys.{KeyFits}
-use Rattle.tdp_core.specs.RawData.{IsRawFormed, raw_len}
+use Rattle.tdp_core.specs.RawView.{IsRawFormed, raw_len}
 use Rattle.proof_model.specs.QueryProblem.{problem_in}
-use Rattle.proof_bounds.specs.BoundedRows.{BoundedData, bound_ranks}
+use Rattle.proof_bounds.specs.BoundedRows.{BoundedView, bound_ranks}
 use Rattle.proof_answers.specs.Lows.{IsBoundedTree}
 use Rattle.proof_answers.proofs.Nodes.{all_nodes}
 use Rattle.proof_choices.specs.declared.branches.Branch.{Branch}
 use Rattle.proof_choices.specs.Levels.{FitsGroup, IsBase, IsBranch, IsGroupOf, IsNoBranch, base_part}
 use Rattle.proof_choices.proofs.Known.{choice_fits, choice_is, in_some}
 
-module _ {R : Type 0} (join : JoinTree) (tree : BoundedData R) (d : ℕ) (key : R → KeyOf d 16) (p : ℕ) (start : List ℕ) where
+module _ {R : Type 0} (join : JoinTree) (tree : BoundedView R) (d : ℕ) (key : R → KeyOf d 16) (p : ℕ) (start : List ℕ) where
   pub one_group : (g h : ℕ) → IsGroupOf join tree d key p start g → IsGroupOf join tree d key p start h → g ≡ h
   one_group g h (inl a) (inl b) = a.1 ∙ sym b.1
   one_group g h (inl a) (inr b) = absurd (let z = a.0 in let s = b.0 in omega (arith, z, s))

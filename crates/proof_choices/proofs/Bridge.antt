@@ -11,7 +11,7 @@ use Rattle.tdp_model.specs.KeyTuple.{KeyOf, key_add, key_none}
 use Rattle.tdp_model.specs.TreeProblem.{sum_from}
 use Rattle.tdp_model.proofs.Keys.{ascending_below}
 use Rattle.tdp_model.proofs.Sums.{sum_same}
-use Rattle.tdp_core.specs.RawData.{raw_len, raw_number, raw_rank, rows_at}
+use Rattle.tdp_core.specs.RawView.{raw_len, raw_number, raw_rank, rows_at}
 use Rattle.proof_text.specs.Certificate.{Certificate}
 use Rattle.proof_model.specs.Problem.{Problem}
 use Rattle.proof_model.specs.QueryProblem.{problem_in}
@@ -20,7 +20,7 @@ use Rattle.proof_model.specs.Valid.{Begins, IsBoundOf, OpenChoice, Serves, Stand
 use Rattle.proof_model.specs.Valid.{bound_row, choice_key}
 use Rattle.proof_model.proofs.Choices.{pick_le, pick_gt}
 use Rattle.proof_model.proofs.Sums.{pick_eq, pick_ne}
-use Rattle.proof_bounds.specs.BoundedRows.{BoundedData, IsBounded, bound_ranks, named_bound, own_bound, query_key, rank_of_bound}
+use Rattle.proof_bounds.specs.BoundedRows.{BoundedView, IsBounded, bound_ranks, named_bound, own_bound, query_key, rank_of_bound}
 use Rattle.proof_answers.specs.Lows.{AreServed, IsLow, low_key}
 use Rattle.proof_answers.specs.RowPlaces.{ArePlaced, place_at}
 use Rattle.proof_answers.proofs.LowKeys.{low_some}
@@ -31,7 +31,7 @@ use Rattle.proof_choices.specs.Levels.{AreBeginnings, HasLow, IsBase, IsGroupOf,
 use Rattle.proof_choices.proofs.Known.{all_below, all_rows, choice_bound, choice_is, choice_row, laws, solved}
 
 module _ {R : Type 0} (query : Query) (tables : List Table) (join : JoinTree) (d : ℕ) (key : R → KeyOf d 16)
-    (c : Certificate) (tree : BoundedData R) (few : length query.order ≤ d)
+    (c : Certificate) (tree : BoundedView R) (few : length query.order ≤ d)
     (bounded : IsBounded query tables join d key c tree) (ordered : IsTree join.count join.atom join.parent)
     (long : length join.atom ≡ 16) (places : List (List ℕ)) (placed : ArePlaced query tables join c tree.raw places)
     (p : ℕ) (node : p < (problem_in query tables join).nodes) (numbers : List ℕ) (starts : List (List ℕ))

@@ -11,7 +11,7 @@ use Rattle.tdp_model.specs.TreeProblem.{sum_from, kid_key}
 use Rattle.tdp_model.proofs.KeyTuples.{tuple_keys}
 use Rattle.tdp_model.proofs.Sums.{sum_same}
 use Rattle.rank_key.specs.Keys.{KeyFits}
-use Rattle.tdp_core.specs.RawData.{IsRawFormed, raw_len, raw_number, raw_rank}
+use Rattle.tdp_core.specs.RawView.{IsRawFormed, raw_len, raw_number, raw_rank}
 use Rattle.proof_text.specs.Certificate.{Certificate}
 use Rattle.proof_model.specs.Problem.{Problem, IsSolutionAt}
 use Rattle.proof_model.specs.QueryProblem.{problem_in}
@@ -21,7 +21,7 @@ use Rattle.proof_model.proofs.Choices.{pick_le, pick_gt}
 use Rattle.proof_model.proofs.QueryLaws.{query_problem}
 use Rattle.proof_model.proofs.Sums.{pick_eq, pick_ne}
 use Rattle.proof_model.proofs.Wider.{wide_add, wide_none, wide_sum}
-use Rattle.proof_bounds.specs.BoundedRows.{BoundedData, IsBounded, named_bound, query_key, rank_of_bound}
+use Rattle.proof_bounds.specs.BoundedRows.{BoundedView, IsBounded, named_bound, query_key, rank_of_bound}
 use Rattle.proof_bounds.proofs.RankSums.{parts_fit}
 use Rattle.proof_answers.specs.Lows.{AreServed, low_key}
 use Rattle.proof_answers.proofs.Nodes.{parent_at, parents_first_lem, option_some}
@@ -31,7 +31,7 @@ use Rattle.proof_choices.proofs.Supported.{IsSumOver}
 use Rattle.proof_choices.proofs.Ways.{base_and_low, base_over, choice_over, holder}
 
 -- what a node gives, if it gives anything
-abbrev pub part_key : {R : Type 0} → JoinTree → BoundedData R → (d : ℕ) → (R → KeyOf d 16) → ℕ → List ℕ → ℕ → KeyOf d 16
+abbrev pub part_key : {R : Type 0} → JoinTree → BoundedView R → (d : ℕ) → (R → KeyOf d 16) → ℕ → List ℕ → ℕ → KeyOf d 16
 part_key join tree d key p start q = unwrap_or (base_part join tree d key p start q) (key_none d 16)
 
 -- what is in an option
@@ -39,7 +39,7 @@ pub in_some : {A : Type 0} (a b : A) → Some a ≡ Some b → a ≡ b
 in_some a b e = let is : a ≡ b = cc in is
 
 module _ {R : Type 0} (query : Query) (tables : List Table) (join : JoinTree) (d : ℕ) (key : R → KeyOf d 16)
-    (c : Certificate) (tree : BoundedData R) (few : length query.order ≤ d)
+    (c : Certificate) (tree : BoundedView R) (few : length query.order ≤ d)
     (bounded : IsBounded query tables join d key c tree) (ordered : IsTree join.count join.atom join.parent)
     (long : length join.atom ≡ 16) where
   abbrev t : Problem (KeyOf (length query.order) 16)

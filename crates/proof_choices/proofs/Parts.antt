@@ -5,15 +5,15 @@ use Rattle.std.proofs.lemmas.Bool.{cases_lt}
 use Rattle.join_tree.specs.Rerooting.{IsTree}
 use Rattle.join_tree.specs.declared.tree.JoinTree.{JoinTree}
 use Rattle.tdp_model.specs.KeyTuple.{KeyOf, key_none}
-use Rattle.tdp_core.specs.RawData.{raw_len, raw_rank}
+use Rattle.tdp_core.specs.RawView.{raw_len, raw_rank}
 use Rattle.proof_model.proofs.Choices.{pick_gt, pick_le}
 use Rattle.proof_model.specs.QueryProblem.{problem_in}
-use Rattle.proof_bounds.specs.BoundedRows.{BoundedData, bound_ranks, named_bound, rank_of_bound}
+use Rattle.proof_bounds.specs.BoundedRows.{BoundedView, bound_ranks, named_bound, rank_of_bound}
 use Rattle.proof_answers.specs.Lows.{IsBoundedTree}
 use Rattle.proof_answers.proofs.Nodes.{all_nodes, parent_at}
 use Rattle.proof_choices.specs.Levels.{base_part}
 
-module _ {R : Type 0} (join : JoinTree) (tree : BoundedData R) (d : ℕ) (key : R → KeyOf d 16) (p : ℕ) (start : List ℕ)
+module _ {R : Type 0} (join : JoinTree) (tree : BoundedView R) (d : ℕ) (key : R → KeyOf d 16) (p : ℕ) (start : List ℕ)
     (q : ℕ) where
   pub row_part : q < p → base_part join tree d key p start q ≡ Some (raw_rank tree.raw d key q (slice_index start q))
   row_part l = pick_le (suc q) p _ _ l
@@ -36,7 +36,7 @@ module _ {R : Type 0} (join : JoinTree) (tree : BoundedData R) (d : ℕ) (key : 
       ∙ pick_gt q p _ _ (omega (arith, l, other)) ∙ pick_le (suc (slice_index join.parent q)) p _ _ near
 
 -- A row of the node above node q has a place among those that name bounds of q, and what it names is there.
-pub named_row : {R : Type 0} (join : JoinTree) (tree : BoundedData R) (d : ℕ) (key : R → KeyOf d 16)
+pub named_row : {R : Type 0} (join : JoinTree) (tree : BoundedView R) (d : ℕ) (key : R → KeyOf d 16)
     → IsBoundedTree join d key tree → IsTree join.count join.atom join.parent → length join.atom ≡ 16 → (q : ℕ) → q < join.count
     → 0 < q → (r : ℕ) → r < raw_len tree.raw (slice_index join.parent q)
     → (r < length (slice_index_or (map (λ b. b.named.items) tree.bounds) q []))

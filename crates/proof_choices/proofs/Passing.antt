@@ -12,7 +12,7 @@ use Rattle.proof_model.specs.Problem.{Problem}
 use Rattle.proof_model.specs.QueryProblem.{problem_in}
 use Rattle.proof_model.specs.Valid.{IsPassed, OpenChoice, answer_key, choice_key}
 use Rattle.proof_model.proofs.Wider.{wide_below}
-use Rattle.proof_bounds.specs.BoundedRows.{BoundedData, IsBounded, query_key}
+use Rattle.proof_bounds.specs.BoundedRows.{BoundedView, IsBounded, query_key}
 use Rattle.proof_answers.specs.RowPlaces.{ArePlaced, IsLastKey}
 use Rattle.proof_answers.proofs.Nodes.{all_nodes}
 use Rattle.proof_choices.specs.Choices.{ArePassed, IsMissed}
@@ -20,7 +20,7 @@ use Rattle.proof_choices.specs.Levels.{IsMissedAt, IsPassedAt, IsPast}
 use Rattle.proof_choices.proofs.Bridge.{choice_value, choice_way, way-choice, way_key}
 
 module _ {R : Type 0} (query : Query) (tables : List Table) (join : JoinTree) (d : ℕ) (key : R → KeyOf d 16)
-    (c : Certificate) (tree : BoundedData R) (few : length query.order ≤ d)
+    (c : Certificate) (tree : BoundedView R) (few : length query.order ≤ d)
     (bounded : IsBounded query tables join d key c tree) (ordered : IsTree join.count join.atom join.parent)
     (long : length join.atom ≡ 16) (places : List (List ℕ)) (placed : ArePlaced query tables join c tree.raw places) where
   abbrev t : Problem (KeyOf (length query.order) 16)

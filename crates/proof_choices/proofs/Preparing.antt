@@ -3,8 +3,8 @@ use Rattle.std.proofs.Common.{◌≡◌, ◌⊎◌, ℕ, ◌<◌, ◌≤◌, Non
 use Rattle.join_tree.specs.Rerooting.{IsTree}
 use Rattle.join_tree.specs.declared.tree.JoinTree.{JoinTree}
 use Rattle.tdp_model.specs.KeyTuple.{KeyOf}
-use Rattle.tdp_core.specs.RawData.{IsRawFormed}
-use Rattle.proof_bounds.specs.BoundedRows.{BoundedData, bound_ranks}
+use Rattle.tdp_core.specs.RawView.{IsRawFormed}
+use Rattle.proof_bounds.specs.BoundedRows.{BoundedView, bound_ranks}
 use Rattle.proof_answers.specs.Lows.{IsBoundedTree}
 use Rattle.proof_answers.specs.RowPlaces.{place_at}
 use Rattle.proof_answers.proofs.Nodes.{all_nodes}
@@ -12,7 +12,7 @@ use Rattle.proof_choices.specs.Levels.{ArePrefixes, BeginAlike, list_at, own_bou
 use Rattle.proof_choices.proofs.Grouping.{one_of_all}
 use Rattle.proof_choices.proofs.Walking.{own_size}
 
-module _ {R : Type 0} (join : JoinTree) (tree : BoundedData R) (d : ℕ) (key : R → KeyOf d 16)
+module _ {R : Type 0} (join : JoinTree) (tree : BoundedView R) (d : ℕ) (key : R → KeyOf d 16)
     (known : IsBoundedTree join d key tree) (ordered : IsTree join.count join.atom join.parent)
     (long : length join.atom ≡ 16) (p : ℕ) (node : p < join.count) where
   pub node_bounds : p < length tree.bounds

@@ -5,15 +5,15 @@ use Rattle.std.specs.Option.{MatchOption}
 use Rattle.join_tree.specs.Rerooting.{IsTree}
 use Rattle.join_tree.specs.declared.tree.JoinTree.{JoinTree}
 use Rattle.tdp_model.specs.KeyTuple.{KeyOf, key_add}
-use Rattle.tdp_core.specs.RawData.{IsRawFormed, raw_len}
-use Rattle.proof_bounds.specs.BoundedRows.{BoundedData, bound_ranks}
+use Rattle.tdp_core.specs.RawView.{IsRawFormed, raw_len}
+use Rattle.proof_bounds.specs.BoundedRows.{BoundedView, bound_ranks}
 use Rattle.proof_answers.specs.Lows.{IsBoundedTree}
 use Rattle.proof_choices.specs.declared.branches.Branch.{Branch}
 use Rattle.proof_choices.specs.Levels.{AreBranches, AreLeast, FitsGroup, IsBranch, IsInGroup, IsLeftAfter, IsLeftBefore}
 use Rattle.proof_choices.specs.Levels.{HasLow, IsBase, IsGroupOf, IsNoBranch, IsPairAt, IsPast, IsTestable, IsWay, list_at}
 use Rattle.proof_choices.proofs.Branching.{branch_fits, not_left, one_base, one_group}
 
-module _ {R : Type 0} (join : JoinTree) (tree : BoundedData R) (d : ℕ) (key : R → KeyOf d 16) (p : ℕ)
+module _ {R : Type 0} (join : JoinTree) (tree : BoundedView R) (d : ℕ) (key : R → KeyOf d 16) (p : ℕ)
     (starts : List (List ℕ)) (branches : List (Option (Branch R)))
     (are : AreBranches join tree d key p starts branches) where
   pub branch_at_lem : (n : ℕ) (b : Branch R) → n < length branches → slice_index_or branches n None ≡ Some b

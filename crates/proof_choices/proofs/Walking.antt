@@ -9,8 +9,8 @@ use Rattle.join_tree.specs.declared.tree.JoinTree.{JoinTree}
 use Rattle.tdp_model.specs.KeyTuple.{KeyOf, key_add, key_below}
 use Rattle.tdp_model.specs.Remains.{AtMost}
 use Rattle.rank_key.specs.Keys.{KeyFits}
-use Rattle.tdp_core.specs.RawData.{raw_len}
-use Rattle.proof_bounds.specs.BoundedRows.{BoundedData}
+use Rattle.tdp_core.specs.RawView.{raw_len}
+use Rattle.proof_bounds.specs.BoundedRows.{BoundedView}
 use Rattle.proof_answers.specs.Lows.{IsBoundedTree}
 use Rattle.proof_answers.proofs.Nodes.{all_nodes}
 use Rattle.proof_choices.specs.declared.branches.Branch.{Branch}
@@ -20,7 +20,7 @@ use Rattle.proof_choices.specs.Levels.{IsOfferOf, IsPairAt, IsTestable, is_past,
 use Rattle.proof_choices.proofs.FirstOpen.{all_past, first_past, past_not}
 use Rattle.proof_choices.proofs.Known.{in_some}
 
-module _ {R : Type 0} (join : JoinTree) (tree : BoundedData R) (d : ℕ) (key : R → KeyOf d 16)
+module _ {R : Type 0} (join : JoinTree) (tree : BoundedView R) (d : ℕ) (key : R → KeyOf d 16)
     (known : IsBoundedTree join d key tree) (ordered : IsTree join.count join.atom join.parent)
     (long : length join.atom ≡ 16) (p : ℕ) (node : p < join.count) where
   pub own_size : length (own_bounds tree p) ≡ raw_len tree.raw p

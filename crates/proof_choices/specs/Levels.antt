@@ -8,8 +8,8 @@ use Rattle.tdp_model.specs.KeyTuple.{KeyOf, key_add, key_below, key_none}
 use Rattle.tdp_model.specs.KeyNumbers.{key_less}
 use Rattle.tdp_model.specs.Remains.{AtMost}
 use Rattle.tdp_model.specs.TreeProblem.{sum_from}
-use Rattle.tdp_core.specs.RawData.{raw_len, raw_number, raw_rank}
-use Rattle.proof_bounds.specs.BoundedRows.{BoundedData, bound_ranks, named_bound, own_bound, rank_of_bound}
+use Rattle.tdp_core.specs.RawView.{raw_len, raw_number, raw_rank}
+use Rattle.proof_bounds.specs.BoundedRows.{BoundedView, bound_ranks, named_bound, own_bound, rank_of_bound}
 use Rattle.proof_answers.specs.Lows.{IsLow, OfEach}
 use Rattle.proof_answers.specs.RowPlaces.{place_at}
 use Rattle.proof_choices.specs.declared.offers.Offer.{Offer}
@@ -71,7 +71,7 @@ module _ {R : Type 0} (d : ℕ) (key : R → KeyOf d 16) where
       (i j : ℕ) (a b : Offer R) → i ≤ j → slice_get offers i ≡ Some a → slice_get offers j ≡ Some b
       → AtMost (key_below d 16) (key a.low) (key b.low)
 
-module _ {R : Type 0} (join : JoinTree) (tree : BoundedData R) (d : ℕ) (key : R → KeyOf d 16) where
+module _ {R : Type 0} (join : JoinTree) (tree : BoundedView R) (d : ℕ) (key : R → KeyOf d 16) where
   -- # What is known before the row of node p is chosen
 
   -- what node q gives: the rank of its row, or that of the bound of its group if an earlier row names it
@@ -260,7 +260,7 @@ module _ {R : Type 0} (d : ℕ) (key : R → KeyOf d 16) where
 -- # The rows of each group
 
 -- the number of the bound of each row's group, at a node
-abbrev pub own_bounds : {R : Type 0} → BoundedData R → ℕ → List (Option ℕ)
+abbrev pub own_bounds : {R : Type 0} → BoundedView R → ℕ → List (Option ℕ)
 own_bounds tree v = slice_index_or (map (λ b. b.own.items) tree.bounds) v []
 
 -- The rows whose group has bound g, for each g below the count, and after them those whose group has no bound.

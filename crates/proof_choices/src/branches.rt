@@ -2,7 +2,7 @@
 ghost use Rattle.std.specs.Prelude.{◌≡◌, ◌≤◌, ◌<◌, ℕ, [], length, map, option_map, slice_index, slice_index_or};
 ghost use Rattle.std.specs.Prelude.{MatchOption};
 ghost use Rattle.join_tree.specs.Rerooting.{IsTree};
-ghost use Rattle.tdp_core.specs.RawData.{raw_len};
+ghost use Rattle.tdp_core.specs.RawView.{raw_len};
 ghost use Rattle.proof_answers.specs.Lows.{IsBoundedTree};
 ghost use Rattle.proof_bounds.specs.BoundedRows.{bound_ranks, named_bound};
 ghost use Rattle.proof_choices.specs.Levels.{IsBase, IsBranch, IsGroupOf, IsNoBranch, base_part};

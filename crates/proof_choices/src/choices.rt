@@ -3,9 +3,9 @@ ghost use Rattle.std.specs.Prelude.{◌≡◌, ◌≤◌, ◌<◌, ◌+◌, ℕ,
 ghost use Rattle.bound_query.specs.WeighedQuery.{Fits};
 ghost use Rattle.query_shape.specs.JoinTreeView.{HasItems, HasStoredTree};
 ghost use Rattle.join_tree.specs.Rerooting.{IsTree};
-ghost use Rattle.proof_text.specs.ProofView.{seen_proof};
+ghost use Rattle.proof_text.specs.ProofView.{proof_view};
 ghost use Rattle.proof_bounds.specs.BoundedRows.{IsBounded};
-ghost use Rattle.tdp_core.specs.RawData.{IsRawFormed, raw_len};
+ghost use Rattle.tdp_core.specs.RawView.{IsRawFormed, raw_len};
 ghost use Rattle.proof_answers.specs.Lows.{IsBoundedTree};
 ghost use Rattle.proof_answers.specs.RowPlaces.{ArePlaced, IsLastKey, place_at};
 ghost use Rattle.proof_choices.specs.Choices.{ArePassed, TellsMissed};
@@ -45,17 +45,17 @@ pub fn check_choices<R: Rank, L: Ledger>(
     requires items { HasItems join.now.count join.now.atom (length query.now.query.items) }
     requires count { join.now.count ≡ length query.now.query.items }
     requires bounded { IsBounded query.now.query tables.now join.now R.KEYS R.key
-        (seen_proof proof.now) tree.now }
+        (proof_view proof.now) tree.now }
     requires placed { ArePlaced query.now.query tables.now join.now
-        (seen_proof proof.now) tree.now.raw
+        (proof_view proof.now) tree.now.raw
         answers.now.places.items }
-    requires last { IsLastKey query.now.query tables.now join.now R.KEYS (seen_proof proof.now)
+    requires last { IsLastKey query.now.query tables.now join.now R.KEYS (proof_view proof.now)
         (option_map R.key
         answers.now.last) }
     ensures passed { OnOk result
-        (ArePassed query.now.query tables.now join.now (seen_proof proof.now)) }
+        (ArePassed query.now.query tables.now join.now (proof_view proof.now)) }
     ensures fault { IfErr result
-        (TellsMissed query.now.query tables.now join.now (seen_proof proof.now)) }
+        (TellsMissed query.now.query tables.now join.now (proof_view proof.now)) }
 {
     if !proof.ended && answers.last.is_none() {
         return Ok(());

@@ -7,7 +7,7 @@ ghost use Rattle.join_tree.specs.Rerooting.{IsTree};
 ghost use Rattle.rank_key.specs.Keys.{KeyFits};
 ghost use Rattle.tdp_model.specs.KeyTuple.{KeyOf, key_add, key_below};
 ghost use Rattle.tdp_model.specs.Remains.{AtMost};
-ghost use Rattle.tdp_core.specs.RawData.{IsRawFormed, raw_len};
+ghost use Rattle.tdp_core.specs.RawView.{IsRawFormed, raw_len};
 ghost use Rattle.proof_answers.specs.Lows.{IsBoundedTree};
 ghost use Rattle.proof_bounds.specs.BoundedRows.{bound_ranks};
 ghost use Rattle.proof_choices.specs.Levels.{AreBranches, AreGroups, AreLeast, AreLists, AreOffers, HasLow};

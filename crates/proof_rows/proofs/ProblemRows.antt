@@ -8,7 +8,7 @@ use Rattle.join_tree.specs.declared.tree.JoinTree.{JoinTree}
 use Rattle.tdp_model.specs.KeyTuple.{KeyOf}
 use Rattle.rankings.proofs.Members.{get_member, member_get}
 use Rattle.rank_key.specs.Keys.{row_key}
-use Rattle.tdp_core.specs.RawData.{RawData, child_link, own_link, raw_len, raw_number, row_total, rows_at, shape_child_place}
+use Rattle.tdp_core.specs.RawView.{RawView, child_link, own_link, raw_len, raw_number, row_total, rows_at, shape_child_place}
 use Rattle.bound_query.specs.WeighedQuery.{BoundQuery, Fits}
 use Rattle.bound_query.specs.Weights.{part_of}
 use Rattle.query_shape.specs.Shape.{IsShape, Shape, too_many_rows}
@@ -44,7 +44,7 @@ module _ (bound : BoundQuery) (tables : List Table) (join : JoinTree) (stored : 
       let p = past.past in
       flaw_if_many bound tables join stored count past.rows past.of_nodes (omega (arith, sum, p))
 
-  module _ {R : Type 0} (d : ℕ) (key : R → KeyOf d 16) (raw : RawData R) (built : IsBuilt bound tables d key join raw) where
+  module _ {R : Type 0} (d : ℕ) (key : R → KeyOf d 16) (raw : RawView R) (built : IsBuilt bound tables d key join raw) where
     pub shape_known : length raw.rows ≡ length raw.shapes → row_total raw ≤ 4194304
         → (shape : Shape) × IsShape bound.query tables (Ok shape)
     shape_known each_node few =

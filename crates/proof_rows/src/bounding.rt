@@ -4,7 +4,7 @@ ghost use Rattle.bound_query.specs.WeighedQuery.{Fits};
 ghost use Rattle.query_shape.specs.JoinTreeView.{HasItems, HasStoredTree};
 ghost use Rattle.join_tree.specs.Rerooting.{IsTree};
 ghost use Rattle.node_build.specs.Nodes.{CapsBelow};
-ghost use Rattle.proof_text.specs.ProofView.{seen_proof};
+ghost use Rattle.proof_text.specs.ProofView.{proof_view};
 ghost use Rattle.proof_model.specs.Faults.{TellsFlaw};
 ghost use Rattle.proof_bounds.specs.BoundedRows.{IsBounded};
 
@@ -39,9 +39,9 @@ pub fn bounded_tree<R: Rank, L: Ledger>(
     requires items { HasItems join.now.count join.now.atom (length query.now.query.items) }
     requires count { join.now.count ≡ length query.now.query.items }
     ensures bounded { IfOk result
-        (IsBounded query.now.query tables.now join.now R.KEYS R.key (seen_proof proof.now)) }
+        (IsBounded query.now.query tables.now join.now R.KEYS R.key (proof_view proof.now)) }
     ensures fault { IfErr result
-        (TellsFlaw query.now.query tables.now join.now (seen_proof proof.now)) }
+        (TellsFlaw query.now.query tables.now join.now (proof_view proof.now)) }
 {
     let raw = query_rows(alloc, query, tables, join, steps)?;
     with_bounds(alloc, query, tables, join, raw, proof, steps)

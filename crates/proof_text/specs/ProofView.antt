@@ -9,27 +9,27 @@ use Rattle.proof_text.specs.Certificate.{BoundLine, AnswerLine, Certificate}
 use Rattle.proof_text.specs.Forms.{LineForm, bound, answer, last}
 use Rattle.proof_text.specs.Reading.{Lines}
 
-abbrev pub seen_bound : Bound → BoundLine
-seen_bound b = record { line = b.line; node = b.node; rows = b.rows.items }
+abbrev pub bound_view : Bound → BoundLine
+bound_view b = record { line = b.line; node = b.node; rows = b.rows.items }
 
-abbrev pub seen_answer : Listed → AnswerLine
-seen_answer a = record { line = a.line; rows = a.rows.items }
+abbrev pub listed_view : Listed → AnswerLine
+listed_view a = record { line = a.line; rows = a.rows.items }
 
-abbrev pub seen_proof : Proof → Certificate
-seen_proof p =
+abbrev pub proof_view : Proof → Certificate
+proof_view p =
     record {
-      bounds = map seen_bound p.bounds.items;
-      answers = map seen_answer p.answers.items;
+      bounds = map bound_view p.bounds.items;
+      answers = map listed_view p.answers.items;
       ended = p.ended;
     }
 
 -- what was read so far
 abbrev pub lines_of : Proof → Lines
 lines_of p = record
-    { bounds = map seen_bound p.bounds.items; answers = map seen_answer p.answers.items }
+    { bounds = map bound_view p.bounds.items; answers = map listed_view p.answers.items }
 
 -- what a line that was read says
-abbrev pub seen_line : Line → LineForm
-seen_line (line.Bound node rows) = bound node rows.items
-seen_line (line.Answer rows) = answer rows.items
-seen_line (line.Last ended) = last ended
+abbrev pub line_view : Line → LineForm
+line_view (line.Bound node rows) = bound node rows.items
+line_view (line.Answer rows) = answer rows.items
+line_view (line.Last ended) = last ended

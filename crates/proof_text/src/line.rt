@@ -4,7 +4,7 @@ ghost use Rattle.std.specs.Prelude.{◌≡◌, option_map, IfOk};
 ghost use Rattle.std.specs.Str.{bytes_eq};
 ghost use Rattle.text_lines.specs.Parts.{parts};
 ghost use Rattle.proof_text.specs.Forms.{answer_line, bound_line, last_line, line_of, numbers_line};
-ghost use Rattle.proof_text.specs.ProofView.{seen_line};
+ghost use Rattle.proof_text.specs.ProofView.{line_view};
 
 use crate::number::read_numbers;
 use std::alloc::{AllocFailed, Global};
@@ -30,7 +30,7 @@ fn is_word(text: &[u8], word: &[u8]) -> bool
 
 /// The bound line of a node and its rows. `None` if there is no row.
 fn bound(mut numbers: Vec<u32>) -> Option<Line>
-    ensures { bound_line numbers.items ≡ option_map seen_line result }
+    ensures { bound_line numbers.items ≡ option_map line_view result }
 {
     if numbers.len() < 2 {
         return None;
@@ -41,7 +41,7 @@ fn bound(mut numbers: Vec<u32>) -> Option<Line>
 
 /// The answer line of these rows. `None` if there is no row.
 fn answer(numbers: Vec<u32>) -> Option<Line>
-    ensures { answer_line numbers.items ≡ option_map seen_line result }
+    ensures { answer_line numbers.items ≡ option_map line_view result }
 {
     if numbers.is_empty() {
         return None;
@@ -51,7 +51,7 @@ fn answer(numbers: Vec<u32>) -> Option<Line>
 
 /// The last line of this word. `None` if it is neither `more` nor `end`.
 fn last(word: &[u8]) -> Option<Line>
-    ensures { last_line word.now ≡ option_map seen_line result }
+    ensures { last_line word.now ≡ option_map line_view result }
 {
     if is_word(word, b"more") {
         Some(Line::Last(false))
@@ -65,7 +65,7 @@ fn last(word: &[u8]) -> Option<Line>
 /// The line of this word and the numbers after it. `None` if it has no such form.
 fn with_numbers(alloc: Global, word: &[u8], rest: &[u8]) -> Result<Option<Line>, AllocFailed<u32>>
     ensures { IfOk result
-        (λ found. numbers_line word.now (parts rest.now) ≡ option_map seen_line found) }
+        (λ found. numbers_line word.now (parts rest.now) ≡ option_map line_view found) }
 {
     let is_bound = is_word(word, b"bound");
     if !is_bound && !is_word(word, b"answer") {
@@ -83,7 +83,7 @@ fn with_numbers(alloc: Global, word: &[u8], rest: &[u8]) -> Result<Option<Line>,
 
 /// What a line says, or `None` if it has no form.
 pub(crate) fn read_line(alloc: Global, text: &[u8]) -> Result<Option<Line>, AllocFailed<u32>>
-    ensures { IfOk result (λ found. line_of text.now ≡ option_map seen_line found) }
+    ensures { IfOk result (λ found. line_of text.now ≡ option_map line_view found) }
 {
     let (word, rest) = first_part(text);
     match rest {

@@ -9,7 +9,7 @@ ghost use Rattle.proof_text.specs.Certificate.{Certificate};
 ghost use Rattle.proof_text.specs.Forms.{line_of};
 ghost use Rattle.proof_text.specs.NumberedProofs.{IsNumbered};
 ghost use Rattle.proof_text.specs.Reading.{Lines, Fails, at_last, by_line, no_lines, proof_of, read_from};
-ghost use Rattle.proof_text.specs.ProofView.{lines_of, seen_proof};
+ghost use Rattle.proof_text.specs.ProofView.{lines_of, proof_view};
 ghost use Rattle.proof_text.specs.Writing.{proof_text};
 
 use crate::fault::ProofFault;
@@ -35,7 +35,7 @@ fn put_line(alloc: Global, read: &mut Proof, number: u32, text: &[u8]) -> Result
     ensures { (more : List (List ℕ)) (later : Lines → Result Certificate ProofFault)
         → let all = by_line number (lines_of read.old) (line_of text.now) more later in
         MatchResult result
-        (λ last. all ≡ (if last then at_last number (seen_proof read.new) more else later
+        (λ last. all ≡ (if last then at_last number (proof_view read.new) more else later
         (lines_of read.new)))
         (λ e. Fails all e) }
 {
@@ -67,8 +67,8 @@ fn put_line(alloc: Global, read: &mut Proof, number: u32, text: &[u8]) -> Result
 
 /// The certificate whose last line has this number, if nothing is after it.
 fn finished(read: Proof, number: u32, after: &[u8]) -> Result<Proof, ProofFault>
-    ensures { let all = at_last number (seen_proof read) (lines after.now) in
-        MatchResult result (λ proof. all ≡ Ok (seen_proof proof)) (λ e. Fails all e) }
+    ensures { let all = at_last number (proof_view read) (lines after.now) in
+        MatchResult result (λ proof. all ≡ Ok (proof_view proof)) (λ e. Fails all e) }
 {
     if first_line(after).is_none() {
         return Ok(read);
@@ -80,7 +80,7 @@ fn finished(read: Proof, number: u32, after: &[u8]) -> Result<Proof, ProofFault>
 /// The certificate of the lines after the header.
 fn read_lines(alloc: Global, bytes: &[u8]) -> Result<Proof, ProofFault>
     ensures { let all = read_from 2 no_lines (lines bytes.now) in
-        MatchResult result (λ proof. all ≡ Ok (seen_proof proof)) (λ e. Fails all e) }
+        MatchResult result (λ proof. all ≡ Ok (proof_view proof)) (λ e. Fails all e) }
 {
     let mut read = Proof {
         bounds: Vec::new(alloc),
@@ -113,12 +113,12 @@ fn is_header(text: &[u8]) -> bool
 pub fn read_proof(alloc: Global, bytes: &[u8]) -> Result<Proof, ProofFault>
     // The certificate that the text is, or the reason why it is none.
     ensures read { let all = proof_of bytes.now in
-        MatchResult result (λ proof. all ≡ Ok (seen_proof proof)) (λ e. Fails all e) }
+        MatchResult result (λ proof. all ≡ Ok (proof_view proof)) (λ e. Fails all e) }
     // Its lines are numbered as they stand, each has a row, and its numbers have at most 7 digits.
-    ensures numbered { IfOk result (λ proof. IsNumbered (seen_proof proof)) }
+    ensures numbered { IfOk result (λ proof. IsNumbered (proof_view proof)) }
     // The lines are those that are written of it: the form, said without the reader.
     ensures written { IfOk result
-        (λ proof. lines (proof_text (seen_proof proof)) ≡ lines bytes.now) }
+        (λ proof. lines (proof_text (proof_view proof)) ≡ lines bytes.now) }
 {
     let Some((first, rest)) = first_line(bytes) else {
         return Err(ProofFault::BadHeader);

@@ -12,7 +12,7 @@ use Rattle.tdp_model.proofs.Keys.{at_most_trans}
 use Rattle.tdp_model.proofs.KeyTuples.{tuple_keys}
 use Rattle.tdp_model.proofs.Subtrees.{climbs_all, climbs_ordered}
 use Rattle.tdp_model.proofs.Sums.{sum_same}
-use Rattle.tdp_core.specs.TreeData.{NodeData, best, group, group_count, members, parent, rank, rows}
+use Rattle.tdp_core.specs.TreeView.{NodeView, best, group, group_count, members, parent, rank, rows}
 use Rattle.tdp_core.specs.WellFormed.{IsFormed}
 use Rattle.tdp_core.proofs.TreeFacts.{best_least}
 use Rattle.proof_model.proofs.Splitting.{within_split}
@@ -20,7 +20,7 @@ use Rattle.proof_model.proofs.Sums.{pick_eq, pick_ne}
 use Rattle.proof_write.specs.Firsts.{IsFirst, IsUnder}
 use Rattle.proof_write.proofs.NodeBounds.{early, itself, row_there}
 
-module _ {R : Type 0} (d : ℕ) (key : R → KeyOf d 16) (tree : List (NodeData R)) (formed : IsFormed d key tree) where
+module _ {R : Type 0} (d : ℕ) (key : R → KeyOf d 16) (tree : List (NodeView R)) (formed : IsFormed d key tree) where
   -- the sum of the keys of the chosen rows of the subtree of node v
   abbrev pub chosen_key : (ℕ → ℕ) → ℕ → KeyOf d 16
   chosen_key chosen v = sum_from (key_add d 16) (key_none d 16)

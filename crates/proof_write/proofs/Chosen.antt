@@ -9,7 +9,7 @@ use Rattle.std.proofs.lemmas.List.{length-replicate}
 use Rattle.tdp_model.specs.Below.{is_below}
 use Rattle.tdp_model.specs.KeyTuple.{KeyOf}
 use Rattle.tdp_model.proofs.Descent.{below_itself, below_less, below_parent}
-use Rattle.tdp_core.specs.TreeData.{NodeData, group, item, members, number, parent, rows}
+use Rattle.tdp_core.specs.TreeView.{NodeView, group, item, members, number, parent, rows}
 use Rattle.tdp_core.specs.WellFormed.{IsFormed}
 use Rattle.proof_write.specs.Firsts.{IsFirst, IsUnder}
 
@@ -18,7 +18,7 @@ abbrev pub row_at : List (Option ℕ) → ℕ → ℕ
 row_at chosen q = unwrap_or (slice_index_or chosen q None) 0
 
 -- the nodes before node n have a row if they are in the subtree of node v
-pub record HasChosen {R : Type 0} (tree : List (NodeData R)) (v g n : ℕ) (chosen : List (Option ℕ))
+pub record HasChosen {R : Type 0} (tree : List (NodeView R)) (v g n : ℕ) (chosen : List (Option ℕ))
     (numbers : List ℕ) : Type 0 where
   pub long : length chosen ≡ 16
   pub count : length numbers ≡ 16
@@ -45,7 +45,7 @@ zero_at k q = elim (cases_lt q k) [
       (let n = length-replicate k none in omega (arith, n, past))
 ]
 
-module _ {R : Type 0} (d : ℕ) (key : R → KeyOf d 16) (tree : List (NodeData R)) (formed : IsFormed d key tree)
+module _ {R : Type 0} (d : ℕ) (key : R → KeyOf d 16) (tree : List (NodeView R)) (formed : IsFormed d key tree)
     (v g : ℕ) (node : v < length tree) where
   early : (q : ℕ) → 0 < q → q < length tree → parent tree q < q
   early = formed.shaped.parents_first

@@ -15,8 +15,8 @@ use Rattle.std.proofs.lemmas.List.{get_or_default}
 use Rattle.tdp_model.specs.Below.{is_below}
 use Rattle.tdp_model.specs.KeyTuple.{KeyOf}
 use Rattle.tdp_model.proofs.Descent.{below_itself, below_less, below_once, below_parent}
-use Rattle.tdp_core.specs.TreeData.{NodeData, child_place, group, group_count, group_named, group_number, item}
-use Rattle.tdp_core.specs.TreeData.{members, node_at, number, parent, rows}
+use Rattle.tdp_core.specs.TreeView.{NodeView, child_place, group, group_count, group_named, group_number, item}
+use Rattle.tdp_core.specs.TreeView.{members, node_at, number, parent, rows}
 use Rattle.tdp_core.specs.WellFormed.{IsFormed}
 use Rattle.tdp_core.proofs.TreeFacts.{member_is_row}
 use Rattle.anyk_model.specs.Ranking.{IsBefore}
@@ -62,7 +62,7 @@ lines_text n v (x ∷ firsts) =
     ∙ ap (λ k. bound_text k (listed x) ++ flat_map (λ rows. bound_text (v + 1) (listed rows)) firsts) e
     ∙ sym (flat_map-cons (λ rows. bound_text (v + 1) (listed rows)) x firsts)
 
-module _ {R : Type 0} (d : ℕ) (key : R → KeyOf d 16) (tree : List (NodeData R)) (formed : IsFormed d key tree) where
+module _ {R : Type 0} (d : ℕ) (key : R → KeyOf d 16) (tree : List (NodeView R)) (formed : IsFormed d key tree) where
   pub early : (q : ℕ) → 0 < q → q < length tree → parent tree q < q
   early = formed.shaped.parents_first
 

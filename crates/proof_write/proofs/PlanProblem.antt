@@ -9,7 +9,7 @@ use Rattle.tdp_model.specs.Regions.{place_of}
 use Rattle.tdp_model.proofs.Descent.{below_less, below_parent}
 use Rattle.tdp_model.proofs.KeyTuples.{tuple_keys}
 use Rattle.tdp_model.proofs.Sums.{sum_same}
-use Rattle.tdp_core.specs.TreeData.{NodeData, group, group_count, item, members, node_at, number, parent, rank, rows}
+use Rattle.tdp_core.specs.TreeView.{NodeView, group, group_count, item, members, node_at, number, parent, rank, rows}
 use Rattle.tdp_core.specs.Solutions.{Extends}
 use Rattle.tdp_core.specs.WellFormed.{IsFormed}
 use Rattle.anyk_model.specs.Table.{Table}
@@ -51,7 +51,7 @@ problem_with query tables nodes parent item = record {
   none = key_none (length query.order) 16;
 }
 
-module _ {R : Type 0} (bound : BoundQuery) (tables : List Table) (tree : List (NodeData R))
+module _ {R : Type 0} (bound : BoundQuery) (tables : List Table) (tree : List (NodeView R))
     (reduced : HasReducedRows bound tables tree) where
   number_size : (v : ℕ) → length (numbers bound tables tree v) ≡ rows tree v
   number_size v = length-map (node_at tree v).rows (λ x. x.row)
@@ -72,7 +72,7 @@ module _ {R : Type 0} (bound : BoundQuery) (tables : List Table) (tree : List (N
   }
 
 module _ {R : Type 0} (d : ℕ) (key : R → KeyOf d 16) (bound : BoundQuery) (tables : List Table)
-    (tree : List (NodeData R)) (formed : IsFormed d key tree)
+    (tree : List (NodeView R)) (formed : IsFormed d key tree)
     (reduced : HasReducedRows bound tables tree) where
   module _ (known : AreVariables bound.query.equalities bound.variables) where
     abbrev u : Problem (KeyOf (length bound.query.order) 16)

@@ -6,9 +6,9 @@ use Rattle.std.proofs.Math.Path.{fun_ext}
 use Rattle.std.proofs.lemmas.Bool.{cases_lt}
 use Rattle.std.proofs.lemmas.List.{get_or_past}
 use Rattle.tdp_model.specs.KeyTuple.{KeyOf}
-use Rattle.tdp_core.specs.SeenAnswers.{Seen, answers_of}
+use Rattle.tdp_core.specs.AnswerView.{AnswerView, answers_of}
 use Rattle.tdp_core.specs.Solutions.{IsTreeRanking}
-use Rattle.tdp_core.specs.TreeData.{NodeData, item, node_at, parent}
+use Rattle.tdp_core.specs.TreeView.{NodeView, item, node_at, parent}
 use Rattle.tdp_core.specs.WellFormed.{IsFormed}
 use Rattle.anyk_model.specs.Table.{Table}
 use Rattle.anyk_model.specs.Output.{cut}
@@ -18,7 +18,7 @@ use Rattle.query_shape.specs.Shape.{HasTree, Shape}
 use Rattle.step_bounds.specs.Steps.{reaches}
 use Rattle.witness_key.specs.WitnessKey.{combinations_in}
 use Rattle.witness_key.proofs.Combinations.{ranking_tells}
-use Rattle.plan_model.specs.Plan.{IsPlan, PlanData}
+use Rattle.plan_model.specs.Plan.{IsPlan, PlanView}
 use Rattle.plan_model.proofs.AnswersAgree.{answers_agree}
 use Rattle.proof_text.specs.Certificate.{BoundLine, Certificate}
 use Rattle.proof_text.specs.Writing.{answer_text, bound_text, header_text, last_text, proof_text}
@@ -43,7 +43,7 @@ text_parts bounds list ended one two three text head middle later end =
     ∙ ap (λ l. header_text ++ (b ++ (l ++ last_text ended))) (sym (answers_text (length bounds + 2) list))
 
 module _ {R : Type 0} (d : ℕ) (key : R → KeyOf d 16) (bound : BoundQuery) (tables : List Table)
-    (fits : Fits bound tables) (plan : PlanData R)
+    (fits : Fits bound tables) (plan : PlanView R)
     (is : IsPlan d key bound tables plan) (formed : IsFormed d key plan.tree) where
   abbrev shape : Shape
   shape = is.whole.shape
@@ -68,7 +68,7 @@ module _ {R : Type 0} (d : ℕ) (key : R → KeyOf d 16) (bound : BoundQuery) (t
   parents_same = fun_ext (λ v. elim (cases_lt v (length plan.tree)) [
     | inl inside ↦ is.parents v inside
     | inr past ↦
-        ap (λ (n : NodeData R). n.shape.parent) (past_node v past)
+        ap (λ (n : NodeView R). n.shape.parent) (past_node v past)
         ∙ sym (get_or_past is.whole.shape.parents v 0
         (let n = nodes_same in let a = hung.join_tree.nodes in let p = hung.join_tree.has_parents in omega
         (arith, n, a, p, past)))
@@ -78,7 +78,7 @@ module _ {R : Type 0} (d : ℕ) (key : R → KeyOf d 16) (bound : BoundQuery) (t
   items_same = fun_ext (λ v. elim (cases_lt v (length plan.tree)) [
     | inl inside ↦ is.items v inside
     | inr past ↦
-        ap (λ (n : NodeData R). n.shape.item) (past_node v past)
+        ap (λ (n : NodeView R). n.shape.item) (past_node v past)
         ∙ sym (get_or_past is.whole.shape.atoms v 0 (let n = nodes_same in omega (arith, n, past)))
   ])
 
@@ -104,7 +104,7 @@ module _ {R : Type 0} (d : ℕ) (key : R → KeyOf d 16) (bound : BoundQuery) (t
       (tree_problem bound.query tables is.whole.shape.atoms is.whole.shape.parents hung)
 
   -- the engine has the answers of the ranking left
-  left_ranking : (ks : List (KeyOf d 16)) → IsTreeRanking plan.tree d key ks → (rest : List Seen)
+  left_ranking : (ks : List (KeyOf d 16)) → IsTreeRanking plan.tree d key ks → (rest : List AnswerView)
       → rest ≡ answers_of d ks
       → combinations_in bound.query rest ≡ ranking_of bound.query tables
   left_ranking ks ranking rest left =
@@ -113,7 +113,7 @@ module _ {R : Type 0} (d : ℕ) (key : R → KeyOf d 16) (bound : BoundQuery) (t
       ∙ (ranking_tells d bound.query tables
       (few_items bound.query tables is.whole.shape.atoms is.whole.shape.parents hung)).0
 
-  pub plan_text : (ks : List (KeyOf d 16)) → IsTreeRanking plan.tree d key ks → (rest : List Seen)
+  pub plan_text : (ks : List (KeyOf d 16)) → IsTreeRanking plan.tree d key ks → (rest : List AnswerView)
       → rest ≡ answers_of d ks
       → (bounds : List BoundLine) → AreBounds plan.tree (length plan.tree) bounds → (ended : Bool)
       → ended ≡ not (reaches bound.query.limit (combinations_in bound.query rest))

@@ -10,7 +10,7 @@ use Rattle.tdp_model.specs.Regions.{place_of}
 use Rattle.tdp_model.specs.Remains.{AtMost}
 use Rattle.tdp_model.proofs.Keys.{at_most_trans}
 use Rattle.tdp_model.proofs.KeyTuples.{tuple_keys}
-use Rattle.tdp_core.specs.TreeData.{NodeData, best, group_count, item, members, node_at, number, parent, rank, rows}
+use Rattle.tdp_core.specs.TreeView.{NodeView, best, group_count, item, members, node_at, number, parent, rank, rows}
 use Rattle.tdp_core.specs.WellFormed.{IsFormed}
 use Rattle.anyk_model.specs.Table.{Table}
 use Rattle.bound_query.specs.Classes.{AreVariables}
@@ -81,7 +81,7 @@ module _ {K : Type 0} (Below : K → K → Type 0) (none : K) where
 -- ---- bounds
 
 module _ {R : Type 0} (d : ℕ) (key : R → KeyOf d 16) (bound : BoundQuery) (tables : List Table)
-    (tree : List (NodeData R)) (formed : IsFormed d key tree)
+    (tree : List (NodeView R)) (formed : IsFormed d key tree)
     (reduced : HasReducedRows bound tables tree) (known : AreVariables bound.query.equalities bound.variables)
     (few : length bound.query.order ≤ d)
     (ranks : (v r : ℕ) → v < length tree → r < rows tree v

@@ -5,7 +5,7 @@ use Rattle.std.specs.List.Sorted.{IsPermutation, IsSorted}
 use Rattle.std.specs.Ordering.{nat_cmp}
 use Rattle.std.specs.Cmp.Lexicographic.{slice_cmp}
 use Rattle.tdp_model.specs.Below.{is_below}
-use Rattle.tdp_core.specs.TreeData.{NodeData, group, group_count, item, members, number, parent, rows}
+use Rattle.tdp_core.specs.TreeView.{NodeView, group, group_count, item, members, number, parent, rows}
 use Rattle.proof_text.specs.Certificate.{BoundLine}
 use Rattle.proof_model.specs.WrittenProofs.{BoundBefore}
 
@@ -13,7 +13,7 @@ use Rattle.proof_model.specs.WrittenProofs.{BoundBefore}
 abbrev pub listed : List ℕ → List ℕ
 listed rows = filter (λ row. nat_lt 0 row) rows
 
-module _ {R : Type 0} (tree : List (NodeData R)) where
+module _ {R : Type 0} (tree : List (NodeView R)) where
   -- rows count from 1, and no two rows of a node have one number
   pub record AreTold : Type 0 where
     pub positive : (v r : ℕ) → v < length tree → r < rows tree v → 1 ≤ number tree v r

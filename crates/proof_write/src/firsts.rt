@@ -1,7 +1,7 @@
 //! The first solution of a group of rows.
 ghost use Rattle.std.specs.Prelude.{◌≡◌, ◌<◌, IfOk, IfSome, None, Some, length, option_map, slice_index};
 ghost use Rattle.std.specs.Prelude.{slice_index_or, ℕ};
-ghost use Rattle.tdp_core.specs.TreeData.{group, group_count, parent, rows};
+ghost use Rattle.tdp_core.specs.TreeView.{group, group_count, parent, rows};
 ghost use Rattle.tdp_core.specs.WellFormed.{IsFormed};
 ghost use Rattle.proof_write.specs.Firsts.{IsFirst, listed};
 

@@ -3,9 +3,9 @@ ghost use Rattle.std.specs.Prelude.{◌≡◌, List, IfOk};
 ghost use Rattle.anyk_model.specs.Table.{Table};
 ghost use Rattle.bound_query.specs.WeighedQuery.{Fits};
 ghost use Rattle.tdp_model.specs.KeyTuple.{KeyOf};
-ghost use Rattle.tdp_core.specs.SeenAnswers.{answers_of};
+ghost use Rattle.tdp_core.specs.AnswerView.{answers_of};
 ghost use Rattle.tdp_core.specs.Solutions.{IsTreeRanking};
-ghost use Rattle.plan_model.specs.Plan.{IsPlan, PlanData};
+ghost use Rattle.plan_model.specs.Plan.{IsPlan, PlanView};
 ghost use Rattle.proof_model.specs.ProofTexts.{IsProofText};
 
 use crate::answers::push_answers;
@@ -28,11 +28,11 @@ pub fn prove<R: Rank, E: Ranked<Key = R>, L: Ledger>(
     engine: &mut E,
     steps: &mut Steps<L>,
 ) -> Result<Vec<u8>, NoMemory>
-    requires planned { (tables : List Table) × (plan : PlanData R) × Fits query.now tables
+    requires planned { (tables : List Table) × (plan : PlanView R) × Fits query.now tables
         × IsPlan R.KEYS R.key query.now tables plan × (plan.tree ≡ tree.now) }
     requires rest { (ks : List (KeyOf R.KEYS 16)) × IsTreeRanking tree.now R.KEYS R.key ks
         × (E.rest engine.old ≡ answers_of R.KEYS ks) }
-    ensures written { (tables : List Table) (plan : PlanData R) → Fits query.now tables
+    ensures written { (tables : List Table) (plan : PlanView R) → Fits query.now tables
         → IsPlan R.KEYS R.key query.now tables plan → plan.tree ≡ tree.now
         → IfOk result (λ text. IsProofText query.now.query tables text.items) }
 {

@@ -13,7 +13,7 @@ use Rattle.table_store.specs.Tables.{IsSound}
 use Rattle.table_store.proofs.Places.{sound_few_columns}
 use Rattle.bound_query.specs.Inside.{HasTable, IsInside, IsWithin}
 use Rattle.query_bind.specs.Labels.{IsFirstPlace, IsLabelling, least_in}
-use Rattle.bound_query.specs.StoredParts.{column_shown, equality_shown, item_shown, items_shown, lists_shown}
+use Rattle.bound_query.specs.StoredParts.{column_view, equality_view, item_view, items_view, lists_view}
 use Rattle.query_bind.specs.Variables.{HasVariables, HavePlaces, HavePlacesEach, is_variable, width_in}
 use Rattle.bound_query.specs.WeighedQuery.{variables_at}
 use Rattle.bound_query.specs.declared.bound.BoundEquality.{BoundEquality}
@@ -149,28 +149,28 @@ each_none label variables tables items = record { count = refl; each = λ i h. a
 
 pub each_more : (label : Column → Column) (variables : List (ℕ × ℕ)) (tables : List Table) (items : List BoundItem) (n width : ℕ) (d : BoundItem)
     (lists : List (Vec (ℕ × ℕ) Global)) (v : Vec (ℕ × ℕ) Global) → n < length items → width ≡ length (table_at tables (get_or items n d).table).names
-    → HavePlacesEach label (map column_shown variables) tables (items_shown items) n (lists_shown lists)
-    → HavePlaces label (map column_shown variables) n width (length variables) v.items
-    → HavePlacesEach label (map column_shown variables) tables (items_shown items) (n + 1) (lists_shown (lists ++ v ∷ []))
+    → HavePlacesEach label (map column_view variables) tables (items_view items) n (lists_view lists)
+    → HavePlaces label (map column_view variables) n width (length variables) v.items
+    → HavePlacesEach label (map column_view variables) tables (items_view items) (n + 1) (lists_view (lists ++ v ∷ []))
 each_more label variables tables items n width d lists v h wide known own =
-    let old = lists_shown lists in
-    let more : lists_shown (lists ++ v ∷ []) ≡ old ++ v.items ∷ [] = map-append (λ (u : Vec (ℕ × ℕ) Global). u.items) lists (v ∷ []) in
-    let shown = map column_shown variables in
-    let at : get_or (items_shown items) n (record { table = 0; alias = [] }) ≡ item_shown (get_or items n d) = get_or-map item_shown items n d (record { table = 0; alias = [] }) h in
-    let width_is : width ≡ width_in tables (items_shown items) n = wide ∙ ap (λ (i : Item). length (table_at tables i.table).names) (sym at) in
-    let here : HavePlaces label shown n (width_in tables (items_shown items) n) (length shown) v.items =
-    subst (λ (k : ℕ). HavePlaces label shown n (width_in tables (items_shown items) n) k v.items) (sym (length-map variables column_shown))
+    let old = lists_view lists in
+    let more : lists_view (lists ++ v ∷ []) ≡ old ++ v.items ∷ [] = map-append (λ (u : Vec (ℕ × ℕ) Global). u.items) lists (v ∷ []) in
+    let shown = map column_view variables in
+    let at : get_or (items_view items) n (record { table = 0; alias = [] }) ≡ item_view (get_or items n d) = get_or-map item_view items n d (record { table = 0; alias = [] }) h in
+    let width_is : width ≡ width_in tables (items_view items) n = wide ∙ ap (λ (i : Item). length (table_at tables i.table).names) (sym at) in
+    let here : HavePlaces label shown n (width_in tables (items_view items) n) (length shown) v.items =
+    subst (λ (k : ℕ). HavePlaces label shown n (width_in tables (items_view items) n) k v.items) (sym (length-map variables column_view))
     (subst (λ (k : ℕ). HavePlaces label shown n k (length variables) v.items) width_is own) in
     let count = known.count in
-    subst (λ (l : List (List (ℕ × ℕ))). HavePlacesEach label shown tables (items_shown items) (n + 1) l) (sym more) (record {
+    subst (λ (l : List (List (ℕ × ℕ))). HavePlacesEach label shown tables (items_view items) (n + 1) l) (sym more) (record {
       count = length_last old v.items ∙ ap (λ (k : ℕ). k + 1) known.count;
       each = λ i less. elim (cases_eq i n) [
         | inl e ↦
             let last : get_or (old ++ v.items ∷ []) i [] ≡ v.items = ap (λ (k : ℕ). get_or (old ++ v.items ∷ []) k []) (e ∙ sym count) ∙ at_last old v.items [] in
-            subst (λ (l : List (ℕ × ℕ)). HavePlaces label shown i (width_in tables (items_shown items) i) (length shown) l) (sym last)
-            (subst (λ (k : ℕ). HavePlaces label shown k (width_in tables (items_shown items) k) (length shown) v.items) (sym e) here)
+            subst (λ (l : List (ℕ × ℕ)). HavePlaces label shown i (width_in tables (items_view items) i) (length shown) l) (sym last)
+            (subst (λ (k : ℕ). HavePlaces label shown k (width_in tables (items_view items) k) (length shown) v.items) (sym e) here)
         | inr ne ↦
-            subst (λ (l : List (ℕ × ℕ)). HavePlaces label shown i (width_in tables (items_shown items) i) (length shown) l)
+            subst (λ (l : List (ℕ × ℕ)). HavePlaces label shown i (width_in tables (items_view items) i) (length shown) l)
             (sym (at_left old v.items [] i (omega (arith, less, ne, count)))) (known.each i (omega (arith, less, ne)))
       ];
     })
@@ -189,7 +189,7 @@ has_variables query tables label variables lists within known are few each = rec
 }
 
 -- ---- the variables that are found for a stored query
-with_table : (tables : List Table) (items : List BoundItem) → AllByRecursion (HasTable tables) (items_shown items) → AllByRecursion (λ (i : BoundItem). i.table < length tables) items
+with_table : (tables : List Table) (items : List BoundItem) → AllByRecursion (HasTable tables) (items_view items) → AllByRecursion (λ (i : BoundItem). i.table < length tables) items
 with_table tables [] h = tt
 with_table tables (i ∷ items) h = (h.0, with_table tables items h.1)
 
@@ -200,38 +200,38 @@ narrow_items tables (i ∷ items) sound h =
     (sound_few_columns (table_at tables i.table) (all_at IsSound tables i.table (record { names = []; rows = [] }) sound h.0), narrow_items tables items sound h.1)
 
 module _ (query : Query) (tables : List Table) (within : IsWithin query tables) (sound : AllByRecursion IsSound tables)
-    (items : List BoundItem) (items_are : items_shown items ≡ query.items) (few : length items ≤ 16) where
+    (items : List BoundItem) (items_are : items_view items ≡ query.items) (few : length items ≤ 16) where
   pub items_known : AllByRecursion (λ (i : BoundItem). i.table < length tables) items
   items_known = with_table tables items (subst (λ (l : List Item). AllByRecursion (HasTable tables) l) (sym items_are) within.items)
 
-  module _ (columns least : List (ℕ × ℕ)) (all : map column_shown columns ≡ columns_from 0 tables (items_shown items)) (test : ℕ × ℕ → Bool)
+  module _ (columns least : List (ℕ × ℕ)) (all : map column_view columns ≡ columns_from 0 tables (items_view items)) (test : ℕ × ℕ → Bool)
       (found : least ≡ filter test columns) where
     pub few_variables : length least ≤ 1024
     few_variables =
-        let narrow = narrow_items tables (items_shown items) sound (subst (λ (l : List Item). AllByRecursion (HasTable tables) l) (sym items_are) within.items) in
+        let narrow = narrow_items tables (items_view items) sound (subst (λ (l : List Item). AllByRecursion (HasTable tables) l) (sym items_are) within.items) in
         let kept : length least ≤ length columns = subst (λ (l : List (ℕ × ℕ)). length l ≤ length columns) (sym found) (fewer_kept test columns) in
-        omega (arith, kept, length-map columns column_shown, ap length all, from_few tables (items_shown items) 0 narrow, length-map items item_shown, few)
+        omega (arith, kept, length-map columns column_view, ap length all, from_few tables (items_view items) 0 narrow, length-map items item_view, few)
 
-  pub structure : (ms : List Member) (eqs : List BoundEquality) (columns least : List (ℕ × ℕ)) (lists : List (List (ℕ × ℕ))) → map equality_shown eqs ≡ query.equalities
-      → IsLabelling (map equality_shown eqs) (least_in ms) → map column_shown columns ≡ columns_from 0 tables (items_shown items)
-      → least ≡ filter (λ c. is_variable ms eqs (column_shown c)) columns
-      → HavePlacesEach (least_in ms) (map column_shown least) tables (items_shown items) (length items) lists → HasVariables query (map column_shown least) lists
+  pub structure : (ms : List Member) (eqs : List BoundEquality) (columns least : List (ℕ × ℕ)) (lists : List (List (ℕ × ℕ))) → map equality_view eqs ≡ query.equalities
+      → IsLabelling (map equality_view eqs) (least_in ms) → map column_view columns ≡ columns_from 0 tables (items_view items)
+      → least ≡ filter (λ c. is_variable ms eqs (column_view c)) columns
+      → HavePlacesEach (least_in ms) (map column_view least) tables (items_view items) (length items) lists → HasVariables query (map column_view least) lists
   structure ms eqs columns least lists eqs_are known all found each =
       let label = least_in ms in
-      let shared : (c : Column) → IsShared (map equality_shown eqs) c → IsMember c (map column_shown columns) =
+      let shared : (c : Column) → IsShared (map equality_view eqs) c → IsMember c (map column_view columns) =
       λ c s. subst (λ (l : List Column). IsMember c l) (sym all)
-      (inside_member tables (items_shown items) c
+      (inside_member tables (items_view items) c
       (subst (λ (l : List Item). IsInside tables l c) (sym items_are)
       (shared_inside tables query.items query.equalities within.equalities c (subst (λ (es : List Equality). IsShared es c) eqs_are s)))) in
-      let ascending : IsAscending ColumnBefore (map column_shown columns) =
-      subst (λ (l : List Column). IsAscending ColumnBefore l) (sym all) (from_ascending tables (items_shown items) 0) in
-      let are : AreVariables (map equality_shown eqs) (map column_shown least) =
-      subst (λ (l : List (ℕ × ℕ)). AreVariables (map equality_shown eqs) (map column_shown l)) (sym found) (variables_found ms eqs known columns ascending shared) in
-      let few_least : length (map column_shown least) ≤ 1024 =
-      omega (arith, length-map least column_shown, few_variables columns least all (λ c. is_variable ms eqs (column_shown c)) found) in
-      let count : length items ≡ length query.items = sym (length-map items item_shown) ∙ ap length items_are in
-      has_variables query tables label (map column_shown least) lists within
+      let ascending : IsAscending ColumnBefore (map column_view columns) =
+      subst (λ (l : List Column). IsAscending ColumnBefore l) (sym all) (from_ascending tables (items_view items) 0) in
+      let are : AreVariables (map equality_view eqs) (map column_view least) =
+      subst (λ (l : List (ℕ × ℕ)). AreVariables (map equality_view eqs) (map column_view l)) (sym found) (variables_found ms eqs known columns ascending shared) in
+      let few_least : length (map column_view least) ≤ 1024 =
+      omega (arith, length-map least column_view, few_variables columns least all (λ c. is_variable ms eqs (column_view c)) found) in
+      let count : length items ≡ length query.items = sym (length-map items item_view) ∙ ap length items_are in
+      has_variables query tables label (map column_view least) lists within
       (subst (λ (es : List Equality). IsLabelling es label) eqs_are known)
-      (subst (λ (es : List Equality). AreVariables es (map column_shown least)) eqs_are are) few_least
-      (subst (λ (n : ℕ). HavePlacesEach label (map column_shown least) tables query.items n lists) count
-      (subst (λ (l : List Item). HavePlacesEach label (map column_shown least) tables l (length items) lists) items_are each))
+      (subst (λ (es : List Equality). AreVariables es (map column_view least)) eqs_are are) few_least
+      (subst (λ (n : ℕ). HavePlacesEach label (map column_view least) tables query.items n lists) count
+      (subst (λ (l : List Item). HavePlacesEach label (map column_view least) tables l (length items) lists) items_are each))

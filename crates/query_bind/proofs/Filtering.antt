@@ -10,12 +10,12 @@ use Rattle.anyk_model.specs.Table.{Table}
 use Rattle.anyk_model.specs.Query.{Item, Column, Equality, of_constant}
 use Rattle.rankings.specs.Order.{IsMember}
 use Rattle.bound_query.specs.Classes.{IsFixedTo, Linked}
-use Rattle.bound_query.specs.FilterViews.{constant_shown}
+use Rattle.bound_query.specs.FilterViews.{constant_view}
 use Rattle.bound_query.specs.Filters.{IsFilterOf, ItemFilter, Reaches}
 use Rattle.query_bind.specs.Filters.{HaveConstants, HavePairs}
 use Rattle.bound_query.specs.Inside.{IsInside}
 use Rattle.query_bind.specs.Labels.{HasNoPlace, IsFirstPlace, IsLabelling}
-use Rattle.bound_query.specs.StoredParts.{equality_shown}
+use Rattle.bound_query.specs.StoredParts.{equality_view}
 use Rattle.bound_query.specs.declared.bound.BoundEquality.{BoundEquality}
 use Rattle.bound_query.specs.declared.filters.Constant.{Constant}
 use Rattle.rankings.proofs.Members.{member_last, member_left, member_parts}
@@ -131,7 +131,7 @@ module _ (label : Column → Column) (item width : ℕ) where
   }
 
 pub listed_member : (place : ℕ) (bytes : List ℕ) (xs : List Constant) → list_any (λ (c : Constant). (c.place == place) && bytes_eq c.bytes bytes) xs ≡ true
-    → IsMember (place, bytes) (map constant_shown xs)
+    → IsMember (place, bytes) (map constant_view xs)
 listed_member place bytes [] h = absurd (cc)
 listed_member place bytes (x ∷ xs) h =
     elim (or_cases ((x.place == place) && bytes_eq x.bytes bytes) (list_any (λ (c : Constant). (c.place == place) && bytes_eq c.bytes bytes) xs) h) [
@@ -145,10 +145,10 @@ listed_member place bytes (x ∷ xs) h =
 
 -- the first i equalities, and one more
 pub equalities_more : (es : List BoundEquality) (i : ℕ) (e : BoundEquality) → i < length es → e ≡ get_or es i e
-    → map equality_shown (take i es) ++ equality_shown e ∷ [] ≡ map equality_shown (take (i + 1) es)
+    → map equality_view (take i es) ++ equality_view e ∷ [] ≡ map equality_view (take (i + 1) es)
 equalities_more es i e h is =
     let more : take (i + 1) es ≡ take i es ++ e ∷ [] = take_more es i e h ∙ ap (λ (z : BoundEquality). take i es ++ z ∷ []) (sym is) in
-    sym (ap (map equality_shown) more ∙ map-append equality_shown (take i es) (e ∷ []))
+    sym (ap (map equality_view) more ∙ map-append equality_view (take i es) (e ∷ []))
 
 -- ---- the filter of an item
 

@@ -7,7 +7,7 @@ use Rattle.rankings.specs.Order.{IsMember}
 use Rattle.bound_query.specs.Classes.{ColumnBefore, Linked, same, forth, back}
 use Rattle.query_bind.specs.Labels.{IsLabelling, is_same, least_in, listed, replaced}
 use Rattle.query_bind.specs.Relabelling.{with_least}
-use Rattle.bound_query.specs.StoredParts.{column_shown, equality_shown}
+use Rattle.bound_query.specs.StoredParts.{column_view, equality_view}
 use Rattle.bound_query.specs.declared.bound.BoundEquality.{BoundEquality}
 use Rattle.query_bind.specs.declared.classes.Member.{Member}
 use Rattle.rankings.proofs.Members.{member_last, member_left, member_parts}
@@ -146,36 +146,36 @@ labels_like es f g e h = record {
 
 module _ (new old : ℕ × ℕ) where
   abbrev swap : Column → Column
-  swap = replaced (column_shown new) (column_shown old)
+  swap = replaced (column_view new) (column_view old)
 
   with_column : (m : Member) → (with_least new old m).column ≡ m.column
-  with_column m = by_test (is_same (column_shown m.least) (column_shown old))
+  with_column m = by_test (is_same (column_view m.least) (column_view old))
     where
       by_test : (b : Bool) → (if b then record { column = m.column; least = new } else m).column ≡ m.column
       by_test true = refl
       by_test false = refl
 
-  with_label : (m : Member) → column_shown (with_least new old m).least ≡ swap (column_shown m.least)
-  with_label m = by_test (is_same (column_shown m.least) (column_shown old))
+  with_label : (m : Member) → column_view (with_least new old m).least ≡ swap (column_view m.least)
+  with_label m = by_test (is_same (column_view m.least) (column_view old))
     where
-      by_test : (b : Bool) → column_shown (if b then record { column = m.column; least = new } else m).least ≡ (if b then column_shown new else column_shown m.least)
+      by_test : (b : Bool) → column_view (if b then record { column = m.column; least = new } else m).least ≡ (if b then column_view new else column_view m.least)
       by_test true = refl
       by_test false = refl
 
   listed_map : (ms : List Member) (c d : Column) → listed (map (with_least new old) ms) c (swap d) ≡ swap (listed ms c d)
   listed_map [] c d = refl
   listed_map (m ∷ ms) c d =
-      ap (λ (col : ℕ × ℕ). if is_same (column_shown col) c then column_shown (with_least new old m).least else listed (map (with_least new old) ms) c (swap d)) (with_column m)
-      ∙ by_test (is_same (column_shown m.column) c) (listed_map ms c d)
+      ap (λ (col : ℕ × ℕ). if is_same (column_view col) c then column_view (with_least new old m).least else listed (map (with_least new old) ms) c (swap d)) (with_column m)
+      ∙ by_test (is_same (column_view m.column) c) (listed_map ms c d)
     where
       by_test : (s : Bool) → listed (map (with_least new old) ms) c (swap d) ≡ swap (listed ms c d)
-          → (if s then column_shown (with_least new old m).least else listed (map (with_least new old) ms) c (swap d)) ≡ swap (if s then column_shown m.least else listed ms c d)
+          → (if s then column_view (with_least new old m).least else listed (map (with_least new old) ms) c (swap d)) ≡ swap (if s then column_view m.least else listed ms c d)
       by_test true h = with_label m
       by_test false h = h
 
-listed_append : (ms : List Member) (m : Member) (c d : Column) → listed (ms ++ m ∷ []) c d ≡ listed ms c (if is_same (column_shown m.column) c then column_shown m.least else d)
+listed_append : (ms : List Member) (m : Member) (c d : Column) → listed (ms ++ m ∷ []) c d ≡ listed ms c (if is_same (column_view m.column) c then column_view m.least else d)
 listed_append [] m c d = refl
-listed_append (n ∷ ms) m c d = ap (λ (z : Column). if is_same (column_shown n.column) c then column_shown n.least else z) (listed_append ms m c d)
+listed_append (n ∷ ms) m c d = ap (λ (z : Column). if is_same (column_view n.column) c then column_view n.least else z) (listed_append ms m c d)
 
 -- the old least column is listed, and then takes the new one
 module _ (new old : ℕ × ℕ) (ms : List Member) (c : Column) where
@@ -185,14 +185,14 @@ module _ (new old : ℕ × ℕ) (ms : List Member) (c : Column) where
   abbrev there : Member
   there = with_least new old own
 
-  at-end : (if is_same (column_shown there.column) c then column_shown there.least else c) ≡ swap new old c
+  at-end : (if is_same (column_view there.column) c then column_view there.least else c) ≡ swap new old c
   at-end =
-      ap (λ (col : ℕ × ℕ). if is_same (column_shown col) c then column_shown there.least else c) (with_column new old own)
-      ∙ ap (λ (z : Column). if is_same (column_shown old) c then z else c) (with_label new old own)
-      ∙ elim (same_tells (column_shown old) c) [
-        | inl (t, e) ↦ ap (λ (b : Bool). if b then swap new old (column_shown old) else c) t ∙ ap (swap new old) e
-        | inr (f, n) ↦ ap (λ (b : Bool). if b then swap new old (column_shown old) else c) f
-            ∙ elim (replaced_tells (column_shown new) (column_shown old) c) [ inl p ↦ absurd (n (sym p.0)) | inr p ↦ sym p.1 ]
+      ap (λ (col : ℕ × ℕ). if is_same (column_view col) c then column_view there.least else c) (with_column new old own)
+      ∙ ap (λ (z : Column). if is_same (column_view old) c then z else c) (with_label new old own)
+      ∙ elim (same_tells (column_view old) c) [
+        | inl (t, e) ↦ ap (λ (b : Bool). if b then swap new old (column_view old) else c) t ∙ ap (swap new old) e
+        | inr (f, n) ↦ ap (λ (b : Bool). if b then swap new old (column_view old) else c) f
+            ∙ elim (replaced_tells (column_view new) (column_view old) c) [ inl p ↦ absurd (n (sym p.0)) | inr p ↦ sym p.1 ]
       ]
 
   pub least_replaced : least_in (map (with_least new old) (ms ++ own ∷ [])) c ≡ swap new old (least_in ms c)
@@ -201,11 +201,11 @@ module _ (new old : ℕ × ℕ) (ms : List Member) (c : Column) where
       ∙ listed_append (map (with_least new old) ms) there c c ∙ ap (listed (map (with_least new old) ms) c) at-end ∙ listed_map new old ms c c
 
 -- one step of a search through the members
-pub listed_turn : (ms : List Member) (i : ℕ) (d : Member) (c : Column) (b : Bool) → i < length ms → is_same (column_shown (get_or ms i d).column) c ≡ b
-    → listed (drop i ms) c c ≡ (if b then column_shown (get_or ms i d).least else listed (drop (i + 1) ms) c c)
+pub listed_turn : (ms : List Member) (i : ℕ) (d : Member) (c : Column) (b : Bool) → i < length ms → is_same (column_view (get_or ms i d).column) c ≡ b
+    → listed (drop i ms) c c ≡ (if b then column_view (get_or ms i d).least else listed (drop (i + 1) ms) c c)
 listed_turn ms i d c b h e =
     ap (λ (l : List Member). listed l c c) (drop_step ms i d h)
-    ∙ ap (λ (t : Bool). if t then column_shown (get_or ms i d).least else listed (drop (i + 1) ms) c c) e
+    ∙ ap (λ (t : Bool). if t then column_view (get_or ms i d).least else listed (drop (i + 1) ms) c c) e
 
 pub listed_end : (ms : List Member) (i : ℕ) (c : Column) → length ms ≤ i → listed (drop i ms) c c ≡ c
 listed_end ms i c h = ap (λ (l : List Member). listed l c c) (drop_all i ms h)
@@ -238,25 +238,25 @@ module _ (ms : List Member) (p : (ℕ × ℕ) × (ℕ × ℕ)) (es : List Equali
   abbrev after : List Member
   after = map (with_least p.0 p.1) (ms ++ record { column = p.1; least = p.1 } ∷ [])
 
-  joins_as : (x y : Column) → column_shown p.0 ≡ least_in ms x → column_shown p.1 ≡ least_in ms y → (ColumnBefore (column_shown p.1) (column_shown p.0) → ⊥)
+  joins_as : (x y : Column) → column_view p.0 ≡ least_in ms x → column_view p.1 ≡ least_in ms y → (ColumnBefore (column_view p.1) (column_view p.0) → ⊥)
       → Linked (es ++ e ∷ []) x y → ((b : Column) → e.right ≡ of_column b → ((x ≡ e.left) × (y ≡ b)) ⊎ ((x ≡ b) × (y ≡ e.left)))
       → IsLabelling (es ++ e ∷ []) (least_in after)
   joins_as x y nx ny order joined sides =
       labels_like (es ++ e ∷ []) (λ c. replaced (least_in ms x) (least_in ms y) (least_in ms c)) (least_in after)
-      (λ c. least_replaced p.0 p.1 ms c ∙ ap (λ (z : Column). replaced z (column_shown p.1) (least_in ms c)) nx
+      (λ c. least_replaced p.0 p.1 ms c ∙ ap (λ (z : Column). replaced z (column_view p.1) (least_in ms c)) nx
       ∙ ap (λ (z : Column). replaced (least_in ms x) z (least_in ms c)) ny)
       (labels_join es (least_in ms) e x y known joined
-      (λ h. order (subst (λ (z : Column). ColumnBefore z (column_shown p.0)) (sym ny) (subst (λ (z : Column). ColumnBefore (least_in ms y) z) (sym nx) h)))
+      (λ h. order (subst (λ (z : Column). ColumnBefore z (column_view p.0)) (sym ny) (subst (λ (z : Column). ColumnBefore (least_in ms y) z) (sym nx) h)))
       sides)
 
-  pub joins : (left right : Column) (a b : ℕ × ℕ) → column_shown a ≡ least_in ms left → column_shown b ≡ least_in ms right → (p ≡ (a, b)) ⊎ (p ≡ (b, a))
-      → (ColumnBefore (column_shown p.1) (column_shown p.0) → ⊥) → e.left ≡ left → e.right ≡ of_column right → IsLabelling (es ++ e ∷ []) (least_in after)
+  pub joins : (left right : Column) (a b : ℕ × ℕ) → column_view a ≡ least_in ms left → column_view b ≡ least_in ms right → (p ≡ (a, b)) ⊎ (p ≡ (b, a))
+      → (ColumnBefore (column_view p.1) (column_view p.0) → ⊥) → e.left ≡ left → e.right ≡ of_column right → IsLabelling (es ++ e ∷ []) (least_in after)
   joins left right a b ea eb both order el er =
       let forwards : Linked (es ++ e ∷ []) left right = subst (λ (z : Column). Linked (es ++ e ∷ []) z right) el (forth (member_last e es) er same) in
       elim both [
-        | inl is ↦ joins_as left right (ap (λ (q : (ℕ × ℕ) × (ℕ × ℕ)). column_shown q.0) is ∙ ea) (ap (λ (q : (ℕ × ℕ) × (ℕ × ℕ)). column_shown q.1) is ∙ eb) order forwards
+        | inl is ↦ joins_as left right (ap (λ (q : (ℕ × ℕ) × (ℕ × ℕ)). column_view q.0) is ∙ ea) (ap (λ (q : (ℕ × ℕ) × (ℕ × ℕ)). column_view q.1) is ∙ eb) order forwards
             (λ d at. inl (sym el, same_side right d (sym er ∙ at)))
-        | inr is ↦ joins_as right left (ap (λ (q : (ℕ × ℕ) × (ℕ × ℕ)). column_shown q.0) is ∙ eb) (ap (λ (q : (ℕ × ℕ) × (ℕ × ℕ)). column_shown q.1) is ∙ ea) order (linked_back forwards)
+        | inr is ↦ joins_as right left (ap (λ (q : (ℕ × ℕ) × (ℕ × ℕ)). column_view q.0) is ∙ eb) (ap (λ (q : (ℕ × ℕ) × (ℕ × ℕ)). column_view q.1) is ∙ ea) order (linked_back forwards)
             (λ d at. inr (same_side right d (sym er ∙ at), sym el))
       ]
     where
@@ -269,7 +269,7 @@ written_back {A = A} xs ys n alike full =
     ap (λ (l : List A). take n (xs ++ l)) (drop_all (length xs) ys (omega (arith, alike))) ∙ ap (take n) (append-nil xs) ∙ take_all n xs (omega (arith, alike, full))
 
 pub labels_more : (es : List BoundEquality) (i : ℕ) (e : BoundEquality) (label : Column → Column) → i < length es → e ≡ get_or es i e
-    → IsLabelling (map equality_shown (take i es) ++ equality_shown e ∷ []) label → IsLabelling (map equality_shown (take (i + 1) es)) label
+    → IsLabelling (map equality_view (take i es) ++ equality_view e ∷ []) label → IsLabelling (map equality_view (take (i + 1) es)) label
 labels_more es i e label h is known =
     let more : take (i + 1) es ≡ take i es ++ e ∷ [] = take_more es i e h ∙ ap (λ (z : BoundEquality). take i es ++ z ∷ []) (sym is) in
-    subst (λ (l : List Equality). IsLabelling l label) (sym (ap (map equality_shown) more ∙ map-append equality_shown (take i es) (e ∷ []))) known
+    subst (λ (l : List Equality). IsLabelling l label) (sym (ap (map equality_view) more ∙ map-append equality_view (take i es) (e ∷ []))) known

@@ -17,7 +17,7 @@ use Rattle.query_bind.specs.Fits.{BoundInside}
 use Rattle.query_bind.specs.Measures.{AreSmall, added, most_u128}
 use Rattle.query_bind.specs.Names.{first_of}
 use Rattle.bound_query.specs.Parts.{sum_of_all}
-use Rattle.bound_query.specs.StoredParts.{column_shown, item_shown, items_shown, term_shown}
+use Rattle.bound_query.specs.StoredParts.{column_view, item_view, items_view, term_view}
 use Rattle.query_bind.specs.Tallies.{AreTallies, net, signed, tallies_in, tallies_size, tallies_sum, tally_size, tally_worth, term_worth}
 use Rattle.bound_query.specs.WeighedQuery.{ItemParts, item_parts, kept, key_parts, row_parts}
 use Rattle.bound_query.specs.Weights.{cap_of, column_size, column_weights, most_sum, part_of, table_in, terms_in, terms_size, worth_at}
@@ -83,7 +83,7 @@ module _ (item : ℕ) where
   tallies_worth worth (y ∷ ys) = by_test (y.column.0 == item) (tallies_worth worth ys)
     where
       by_test : (b : Bool) → total (map (tally_worth (at_item item (pos 0) worth)) ys) ≡ total (map (tally_worth worth) (tallies_in item ys))
-          → net y *ℤ cond b (worth (column_shown y.column)) (pos 0) +ℤ total (map (tally_worth (at_item item (pos 0) worth)) ys)
+          → net y *ℤ cond b (worth (column_view y.column)) (pos 0) +ℤ total (map (tally_worth (at_item item (pos 0) worth)) ys)
           ≡ total (map (tally_worth worth) (cond b (y ∷ tallies_in item ys) (tallies_in item ys)))
       by_test true h = ap (λ (z : ℤ). tally_worth worth y +ℤ z) h
       by_test false h =
@@ -107,7 +107,7 @@ module _ (item : ℕ) where
   tallies_sizes size (y ∷ ys) = by_test (y.column.0 == item) (tallies_sizes size ys)
     where
       by_test : (b : Bool) → sum_of_all (map (tally_size (at_item item 0 size)) ys) ≡ sum_of_all (map (tally_size size) (tallies_in item ys))
-          → (y.plus + y.minus) * cond b (size (column_shown y.column)) 0 + sum_of_all (map (tally_size (at_item item 0 size)) ys)
+          → (y.plus + y.minus) * cond b (size (column_view y.column)) 0 + sum_of_all (map (tally_size (at_item item 0 size)) ys)
           ≡ sum_of_all (map (tally_size size) (cond b (y ∷ tallies_in item ys) (tallies_in item ys)))
       by_test true h = ap (λ (n : ℕ). tally_size size y + n) h
       by_test false h = omega (arith, h)
@@ -130,13 +130,13 @@ module _ (item : ℕ) where
       by_test true h = refl
       by_test false h = h
 
-  tallies_kept : (ys : List Tally) (parts : List ℤ) → kept (tallies_in item ys) parts ≡ kept_if (first_of (λ (y : Tally). here (column_shown y.column)) ys) parts
+  tallies_kept : (ys : List Tally) (parts : List ℤ) → kept (tallies_in item ys) parts ≡ kept_if (first_of (λ (y : Tally). here (column_view y.column)) ys) parts
   tallies_kept [] parts = refl
   tallies_kept (y ∷ ys) parts = by_test (y.column.0 == item) (tallies_kept ys parts)
     where
-      by_test : (b : Bool) → kept (tallies_in item ys) parts ≡ kept_if (first_of (λ (z : Tally). here (column_shown z.column)) ys) parts
+      by_test : (b : Bool) → kept (tallies_in item ys) parts ≡ kept_if (first_of (λ (z : Tally). here (column_view z.column)) ys) parts
           → kept (cond b (y ∷ tallies_in item ys) (tallies_in item ys)) parts
-          ≡ kept_if (option_or (cond b (Some fault.NoMemory) None) (first_of (λ (z : Tally). here (column_shown z.column)) ys)) parts
+          ≡ kept_if (option_or (cond b (Some fault.NoMemory) None) (first_of (λ (z : Tally). here (column_view z.column)) ys)) parts
       by_test true h = refl
       by_test false h = h
 
@@ -161,10 +161,10 @@ module _ (tables : List Table) (items : List Item) where
 
   tally_small : (row : ℕ) (y : Tally) → nat_abs (tally_worth (worth_at tables items row) y) ≤ tally_size (column_size tables items) y
   tally_small row y =
-      let w = worth_at tables items row (column_shown y.column) in
+      let w = worth_at tables items row (column_view y.column) in
       let product : nat_abs (net y *ℤ w) ≡ nat_abs (net y) * nat_abs w = unsigned_abs-mul (net y) w in
-      let below = mul-le (nat_abs (net y)) (nat_abs w) (y.plus + y.minus) (column_size tables items (column_shown y.column)) (net_small y)
-      (column_bounds tables items row (column_shown y.column)) in
+      let below = mul-le (nat_abs (net y)) (nat_abs w) (y.plus + y.minus) (column_size tables items (column_view y.column)) (net_small y)
+      (column_bounds tables items row (column_view y.column)) in
       omega (arith, product, below)
 
   tallies_small : (row : ℕ) (ys : List Tally) → nat_abs (tallies_sum tables items row ys) ≤ tallies_size tables items ys
@@ -208,9 +208,9 @@ module _ (tables : List Table) (items : List Item) where
   -- its item is there, each row of its column has one of these weights, and this is the most that they can add
   pub record IsMeasured (y : Tally) (weights : List ℤ) (size : ℕ) : Type 0 where
     pub there : y.column.0 < length items
-    pub values : map Some weights ≡ column_weights tables items (column_shown y.column)
-    pub measured : size ≡ min ((y.plus + y.minus) * column_size tables items (column_shown y.column)) most_u128
-    pub sound : column_fault tables items (column_shown y.column) ≡ None
+    pub values : map Some weights ≡ column_weights tables items (column_view y.column)
+    pub measured : size ≡ min ((y.plus + y.minus) * column_size tables items (column_view y.column)) most_u128
+    pub sound : column_fault tables items (column_view y.column) ≡ None
 
 -- ---- what is known of the items after some tallies
 
@@ -230,7 +230,7 @@ module _ (tables : List Table) (items : List Item) (d : Bool) where
   -- the sum of the sizes, cut to 128 bits, and what the items have if the sum is in range
   pub record HasWeighed (ys : List Tally) (sum : ℕ) (list : List ItemParts) : Type 0 where
     pub cut : sum ≡ min most_u128 (tallies_size tables items ys)
-    pub sound : first_of (λ (y : Tally). column_fault tables items (column_shown y.column)) ys ≡ None
+    pub sound : first_of (λ (y : Tally). column_fault tables items (column_view y.column)) ys ≡ None
     pub count : length list ≡ length items
     pub parts : tallies_size tables items ys ≤ most_sum → (item : ℕ) (e : ItemParts) → item < length items → get_or list item e ≡ parts_after item ys
 
@@ -255,9 +255,9 @@ module _ (tables : List Table) (items : List Item) (d : Bool) where
   part_there (z ∷ zs) n i h = get_or-map-range_with_len (part_after (z ∷ zs)) 1 n i (i + 1) (pos 0) h (omega arith)
 
   part_push : (row : ℕ) (zs : List Tally) (y : Tally)
-      → part_after (zs ++ y ∷ []) row ≡ part_after zs row +ℤ signed d (net y) *ℤ worth_at tables items row (column_shown y.column)
+      → part_after (zs ++ y ∷ []) row ≡ part_after zs row +ℤ signed d (net y) *ℤ worth_at tables items row (column_view y.column)
   part_push row zs y =
-      let w = worth_at tables items row (column_shown y.column) in
+      let w = worth_at tables items row (column_view y.column) in
       ap (signed d) (total_push (tally_worth (worth_at tables items row)) zs y) ∙ signed_add d (tallies_sum tables items row zs) (net y *ℤ w)
       ∙ ap (λ (z : ℤ). part_after zs row +ℤ z) (sym (signed_times d (net y) w))
 
@@ -277,9 +277,9 @@ module _ (tables : List Table) (items : List Item) (d : Bool) where
     cut_next : next ≡ min most_u128 (tallies_size tables items (ys ++ y ∷ []))
     cut_next = omega (arith, so_far.cut, read.measured, size_push ys y)
 
-    sound_next : first_of (λ (z : Tally). column_fault tables items (column_shown z.column)) (ys ++ y ∷ []) ≡ None
+    sound_next : first_of (λ (z : Tally). column_fault tables items (column_view z.column)) (ys ++ y ∷ []) ≡ None
     sound_next =
-        let f : Tally → Option BindFault = λ (z : Tally). column_fault tables items (column_shown z.column) in
+        let f : Tally → Option BindFault = λ (z : Tally). column_fault tables items (column_view z.column) in
         first_of_append f ys (y ∷ []) ∙ ap (λ (o : Option BindFault). option_or o (option_or (f y) None)) so_far.sound ∙ ap (λ (o : Option BindFault). option_or o None) read.sound
 
     weights_long : length weights ≡ rows_of item
@@ -287,7 +287,7 @@ module _ (tables : List Table) (items : List Item) (d : Bool) where
         let f : List (List ℕ) → Option ℤ = λ row. weight_of (get_or row y.column.1 []) in
         sym (length-map weights (λ (z : ℤ). let o : Option ℤ = Some z in o)) ∙ ap length read.values ∙ length-map (table_in tables items item).rows f
 
-    weight_there : (i : ℕ) → i < rows_of item → get_or weights i (pos 0) ≡ worth_at tables items (i + 1) (column_shown y.column)
+    weight_there : (i : ℕ) → i < rows_of item → get_or weights i (pos 0) ≡ worth_at tables items (i + 1) (column_view y.column)
     weight_there i h =
         let long = weights_long in
         let at : Some (get_or weights i (pos 0)) ≡ weight_of (field_at (table_in tables items item) (i + 1 - 1) y.column.1) =
@@ -329,7 +329,7 @@ module _ (tables : List Table) (items : List Item) (d : Bool) where
       pub parts_small : AreSmall (signed d (net y)) before.parts weights
       parts_small i h =
           let inside : i < rows_of item = omega (arith, h, weights_long) in
-          let w = worth_at tables items (i + 1) (column_shown y.column) in
+          let w = worth_at tables items (i + 1) (column_view y.column) in
           let more : signed d (net y) *ℤ get_or weights i (pos 0) ≡ signed d (net y *ℤ w) =
           ap (λ (z : ℤ). signed d (net y) *ℤ z) (weight_there i inside) ∙ signed_times d (net y) w in
           let part : get_or before.parts i (pos 0) ≡ part_after (tallies_in item ys) (i + 1) = part_before i inside in
@@ -400,16 +400,16 @@ module _ (tables : List Table) (items : List Item) (key : OrderKey) (ys : List T
   pub tallied_size : tallies_size tables items ys ≡ terms_size tables items key.terms
   tallied_size = sym (all.size (column_size tables items)) ∙ sum_of_terms tables items key.terms
 
-  pub tallied_fault : first_of (λ (y : Tally). column_fault tables items (column_shown y.column)) ys ≡ key_fault tables items key
+  pub tallied_fault : first_of (λ (y : Tally). column_fault tables items (column_view y.column)) ys ≡ key_fault tables items key
   tallied_fault = sym (all.fault (column_fault tables items))
 
   -- the fault of a column is that of the key, if no column before it has one
   pub tallied_tells : (i : ℕ) (d : Tally) (e : BindFault) → i < length ys
-      → first_of (λ (y : Tally). column_fault tables items (column_shown y.column)) (take i ys) ≡ None
-      → Tells (column_fault tables items (column_shown (get_or ys i d).column)) e → Tells (key_fault tables items key) e
+      → first_of (λ (y : Tally). column_fault tables items (column_view y.column)) (take i ys) ≡ None
+      → Tells (column_fault tables items (column_view (get_or ys i d).column)) e → Tells (key_fault tables items key) e
   tallied_tells i d e h before (inl m) = inl m
   tallied_tells i d e h before (inr f) =
-      inr (sym tallied_fault ∙ first_at (λ (y : Tally). column_fault tables items (column_shown y.column)) ys i d e h before f)
+      inr (sym tallied_fault ∙ first_at (λ (y : Tally). column_fault tables items (column_view y.column)) ys i d e h before f)
 
   tallied_cap : (item : ℕ) → tallies_size tables items (tallies_in item ys) ≡ cap_of tables items item key
   tallied_cap item =
@@ -446,26 +446,26 @@ module _ (tables : List Table) (items : List Item) (key : OrderKey) (ys : List T
       known.parts fit i none inside ∙ tallied_parts i ∙ sym (get_or-map-range_with_len (item_parts tables items key) 0 (length items) i i none inside (omega arith)))
 
 -- the tallies of a slice of the terms are those of the terms
-pub tallied_slice : {stored slice : List BoundTerm} {ys made : List Tally} → slice ≡ stored → ys ≡ made → AreTallies (map term_shown slice) made → AreTallies (map term_shown stored) ys
+pub tallied_slice : {stored slice : List BoundTerm} {ys made : List Tally} → slice ≡ stored → ys ≡ made → AreTallies (map term_view slice) made → AreTallies (map term_view stored) ys
 tallied_slice {stored = stored} {made = made} is same all =
-    subst (λ (l : List Tally). AreTallies (map term_shown stored) l) (sym same) (subst (λ (l : List BoundTerm). AreTallies (map term_shown l) made) is all)
+    subst (λ (l : List Tally). AreTallies (map term_view stored) l) (sym same) (subst (λ (l : List BoundTerm). AreTallies (map term_view l) made) is all)
 
 -- ---- the columns of tallies exist
 
 pub tally_inside : (tables : List Table) (items : List BoundItem) (stored : List BoundTerm) (ys : List Tally)
-    → AllByRecursion (λ (t : BoundTerm). BoundInside tables items t.column) stored → AreTallies (map term_shown stored) ys
+    → AllByRecursion (λ (t : BoundTerm). BoundInside tables items t.column) stored → AreTallies (map term_view stored) ys
     → (i : ℕ) (d : Tally) → i < length ys → BoundInside tables items (get_or ys i d).column
 tally_inside tables items stored ys inside all i d h =
     let y = get_or ys i d in
     let n = all.named y (at_member ys i d h) in
-    let u = member_unmap term_shown n.0 stored n.1 in
-    let same : column_shown u.0.column ≡ column_shown y.column = sym (ap (λ (t : Term). t.column) u.2) ∙ n.2 in
+    let u = member_unmap term_view n.0 stored n.1 in
+    let same : column_view u.0.column ≡ column_view y.column = sym (ap (λ (t : Term). t.column) u.2) ∙ n.2 in
     let pair : u.0.column ≡ y.column = ap (λ (c : Column). (c.item, c.place)) same in
     subst (λ (c : ℕ × ℕ). BoundInside tables items c) pair (all_member (λ (t : BoundTerm). BoundInside tables items t.column) u.0 stored inside u.1)
 
 module _ (tables : List Table) (items : List BoundItem) (c : ℕ × ℕ) (r : BoundItem) (h : BoundInside tables items c) where
-  stored_at : get_or (items_shown items) c.0 (record { table = 0; alias = [] }) ≡ item_shown (get_or items c.0 r)
-  stored_at = get_or-map item_shown items c.0 r (record { table = 0; alias = [] }) h.item
+  stored_at : get_or (items_view items) c.0 (record { table = 0; alias = [] }) ≡ item_view (get_or items c.0 r)
+  stored_at = get_or-map item_view items c.0 r (record { table = 0; alias = [] }) h.item
 
   pub inside_table : (get_or items c.0 r).table < length tables
   inside_table = subst (λ (i : Item). i.table < length tables) stored_at h.table

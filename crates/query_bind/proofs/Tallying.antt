@@ -9,7 +9,7 @@ use Rattle.anyk_model.specs.Query.{Column, Term, total}
 use Rattle.rankings.specs.Order.{IsMember}
 use Rattle.query_bind.specs.Names.{first_of}
 use Rattle.bound_query.specs.Parts.{sum_of_all}
-use Rattle.bound_query.specs.StoredParts.{column_shown}
+use Rattle.bound_query.specs.StoredParts.{column_view}
 use Rattle.query_bind.specs.Tallies.{AreTallies, StandOnce, columns_of, tally_size, tally_worth, term_worth, with_one}
 use Rattle.query_bind.specs.declared.fault.BindFault.{BindFault}
 use Rattle.query_bind.specs.declared.tallies.Tally.{Tally}
@@ -100,20 +100,20 @@ one_column true y = refl
 one_column false y = refl
 
 one_worth : (worth : Column → ℤ) (b : Bool) (y : Tally)
-    → tally_worth worth (with_one b y) ≡ tally_worth worth y +ℤ (if b then neg_ℤ (worth (column_shown y.column)) else worth (column_shown y.column))
-one_worth worth true y = net_less y.plus y.minus (worth (column_shown y.column))
-one_worth worth false y = net_more y.plus y.minus (worth (column_shown y.column))
+    → tally_worth worth (with_one b y) ≡ tally_worth worth y +ℤ (if b then neg_ℤ (worth (column_view y.column)) else worth (column_view y.column))
+one_worth worth true y = net_less y.plus y.minus (worth (column_view y.column))
+one_worth worth false y = net_more y.plus y.minus (worth (column_view y.column))
 
 times_more : (n s : ℕ) → (n + 1) * s ≡ n * s + s
 times_more n s = omega arith
 
-one_size : (size : Column → ℕ) (b : Bool) (y : Tally) → tally_size size (with_one b y) ≡ tally_size size y + size (column_shown y.column)
+one_size : (size : Column → ℕ) (b : Bool) (y : Tally) → tally_size size (with_one b y) ≡ tally_size size y + size (column_view y.column)
 one_size size true y =
     let e : y.plus + (y.minus + 1) ≡ (y.plus + y.minus) + 1 = omega arith in
-    ap (λ (n : ℕ). n * size (column_shown y.column)) e ∙ times_more (y.plus + y.minus) (size (column_shown y.column))
+    ap (λ (n : ℕ). n * size (column_view y.column)) e ∙ times_more (y.plus + y.minus) (size (column_view y.column))
 one_size size false y =
     let e : (y.plus + 1) + y.minus ≡ (y.plus + y.minus) + 1 = omega arith in
-    ap (λ (n : ℕ). n * size (column_shown y.column)) e ∙ times_more (y.plus + y.minus) (size (column_shown y.column))
+    ap (λ (n : ℕ). n * size (column_view y.column)) e ∙ times_more (y.plus + y.minus) (size (column_view y.column))
 
 pub tallies_none : AreTallies [] []
 tallies_none = record { worth = λ worth. refl; size = λ size. refl; fault = λ fault_at. refl; named = λ y m. absurd m }
@@ -122,19 +122,19 @@ module _ (terms : List Term) (ys : List Tally) (t : Term) (so_far : AreTallies t
   abbrev more : List Term
   more = terms ++ t ∷ []
 
-  named_more : (y : Tally) → IsMember y ys → (s : Term) × IsMember s more × (s.column ≡ column_shown y.column)
+  named_more : (y : Tally) → IsMember y ys → (s : Term) × IsMember s more × (s.column ≡ column_view y.column)
   named_more y m = let n = so_far.named y m in (n.0, member_left n.0 terms (t ∷ []) n.1, n.2)
 
   -- a column that was named before
-  pub tallies_again : (j : ℕ) (d : Tally) → j < length ys → column_shown (get_or ys j d).column ≡ t.column
+  pub tallies_again : (j : ℕ) (d : Tally) → j < length ys → column_view (get_or ys j d).column ≡ t.column
       → AreTallies more (set ys j (with_one t.minus (get_or ys j d)))
   tallies_again j d h same =
       let old = get_or ys j d in
       let new = with_one t.minus old in
-      let column : column_shown new.column ≡ column_shown old.column = ap column_shown (one_column t.minus old) in
+      let column : column_view new.column ≡ column_view old.column = ap column_view (one_column t.minus old) in
       record {
         worth = λ worth.
-            let value : (if t.minus then neg_ℤ (worth (column_shown old.column)) else worth (column_shown old.column)) ≡ term_worth worth t =
+            let value : (if t.minus then neg_ℤ (worth (column_view old.column)) else worth (column_view old.column)) ≡ term_worth worth t =
             ap (λ (c : Column). if t.minus then neg_ℤ (worth c) else worth c) same in
             total_push (term_worth worth) terms t ∙ ap (λ (z : ℤ). z +ℤ term_worth worth t) (so_far.worth worth)
             ∙ sym (total_set (tally_worth worth) ys j d new (term_worth worth t) h (one_worth worth t.minus old ∙ ap (λ (z : ℤ). tally_worth worth old +ℤ z) value));
@@ -142,14 +142,14 @@ module _ (terms : List Term) (ys : List Tally) (t : Term) (so_far : AreTallies t
             sum_push (λ (s : Term). size s.column) terms t ∙ ap (λ (n : ℕ). n + size t.column) (so_far.size size)
             ∙ sym (sum_set (tally_size size) ys j d new (size t.column) h (one_size size t.minus old ∙ ap (λ (c : Column). tally_size size old + size c) same));
         fault = λ fault_at.
-            let f : Tally → Option BindFault = λ (y : Tally). fault_at (column_shown y.column) in
+            let f : Tally → Option BindFault = λ (y : Tally). fault_at (column_view y.column) in
             first_of_append (λ (s : Term). fault_at s.column) terms (t ∷ [])
             ∙ ap (λ (o : Option BindFault). option_or o (option_or (fault_at t.column) None)) (so_far.fault fault_at)
             ∙ ap (option_or (first_of f ys)) (or_none (fault_at t.column) ∙ ap fault_at (sym same))
             ∙ first_again f ys j d h ∙ sym (first_set f ys j d new (ap fault_at column));
         named = λ y m. elim (member_set y ys j new m) [
           | inl old_one ↦ named_more y old_one
-          | inr e ↦ (t, member_last t terms, sym same ∙ sym column ∙ ap (λ (z : Tally). column_shown z.column) (sym e))
+          | inr e ↦ (t, member_last t terms, sym same ∙ sym column ∙ ap (λ (z : Tally). column_view z.column) (sym e))
         ];
       }
     where
@@ -158,37 +158,37 @@ module _ (terms : List Term) (ys : List Tally) (t : Term) (so_far : AreTallies t
       or_none (Some e) = refl
 
   -- a column that is named for the first time
-  pub tallies_first : (fresh : Tally) → column_shown fresh.column ≡ t.column → fresh.plus ≡ 0 → fresh.minus ≡ 0
+  pub tallies_first : (fresh : Tally) → column_view fresh.column ≡ t.column → fresh.plus ≡ 0 → fresh.minus ≡ 0
       → AreTallies more (ys ++ with_one t.minus fresh ∷ [])
   tallies_first fresh same no_plus no_minus =
       let new = with_one t.minus fresh in
-      let column : column_shown new.column ≡ column_shown fresh.column = ap column_shown (one_column t.minus fresh) in
+      let column : column_view new.column ≡ column_view fresh.column = ap column_view (one_column t.minus fresh) in
       record {
         worth = λ worth.
-            let value : (if t.minus then neg_ℤ (worth (column_shown fresh.column)) else worth (column_shown fresh.column)) ≡ term_worth worth t =
+            let value : (if t.minus then neg_ℤ (worth (column_view fresh.column)) else worth (column_view fresh.column)) ≡ term_worth worth t =
             ap (λ (c : Column). if t.minus then neg_ℤ (worth c) else worth c) same in
             let none : tally_worth worth fresh ≡ pos 0 =
-            ap (λ (n : ℕ). (pos n -ℤ pos fresh.minus) *ℤ worth (column_shown fresh.column)) no_plus
-            ∙ ap (λ (n : ℕ). (pos 0 -ℤ pos n) *ℤ worth (column_shown fresh.column)) no_minus ∙ zero-*ℤ (worth (column_shown fresh.column)) in
+            ap (λ (n : ℕ). (pos n -ℤ pos fresh.minus) *ℤ worth (column_view fresh.column)) no_plus
+            ∙ ap (λ (n : ℕ). (pos 0 -ℤ pos n) *ℤ worth (column_view fresh.column)) no_minus ∙ zero-*ℤ (worth (column_view fresh.column)) in
             let one : tally_worth worth new ≡ term_worth worth t =
             one_worth worth t.minus fresh ∙ ap (λ (z : ℤ). tally_worth worth fresh +ℤ z) value ∙ ap (λ (z : ℤ). z +ℤ term_worth worth t) none ∙ left_zero (term_worth worth t) in
             total_push (term_worth worth) terms t ∙ ap (λ (z : ℤ). z +ℤ term_worth worth t) (so_far.worth worth)
             ∙ ap (λ (z : ℤ). total (map (tally_worth worth) ys) +ℤ z) (sym one) ∙ sym (total_push (tally_worth worth) ys new);
         size = λ size.
             let zeros : fresh.plus + fresh.minus ≡ 0 = omega (arith, no_plus, no_minus) in
-            let none : tally_size size fresh ≡ 0 = ap (λ (n : ℕ). n * size (column_shown fresh.column)) zeros ∙ no_times (size (column_shown fresh.column)) in
-            let value : size (column_shown fresh.column) ≡ size t.column = ap size same in
+            let none : tally_size size fresh ≡ 0 = ap (λ (n : ℕ). n * size (column_view fresh.column)) zeros ∙ no_times (size (column_view fresh.column)) in
+            let value : size (column_view fresh.column) ≡ size t.column = ap size same in
             let one : tally_size size new ≡ size t.column = omega (arith, one_size size t.minus fresh, none, value) in
             sum_push (λ (s : Term). size s.column) terms t ∙ ap (λ (n : ℕ). n + size t.column) (so_far.size size)
             ∙ ap (λ (n : ℕ). sum_of_all (map (tally_size size) ys) + n) (sym one) ∙ sym (sum_push (tally_size size) ys new);
         fault = λ fault_at.
-            let f : Tally → Option BindFault = λ (y : Tally). fault_at (column_shown y.column) in
+            let f : Tally → Option BindFault = λ (y : Tally). fault_at (column_view y.column) in
             first_of_append (λ (s : Term). fault_at s.column) terms (t ∷ [])
             ∙ ap (λ (o : Option BindFault). option_or o (option_or (fault_at t.column) None)) (so_far.fault fault_at)
             ∙ ap (λ (c : Column). option_or (first_of f ys) (option_or (fault_at c) None)) (sym (column ∙ same)) ∙ sym (first_of_append f ys (new ∷ []));
         named = λ y m. elim (member_parts y new ys m) [
           | inl old_one ↦ named_more y old_one
-          | inr e ↦ (t, member_last t terms, sym same ∙ sym column ∙ ap (λ (z : Tally). column_shown z.column) (sym e))
+          | inr e ↦ (t, member_last t terms, sym same ∙ sym column ∙ ap (λ (z : Tally). column_view z.column) (sym e))
         ];
       }
     where

@@ -7,7 +7,7 @@ use Rattle.anyk_model.specs.Query.{Column, Equality, Side, of_column, of_constan
 use Rattle.rankings.specs.Order.{IsAscending, IsMember}
 use Rattle.bound_query.specs.Classes.{AreVariables, ColumnBefore, IsFixedTo, IsLeast, IsShared, NumberBefore, variable_at}
 use Rattle.query_bind.specs.Labels.{HasNoPlace, IsFirstPlace, IsLabelling, is_same, least_in, listed}
-use Rattle.bound_query.specs.StoredParts.{column_shown, equality_shown}
+use Rattle.bound_query.specs.StoredParts.{column_view, equality_view}
 use Rattle.query_bind.specs.Variables.{HavePlaces, is_constant, is_elsewhere, is_fixed, is_fixing, is_other, is_variable}
 use Rattle.bound_query.specs.declared.bound.BoundEquality.{BoundEquality}
 use Rattle.query_bind.specs.declared.classes.Member.{Member}
@@ -21,12 +21,12 @@ constant_is (of_column c) h = absurd (let e : false ≡ true = h in cc)
 constant_is (of_constant bytes) h = (bytes, refl)
 
 -- a column is not listed, or a member has it
-listed_or : (ms : List Member) (c none : Column) → (listed ms c none ≡ none) ⊎ ((m : Member) × IsMember m ms × (column_shown m.column ≡ c))
+listed_or : (ms : List Member) (c none : Column) → (listed ms c none ≡ none) ⊎ ((m : Member) × IsMember m ms × (column_view m.column ≡ c))
 listed_or [] c none = inl refl
-listed_or (m ∷ ms) c none = elim (same_tells (column_shown m.column) c) [
+listed_or (m ∷ ms) c none = elim (same_tells (column_view m.column) c) [
   | inl p ↦ inr (m, inl refl, p.1)
   | inr p ↦
-      let miss = ap (λ (b : Bool). if b then column_shown m.least else listed ms c none) p.0 in
+      let miss = ap (λ (b : Bool). if b then column_view m.least else listed ms c none) p.0 in
       elim (listed_or ms c none) [ inl e ↦ inl (miss ∙ e) | inr q ↦ inr (q.0, inr q.1, q.2) ]
 ]
 
@@ -40,32 +40,32 @@ module _ (es : List Equality) (label : Column → Column) (known : IsLabelling e
       let at : c ≡ label d = sym is ∙ known.complete c d link in
       known.least d (subst (λ (z : Column). ColumnBefore d z) at before)
 
-module _ (ms : List Member) (stored : List BoundEquality) (known : IsLabelling (map equality_shown stored) (least_in ms)) where
+module _ (ms : List Member) (stored : List BoundEquality) (known : IsLabelling (map equality_view stored) (least_in ms)) where
   abbrev es : List Equality
-  es = map equality_shown stored
+  es = map equality_view stored
 
   abbrev label : Column → Column
   label = least_in ms
 
   fixed_not_free : (c : Column) → label c ≡ c → is_fixed ms stored c ≡ true → ((bytes : List ℕ) → IsFixedTo es c bytes → ⊥) → ⊥
   fixed_not_free c own h free =
-      let found = any_member (λ (e : BoundEquality). is_fixing label c (equality_shown e)) stored h in
-      let e = equality_shown found.0 in
+      let found = any_member (λ (e : BoundEquality). is_fixing label c (equality_view e)) stored h in
+      let e = equality_view found.0 in
       let parts = and_parts (is_constant e.right) (is_same (label e.left) c) found.2 in
       let constant = constant_is e.right parts.0 in
       free constant.0 (record {
         equality = e;
-        member = member_map equality_shown found.0 stored found.1;
+        member = member_map equality_view found.0 stored found.1;
         constant = constant.1;
         linked = known.sound c e.left (own ∙ sym (same_true (label e.left) c parts.1));
       })
 
   fixing_found : (c : Column) (bytes : List ℕ) → label c ≡ c → IsFixedTo es c bytes → is_fixed ms stored c ≡ true
   fixing_found c bytes own f =
-      let e = member_unmap equality_shown f.equality stored f.member in
-      let shown : equality_shown e.0 ≡ f.equality = sym e.2 in
+      let e = member_unmap equality_view f.equality stored f.member in
+      let shown : equality_view e.0 ≡ f.equality = sym e.2 in
       let link : label f.equality.left ≡ c = sym (known.complete c f.equality.left f.linked) ∙ own in
-      member_any (λ (x : BoundEquality). is_fixing label c (equality_shown x)) e.0 stored e.1
+      member_any (λ (x : BoundEquality). is_fixing label c (equality_view x)) e.0 stored e.1
       (ap (is_fixing label c) shown
       ∙ and_from (is_constant f.equality.right) (is_same (label f.equality.left) c) (ap is_constant f.constant) (true_same (label f.equality.left) c link))
 
@@ -75,8 +75,8 @@ module _ (ms : List Member) (stored : List BoundEquality) (known : IsLabelling (
       let inner = and_parts (is_same (label c) c) (is_elsewhere ms c) outer.0 in
       let own : label c ≡ c = same_true (label c) c inner.0 in
       let unfixed : is_fixed ms stored c ≡ false = not-true (is_fixed ms stored c) outer.1 in
-      let found = any_member (λ (m : Member). is_other label c (column_shown m.column)) ms inner.1 in
-      let other = column_shown found.0.column in
+      let found = any_member (λ (m : Member). is_other label c (column_view m.column)) ms inner.1 in
+      let other = column_view found.0.column in
       let tests = and_parts (is_same (label other) c) (not (other.item == c.item)) found.2 in (
         record {
           free = λ bytes f. let e : true ≡ false = sym (fixing_found c bytes own f) ∙ unfixed in absurd (cc);
@@ -99,22 +99,22 @@ module _ (ms : List Member) (stored : List BoundEquality) (known : IsLabelling (
       let test : is_other label c s.other ≡ true = and_from (is_same (label s.other) c) (not (s.other.item == c.item)) (true_same (label s.other) c there) apart in
       let elsewhere : is_elsewhere ms c ≡ true = elim (listed_or ms s.other s.other) [
         | inl e ↦ absurd (s.elsewhere (ap (λ (z : Column). z.item) (sym e ∙ there)))
-        | inr p ↦ member_any (λ (m : Member). is_other label c (column_shown m.column)) p.0 ms p.1 (ap (is_other label c) p.2 ∙ test)
+        | inr p ↦ member_any (λ (m : Member). is_other label c (column_view m.column)) p.0 ms p.1 (ap (is_other label c) p.2 ∙ test)
       ] in
       and_from (is_same (label c) c && is_elsewhere ms c) (not (is_fixed ms stored c)) (and_from (is_same (label c) c) (is_elsewhere ms c) (true_same (label c) c own) elsewhere)
       (not_from_false (is_fixed ms stored c) unfixed)
 
   -- the variables, among ascending columns that include all columns of variables
-  pub variables_found : (columns : List (ℕ × ℕ)) → IsAscending ColumnBefore (map column_shown columns) → ((c : Column) → IsShared es c → IsMember c (map column_shown columns))
-      → AreVariables es (map column_shown (filter (λ c. is_variable ms stored (column_shown c)) columns))
+  pub variables_found : (columns : List (ℕ × ℕ)) → IsAscending ColumnBefore (map column_view columns) → ((c : Column) → IsShared es c → IsMember c (map column_view columns))
+      → AreVariables es (map column_view (filter (λ c. is_variable ms stored (column_view c)) columns))
   variables_found columns ascending all =
-      let same : map column_shown (filter (λ c. is_variable ms stored (column_shown c)) columns) ≡ filter (is_variable ms stored) (map column_shown columns) =
-      map_filter column_shown (is_variable ms stored) columns in
+      let same : map column_view (filter (λ c. is_variable ms stored (column_view c)) columns) ≡ filter (is_variable ms stored) (map column_view columns) =
+      map_filter column_view (is_variable ms stored) columns in
       subst (λ (l : List Column). AreVariables es l) (sym same) (record {
-        ascending = ascending_filter ColumnBefore (is_variable ms stored) (map column_shown columns) ascending;
+        ascending = ascending_filter ColumnBefore (is_variable ms stored) (map column_view columns) ascending;
         members = λ c. (
-          λ m. variable_sound c (kept_member (is_variable ms stored) c (map column_shown columns) m).1,
-          λ h. member_kept (is_variable ms stored) c (map column_shown columns) (all c h.0) (variable_found c h.0 h.1),
+          λ m. variable_sound c (kept_member (is_variable ms stored) c (map column_view columns) m).1,
+          λ h. member_kept (is_variable ms stored) c (map column_view columns) (all c h.0) (variable_found c h.0 h.1),
         );
       })
 
@@ -168,5 +168,5 @@ module _ (label : Column → Column) (variables : List Column) (item width : ℕ
   }
 
 -- a variable among stored ones
-pub variable_shown : (vs : List (ℕ × ℕ)) (n : ℕ) (d : ℕ × ℕ) → n < length vs → column_shown (get_or vs n d) ≡ variable_at (map column_shown vs) n
-variable_shown vs n d h = sym (get_or-map column_shown vs n d (record { item = 0; place = 0 }) h)
+pub variable_shown : (vs : List (ℕ × ℕ)) (n : ℕ) (d : ℕ × ℕ) → n < length vs → column_view (get_or vs n d) ≡ variable_at (map column_view vs) n
+variable_shown vs n d h = sym (get_or-map column_view vs n d (record { item = 0; place = 0 }) h)

@@ -2,7 +2,7 @@
 use Rattle.std.specs.Prelude.{◌≡◌, ◌==◌, ◌&&◌, ℕ, ◌<◌, Bool, if◌then◌else◌, List, [], ◌∷◌}
 use Rattle.anyk_model.specs.Query.{Column, Equality}
 use Rattle.bound_query.specs.Classes.{Linked, ColumnBefore}
-use Rattle.bound_query.specs.StoredParts.{column_shown}
+use Rattle.bound_query.specs.StoredParts.{column_view}
 use Rattle.query_bind.specs.declared.classes.Member.{Member}
 
 -- each column has the least of its class as its label
@@ -23,7 +23,7 @@ replaced new old c = if is_same c old then new else c
 abbrev pub listed : List Member → Column → Column → Column
 listed [] c none = none
 listed (m ∷ members) c none = if is_same
-    (column_shown m.column) c then column_shown m.least else listed members c none
+    (column_view m.column) c then column_view m.least else listed members c none
 
 -- a column that is not listed is the least of its class itself
 abbrev pub least_in : List Member → Column → Column

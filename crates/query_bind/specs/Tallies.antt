@@ -5,7 +5,7 @@ use Rattle.anyk_model.specs.Query.{Item, Column, Term, total}
 use Rattle.rankings.specs.Order.{IsMember}
 use Rattle.query_bind.specs.Names.{first_of}
 use Rattle.bound_query.specs.Parts.{sum_of_all}
-use Rattle.bound_query.specs.StoredParts.{column_shown}
+use Rattle.bound_query.specs.StoredParts.{column_view}
 use Rattle.bound_query.specs.Weights.{column_size, worth_at}
 use Rattle.query_bind.specs.declared.fault.BindFault.{BindFault}
 use Rattle.query_bind.specs.declared.tallies.Tally.{Tally}
@@ -25,11 +25,11 @@ abbrev pub term_worth : (Column → ℤ) → Term → ℤ
 term_worth worth t = if t.minus then neg_ℤ (worth t.column) else worth t.column
 
 abbrev pub tally_worth : (Column → ℤ) → Tally → ℤ
-tally_worth worth y = net y *ℤ worth (column_shown y.column)
+tally_worth worth y = net y *ℤ worth (column_view y.column)
 
 -- the size of a tally, if each column has this size
 abbrev pub tally_size : (Column → ℕ) → Tally → ℕ
-tally_size size y = (y.plus + y.minus) * size (column_shown y.column)
+tally_size size y = (y.plus + y.minus) * size (column_view y.column)
 
 -- tallies that add the same as some terms, whatever the columns are worth, and that have no other
 -- columns
@@ -41,9 +41,9 @@ pub record AreTallies (terms : List Term) (tallies : List Tally) : Type 0 where
       ≡ sum_of_all (map (tally_size size) tallies)
   pub fault : (fault_at : Column → Option BindFault)
       → first_of (λ (t : Term). fault_at t.column) terms
-      ≡ first_of (λ (y : Tally). fault_at (column_shown y.column)) tallies
+      ≡ first_of (λ (y : Tally). fault_at (column_view y.column)) tallies
   pub named : (y : Tally) → IsMember y tallies
-      → (t : Term) × IsMember t terms × (t.column ≡ column_shown y.column)
+      → (t : Term) × IsMember t terms × (t.column ≡ column_view y.column)
 
 -- the columns of tallies
 abbrev pub columns_of : List Tally → List (ℕ × ℕ)

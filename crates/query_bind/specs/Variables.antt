@@ -6,7 +6,7 @@ use Rattle.anyk_model.specs.Query.{Query, Item, Column, Equality, Side, of_colum
 use Rattle.rankings.specs.Order.{IsAscending, IsMember}
 use Rattle.bound_query.specs.Classes.{AreVariables, AreVariablesOf, NumberBefore, variable_at}
 use Rattle.query_bind.specs.Labels.{IsFirstPlace, is_same, least_in}
-use Rattle.bound_query.specs.StoredParts.{column_shown, equality_shown}
+use Rattle.bound_query.specs.StoredParts.{column_view, equality_view}
 use Rattle.bound_query.specs.WeighedQuery.{variables_at}
 use Rattle.bound_query.specs.Weights.{table_in}
 use Rattle.bound_query.specs.declared.bound.BoundEquality.{BoundEquality}
@@ -26,11 +26,11 @@ is_other label least c = is_same (label c) least && not (c.item == least.item)
 
 abbrev pub is_fixed : List Member → List BoundEquality → Column → Bool
 is_fixed members es least = list_any
-    (λ (e : BoundEquality). is_fixing (least_in members) least (equality_shown e)) es
+    (λ (e : BoundEquality). is_fixing (least_in members) least (equality_view e)) es
 
 abbrev pub is_elsewhere : List Member → Column → Bool
 is_elsewhere members least = list_any
-    (λ (m : Member). is_other (least_in members) least (column_shown m.column)) members
+    (λ (m : Member). is_other (least_in members) least (column_view m.column)) members
 
 -- whether a column is the least one of a variable
 abbrev pub is_variable : List Member → List BoundEquality → Column → Bool

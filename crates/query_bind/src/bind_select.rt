@@ -9,13 +9,13 @@ ghost use Rattle.query_bind.specs.Binding.{bound_query};
 ghost use Rattle.bound_query.specs.Inside.{IsWithin};
 ghost use Rattle.query_bind.specs.Names.{items_of, names_fault};
 ghost use Rattle.query_bind.specs.Filters.{HasFilters};
-ghost use Rattle.bound_query.specs.FilterViews.{filter_shown};
+ghost use Rattle.bound_query.specs.FilterViews.{filter_view};
 ghost use Rattle.query_bind.specs.Labels.{IsLabelling, least_in};
-ghost use Rattle.bound_query.specs.StoredParts.{column_shown, lists_shown};
+ghost use Rattle.bound_query.specs.StoredParts.{column_view, lists_view};
 ghost use Rattle.query_bind.specs.TextOrder.{IsFirstFailing, IsReferenceFault};
 ghost use Rattle.query_bind.specs.Variables.{HasVariables};
 ghost use Rattle.bound_query.specs.WeighedQuery.{Fits, key_parts};
-ghost use Rattle.bound_query.specs.WeighedView.{weighed_shown};
+ghost use Rattle.bound_query.specs.WeighedView.{weighed_view};
 ghost use Rattle.query_bind.specs.WeightFaults.{range_fault, weights_fault};
 
 use crate::binding::{all_columns, bind_equalities, bind_items, bind_keys, bind_list};
@@ -70,7 +70,7 @@ fn weigh_selection(
 ) -> Result<Vec<Vec<ItemWeights>>, BindFault>
     requires { IsWithin selection.now tables.now }
     ensures weighed { IfOk result
-        (λ v. map weighed_shown v.items
+        (λ v. map weighed_view v.items
         ≡ map (key_parts tables.now selection.now.items) selection.now.order) }
     ensures weights { OnOk result
         (weights_fault tables.now selection.now.items selection.now.order ≡ None) }
@@ -106,8 +106,8 @@ fn find_structure(
     requires within { IsWithin selection.now tables.now }
     requires known { IsLabelling selection.now.equalities (least_in classes.now) }
     ensures { IfOk result
-        (λ v. HasVariables selection.now (map column_shown v.least.items)
-        (lists_shown v.of_items.items)) }
+        (λ v. HasVariables selection.now (map column_view v.least.items)
+        (lists_view v.of_items.items)) }
 {
     let _tables = tables.count();
     let items = selection.bound_items();
@@ -127,7 +127,7 @@ fn find_filters(
 ) -> Result<Vec<Filter>, AllocError>
     requires within { IsWithin selection.now tables.now }
     requires known { IsLabelling selection.now.equalities (least_in classes.now) }
-    ensures { IfOk result (λ v. HasFilters selection.now (map filter_shown v.items)) }
+    ensures { IfOk result (λ v. HasFilters selection.now (map filter_view v.items)) }
 {
     let _tables = tables.count();
     let items = selection.bound_items();

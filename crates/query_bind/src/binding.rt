@@ -5,7 +5,7 @@ ghost use Rattle.query_bind.specs.Answers.{Tells, equality_fault, key_names_faul
 ghost use Rattle.query_bind.specs.Binding.{bound_column, bound_equality, bound_key, bound_list, bound_side, bound_term, columns_from, item_columns};
 ghost use Rattle.query_bind.specs.Names.{alias_fault, first_of, items_of, ref_fault};
 ghost use Rattle.query_select.specs.TextOrder.{list_columns, side_columns};
-ghost use Rattle.bound_query.specs.StoredParts.{column_shown, equality_shown, items_shown, key_shown, side_shown, term_shown};
+ghost use Rattle.bound_query.specs.StoredParts.{column_view, equality_view, items_view, key_view, side_view, term_view};
 ghost use Rattle.bound_query.specs.declared.bound.BoundItem.{BoundItem};
 
 use crate::fault::BindFault;
@@ -24,7 +24,7 @@ pub(crate) fn bind_items(
 ) -> Result<Vec<BoundItem>, BindFault>
     requires few { length refs.now ≤ 16 }
     requires tables { length which.now ≡ length refs.now }
-    ensures items { IfOk result (λ v. items_shown v.items ≡ items_of refs.now which.now) }
+    ensures items { IfOk result (λ v. items_view v.items ≡ items_of refs.now which.now) }
     ensures sound { OnOk result (alias_fault (items_of refs.now which.now) ≡ None) }
     ensures fault { IfErr result (Tells (alias_fault (items_of refs.now which.now))) }
 {
@@ -51,12 +51,12 @@ fn bind_columns(
     requires few { length items.now ≤ 16 }
     requires known { AllByRecursion (λ (i : BoundItem). i.table < length tables.now) items.now }
     ensures values { IfOk result
-        (λ v. map column_shown v.items
-        ≡ map (bound_column tables.now (items_shown items.now)) refs.now) }
+        (λ v. map column_view v.items
+        ≡ map (bound_column tables.now (items_view items.now)) refs.now) }
     ensures sound { OnOk result
-        (first_of (ref_fault tables.now (items_shown items.now)) refs.now ≡ None) }
+        (first_of (ref_fault tables.now (items_view items.now)) refs.now ≡ None) }
     ensures fault { IfErr result
-        (Tells (first_of (ref_fault tables.now (items_shown items.now)) refs.now)) }
+        (Tells (first_of (ref_fault tables.now (items_view items.now)) refs.now)) }
 {
     let mut columns = Vec::new(alloc);
     for reference in refs {
@@ -69,8 +69,8 @@ fn bind_columns(
 /// Appends all columns of an item.
 fn push_columns(columns: &mut Vec<(u32, u32)>, item: u32, width: u32) -> Result<(), AllocError>
     ensures { OnOk result
-        (map column_shown columns.new.items
-        ≡ map column_shown columns.old.items ++ item_columns item width) }
+        (map column_view columns.new.items
+        ≡ map column_view columns.old.items ++ item_columns item width) }
 {
     for place in 0..width {
         columns.push((item, place))?;
@@ -87,7 +87,7 @@ pub(crate) fn all_columns(
     requires few { length items.now ≤ 16 }
     requires known { AllByRecursion (λ (i : BoundItem). i.table < length tables.now) items.now }
     ensures { IfOk result
-        (λ v. map column_shown v.items ≡ columns_from 0 tables.now (items_shown items.now)) }
+        (λ v. map column_view v.items ≡ columns_from 0 tables.now (items_view items.now)) }
 {
     let mut columns = Vec::new(alloc);
     for i in 0..items.len() {
@@ -107,11 +107,11 @@ pub(crate) fn bind_list(
     requires few { length items.now ≤ 16 }
     requires known { AllByRecursion (λ (i : BoundItem). i.table < length tables.now) items.now }
     ensures values { IfOk result
-        (λ v. map column_shown v.items ≡ bound_list tables.now (items_shown items.now) list.now) }
+        (λ v. map column_view v.items ≡ bound_list tables.now (items_view items.now) list.now) }
     ensures sound { OnOk result
-        (first_of (ref_fault tables.now (items_shown items.now)) (list_columns list.now) ≡ None) }
+        (first_of (ref_fault tables.now (items_view items.now)) (list_columns list.now) ≡ None) }
     ensures fault { IfErr result
-        (Tells (first_of (ref_fault tables.now (items_shown items.now)) (list_columns list.now))) }
+        (Tells (first_of (ref_fault tables.now (items_view items.now)) (list_columns list.now))) }
 {
     match list {
         SelectList::Star => {
@@ -132,11 +132,11 @@ fn bind_side(
     requires few { length items.now ≤ 16 }
     requires known { AllByRecursion (λ (i : BoundItem). i.table < length tables.now) items.now }
     ensures value { IfOk result
-        (λ s. side_shown s ≡ bound_side tables.now (items_shown items.now) side.now) }
+        (λ s. side_view s ≡ bound_side tables.now (items_view items.now) side.now) }
     ensures sound { OnOk result
-        (first_of (ref_fault tables.now (items_shown items.now)) (side_columns side.now) ≡ None) }
+        (first_of (ref_fault tables.now (items_view items.now)) (side_columns side.now) ≡ None) }
     ensures fault { IfErr result
-        (Tells (first_of (ref_fault tables.now (items_shown items.now)) (side_columns side.now))) }
+        (Tells (first_of (ref_fault tables.now (items_view items.now)) (side_columns side.now))) }
 {
     match side {
         Side::Column(reference) => {
@@ -160,11 +160,11 @@ fn bind_equality(
     requires few { length items.now ≤ 16 }
     requires known { AllByRecursion (λ (i : BoundItem). i.table < length tables.now) items.now }
     ensures value { IfOk result
-        (λ e. equality_shown e ≡ bound_equality tables.now (items_shown items.now) equality.now) }
+        (λ e. equality_view e ≡ bound_equality tables.now (items_view items.now) equality.now) }
     ensures sound { OnOk result
-        (equality_fault tables.now (items_shown items.now) equality.now ≡ None) }
+        (equality_fault tables.now (items_view items.now) equality.now ≡ None) }
     ensures fault { IfErr result
-        (Tells (equality_fault tables.now (items_shown items.now) equality.now)) }
+        (Tells (equality_fault tables.now (items_view items.now) equality.now)) }
 {
     let left = look_up(items, tables, &equality.left)?;
     let right = bind_side(alloc, items, tables, &equality.right)?;
@@ -181,12 +181,12 @@ pub(crate) fn bind_equalities(
     requires few { length items.now ≤ 16 }
     requires known { AllByRecursion (λ (i : BoundItem). i.table < length tables.now) items.now }
     ensures values { IfOk result
-        (λ v. map equality_shown v.items
-        ≡ map (bound_equality tables.now (items_shown items.now)) equalities.now) }
+        (λ v. map equality_view v.items
+        ≡ map (bound_equality tables.now (items_view items.now)) equalities.now) }
     ensures sound { OnOk result
-        (first_of (equality_fault tables.now (items_shown items.now)) equalities.now ≡ None) }
+        (first_of (equality_fault tables.now (items_view items.now)) equalities.now ≡ None) }
     ensures fault { IfErr result
-        (Tells (first_of (equality_fault tables.now (items_shown items.now)) equalities.now)) }
+        (Tells (first_of (equality_fault tables.now (items_view items.now)) equalities.now)) }
 {
     let mut bound = Vec::new(alloc);
     for equality in equalities {
@@ -206,12 +206,12 @@ fn bind_terms(
     requires few { length items.now ≤ 16 }
     requires known { AllByRecursion (λ (i : BoundItem). i.table < length tables.now) items.now }
     ensures values { IfOk result
-        (λ v. map term_shown v.items
-        ≡ map (bound_term tables.now (items_shown items.now)) terms.now) }
+        (λ v. map term_view v.items
+        ≡ map (bound_term tables.now (items_view items.now)) terms.now) }
     ensures sound { OnOk result
-        (first_of (term_fault tables.now (items_shown items.now)) terms.now ≡ None) }
+        (first_of (term_fault tables.now (items_view items.now)) terms.now ≡ None) }
     ensures fault { IfErr result
-        (Tells (first_of (term_fault tables.now (items_shown items.now)) terms.now)) }
+        (Tells (first_of (term_fault tables.now (items_view items.now)) terms.now)) }
 {
     let mut bound = Vec::new(alloc);
     for term in terms {
@@ -232,11 +232,11 @@ pub(crate) fn bind_keys(
     requires few { length items.now ≤ 16 }
     requires known { AllByRecursion (λ (i : BoundItem). i.table < length tables.now) items.now }
     ensures values { IfOk result
-        (λ v. map key_shown v.items ≡ map (bound_key tables.now (items_shown items.now)) keys.now) }
+        (λ v. map key_view v.items ≡ map (bound_key tables.now (items_view items.now)) keys.now) }
     ensures sound { OnOk result
-        (first_of (key_names_fault tables.now (items_shown items.now)) keys.now ≡ None) }
+        (first_of (key_names_fault tables.now (items_view items.now)) keys.now ≡ None) }
     ensures fault { IfErr result
-        (Tells (first_of (key_names_fault tables.now (items_shown items.now)) keys.now)) }
+        (Tells (first_of (key_names_fault tables.now (items_view items.now)) keys.now)) }
 {
     let mut bound = Vec::new(alloc);
     for key in keys {

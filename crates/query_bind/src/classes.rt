@@ -3,7 +3,7 @@ ghost use Rattle.std.specs.Prelude.{◌≡◌, ◌↔◌, ◌⊎◌, ◌++◌, �
 ghost use Rattle.anyk_model.specs.Query.{Equality, of_column};
 ghost use Rattle.bound_query.specs.Classes.{ColumnBefore};
 ghost use Rattle.query_bind.specs.Labels.{HasNoPlace, IsFirstPlace, IsLabelling, least_in, replaced};
-ghost use Rattle.bound_query.specs.StoredParts.{column_shown, equality_shown};
+ghost use Rattle.bound_query.specs.StoredParts.{column_view, equality_view};
 ghost use Rattle.query_bind.specs.Relabelling.{with_least};
 
 use bound_query::{BoundEquality, BoundSide};
@@ -18,14 +18,14 @@ pub(crate) struct Member {
 
 /// Whether a column is before another one, by items and then by places.
 fn is_before(a: (u32, u32), b: (u32, u32)) -> bool
-    ensures { IsTrue result ↔ ColumnBefore (column_shown a) (column_shown b) }
+    ensures { IsTrue result ↔ ColumnBefore (column_view a) (column_view b) }
 {
     a.0 < b.0 || a.0 == b.0 && a.1 < b.1
 }
 
 /// The least column of a column's class.
 pub(crate) fn least_of(classes: &[Member], column: (u32, u32)) -> (u32, u32)
-    ensures { column_shown result ≡ least_in classes.now (column_shown column) }
+    ensures { column_view result ≡ least_in classes.now (column_view column) }
 {
     for member in classes {
         if member.column == column {
@@ -38,7 +38,7 @@ pub(crate) fn least_of(classes: &[Member], column: (u32, u32)) -> (u32, u32)
 /// The two columns, the smaller first.
 fn in_order(a: (u32, u32), b: (u32, u32)) -> ((u32, u32), (u32, u32))
     ensures both { (result ≡ (a, b)) ⊎ (result ≡ (b, a)) }
-    ensures order { ColumnBefore (column_shown result.1) (column_shown result.0) → ⊥ }
+    ensures order { ColumnBefore (column_view result.1) (column_view result.0) → ⊥ }
 {
     if is_before(b, a) { (b, a) } else { (a, b) }
 }
@@ -68,8 +68,8 @@ fn relabel(classes: &mut [Member], new: (u32, u32), old: (u32, u32))
 /// than columns.
 fn join(classes: &mut Vec<Member>, left: (u32, u32), right: (u32, u32)) -> Result<(), AllocError>
     ensures { OnOk result
-        ((es : List Equality) (e : Equality) → e.left ≡ column_shown left
-        → e.right ≡ of_column (column_shown right)
+        ((es : List Equality) (e : Equality) → e.left ≡ column_view left
+        → e.right ≡ of_column (column_view right)
         → IsLabelling es (least_in classes.old.items)
         → IsLabelling (es ++ e ∷ []) (least_in classes.new.items)) }
 {
@@ -90,7 +90,7 @@ fn join(classes: &mut Vec<Member>, left: (u32, u32), right: (u32, u32)) -> Resul
 /// Joins the classes of the two columns of an equality.
 fn join_sides(classes: &mut Vec<Member>, equality: &BoundEquality) -> Result<(), AllocError>
     ensures { OnOk result ((es : List Equality) → IsLabelling es (least_in classes.old.items)
-        → IsLabelling (es ++ equality_shown equality.now ∷ []) (least_in classes.new.items)) }
+        → IsLabelling (es ++ equality_view equality.now ∷ []) (least_in classes.new.items)) }
 {
     match &equality.right {
         BoundSide::Column(right) => join(classes, equality.left, *right),
@@ -104,7 +104,7 @@ pub(crate) fn classes_of(
     equalities: &[BoundEquality],
 ) -> Result<Vec<Member>, AllocError>
     ensures { IfOk result
-        (λ v. IsLabelling (map equality_shown equalities.now) (least_in v.items)) }
+        (λ v. IsLabelling (map equality_view equalities.now) (least_in v.items)) }
 {
     let mut classes = Vec::new(alloc);
     for equality in equalities {
@@ -120,8 +120,8 @@ pub(crate) fn first_place(
     width: u32,
     least: (u32, u32),
 ) -> Option<u32>
-    ensures { MatchOption result (HasNoPlace (least_in classes.now) item width (column_shown least))
-        (λ place. IsFirstPlace (least_in classes.now) item width (column_shown least) place) }
+    ensures { MatchOption result (HasNoPlace (least_in classes.now) item width (column_view least))
+        (λ place. IsFirstPlace (least_in classes.now) item width (column_view least) place) }
 {
     for place in 0..width {
         if least_of(classes, (item, place)) == least {

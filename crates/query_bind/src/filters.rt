@@ -5,9 +5,9 @@ ghost use Rattle.std.specs.Str.{bytes_eq};
 ghost use Rattle.bound_query.specs.declared.filters.Constant.{Constant};
 ghost use Rattle.bound_query.specs.declared.bound.BoundItem.{BoundItem};
 ghost use Rattle.query_bind.specs.Filters.{HaveConstants, HavePairs, HaveFilters};
-ghost use Rattle.bound_query.specs.FilterViews.{constant_shown, filter_shown};
+ghost use Rattle.bound_query.specs.FilterViews.{constant_view, filter_view};
 ghost use Rattle.query_bind.specs.Labels.{least_in};
-ghost use Rattle.bound_query.specs.StoredParts.{equality_shown, items_shown};
+ghost use Rattle.bound_query.specs.StoredParts.{equality_view, items_view};
 
 use crate::classes::{Member, first_place, least_of};
 use bound_query::{BoundEquality, BoundItem, BoundSide, Constant, Filter};
@@ -54,8 +54,8 @@ fn constants_of(
     width: u32,
 ) -> Result<Vec<Constant>, AllocError>
     ensures { IfOk result
-        (λ v. HaveConstants (least_in classes.now) item width (map equality_shown equalities.now)
-        (map constant_shown v.items)) }
+        (λ v. HaveConstants (least_in classes.now) item width (map equality_view equalities.now)
+        (map constant_view v.items)) }
 {
     let mut constants = Vec::new(alloc);
     for equality in equalities {
@@ -84,10 +84,10 @@ pub(crate) fn filter_of(
     width: u32,
 ) -> Result<Filter, AllocError>
     ensures pairs { IfOk result
-        (λ f. HavePairs (least_in classes.now) item width (filter_shown f).pairs) }
+        (λ f. HavePairs (least_in classes.now) item width (filter_view f).pairs) }
     ensures constants { IfOk result
-        (λ f. HaveConstants (least_in classes.now) item width (map equality_shown equalities.now)
-        (filter_shown f).constants) }
+        (λ f. HaveConstants (least_in classes.now) item width (map equality_view equalities.now)
+        (filter_view f).constants) }
 {
     let pairs = pairs_of(alloc, classes, item, width)?;
     let constants = constants_of(alloc, classes, equalities, item, width)?;
@@ -105,8 +105,8 @@ pub(crate) fn filters_of(
     requires items { length items.now ≤ 16 }
     requires known { AllByRecursion (λ (i : BoundItem). i.table < length tables.now) items.now }
     ensures { IfOk result
-        (λ v. HaveFilters (least_in classes.now) (map equality_shown equalities.now) tables.now
-        (items_shown items.now) (length items.now) (map filter_shown v.items)) }
+        (λ v. HaveFilters (least_in classes.now) (map equality_view equalities.now) tables.now
+        (items_view items.now) (length items.now) (map filter_view v.items)) }
 {
     let mut filters = Vec::new(alloc);
     for i in 0..items.len() {

@@ -4,7 +4,7 @@
 ghost use Rattle.std.specs.Prelude.{◌≡◌, ◌<◌, ◌+◌, ◌^◌, ◌++◌, ◌∷◌, [], List, map, length, get_or, IfOk, OnOk, IfSome, IfNone};
 ghost use Rattle.anyk_model.specs.Query.{Term};
 ghost use Rattle.bound_query.specs.Parts.{sum_of_all};
-ghost use Rattle.bound_query.specs.StoredParts.{term_shown};
+ghost use Rattle.bound_query.specs.StoredParts.{term_view};
 ghost use Rattle.query_bind.specs.Tallies.{AreTallies, StandOnce, columns_of, tally_size, with_one};
 ghost use Rattle.rankings.specs.Order.{IsMember};
 
@@ -59,7 +59,7 @@ fn place_of(tallies: &[Tally], column: (u32, u32)) -> Option<usize>
 fn count(tallies: &mut Vec<Tally>, term: &BoundTerm) -> Result<(), AllocError>
     requires { sum_of_all (map (tally_size (λ c. 1)) tallies.old.items) + 1 < 2 ^ 64 }
     ensures same { OnOk result ((terms : List Term) → AreTallies terms tallies.old.items
-        → AreTallies (terms ++ term_shown term.now ∷ []) tallies.new.items) }
+        → AreTallies (terms ++ term_view term.now ∷ []) tallies.new.items) }
     ensures once { OnOk result
         (StandOnce (columns_of tallies.old.items) → StandOnce (columns_of tallies.new.items)) }
 {
@@ -83,7 +83,7 @@ fn count(tallies: &mut Vec<Tally>, term: &BoundTerm) -> Result<(), AllocError>
 
 /// The columns of these terms, each once, in the order in which they are first named.
 pub(crate) fn tallies_of(alloc: Global, terms: &[BoundTerm]) -> Result<Vec<Tally>, AllocError>
-    ensures same { IfOk result (λ v. AreTallies (map term_shown terms.now) v.items) }
+    ensures same { IfOk result (λ v. AreTallies (map term_view terms.now) v.items) }
     ensures once { IfOk result (λ v. StandOnce (columns_of v.items)) }
 {
     let mut tallies = Vec::new(alloc);

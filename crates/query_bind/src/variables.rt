@@ -3,7 +3,7 @@ ghost use Rattle.std.specs.Prelude.{◌≡◌, ◌<◌, ◌≤◌, ◌^◌, filt
 ghost use Rattle.std.specs.List.{AllByRecursion};
 ghost use Rattle.bound_query.specs.declared.bound.BoundItem.{BoundItem};
 ghost use Rattle.query_bind.specs.Labels.{least_in};
-ghost use Rattle.bound_query.specs.StoredParts.{column_shown, equality_shown, items_shown, lists_shown};
+ghost use Rattle.bound_query.specs.StoredParts.{column_view, equality_view, items_view, lists_view};
 ghost use Rattle.query_bind.specs.Variables.{HavePlaces, HavePlacesEach, is_elsewhere, is_fixed, is_fixing, is_other, is_variable};
 
 use crate::classes::{Member, first_place, least_of};
@@ -13,8 +13,8 @@ use table_store::Tables;
 
 /// Whether an equality gives a constant to the class with this least column.
 fn fixes(classes: &[Member], least: (u32, u32), equality: &BoundEquality) -> bool
-    ensures { result ≡ is_fixing (least_in classes.now) (column_shown least)
-        (equality_shown equality.now) }
+    ensures { result ≡ is_fixing (least_in classes.now) (column_view least)
+        (equality_view equality.now) }
 {
     match &equality.right {
         BoundSide::Column(_) => false,
@@ -24,21 +24,21 @@ fn fixes(classes: &[Member], least: (u32, u32), equality: &BoundEquality) -> boo
 
 /// Whether the class with this least column has a constant.
 fn has_constant(classes: &[Member], equalities: &[BoundEquality], least: (u32, u32)) -> bool
-    ensures { result ≡ is_fixed classes.now equalities.now (column_shown least) }
+    ensures { result ≡ is_fixed classes.now equalities.now (column_view least) }
 {
     equalities.iter().any(|e| fixes(classes, least, e))
 }
 
 /// Whether a column is in the class with this least column, and in another item.
 fn is_in_other(classes: &[Member], least: (u32, u32), column: (u32, u32)) -> bool
-    ensures { result ≡ is_other (least_in classes.now) (column_shown least) (column_shown column) }
+    ensures { result ≡ is_other (least_in classes.now) (column_view least) (column_view column) }
 {
     least_of(classes, column) == least && column.0 != least.0
 }
 
 /// Whether the class with this least column has columns in another item.
 fn has_other(classes: &[Member], least: (u32, u32)) -> bool
-    ensures { result ≡ is_elsewhere classes.now (column_shown least) }
+    ensures { result ≡ is_elsewhere classes.now (column_view least) }
 {
     classes
         .iter()
@@ -47,7 +47,7 @@ fn has_other(classes: &[Member], least: (u32, u32)) -> bool
 
 /// Whether a column is the least of a variable.
 fn starts_variable(classes: &[Member], equalities: &[BoundEquality], column: (u32, u32)) -> bool
-    ensures { result ≡ is_variable classes.now equalities.now (column_shown column) }
+    ensures { result ≡ is_variable classes.now equalities.now (column_view column) }
 {
     least_of(classes, column) == column
         && has_other(classes, column)
@@ -63,7 +63,7 @@ pub(crate) fn find_variables(
 ) -> Result<Vec<(u32, u32)>, AllocError>
     ensures { IfOk result
         (λ v. v.items ≡ filter
-        (λ c. is_variable classes.now equalities.now (column_shown c)) columns.now) }
+        (λ c. is_variable classes.now equalities.now (column_view c)) columns.now) }
 {
     columns
         .iter()
@@ -82,7 +82,7 @@ pub(crate) fn places_of(
 ) -> Result<Vec<(u32, u32)>, AllocError>
     requires few { length variables.now < 2 ^ 32 }
     ensures { IfOk result
-        (λ v. HavePlaces (least_in classes.now) (map column_shown variables.now) item width
+        (λ v. HavePlaces (least_in classes.now) (map column_view variables.now) item width
         (length variables.now) v.items) }
 {
     let mut places = Vec::new(alloc);
@@ -107,8 +107,8 @@ pub(crate) fn places_of_all(
     requires items { length items.now ≤ 16 }
     requires known { AllByRecursion (λ (i : BoundItem). i.table < length tables.now) items.now }
     ensures { IfOk result
-        (λ v. HavePlacesEach (least_in classes.now) (map column_shown variables.now) tables.now
-        (items_shown items.now) (length items.now) (lists_shown v.items)) }
+        (λ v. HavePlacesEach (least_in classes.now) (map column_view variables.now) tables.now
+        (items_view items.now) (length items.now) (lists_view v.items)) }
 {
     let mut of_items = Vec::new(alloc);
     for i in 0..items.len() {

@@ -7,8 +7,8 @@ use Rattle.std.proofs.lemmas.Nat.{shr_split, shr_high}
 use Rattle.rank_key.specs.declared.sum.Sum.TheInside.{Inside}
 
 -- the number whose binary form these halves are
-abbrev pub number_of : Inside → ℤ
-number_of s = cast_signed w128 (s.high * 2 ^ 64 + s.low)
+abbrev pub sum_view : Inside → ℤ
+sum_view s = cast_signed w128 (s.high * 2 ^ 64 + s.low)
 
 -- the halves of the binary form of a number
 abbrev pub halves_of : ℤ → Inside
@@ -21,7 +21,7 @@ low_of : (high low : ℕ) → low < 2 ^ 64 → (high * 2 ^ 64 + low) % 2 ^ 64 �
 low_of high low h = omega (arith, shr_split (high * 2 ^ 64 + low) 64, high_of high low h)
 
 -- the halves of the number that halves stand for are these
-pub halves_of_number : (s : Inside) → (s.high < 2 ^ 64) × (s.low < 2 ^ 64) → halves_of (number_of s) ≡ s
+pub halves_of_number : (s : Inside) → (s.high < 2 ^ 64) × (s.low < 2 ^ 64) → halves_of (sum_view s) ≡ s
 halves_of_number s fits =
     let bits : cast_unsigned w128 (cast_signed w128 (s.high * 2 ^ 64 + s.low)) ≡ s.high * 2 ^ 64 + s.low =
     of_z-to_z w128 (s.high * 2 ^ 64 + s.low) (omega (arith, fits.0, fits.1)) in

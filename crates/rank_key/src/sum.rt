@@ -15,11 +15,11 @@ pub struct Sum {
 
 impl Model for Sum {
     ghost use Rattle.std.specs.Prelude.{ℤ, ◌<◌, ◌^◌};
-    ghost use Rattle.rank_key.specs.Sums.{number_of, halves_of, halves_of_number};
+    ghost use Rattle.rank_key.specs.Sums.{sum_view, halves_of, halves_of_number};
 
     ghost Value = { ℤ };
 
-    ghost view = { number_of };
+    ghost view = { sum_view };
 
     ghost invariant = { λ s. (s.high < 2 ^ 64) × (s.low < 2 ^ 64) };
 

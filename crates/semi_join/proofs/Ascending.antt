@@ -5,7 +5,7 @@ use Rattle.std.proofs.lemmas.Bool.{cases_eq, cases_lt}
 use Rattle.std.specs.List.{range_with_len}
 use Rattle.std.proofs.lemmas.List.FromFn.{length-range_with_len, get_or-range_with_len}
 use Rattle.std.proofs.lemmas.List.Kept.{IsStrictlyIncreasing-filter}
-use Rattle.tdp_core.specs.RawData.{RawData, raw_len}
+use Rattle.tdp_core.specs.RawView.{RawView, raw_len}
 use Rattle.semi_join.specs.Reduction.{kept_rows, has_partners}
 
 range_rises : (n : ℕ) → IsStrictlyIncreasing (range_with_len 0 n)
@@ -13,7 +13,7 @@ range_rises n = λ k h.
     let within : k + 1 < n = omega (arith, h, length-range_with_len 0 n) in
     omega (arith, get_or-range_with_len 0 n k 0 (omega (arith, within)), get_or-range_with_len 0 n (k + 1) 0 within)
 
-pub kept_ascends : {R : Type 0} (raw : RawData R) (v : ℕ) (later : List (List ℕ)) → IsStrictlyIncreasing (kept_rows raw v later)
+pub kept_ascends : {R : Type 0} (raw : RawView R) (v : ℕ) (later : List (List ℕ)) → IsStrictlyIncreasing (kept_rows raw v later)
 kept_ascends raw v later = IsStrictlyIncreasing-filter (has_partners raw v later) (range_with_len 0 (raw_len raw v)) (range_rises (raw_len raw v))
 
 rises : (xs : List ℕ) → IsStrictlyIncreasing xs → (i k : ℕ) → i + suc k < length xs → get_or xs i 0 < get_or xs (i + suc k) 0

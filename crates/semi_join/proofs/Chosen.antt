@@ -4,7 +4,7 @@ use Rattle.std.proofs.lemmas.Bool.{ne_eqb, cases_eq, cases_lt}
 use Rattle.tdp_model.specs.Below.{is_below}
 use Rattle.tdp_model.proofs.Descent.{below_itself, below_less, below_parent}
 use Rattle.tdp_core.specs.Solutions.{IsSubtreeSolution, Extends, RawLinked}
-use Rattle.tdp_core.specs.RawData.{RawData, AreShapes, raw_len, shape_parent, own_link, child_link}
+use Rattle.tdp_core.specs.RawView.{RawView, AreShapes, raw_len, shape_parent, own_link, child_link}
 use Rattle.semi_join.specs.Reduction.{child_nodes, group_link}
 use Rattle.semi_join.proofs.Kids.{kids_after}
 use Rattle.semi_join.proofs.Places.{link_is, kid_stands}
@@ -16,7 +16,7 @@ pick_zero k a b e = ap (λ x. cond x a b) (eq-eqb k 0 e)
 pick_more : (k a b : ℕ) → 0 < k → cond (nat_eq k 0) a b ≡ b
 pick_more k a b h = let not : k ≡ 0 → ⊥ = λ e. omega (arith, e) in ap (λ x. cond x a b) (ne_eqb k 0 not)
 
-module _ {R : Type 0} (raw : RawData R) (shaped : AreShapes raw.shapes) where
+module _ {R : Type 0} (raw : RawView R) (shaped : AreShapes raw.shapes) where
   abbrev below : ℕ → ℕ → ℕ
   below u q = is_below (shape_parent raw.shapes) u q
 

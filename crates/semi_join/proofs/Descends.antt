@@ -2,7 +2,7 @@
 use Rattle.std.proofs.Common.{◌≡◌, ℕ, zero, suc, ◌+◌, ◌-◌, ◌<◌, ◌≤◌, ◌⊎◌, inl, inr, Bool, true, false, nat_eq, if◌then◌else◌, List, [], ◌∷◌, ◌++◌, map, length, get_or, refl, sym, ap, subst, ◌∙◌, arith}
 use Rattle.std.specs.List.{list_any}
 use Rattle.indexmap.specs.IndexSet.{insert_key, insert_all}
-use Rattle.tdp_core.specs.RawData.{RawData, raw_len, shape_parent, child_link}
+use Rattle.tdp_core.specs.RawView.{RawView, raw_len, shape_parent, child_link}
 use Rattle.semi_join.specs.Reduction.{kept_rows, child_links, has_partners, group_link, child_nodes, group_links}
 use Rattle.semi_join.proofs.FromLast.{links_last}
 use Rattle.semi_join.proofs.Kids.{kids_after}
@@ -54,7 +54,7 @@ map_within f [] i h = h
 map_within f (x ∷ xs) zero h = omega arith
 map_within f (x ∷ xs) (suc i) h = let less : i < length (map f xs) = omega arith in omega (arith, map_within f xs i less)
 
-module _ {R : Type 0} (raw : RawData R) where
+module _ {R : Type 0} (raw : RawView R) where
   -- the links of the groups of one of the last n nodes
   pub last_links_at : (n k : ℕ) → n ≤ length raw.shapes → k < n → get_or (links_last raw n) k [] ≡ group_links raw (length raw.shapes - n + k) (links_last raw (n - suc k))
   last_links_at zero k h l = absurd (omega arith)

@@ -3,13 +3,13 @@ use Rattle.std.proofs.Common.{◌≡◌, ℕ, zero, suc, ◌+◌, ◌-◌, ◌<�
 use Rattle.std.proofs.lemmas.Bool.{ne_eqb}
 use Rattle.tdp_model.proofs.Descent.{below_itself, child_below}
 use Rattle.tdp_core.specs.Solutions.{IsSubtreeSolution, RawLinked}
-use Rattle.tdp_core.specs.RawData.{RawData, AreShapes, raw_len, shape_parent, own_link, child_link}
+use Rattle.tdp_core.specs.RawView.{RawView, AreShapes, raw_len, shape_parent, own_link, child_link}
 use Rattle.semi_join.specs.Reduction.{child_nodes, group_link}
 use Rattle.semi_join.proofs.Kids.{kids_after}
 use Rattle.semi_join.proofs.Places.{link_is}
 use Rattle.semi_join.proofs.Descends.{Stays, stays_up}
 
-module _ {R : Type 0} (raw : RawData R) (shaped : AreShapes raw.shapes) where
+module _ {R : Type 0} (raw : RawView R) (shaped : AreShapes raw.shapes) where
   -- a row of a child that may stand below row r of v has the link that r names
   pub link_of : (v r c i : ℕ) → v < length raw.shapes → c < length (child_nodes raw v) → RawLinked raw (get_or (child_nodes raw v) c 0) r i → group_link raw (get_or (child_nodes raw v) c 0) i ≡ child_link raw v r c
   link_of v r c i inside h linked =

@@ -4,7 +4,7 @@ use Rattle.std.specs.List.{filter, list_any, list_all, position_or_len, range_wi
 use Rattle.std.proofs.lemmas.List.Elements.{filter-append}
 use Rattle.std.proofs.lemmas.List.Folds.{list_all-append}
 use Rattle.std.proofs.lemmas.List.FromFn.{map-range_with_len_more}
-use Rattle.tdp_core.specs.RawData.{RawData, child_link}
+use Rattle.tdp_core.specs.RawView.{RawView, child_link}
 use Rattle.semi_join.specs.Reduction.{child_links, has_partners}
 
 -- # Ranges
@@ -36,7 +36,7 @@ children_among parent v n = filter (λ u. nat_eq (parent u) v) (range_with_len (
 pub children_more : (parent : ℕ → ℕ) (v n : ℕ) → children_among parent v (suc n) ≡ cond (nat_eq (parent (suc v + n)) v) (children_among parent v n ++ ((suc v + n) ∷ [])) (children_among parent v n)
 children_more parent v n = ap (filter (λ u. nat_eq (parent u) v)) (range_more (suc v) n) ∙ filter_last (λ u. nat_eq (parent u) v) (range_with_len (suc v) n) (suc v + n)
 
-module _ {R : Type 0} (raw : RawData R) (v : ℕ) (later : List (List ℕ)) where
+module _ {R : Type 0} (raw : RawView R) (v : ℕ) (later : List (List ℕ)) where
   -- for each of the first n children there is a group that row i names
   abbrev pub has_first : ℕ → ℕ → Bool
   has_first n i = list_all (λ c. list_any (nat_eq (child_link raw v i c)) (child_links raw v later c)) (range_with_len 0 n)

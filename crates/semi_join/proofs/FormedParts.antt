@@ -8,8 +8,8 @@ use Rattle.tdp_model.specs.KeyTuple.{KeyOf, key_none}
 use Rattle.tdp_model.specs.TreeProblem.{sum_from}
 use Rattle.tdp_core.specs.declared.parts.NodeShape.{NodeShape}
 use Rattle.tdp_core.specs.declared.parts.NodeRow.{NodeRow}
-use Rattle.tdp_core.specs.RawData.{RawData, IsRawFormed, rows_at, raw_len, shape_item, shape_cap, shape_parent}
-use Rattle.tdp_core.specs.TreeData.{NodeData, cap_of, node_at, parent, rows, number, rank, group_count, group_named, child_place, child_count, item, cap}
+use Rattle.tdp_core.specs.RawView.{RawView, IsRawFormed, rows_at, raw_len, shape_item, shape_cap, shape_parent}
+use Rattle.tdp_core.specs.TreeView.{NodeView, cap_of, node_at, parent, rows, number, rank, group_count, group_named, child_place, child_count, item, cap}
 use Rattle.tdp_core.specs.WellFormed.{RowFits}
 use Rattle.tdp_core.proofs.RawReads.{field_read}
 use Rattle.semi_join.specs.GroupedTrees.{IsGrouped}
@@ -25,11 +25,11 @@ use Rattle.semi_join.proofs.KeptParts.{kept_at, owns_count, node_of, all_shapes,
 use Rattle.semi_join.proofs.NamedGroups.{named_count, named_group}
 use Rattle.semi_join.proofs.KeptSolutions.{parent_is, parent_inside}
 
-kept_few : {R : Type 0} (raw : RawData R) (v : ℕ) (later : List (List ℕ)) (n : ℕ) → length (kept_first raw v later n) ≤ n
+kept_few : {R : Type 0} (raw : RawView R) (v : ℕ) (later : List (List ℕ)) (n : ℕ) → length (kept_first raw v later n) ≤ n
 kept_few raw v later zero = omega arith
 kept_few raw v later (suc n) = subst (λ l. length l ≤ suc n) (sym (kept_more raw v later n)) (few_cond (has_partners raw v later n) (kept_first raw v later n) n n (kept_few raw v later n))
 
-module _ {R : Type 0} (d : ℕ) (key : R → KeyOf d 16) (raw : RawData R) (formed : IsRawFormed d key raw) (parts : List (NodeData R)) (last : AreReducedLast raw (length raw.shapes) parts) where
+module _ {R : Type 0} (d : ℕ) (key : R → KeyOf d 16) (raw : RawView R) (formed : IsRawFormed d key raw) (parts : List (NodeView R)) (last : AreReducedLast raw (length raw.shapes) parts) where
   inside : (v : ℕ) → v < length parts → v < length raw.shapes
   inside v h = omega (arith, h, last.size)
 

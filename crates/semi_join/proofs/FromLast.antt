@@ -2,29 +2,29 @@
 use Rattle.std.proofs.Common.{◌≡◌, ℕ, zero, suc, ◌+◌, ◌-◌, ◌*◌, ◌<◌, ◌≤◌, List, [], ◌∷◌, length, get_or, drop, sum_by, sym, ap, subst, ◌∙◌, arith}
 use Rattle.std.proofs.Math.Nat.{mul-le-mul_left}
 use Rattle.std.proofs.lemmas.List.Sums.{sum_by-cons}
-use Rattle.tdp_core.specs.RawData.{RawData}
-use Rattle.tdp_core.specs.TreeData.{NodeData}
+use Rattle.tdp_core.specs.RawView.{RawView}
+use Rattle.tdp_core.specs.TreeView.{NodeView}
 use Rattle.semi_join.specs.Reduction.{AreFew, IsReducedNode, group_links}
 
-module _ {R : Type 0} (raw : RawData R) where
+module _ {R : Type 0} (raw : RawView R) where
   -- the links of the groups of each of the last n nodes
   abbrev pub links_last : ℕ → List (List ℕ)
   links_last zero = []
   links_last (suc n) = group_links raw (length raw.shapes - suc n) (links_last n) ∷ links_last n
 
   -- the parts are those of the last n nodes
-  pub record AreReducedLast (n : ℕ) (parts : List (NodeData R)) : Type 0 where
+  pub record AreReducedLast (n : ℕ) (parts : List (NodeView R)) : Type 0 where
     pub size : length parts ≡ n
-    pub node : (k : ℕ) (part : NodeData R) → k < n → part ≡ get_or parts k part → IsReducedNode raw (length raw.shapes - n + k) (links_last (n - suc k)) part
+    pub node : (k : ℕ) (part : NodeView R) → k < n → part ≡ get_or parts k part → IsReducedNode raw (length raw.shapes - n + k) (links_last (n - suc k)) part
 
 pub rows_more : {X : Type 0} (rows : List (List X)) (v : ℕ) → v < length rows → sum_by length (drop v rows) ≡ length (get_or rows v []) + sum_by length (drop (suc v) rows)
 rows_more [] v h = absurd (omega arith)
 rows_more (n ∷ rows) zero h = sum_by-cons length n rows
 rows_more (n ∷ rows) (suc v) h = let less : v < length rows = omega arith in rows_more rows v less
 
-module _ {R : Type 0} (raw : RawData R) where
+module _ {R : Type 0} (raw : RawView R) where
   -- the parts of no nodes
-  pub from_none : (node : ℕ) (parts : List (NodeData R)) → node ≡ length raw.shapes → parts ≡ [] → AreReducedLast raw (length raw.shapes - node) parts
+  pub from_none : (node : ℕ) (parts : List (NodeView R)) → node ≡ length raw.shapes → parts ≡ [] → AreReducedLast raw (length raw.shapes - node) parts
   from_none node parts all none =
       let count : length parts ≡ 0 = ap length none in
       record { size = omega (arith, count, all); node = λ k part l. absurd (omega (arith, l, all)) }
@@ -34,13 +34,13 @@ module _ {R : Type 0} (raw : RawData R) where
       let zero_left : 0 ≡ length raw.shapes - node = omega (arith, all) in
       none ∙ ap (links_last raw) zero_left
 
-  pub from_more : (n v : ℕ) (part : NodeData R) (parts : List (NodeData R)) → v + suc n ≡ length raw.shapes → AreReducedLast raw n parts → IsReducedNode raw v (links_last raw n) part → AreReducedLast raw (suc n) (part ∷ parts)
+  pub from_more : (n v : ℕ) (part : NodeView R) (parts : List (NodeView R)) → v + suc n ≡ length raw.shapes → AreReducedLast raw n parts → IsReducedNode raw v (links_last raw n) part → AreReducedLast raw (suc n) (part ∷ parts)
   from_more n v part parts s later here = record {
     size = ap suc later.size;
     node = at;
   }
     where
-      at : (k : ℕ) (p : NodeData R) → k < suc n → p ≡ get_or (part ∷ parts) k p → IsReducedNode raw (length raw.shapes - suc n + k) (links_last raw (suc n - suc k)) p
+      at : (k : ℕ) (p : NodeView R) → k < suc n → p ≡ get_or (part ∷ parts) k p → IsReducedNode raw (length raw.shapes - suc n + k) (links_last raw (suc n - suc k)) p
       at zero p h e =
           let one : v ≡ length raw.shapes - suc n + 0 = omega arith in
           let two : n ≡ suc n - 1 = omega arith in

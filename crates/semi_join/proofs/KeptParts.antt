@@ -2,8 +2,8 @@
 use Rattle.std.proofs.Common.{◌≡◌, ℕ, ◌+◌, ◌-◌, ◌<◌, ◌≤◌, ◌↔◌, inl, inr, cond, List, [], map, length, get_or, Contains, refl, sym, ap, subst, ◌∙◌, arith}
 use Rattle.std.proofs.lemmas.Bool.{ne_eqb, cases_lt}
 use Rattle.std.proofs.lemmas.List.{length-map, get_or-map, get_or_default}
-use Rattle.tdp_core.specs.RawData.{RawData, AreShapes, raw_len, own_link}
-use Rattle.tdp_core.specs.TreeData.{NodeData, node_at, rows, group_count, members}
+use Rattle.tdp_core.specs.RawView.{RawView, AreShapes, raw_len, own_link}
+use Rattle.tdp_core.specs.TreeView.{NodeView, node_at, rows, group_count, members}
 use Rattle.tdp_core.specs.Solutions.{RawExtends}
 use Rattle.semi_join.specs.Reduction.{kept_rows, group_link, group_links, IsReducedNode}
 use Rattle.semi_join.proofs.FromLast.{AreReducedLast}
@@ -15,7 +15,7 @@ use Rattle.semi_join.proofs.Members.{contains_stands, stands_contains, group_of,
 use Rattle.semi_join.proofs.NodeRows.{rows_count}
 use Rattle.semi_join.proofs.SameShapes.{same_lists}
 
-module _ {R : Type 0} (raw : RawData R) where
+module _ {R : Type 0} (raw : RawView R) where
   -- the rows that node v keeps
   abbrev pub kept_at : ℕ → List ℕ
   kept_at v = kept_rows raw v (later_of raw v)
@@ -56,7 +56,7 @@ module _ {R : Type 0} (raw : RawData R) where
     | inr p ↦ sym p.2 ∙ (map_read (group_link raw 0) (kept_at 0) p.0 (map_within (group_link raw 0) (kept_at 0) p.0 p.1)).1
   ]
 
-  module _ (parts : List (NodeData R)) (last : AreReducedLast raw (length raw.shapes) parts) where
+  module _ (parts : List (NodeView R)) (last : AreReducedLast raw (length raw.shapes) parts) where
     part_read : (v : ℕ) → v < length raw.shapes → node_at parts v ≡ get_or parts v (node_at parts v)
     part_read v h = get_or_default parts v _ (node_at parts v) (omega (arith, h, last.size))
 

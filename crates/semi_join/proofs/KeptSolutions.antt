@@ -5,8 +5,8 @@ use Rattle.std.proofs.lemmas.Bool.{cases_eq}
 use Rattle.std.proofs.lemmas.List.Elements.{Contains-get_or}
 use Rattle.tdp_model.specs.KeyTuple.{KeyOf, key_add, key_none}
 use Rattle.tdp_model.specs.TreeProblem.{sum_from}
-use Rattle.tdp_core.specs.RawData.{RawData, AreShapes, raw_number, raw_rank, shape_parent, shape_child_place, own_link, child_link}
-use Rattle.tdp_core.specs.TreeData.{NodeData, node_at, parent, members, group, group_number, number, rank}
+use Rattle.tdp_core.specs.RawView.{RawView, AreShapes, raw_number, raw_rank, shape_parent, shape_child_place, own_link, child_link}
+use Rattle.tdp_core.specs.TreeView.{NodeView, node_at, parent, members, group, group_number, number, rank}
 use Rattle.tdp_core.specs.WellFormed.{IsTieFreeTree}
 use Rattle.tdp_core.specs.Solutions.{TreeLinked, IsTreeSolution, IsRawSolution, IsTieFreeRaw, solution_key, raw_solution_key}
 use Rattle.semi_join.proofs.FromLast.{AreReducedLast}
@@ -21,7 +21,7 @@ use Rattle.semi_join.proofs.Totals.{sum_same}
 use Rattle.semi_join.proofs.KeptParts.{kept_at, kept_stays, exact, own_at, node_of, all_shapes, member_kept, member_own, root_group}
 use Rattle.semi_join.proofs.NamedGroups.{named_members}
 
-module _ {R : Type 0} (raw : RawData R) (shaped : AreShapes raw.shapes) (parts : List (NodeData R)) (last : AreReducedLast raw (length raw.shapes) parts) where
+module _ {R : Type 0} (raw : RawView R) (shaped : AreShapes raw.shapes) (parts : List (NodeView R)) (last : AreReducedLast raw (length raw.shapes) parts) where
   -- the rows of the raw tree that these rows of the parts are
   abbrev raw_rows : (ℕ → ℕ) → ℕ → ℕ
   raw_rows t q = get_or (kept_at raw q) (t q) 0

@@ -1,8 +1,8 @@
 -- The children of a node.
 use Rattle.std.proofs.Common.{◌≡◌, ℕ, zero, suc, ◌+◌, ◌-◌, ◌<◌, ◌≤◌, inl, inr, Bool, true, false, cond, nat_eq, List, [], ◌∷◌, ◌++◌, length, get_or, refl, sym, ap, subst, ◌∙◌, arith, length-append, eqb-true, eq-eqb}
 use Rattle.std.proofs.lemmas.Bool.{eqb-false}
-use Rattle.tdp_core.specs.RawData.{RawData, AreShapes, shape_parent, shape_children}
-use Rattle.tdp_core.specs.TreeData.{kids_below}
+use Rattle.tdp_core.specs.RawView.{RawView, AreShapes, shape_parent, shape_children}
+use Rattle.tdp_core.specs.TreeView.{kids_below}
 use Rattle.tdp_core.proofs.Children.{kids_below_first, kids_below_child, kids_below_other}
 use Rattle.counted_index.proofs.Lists.{eqb_false, get_or_snoc}
 use Rattle.semi_join.specs.Reduction.{child_nodes}
@@ -53,7 +53,7 @@ pub kid_passed : (parent : ℕ → ℕ) (v q : ℕ) (items : List ℕ) → v < q
 kid_passed parent v q items h e not =
     e ∙ ap (λ b. cond b (children_among parent v (q - suc v) ++ (q ∷ [])) (children_among parent v (q - suc v))) (sym (eqb_false (parent q) v not)) ∙ sym (kids_more parent v q h)
 
-module _ {R : Type 0} (raw : RawData R) (v : ℕ) (children : List ℕ) (all : children ≡ child_nodes raw v) (c : ℕ) (within : c < length children) where
+module _ {R : Type 0} (raw : RawView R) (v : ℕ) (children : List ℕ) (all : children ≡ child_nodes raw v) (c : ℕ) (within : c < length children) where
   pub child_after : IsAfter (shape_parent raw.shapes) v (suc v + (length raw.shapes - suc v)) (get_or children c 0)
   child_after =
       subst (λ ks. c < length ks → IsAfter (shape_parent raw.shapes) v (suc v + (length raw.shapes - suc v)) (get_or ks c 0)) (sym all) (kids_after (shape_parent raw.shapes) v (length raw.shapes - suc v) c) within
@@ -86,7 +86,7 @@ module _ (m : ℕ) (parent : ℕ → ℕ) (first : (q : ℕ) → 0 < q → q < m
       ap length (children_more parent v n) ∙ count_cond v n (nat_eq (parent (suc v + n)) v) (children_among parent v n) refl (kids_count v n inside) ∙ ap (kids_below parent v) next
 
 -- the list of the children has as many as the tree counts
-pub children_count : {R : Type 0} (raw : RawData R) → AreShapes raw.shapes → (v : ℕ) → v < length raw.shapes → length (child_nodes raw v) ≡ shape_children raw.shapes v
+pub children_count : {R : Type 0} (raw : RawView R) → AreShapes raw.shapes → (v : ℕ) → v < length raw.shapes → length (child_nodes raw v) ≡ shape_children raw.shapes v
 children_count raw shaped v inside =
     let all : suc v + (length raw.shapes - suc v) ≡ length raw.shapes = omega arith in
     kids_count (length raw.shapes) (shape_parent raw.shapes) shaped.parents_first v (length raw.shapes - suc v) inside ∙ ap (kids_below (shape_parent raw.shapes) v) all

@@ -3,7 +3,7 @@ use Rattle.std.proofs.Common.{◌≡◌, ℕ, zero, suc, ◌<◌, ◌⊎◌, inl
 use Rattle.std.proofs.lemmas.Bool.{eqb-false, cases_eq, and_parts}
 use Rattle.std.proofs.lemmas.List.{get_or_append_left}
 use Rattle.std.specs.List.{list_any}
-use Rattle.tdp_core.specs.RawData.{RawData, child_link}
+use Rattle.tdp_core.specs.RawView.{RawView, child_link}
 use Rattle.semi_join.specs.Reduction.{child_links, has_partners}
 use Rattle.semi_join.proofs.FirstOnes.{has_first, has_more, kept_first, kept_more}
 use Rattle.counted_index.proofs.Lists.{get_or_snoc}
@@ -46,7 +46,7 @@ pub out_cond : (b : Bool) (ks : List ℕ) (n r : ℕ) → Stands r (cond b (ks +
 out_cond false ks n r s = inl s
 out_cond true ks n r s = elim (get_or_snoc ks n s.0 0 s.1) [ inl p ↦ inl (s.0, p.0, sym p.1 ∙ s.2) | inr p ↦ inr (refl, sym s.2 ∙ p.1) ]
 
-module _ {R : Type 0} (raw : RawData R) (v : ℕ) (later : List (List ℕ)) where
+module _ {R : Type 0} (raw : RawView R) (v : ℕ) (later : List (List ℕ)) where
   -- a row has partners where each link that it names is the link of a group of that child
   pub met_each : (n i : ℕ) → has_first raw v later n i ≡ true → (c : ℕ) → c < n → Stands (child_link raw v i c) (child_links raw v later c)
   met_each zero i h c l = absurd (omega arith)

@@ -4,8 +4,8 @@ use Rattle.std.specs.List.{position_or_len}
 use Rattle.std.proofs.lemmas.Bool.{ne_eqb}
 use Rattle.std.proofs.lemmas.List.{get_or-map}
 use Rattle.std.proofs.lemmas.List.FromFn.{length-map-range_with_len, get_or-map-range_with_len}
-use Rattle.tdp_core.specs.RawData.{RawData, AreShapes, shape_parent, shape_child_place, own_link, child_link}
-use Rattle.tdp_core.specs.TreeData.{NodeData, parent, child_place, group, group_named, group_number, members}
+use Rattle.tdp_core.specs.RawView.{RawView, AreShapes, shape_parent, shape_child_place, own_link, child_link}
+use Rattle.tdp_core.specs.TreeView.{NodeView, parent, child_place, group, group_named, group_number, members}
 use Rattle.semi_join.specs.ReducedTrees.{ShareGroup}
 use Rattle.semi_join.specs.Reduction.{child_nodes, child_links, groups_named}
 use Rattle.semi_join.proofs.FromLast.{AreReducedLast}
@@ -17,7 +17,7 @@ use Rattle.semi_join.proofs.Found.{found_at}
 use Rattle.semi_join.proofs.SameShapes.{parent_same, place_same}
 use Rattle.semi_join.proofs.KeptParts.{kept_at, links_at, kept_stays, own_at, node_of, all_shapes, member_kept, member_own, own_member, group_for}
 
-module _ {R : Type 0} (raw : RawData R) (v : ℕ) (later : List (List ℕ)) where
+module _ {R : Type 0} (raw : RawView R) (v : ℕ) (later : List (List ℕ)) where
   pub named_count : (n r : ℕ) → length (named_first raw v later n r) ≡ n
   named_count n r = length-map-range_with_len (λ c. position_or_len (nat_eq (child_link raw v r c)) (child_links raw v later c)) 0 n
 
@@ -26,7 +26,7 @@ module _ {R : Type 0} (raw : RawData R) (v : ℕ) (later : List (List ℕ)) wher
       let here : 0 + c ≡ c = omega arith in
       get_or-map-range_with_len (λ k. position_or_len (nat_eq (child_link raw v r k)) (child_links raw v later k)) 0 n c c 0 h here
 
-module _ {R : Type 0} (raw : RawData R) (shaped : AreShapes raw.shapes) (parts : List (NodeData R)) (last : AreReducedLast raw (length raw.shapes) parts) where
+module _ {R : Type 0} (raw : RawView R) (shaped : AreShapes raw.shapes) (parts : List (NodeView R)) (last : AreReducedLast raw (length raw.shapes) parts) where
   -- for its child number c a row names the group with the link that it names there
   at_child : (p c i : ℕ) → p < length raw.shapes → c < length (child_nodes raw p) → i < length (kept_at raw p)
       → (group_named parts p i c < length (links_at raw (get_or (child_nodes raw p) c 0)))

@@ -4,7 +4,7 @@ use Rattle.std.specs.List.{All}
 use Rattle.std.proofs.lemmas.List.{length-map}
 use Rattle.std.proofs.lemmas.Option.{slice_get_within, get_or_from_slice_get}
 use Rattle.tdp_core.specs.declared.parts.NodeRow.{NodeRow}
-use Rattle.tdp_core.specs.RawData.{RawData, rows_at, raw_row_at}
+use Rattle.tdp_core.specs.RawView.{RawView, rows_at, raw_row_at}
 use Rattle.tdp_core.proofs.RawReads.{field_read}
 
 some_at : {X : Type 0} (xs : List X) (ks : List ℕ) (g : ℕ → Option X) → map Some xs ≡ map g ks → (i : ℕ) → i < length ks → (x : X) × (g (get_or ks i 0) ≡ Some x) × (slice_get xs i ≡ Some x)
@@ -21,7 +21,7 @@ map_twice : {X Y Z : Type 0} (f : Y → Z) (g : X → Y) (xs : List X) → map f
 map_twice f g [] = refl
 map_twice f g (x ∷ xs) = ap (λ l. f (g x) ∷ l) (map_twice f g xs)
 
-module _ {R : Type 0} (raw : RawData R) (v : ℕ) (ks : List ℕ) (rows : List (NodeRow R)) (all : map Some rows ≡ map (raw_row_at raw v) ks) where
+module _ {R : Type 0} (raw : RawView R) (v : ℕ) (ks : List ℕ) (rows : List (NodeRow R)) (all : map Some rows ≡ map (raw_row_at raw v) ks) where
   pub rows_count : length rows ≡ length ks
   rows_count = sym (length-map rows (λ r. Some r)) ∙ ap length all ∙ length-map ks (raw_row_at raw v)
 

@@ -1,8 +1,8 @@
 -- The places of children.
 use Rattle.std.proofs.Common.{◌≡◌, ℕ, zero, suc, ◌+◌, ◌-◌, ◌<◌, inl, inr, Bool, true, false, cond, nat_eq, List, [], ◌∷◌, ◌++◌, length, get_or, refl, sym, ap, subst, ◌∙◌, arith, eq-eqb}
 use Rattle.std.proofs.lemmas.Bool.{cases_eq}
-use Rattle.tdp_core.specs.RawData.{RawData, AreShapes, shape_parent, shape_child_place, child_link}
-use Rattle.tdp_core.specs.TreeData.{kids_below}
+use Rattle.tdp_core.specs.RawView.{RawView, AreShapes, shape_parent, shape_child_place, child_link}
+use Rattle.tdp_core.specs.TreeView.{kids_below}
 use Rattle.semi_join.specs.Reduction.{child_nodes}
 use Rattle.semi_join.proofs.FirstOnes.{children_among, children_more}
 use Rattle.counted_index.proofs.Lists.{get_or_snoc}
@@ -36,7 +36,7 @@ kid_stands parent v (suc n) q h l e = subst (Stands q) (sym (children_more paren
   | inr not ↦ let less : q < suc v + n = omega arith in stands_cond (nat_eq (parent (suc v + n)) v) (children_among parent v n) (suc v + n) q (kid_stands parent v n q h less e)
 ])
 
-module _ {R : Type 0} (raw : RawData R) (shaped : AreShapes raw.shapes) (v c : ℕ) (inside : v < length raw.shapes) (h : c < length (child_nodes raw v)) where
+module _ {R : Type 0} (raw : RawView R) (shaped : AreShapes raw.shapes) (v c : ℕ) (inside : v < length raw.shapes) (h : c < length (child_nodes raw v)) where
   pub place-is : shape_child_place raw.shapes (get_or (child_nodes raw v) c 0) ≡ c
   place-is =
       let after = kids_after (shape_parent raw.shapes) v (length raw.shapes - suc v) c h in

@@ -6,7 +6,7 @@ use Rattle.std.proofs.lemmas.List.Elements.{All-from_get_or}
 use Rattle.std.proofs.lemmas.List.Folds.{list_any_at, list_any_none}
 use Rattle.std.proofs.lemmas.List.Quantifiers.{position-Some}
 use Rattle.std.proofs.lemmas.List.Sums.{fails_before_first}
-use Rattle.tdp_core.specs.RawData.{RawData, child_link}
+use Rattle.tdp_core.specs.RawView.{RawView, child_link}
 use Rattle.semi_join.specs.declared.group_links.GroupLinks.{GroupLinks}
 use Rattle.semi_join.specs.Reduction.{links_of, AreFew, child_nodes, child_links}
 use Rattle.semi_join.proofs.FirstOnes.{has_first, has_more, named_first, named_last}
@@ -43,7 +43,7 @@ found_place p xs i e = by (nat_lt (position_or_len p xs) (length xs)) e
     by true q = cc
     by false q = cc
 
-module _ {R : Type 0} (raw : RawData R) (v : ℕ) (later : List (List ℕ)) where
+module _ {R : Type 0} (raw : RawView R) (v : ℕ) (later : List (List ℕ)) where
   -- the links of the groups of a child, as they are read
   pub child_links_at : (ls : List GroupLinks) (children : List ℕ) (c : ℕ) (s : GroupLinks) → later ≡ map links_of ls → children ≡ child_nodes raw v → get_or children c 0 - v - 1 < length ls
       → s ≡ get_or ls (get_or children c 0 - v - 1) s → child_links raw v later c ≡ links_of s

@@ -3,8 +3,8 @@ use Rattle.std.proofs.Common.{◌≡◌, ℕ, suc, ◌+◌, ◌-◌, ◌*◌, �
 use Rattle.std.specs.List.{filter, list_any, list_all, position_or_len, range_with_len}
 use Rattle.indexmap.specs.IndexSet.{insert_all}
 use Rattle.tdp_core.specs.declared.parts.NodeShape.{NodeShape}
-use Rattle.tdp_core.specs.RawData.{RawData, RawRowData, raw_len, rows_at, shape_at, shape_parent}
-use Rattle.tdp_core.specs.TreeData.{NodeData}
+use Rattle.tdp_core.specs.RawView.{RawView, RawRowView, raw_len, rows_at, shape_at, shape_parent}
+use Rattle.tdp_core.specs.TreeView.{NodeView}
 use Rattle.semi_join.specs.Reduction.{IsGrouping, IsReducedNode, group_links}
 
 module _ (v : ℕ) (later : List (List ℕ)) where
@@ -15,26 +15,26 @@ module _ (v : ℕ) (later : List (List ℕ)) where
   links-at shapes c = get_or later (get_or (kids shapes) c 0 - v - 1) []
 
 module _ {R : Type 0} (v : ℕ) (later : List (List ℕ)) where
-  abbrev names : List (RawRowData R) → ℕ → ℕ → ℕ
+  abbrev names : List (RawRowView R) → ℕ → ℕ → ℕ
   names rows i c = get_or (get_or (map (λ x. x.children) rows) i []) c 0
 
-  abbrev met : List NodeShape → List (RawRowData R) → ℕ → Bool
+  abbrev met : List NodeShape → List (RawRowView R) → ℕ → Bool
   met shapes rows i = list_all (λ c. list_any (nat_eq (names rows i c)) (links-at v later shapes c)) (range_with_len 0 (length (kids v later shapes)))
 
-  abbrev named : List NodeShape → List (RawRowData R) → ℕ → List ℕ
+  abbrev named : List NodeShape → List (RawRowView R) → ℕ → List ℕ
   named shapes rows i = map (λ c. position_or_len (nat_eq (names rows i c)) (links-at v later shapes c)) (range_with_len 0 (length (kids v later shapes)))
 
-  abbrev stay : List NodeShape → List (RawRowData R) → List ℕ
+  abbrev stay : List NodeShape → List (RawRowView R) → List ℕ
   stay shapes rows = filter (met shapes rows) (range_with_len 0 (length rows))
 
-  abbrev links : List NodeShape → List (RawRowData R) → List ℕ
+  abbrev links : List NodeShape → List (RawRowView R) → List ℕ
   links shapes rows = map (λ i. cond (nat_eq v 0) 0 (get_or (map (λ x. x.own) rows) i 0)) (stay shapes rows)
 
-  module _ (t u : RawData R) (shapes : t.shapes ≡ u.shapes) (same : rows_at t v ≡ rows_at u v) where
-    by_both : (F : List NodeShape → List (RawRowData R) → Type 0) → F t.shapes (rows_at t v) → F u.shapes (rows_at u v)
+  module _ (t u : RawView R) (shapes : t.shapes ≡ u.shapes) (same : rows_at t v ≡ rows_at u v) where
+    by_both : (F : List NodeShape → List (RawRowView R) → Type 0) → F t.shapes (rows_at t v) → F u.shapes (rows_at u v)
     by_both F h = subst (λ rs. F u.shapes rs) same (subst (λ ss. F ss (rows_at t v)) shapes h)
 
-    pub reduced_same : (part : NodeData R) → IsReducedNode t v later part → IsReducedNode u v later part
+    pub reduced_same : (part : NodeView R) → IsReducedNode t v later part → IsReducedNode u v later part
     reduced_same part h = record {
       shape = by_both (λ ss rs. part.shape ≡ shape_at ss v) h.shape;
       rows = by_both (λ ss rs. map Some part.rows ≡ map (λ r. slice_get (map (λ x. x.row) rs) r) (stay ss rs)) h.rows;

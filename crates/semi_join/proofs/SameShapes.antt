@@ -3,8 +3,8 @@ use Rattle.std.proofs.Common.{◌≡◌, ℕ, zero, suc, ◌<◌, List, [], ◌�
 use Rattle.std.proofs.lemmas.List.{length-map}
 use Rattle.tdp_model.specs.KeyTuple.{KeyOf}
 use Rattle.tdp_core.specs.declared.parts.NodeShape.{NodeShape}
-use Rattle.tdp_core.specs.RawData.{AreShapes, AreShapesHeld, shape_at, shape_parent, shape_item, shape_cap, shape_children, shape_child_place}
-use Rattle.tdp_core.specs.TreeData.{NodeData, kids_below, cap_of, node_at, parent, item, cap, child_count, child_place}
+use Rattle.tdp_core.specs.RawView.{AreShapes, AreShapesHeld, shape_at, shape_parent, shape_item, shape_cap, shape_children, shape_child_place}
+use Rattle.tdp_core.specs.TreeView.{NodeView, kids_below, cap_of, node_at, parent, item, cap, child_count, child_place}
 use Rattle.tdp_core.specs.WellFormed.{AreHeld, IsShaped}
 
 -- lists of one length with the same elements
@@ -17,8 +17,8 @@ same_lists (x ∷ xs) (y ∷ ys) e h =
     let rest = same_lists xs ys (omega (arith, e)) (λ k d l. h (suc k) d (omega (arith, l))) in
     ap (λ z. z ∷ xs) first ∙ ap (λ zs. y ∷ zs) rest
 
-module _ {R : Type 0} (shapes : List NodeShape) (t : List (NodeData R)) (same : map (λ n. n.shape) t ≡ shapes) where
-  shape_read : (ns : List (NodeData R)) (v : ℕ) → shape_at (map (λ n. n.shape) ns) v ≡ (node_at ns v).shape
+module _ {R : Type 0} (shapes : List NodeShape) (t : List (NodeView R)) (same : map (λ n. n.shape) t ≡ shapes) where
+  shape_read : (ns : List (NodeView R)) (v : ℕ) → shape_at (map (λ n. n.shape) ns) v ≡ (node_at ns v).shape
   shape_read [] v = refl
   shape_read (n ∷ ns) zero = refl
   shape_read (n ∷ ns) (suc v) = shape_read ns v

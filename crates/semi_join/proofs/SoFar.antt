@@ -2,7 +2,7 @@
 use Rattle.std.proofs.Common.{◌≡◌, ℕ, suc, ◌+◌, ◌-◌, ◌*◌, ◌<◌, ◌≤◌, true, false, cond, nat_eq, List, [], ◌∷◌, ◌++◌, map, length, get_or, refl, sym, ap, subst, ◌∙◌, arith, add-one, length-append, Some, None, Option, IfNone}
 use Rattle.std.proofs.Math.Nat.{mul-le-mul_left}
 use Rattle.indexmap.specs.IndexSet.{insert_key, insert_all}
-use Rattle.tdp_core.specs.RawData.{RawData, raw_row_at, shape_parent}
+use Rattle.tdp_core.specs.RawView.{RawView, raw_row_at, shape_parent}
 use Rattle.tdp_core.specs.declared.parts.NodeRow.{NodeRow}
 use Rattle.semi_join.specs.Reduction.{EndsInPlaceOf, IsNumbering, has_partners, groups_named, group_link, child_nodes}
 use Rattle.semi_join.proofs.FirstOnes.{kept_first, kept_more}
@@ -38,7 +38,7 @@ numbering_none = record {
   few = omega arith;
 }
 
-module _ {R : Type 0} (raw : RawData R) (v : ℕ) (later : List (List ℕ)) where
+module _ {R : Type 0} (raw : RawView R) (v : ℕ) (later : List (List ℕ)) where
   pub kids_below_lem : v < length raw.shapes → length (child_nodes raw v) + 1 ≤ length raw.shapes
   kids_below_lem h = let few = kids_few (shape_parent raw.shapes) v (length raw.shapes - suc v) in omega (arith, few)
 

@@ -1,8 +1,8 @@
 -- What is computed node by node is the reduction of the raw tree.
 use Rattle.std.proofs.Common.{ℕ, List, length}
 use Rattle.tdp_model.specs.KeyTuple.{KeyOf}
-use Rattle.tdp_core.specs.RawData.{RawData, IsRawFormed}
-use Rattle.tdp_core.specs.TreeData.{NodeData}
+use Rattle.tdp_core.specs.RawView.{RawView, IsRawFormed}
+use Rattle.tdp_core.specs.TreeView.{NodeView}
 use Rattle.semi_join.specs.ReducedTrees.{IsReduced}
 use Rattle.semi_join.proofs.FromLast.{AreReducedLast}
 use Rattle.semi_join.proofs.Descends.{later_of}
@@ -12,7 +12,7 @@ use Rattle.semi_join.proofs.NamedGroups.{named_members, shared_group}
 use Rattle.semi_join.proofs.KeptSolutions.{solution_kept, solutions_apart, solution_from, key_kept, tie_free_kept_lem}
 use Rattle.semi_join.proofs.FormedParts.{formed_parts}
 
-pub whole_reduction : {R : Type 0} (d : ℕ) (key : R → KeyOf d 16) (raw : RawData R) (parts : List (NodeData R)) → IsRawFormed d key raw → AreReducedLast raw (length raw.shapes) parts → IsReduced d key raw parts
+pub whole_reduction : {R : Type 0} (d : ℕ) (key : R → KeyOf d 16) (raw : RawView R) (parts : List (NodeView R)) → IsRawFormed d key raw → AreReducedLast raw (length raw.shapes) parts → IsReduced d key raw parts
 whole_reduction d key raw parts formed last = record {
   shapes = all_shapes raw parts last;
   kept = kept_at raw;

@@ -3,20 +3,20 @@ use Rattle.std.specs.Prelude.{◌≡◌, ℕ, ◌<◌, ◌↔◌, List, map, len
 use Rattle.std.specs.List.{Contains}
 use Rattle.std.specs.List.Sorted.{IsStrictlyIncreasing}
 use Rattle.tdp_model.specs.KeyTuple.{KeyOf}
-use Rattle.tdp_core.specs.RawData.{RawData, raw_len, raw_row_at, own_link, child_link, shape_parent, shape_child_place}
-use Rattle.tdp_core.specs.TreeData.{NodeData, node_at, members, group}
+use Rattle.tdp_core.specs.RawView.{RawView, raw_len, raw_row_at, own_link, child_link, shape_parent, shape_child_place}
+use Rattle.tdp_core.specs.TreeView.{NodeView, node_at, members, group}
 use Rattle.tdp_core.specs.WellFormed.{IsTieFreeTree}
 use Rattle.tdp_core.specs.Solutions.{RawExtends, IsRawSolution, IsTreeSolution, IsTieFreeRaw, raw_solution_key, solution_key}
 use Rattle.semi_join.specs.GroupedTrees.{IsGrouped}
 
 -- rows i and j of node v are members of one group
-abbrev pub ShareGroup : {R : Type 0} → List (NodeData R) → ℕ → ℕ → ℕ → Type 0
+abbrev pub ShareGroup : {R : Type 0} → List (NodeView R) → ℕ → ℕ → ℕ → Type 0
 ShareGroup t v i j = (g : ℕ) × Contains (members t v g) i × Contains (members t v g) j
 
 -- The parts have the rows of the raw tree that extend to a solution of their subtree, in groups by their own links.
 -- `kept` says for each node which rows these are: row i of the parts is row `slice_index (kept v) i` of the raw tree.
-pub record IsReduced {R : Type 0} (d : ℕ) (key : R → KeyOf d 16) (raw : RawData R)
-    (parts : List (NodeData R)) : Type 0 where
+pub record IsReduced {R : Type 0} (d : ℕ) (key : R → KeyOf d 16) (raw : RawView R)
+    (parts : List (NodeView R)) : Type 0 where
   pub shapes : map (λ n. n.shape) parts ≡ raw.shapes
   pub kept : ℕ → List ℕ
   pub exact : (v r : ℕ) → v < length raw.shapes

@@ -3,8 +3,8 @@ use Rattle.std.specs.Prelude.{◌≡◌, ℕ, suc, ◌-◌, ◌<◌, ◌≤◌, 
 use Rattle.tdp_model.specs.NodeRows.{most_node_rows}
 use Rattle.std.specs.List.{Contains, filter, list_any, list_all, position_or_len, range_with_len, concat}
 use Rattle.indexmap.specs.IndexSet.{insert_all}
-use Rattle.tdp_core.specs.RawData.{RawData, shape_at, shape_parent, raw_len, raw_row_at, own_link, child_link}
-use Rattle.tdp_core.specs.TreeData.{NodeData}
+use Rattle.tdp_core.specs.RawView.{RawView, shape_at, shape_parent, raw_len, raw_row_at, own_link, child_link}
+use Rattle.tdp_core.specs.TreeView.{NodeView}
 use Rattle.semi_join.specs.declared.group_links.GroupLinks.{GroupLinks}
 use Rattle.semi_join.specs.declared.group_links.GroupLinks.TheVariants.{Direct, Hashed}
 
@@ -51,7 +51,7 @@ EndsInPlaceOf own links numbers more = (n : ℕ) × (n < length links) × (slice
 
 -- # The rows of one node
 
-module _ {R : Type 0} (raw : RawData R) (v : ℕ) where
+module _ {R : Type 0} (raw : RawView R) (v : ℕ) where
   -- the children of v
   abbrev pub child_nodes : List ℕ
   child_nodes = filter (λ u. nat_eq (shape_parent raw.shapes u) v)
@@ -62,7 +62,7 @@ module _ {R : Type 0} (raw : RawData R) (v : ℕ) where
   group_link i = cond (nat_eq v 0) 0 (own_link raw v i)
 
 -- `later` has, for each node after v, the link of each of its groups
-module _ {R : Type 0} (raw : RawData R) (v : ℕ) (later : List (List ℕ)) where
+module _ {R : Type 0} (raw : RawView R) (v : ℕ) (later : List (List ℕ)) where
   -- the links of the groups of child number c
   abbrev pub child_links : ℕ → List ℕ
   child_links c = slice_index_or later (slice_index (child_nodes raw v) c - v - 1) []
@@ -86,7 +86,7 @@ module _ {R : Type 0} (raw : RawData R) (v : ℕ) (later : List (List ℕ)) wher
   group_links = insert_all nat_eq [] (map (group_link raw v) kept_rows)
 
   -- the parts of v
-  pub record IsReducedNode (part : NodeData R) : Type 0 where
+  pub record IsReducedNode (part : NodeView R) : Type 0 where
     pub shape : part.shape ≡ shape_at raw.shapes v
     pub rows : map Some part.rows ≡ map (raw_row_at raw v) kept_rows
     pub to_child : part.to_child ≡ map groups_named kept_rows

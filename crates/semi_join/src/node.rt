@@ -2,8 +2,8 @@
 ghost use Rattle.std.specs.Prelude.{◌≡◌, ◌+◌, ◌*◌, ◌<◌, ◌≤◌, [], ◌∷◌, ◌++◌, true, false, map, length, IfOk, IfSome, IfNone, OnOk, Some, nat_eq};
 ghost use Rattle.tdp_model.specs.NodeRows.{most_node_rows};
 ghost use Rattle.indexmap.specs.IndexSet.{insert_key};
-ghost use Rattle.tdp_core.specs.RawData.{AreShapes, raw_len, raw_row_at, row_total};
-ghost use Rattle.tdp_core.specs.TreeData.{node_data};
+ghost use Rattle.tdp_core.specs.RawView.{AreShapes, raw_len, raw_row_at, row_total};
+ghost use Rattle.tdp_core.specs.TreeView.{node_view};
 ghost use Rattle.semi_join.specs.Reduction.{AreFew, EndsInPlaceOf, IsNumbering, IsReducedNode, child_nodes, group_link, group_links, groups_named, has_partners, kept_rows, links_of};
 
 use crate::group_links::GroupLinks;
@@ -49,7 +49,7 @@ pub(crate) fn reduce_node<R: Rank, L: Ledger>(
     requires later { node + 1 + length later.now ≡ length raw.now.shapes }
     requires few { AreFew (map links_of later.now) }
     ensures reduced { IfOk result
-        (λ r. IsReducedNode raw.now node (map links_of later.now) (node_data r.parts)) }
+        (λ r. IsReducedNode raw.now node (map links_of later.now) (node_view r.parts)) }
     ensures links { IfOk result
         (λ r. links_of r.links ≡ group_links raw.now node (map links_of later.now)) }
     ensures few { IfOk result (λ r. length (links_of r.links) ≤ most_node_rows) }

@@ -1,7 +1,7 @@
 //! The reduction of a raw tree, from the last node up to the root.
 ghost use Rattle.std.specs.Prelude.{◌+◌, ◌*◌, ◌≤◌, length, IfOk};
-ghost use Rattle.tdp_core.specs.RawData.{row_total};
-ghost use Rattle.tdp_core.specs.TreeData.{tree_data};
+ghost use Rattle.tdp_core.specs.RawView.{row_total};
+ghost use Rattle.tdp_core.specs.TreeView.{tree_view};
 ghost use Rattle.semi_join.specs.ReducedTrees.{IsReduced};
 
 use crate::group_links::GroupLinks;
@@ -29,7 +29,7 @@ pub fn reduce<R: Rank, L: Ledger>(
     steps: &mut Steps<L>,
 ) -> Result<Reduced<R>, NoMemory>
     ensures reduced { IfOk result
-        (λ reduced. IsReduced R.KEYS R.key raw (tree_data reduced.nodes.items)) }
+        (λ reduced. IsReduced R.KEYS R.key raw (tree_view reduced.nodes.items)) }
     ensures cost { steps.new ≤ steps.old + 2 * length raw.shapes * (1 + row_total raw) }
 {
     let mut tree = raw;

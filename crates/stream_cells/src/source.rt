@@ -1,7 +1,7 @@
 //! The source of a solution of a group.
 
 ghost use Rattle.std.specs.Prelude.{◌≡◌, ◌+◌, ◌<◌, length, slice_index};
-ghost use Rattle.tdp_core.specs.TreeData.{group_count, members};
+ghost use Rattle.tdp_core.specs.TreeView.{group_count, members};
 
 use crate::cell::Cell;
 use rank_key::Rank;

@@ -10,7 +10,7 @@ use Rattle.take2_heap.specs.Heap.{Heap}
 use Rattle.take2_heap.specs.Order.{IsLeast, IsMinHeap}
 use Rattle.take2_heap.specs.declared.entry.Entry.{Entry}
 use Rattle.stream_model.specs.Offers.{offers}
-use Rattle.stream_model.specs.QueueView.{queue_shown}
+use Rattle.stream_model.specs.QueueView.{queue_view}
 use Rattle.stream_model.specs.declared.queue.Held.{Held}
 use Rattle.stream_model.specs.declared.queue.Held.TheVariants.{Empty, One, Many}
 use Rattle.stream_model.proofs.Moves.{exchange}
@@ -32,26 +32,26 @@ held_least keys key tag rank = (less_itself keys 16 (key rank), tt)
 
 module _ {R T A : Type 0} where
   -- without a heap
-  passed_lem : (held : Held R T A) (next other : Option (Entry R T)) → ((heap : Heap R T) → held ≡ Many heap → ⊥) → 0 < length (queue_shown held).entries
-      → (IsSome next → IsSome other → 0 < (queue_shown held).spare) → (d : Entry R T)
-      → IsPermutation (offers next other (queue_shown held).entries) (slice_index_or (queue_shown held).entries 0 d ∷ option_to_list (option_or next other))
+  passed_lem : (held : Held R T A) (next other : Option (Entry R T)) → ((heap : Heap R T) → held ≡ Many heap → ⊥) → 0 < length (queue_view held).entries
+      → (IsSome next → IsSome other → 0 < (queue_view held).spare) → (d : Entry R T)
+      → IsPermutation (offers next other (queue_view held).entries) (slice_index_or (queue_view held).entries 0 d ∷ option_to_list (option_or next other))
   passed_lem Empty next other none some room d = absurd (omega (arith, some))
   passed_lem (One tag rank) next other none some room d = one_moved (record { rank = rank; tag = tag }) next other room
   passed_lem (Many heap) next other none some room d = absurd (none heap refl)
 
   least_lem : (keys : ℕ) (key : R → KeyOf keys 16) (held : Held R T A) → ((heap : Heap R T) → held ≡ Many heap → ⊥) → (d : Entry R T)
-      → IsLeast keys key (slice_index_or (queue_shown held).entries 0 d) (queue_shown held).entries
+      → IsLeast keys key (slice_index_or (queue_view held).entries 0 d) (queue_view held).entries
   least_lem keys key Empty none d = tt
   least_lem keys key (One tag rank) none d = held_least keys key tag rank
   least_lem keys key (Many heap) none d = absurd (none heap refl)
 
-  offered_lem : (held : Held R T A) (entry : Option (Entry R T)) → ((heap : Heap R T) → held ≡ Many heap → ⊥) → (IsSome entry → 0 < (queue_shown held).spare)
-      → IsPermutation (offers entry None (queue_shown held).entries) (queue_shown held).entries
+  offered_lem : (held : Held R T A) (entry : Option (Entry R T)) → ((heap : Heap R T) → held ≡ Many heap → ⊥) → (IsSome entry → 0 < (queue_view held).spare)
+      → IsPermutation (offers entry None (queue_view held).entries) (queue_view held).entries
   offered_lem Empty entry none room = none_offered [] entry room
   offered_lem (One tag rank) entry none room = none_offered (record { rank = rank; tag = tag } ∷ []) entry room
   offered_lem (Many heap) entry none room = absurd (none heap refl)
 
-module _ {R T A : Type 0} (held : Held R T A) (old : Heap R T) (shown : queue_shown held ≡ old) where
+module _ {R T A : Type 0} (held : Held R T A) (old : Heap R T) (shown : queue_view held ≡ old) where
   module _ (none : (heap : Heap R T) → held ≡ Many heap → ⊥) where
     pub passed_single : (new : Heap R T) (r next other : Option (Entry R T)) → new ≡ record { entries = option_to_list r; spare = 0 } → r ≡ option_or next other
         → 0 < length old.entries → (IsSome next → IsSome other → 0 < old.spare) → (d : Entry R T)
@@ -65,7 +65,7 @@ module _ {R T A : Type 0} (held : Held R T A) (old : Heap R T) (shown : queue_sh
     pub least_single : (keys : ℕ) (key : R → KeyOf keys 16) (d : Entry R T) → IsLeast keys key (slice_index_or old.entries 0 d) old.entries
     least_single keys key d = subst (λ (q : Heap R T). IsLeast keys key (slice_index_or q.entries 0 d) q.entries) shown (least_lem keys key held none d)
 
-    spare_lem : (h : Held R T A) → ((heap : Heap R T) → h ≡ Many heap → ⊥) → (queue_shown h).spare ≡ 0
+    spare_lem : (h : Held R T A) → ((heap : Heap R T) → h ≡ Many heap → ⊥) → (queue_view h).spare ≡ 0
     spare_lem Empty n = refl
     spare_lem (One tag rank) n = refl
     spare_lem (Many heap) n = absurd (n heap refl)
@@ -75,7 +75,7 @@ module _ {R T A : Type 0} (held : Held R T A) (old : Heap R T) (shown : queue_sh
 
   pub least_many : (keys : ℕ) (key : R → KeyOf keys 16) (heap : Heap R T) → held ≡ Many heap → (d : Entry R T) → IsLeast keys key (slice_index_or heap.entries 0 d) heap.entries
       → IsLeast keys key (slice_index_or old.entries 0 d) old.entries
-  least_many keys key heap is d h = subst (λ (q : Heap R T). IsLeast keys key (slice_index_or q.entries 0 d) q.entries) (ap queue_shown (sym is) ∙ shown) h
+  least_many keys key heap is d h = subst (λ (q : Heap R T). IsLeast keys key (slice_index_or q.entries 0 d) q.entries) (ap queue_view (sym is) ∙ shown) h
 
 -- no entry is before another one among at most one
 pub single_heap : {R T : Type 0} (keys : ℕ) (key : R → KeyOf keys 16) (o : Option (Entry R T)) → IsMinHeap keys key (option_to_list o)

@@ -5,7 +5,7 @@ use Rattle.stream_model.specs.declared.queue.Held.{Held}
 use Rattle.stream_model.specs.declared.queue.Held.TheVariants.{Empty, One, Many}
 
 -- one entry alone has no room beside it
-abbrev pub queue_shown : {R T A : Type 0} → Held R T A → Heap R T
-queue_shown Empty = record { entries = []; spare = 0 }
-queue_shown (One tag rank) = record { entries = record { rank = rank; tag = tag } ∷ []; spare = 0 }
-queue_shown (Many heap) = heap
+abbrev pub queue_view : {R T A : Type 0} → Held R T A → Heap R T
+queue_view Empty = record { entries = []; spare = 0 }
+queue_view (One tag rank) = record { entries = record { rank = rank; tag = tag } ∷ []; spare = 0 }
+queue_view (Many heap) = heap

@@ -5,7 +5,7 @@ ghost use Rattle.rank_key.specs.Bits.{bit_length};
 ghost use Rattle.take2_heap.specs.Order.{IsMinHeap, IsLeast};
 ghost use Rattle.take2_heap.specs.declared.entry.Entry.{Entry};
 ghost use Rattle.stream_model.specs.Offers.{offers};
-ghost use Rattle.stream_model.specs.QueueView.{queue_shown};
+ghost use Rattle.stream_model.specs.QueueView.{queue_view};
 
 use rank_key::Rank;
 use std::alloc::Allocator;
@@ -32,11 +32,11 @@ pub struct Queue<R: Rank, T: Copy, A: Allocator> {
 
 impl<R: Rank, T: Copy, A: Allocator> Model for Queue<R, T, A> {
     ghost use Rattle.take2_heap.specs.Heap.{Heap};
-    ghost use Rattle.stream_model.specs.QueueView.{queue_shown};
+    ghost use Rattle.stream_model.specs.QueueView.{queue_view};
 
     ghost Value = { Heap R T };
 
-    ghost view = { λ q. queue_shown q.held };
+    ghost view = { λ q. queue_view q.held };
 }
 
 impl<R: Rank, T: Copy, A: Allocator> Queue<R, T, A> {
@@ -154,7 +154,7 @@ impl<R: Rank, T: Copy, A: Allocator + Clone> Queue<R, T, A> {
 
 /// This entry, if there is one, without a heap.
 fn held_of<R: Rank, T: Copy, A: Allocator>(entry: Option<Entry<R, T>>) -> Held<R, T, A>
-    ensures { queue_shown result ≡ record { entries = option_to_list entry; spare = 0 } }
+    ensures { queue_view result ≡ record { entries = option_to_list entry; spare = 0 } }
 {
     match entry {
         Some(entry) => Held::One(entry.tag, entry.rank),

@@ -8,7 +8,7 @@ use Rattle.stream_store.specs.declared.entry.Linked.{Linked}
 use Rattle.take2_heap.specs.declared.entry.Entry.{Entry}
 use Rattle.tdp_model.specs.KeyTuple.{KeyOf, key_below, key_none}
 use Rattle.tdp_model.specs.Product.{Pair, run_key}
-use Rattle.tdp_core.specs.TreeData.{NodeData, rows, members, group_count, group_named, child_count}
+use Rattle.tdp_core.specs.TreeView.{NodeView, rows, members, group_count, group_named, child_count}
 use Rattle.tdp_core.specs.WellFormed.{IsFormed, IsTieFreeTree}
 use Rattle.stream_model.specs.Ahead.{IsAhead}
 use Rattle.stream_model.specs.QueueEntries.{IsHeld, places, InRuns}
@@ -16,11 +16,11 @@ use Rattle.stream_model.specs.Reaches.{reaches}
 use Rattle.stream_model.specs.Links.{owned, place_in, IsLinkedAt}
 use Rattle.suffix_streams.specs.declared.stream.Found.{Found}
 use Rattle.stream_cells.specs.declared.source.Source.{Source}
-use Rattle.suffix_streams.specs.ProductData.{ProductData}
-use Rattle.suffix_streams.specs.NodeLists.{NodeLists, known_of}
+use Rattle.suffix_streams.specs.ProductView.{ProductView}
+use Rattle.suffix_streams.specs.NodeStreamsView.{NodeStreamsView, known_of}
 use Rattle.suffix_streams.specs.Rankings.{child, part_list, group_list}
 use Rattle.suffix_streams.specs.Frontiers.{AreFirst}
-use Rattle.suffix_streams.specs.StreamsData.{node_list, group_list_of, node_of, group_of, place_of, stream, lists_of, stream_of, product_of, row_known, run_of, IsHeaded, HasOwnParts, IsStreamOf, IsStreams}
+use Rattle.suffix_streams.specs.TreeStreams.{node_list, group_list_of, node_of, group_of, place_of, stream, lists_of, stream_of, product_of, row_known, run_of, IsHeaded, HasOwnParts, IsStreamOf, IsStreams}
 use Rattle.suffix_streams.specs.Beginnings.{IsBegunAt, IsBegun}
 use Rattle.suffix_streams.proofs.FirstSums.{first_own}
 use Rattle.suffix_streams.proofs.BeginFirsts.{group_head}
@@ -29,7 +29,7 @@ use Rattle.suffix_streams.proofs.BeginQueues.{first_ahead}
 use Rattle.suffix_streams.proofs.BeginOwners.{owned_within, only_one}
 use Rattle.suffix_streams.proofs.ViewEntries.{stream_length, stream_at}
 
-module _ {R : Type 0} (d : ℕ) (key : R → KeyOf d 16) (t : List (NodeData R)) (es : List (Linked (Found R))) (nodes : List (NodeLists R)) (b : IsBegun d key t es nodes) where
+module _ {R : Type 0} (d : ℕ) (key : R → KeyOf d 16) (t : List (NodeView R)) (es : List (Linked (Found R))) (nodes : List (NodeStreamsView R)) (b : IsBegun d key t es nodes) where
   nodes_groups : length (node_list es) ≡ length (group_list_of es)
   nodes_groups = length-map es (λ e. e.value.node) ∙ sym (length-map es (λ e. e.value.group))
 
@@ -50,7 +50,7 @@ module _ {R : Type 0} (d : ℕ) (key : R → KeyOf d 16) (t : List (NodeData R))
       ∙ ap (λ z. owned (take (stream_of nodes q h).head (node_list es)) (take (stream_of nodes q h).head (group_list_of es)) q z) x.group
       ∙ place_first q h (stream_of nodes q h).head lh x.head_in x.node x.group
 
-module _ {R : Type 0} (d : ℕ) (key : R → KeyOf d 16) (t : List (NodeData R)) (formed : IsFormed d key t) (es : List (Linked (Found R))) (nodes : List (NodeLists R)) (b : IsBegun d key t es nodes) where
+module _ {R : Type 0} (d : ℕ) (key : R → KeyOf d 16) (t : List (NodeView R)) (formed : IsFormed d key t) (es : List (Linked (Found R))) (nodes : List (NodeStreamsView R)) (b : IsBegun d key t es nodes) where
   -- if the streams of all later nodes are there, the groups that a row names have heads
   pub headed_begun : (v r : ℕ) → v < length t → r < rows t v → ((q : ℕ) → v < q → q < length t → length (lists_of nodes q).streams ≡ group_count t q) → IsHeaded d key t es nodes v r
   headed_begun v r l row behind = record {
@@ -75,7 +75,7 @@ module _ {R : Type 0} (d : ℕ) (key : R → KeyOf d 16) (t : List (NodeData R))
       at : (c : ℕ) (k : c < child_count t v) → IsBegunAt d key t es nodes (child t v c) (group_named t v r c)
       at c k = b.begun (child t v c) (group_named t v r c) (inside c k) (there c k)
 
-module _ {R : Type 0} (d : ℕ) (key : R → KeyOf d 16) (t : List (NodeData R)) (formed : IsFormed d key t) (free : IsTieFreeTree t) (es : List (Linked (Found R))) (nodes : List (NodeLists R)) (b : IsBegun d key t es nodes) where
+module _ {R : Type 0} (d : ℕ) (key : R → KeyOf d 16) (t : List (NodeView R)) (formed : IsFormed d key t) (free : IsTieFreeTree t) (es : List (Linked (Found R))) (nodes : List (NodeStreamsView R)) (b : IsBegun d key t es nodes) where
   -- the stream is its head
   stream_is : (q h : ℕ) (a : Entry R Source) → q < length t → h < length (lists_of nodes q).streams → (e : Linked (Found R)) → a ≡ (get_or es (stream_of nodes q h).head e).value.solution → stream es q h ≡ a ∷ []
   stream_is q h a l lh e s =
@@ -95,7 +95,7 @@ module _ {R : Type 0} (d : ℕ) (key : R → KeyOf d 16) (t : List (NodeData R))
       (omega arith, s.0, one_taken (group_list d key t q h) (key a.rank) (key_none d 16) s.0 (sym k))
 
   row_one : (q r : ℕ) → row_known nodes q r ≡ 1
-  row_one q r = ap (λ (ps : List (ProductData R)). known_of (lists_of nodes q) r (length ps)) (b.no_products q r)
+  row_one q r = ap (λ (ps : List (ProductView R)). known_of (lists_of nodes q) r (length ps)) (b.no_products q r)
 
   abbrev Known : ℕ → ℕ → Entry R Source → Type 0
   Known q h e = e.tag.place < row_known nodes q (get_or (members t q h) e.tag.member 0)
@@ -174,4 +174,4 @@ module _ {R : Type 0} (d : ℕ) (key : R → KeyOf d 16) (t : List (NodeData R))
   -- no queue of a product has more than one entry
   pub few_begun : (v r c : ℕ) → length (product_of nodes v r c).frontier ≤ 0 + 1
   few_begun v r c =
-      omega (arith, ap (λ (ps : List (ProductData R)). length (get_or ps c (record { found = []; ranks = []; frontier = []; room = 0; frontier_room = 0 })).frontier) (b.no_products v r))
+      omega (arith, ap (λ (ps : List (ProductView R)). length (get_or ps c (record { found = []; ranks = []; frontier = []; room = 0; frontier_room = 0 })).frontier) (b.no_products v r))

@@ -2,7 +2,7 @@
 use Rattle.std.proofs.Common.{◌≡◌, ◌≢◌, ℕ, zero, suc, ◌+◌, ◌<◌, ◌≤◌, cond, nat_eq, nat_lt, List, [], ◌∷◌, ◌++◌, length, get_or, refl, sym, ap, ◌∙◌, subst, inl, inr, arith}
 use Rattle.std.proofs.lemmas.Bool.{cases_lt, cases_eq}
 use Rattle.std.proofs.lemmas.Bool.Decides.{nat_tests}
-use Rattle.tdp_core.specs.TreeData.{NodeData, parent, child_count, child_place, kids_below}
+use Rattle.tdp_core.specs.TreeView.{NodeView, parent, child_count, child_place, kids_below}
 use Rattle.tdp_core.proofs.Children.{kids_below_first, kids_below_child, kids_below_other}
 use Rattle.suffix_streams.specs.Rankings.{child_among, child}
 
@@ -60,7 +60,7 @@ among_is parent v c (suc n) l = elim (cases_lt c (kids_below parent v n)) [
   ]
 ]
 
-module _ {R : Type 0} (t : List (NodeData R)) where
+module _ {R : Type 0} (t : List (NodeView R)) where
   pub child_is : (v c : ℕ) → c < child_count t v → (0 < child t v c) × (child t v c < length t) × (parent t (child t v c) ≡ v) × (child_place t (child t v c) ≡ c)
   child_is v c l =
       let r = among_is (parent t) v c (length t) l in

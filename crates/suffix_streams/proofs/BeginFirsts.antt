@@ -7,7 +7,7 @@ use Rattle.tdp_model.specs.KeyTuple.{KeyOf, key_below, key_none}
 use Rattle.tdp_model.proofs.KeyTuples.{tuple_keys}
 use Rattle.tdp_model.proofs.Keys.{at_most_trans}
 use Rattle.tdp_model.proofs.Subtrees.{climbs_ordered, climbs_all}
-use Rattle.tdp_core.specs.TreeData.{NodeData, rows, members, best}
+use Rattle.tdp_core.specs.TreeView.{NodeView, rows, members, best}
 use Rattle.tdp_core.specs.WellFormed.{IsFormed}
 use Rattle.tdp_core.proofs.TreeFacts.{best_had, best_least, member_is_row}
 use Rattle.suffix_streams.specs.Rankings.{RowSolution, GroupSolution}
@@ -26,7 +26,7 @@ least_first {K} Below o Has (x ∷ ks) k d r h least = (omega arith, same (r.com
     same (inl e) = sym e
     same (inr m) = absurd (not_above x k (below_member Below x k ks r.ascending.0 m) (least x (r.sound x (inl refl))))
 
-module _ {R : Type 0} (d : ℕ) (key : R → KeyOf d 16) (t : List (NodeData R)) (formed : IsFormed d key t) where
+module _ {R : Type 0} (d : ℕ) (key : R → KeyOf d 16) (t : List (NodeView R)) (formed : IsFormed d key t) where
   -- no member of a group has a solution below the best of the first member
   pub group_at_most : (q g i : ℕ) (k : KeyOf d 16) → q < length t → i < length (members t q g)
       → RowSolution d key t q (get_or (members t q g) i 0) k

@@ -5,28 +5,28 @@ use Rattle.std.proofs.lemmas.Bool.Decides.{nat_tests}
 use Rattle.std.proofs.lemmas.List.{length-map}
 use Rattle.stream_store.specs.declared.entry.Linked.{Linked}
 use Rattle.tdp_model.specs.KeyTuple.{KeyOf, key_none}
-use Rattle.tdp_core.specs.TreeData.{NodeData, group_count}
+use Rattle.tdp_core.specs.TreeView.{NodeView, group_count}
 use Rattle.stream_model.specs.Links.{owned, place_in}
 use Rattle.stream_model.proofs.Linking.{place_kept}
 use Rattle.stream_cells.specs.declared.cell.Cell.{Cell}
 use Rattle.suffix_streams.specs.Firsts.{IsFirstCell}
 use Rattle.suffix_streams.specs.declared.stream.Found.{Found}
-use Rattle.suffix_streams.specs.StreamData.{StreamData}
-use Rattle.suffix_streams.specs.NodeLists.{NodeLists}
+use Rattle.suffix_streams.specs.StreamView.{StreamView}
+use Rattle.suffix_streams.specs.NodeStreamsView.{NodeStreamsView}
 use Rattle.suffix_streams.specs.Rankings.{group_list}
 use Rattle.stream_cells.specs.declared.source.Source.{Source}
 use Rattle.take2_heap.specs.declared.entry.Entry.{Entry}
-use Rattle.suffix_streams.specs.StreamsData.{node_list, group_list_of, next_list, node_of, group_of, place_of, next_of, lists_of, stream_of}
+use Rattle.suffix_streams.specs.TreeStreams.{node_list, group_list_of, next_list, node_of, group_of, place_of, next_of, lists_of, stream_of}
 use Rattle.suffix_streams.proofs.BeginOwners.{owned_by, owned_else, map_behind, get_before, get_behind, length_behind, get_past}
 use Rattle.suffix_streams.specs.Beginnings.{HasFirst, AreChildren, IsEmptyNode, IsBegunAt, IsBegun}
 
 -- the lists of a node, with one more stream
-abbrev pub with_stream : {R : Type 0} → NodeLists R → StreamData R → NodeLists R
+abbrev pub with_stream : {R : Type 0} → NodeStreamsView R → StreamView R → NodeStreamsView R
 with_stream n s = record { children = n.children; streams = n.streams ++ (s ∷ []); products = n.products }
 
-module _ {R : Type 0} (d : ℕ) (key : R → KeyOf d 16) (t : List (NodeData R)) where
+module _ {R : Type 0} (d : ℕ) (key : R → KeyOf d 16) (t : List (NodeView R)) where
   -- no stream is there yet
-  pub begun_none : (nodes : List (NodeLists R)) → length nodes ≡ length t → ((v : ℕ) → v < length t → IsEmptyNode t v (lists_of nodes v)) → IsBegun d key t [] nodes
+  pub begun_none : (nodes : List (NodeStreamsView R)) → length nodes ≡ length t → ((v : ℕ) → v < length t → IsEmptyNode t v (lists_of nodes v)) → IsBegun d key t [] nodes
   unfolding owned
   begun_none nodes n empty = record {
     all_nodes = n;
@@ -44,7 +44,7 @@ module _ {R : Type 0} (d : ℕ) (key : R → KeyOf d 16) (t : List (NodeData R))
       not_there x y e = grind (arith, nat_tests)
 
       -- the same past the last node
-      anywhere : (P : NodeLists R → Type 0) → ((v : ℕ) → v < length t → P (lists_of nodes v)) → P (record { children = []; streams = []; products = [] }) → (v : ℕ) → P (lists_of nodes v)
+      anywhere : (P : NodeStreamsView R → Type 0) → ((v : ℕ) → v < length t → P (lists_of nodes v)) → P (record { children = []; streams = []; products = [] }) → (v : ℕ) → P (lists_of nodes v)
       anywhere P f e v = elim (cases_lt v (length t)) [
         | inl l ↦ f v l
         | inr g ↦ subst P (sym (get_past nodes v (record { children = []; streams = []; products = [] }) (omega (arith, g, n)))) e
@@ -53,12 +53,12 @@ module _ {R : Type 0} (d : ℕ) (key : R → KeyOf d 16) (t : List (NodeData R))
       none : (v : ℕ) → length (lists_of nodes v).streams ≡ 0
       none = anywhere (λ n. length n.streams ≡ 0) (λ v l. ap length (empty v l).no_streams) refl
 
-module _ {R : Type 0} (d : ℕ) (key : R → KeyOf d 16) (t : List (NodeData R)) (es : List (Linked (Found R))) (nodes nodes' : List (NodeLists R)) (v : ℕ) (e : Linked (Found R)) (s : StreamData R)
+module _ {R : Type 0} (d : ℕ) (key : R → KeyOf d 16) (t : List (NodeView R)) (es : List (Linked (Found R))) (nodes nodes' : List (NodeStreamsView R)) (v : ℕ) (e : Linked (Found R)) (s : StreamView R)
     (same_nodes : length nodes' ≡ length nodes)
     (other : (q : ℕ) → q ≢ v → lists_of nodes' q ≡ lists_of nodes q)
     (own : lists_of nodes' v ≡ with_stream (lists_of nodes v) s) where
   -- what holds for a node's lists, whichever node it is
-  at_node : (P : ℕ → NodeLists R → Type 0) → ((q : ℕ) → q ≢ v → P q (lists_of nodes q)) → P v (with_stream (lists_of nodes v) s) → (q : ℕ) → P q (lists_of nodes' q)
+  at_node : (P : ℕ → NodeStreamsView R → Type 0) → ((q : ℕ) → q ≢ v → P q (lists_of nodes q)) → P v (with_stream (lists_of nodes v) s) → (q : ℕ) → P q (lists_of nodes' q)
   at_node P f g q = elim (cases_eq q v) [
     | inl same ↦ subst (λ z. P z (lists_of nodes' z)) (sym same) (subst (λ z. P v z) (sym own) g)
     | inr n ↦ subst (λ z. P q z) (sym (other q n)) (f q n)

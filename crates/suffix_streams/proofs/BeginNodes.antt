@@ -4,23 +4,23 @@ use Rattle.std.proofs.lemmas.Bool.{cases_lt, cases_eq}
 use Rattle.stream_store.specs.declared.entry.Linked.{Linked}
 use Rattle.tdp_model.specs.KeyTuple.{KeyOf, key_none}
 use Rattle.tdp_model.specs.TreeProblem.{sum_from}
-use Rattle.tdp_core.specs.TreeData.{NodeData, best, members, group_count, child_count, rows}
+use Rattle.tdp_core.specs.TreeView.{NodeView, best, members, group_count, child_count, rows}
 use Rattle.tdp_core.specs.WellFormed.{IsFormed}
 use Rattle.tdp_core.proofs.TreeFacts.{member_is_row}
 use Rattle.suffix_streams.specs.declared.stream.Found.{Found}
-use Rattle.suffix_streams.specs.StreamData.{StreamData}
-use Rattle.suffix_streams.specs.NodeLists.{NodeLists}
+use Rattle.suffix_streams.specs.StreamView.{StreamView}
+use Rattle.suffix_streams.specs.NodeStreamsView.{NodeStreamsView}
 use Rattle.suffix_streams.specs.Rankings.{part_list, group_list}
 use Rattle.stream_cells.specs.declared.source.Source.{Source}
 use Rattle.take2_heap.specs.declared.entry.Entry.{Entry}
-use Rattle.suffix_streams.specs.StreamsData.{lists_of}
+use Rattle.suffix_streams.specs.TreeStreams.{lists_of}
 use Rattle.suffix_streams.specs.Beginnings.{HasFirst, IsEmptyNode, IsBegunFrom, IsBegunIn}
 use Rattle.suffix_streams.proofs.BeginFirsts.{group_head, row_head}
 use Rattle.suffix_streams.proofs.Rankings.{group_is_ranking, row_is_ranking}
 use Rattle.suffix_streams.proofs.BeginOwners.{get_before, get_behind, get_default}
 use Rattle.suffix_streams.proofs.BeginMade.{with_stream, begun_none, begun_more}
 
-module _ {R : Type 0} (d : ℕ) (key : R → KeyOf d 16) (t : List (NodeData R)) (formed : IsFormed d key t) where
+module _ {R : Type 0} (d : ℕ) (key : R → KeyOf d 16) (t : List (NodeView R)) (formed : IsFormed d key t) where
   -- a group's ranking begins with the first solution of its first member
   pub first_member : (q g : ℕ) → q < length t → g < group_count t q
       → get_or (part_list d key t q (get_or (members t q g) 0 0) (child_count t q)) 0 (key_none d 16) ≡ get_or (group_list d key t q g) 0 (key_none d 16)
@@ -35,18 +35,18 @@ module _ {R : Type 0} (d : ℕ) (key : R → KeyOf d 16) (t : List (NodeData R))
   first_best q g l lg =
       sym (row_head d key t formed q (get_or (members t q g) 0 0) _ l (member_is_row d key t formed q g 0 l (formed.inhabited q g l lg)) (row_is_ranking d key t formed q (get_or (members t q g) 0 0) l)).1
 
-module _ {R : Type 0} (d : ℕ) (key : R → KeyOf d 16) (t : List (NodeData R)) where
-  pub from_none : (nodes : List (NodeLists R)) → length nodes ≡ length t → ((v : ℕ) → v < length t → IsEmptyNode t v (lists_of nodes v)) → IsBegunFrom d key t [] nodes (length t)
+module _ {R : Type 0} (d : ℕ) (key : R → KeyOf d 16) (t : List (NodeView R)) where
+  pub from_none : (nodes : List (NodeStreamsView R)) → length nodes ≡ length t → ((v : ℕ) → v < length t → IsEmptyNode t v (lists_of nodes v)) → IsBegunFrom d key t [] nodes (length t)
   from_none nodes n empty = record {
     streams = begun_none d key t nodes n empty;
     behind = λ q a b. absurd (omega arith);
     before = λ q l. (empty q l).no_streams;
   }
 
-  pub from_in : (es : List (Linked (Found R))) (nodes : List (NodeLists R)) (v w : ℕ) → w ≡ v + 1 → IsBegunFrom d key t es nodes w → IsBegunIn d key t es nodes v 0
+  pub from_in : (es : List (Linked (Found R))) (nodes : List (NodeStreamsView R)) (v w : ℕ) → w ≡ v + 1 → IsBegunFrom d key t es nodes w → IsBegunIn d key t es nodes v 0
   from_in es nodes v w e b = record { streams = b.streams; behind = λ q a l. b.behind q (omega arith) l; own = ap length (b.before v (omega arith)); before = λ q l. b.before q (omega arith) }
 
-  pub in_from : (es : List (Linked (Found R))) (nodes : List (NodeLists R)) (v g : ℕ) → g ≡ group_count t v → IsBegunIn d key t es nodes v g → IsBegunFrom d key t es nodes v
+  pub in_from : (es : List (Linked (Found R))) (nodes : List (NodeStreamsView R)) (v g : ℕ) → g ≡ group_count t v → IsBegunIn d key t es nodes v g → IsBegunFrom d key t es nodes v
   in_from es nodes v g all b = record {
     streams = b.streams;
     behind = λ q a l. elim (cases_eq q v) [
@@ -57,7 +57,7 @@ module _ {R : Type 0} (d : ℕ) (key : R → KeyOf d 16) (t : List (NodeData R))
   }
 
   -- one more stream of the node is made
-  pub in_more : (es : List (Linked (Found R))) (nodes nodes' : List (NodeLists R)) (v g w : ℕ) (e : Linked (Found R)) (s : StreamData R) → length nodes' ≡ length nodes → ((q : ℕ) → q ≢ v → lists_of nodes' q ≡ lists_of nodes q)
+  pub in_more : (es : List (Linked (Found R))) (nodes nodes' : List (NodeStreamsView R)) (v g w : ℕ) (e : Linked (Found R)) (s : StreamView R) → length nodes' ≡ length nodes → ((q : ℕ) → q ≢ v → lists_of nodes' q ≡ lists_of nodes q)
       → lists_of nodes' v ≡ with_stream (lists_of nodes v) s → v < length t → g < group_count t v → w ≡ g + 1 → e.value.node ≡ v → e.value.group ≡ g → e.next ≡ None → s.head ≡ length es
       → key e.value.solution.rank ≡ get_or (group_list d key t v g) 0 (key_none d 16) → ((x : Entry R Source) → e.value.solution ≡ get_or s.queue 0 x) → HasFirst d key t es v g s.queue
       → IsBegunIn d key t es nodes v g → IsBegunIn d key t (es ++ (e ∷ [])) nodes' v w
@@ -68,7 +68,7 @@ module _ {R : Type 0} (d : ℕ) (key : R → KeyOf d 16) (t : List (NodeData R))
     before = λ q lq. ap (λ z. z.streams) (other q (λ e. omega arith)) ∙ b.before q lq;
   }
     where
-      length_more : (xs : List (StreamData R)) (x : StreamData R) → length (xs ++ (x ∷ [])) ≡ length xs + 1
+      length_more : (xs : List (StreamView R)) (x : StreamView R) → length (xs ++ (x ∷ [])) ≡ length xs + 1
       length_more [] x = refl
       length_more (y ∷ xs) x = omega (arith, length_more xs x)
 
@@ -90,7 +90,7 @@ module _ {R : Type 0} (d : ℕ) (key : R → KeyOf d 16) (t : List (NodeData R))
       ap (λ n. sum_from ◌+◌ 0 (rows t) n v) step ∙ ap (λ z. rows t v + sum_from ◌+◌ 0 (rows t) (length t - z) z) next
 
   -- the nodes when one node has one more stream
-  pub nodes_set : (nodes : List (NodeLists R)) (v : ℕ) (n n' : NodeLists R) (s : StreamData R) → v < length nodes → n ≡ get_or nodes v n → n' ≡ with_stream n s
+  pub nodes_set : (nodes : List (NodeStreamsView R)) (v : ℕ) (n n' : NodeStreamsView R) (s : StreamView R) → v < length nodes → n ≡ get_or nodes v n → n' ≡ with_stream n s
       → (length (slice_set nodes v n') ≡ length nodes) × ((q : ℕ) → q ≢ v → lists_of (slice_set nodes v n') q ≡ lists_of nodes q) × (lists_of (slice_set nodes v n') v ≡ with_stream (lists_of nodes v) s)
   nodes_set nodes v n n' s l e e' = (
     length-set nodes v n',
@@ -99,7 +99,7 @@ module _ {R : Type 0} (d : ℕ) (key : R → KeyOf d 16) (t : List (NodeData R))
   )
 
   -- one more node without streams
-  pub empties_more : (nodes : List (NodeLists R)) (n : NodeLists R) (k : ℕ) → length nodes ≡ k → ((v : ℕ) → v < k → IsEmptyNode t v (lists_of nodes v)) → IsEmptyNode t k n
+  pub empties_more : (nodes : List (NodeStreamsView R)) (n : NodeStreamsView R) (k : ℕ) → length nodes ≡ k → ((v : ℕ) → v < k → IsEmptyNode t v (lists_of nodes v)) → IsEmptyNode t k n
       → (v : ℕ) → v < k + 1 → IsEmptyNode t v (lists_of (nodes ++ (n ∷ [])) v)
   empties_more nodes n k e h x v l = elim (cases_lt v k) [
     | inl before ↦ subst (IsEmptyNode t v) (sym (get_before nodes n v (record { children = []; streams = []; products = [] }) (omega (arith, before, e)))) (h v before)

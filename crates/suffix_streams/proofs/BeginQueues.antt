@@ -9,7 +9,7 @@ use Rattle.tdp_model.specs.Product.{Pair, run_key}
 use Rattle.tdp_model.specs.TreeProblem.{RowHas}
 use Rattle.tdp_model.proofs.KeyTuples.{tuple_keys}
 use Rattle.take2_heap.specs.declared.entry.Entry.{Entry}
-use Rattle.tdp_core.specs.TreeData.{NodeData, parent, item, number, members, group, rank, best}
+use Rattle.tdp_core.specs.TreeView.{NodeView, parent, item, number, members, group, rank, best}
 use Rattle.tdp_core.specs.WellFormed.{IsFormed, IsTieFreeTree}
 use Rattle.tdp_core.proofs.TreeFacts.{member_is_row, members_apart, tie_free_of}
 use Rattle.stream_model.specs.Ahead.{IsAhead}
@@ -19,7 +19,7 @@ use Rattle.stream_model.proofs.Held.{held_inside}
 use Rattle.stream_model.proofs.Begins.{members_begin}
 use Rattle.suffix_streams.proofs.BeginFirsts.{group_head, row_head}
 
-module _ {R T : Type 0} (d : ℕ) (key : R → KeyOf d 16) (t : List (NodeData R)) (formed : IsFormed d key t) (free : IsTieFreeTree t) (at : T → Pair) (q g : ℕ) where
+module _ {R T : Type 0} (d : ℕ) (key : R → KeyOf d 16) (t : List (NodeView R)) (formed : IsFormed d key t) (free : IsTieFreeTree t) (at : T → Pair) (q g : ℕ) where
   -- the first member's first solution is ahead of the group's whole ranking, which it begins
   pub first_ahead : (e : Entry R T) (whole : List (KeyOf d 16)) (lists : ℕ → List (KeyOf d 16)) → q < length t → 0 < length (members t q g)
       → at e.tag ≡ record { left = 0; right = 0 } → key e.rank ≡ best t d key q (get_or (members t q g) 0 0)

@@ -9,14 +9,14 @@ use Rattle.tdp_model.specs.TreeProblem.{rows_after, GroupHas, gather}
 use Rattle.tdp_model.proofs.KeyTuples.{tuple_keys}
 use Rattle.tdp_model.proofs.Begin.{IsRanking-same, ranking_of_root}
 use Rattle.tdp_model.proofs.Bridge.{deeper, shallower}
-use Rattle.tdp_core.specs.TreeData.{NodeData, node_at, parent, item, number, rows, members, group, group_count, rank, best}
+use Rattle.tdp_core.specs.TreeView.{NodeView, node_at, parent, item, number, rows, members, group, group_count, rank, best}
 use Rattle.tdp_core.specs.WellFormed.{IsFormed, IsTieFreeTree}
 use Rattle.tdp_core.specs.Solutions.{IsTreeRanking}
 use Rattle.tdp_core.proofs.TreeFacts.{tree_of, tie_free_of}
 use Rattle.suffix_streams.specs.Rankings.{solution_keys, group_list}
 use Rattle.suffix_streams.proofs.Rankings.{group_is_ranking}
 
-module _ {R : Type 0} (d : ℕ) (key : R → KeyOf d 16) (t : List (NodeData R)) where
+module _ {R : Type 0} (d : ℕ) (key : R → KeyOf d 16) (t : List (NodeView R)) where
   -- # The root's group
 
   no_group : group_count t 0 ≡ 0 → (g : ℕ) → members t 0 g ≡ []

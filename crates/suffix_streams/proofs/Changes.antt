@@ -3,23 +3,23 @@ use Rattle.std.proofs.Common.{◌≡◌, ◌≢◌, ℕ, zero, suc, ◌<◌, ◌
 use Rattle.std.proofs.lemmas.Bool.{cases_eq}
 use Rattle.std.proofs.lemmas.List.{get_or-set_same, get_or-set_other}
 use Rattle.stream_store.specs.declared.entry.Linked.{Linked}
-use Rattle.tdp_core.specs.TreeData.{NodeData, rows}
+use Rattle.tdp_core.specs.TreeView.{NodeView, rows}
 use Rattle.tdp_model.specs.KeyTuple.{KeyOf}
 use Rattle.suffix_streams.specs.declared.stream.Found.{Found}
-use Rattle.suffix_streams.specs.ProductData.{ProductData}
-use Rattle.suffix_streams.specs.NodeLists.{NodeLists, product_at, stream_at, known_of, with_product}
-use Rattle.suffix_streams.specs.StreamsData.{lists_of, products_of, product_of, stream_of, part_known, row_known, IsProductOf, IsStreams}
+use Rattle.suffix_streams.specs.ProductView.{ProductView}
+use Rattle.suffix_streams.specs.NodeStreamsView.{NodeStreamsView, product_at, stream_at, known_of, with_product}
+use Rattle.suffix_streams.specs.TreeStreams.{lists_of, products_of, product_of, stream_of, part_known, row_known, IsProductOf, IsStreams}
 use Rattle.suffix_streams.proofs.Stores.{set_length, row_inside}
 use Rattle.suffix_streams.proofs.Kept.{held_itself, stream_stays, part_stays, product_stays}
 
 module _ {R : Type 0} where
-  pub lists_same : (nodes : List (NodeLists R)) (v : ℕ) (n : NodeLists R) → v < length nodes → lists_of (slice_set nodes v n) v ≡ n
+  pub lists_same : (nodes : List (NodeStreamsView R)) (v : ℕ) (n : NodeStreamsView R) → v < length nodes → lists_of (slice_set nodes v n) v ≡ n
   lists_same nodes v n l = get_or-set_same nodes v n (record { children = []; streams = []; products = [] }) l
 
-  pub lists_other : (nodes : List (NodeLists R)) (v w : ℕ) (n : NodeLists R) → w ≢ v → lists_of (slice_set nodes v n) w ≡ lists_of nodes w
+  pub lists_other : (nodes : List (NodeStreamsView R)) (v w : ℕ) (n : NodeStreamsView R) → w ≢ v → lists_of (slice_set nodes v n) w ≡ lists_of nodes w
   lists_other nodes v w n h = get_or-set_other nodes v w n (record { children = []; streams = []; products = [] }) h
 
-  module _ (n : NodeLists R) (r c : ℕ) (p : ProductData R) (row : r < length n.products) (in_row : c < length (get_or n.products r [])) where
+  module _ (n : NodeStreamsView R) (r c : ℕ) (p : ProductView R) (row : r < length n.products) (in_row : c < length (get_or n.products r [])) where
     pub product_new : product_at (with_product n r c p) r c ≡ p
     product_new =
         ap (λ z. get_or z c (record { found = []; ranks = []; frontier = []; room = 0; frontier_room = 0 })) (get_or-set_same n.products r (slice_set (get_or n.products r []) c p) [] row)
@@ -59,9 +59,9 @@ module _ {R : Type 0} where
       known_kept s zero = omega arith
       known_kept s (suc k) = found_kept s k
 
-module _ {R : Type 0} (d : ℕ) (key : R → KeyOf d 16) (t : List (NodeData R)) (es : List (Linked (Found R))) (nodes : List (NodeLists R)) (h : IsStreams d key t es nodes) (v r c : ℕ) (p : ProductData R)
+module _ {R : Type 0} (d : ℕ) (key : R → KeyOf d 16) (t : List (NodeView R)) (es : List (Linked (Found R))) (nodes : List (NodeStreamsView R)) (h : IsStreams d key t es nodes) (v r c : ℕ) (p : ProductView R)
     (l : v < length t) (row : r < rows t v) (in_row : c < length (products_of nodes v r)) (rises : length (product_of nodes v r c).found ≤ length p.found) where
-  abbrev changed : List (NodeLists R)
+  abbrev changed : List (NodeStreamsView R)
   changed = slice_set nodes v (with_product (lists_of nodes v) r c p)
 
   in_nodes : v < length nodes

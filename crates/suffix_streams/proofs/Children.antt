@@ -2,7 +2,7 @@
 use Rattle.std.proofs.Common.{◌≡◌, ◌≢◌, ℕ, zero, suc, ◌+◌, ◌-◌, ◌<◌, cond, nat_eq, nat_lt, sym, ap, subst, inl, inr, arith}
 use Rattle.std.proofs.lemmas.Bool.{cases_lt, cases_eq}
 use Rattle.std.proofs.lemmas.Bool.Decides.{nat_tests}
-use Rattle.tdp_core.specs.TreeData.{kids_below}
+use Rattle.tdp_core.specs.TreeView.{kids_below}
 use Rattle.tdp_core.proofs.Children.{child_place_within}
 use Rattle.suffix_streams.specs.Rankings.{child_among}
 

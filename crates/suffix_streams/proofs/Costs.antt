@@ -2,7 +2,7 @@
 use Rattle.std.proofs.Common.{◌≡◌, ◌≢◌, ℕ, zero, suc, ◌+◌, ◌<◌, ◌≤◌, cond, nat_eq, List, length, refl, ap, inl, inr, arith}
 use Rattle.std.proofs.lemmas.Bool.{cases_lt, cases_eq}
 use Rattle.std.proofs.lemmas.Bool.Decides.{nat_tests}
-use Rattle.tdp_core.specs.TreeData.{NodeData, parent, child_count, kids_below}
+use Rattle.tdp_core.specs.TreeView.{NodeView, parent, child_count, kids_below}
 use Rattle.tdp_core.specs.WellFormed.{IsFormed}
 use Rattle.tdp_model.specs.Below.{is_below}
 use Rattle.tdp_model.specs.KeyTuple.{KeyOf}
@@ -51,7 +51,7 @@ same_is w v e = grind (arith, nat_tests)
 same_not : (w v : ℕ) → w ≢ v → cond {A = ℕ} (nat_eq w v) 1 0 ≡ 0
 same_not w v e = grind (arith, nat_tests)
 
-module _ {R : Type 0} (d : ℕ) (key : R → KeyOf d 16) (t : List (NodeData R)) (formed : IsFormed d key t) where
+module _ {R : Type 0} (d : ℕ) (key : R → KeyOf d 16) (t : List (NodeView R)) (formed : IsFormed d key t) where
   -- no node is below two children
   pub kids_other : (v c k w : ℕ) → w < length t → c < child_count t v → k ≤ c → 0 < is_below (parent t) (child t v c) w → below_kids t v k w ≡ 0
   kids_other v c zero w l a b p = refl

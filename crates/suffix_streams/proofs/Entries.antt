@@ -4,13 +4,13 @@ use Rattle.std.proofs.lemmas.Bool.{eq-eqb}
 use Rattle.stream_store.specs.declared.entry.Linked.{Linked}
 use Rattle.stream_cells.specs.declared.source.Source.{Source}
 use Rattle.take2_heap.specs.declared.entry.Entry.{Entry}
-use Rattle.tdp_core.specs.TreeData.{NodeData, rows, child_count, group_count, group_named}
+use Rattle.tdp_core.specs.TreeView.{NodeView, rows, child_count, group_count, group_named}
 use Rattle.tdp_model.specs.KeyTuple.{KeyOf, key_none}
 use Rattle.stream_model.specs.Links.{owned}
 use Rattle.suffix_streams.specs.declared.stream.Found.{Found}
-use Rattle.suffix_streams.specs.NodeLists.{NodeLists}
+use Rattle.suffix_streams.specs.NodeStreamsView.{NodeStreamsView}
 use Rattle.suffix_streams.specs.Rankings.{child, part_list, group_list}
-use Rattle.suffix_streams.specs.StreamsData.{node_list, group_list_of, node_of, group_of, place_of, stream, products_of, stream_of, part_known, HasKey, AreLefts, IsStreams, IsHeaded, HasParts}
+use Rattle.suffix_streams.specs.TreeStreams.{node_list, group_list_of, node_of, group_of, place_of, stream, products_of, stream_of, part_known, HasKey, AreLefts, IsStreams, IsHeaded, HasParts}
 use Rattle.suffix_streams.proofs.Rankings.{kid, named_in, own_some, sum_fits}
 use Rattle.suffix_streams.proofs.Firsts.{first_at}
 use Rattle.suffix_streams.proofs.Stores.{node_value, group_value}
@@ -35,7 +35,7 @@ entry_at (e ∷ es) zero q g x a l n h = begins_at (nat_eq e.value.node q) (nat_
 entry_at (e ∷ es) (suc i) q g x a l n h =
     shifted (nat_eq e.value.node q) (nat_eq e.value.group g) (stream es q g) e.value.solution a (get_or es i x).value.solution (owned (take i (node_list es)) (take i (group_list_of es)) q g) (entry_at es i q g x a (omega arith) n h)
 
-module _ {R : Type 0} (d : ℕ) (key : R → KeyOf d 16) (t : List (NodeData R)) (es : List (Linked (Found R))) (nodes : List (NodeLists R)) (h : IsStreams d key t es nodes) where
+module _ {R : Type 0} (d : ℕ) (key : R → KeyOf d 16) (t : List (NodeView R)) (es : List (Linked (Found R))) (nodes : List (NodeStreamsView R)) (h : IsStreams d key t es nodes) where
   -- an entry's solution is the member of its group's ranking at the entry's place
   pub entry_key : (i q g : ℕ) → i < length es → node_of es i ≡ q → group_of es i ≡ g
       → (place_of es i < length (stream es q g)) × (place_of es i < length (group_list d key t q g)) × HasKey d key es i (get_or (group_list d key t q g) (place_of es i) (key_none d 16))

@@ -1,7 +1,7 @@
 -- The first solution of a row, as the sum of first solutions.
 use Rattle.std.proofs.Common.{◌≡◌, ℕ, zero, suc, ◌+◌, ◌<◌, ◌≤◌, List, length, get_or, refl, sym, ap, ◌∙◌, subst, arith}
 use Rattle.stream_store.specs.declared.entry.Linked.{Linked}
-use Rattle.tdp_core.specs.TreeData.{NodeData, rows, members, child_count, group_named}
+use Rattle.tdp_core.specs.TreeView.{NodeView, rows, members, child_count, group_named}
 use Rattle.tdp_core.specs.WellFormed.{IsFormed, IsTieFreeTree}
 use Rattle.tdp_core.proofs.TreeFacts.{member_is_row}
 use Rattle.tdp_model.specs.KeyTuple.{KeyOf, key_add, key_none}
@@ -9,15 +9,15 @@ use Rattle.tdp_model.specs.Product.{Pair}
 use Rattle.stream_cells.specs.declared.cell.Cell.{Cell}
 use Rattle.stream_cells.specs.declared.source.Source.{Source}
 use Rattle.suffix_streams.specs.declared.stream.Found.{Found}
-use Rattle.suffix_streams.specs.NodeLists.{NodeLists}
+use Rattle.suffix_streams.specs.NodeStreamsView.{NodeStreamsView}
 use Rattle.suffix_streams.specs.Rankings.{child, part_list, group_list}
-use Rattle.suffix_streams.specs.StreamsData.{stream_of, run_of, IsKnownPart, IsSumOf, HasOwnParts, IsStreams}
+use Rattle.suffix_streams.specs.TreeStreams.{stream_of, run_of, IsKnownPart, IsSumOf, HasOwnParts, IsStreams}
 use Rattle.suffix_streams.specs.Firsts.{IsFirstCell, HasFirstParts}
 use Rattle.suffix_streams.proofs.Rankings.{kid, named_in}
 use Rattle.suffix_streams.proofs.Firsts.{first_sum, part_some}
 use Rattle.suffix_streams.proofs.Entries.{named_stream}
 
-module _ {R : Type 0} (d : ℕ) (key : R → KeyOf d 16) (t : List (NodeData R)) (formed : IsFormed d key t) (apart : IsTieFreeTree t) (es : List (Linked (Found R))) (nodes : List (NodeLists R)) where
+module _ {R : Type 0} (d : ℕ) (key : R → KeyOf d 16) (t : List (NodeView R)) (formed : IsFormed d key t) (apart : IsTieFreeTree t) (es : List (Linked (Found R))) (nodes : List (NodeStreamsView R)) where
   pub first_sum_of : (v r c : ℕ) (cell : Cell) → v < length t → r < rows t v → c < child_count t v → IsFirstCell t es v r c cell → IsKnownPart nodes v r c 0 → IsSumOf d key t es nodes v r c 0 cell
   first_sum_of v r c cell l row in_kids x known =
       let inside = (kid d key t formed v c in_kids).within in
@@ -44,7 +44,7 @@ module _ {R : Type 0} (d : ℕ) (key : R → KeyOf d 16) (t : List (NodeData R))
         (first_sum_of q (get_or (members t q g) j 0) c s.cell l (member_is_row d key t formed q g j l member) (omega (arith, kids)) (parts c kids) (known c (omega (arith, kids)))),
   )
 
-module _ {R : Type 0} (d : ℕ) (key : R → KeyOf d 16) (t : List (NodeData R)) (es : List (Linked (Found R))) (nodes : List (NodeLists R)) (h : IsStreams d key t es nodes) where
+module _ {R : Type 0} (d : ℕ) (key : R → KeyOf d 16) (t : List (NodeView R)) (es : List (Linked (Found R))) (nodes : List (NodeStreamsView R)) (h : IsStreams d key t es nodes) where
   -- of each row the first solution is known
   pub first_known : (v r c : ℕ) → v < length t → r < rows t v → c ≤ child_count t v → IsKnownPart nodes v r c 0
   first_known v r zero l row few = record { found = λ some. omega arith; first = λ none. refl }

@@ -2,17 +2,17 @@
 use Rattle.std.proofs.Common.{◌≡◌, ℕ, zero, suc, ◌+◌, ◌<◌, ◌≤◌, List, [], ◌∷◌, length, take, get_or, refl, sym, ap, ◌∙◌, subst, arith}
 use Rattle.rank_key.specs.Keys.{KeyFits}
 use Rattle.take2_heap.specs.declared.entry.Entry.{Entry}
-use Rattle.tdp_core.specs.TreeData.{NodeData, rows, rank, child_count, group_named}
+use Rattle.tdp_core.specs.TreeView.{NodeView, rows, rank, child_count, group_named}
 use Rattle.tdp_core.specs.WellFormed.{IsFormed, IsTieFreeTree}
 use Rattle.tdp_model.specs.KeyTuple.{KeyOf, key_add, key_none}
 use Rattle.tdp_model.specs.Product.{Pair}
 use Rattle.stream_store.specs.declared.entry.Linked.{Linked}
 use Rattle.stream_cells.specs.declared.cell.Cell.{Cell}
 use Rattle.suffix_streams.specs.declared.stream.Found.{Found}
-use Rattle.suffix_streams.specs.NodeLists.{NodeLists}
+use Rattle.suffix_streams.specs.NodeStreamsView.{NodeStreamsView}
 use Rattle.suffix_streams.specs.Rankings.{child, part_list, group_list}
 use Rattle.suffix_streams.specs.Frontiers.{AreFirst, AreFirstBy, IsFrontier}
-use Rattle.suffix_streams.specs.StreamsData.{place_of, product_of, part_known, AreLefts, HasParts, IsCell}
+use Rattle.suffix_streams.specs.TreeStreams.{place_of, product_of, part_known, AreLefts, HasParts, IsCell}
 use Rattle.suffix_streams.proofs.Rankings.{kid, named_in, own_some, own_first, group_some, part_ascends, group_ascends, sums_begin, sum_fits}
 use Rattle.suffix_streams.proofs.Growth.{frontier_begins}
 use Rattle.suffix_streams.proofs.Stores.{map_at}
@@ -32,7 +32,7 @@ pub first_at : {R T : Type 0} (d : ℕ) (key : R → KeyOf d 16) (xs : List (Ent
 first_at {R} {T} d key xs ks i x p l = first_by_at d (λ (e : Entry R T). key e.rank) xs ks i x p l
 
 -- the rank of a known solution is kept
-pub lefts_at : {R : Type 0} (d : ℕ) (key : R → KeyOf d 16) (t : List (NodeData R)) (nodes : List (NodeLists R)) (v r c b place : ℕ) (x : R) → c ≡ suc b → AreLefts d key t nodes v r c
+pub lefts_at : {R : Type 0} (d : ℕ) (key : R → KeyOf d 16) (t : List (NodeView R)) (nodes : List (NodeStreamsView R)) (v r c b place : ℕ) (x : R) → c ≡ suc b → AreLefts d key t nodes v r c
     → place < part_known nodes v r c → (place < length (product_of nodes v r b).ranks) × (key (get_or (product_of nodes v r b).ranks place x) ≡ get_or (part_list d key t v r c) place (key_none d 16))
 lefts_at d key t nodes v r zero b place x e h l = absurd (omega arith)
 lefts_at {R} d key t nodes v r (suc c) b place x e h l =
@@ -41,11 +41,11 @@ lefts_at {R} d key t nodes v r (suc c) b place x e h l =
     let at : key (get_or (product_of nodes v r c).ranks place x) ≡ get_or (part_list d key t v r (suc c)) place (key_none d 16) = first_by_at d key (product_of nodes v r c).ranks (part_list d key t v r (suc c)) place x h.1 within in
     subst (λ b. (place < length (product_of nodes v r b).ranks) × (key (get_or (product_of nodes v r b).ranks place x) ≡ get_or (part_list d key t v r (suc c)) place (key_none d 16))) same (within, at)
 
-pub known_key : {R : Type 0} (d : ℕ) (key : R → KeyOf d 16) (t : List (NodeData R)) (nodes : List (NodeLists R)) (v r c b place : ℕ) (x : R) → c ≡ suc b → AreLefts d key t nodes v r c → place < part_known nodes v r c
+pub known_key : {R : Type 0} (d : ℕ) (key : R → KeyOf d 16) (t : List (NodeView R)) (nodes : List (NodeStreamsView R)) (v r c b place : ℕ) (x : R) → c ≡ suc b → AreLefts d key t nodes v r c → place < part_known nodes v r c
     → ((a : R) → x ≡ get_or (product_of nodes v r b).ranks place a) → key x ≡ get_or (part_list d key t v r c) place (key_none d 16)
 known_key {R} d key t nodes v r c b place x e h l at = ap key (at x) ∙ (lefts_at d key t nodes v r c b place x e h l).1
 
-module _ {R : Type 0} (d : ℕ) (key : R → KeyOf d 16) (t : List (NodeData R)) (formed : IsFormed d key t) (apart : IsTieFreeTree t) where
+module _ {R : Type 0} (d : ℕ) (key : R → KeyOf d 16) (t : List (NodeView R)) (formed : IsFormed d key t) (apart : IsTieFreeTree t) where
   -- the first sum is the sum of the firsts
   pub first_sum : (v r c : ℕ) → v < length t → r < rows t v → c < child_count t v → 0 < length (part_list d key t v r c)
       → (0 < length (part_list d key t v r (suc c)))
@@ -76,21 +76,21 @@ module _ {R : Type 0} (d : ℕ) (key : R → KeyOf d 16) (t : List (NodeData R))
       subst (λ z. KeyFits d key (key_add d 16 z b)) (sym ea) (subst (λ z. KeyFits d key (key_add d 16 (get_or (part_list d key t v r c) 0 (key_none d 16)) z)) (sym eb)
       (sum_fits d key t formed v r c 0 0 l h (part_some v r c l row (omega arith)) (group_some d key t formed (child t v c) (group_named t v r c) (kid d key t formed v c h).within (named_in d key t formed v r c row h))))
 
-module _ {R : Type 0} (d : ℕ) (key : R → KeyOf d 16) (t : List (NodeData R)) (formed : IsFormed d key t) where
+module _ {R : Type 0} (d : ℕ) (key : R → KeyOf d 16) (t : List (NodeView R)) (formed : IsFormed d key t) where
   -- without children there is only the row's own solution
-  pub own_at : (nodes : List (NodeLists R)) (v r c place : ℕ) (k : KeyOf d 16) → v < length t → c ≡ 0 → place < part_known nodes v r c → k ≡ rank t d key v r → k ≡ get_or (part_list d key t v r c) place (key_none d 16)
+  pub own_at : (nodes : List (NodeStreamsView R)) (v r c place : ℕ) (k : KeyOf d 16) → v < length t → c ≡ 0 → place < part_known nodes v r c → k ≡ rank t d key v r → k ≡ get_or (part_list d key t v r c) place (key_none d 16)
   own_at nodes v r zero place k l e p s =
       let first : 0 ≡ place = omega arith in
       s ∙ sym (own_first d key t formed v r l) ∙ ap (λ i. get_or (part_list d key t v r 0) i (key_none d 16)) first
   own_at nodes v r (suc c) place k l e p s = absurd (omega arith)
 
   -- what is known is in the ranking
-  pub known_within : (nodes : List (NodeLists R)) (v r c place : ℕ) → v < length t → AreLefts d key t nodes v r c → place < part_known nodes v r c → place < length (part_list d key t v r c)
+  pub known_within : (nodes : List (NodeStreamsView R)) (v r c place : ℕ) → v < length t → AreLefts d key t nodes v r c → place < part_known nodes v r c → place < length (part_list d key t v r c)
   known_within nodes v r zero place l h p = omega (arith, own_some d key t formed v r l)
   known_within nodes v r (suc c) place l h p = omega (arith, p, h.0, h.1.1)
 
 -- the sum of a cell fits, if x and y are the keys of its parts
-pub cell_fits : {R : Type 0} (d : ℕ) (key : R → KeyOf d 16) (t : List (NodeData R)) → IsFormed d key t → (es : List (Linked (Found R))) (nodes : List (NodeLists R)) (v r c : ℕ) (cell : Cell) → v < length t → HasParts d key t es nodes v r c
+pub cell_fits : {R : Type 0} (d : ℕ) (key : R → KeyOf d 16) (t : List (NodeView R)) → IsFormed d key t → (es : List (Linked (Found R))) (nodes : List (NodeStreamsView R)) (v r c : ℕ) (cell : Cell) → v < length t → HasParts d key t es nodes v r c
     → IsCell d key t es nodes v r c cell → (x y : KeyOf d 16) → x ≡ get_or (part_list d key t v r c) cell.left (key_none d 16)
     → y ≡ get_or (group_list d key t (child t v c) (group_named t v r c)) (place_of es cell.right) (key_none d 16) → KeyFits d key (key_add d 16 x y)
 cell_fits {R} d key t formed es nodes v r c cell l parts known x y x_is y_is =

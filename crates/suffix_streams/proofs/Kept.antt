@@ -4,7 +4,7 @@ use Rattle.std.specs.List.{All}
 use Rattle.std.proofs.lemmas.List.Elements.{All-weaker}
 use Rattle.take2_heap.specs.declared.entry.Entry.{Entry}
 use Rattle.stream_store.specs.declared.entry.Linked.{Linked}
-use Rattle.tdp_core.specs.TreeData.{NodeData, members, group_named, child_count}
+use Rattle.tdp_core.specs.TreeView.{NodeView, members, group_named, child_count}
 use Rattle.tdp_model.specs.KeyTuple.{KeyOf, key_below, key_add, key_none}
 use Rattle.tdp_model.specs.Product.{Pair, pair_key, stands_for}
 use Rattle.stream_model.specs.Ahead.{IsAhead}
@@ -12,12 +12,12 @@ use Rattle.stream_model.specs.QueueEntries.{InProduct}
 use Rattle.stream_cells.specs.declared.cell.Cell.{Cell}
 use Rattle.stream_cells.specs.declared.source.Source.{Source}
 use Rattle.suffix_streams.specs.declared.stream.Found.{Found}
-use Rattle.suffix_streams.specs.ProductData.{ProductData}
-use Rattle.suffix_streams.specs.StreamData.{StreamData}
-use Rattle.suffix_streams.specs.NodeLists.{NodeLists}
+use Rattle.suffix_streams.specs.ProductView.{ProductView}
+use Rattle.suffix_streams.specs.StreamView.{StreamView}
+use Rattle.suffix_streams.specs.NodeStreamsView.{NodeStreamsView}
 use Rattle.suffix_streams.specs.Rankings.{child, part_list, group_list}
 use Rattle.suffix_streams.specs.Frontiers.{AreFirstBy, IsFrontier, IsMerge}
-use Rattle.suffix_streams.specs.StreamsData.{KeepsRanks, IsKnownPart, IsSumOf, HasOwnParts, products_of, node_of, group_of, place_of, stream, product_of, stream_of, part_known, row_known, pair_of, run_of, IsStreamOf, IsProductOf}
+use Rattle.suffix_streams.specs.TreeStreams.{KeepsRanks, IsKnownPart, IsSumOf, HasOwnParts, products_of, node_of, group_of, place_of, stream, product_of, stream_of, part_known, row_known, pair_of, run_of, IsStreamOf, IsProductOf}
 use Rattle.suffix_streams.proofs.Growth.{places_kept, held_kept, keys_kept, range_kept}
 
 -- entries stay, with their owners and places
@@ -31,14 +31,14 @@ pub held_itself : {R : Type 0} (es : List (Linked (Found R))) → AreHeld es es
 held_itself es = record { longer = omega arith; nodes = λ i l. refl; groups = λ i l. refl; places = λ i l. refl }
 
 -- a known part stays known, if as many products and no fewer solutions are there
-pub part_stays : {R : Type 0} (nodes nodes' : List (NodeLists R)) (v r c place : ℕ) → length (products_of nodes' v r) ≡ length (products_of nodes v r) → part_known nodes v r c ≤ part_known nodes' v r c → IsKnownPart nodes v r c place → IsKnownPart nodes' v r c place
+pub part_stays : {R : Type 0} (nodes nodes' : List (NodeStreamsView R)) (v r c place : ℕ) → length (products_of nodes' v r) ≡ length (products_of nodes v r) → part_known nodes v r c ≤ part_known nodes' v r c → IsKnownPart nodes v r c place → IsKnownPart nodes' v r c place
 part_stays nodes nodes' v r c place count rises k = record { found = λ some. omega (arith, rises, k.found (omega (arith, some, count))); first = λ none. k.first (omega (arith, none, count)) }
 
 -- a product keeps its ranks, if these and its solutions stay
-pub ranks_stay : {R : Type 0} (d : ℕ) (key : R → KeyOf d 16) (ks : List (KeyOf d 16)) (p q : ProductData R) → q.found ≡ p.found → q.ranks ≡ p.ranks → KeepsRanks d key ks p → KeepsRanks d key ks q
+pub ranks_stay : {R : Type 0} (d : ℕ) (key : R → KeyOf d 16) (ks : List (KeyOf d 16)) (p q : ProductView R) → q.found ≡ p.found → q.ranks ≡ p.ranks → KeepsRanks d key ks p → KeepsRanks d key ks q
 ranks_stay d key ks p q found ranks h = (omega (arith, ap length found, ap length ranks, h.0), subst (λ z. AreFirstBy d key z ks) (sym ranks) h.1)
 
-module _ {R : Type 0} (d : ℕ) (key : R → KeyOf d 16) (t : List (NodeData R)) (es es' : List (Linked (Found R))) (nodes nodes' : List (NodeLists R)) (held : AreHeld es es') where
+module _ {R : Type 0} (d : ℕ) (key : R → KeyOf d 16) (t : List (NodeView R)) (es es' : List (Linked (Found R))) (nodes nodes' : List (NodeStreamsView R)) (held : AreHeld es es') where
   -- the parts of a solution stay known
   pub sum_stays : (v r c place : ℕ) (cell : Cell) → (IsKnownPart nodes v r c cell.left → IsKnownPart nodes' v r c cell.left) → IsSumOf d key t es nodes v r c place cell → IsSumOf d key t es' nodes' v r c place cell
   sum_stays v r c place cell keeps s =
@@ -65,15 +65,15 @@ module _ {R : Type 0} (d : ℕ) (key : R → KeyOf d 16) (t : List (NodeData R))
     head_group = ap (λ z. group_of es' z.head) same ∙ held.groups (stream_of nodes q g).head s.head_in ∙ s.head_group;
     head_place = ap (λ z. place_of es' z.head) same ∙ held.places (stream_of nodes q g).head s.head_in ∙ s.head_place;
     few = omega (arith, ap (λ z. length z.queue) same, s.few);
-    known = subst (λ (z : StreamData R). All (λ (e : Entry R Source). e.tag.place < row_known nodes' q (get_or (members t q g) e.tag.member 0)) z.queue) (sym same)
+    known = subst (λ (z : StreamView R). All (λ (e : Entry R Source). e.tag.place < row_known nodes' q (get_or (members t q g) e.tag.member 0)) z.queue) (sym same)
         (All-weaker (λ (e : Entry R Source). e.tag.place < row_known nodes q (get_or (members t q g) e.tag.member 0)) (λ (e : Entry R Source). e.tag.place < row_known nodes' q (get_or (members t q g) e.tag.member 0))
         (λ e h. omega (arith, h, rises (get_or (members t q g) e.tag.member 0))) (stream_of nodes q g).queue s.known);
     found_known = subst (λ (z : List (Entry R Source)). All (λ (e : Entry R Source). e.tag.place < row_known nodes' q (get_or (members t q g) e.tag.member 0)) z) (sym found)
         (All-weaker (λ (e : Entry R Source). e.tag.place < row_known nodes q (get_or (members t q g) e.tag.member 0)) (λ (e : Entry R Source). e.tag.place < row_known nodes' q (get_or (members t q g) e.tag.member 0))
         (λ e h. omega (arith, h, rises (get_or (members t q g) e.tag.member 0))) (stream es q g) s.found_known);
-    parts = subst (λ (z : StreamData R). All (λ (e : Entry R Source). HasOwnParts d key t es' nodes' q g e.tag) z.queue) (sym same) (parts_stay q g keeps (stream_of nodes q g).queue s.parts);
+    parts = subst (λ (z : StreamView R). All (λ (e : Entry R Source). HasOwnParts d key t es' nodes' q g e.tag) z.queue) (sym same) (parts_stay q g keeps (stream_of nodes q g).queue s.parts);
     found_parts = subst (λ (z : List (Entry R Source)). All (λ (e : Entry R Source). HasOwnParts d key t es' nodes' q g e.tag) z) (sym found) (parts_stay q g keeps (stream es q g) s.found_parts);
-    merge = subst (λ (z : StreamData R). IsMerge d key run_of (length (members t q g)) (λ i. part_list d key t q (get_or (members t q g) i 0) (child_count t q)) (group_list d key t q g) (stream es' q g) z.queue) (sym same)
+    merge = subst (λ (z : StreamView R). IsMerge d key run_of (length (members t q g)) (λ i. part_list d key t q (get_or (members t q g) i 0) (child_count t q)) (group_list d key t q g) (stream es' q g) z.queue) (sym same)
         (subst (λ (z : List (Entry R Source)). IsMerge d key run_of (length (members t q g)) (λ i. part_list d key t q (get_or (members t q g) i 0) (child_count t q)) (group_list d key t q g) z (stream_of nodes q g).queue) (sym found) s.merge);
   }
 

@@ -3,9 +3,9 @@ use Rattle.std.proofs.Common.{◌≡◌, ℕ, ◌<◌, Some, None, cond, nat_eq,
 use Rattle.std.proofs.lemmas.Bool.{cases_lt}
 use Rattle.std.proofs.lemmas.Bool.Decides.{nat_tests}
 use Rattle.stream_store.specs.declared.entry.Linked.{Linked}
-use Rattle.tdp_core.specs.TreeData.{NodeData, group_count}
+use Rattle.tdp_core.specs.TreeView.{NodeView, group_count}
 use Rattle.suffix_streams.specs.declared.stream.Found.{Found}
-use Rattle.suffix_streams.specs.StreamsData.{node_of, group_of, next_of}
+use Rattle.suffix_streams.specs.TreeStreams.{node_of, group_of, next_of}
 use Rattle.suffix_streams.specs.Growing.{IsStoreGrown}
 use Rattle.suffix_streams.proofs.Stores.{at_more, with_entry, entry_length, old_node, old_group, new_node, new_group}
 use Rattle.suffix_streams.proofs.Kept.{AreHeld}
@@ -25,7 +25,7 @@ entries_are {R} es last f es1 es2 id d l i a b =
     ∙ ap (λ (y : Linked (Found R)). slice_set (es ++ (new ∷ [])) last (record y { next = Some id })) (at_more es new d last l)
     ∙ ap (λ (n : ℕ). slice_set (es ++ (new ∷ [])) last (record (get_or es last d) { next = Some n })) i
 
-module _ {R : Type 0} (t : List (NodeData R)) (es : List (Linked (Found R))) (last : ℕ) (x : Found R) (linked : Linked (Found R)) (within : last < length es)
+module _ {R : Type 0} (t : List (NodeView R)) (es : List (Linked (Found R))) (last : ℕ) (x : Found R) (linked : Linked (Found R)) (within : last < length es)
     (same : linked.value ≡ (get_or es last linked).value) (to : linked.next ≡ Some (length es)) (node : node_of es last ≡ x.node) (group : group_of es last ≡ x.group) (none : next_of es last ≡ None) where
   pub all_owned : x.node < length t → x.group < group_count t x.node → ((i : ℕ) → i < length es → (node_of es i < length t) × (group_of es i < group_count t (node_of es i)))
       → (i : ℕ) → i < length (with_entry es last x linked within same to node group none) → (node_of (with_entry es last x linked within same to node group none) i < length t)

@@ -9,7 +9,7 @@ use Rattle.std.proofs.lemmas.List.Sorted.{All-permutation}
 use Rattle.stream_store.specs.declared.entry.Linked.{Linked}
 use Rattle.take2_heap.specs.declared.entry.Entry.{Entry}
 use Rattle.take2_heap.specs.Order.{IsLeast}
-use Rattle.tdp_core.specs.TreeData.{NodeData, rows, members, child_count, group_count, best}
+use Rattle.tdp_core.specs.TreeView.{NodeView, rows, members, child_count, group_count, best}
 use Rattle.tdp_core.specs.WellFormed.{IsTieFreeTree}
 use Rattle.tdp_core.proofs.TreeFacts.{member_is_row}
 use Rattle.rankings.specs.Order.{IsAscending}
@@ -24,13 +24,13 @@ use Rattle.stream_model.proofs.Held.{MaybeHolds, all_offers, held_moved}
 use Rattle.stream_model.proofs.Steps.{IsNext, IsBelow}
 use Rattle.stream_cells.specs.declared.source.Source.{Source}
 use Rattle.suffix_streams.specs.declared.stream.Found.{Found}
-use Rattle.suffix_streams.specs.ProductData.{ProductData}
-use Rattle.suffix_streams.specs.StreamData.{StreamData}
-use Rattle.suffix_streams.specs.NodeLists.{NodeLists, stream_at, with_queue}
+use Rattle.suffix_streams.specs.ProductView.{ProductView}
+use Rattle.suffix_streams.specs.StreamView.{StreamView}
+use Rattle.suffix_streams.specs.NodeStreamsView.{NodeStreamsView, stream_at, with_queue}
 use Rattle.suffix_streams.specs.Rankings.{part_list, group_list}
 use Rattle.suffix_streams.specs.Frontiers.{IsMerge}
 use Rattle.suffix_streams.specs.Firsts.{IsFirstBelow}
-use Rattle.suffix_streams.specs.StreamsData.{IsKnownPart, IsSumOf, HasOwnParts, node_list, group_list_of, next_list, node_of, group_of, place_of, stream, lists_of, products_of, stream_of, part_known, row_known, run_of, IsStreamOf, IsStreams}
+use Rattle.suffix_streams.specs.TreeStreams.{IsKnownPart, IsSumOf, HasOwnParts, node_list, group_list_of, next_list, node_of, group_of, place_of, stream, lists_of, products_of, stream_of, part_known, row_known, run_of, IsStreamOf, IsStreams}
 use Rattle.suffix_streams.specs.Growing.{IsReached}
 use Rattle.suffix_streams.proofs.BeginFirsts.{row_head}
 use Rattle.suffix_streams.proofs.Rankings.{part_ascends, row_is_ranking}
@@ -41,9 +41,9 @@ use Rattle.suffix_streams.proofs.Entries.{known_inside, some_known}
 use Rattle.suffix_streams.proofs.Kept.{AreHeld, part_stays, parts_stay, stream_stays, product_stays}
 use Rattle.suffix_streams.proofs.Changes.{lists_same, lists_other}
 
-module _ {R : Type 0} (d : ℕ) (key : R → KeyOf d 16) (t : List (NodeData R)) (es es' : List (Linked (Found R))) (nodes : List (NodeLists R)) (h : IsStreams d key t es nodes) (held : AreHeld es es') (q g : ℕ)
+module _ {R : Type 0} (d : ℕ) (key : R → KeyOf d 16) (t : List (NodeView R)) (es es' : List (Linked (Found R))) (nodes : List (NodeStreamsView R)) (h : IsStreams d key t es nodes) (held : AreHeld es es') (q g : ℕ)
     (l : q < length t) (in_group : g < group_count t q) (new : List (Entry R Source)) (room : ℕ) where
-  abbrev queued : List (NodeLists R)
+  abbrev queued : List (NodeStreamsView R)
   queued = slice_set nodes q (with_queue (lists_of nodes q) g new room)
 
   pub queued_at : lists_of queued q ≡ with_queue (lists_of nodes q) g new room
@@ -72,7 +72,7 @@ module _ {R : Type 0} (d : ℕ) (key : R → KeyOf d 16) (t : List (NodeData R))
 
   queued_known : (w r k : ℕ) → part_known queued w r k ≡ part_known nodes w r k
   queued_known w r zero = refl
-  queued_known w r (suc k) = ap (λ (ps : List (List (ProductData R))). length (get_or (get_or ps r []) k (record { found = []; ranks = []; frontier = []; room = 0; frontier_room = 0 })).found) (queued_products w)
+  queued_known w r (suc k) = ap (λ (ps : List (List (ProductView R))). length (get_or (get_or ps r []) k (record { found = []; ranks = []; frontier = []; room = 0; frontier_room = 0 })).found) (queued_products w)
 
   pub queued_row : (w r : ℕ) → row_known queued w r ≡ row_known nodes w r
   queued_row w r = queued_known w r (length (products_of queued w r)) ∙ ap (λ z. part_known nodes w r (length (get_or z r []))) (queued_products w)
@@ -111,9 +111,9 @@ module _ {R : Type 0} (d : ℕ) (key : R → KeyOf d 16) (t : List (NodeData R))
     linked = linked;
     streams = λ w k a b. each w k a b;
     products = λ w r k a b x.
-        product_stays d key t es es' nodes queued held w r k (ap (λ (ps : List (List (ProductData R))). (get_or (get_or ps r []) k (record { found = []; ranks = []; frontier = []; room = 0; frontier_room = 0 })).found) (queued_products w))
-        (ap (λ (ps : List (List (ProductData R))). (get_or (get_or ps r []) k (record { found = []; ranks = []; frontier = []; room = 0; frontier_room = 0 })).frontier) (queued_products w))
-        (ap (λ (ps : List (List (ProductData R))). (get_or (get_or ps r []) k (record { found = []; ranks = []; frontier = []; room = 0; frontier_room = 0 })).ranks) (queued_products w)) (omega (arith, queued_known w r k))
+        product_stays d key t es es' nodes queued held w r k (ap (λ (ps : List (List (ProductView R))). (get_or (get_or ps r []) k (record { found = []; ranks = []; frontier = []; room = 0; frontier_room = 0 })).found) (queued_products w))
+        (ap (λ (ps : List (List (ProductView R))). (get_or (get_or ps r []) k (record { found = []; ranks = []; frontier = []; room = 0; frontier_room = 0 })).frontier) (queued_products w))
+        (ap (λ (ps : List (List (ProductView R))). (get_or (get_or ps r []) k (record { found = []; ranks = []; frontier = []; room = 0; frontier_room = 0 })).ranks) (queued_products w)) (omega (arith, queued_known w r k))
         (h.products w r k a b (omega (arith, x, ap (λ z. length (get_or z r [])) (queued_products w))));
   }
     where
@@ -127,14 +127,14 @@ module _ {R : Type 0} (d : ℕ) (key : R → KeyOf d 16) (t : List (NodeData R))
         head_group = ap (λ z. group_of es' z.head) queued_stream ∙ held.groups (stream_of nodes q g).head (h.streams q g l in_group).head_in ∙ (h.streams q g l in_group).head_group;
         head_place = ap (λ z. place_of es' z.head) queued_stream ∙ held.places (stream_of nodes q g).head (h.streams q g l in_group).head_in ∙ (h.streams q g l in_group).head_place;
         few = omega (arith, few, ap (λ z. length z.queue) queued_stream);
-        known = subst (λ (z : StreamData R). All (λ (e : Entry R Source). e.tag.place < row_known queued q (get_or (members t q g) e.tag.member 0)) z.queue) (sym queued_stream)
+        known = subst (λ (z : StreamView R). All (λ (e : Entry R Source). e.tag.place < row_known queued q (get_or (members t q g) e.tag.member 0)) z.queue) (sym queued_stream)
             (All-weaker (λ (e : Entry R Source). e.tag.place < row_known nodes q (get_or (members t q g) e.tag.member 0)) (λ (e : Entry R Source). e.tag.place < row_known queued q (get_or (members t q g) e.tag.member 0))
             (λ e k. omega (arith, k, queued_row q (get_or (members t q g) e.tag.member 0))) new known);
         found_known = All-weaker (λ (e : Entry R Source). e.tag.place < row_known nodes q (get_or (members t q g) e.tag.member 0)) (λ (e : Entry R Source). e.tag.place < row_known queued q (get_or (members t q g) e.tag.member 0))
             (λ e k. omega (arith, k, queued_row q (get_or (members t q g) e.tag.member 0))) (stream es' q g) found_known;
-        parts = subst (λ (z : StreamData R). All (λ (e : Entry R Source). HasOwnParts d key t es' queued q g e.tag) z.queue) (sym queued_stream) (parts_stay d key t es es' nodes queued held q g (λ r k p few. part_kept q r k p) new parts);
+        parts = subst (λ (z : StreamView R). All (λ (e : Entry R Source). HasOwnParts d key t es' queued q g e.tag) z.queue) (sym queued_stream) (parts_stay d key t es es' nodes queued held q g (λ r k p few. part_kept q r k p) new parts);
         found_parts = parts_stay d key t es es' nodes queued held q g (λ r k p few. part_kept q r k p) (stream es' q g) found_parts;
-        merge = subst (λ (z : StreamData R). IsMerge d key run_of (length (members t q g)) (λ i. part_list d key t q (get_or (members t q g) i 0) (child_count t q)) (group_list d key t q g) (stream es' q g) z.queue) (sym queued_stream) merge;
+        merge = subst (λ (z : StreamView R). IsMerge d key run_of (length (members t q g)) (λ i. part_list d key t q (get_or (members t q g) i 0) (child_count t q)) (group_list d key t q g) (stream es' q g) z.queue) (sym queued_stream) merge;
       }
 
       apart : (w k : ℕ) → w < length t → k < group_count t w → ((w ≢ q) ⊎ (k ≢ g)) → IsStreamOf d key t es' queued w k
@@ -150,14 +150,14 @@ module _ {R : Type 0} (d : ℕ) (key : R → KeyOf d 16) (t : List (NodeData R))
       ]
 
 -- the offer for the member whose solution was passed last: its next solution, if there is one
-pub record IsNextOffer {R : Type 0} (d : ℕ) (key : R → KeyOf d 16) (t : List (NodeData R)) (es : List (Linked (Found R))) (nodes : List (NodeLists R)) (q r member place : ℕ) (offer : Option (Entry R Source)) : Type 0 where
+pub record IsNextOffer {R : Type 0} (d : ℕ) (key : R → KeyOf d 16) (t : List (NodeView R)) (es : List (Linked (Found R))) (nodes : List (NodeStreamsView R)) (q r member place : ℕ) (offer : Option (Entry R Source)) : Type 0 where
   pub none : offer ≡ None → row_known nodes q r ≤ place
   pub run : (e : Entry R Source) → offer ≡ Some e → run_of e.tag ≡ record { left = member; right = place }
   pub known : (e : Entry R Source) → offer ≡ Some e → place < row_known nodes q r
   pub parts : (e : Entry R Source) → offer ≡ Some e → (e.tag.row ≡ r) × ((c : ℕ) → child_count t q ≡ suc c → IsSumOf d key t es nodes q r c place e.tag.cell)
   pub rank : (e : Entry R Source) → offer ≡ Some e → key e.rank ≡ get_or (part_list d key t q r (length (products_of nodes q r))) place (key_none d 16)
 
-module _ {R : Type 0} (d : ℕ) (key : R → KeyOf d 16) (t : List (NodeData R)) (es : List (Linked (Found R))) (nodes : List (NodeLists R)) (h : IsStreams d key t es nodes) (q g : ℕ)
+module _ {R : Type 0} (d : ℕ) (key : R → KeyOf d 16) (t : List (NodeView R)) (es : List (Linked (Found R))) (nodes : List (NodeStreamsView R)) (h : IsStreams d key t es nodes) (q g : ℕ)
     (l : q < length t) (in_group : g < group_count t q) (r : ℕ) (source : Source) (offer left right : Option (Entry R Source)) (top : Entry R Source) (new : List (Entry R Source))
     (some : 0 < length (stream_of nodes q g).queue) (is_top : top ≡ get_or (stream_of nodes q g).queue 0 top) (is_source : top.tag ≡ source) (is_row : r ≡ get_or (members t q g) source.member 0)
     (whole : length (products_of nodes q r) ≡ child_count t q) (reached : IsReached d key t nodes q r (child_count t q) (source.place + 1))
@@ -301,7 +301,7 @@ module _ {R : Type 0} (d : ℕ) (key : R → KeyOf d 16) (t : List (NodeData R))
       moved all_facts.0 left_facts.0 right_facts.0 top_held.0 all_facts.2 left_facts.2 right_facts.2 more is_after after_least).1
 
 -- the offer that was made
-pub next_offer : {R : Type 0} (d : ℕ) (key : R → KeyOf d 16) (t : List (NodeData R)) (es : List (Linked (Found R))) (nodes : List (NodeLists R)) (q r member place m p : ℕ) (offer : Option (Entry R Source)) → m ≡ member → p ≡ place
+pub next_offer : {R : Type 0} (d : ℕ) (key : R → KeyOf d 16) (t : List (NodeView R)) (es : List (Linked (Found R))) (nodes : List (NodeStreamsView R)) (q r member place m p : ℕ) (offer : Option (Entry R Source)) → m ≡ member → p ≡ place
     → IfNone offer (row_known nodes q r ≤ p) → IfSome offer (λ e. (e.tag.member ≡ m) × (e.tag.place ≡ p)) → IfSome offer (λ e. p < row_known nodes q r)
     → IfSome offer (λ e. (e.tag.row ≡ r) × ((c : ℕ) → child_count t q ≡ c + 1 → IsSumOf d key t es nodes q r c p e.tag.cell)) → IfSome offer (λ e. key e.rank ≡ get_or (part_list d key t q r (length (products_of nodes q r))) p (key_none d 16)) → IsNextOffer d key t es nodes q r member place offer
 next_offer {R} d key t es nodes q r member place m p offer em ep none source known parts rank =
@@ -331,7 +331,7 @@ next_offer {R} d key t es nodes q r member place m p offer em ep none source kno
         same_of e s = cc
 
 -- the members that a queue names are rows of the node
-pub top_row : {R : Type 0} (d : ℕ) (key : R → KeyOf d 16) (t : List (NodeData R)) (es : List (Linked (Found R))) (nodes : List (NodeLists R)) → IsStreams d key t es nodes → (q g : ℕ) → q < length t → g < group_count t q → (top : Entry R Source)
+pub top_row : {R : Type 0} (d : ℕ) (key : R → KeyOf d 16) (t : List (NodeView R)) (es : List (Linked (Found R))) (nodes : List (NodeStreamsView R)) → IsStreams d key t es nodes → (q g : ℕ) → q < length t → g < group_count t q → (top : Entry R Source)
     → 0 < length (stream_of nodes q g).queue → top ≡ get_or (stream_of nodes q g).queue 0 top → (top.tag.member < length (members t q g)) × (get_or (members t q g) top.tag.member 0 < rows t q)
 top_row {R} d key t es nodes h q g l k top some e =
     let lists : ℕ → List (KeyOf d 16) = λ i. part_list d key t q (get_or (members t q g) i 0) (child_count t q) in

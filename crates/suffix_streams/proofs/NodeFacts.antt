@@ -1,18 +1,18 @@
 -- A node in which one queue or one product changes.
 use Rattle.std.proofs.Common.{◌≡◌, ℕ, ◌<◌, List, [], length, get_or, slice_set, refl, sym, ap, ◌∙◌, subst}
 use Rattle.std.proofs.lemmas.List.{get_or-set_same}
-use Rattle.suffix_streams.specs.ProductData.{ProductData}
-use Rattle.suffix_streams.specs.StreamData.{StreamData}
-use Rattle.suffix_streams.specs.NodeLists.{NodeLists, product_at, stream_at, with_product, with_queue}
+use Rattle.suffix_streams.specs.ProductView.{ProductView}
+use Rattle.suffix_streams.specs.StreamView.{StreamView}
+use Rattle.suffix_streams.specs.NodeStreamsView.{NodeStreamsView, product_at, stream_at, with_product, with_queue}
 use Rattle.suffix_streams.proofs.Stores.{any_default, row_inside}
 
 -- a stream of a node, when a queue of the node changes
-pub queue_changed : {R : Type 0} (children : List ℕ) (streams : List (StreamData R)) (products : List (List (ProductData R))) (n : NodeLists R) (g : ℕ) (s old : StreamData R)
+pub queue_changed : {R : Type 0} (children : List ℕ) (streams : List (StreamView R)) (products : List (List (ProductView R))) (n : NodeStreamsView R) (g : ℕ) (s old : StreamView R)
     → record { children = children; streams = streams; products = products } ≡ n → old ≡ get_or streams g old → s.head ≡ old.head → g < length n.streams
     → (stream_at n g ≡ old) × (stream_at (record { children = children; streams = slice_set streams g s; products = products }) g ≡ s)
     × (record { children = children; streams = slice_set streams g s; products = products } ≡ with_queue n g s.queue s.room)
 queue_changed {R} children streams products n g s old e o h l =
-    subst (λ (n : NodeLists R). g < length n.streams → (stream_at n g ≡ old) × (stream_at (record { children = children; streams = slice_set streams g s; products = products }) g ≡ s)
+    subst (λ (n : NodeStreamsView R). g < length n.streams → (stream_at n g ≡ old) × (stream_at (record { children = children; streams = slice_set streams g s; products = products }) g ≡ s)
     × (record { children = children; streams = slice_set streams g s; products = products } ≡ with_queue n g s.queue s.room)) e literal l
   where
     literal : g < length streams → (stream_at (record { children = children; streams = streams; products = products }) g ≡ old)
@@ -21,25 +21,25 @@ queue_changed {R} children streams products n g s old e o h l =
     literal l =
         let was : get_or streams g (record { head = 0; queue = []; room = 0 }) ≡ old = any_default streams g (record { head = 0; queue = []; room = 0 }) old l ∙ sym o in
         let is : s ≡ record { head = (get_or streams g (record { head = 0; queue = []; room = 0 })).head; queue = s.queue; room = s.room } =
-        ap (λ (k : ℕ). (let x : StreamData R = record { head = k; queue = s.queue; room = s.room } in x)) (h ∙ ap (λ z. z.head) (sym was)) in (
+        ap (λ (k : ℕ). (let x : StreamView R = record { head = k; queue = s.queue; room = s.room } in x)) (h ∙ ap (λ z. z.head) (sym was)) in (
           was,
           get_or-set_same streams g s (record { head = 0; queue = []; room = 0 }) l,
-          ap (λ (x : StreamData R). (let n : NodeLists R = record { children = children; streams = slice_set streams g x; products = products } in n)) is,
+          ap (λ (x : StreamView R). (let n : NodeStreamsView R = record { children = children; streams = slice_set streams g x; products = products } in n)) is,
         )
 
 -- a product of a node, when it changes
-pub product_changed : {R : Type 0} (children : List ℕ) (streams : List (StreamData R)) (products : List (List (ProductData R))) (n : NodeLists R) (r c : ℕ) (p : ProductData R)
+pub product_changed : {R : Type 0} (children : List ℕ) (streams : List (StreamView R)) (products : List (List (ProductView R))) (n : NodeStreamsView R) (r c : ℕ) (p : ProductView R)
     → record { children = children; streams = streams; products = products } ≡ n → c < length (get_or n.products r [])
     → (product_at (record { children = children; streams = streams; products = slice_set products r (slice_set (get_or products r []) c p) }) r c ≡ p)
     × (record { children = children; streams = streams; products = slice_set products r (slice_set (get_or products r []) c p) } ≡ with_product n r c p)
 product_changed {R} children streams products n r c p e l =
-    subst (λ (n : NodeLists R). c < length (get_or n.products r []) → (product_at (record { children = children; streams = streams; products = slice_set products r (slice_set (get_or products r []) c p) }) r c ≡ p)
+    subst (λ (n : NodeStreamsView R). c < length (get_or n.products r []) → (product_at (record { children = children; streams = streams; products = slice_set products r (slice_set (get_or products r []) c p) }) r c ≡ p)
     × (record { children = children; streams = streams; products = slice_set products r (slice_set (get_or products r []) c p) } ≡ with_product n r c p)) e literal l
   where
     literal : c < length (get_or products r [])
         → (product_at (record { children = children; streams = streams; products = slice_set products r (slice_set (get_or products r []) c p) }) r c ≡ p)
         × (record { children = children; streams = streams; products = slice_set products r (slice_set (get_or products r []) c p) } ≡ with_product (record { children = children; streams = streams; products = products }) r c p)
     literal l =
-        let none : ProductData R = record { found = []; ranks = []; frontier = []; room = 0; frontier_room = 0 } in
+        let none : ProductView R = record { found = []; ranks = []; frontier = []; room = 0; frontier_room = 0 } in
         let here = get_or-set_same products r (slice_set (get_or products r []) c p) [] (row_inside products r c l) in
-        (ap (λ (ps : List (ProductData R)). get_or ps c none) here ∙ get_or-set_same (get_or products r []) c p none l, refl)
+        (ap (λ (ps : List (ProductView R)). get_or ps c none) here ∙ get_or-set_same (get_or products r []) c p none l, refl)

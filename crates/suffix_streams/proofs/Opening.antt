@@ -6,17 +6,17 @@ use Rattle.std.proofs.lemmas.List.{get_or-set_same, get_or-set_other, set-get_or
 use Rattle.std.proofs.lemmas.List.Elements.{All-nil, All-cons}
 use Rattle.stream_store.specs.declared.entry.Linked.{Linked}
 use Rattle.take2_heap.specs.declared.entry.Entry.{Entry}
-use Rattle.tdp_core.specs.TreeData.{NodeData, rows, child_count, group_named}
+use Rattle.tdp_core.specs.TreeView.{NodeView, rows, child_count, group_named}
 use Rattle.tdp_core.specs.WellFormed.{IsTieFreeTree}
 use Rattle.tdp_model.specs.KeyTuple.{KeyOf, key_none}
 use Rattle.tdp_model.specs.Product.{Pair}
 use Rattle.stream_cells.specs.declared.cell.Cell.{Cell}
 use Rattle.suffix_streams.specs.declared.stream.Found.{Found}
-use Rattle.suffix_streams.specs.ProductData.{ProductData}
-use Rattle.suffix_streams.specs.NodeLists.{NodeLists}
+use Rattle.suffix_streams.specs.ProductView.{ProductView}
+use Rattle.suffix_streams.specs.NodeStreamsView.{NodeStreamsView}
 use Rattle.suffix_streams.specs.Rankings.{child, part_list, group_list}
 use Rattle.suffix_streams.specs.Frontiers.{IsFrontier}
-use Rattle.suffix_streams.specs.StreamsData.{IsKnownPart, node_of, group_of, place_of, lists_of, products_of, product_of, part_known, row_known, pair_of, IsStreamOf, IsProductOf, IsStreams, IsFreshAt, AreFreshTo}
+use Rattle.suffix_streams.specs.TreeStreams.{IsKnownPart, node_of, group_of, place_of, lists_of, products_of, product_of, part_known, row_known, pair_of, IsStreamOf, IsProductOf, IsStreams, IsFreshAt, AreFreshTo}
 use Rattle.suffix_streams.proofs.Rankings.{kid, part_ascends, group_ascends, group_some, sums_begin}
 use Rattle.suffix_streams.proofs.Stores.{set_length, open_all}
 use Rattle.suffix_streams.proofs.Growth.{frontier_begins}
@@ -27,8 +27,8 @@ use Rattle.suffix_streams.proofs.Heads.{lists_at}
 use Rattle.suffix_streams.proofs.Kept.{held_itself, stream_stays, part_stays, product_stays}
 use Rattle.suffix_streams.proofs.Changes.{lists_same, lists_other}
 
-module _ {R : Type 0} (d : ℕ) (key : R → KeyOf d 16) (t : List (NodeData R)) (es : List (Linked (Found R))) (nodes : List (NodeLists R)) (h : IsStreams d key t es nodes) (v r : ℕ) (l : v < length t) (row : r < rows t v)
-    (n : NodeLists R) (at : n ≡ get_or nodes v n) (count kids : ℕ) (count_is : count ≡ length (get_or n.products r [])) (kids_is : kids ≡ length n.children) where
+module _ {R : Type 0} (d : ℕ) (key : R → KeyOf d 16) (t : List (NodeView R)) (es : List (Linked (Found R))) (nodes : List (NodeStreamsView R)) (h : IsStreams d key t es nodes) (v r : ℕ) (l : v < length t) (row : r < rows t v)
+    (n : NodeStreamsView R) (at : n ≡ get_or nodes v n) (count kids : ℕ) (count_is : count ≡ length (get_or n.products r [])) (kids_is : kids ≡ length n.children) where
   lists : lists_of nodes v ≡ n
   lists = lists_at nodes v n at (omega (arith, h.all_nodes))
 
@@ -52,12 +52,12 @@ module _ {R : Type 0} (d : ℕ) (key : R → KeyOf d 16) (t : List (NodeData R))
     | inr none ↦ omega (arith, many, counted, all, none)
   ]
 
-module _ {R : Type 0} (d : ℕ) (key : R → KeyOf d 16) (t : List (NodeData R)) (es : List (Linked (Found R))) (nodes : List (NodeLists R)) (h : IsStreams d key t es nodes) (apart : IsTieFreeTree t) (v r : ℕ)
-    (l : v < length t) (row : r < rows t v) (ps : List (ProductData R)) (fresh : AreFreshTo d key t nodes v r (child_count t v) ps) (empty : length (products_of nodes v r) ≡ 0) (kids : 0 < child_count t v) where
-  abbrev made : NodeLists R
+module _ {R : Type 0} (d : ℕ) (key : R → KeyOf d 16) (t : List (NodeView R)) (es : List (Linked (Found R))) (nodes : List (NodeStreamsView R)) (h : IsStreams d key t es nodes) (apart : IsTieFreeTree t) (v r : ℕ)
+    (l : v < length t) (row : r < rows t v) (ps : List (ProductView R)) (fresh : AreFreshTo d key t nodes v r (child_count t v) ps) (empty : length (products_of nodes v r) ≡ 0) (kids : 0 < child_count t v) where
+  abbrev made : NodeStreamsView R
   made = record (lists_of nodes v) { products = slice_set (lists_of nodes v).products r ps }
 
-  abbrev opened : List (NodeLists R)
+  abbrev opened : List (NodeStreamsView R)
   opened = slice_set nodes v made
 
   opened_at : lists_of opened v ≡ made
@@ -100,7 +100,7 @@ module _ {R : Type 0} (d : ℕ) (key : R → KeyOf d 16) (t : List (NodeData R))
 
   other_known : (w s k : ℕ) → ((w ≢ v) ⊎ (s ≢ r)) → part_known opened w s k ≡ part_known nodes w s k
   other_known w s zero n = refl
-  other_known w s (suc k) n = ap (λ (z : List (ProductData R)). length (get_or z k (record { found = []; ranks = []; frontier = []; room = 0; frontier_room = 0 })).found) (other_row w s n)
+  other_known w s (suc k) n = ap (λ (z : List (ProductView R)). length (get_or z k (record { found = []; ranks = []; frontier = []; room = 0; frontier_room = 0 })).found) (other_row w s n)
 
   other_row_known : (w s : ℕ) → ((w ≢ v) ⊎ (s ≢ r)) → row_known opened w s ≡ row_known nodes w s
   other_row_known w s n = other_known w s (length (products_of opened w s)) n ∙ ap (λ z. part_known nodes w s (length z)) (other_row w s n)
@@ -193,9 +193,9 @@ module _ {R : Type 0} (d : ℕ) (key : R → KeyOf d 16) (t : List (NodeData R))
 
       other : (w s k : ℕ) → w < length t → s < rows t w → k < length (products_of opened w s) → ((w ≢ v) ⊎ (s ≢ r)) → IsProductOf d key t es opened w s k
       other w s k a b x n =
-          product_stays d key t es es nodes opened (held_itself es) w s k (ap (λ (z : List (ProductData R)). (get_or z k (record { found = []; ranks = []; frontier = []; room = 0; frontier_room = 0 })).found) (other_row w s n))
-          (ap (λ (z : List (ProductData R)). (get_or z k (record { found = []; ranks = []; frontier = []; room = 0; frontier_room = 0 })).frontier) (other_row w s n))
-          (ap (λ (z : List (ProductData R)). (get_or z k (record { found = []; ranks = []; frontier = []; room = 0; frontier_room = 0 })).ranks) (other_row w s n)) (omega (arith, other_known w s k n)) (h.products w s k a b (omega (arith, x, ap length (other_row w s n))))
+          product_stays d key t es es nodes opened (held_itself es) w s k (ap (λ (z : List (ProductView R)). (get_or z k (record { found = []; ranks = []; frontier = []; room = 0; frontier_room = 0 })).found) (other_row w s n))
+          (ap (λ (z : List (ProductView R)). (get_or z k (record { found = []; ranks = []; frontier = []; room = 0; frontier_room = 0 })).frontier) (other_row w s n))
+          (ap (λ (z : List (ProductView R)). (get_or z k (record { found = []; ranks = []; frontier = []; room = 0; frontier_room = 0 })).ranks) (other_row w s n)) (omega (arith, other_known w s k n)) (h.products w s k a b (omega (arith, x, ap length (other_row w s n))))
 
       each : (w s k : ℕ) → w < length t → s < rows t w → k < length (products_of opened w s) → IsProductOf d key t es opened w s k
       each w s k a b x = elim (cases_eq w v) [
@@ -216,14 +216,14 @@ module _ {R : Type 0} (d : ℕ) (key : R → KeyOf d 16) (t : List (NodeData R))
       | inr n ↦ same w s k (inr n)
       | inl f ↦
           subst (λ z. length (product_of opened z s k).frontier ≤ max 1 (length (product_of nodes z s k).frontier) + 0) (sym e)
-          (subst (λ z. length (product_of opened v z k).frontier ≤ max 1 (length (product_of nodes v z k).frontier) + 0) (sym f) (omega (arith, ap (λ (p : ProductData R). length p.frontier) (opened_product k), new k)))
+          (subst (λ z. length (product_of opened v z k).frontier ≤ max 1 (length (product_of nodes v z k).frontier) + 0) (sym f) (omega (arith, ap (λ (p : ProductView R). length p.frontier) (opened_product k), new k)))
     ]
   ]
     where
       same : (w s k : ℕ) → ((w ≢ v) ⊎ (s ≢ r)) → length (product_of opened w s k).frontier ≤ max 1 (length (product_of nodes w s k).frontier) + 0
-      same w s k n = omega (arith, ap (λ (z : List (ProductData R)). length (get_or z k (record { found = []; ranks = []; frontier = []; room = 0; frontier_room = 0 })).frontier) (other_row w s n))
+      same w s k n = omega (arith, ap (λ (z : List (ProductView R)). length (get_or z k (record { found = []; ranks = []; frontier = []; room = 0; frontier_room = 0 })).frontier) (other_row w s n))
 
-      past : (xs : List (ProductData R)) (i : ℕ) (x : ProductData R) → length xs ≤ i → get_or xs i x ≡ x
+      past : (xs : List (ProductView R)) (i : ℕ) (x : ProductView R) → length xs ≤ i → get_or xs i x ≡ x
       past [] i x l = refl
       past (y ∷ xs) zero x l = absurd (omega arith)
       past (y ∷ xs) (suc i) x l = past xs i x (omega arith)
@@ -231,15 +231,15 @@ module _ {R : Type 0} (d : ℕ) (key : R → KeyOf d 16) (t : List (NodeData R))
       new : (k : ℕ) → length (get_or ps k (record { found = []; ranks = []; frontier = []; room = 0; frontier_room = 0 })).frontier ≤ 1
       new k = elim (cases_lt k (child_count t v)) [
         | inl a ↦ omega (arith, ap length (fresh.first k (record { found = []; ranks = []; frontier = []; room = 0; frontier_room = 0 }) a).2)
-        | inr a ↦ omega (arith, ap (λ (p : ProductData R). length p.frontier) (past ps k (record { found = []; ranks = []; frontier = []; room = 0; frontier_room = 0 }) (omega (arith, fresh.count))))
+        | inr a ↦ omega (arith, ap (λ (p : ProductView R). length p.frontier) (past ps k (record { found = []; ranks = []; frontier = []; room = 0; frontier_room = 0 }) (omega (arith, fresh.count))))
       ]
 
 -- the change in terms of the lists
-pub opened_is : {R : Type 0} (nodes : List (NodeLists R)) (v r : ℕ) (m n : NodeLists R) (ps : List (ProductData R)) → v < length nodes → m ≡ get_or nodes v m → n ≡ record m { products = slice_set m.products r ps }
+pub opened_is : {R : Type 0} (nodes : List (NodeStreamsView R)) (v r : ℕ) (m n : NodeStreamsView R) (ps : List (ProductView R)) → v < length nodes → m ≡ get_or nodes v m → n ≡ record m { products = slice_set m.products r ps }
     → slice_set nodes v n ≡ slice_set nodes v (record (lists_of nodes v) { products = slice_set (lists_of nodes v).products r ps })
 opened_is {R} nodes v r m n ps l at e =
-    ap (λ z. slice_set nodes v z) (e ∙ ap (λ (z : NodeLists R). (let x : NodeLists R = record z { products = slice_set z.products r ps } in x)) (sym (lists_at nodes v m at l)))
+    ap (λ z. slice_set nodes v z) (e ∙ ap (λ (z : NodeStreamsView R). (let x : NodeStreamsView R = record z { products = slice_set z.products r ps } in x)) (sym (lists_at nodes v m at l)))
 
 -- a node that is put back as it was changes nothing
-pub put_back : {R : Type 0} (nodes : List (NodeLists R)) (v : ℕ) (m n : NodeLists R) → m ≡ get_or nodes v m → n ≡ m → slice_set nodes v n ≡ nodes
+pub put_back : {R : Type 0} (nodes : List (NodeStreamsView R)) (v : ℕ) (m n : NodeStreamsView R) → m ≡ get_or nodes v m → n ≡ m → slice_set nodes v n ≡ nodes
 put_back nodes v m n at e = ap (λ z. slice_set nodes v z) (e ∙ at) ∙ set-get_or nodes v m

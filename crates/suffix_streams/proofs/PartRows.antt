@@ -4,7 +4,7 @@ use Rattle.std.proofs.lemmas.Bool.{cases_lt}
 use Rattle.std.proofs.lemmas.List.Elements.{All-get_or}
 use Rattle.stream_store.specs.declared.entry.Linked.{Linked}
 use Rattle.take2_heap.specs.declared.entry.Entry.{Entry}
-use Rattle.tdp_core.specs.TreeData.{NodeData, rows, members, child_count, group_count, group_named}
+use Rattle.tdp_core.specs.TreeView.{NodeView, rows, members, child_count, group_count, group_named}
 use Rattle.tdp_core.specs.WellFormed.{IsTieFreeTree}
 use Rattle.tdp_core.proofs.TreeFacts.{member_is_row}
 use Rattle.tdp_model.specs.KeyTuple.{KeyOf, key_add, key_none}
@@ -13,9 +13,9 @@ use Rattle.stream_model.specs.QueueEntries.{IsHeld, InProduct, InRuns}
 use Rattle.stream_cells.specs.declared.cell.Cell.{Cell}
 use Rattle.stream_cells.specs.declared.source.Source.{Source}
 use Rattle.suffix_streams.specs.declared.stream.Found.{Found}
-use Rattle.suffix_streams.specs.NodeLists.{NodeLists}
+use Rattle.suffix_streams.specs.NodeStreamsView.{NodeStreamsView}
 use Rattle.suffix_streams.specs.Rankings.{child, part_list, group_list}
-use Rattle.suffix_streams.specs.StreamsData.{IsKnownPart, IsSumOf, HasOwnParts, node_of, group_of, place_of, stream, products_of, product_of, stream_of, part_known, row_known, pair_of, run_of, IsStreams}
+use Rattle.suffix_streams.specs.TreeStreams.{IsKnownPart, IsSumOf, HasOwnParts, node_of, group_of, place_of, stream, products_of, product_of, stream_of, part_known, row_known, pair_of, run_of, IsStreams}
 use Rattle.suffix_streams.proofs.Stores.{node_value, group_value}
 use Rattle.suffix_streams.proofs.Firsts.{first_by_at}
 use Rattle.suffix_streams.proofs.FirstSums.{first_known, head_first, first_sum_of}
@@ -23,7 +23,7 @@ use Rattle.suffix_streams.proofs.ViewEntries.{entry_at}
 use Rattle.suffix_streams.proofs.ViewPrefixes.{place_in_stream, entry_solution}
 
 -- the solution of entry i, of group g of node v, is the one of a member that its source names
-pub record IsSourceAt {R : Type 0} (d : ℕ) (key : R → KeyOf d 16) (t : List (NodeData R)) (es : List (Linked (Found R))) (nodes : List (NodeLists R)) (i v g : ℕ) (s : Source) : Type 0 where
+pub record IsSourceAt {R : Type 0} (d : ℕ) (key : R → KeyOf d 16) (t : List (NodeView R)) (es : List (Linked (Found R))) (nodes : List (NodeStreamsView R)) (i v g : ℕ) (s : Source) : Type 0 where
   pub owner : node_of es i ≡ v
   pub node : v < length t
   pub group : g < group_count t v
@@ -33,7 +33,7 @@ pub record IsSourceAt {R : Type 0} (d : ℕ) (key : R → KeyOf d 16) (t : List 
   pub parts : HasOwnParts d key t es nodes v g s
   pub same : get_or (part_list d key t v (get_or (members t v g) s.member 0) (child_count t v)) s.place (key_none d 16) ≡ get_or (group_list d key t (node_of es i) (group_of es i)) (place_of es i) (key_none d 16)
 
-module _ {R : Type 0} (d : ℕ) (key : R → KeyOf d 16) (t : List (NodeData R)) (es : List (Linked (Found R))) (nodes : List (NodeLists R)) (h : IsStreams d key t es nodes) where
+module _ {R : Type 0} (d : ℕ) (key : R → KeyOf d 16) (t : List (NodeView R)) (es : List (Linked (Found R))) (nodes : List (NodeStreamsView R)) (h : IsStreams d key t es nodes) where
   -- a known solution of a row, by the row's products
   known_part : (v r place : ℕ) → v < length t → r < rows t v → place < row_known nodes v r → IsKnownPart nodes v r (child_count t v) place
   known_part v r place l row k = record {

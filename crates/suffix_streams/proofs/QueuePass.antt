@@ -6,7 +6,7 @@ use Rattle.std.proofs.lemmas.List.Elements.{All-get_or}
 use Rattle.stream_store.specs.declared.entry.Linked.{Linked}
 use Rattle.take2_heap.specs.declared.entry.Entry.{Entry}
 use Rattle.take2_heap.specs.Order.{IsLeast}
-use Rattle.tdp_core.specs.TreeData.{NodeData, rows, members, child_count, group_count}
+use Rattle.tdp_core.specs.TreeView.{NodeView, rows, members, child_count, group_count}
 use Rattle.tdp_core.specs.WellFormed.{IsTieFreeTree}
 use Rattle.tdp_model.specs.KeyTuple.{KeyOf, key_none}
 use Rattle.tdp_model.specs.Product.{run_key}
@@ -15,11 +15,11 @@ use Rattle.stream_model.specs.QueueEntries.{IsHeld, InRuns}
 use Rattle.stream_model.specs.Links.{IsLinked}
 use Rattle.stream_cells.specs.declared.source.Source.{Source}
 use Rattle.suffix_streams.specs.declared.stream.Found.{Found}
-use Rattle.suffix_streams.specs.NodeLists.{NodeLists, with_queue}
+use Rattle.suffix_streams.specs.NodeStreamsView.{NodeStreamsView, with_queue}
 use Rattle.suffix_streams.specs.Rankings.{part_list, group_list}
 use Rattle.suffix_streams.specs.Frontiers.{IsMerge}
 use Rattle.suffix_streams.specs.Firsts.{IsFirstBelow, AreFirstsMoved}
-use Rattle.suffix_streams.specs.StreamsData.{IsSumOf, HasOwnParts, node_of, group_of, next_of, node_size, node_list, group_list_of, next_list, stream, lists_of, products_of, stream_of, row_known, run_of, IsStreams}
+use Rattle.suffix_streams.specs.TreeStreams.{IsSumOf, HasOwnParts, node_of, group_of, next_of, node_size, node_list, group_list_of, next_list, stream, lists_of, products_of, stream_of, row_known, run_of, IsStreams}
 use Rattle.suffix_streams.specs.Growing.{IsReached, IsStoreGrown}
 use Rattle.suffix_streams.proofs.Kept.{AreHeld, held_itself}
 use Rattle.suffix_streams.proofs.StepCells.{first_of}
@@ -29,17 +29,17 @@ use Rattle.suffix_streams.proofs.Linked.{entries_are, all_owned, flipped}
 use Rattle.suffix_streams.proofs.Merging.{top_row, next_offer, queued_at, queued_other, queued_products, queued_stream, queue_set, queue_held, queue_known, queue_parts, queue_few, group_ends, group_grows}
 
 -- the list of a member's solutions
-abbrev pub lists_of_member : {R : Type 0} (d : ℕ) (key : R → KeyOf d 16) → List (NodeData R) → ℕ → ℕ → ℕ → List (KeyOf d 16)
+abbrev pub lists_of_member : {R : Type 0} (d : ℕ) (key : R → KeyOf d 16) → List (NodeView R) → ℕ → ℕ → ℕ → List (KeyOf d 16)
 lists_of_member d key t v g i = part_list d key t v (get_or (members t v g) i 0) (child_count t v)
 
 -- the group whose last solution will be passed, and its row
-pub record IsGroupTop {R : Type 0} (d : ℕ) (key : R → KeyOf d 16) (t : List (NodeData R)) (es : List (Linked (Found R))) (n : List (NodeLists R)) (last v g r : ℕ) : Type 0 where
+pub record IsGroupTop {R : Type 0} (d : ℕ) (key : R → KeyOf d 16) (t : List (NodeView R)) (es : List (Linked (Found R))) (n : List (NodeStreamsView R)) (last v g r : ℕ) : Type 0 where
   pub node : v < length t
   pub group : g < group_count t v
   pub in_nodes : v < length n
   pub row : r < rows t v
 
-pub group_top : {R : Type 0} (d : ℕ) (key : R → KeyOf d 16) (t : List (NodeData R)) (es : List (Linked (Found R))) (n : List (NodeLists R)) (last v g r m : ℕ) → IsStreams d key t es n → last < length es → node_of es last ≡ v → group_of es last ≡ g
+pub group_top : {R : Type 0} (d : ℕ) (key : R → KeyOf d 16) (t : List (NodeView R)) (es : List (Linked (Found R))) (n : List (NodeStreamsView R)) (last v g r m : ℕ) → IsStreams d key t es n → last < length es → node_of es last ≡ v → group_of es last ≡ g
     → 0 < length (stream_of n v g).queue → ((x : Entry R Source) → (get_or (stream_of n v g).queue 0 x).tag.member ≡ m) → r ≡ get_or (members t v g) m 0 → IsGroupTop d key t es n last v g r
 group_top {R} d key t es n last v g r m h within node_is group_is some member row =
     let own = h.owners last within in
@@ -52,19 +52,19 @@ group_top {R} d key t es n last v g r m h within node_is group_is some member ro
 -- # The queue has room
 
 -- the queue of group g of node v only got room, from n to m
-pub record IsRoomed {R : Type 0} (d : ℕ) (key : R → KeyOf d 16) (t : List (NodeData R)) (es : List (Linked (Found R))) (n m : List (NodeLists R)) (v g : ℕ) : Type 0 where
+pub record IsRoomed {R : Type 0} (d : ℕ) (key : R → KeyOf d 16) (t : List (NodeView R)) (es : List (Linked (Found R))) (n m : List (NodeStreamsView R)) (v g : ℕ) : Type 0 where
   pub formed : IsStreams d key t es m
   pub above : (w : ℕ) → w ≢ v → lists_of m w ≡ lists_of n w
   pub products : (w : ℕ) → (lists_of m w).products ≡ (lists_of n w).products
   pub streams : (lists_of m v).streams ≡ (with_queue (lists_of n v) g (stream_of n v g).queue (stream_of m v g).room).streams
 
-pub roomed : {R : Type 0} (d : ℕ) (key : R → KeyOf d 16) (t : List (NodeData R)) (es : List (Linked (Found R))) (n m : List (NodeLists R)) (v g : ℕ) → IsStreams d key t es n → v < length t → g < group_count t v
+pub roomed : {R : Type 0} (d : ℕ) (key : R → KeyOf d 16) (t : List (NodeView R)) (es : List (Linked (Found R))) (n m : List (NodeStreamsView R)) (v g : ℕ) → IsStreams d key t es n → v < length t → g < group_count t v
     → m ≡ slice_set n v (with_queue (lists_of n v) g (stream_of n v g).queue (stream_of m v g).room) → IsRoomed d key t es n m v g
 roomed {R} d key t es n m v g h l in_group is =
     let own = h.streams v g l in_group in
     let q : List (Entry R Source) = (stream_of n v g).queue in
     let k : ℕ = (stream_of m v g).room in
-    subst (λ (z : List (NodeLists R)). IsRoomed d key t es n z v g) (sym is)
+    subst (λ (z : List (NodeStreamsView R)). IsRoomed d key t es n z v g) (sym is)
     (record {
       formed = queue_set d key t es es n h (held_itself es) v g l in_group q k h.owners h.linked (λ w k z. refl) own.few own.known own.found_known own.parts own.found_parts own.merge;
       above = queued_other d key t es es n h (held_itself es) v g l in_group q k;
@@ -74,7 +74,7 @@ roomed {R} d key t es n m v g h l in_group is =
     })
 
 -- if there is a first solution of a member below, the group has that member
-pub below_within : {R : Type 0} (d : ℕ) (key : R → KeyOf d 16) (t : List (NodeData R)) (es : List (Linked (Found R))) (v g place j : ℕ) (o : Option (Entry R Source)) → IsFirstBelow d key t es v g place j o → IsSome o → j < length (members t v g)
+pub below_within : {R : Type 0} (d : ℕ) (key : R → KeyOf d 16) (t : List (NodeView R)) (es : List (Linked (Found R))) (v g place j : ℕ) (o : Option (Entry R Source)) → IsFirstBelow d key t es v g place j o → IsSome o → j < length (members t v g)
 below_within d key t es v g place j (Some e) below some = below.1
 below_within d key t es v g place j None below some = absurd (clash some)
   where
@@ -84,7 +84,7 @@ below_within d key t es v g place j None below some = absurd (clash some)
 -- # The queue after that
 
 -- q is the queue after the last solution was passed
-pub record IsQueuePassed {R : Type 0} (d : ℕ) (key : R → KeyOf d 16) (t : List (NodeData R)) (es : List (Linked (Found R))) (n : List (NodeLists R)) (v g : ℕ) (q : List (Entry R Source)) : Type 0 where
+pub record IsQueuePassed {R : Type 0} (d : ℕ) (key : R → KeyOf d 16) (t : List (NodeView R)) (es : List (Linked (Found R))) (n : List (NodeStreamsView R)) (v g : ℕ) (q : List (Entry R Source)) : Type 0 where
   pub before : IsStreams d key t es n
   pub node : v < length t
   pub group : g < group_count t v
@@ -96,7 +96,7 @@ pub record IsQueuePassed {R : Type 0} (d : ℕ) (key : R → KeyOf d 16) (t : Li
   pub grows : (after : Entry R Source) → 0 < length q → after ≡ get_or q 0 after → IsLeast d key after q
       → IsMerge d key run_of (length (members t v g)) (lists_of_member d key t v g) (group_list d key t v g) (stream es v g ++ (after ∷ [])) q
 
-pub queue_passed : {R : Type 0} {d : ℕ} {key : R → KeyOf d 16} {t : List (NodeData R)} {es : List (Linked (Found R))} {n : List (NodeLists R)} {last v g r : ℕ} → IsGroupTop d key t es n last v g r → (apart : IsTieFreeTree t) (m p : ℕ) (offer : Option (Entry R Source))
+pub queue_passed : {R : Type 0} {d : ℕ} {key : R → KeyOf d 16} {t : List (NodeView R)} {es : List (Linked (Found R))} {n : List (NodeStreamsView R)} {last v g r : ℕ} → IsGroupTop d key t es n last v g r → (apart : IsTieFreeTree t) (m p : ℕ) (offer : Option (Entry R Source))
     (q : List (Entry R Source)) → IsStreams d key t es n → AreFirstsMoved d key t es v g m p offer (stream_of n v g).queue q
     → 0 < length (stream_of n v g).queue → ((x : Entry R Source) → (get_or (stream_of n v g).queue 0 x).tag.member ≡ m)
     → ((x : Entry R Source) → (get_or (stream_of n v g).queue 0 x).tag.place + 1 ≡ p) → r ≡ get_or (members t v g) m 0 → length (products_of n v r) ≡ child_count t v → IsReached d key t n v r (child_count t v) p
@@ -132,7 +132,7 @@ queue_passed {R} {d} {key} {t} {es} {n} {last} {v} {g} {r} top apart m p offer q
       grows = group_grows d key t es n h v g l in_group r e.tag offer left right e q some first refl row_is whole reached0 offered left0 right0 moved0 least0;
     }
 
-module _ {R : Type 0} {d : ℕ} {key : R → KeyOf d 16} {t : List (NodeData R)} {es : List (Linked (Found R))} {n : List (NodeLists R)} {v g : ℕ} {q : List (Entry R Source)} (p : IsQueuePassed d key t es n v g q) where
+module _ {R : Type 0} {d : ℕ} {key : R → KeyOf d 16} {t : List (NodeView R)} {es : List (Linked (Found R))} {n : List (NodeStreamsView R)} {v g : ℕ} {q : List (Entry R Source)} (p : IsQueuePassed d key t es n v g q) where
   abbrev Known : Entry R Source → Type 0
   Known e = e.tag.place < row_known n v (get_or (members t v g) e.tag.member 0)
 
@@ -157,7 +157,7 @@ module _ {R : Type 0} {d : ℕ} {key : R → KeyOf d 16} {t : List (NodeData R)}
 
 -- # The store with one more entry, to which the last entry of its stream links
 
-pub record IsEntryLinked {R : Type 0} (t : List (NodeData R)) (es es2 : List (Linked (Found R))) (last : ℕ) (f : Found R) : Type 0 where
+pub record IsEntryLinked {R : Type 0} (t : List (NodeView R)) (es es2 : List (Linked (Found R))) (last : ℕ) (f : Found R) : Type 0 where
   pub store : IsStoreGrown f.node es es2
   pub growth : (v : ℕ) → node_size es2 v ≤ node_size es v + cond (nat_eq v f.node) 1 0
   pub answer : next_of es2 last ≡ Some (length es)
@@ -167,7 +167,7 @@ pub record IsEntryLinked {R : Type 0} (t : List (NodeData R)) (es es2 : List (Li
   pub longer : stream es2 f.node f.group ≡ stream es f.node f.group ++ (f.solution ∷ [])
 
 -- es1 is the store with the entry, and es2 the store with the link too
-pub entry_linked : {R : Type 0} {d : ℕ} {key : R → KeyOf d 16} {t : List (NodeData R)} {es : List (Linked (Found R))} {n : List (NodeLists R)} {last v g r : ℕ} → IsGroupTop d key t es n last v g r → (solution : Entry R Source) (es1 es2 : List (Linked (Found R)))
+pub entry_linked : {R : Type 0} {d : ℕ} {key : R → KeyOf d 16} {t : List (NodeView R)} {es : List (Linked (Found R))} {n : List (NodeStreamsView R)} {last v g r : ℕ} → IsGroupTop d key t es n last v g r → (solution : Entry R Source) (es1 es2 : List (Linked (Found R)))
     (id : ℕ) → IsStreams d key t es n → last < length es → node_of es last ≡ v → group_of es last ≡ g → next_of es last ≡ None → id ≡ length es → es1 ≡ es ++ (record { value = record { node = v; group = g; solution = solution }; next = None } ∷ [])
     → ((x : Linked (Found R)) → es2 ≡ slice_set es1 last (record (get_or es1 last x) { next = Some id })) → IsEntryLinked t es es2 last (record { node = v; group = g; solution = solution })
 entry_linked {R} {d} {key} {t} {es} {n} {last} {v} {g} top solution es1 es2 id h within node_is group_is none id_is pushed set =

@@ -15,7 +15,7 @@ use Rattle.tdp_model.proofs.Enumeration.{part_listed, listed_part, row_listed, l
 use Rattle.tdp_model.proofs.Bridge.{deeper, shallower}
 use Rattle.tdp_model.proofs.Parts.{part_first, part_first_only, part_skip, part_skipped, part_join, row_of_part, part_of_row}
 use Rattle.tdp_model.proofs.RowStreams.{product_begins}
-use Rattle.tdp_core.specs.TreeData.{NodeData, kids_below, parent, item, number, rows, members, group, group_count, group_named, group_number, child_count, rank, best}
+use Rattle.tdp_core.specs.TreeView.{NodeView, kids_below, parent, item, number, rows, members, group, group_count, group_named, group_number, child_count, rank, best}
 use Rattle.tdp_core.specs.WellFormed.{IsFormed, IsTieFreeTree}
 use Rattle.tdp_core.proofs.TreeFacts.{tie_free_of, part_key_fits, subtree_key_fits, best_had, member_is_row}
 use Rattle.suffix_streams.specs.Rankings.{child, part_end, RowSolution, PartSolution, GroupSolution, solution_keys, part_list, group_list}
@@ -25,7 +25,7 @@ pub some_member : {K : Type 0} (k : K) (ks : List K) → IsMember k ks → 0 < l
 some_member k [] h = absurd h
 some_member k (x ∷ ks) h = omega arith
 
-module _ {R : Type 0} (d : ℕ) (key : R → KeyOf d 16) (t : List (NodeData R)) where
+module _ {R : Type 0} (d : ℕ) (key : R → KeyOf d 16) (t : List (NodeView R)) where
   listed_kids : (q r : ℕ) (x : KeyOf d 16) → q < length t → IsMember x (gather (solution_keys d key t q) (group t q r))
       → GroupHas (key_add d 16) (key_none d 16) (length t) (parent t) (rank t d key) (group t) (length t) q r x
   listed_kids q r x l g =

@@ -3,9 +3,9 @@ use Rattle.std.proofs.Common.{◌≡◌, ℕ, ◌<◌, List, [], ◌∷◌, ◌+
 use Rattle.take2_heap.specs.declared.entry.Entry.{Entry}
 use Rattle.tdp_model.specs.KeyTuple.{KeyOf, key_none}
 use Rattle.stream_cells.specs.declared.cell.Cell.{Cell}
-use Rattle.suffix_streams.specs.ProductData.{ProductData, with_rank}
+use Rattle.suffix_streams.specs.ProductView.{ProductView, with_rank}
 use Rattle.suffix_streams.specs.Frontiers.{AreFirstBy}
-use Rattle.suffix_streams.specs.StreamsData.{KeepsRanks}
+use Rattle.suffix_streams.specs.TreeStreams.{KeepsRanks}
 use Rattle.suffix_streams.proofs.State.{first_more_by, count_more}
 use Rattle.suffix_streams.proofs.Growth.{one_taken}
 
@@ -18,7 +18,7 @@ rank_none [] x e = refl
 rank_none (y ∷ xs) x e = absurd (omega arith)
 
 -- one more solution is kept, with its rank
-pub ranks_more : {R : Type 0} (d : ℕ) (key : R → KeyOf d 16) (ks : List (KeyOf d 16)) (p q : ProductData R) (next : Entry R Cell) → q.found ≡ p.found ++ (next.tag ∷ []) → q.ranks ≡ with_rank p.ranks next.rank
+pub ranks_more : {R : Type 0} (d : ℕ) (key : R → KeyOf d 16) (ks : List (KeyOf d 16)) (p q : ProductView R) (next : Entry R Cell) → q.found ≡ p.found ++ (next.tag ∷ []) → q.ranks ≡ with_rank p.ranks next.rank
     → length p.found < length ks → get_or ks (length p.found) (key_none d 16) ≡ key next.rank → KeepsRanks d key ks p → KeepsRanks d key ks q
 ranks_more d key ks p q next found ranks within at h =
     let same : q.ranks ≡ p.ranks ++ (next.rank ∷ []) = ranks ∙ rank_more p.ranks next.rank h.1.0 in (
@@ -28,7 +28,7 @@ ranks_more d key ks p q next found ranks within at h =
     )
 
 -- the first solution is kept, with its rank
-pub first_ranked : {R : Type 0} (d : ℕ) (key : R → KeyOf d 16) (ks : List (KeyOf d 16)) (p : ProductData R) (e : Entry R Cell) → p.found ≡ e.tag ∷ [] → p.ranks ≡ e.rank ∷ [] → 0 < length ks → get_or ks 0 (key_none d 16) ≡ key e.rank → KeepsRanks d key ks p
+pub first_ranked : {R : Type 0} (d : ℕ) (key : R → KeyOf d 16) (ks : List (KeyOf d 16)) (p : ProductView R) (e : Entry R Cell) → p.found ≡ e.tag ∷ [] → p.ranks ≡ e.rank ∷ [] → 0 < length ks → get_or ks 0 (key_none d 16) ≡ key e.rank → KeepsRanks d key ks p
 first_ranked d key ks p e found ranks some at = (
   omega (arith, ap length found, ap length ranks),
   subst (λ z. AreFirstBy d key z ks) (sym ranks) (omega arith, omega (arith, some), ap (λ k. k ∷ []) (sym at) ∙ one_taken ks (key_none d 16) some),

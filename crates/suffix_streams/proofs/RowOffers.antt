@@ -2,17 +2,17 @@
 use Rattle.std.proofs.Common.{◌≡◌, ℕ, suc, ◌<◌, List, length, get_or, sym, ap, ◌∙◌, subst, arith}
 use Rattle.std.proofs.lemmas.List.Elements.{All-get_or}
 use Rattle.stream_store.specs.declared.entry.Linked.{Linked}
-use Rattle.tdp_core.specs.TreeData.{NodeData, rows, group_named}
+use Rattle.tdp_core.specs.TreeView.{NodeView, rows, group_named}
 use Rattle.tdp_model.specs.KeyTuple.{KeyOf, key_add, key_none}
 use Rattle.tdp_model.specs.Product.{pair_key}
 use Rattle.stream_cells.specs.declared.cell.Cell.{Cell}
 use Rattle.suffix_streams.specs.declared.stream.Found.{Found}
-use Rattle.suffix_streams.specs.NodeLists.{NodeLists}
+use Rattle.suffix_streams.specs.NodeStreamsView.{NodeStreamsView}
 use Rattle.suffix_streams.specs.Rankings.{child, part_list, group_list}
-use Rattle.suffix_streams.specs.StreamsData.{node_of, group_of, products_of, product_of, part_known, pair_of, IsStreams, IsCell}
+use Rattle.suffix_streams.specs.TreeStreams.{node_of, group_of, products_of, product_of, part_known, pair_of, IsStreams, IsCell}
 use Rattle.suffix_streams.proofs.Firsts.{first_by_at}
 
-module _ {R : Type 0} (d : ℕ) (key : R → KeyOf d 16) (t : List (NodeData R)) (es : List (Linked (Found R))) (nodes : List (NodeLists R)) (h : IsStreams d key t es nodes) (v r c place : ℕ) (cell : Cell)
+module _ {R : Type 0} (d : ℕ) (key : R → KeyOf d 16) (t : List (NodeView R)) (es : List (Linked (Found R))) (nodes : List (NodeStreamsView R)) (h : IsStreams d key t es nodes) (v r c place : ℕ) (cell : Cell)
     (l : v < length t) (row : r < rows t v) (last : length (products_of nodes v r) ≡ suc c) (known : place < part_known nodes v r (suc c)) (is : cell ≡ get_or (product_of nodes v r c).found place cell) where
   pub offered_cell : IsCell d key t es nodes v r c cell
   offered_cell =

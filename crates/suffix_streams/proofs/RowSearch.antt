@@ -3,15 +3,15 @@ use Rattle.std.proofs.Common.{◌≡◌, ℕ, suc, ◌+◌, ◌-◌, ◌*◌, �
 use Rattle.stream_store.specs.declared.entry.Linked.{Linked}
 use Rattle.take2_heap.specs.declared.entry.Entry.{Entry}
 use Rattle.rank_key.specs.Bits.{bit_length}
-use Rattle.tdp_core.specs.TreeData.{NodeData, parent, rows, child_count, group_named}
+use Rattle.tdp_core.specs.TreeView.{NodeView, parent, rows, child_count, group_named}
 use Rattle.tdp_model.specs.Below.{is_below}
 use Rattle.tdp_model.specs.KeyTuple.{KeyOf}
 use Rattle.suffix_streams.specs.declared.stream.Found.{Found}
 use Rattle.stream_cells.specs.declared.cell.Cell.{Cell}
-use Rattle.suffix_streams.specs.ProductData.{ProductData}
-use Rattle.suffix_streams.specs.NodeLists.{NodeLists, product_at, known_of}
+use Rattle.suffix_streams.specs.ProductView.{ProductView}
+use Rattle.suffix_streams.specs.NodeStreamsView.{NodeStreamsView, product_at, known_of}
 use Rattle.suffix_streams.specs.Rankings.{child}
-use Rattle.suffix_streams.specs.StreamsData.{lists_of, products_of, product_of, stream_of, part_known, node_of, IsStreams, IsCell}
+use Rattle.suffix_streams.specs.TreeStreams.{lists_of, products_of, product_of, stream_of, part_known, node_of, IsStreams, IsCell}
 use Rattle.suffix_streams.specs.Refusals.{AreUnstepped}
 use Rattle.suffix_streams.specs.Growing.{IsGrown, IsExtended, AreQueuesGrown, HasOtherProduct, IsWithinSteps, below_kids, kids_size}
 use Rattle.suffix_streams.proofs.Rankings.{kid, kid_below}
@@ -26,7 +26,7 @@ use Rattle.suffix_streams.proofs.SearchSteps.{product_kept, row_kept, search_ext
 -- # Room was made in the product of the last of the children
 
 -- the nodes are n before and m after, and the first cell of the product's frontier is `cell`
-pub record IsRoomMade {R : Type 0} (d : ℕ) (key : R → KeyOf d 16) (t : List (NodeData R)) (es : List (Linked (Found R))) (n m : List (NodeLists R)) (v r count : ℕ) (cell : Cell) : Type 0 where
+pub record IsRoomMade {R : Type 0} (d : ℕ) (key : R → KeyOf d 16) (t : List (NodeView R)) (es : List (Linked (Found R))) (n m : List (NodeStreamsView R)) (v r count : ℕ) (cell : Cell) : Type 0 where
   pub before : IsStreams d key t es n
   pub node : v < length t
   pub row : r < rows t v
@@ -46,7 +46,7 @@ pub record IsRoomMade {R : Type 0} (d : ℕ) (key : R → KeyOf d 16) (t : List 
   pub child_within : child t v (count - 1) < length t
 
 -- x are the lists of node v that were read, and `top` is the first of the frontier
-pub room_made : {R : Type 0} (d : ℕ) (key : R → KeyOf d 16) (t : List (NodeData R)) (es : List (Linked (Found R))) (n m : List (NodeLists R)) (v r count : ℕ) (x : NodeLists R) (top : Entry R Cell) → IsStreams d key t es n → v < length t → r < rows t v
+pub room_made : {R : Type 0} (d : ℕ) (key : R → KeyOf d 16) (t : List (NodeView R)) (es : List (Linked (Found R))) (n m : List (NodeStreamsView R)) (v r count : ℕ) (x : NodeStreamsView R) (top : Entry R Cell) → IsStreams d key t es n → v < length t → r < rows t v
     → 0 < count → count ≤ length (products_of n v r) → HasOtherProduct n v r (count - 1) m → (product_of m v r (count - 1)).found ≡ (product_of n v r (count - 1)).found
     → (product_of m v r (count - 1)).frontier ≡ (product_of n v r (count - 1)).frontier → (product_of m v r (count - 1)).ranks ≡ (product_of n v r (count - 1)).ranks → x ≡ get_or n v x → 0 < length (product_at x r (count - 1)).frontier → top ≡ get_or (product_at x r (count - 1)).frontier 0 top
     → IsRoomMade d key t es n m v r count top.tag
@@ -82,14 +82,14 @@ room_made {R} d key t es n m v r count x top h node row some within other found 
       child_within = (kid d key t h.tree v c kids).within;
     }
 
-module _ {R : Type 0} {d : ℕ} {key : R → KeyOf d 16} {t : List (NodeData R)} {es : List (Linked (Found R))} {n m : List (NodeLists R)} {v r count : ℕ} {cell : Cell} (a : IsRoomMade d key t es n m v r count cell) where
-  pub made_extended : (e : List (Linked (Found R))) (o : List (NodeLists R)) → IsExtended t v r (suc (count - 1)) es m e o → IsExtended t v r count es n e o
+module _ {R : Type 0} {d : ℕ} {key : R → KeyOf d 16} {t : List (NodeView R)} {es : List (Linked (Found R))} {n m : List (NodeStreamsView R)} {v r count : ℕ} {cell : Cell} (a : IsRoomMade d key t es n m v r count cell) where
+  pub made_extended : (e : List (Linked (Found R))) (o : List (NodeStreamsView R)) → IsExtended t v r (suc (count - 1)) es m e o → IsExtended t v r count es n e o
   made_extended e o x = subst (λ z. IsExtended t v r z es n e o) a.last (room_extended d key t es n a.before v r (count - 1) a.node a.row a.in_row m a.changed a.found a.frontier a.ranks e o x)
 
   pub made_none : IsExtended t v r count es n es m
   made_none = made_extended es m (extended_none d key t v r (suc (count - 1)) es m)
 
-  pub made_queues : (o : List (NodeLists R)) → AreQueuesGrown (λ w. below_kids t v (suc (count - 1)) w + cond (nat_eq w v) 1 0) m o → AreQueuesGrown (λ w. below_kids t v count w + cond (nat_eq w v) 1 0) n o
+  pub made_queues : (o : List (NodeStreamsView R)) → AreQueuesGrown (λ w. below_kids t v (suc (count - 1)) w + cond (nat_eq w v) 1 0) m o → AreQueuesGrown (λ w. below_kids t v count w + cond (nat_eq w v) 1 0) n o
   made_queues o q =
       subst (λ z. AreQueuesGrown (λ w. below_kids t v z w + cond (nat_eq w v) 1 0) n o) a.last
       (room_queues d key t es n a.before v r (count - 1) a.node a.row a.in_row m a.changed a.found a.frontier a.ranks (λ w. below_kids t v (suc (count - 1)) w + cond (nat_eq w v) 1 0) o q)
@@ -106,7 +106,7 @@ module _ {R : Type 0} {d : ℕ} {key : R → KeyOf d 16} {t : List (NodeData R)}
 
 -- # The entry after the cell's right part was asked for
 
-pub record IsChildAsked {R : Type 0} (d : ℕ) (key : R → KeyOf d 16) (t : List (NodeData R)) (es b : List (Linked (Found R))) (m o : List (NodeLists R)) (v r count : ℕ) (cell : Cell) (s0 s1 : ℕ) : Type 0 where
+pub record IsChildAsked {R : Type 0} (d : ℕ) (key : R → KeyOf d 16) (t : List (NodeView R)) (es b : List (Linked (Found R))) (m o : List (NodeStreamsView R)) (v r count : ℕ) (cell : Cell) (s0 s1 : ℕ) : Type 0 where
   pub formed : IsStreams d key t b o
   pub grown : IsGrown (parent t) (child t v (count - 1)) es m b o
   pub queues : AreQueuesGrown (is_below (parent t) (child t v (count - 1))) m o
@@ -115,14 +115,14 @@ pub record IsChildAsked {R : Type 0} (d : ℕ) (key : R → KeyOf d 16) (t : Lis
   pub left : cell.left < part_known o v r (count - 1)
   pub in_row : count - 1 < length (products_of o v r)
 
-pub child_asked : {R : Type 0} {d : ℕ} {key : R → KeyOf d 16} {t : List (NodeData R)} {es : List (Linked (Found R))} {n m : List (NodeLists R)} {v r count : ℕ} {cell : Cell} (a : IsRoomMade d key t es n m v r count cell)
-    (u : List (NodeData R)) (b : List (Linked (Found R))) (o : List (NodeLists R)) (s0 s1 : ℕ) → u ≡ t → IsStreams d key u b o → IsGrown (parent t) (node_of es cell.right) es m b o → AreQueuesGrown (is_below (parent t) (node_of es cell.right)) m o
+pub child_asked : {R : Type 0} {d : ℕ} {key : R → KeyOf d 16} {t : List (NodeView R)} {es : List (Linked (Found R))} {n m : List (NodeStreamsView R)} {v r count : ℕ} {cell : Cell} (a : IsRoomMade d key t es n m v r count cell)
+    (u : List (NodeView R)) (b : List (Linked (Found R))) (o : List (NodeStreamsView R)) (s0 s1 : ℕ) → u ≡ t → IsStreams d key u b o → IsGrown (parent t) (node_of es cell.right) es m b o → AreQueuesGrown (is_below (parent t) (node_of es cell.right)) m o
     → IsWithinSteps t m (is_below (parent t) (node_of es cell.right)) (λ k. 12 + 4 * k + 20 * kids_size t (node_of es cell.right) (child_count t (node_of es cell.right)) * (1 + k)) s0 s1 → IsChildAsked d key t es b m o v r count cell s0 s1
 child_asked {R} {d} {key} {t} {es} {n} {m} {v} {r} {count} {cell} a u b o s0 s1 same h grown queues steps =
     let g : IsGrown (parent t) (child t v (count - 1)) es m b o = subst (λ q. IsGrown (parent t) q es m b o) a.known.node grown in
     let own : lists_of o v ≡ lists_of m v = g.above v a.below in
     record {
-      formed = subst (λ (z : List (NodeData R)). IsStreams d key z b o) same h;
+      formed = subst (λ (z : List (NodeView R)). IsStreams d key z b o) same h;
       grown = g;
       queues = subst (λ q. AreQueuesGrown (is_below (parent t) q) m o) a.known.node queues;
       steps = subst (λ q. IsWithinSteps t m (is_below (parent t) q) (λ k. 12 + 4 * k + 20 * kids_size t q (child_count t q) * (1 + k)) s0 s1) a.known.node steps;
@@ -131,7 +131,7 @@ child_asked {R} {d} {key} {t} {es} {n} {m} {v} {r} {count} {cell} a u b o s0 s1 
       in_row = omega (arith, a.still_in_row, ap (λ z. length (get_or z.products r [])) own);
     }
 
-module _ {R : Type 0} {d : ℕ} {key : R → KeyOf d 16} {t : List (NodeData R)} {es b : List (Linked (Found R))} {n m o : List (NodeLists R)} {v r count : ℕ} {cell : Cell} {s0 s1 : ℕ} (a : IsRoomMade d key t es n m v r count cell)
+module _ {R : Type 0} {d : ℕ} {key : R → KeyOf d 16} {t : List (NodeView R)} {es b : List (Linked (Found R))} {n m o : List (NodeStreamsView R)} {v r count : ℕ} {cell : Cell} {s0 s1 : ℕ} (a : IsRoomMade d key t es n m v r count cell)
     (k : IsChildAsked d key t es b m o v r count cell s0 s1) where
   pub asked_extended : IsExtended t v r count es n b o
   asked_extended = made_extended a b o (extended_child d key t a.before.tree v r (count - 1) a.node a.in_kids es b m o k.grown)
@@ -151,13 +151,13 @@ module _ {R : Type 0} {d : ℕ} {key : R → KeyOf d 16} {t : List (NodeData R)}
 
 -- # The search with the other children was made
 
-pub record IsLeftSearched {R : Type 0} (d : ℕ) (key : R → KeyOf d 16) (t u : List (NodeData R)) (b e : List (Linked (Found R))) (m o z : List (NodeLists R)) (v r count s2 s3 : ℕ) : Type 0 where
+pub record IsLeftSearched {R : Type 0} (d : ℕ) (key : R → KeyOf d 16) (t u : List (NodeView R)) (b e : List (Linked (Found R))) (m o z : List (NodeStreamsView R)) (v r count s2 s3 : ℕ) : Type 0 where
   pub searched : IsSearched d key t v r (count - 1) b o u e z s2 s3
   pub product : product_of z v r (count - 1) ≡ product_of m v r (count - 1)
   pub in_row : count - 1 < length (products_of z v r)
   pub head : (stream_of z (child t v (count - 1)) (group_named t v r (count - 1))).head ≡ (stream_of o (child t v (count - 1)) (group_named t v r (count - 1))).head
 
-pub left_searched : {R : Type 0} {d : ℕ} {key : R → KeyOf d 16} {t u : List (NodeData R)} {es b e : List (Linked (Found R))} {n m o z : List (NodeLists R)} {v r count : ℕ} {cell : Cell} {s0 s1 s2 s3 : ℕ} (a : IsRoomMade d key t es n m v r count cell)
+pub left_searched : {R : Type 0} {d : ℕ} {key : R → KeyOf d 16} {t u : List (NodeView R)} {es b e : List (Linked (Found R))} {n m o z : List (NodeStreamsView R)} {v r count : ℕ} {cell : Cell} {s0 s1 s2 s3 : ℕ} (a : IsRoomMade d key t es n m v r count cell)
     (k : IsChildAsked d key t es b m o v r count cell s0 s1) → IsSearched d key t v r (count - 1) b o u e z s2 s3 → IsLeftSearched d key t u b e m o z v r count s2 s3
 left_searched {R} {d} {key} {t} {u} {es} {b} {e} {n} {m} {o} {z} {v} {r} {count} a k s = record {
   searched = s;
@@ -166,7 +166,7 @@ left_searched {R} {d} {key} {t} {u} {es} {b} {e} {n} {m} {o} {z} {v} {r} {count}
   head = search_head d key t v r (count - 1) a.node a.row es b e m o z a.formed k.formed s.formed a.still_in_row k.grown s.extended;
 }
 
-module _ {R : Type 0} {d : ℕ} {key : R → KeyOf d 16} {t u : List (NodeData R)} {es b e : List (Linked (Found R))} {n m o z : List (NodeLists R)} {v r count : ℕ} {cell : Cell} {s0 s1 s2 s3 : ℕ} (a : IsRoomMade d key t es n m v r count cell)
+module _ {R : Type 0} {d : ℕ} {key : R → KeyOf d 16} {t u : List (NodeView R)} {es b e : List (Linked (Found R))} {n m o z : List (NodeStreamsView R)} {v r count : ℕ} {cell : Cell} {s0 s1 s2 s3 : ℕ} (a : IsRoomMade d key t es n m v r count cell)
     (k : IsChildAsked d key t es b m o v r count cell s0 s1) (l : IsLeftSearched d key t u b e m o z v r count s2 s3) where
   pub left_extended : IsExtended t v r count es n e z
   left_extended = made_extended a e z (search_extended d key t v r (count - 1) a.node a.row es b e m o z a.formed k.formed l.searched.formed a.still_in_row k.grown l.searched.extended)
@@ -180,14 +180,14 @@ module _ {R : Type 0} {d : ℕ} {key : R → KeyOf d 16} {t u : List (NodeData R
   left_steps s4 read step =
       made_within a s0 s4
       (search_within d key t v r (count - 1) a.node a.row es b e m o z a.formed k.formed l.searched.formed a.still_in_row k.grown l.searched.extended s0 s1 s2 s3 s4 k.queues k.steps read l.searched.steps
-      (subst (λ (p : ProductData R). s4 ≤ s3 + 9 + 3 * bit_length (length p.frontier + 1)) l.product step))
+      (subst (λ (p : ProductView R). s4 ≤ s3 + 9 + 3 * bit_length (length p.frontier + 1)) l.product step))
 
   pub left_unstepped : AreUnstepped v o z → AreUnstepped v n z
   left_unstepped same = unstepped_on v n o z (asked_unstepped a k) same
 
   -- # And the product has one solution more
 
-  module _ (y : List (NodeLists R)) (other : HasOtherProduct z v r (count - 1) y) where
+  module _ (y : List (NodeStreamsView R)) (other : HasOtherProduct z v r (count - 1) y) where
     pub one_more_extended : IsExtended t v r count es n e y
     one_more_extended = made_extended a e y (stepped_extended d key t v r (count - 1) a.node a.row es b e m o z a.formed k.formed l.searched.formed a.still_in_row k.grown l.searched.extended y other)
 

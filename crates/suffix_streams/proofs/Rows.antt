@@ -2,10 +2,10 @@
 use Rattle.std.proofs.Common.{◌≡◌, ℕ, zero, suc, ◌+◌, ◌^◌, ◌<◌, nat_eq, List, [], ◌∷◌, length, get_or, slice_set, refl, sym, ap, ◌∙◌, subst, inl, inr, arith}
 use Rattle.std.proofs.lemmas.Bool.{cases_eq, eq-eqb, ne_eqb, cond-true, cond-false}
 use Rattle.std.proofs.lemmas.List.{get_or-set_same, get_or-set_other}
-use Rattle.tdp_core.specs.SeenAnswers.{rows_of_key}
-use Rattle.tdp_core.specs.TreeData.{NodeData, item, number, rank, rows}
+use Rattle.tdp_core.specs.AnswerView.{rows_of_key}
+use Rattle.tdp_core.specs.TreeView.{NodeView, item, number, rank, rows}
 use Rattle.tdp_core.specs.WellFormed.{IsFormed}
-use Rattle.tdp_core.proofs.SeenFacts.{rows_of_key_length, rows_of_key_at}
+use Rattle.tdp_core.proofs.AnswerFacts.{rows_of_key_length, rows_of_key_at}
 use Rattle.tdp_model.specs.KeyTuple.{KeyOf, key_add, slot_of}
 use Rattle.tdp_model.proofs.KeyTuples.{slot_of_add}
 use Rattle.suffix_streams.specs.RowNumbers.{AreAddable, AreAdded}
@@ -47,7 +47,7 @@ module _ (d : ℕ) (k : KeyOf d 16) where
   none_added sums long added = same_list sums (rows_of_key d 16 k) (long ∙ sym (rows_of_key_length d 16 k)) (λ i l. omega (arith, added i (omega (arith, l, long)), no_row i, rows_of_key_at d 16 i k))
 
 -- a row's own number
-module _ {R : Type 0} (d : ℕ) (key : R → KeyOf d 16) (t : List (NodeData R)) (formed : IsFormed d key t) (v r : ℕ) (l : v < length t) (row : r < rows t v) (numbers : List ℕ) where
+module _ {R : Type 0} (d : ℕ) (key : R → KeyOf d 16) (t : List (NodeView R)) (formed : IsFormed d key t) (v r : ℕ) (l : v < length t) (row : r < rows t v) (numbers : List ℕ) where
   own_slot : slot_of d 16 (item t v) (rank t d key v r) ≡ number t v r
   own_slot = (formed.rows_fit v r l row).2 (item t v) (formed.shaped.items v l) ∙ cond-true (nat_eq (item t v) (item t v)) (number t v r) 0 (eq-eqb (item t v) (item t v) refl)
 

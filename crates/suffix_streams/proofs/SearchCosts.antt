@@ -4,13 +4,13 @@ use Rattle.std.proofs.lemmas.Bool.{cases_lt, cases_eq}
 use Rattle.std.proofs.lemmas.Bool.Decides.{nat_tests}
 use Rattle.rank_key.specs.Bits.{bit_length}
 use Rattle.rank_key.proofs.BitLemmas.{bit_length_is, bit_length_rises}
-use Rattle.tdp_core.specs.TreeData.{NodeData, parent, child_count}
+use Rattle.tdp_core.specs.TreeView.{NodeView, parent, child_count}
 use Rattle.tdp_core.specs.WellFormed.{IsFormed}
 use Rattle.tdp_model.specs.Below.{is_below}
 use Rattle.tdp_model.specs.KeyTuple.{KeyOf}
-use Rattle.suffix_streams.specs.NodeLists.{NodeLists}
+use Rattle.suffix_streams.specs.NodeStreamsView.{NodeStreamsView}
 use Rattle.suffix_streams.specs.Rankings.{child}
-use Rattle.suffix_streams.specs.StreamsData.{product_of}
+use Rattle.suffix_streams.specs.TreeStreams.{product_of}
 use Rattle.suffix_streams.specs.Growing.{AreQueuesGrown, IsWithinSteps, below_kids, subtree_size, kids_size}
 use Rattle.suffix_streams.proofs.Rankings.{kid}
 use Rattle.suffix_streams.proofs.Costs.{kids_other, kids_below_node, kids_smaller, kids_size_more, kids_many, below_itself_not}
@@ -34,7 +34,7 @@ spread a c b = grind arith
 child_sum : (s0 s1 s3 s4 below left sub all b c : ℕ) → 1 ≤ b → s1 ≤ s0 + (12 + 4 * b + below) → s3 + 6 * c ≤ s1 + 1 + left → s4 ≤ s3 + 9 + 3 * b → below + 20 * (1 + b) ≤ sub → all ≡ left + sub → s4 + 6 * suc c ≤ s0 + all
 child_sum s0 s1 s3 s4 below left sub all b c one a d e f g = omega (arith, one, a, d, e, f, g)
 
-module _ {R : Type 0} (d : ℕ) (key : R → KeyOf d 16) (t : List (NodeData R)) (formed : IsFormed d key t) where
+module _ {R : Type 0} (d : ℕ) (key : R → KeyOf d 16) (t : List (NodeView R)) (formed : IsFormed d key t) where
   -- the bound of a search that takes no steps
   pub none_within : (v c b s : ℕ) → c ≤ child_count t v → s + 6 * c ≤ s + 20 * kids_size t v c * (1 + b)
   none_within v c b s a = omega (arith, kids_many d key t formed v c a, much (kids_size t v c) b)
@@ -54,7 +54,7 @@ module _ {R : Type 0} (d : ℕ) (key : R → KeyOf d 16) (t : List (NodeData R))
       one_share b = omega arith
 
   -- what a call takes at a node is within the node's own share
-  pub subtree_within_steps : (nodes : List (NodeLists R)) (visited : ℕ → ℕ) (v old new : ℕ) → v < length t → IsWithinSteps t nodes visited (λ b. 12 + 4 * b + 20 * kids_size t v (child_count t v) * (1 + b)) old new
+  pub subtree_within_steps : (nodes : List (NodeStreamsView R)) (visited : ℕ → ℕ) (v old new : ℕ) → v < length t → IsWithinSteps t nodes visited (λ b. 12 + 4 * b + 20 * kids_size t v (child_count t v) * (1 + b)) old new
       → IsWithinSteps t nodes visited (λ b. 20 * subtree_size t v * (1 + b)) old new
   subtree_within_steps nodes visited v old new l h k b one bits few queues =
       let smaller : kids_size t v (child_count t v) + 1 ≤ subtree_size t v = kids_smaller d key t formed v (child_count t v) l (omega arith) in
@@ -63,7 +63,7 @@ module _ {R : Type 0} (d : ℕ) (key : R → KeyOf d 16) (t : List (NodeData R))
   -- # The queues that a search meets
 
   -- the queues of the next children and of the node itself are as they were after a child's call
-  pub queues_apart : (v c k : ℕ) (n m : List (NodeLists R)) → length m ≡ length t → v < length t → c < child_count t v → 1 ≤ k → AreQueuesGrown (is_below (parent t) (child t v c)) n m
+  pub queues_apart : (v c k : ℕ) (n m : List (NodeStreamsView R)) → length m ≡ length t → v < length t → c < child_count t v → 1 ≤ k → AreQueuesGrown (is_below (parent t) (child t v c)) n m
       → ((w r j : ℕ) → 0 < below_kids t v (suc c) w + cond (nat_eq w v) 1 0 → length (product_of n w r j).frontier ≤ k)
       → (w r j : ℕ) → 0 < below_kids t v c w + cond (nat_eq w v) 1 0 → length (product_of m w r j).frontier ≤ k
   queues_apart v c k n m same l a one grown few w r j some = elim (cases_lt w (length t)) [
@@ -84,7 +84,7 @@ module _ {R : Type 0} (d : ℕ) (key : R → KeyOf d 16) (t : List (NodeData R))
       ]
 
   -- the queues below a node
-  pub queues_below : (v c k : ℕ) (n m : List (NodeLists R)) → length m ≡ length t → c ≤ child_count t v → 1 ≤ k → AreQueuesGrown (λ w. 0) n m
+  pub queues_below : (v c k : ℕ) (n m : List (NodeStreamsView R)) → length m ≡ length t → c ≤ child_count t v → 1 ≤ k → AreQueuesGrown (λ w. 0) n m
       → ((w r j : ℕ) → 0 < is_below (parent t) v w → length (product_of n w r j).frontier ≤ k)
       → (w r j : ℕ) → 0 < below_kids t v c w + cond (nat_eq w v) 1 0 → length (product_of m w r j).frontier ≤ k
   queues_below v c k n m same a one grown few w r j some = elim (cases_lt w (length t)) [

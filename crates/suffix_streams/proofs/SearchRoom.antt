@@ -2,12 +2,12 @@
 use Rattle.std.proofs.Common.{◌≡◌, ◌≢◌, ℕ, suc, ◌+◌, ◌<◌, ◌≤◌, ◌⊎◌, max, List, [], length, get_or, slice_set, sym, ap, ◌∙◌, subst, inl, inr, arith}
 use Rattle.std.proofs.lemmas.Bool.{cases_eq}
 use Rattle.stream_store.specs.declared.entry.Linked.{Linked}
-use Rattle.tdp_core.specs.TreeData.{NodeData, rows}
+use Rattle.tdp_core.specs.TreeView.{NodeView, rows}
 use Rattle.tdp_model.specs.KeyTuple.{KeyOf}
 use Rattle.suffix_streams.specs.declared.stream.Found.{Found}
-use Rattle.suffix_streams.specs.ProductData.{ProductData}
-use Rattle.suffix_streams.specs.NodeLists.{NodeLists, product_at, with_product}
-use Rattle.suffix_streams.specs.StreamsData.{lists_of, products_of, product_of, IsStreams}
+use Rattle.suffix_streams.specs.ProductView.{ProductView}
+use Rattle.suffix_streams.specs.NodeStreamsView.{NodeStreamsView, product_at, with_product}
+use Rattle.suffix_streams.specs.TreeStreams.{lists_of, products_of, product_of, IsStreams}
 use Rattle.suffix_streams.specs.Refusals.{AreUnstepped}
 use Rattle.suffix_streams.specs.Growing.{IsExtended, AreQueuesGrown, HasOtherProduct, IsWithinSteps}
 use Rattle.suffix_streams.proofs.Searching.{replaced_at, replaced_other, replaced_others, reserved_holds}
@@ -17,7 +17,7 @@ use Rattle.suffix_streams.proofs.Stores.{row_inside}
 use Rattle.suffix_streams.proofs.StepCells.{one_change}
 
 -- one product was changed in the node's own lists
-module _ {R : Type 0} (nodes : List (NodeLists R)) (v r c : ℕ) (m n : NodeLists R) (in_nodes : v < length nodes) (at : m ≡ get_or nodes v m) (changed : n ≡ with_product m r c (product_at n r c)) where
+module _ {R : Type 0} (nodes : List (NodeStreamsView R)) (v r c : ℕ) (m n : NodeStreamsView R) (in_nodes : v < length nodes) (at : m ≡ get_or nodes v m) (changed : n ≡ with_product m r c (product_at n r c)) where
   pub own_product : product_of (slice_set nodes v n) v r c ≡ product_at n r c
   own_product = ap (λ z. product_at z r c) (lists_same nodes v n in_nodes)
 
@@ -33,8 +33,8 @@ module _ {R : Type 0} (nodes : List (NodeLists R)) (v r c : ℕ) (m n : NodeList
   pub own_frontier : (product_at n r c).frontier ≡ (product_at m r c).frontier → (product_of (slice_set nodes v n) v r c).frontier ≡ (product_of nodes v r c).frontier
   own_frontier h = ap (λ z. z.frontier) own_product ∙ h ∙ ap (λ z. (product_at z r c).frontier) (sym (lists_at nodes v m at in_nodes))
 
-module _ {R : Type 0} (d : ℕ) (key : R → KeyOf d 16) (t : List (NodeData R)) (es : List (Linked (Found R))) (n : List (NodeLists R)) (h : IsStreams d key t es n) (v r c : ℕ) (in_tree : v < length t) (row : r < rows t v)
-    (in_row : c < length (products_of n v r)) (n1 : List (NodeLists R)) (other : HasOtherProduct n v r c n1) (found : (product_of n1 v r c).found ≡ (product_of n v r c).found)
+module _ {R : Type 0} (d : ℕ) (key : R → KeyOf d 16) (t : List (NodeView R)) (es : List (Linked (Found R))) (n : List (NodeStreamsView R)) (h : IsStreams d key t es n) (v r c : ℕ) (in_tree : v < length t) (row : r < rows t v)
+    (in_row : c < length (products_of n v r)) (n1 : List (NodeStreamsView R)) (other : HasOtherProduct n v r c n1) (found : (product_of n1 v r c).found ≡ (product_of n v r c).found)
     (frontier : (product_of n1 v r c).frontier ≡ (product_of n v r c).frontier) (ranks : (product_of n1 v r c).ranks ≡ (product_of n v r c).ranks) where
   in_nodes : v < length n
   in_nodes = omega (arith, in_tree, h.all_nodes)
@@ -54,7 +54,7 @@ module _ {R : Type 0} (d : ℕ) (key : R → KeyOf d 16) (t : List (NodeData R))
   other_product w s k x = ap (λ z. product_of z w s k) other ∙ replaced_others n v r c (product_of n1 v r c) in_nodes in_rows in_row w s k x
 
   other_sums : (w s k : ℕ) → ((w ≢ v) ⊎ (s ≢ r) ⊎ (k ≢ c)) → ((product_of n1 w s k).found ≡ (product_of n w s k).found) × ((product_of n1 w s k).frontier ≡ (product_of n w s k).frontier) × ((product_of n1 w s k).ranks ≡ (product_of n w s k).ranks)
-  other_sums w s k x = (ap (λ (z : ProductData R). z.found) (other_product w s k x), ap (λ (z : ProductData R). z.frontier) (other_product w s k x), ap (λ (z : ProductData R). z.ranks) (other_product w s k x))
+  other_sums w s k x = (ap (λ (z : ProductView R). z.found) (other_product w s k x), ap (λ (z : ProductView R). z.frontier) (other_product w s k x), ap (λ (z : ProductView R). z.ranks) (other_product w s k x))
 
   same_sums : (w s k : ℕ) → ((product_of n1 w s k).found ≡ (product_of n w s k).found) × ((product_of n1 w s k).frontier ≡ (product_of n w s k).frontier) × ((product_of n1 w s k).ranks ≡ (product_of n w s k).ranks)
   same_sums w s k = elim (cases_eq w v) [
@@ -77,7 +77,7 @@ module _ {R : Type 0} (d : ℕ) (key : R → KeyOf d 16) (t : List (NodeData R))
   queue_same : (w s k : ℕ) → length (product_of n1 w s k).frontier ≡ length (product_of n w s k).frontier
   queue_same w s k = ap length (same_sums w s k).1
 
-  pub room_extended : (e : List (Linked (Found R))) (o : List (NodeLists R)) → IsExtended t v r (suc c) es n1 e o → IsExtended t v r (suc c) es n e o
+  pub room_extended : (e : List (Linked (Found R))) (o : List (NodeStreamsView R)) → IsExtended t v r (suc c) es n1 e o → IsExtended t v r (suc c) es n e o
   room_extended e o x = record {
     store = x.store;
     above = λ w l. x.above w l ∙ ap (λ z. lists_of z w) other ∙ replaced_other n v r c (product_of n1 v r c) in_nodes in_rows in_row w (λ z. omega (arith, l, z));
@@ -87,7 +87,7 @@ module _ {R : Type 0} (d : ℕ) (key : R → KeyOf d 16) (t : List (NodeData R))
     growth = x.growth;
   }
 
-  pub room_queues : (more : ℕ → ℕ) (o : List (NodeLists R)) → AreQueuesGrown more n1 o → AreQueuesGrown more n o
+  pub room_queues : (more : ℕ → ℕ) (o : List (NodeStreamsView R)) → AreQueuesGrown more n1 o → AreQueuesGrown more n o
   room_queues more o q w s k = subst (λ z. length (product_of o w s k).frontier ≤ max 1 z + more w) (queue_same w s k) (q w s k)
 
   pub room_within : (visited share : ℕ → ℕ) (old new : ℕ) → IsWithinSteps t n1 visited share old new → IsWithinSteps t n visited share old new
@@ -95,8 +95,8 @@ module _ {R : Type 0} (d : ℕ) (key : R → KeyOf d 16) (t : List (NodeData R))
 
 -- # What several calls leave as it was
 
-pub unstepped_on : {R : Type 0} (v : ℕ) (n m o : List (NodeLists R)) → AreUnstepped v n m → AreUnstepped v m o → AreUnstepped v n o
+pub unstepped_on : {R : Type 0} (v : ℕ) (n m o : List (NodeStreamsView R)) → AreUnstepped v n m → AreUnstepped v m o → AreUnstepped v n o
 unstepped_on v n m o p q s k = ((q s k).0 ∙ (p s k).0, (q s k).1 ∙ (p s k).1, (q s k).2 ∙ (p s k).2)
 
-pub unstepped_own : {R : Type 0} (v : ℕ) (n m : List (NodeLists R)) → lists_of m v ≡ lists_of n v → AreUnstepped v n m
+pub unstepped_own : {R : Type 0} (v : ℕ) (n m : List (NodeStreamsView R)) → lists_of m v ≡ lists_of n v → AreUnstepped v n m
 unstepped_own v n m e s k = (ap (λ z. (product_at z s k).found) e, ap (λ z. (product_at z s k).frontier) e, ap (λ z. (product_at z s k).ranks) e)

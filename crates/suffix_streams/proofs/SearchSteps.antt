@@ -4,14 +4,14 @@ use Rattle.std.proofs.lemmas.Bool.{cases_lt, cases_eq}
 use Rattle.stream_store.specs.declared.entry.Linked.{Linked}
 use Rattle.rank_key.specs.Bits.{bit_length}
 use Rattle.rank_key.proofs.BitLemmas.{bit_length_rises}
-use Rattle.tdp_core.specs.TreeData.{NodeData, parent, rows, child_count, group_named}
+use Rattle.tdp_core.specs.TreeView.{NodeView, parent, rows, child_count, group_named}
 use Rattle.tdp_model.specs.Below.{is_below}
 use Rattle.tdp_model.specs.KeyTuple.{KeyOf}
 use Rattle.suffix_streams.specs.declared.stream.Found.{Found}
-use Rattle.suffix_streams.specs.ProductData.{ProductData}
-use Rattle.suffix_streams.specs.NodeLists.{NodeLists, product_at}
+use Rattle.suffix_streams.specs.ProductView.{ProductView}
+use Rattle.suffix_streams.specs.NodeStreamsView.{NodeStreamsView, product_at}
 use Rattle.suffix_streams.specs.Rankings.{child}
-use Rattle.suffix_streams.specs.StreamsData.{lists_of, products_of, product_of, stream_of, part_known, IsStreams}
+use Rattle.suffix_streams.specs.TreeStreams.{lists_of, products_of, product_of, stream_of, part_known, IsStreams}
 use Rattle.suffix_streams.specs.Growing.{IsGrown, IsExtended, IsReached, AreQueuesGrown, HasOtherProduct, IsWithinSteps, below_kids, kids_size}
 use Rattle.suffix_streams.proofs.Rankings.{kid, kid_below}
 use Rattle.suffix_streams.proofs.Costs.{kids_size_none}
@@ -20,7 +20,7 @@ use Rattle.suffix_streams.proofs.Entries.{child_in, named_stream}
 use Rattle.suffix_streams.proofs.Searching.{same_is, replaced_queues, extended_replaced, extended_on, head_stays}
 use Rattle.suffix_streams.proofs.SearchCosts.{child_within, none_within, some_bits, queues_apart}
 
-module _ {R : Type 0} (d : ℕ) (key : R → KeyOf d 16) (t : List (NodeData R)) (v r c : ℕ) (in_tree : v < length t) (row : r < rows t v) (a b e : List (Linked (Found R))) (n m o : List (NodeLists R))
+module _ {R : Type 0} (d : ℕ) (key : R → KeyOf d 16) (t : List (NodeView R)) (v r c : ℕ) (in_tree : v < length t) (row : r < rows t v) (a b e : List (Linked (Found R))) (n m o : List (NodeStreamsView R))
     (h : IsStreams d key t a n) (h1 : IsStreams d key t b m) (h2 : IsStreams d key t e o) (in_row : c < length (products_of n v r)) (g : IsGrown (parent t) (child t v c) a n b m) (x : IsExtended t v r c b m e o) where
   pub in_kids : c < child_count t v
   in_kids = child_in d key t a n h v r c in_tree row in_row
@@ -69,7 +69,7 @@ module _ {R : Type 0} (d : ℕ) (key : R → KeyOf d 16) (t : List (NodeData R))
 
   -- # And the product has one solution more
 
-  module _ (z : List (NodeLists R)) (other : HasOtherProduct o v r c z) where
+  module _ (z : List (NodeStreamsView R)) (other : HasOtherProduct o v r c z) where
     pub stepped_extended : IsExtended t v r (suc c) a n e z
     stepped_extended = extended_replaced d key t v r (suc c) c (product_of z v r c) a e n o z search_extended (omega arith) in_nodes in_rows row_kept other
 
@@ -78,19 +78,19 @@ module _ {R : Type 0} (d : ℕ) (key : R → KeyOf d 16) (t : List (NodeData R))
     stepped_queues q s longer =
         subst (λ y. AreQueuesGrown (λ w. below_kids t v (suc c) w + cond (nat_eq w v) 1 0) n y) (sym other)
         (replaced_queues o v r c (product_of z v r c) in_nodes in_rows row_kept (λ w. below_kids t v (suc c) w + cond (nat_eq w v) 1 0) n (search_queues q s)
-        (omega (arith, longer, ap (λ (z : ProductData R). length z.frontier) product_kept, same_is v v refl)))
+        (omega (arith, longer, ap (λ (z : ProductView R). length z.frontier) product_kept, same_is v v refl)))
 
 -- # The search with the other children, or with none
 
 -- what there is after the search
-pub record IsSearched {R : Type 0} (d : ℕ) (key : R → KeyOf d 16) (t : List (NodeData R)) (v r c : ℕ) (b : List (Linked (Found R))) (m : List (NodeLists R)) (u : List (NodeData R)) (e : List (Linked (Found R))) (o : List (NodeLists R)) (s0 s1 : ℕ) : Type 0 where
+pub record IsSearched {R : Type 0} (d : ℕ) (key : R → KeyOf d 16) (t : List (NodeView R)) (v r c : ℕ) (b : List (Linked (Found R))) (m : List (NodeStreamsView R)) (u : List (NodeView R)) (e : List (Linked (Found R))) (o : List (NodeStreamsView R)) (s0 s1 : ℕ) : Type 0 where
   pub tree : u ≡ t
   pub formed : IsStreams d key t e o
   pub extended : IsExtended t v r c b m e o
   pub queues : AreQueuesGrown (λ w. below_kids t v c w + cond (nat_eq w v) 1 0) m o
   pub steps : IsWithinSteps t m (λ w. below_kids t v c w + cond (nat_eq w v) 1 0) (λ b. 20 * kids_size t v c * (1 + b)) s0 (s1 + 6 * c)
 
-module _ {R : Type 0} (d : ℕ) (key : R → KeyOf d 16) (t : List (NodeData R)) (v r c : ℕ) (b : List (Linked (Found R))) (m : List (NodeLists R)) (u : List (NodeData R)) (e : List (Linked (Found R))) (o : List (NodeLists R)) (s0 s1 : ℕ) (g : u ≡ t) (h : IsStreams d key t e o)
+module _ {R : Type 0} (d : ℕ) (key : R → KeyOf d 16) (t : List (NodeView R)) (v r c : ℕ) (b : List (Linked (Found R))) (m : List (NodeStreamsView R)) (u : List (NodeView R)) (e : List (Linked (Found R))) (o : List (NodeStreamsView R)) (s0 s1 : ℕ) (g : u ≡ t) (h : IsStreams d key t e o)
     (few : c ≤ child_count t v) where
   -- with k children, which are either all or none
   pub searched_of : (k : ℕ) → ((k ≡ c) ⊎ (k ≡ 0)) → IsExtended t v r k b m e o → AreQueuesGrown (λ w. below_kids t v k w + cond (nat_eq w v) 1 0) m o
@@ -117,13 +117,13 @@ module _ {R : Type 0} (d : ℕ) (key : R → KeyOf d 16) (t : List (NodeData R))
       }
 
 -- from the tree of the call to that of the search
-pub searched : {R : Type 0} (d : ℕ) (key : R → KeyOf d 16) (t a : List (NodeData R)) (v r c : ℕ) (b : List (Linked (Found R))) (m : List (NodeLists R)) (u : List (NodeData R)) (e : List (Linked (Found R))) (o : List (NodeLists R)) (k s0 s1 : ℕ)
+pub searched : {R : Type 0} (d : ℕ) (key : R → KeyOf d 16) (t a : List (NodeView R)) (v r c : ℕ) (b : List (Linked (Found R))) (m : List (NodeStreamsView R)) (u : List (NodeView R)) (e : List (Linked (Found R))) (o : List (NodeStreamsView R)) (k s0 s1 : ℕ)
     → a ≡ t → u ≡ a → c ≤ child_count t v → ((k ≡ c) ⊎ (k ≡ 0)) → IsStreams d key u e o → IsExtended a v r k b m e o → AreQueuesGrown (λ w. below_kids a v k w + cond (nat_eq w v) 1 0) m o
     → IsWithinSteps a m (λ w. below_kids a v k w + cond (nat_eq w v) 1 0) (λ b. 20 * kids_size a v k * (1 + b)) s0 (s1 + 6 * k) → IsSearched d key t v r c b m u e o s0 s1
 searched {R} d key t a v r c b m u e o k s0 s1 f g few all h x q w =
-    searched_of d key t v r c b m u e o s0 s1 (g ∙ f) (subst (λ (y : List (NodeData R)). IsStreams d key y e o) (g ∙ f) h) few k all (subst (λ (y : List (NodeData R)). IsExtended y v r k b m e o) f x)
-    (subst (λ (y : List (NodeData R)). AreQueuesGrown (λ w. below_kids y v k w + cond (nat_eq w v) 1 0) m o) f q)
-    (subst (λ (y : List (NodeData R)). IsWithinSteps y m (λ w. below_kids y v k w + cond (nat_eq w v) 1 0) (λ b. 20 * kids_size y v k * (1 + b)) s0 (s1 + 6 * k)) f w)
+    searched_of d key t v r c b m u e o s0 s1 (g ∙ f) (subst (λ (y : List (NodeView R)). IsStreams d key y e o) (g ∙ f) h) few k all (subst (λ (y : List (NodeView R)). IsExtended y v r k b m e o) f x)
+    (subst (λ (y : List (NodeView R)). AreQueuesGrown (λ w. below_kids y v k w + cond (nat_eq w v) 1 0) m o) f q)
+    (subst (λ (y : List (NodeView R)). IsWithinSteps y m (λ w. below_kids y v k w + cond (nat_eq w v) 1 0) (λ b. 20 * kids_size y v k * (1 + b)) s0 (s1 + 6 * k)) f w)
 
 -- the number of children with which a search is made
 pub all_or_none : (i j k c p place : ℕ) → (i ≡ j → (k ≡ c) × (p ≡ place)) → (i ≢ j → (k ≡ 0) × (p ≡ 0)) → (k ≡ c) ⊎ (k ≡ 0)
@@ -133,19 +133,19 @@ all_or_none i j k c p place beside apart = elim (cases_eq i j) [
 ]
 
 -- the place that was searched for is reached
-pub left_reached : {R : Type 0} (d : ℕ) (key : R → KeyOf d 16) (t a : List (NodeData R)) (o : List (NodeLists R)) (v r c k p place : ℕ) → a ≡ t → k ≡ c → p ≡ place → IsReached d key a o v r k p → IsReached d key t o v r c place
+pub left_reached : {R : Type 0} (d : ℕ) (key : R → KeyOf d 16) (t a : List (NodeView R)) (o : List (NodeStreamsView R)) (v r c k p place : ℕ) → a ≡ t → k ≡ c → p ≡ place → IsReached d key a o v r k p → IsReached d key t o v r c place
 left_reached {R} d key t a o v r c k p place f g e x =
-    subst (λ (y : List (NodeData R)). IsReached d key y o v r c place) f (subst (λ z. IsReached d key a o v r z place) g (subst (λ z. IsReached d key a o v r k z) e x))
+    subst (λ (y : List (NodeView R)). IsReached d key y o v r c place) f (subst (λ z. IsReached d key a o v r z place) g (subst (λ z. IsReached d key a o v r k z) e x))
 
-pub count_few : {R : Type 0} (d : ℕ) (key : R → KeyOf d 16) (t : List (NodeData R)) (es : List (Linked (Found R))) (nodes : List (NodeLists R)) (h : IsStreams d key t es nodes) (v r c : ℕ) → v < length t → r < rows t v → c ≤ length (products_of nodes v r) → c ≤ child_count t v
+pub count_few : {R : Type 0} (d : ℕ) (key : R → KeyOf d 16) (t : List (NodeView R)) (es : List (Linked (Found R))) (nodes : List (NodeStreamsView R)) (h : IsStreams d key t es nodes) (v r c : ℕ) → v < length t → r < rows t v → c ≤ length (products_of nodes v r) → c ≤ child_count t v
 count_few d key t es nodes h v r c l row few = elim (cases_lt 0 (length (products_of nodes v r))) [
   | inl some ↦ omega (arith, few, h.whole_rows v r l row some)
   | inr none ↦ omega (arith, few)
 ]
 
 -- the place that is searched for is at most the first one that is not known
-pub left_within : {R : Type 0} (o : List (NodeLists R)) (v r c k p left : ℕ) → left < part_known o v r c → k ≡ c → p ≡ left + 1 → p ≤ part_known o v r k
+pub left_within : {R : Type 0} (o : List (NodeStreamsView R)) (v r c k p left : ℕ) → left < part_known o v r c → k ≡ c → p ≡ left + 1 → p ≤ part_known o v r k
 left_within o v r c k p left l e f = omega (arith, l, f, ap (λ z. part_known o v r z) e)
 
-pub none_within_known : {R : Type 0} (o : List (NodeLists R)) (v r k p : ℕ) → p ≡ 0 → p ≤ part_known o v r k
+pub none_within_known : {R : Type 0} (o : List (NodeStreamsView R)) (v r k p : ℕ) → p ≡ 0 → p ≤ part_known o v r k
 none_within_known o v r k p e = omega (arith, e)

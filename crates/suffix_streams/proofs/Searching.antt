@@ -5,7 +5,7 @@ use Rattle.std.proofs.lemmas.Bool.Decides.{nat_tests}
 use Rattle.std.proofs.lemmas.List.Elements.{All-get_or}
 use Rattle.stream_store.specs.declared.entry.Linked.{Linked}
 use Rattle.take2_heap.specs.declared.entry.Entry.{Entry}
-use Rattle.tdp_core.specs.TreeData.{NodeData, parent, rows, members, child_count, group_count, group_named}
+use Rattle.tdp_core.specs.TreeView.{NodeView, parent, rows, members, child_count, group_count, group_named}
 use Rattle.tdp_core.specs.WellFormed.{IsFormed}
 use Rattle.tdp_model.specs.Below.{is_below}
 use Rattle.tdp_model.specs.KeyTuple.{KeyOf, key_below, key_add, key_none}
@@ -20,10 +20,10 @@ use Rattle.stream_model.proofs.Linking.{place_once}
 use Rattle.stream_cells.specs.declared.cell.Cell.{Cell}
 use Rattle.suffix_streams.specs.declared.stream.Found.{Found}
 use Rattle.stream_cells.specs.declared.source.Source.{Source}
-use Rattle.suffix_streams.specs.ProductData.{ProductData}
-use Rattle.suffix_streams.specs.NodeLists.{NodeLists, product_at, with_product}
+use Rattle.suffix_streams.specs.ProductView.{ProductView}
+use Rattle.suffix_streams.specs.NodeStreamsView.{NodeStreamsView, product_at, with_product}
 use Rattle.suffix_streams.specs.Rankings.{child, part_list, group_list}
-use Rattle.suffix_streams.specs.StreamsData.{HasOwnParts, node_list, group_list_of, node_of, group_of, next_of, stream, node_size, lists_of, products_of, product_of, stream_of, row_known, pair_of, run_of, IsStreams}
+use Rattle.suffix_streams.specs.TreeStreams.{HasOwnParts, node_list, group_list_of, node_of, group_of, next_of, stream, node_size, lists_of, products_of, product_of, stream_of, row_known, pair_of, run_of, IsStreams}
 use Rattle.suffix_streams.specs.Growing.{IsStoreGrown, IsGrown, IsExtended, IsReached, IsAnswered, AreQueuesGrown, below_kids}
 use Rattle.suffix_streams.proofs.Rankings.{kid_below, own_only}
 use Rattle.suffix_streams.proofs.Stores.{node_length, group_length, store_stays, store_goes_on, store_from_above}
@@ -48,8 +48,8 @@ same_is w v e = grind (arith, nat_tests)
 
 -- # One product is replaced
 
-module _ {R : Type 0} (nodes : List (NodeLists R)) (v r c : ℕ) (p : ProductData R) (in_nodes : v < length nodes) (in_rows : r < length (lists_of nodes v).products) (in_row : c < length (products_of nodes v r)) where
-  abbrev pub replaced : List (NodeLists R)
+module _ {R : Type 0} (nodes : List (NodeStreamsView R)) (v r c : ℕ) (p : ProductView R) (in_nodes : v < length nodes) (in_rows : r < length (lists_of nodes v).products) (in_row : c < length (products_of nodes v r)) where
+  abbrev pub replaced : List (NodeStreamsView R)
   replaced = slice_set nodes v (with_product (lists_of nodes v) r c p)
 
   pub replaced_at : lists_of replaced v ≡ with_product (lists_of nodes v) r c p
@@ -75,7 +75,7 @@ module _ {R : Type 0} (nodes : List (NodeLists R)) (v r c : ℕ) (p : ProductDat
         | inr m ↦ product_elsewhere (lists_of nodes v) r c p in_rows in_row s k m
       ]
 
-  pub replaced_queues : (more : ℕ → ℕ) (old : List (NodeLists R)) → AreQueuesGrown more old nodes → length p.frontier ≤ max 1 (length (product_of old v r c).frontier) + more v → AreQueuesGrown more old replaced
+  pub replaced_queues : (more : ℕ → ℕ) (old : List (NodeStreamsView R)) → AreQueuesGrown more old nodes → length p.frontier ≤ max 1 (length (product_of old v r c).frontier) + more v → AreQueuesGrown more old replaced
   replaced_queues more old q own w s k = elim (cases_eq w v) [
     | inr n ↦ other w s k (inl n)
     | inl e ↦ elim (cases_eq s r) [
@@ -86,22 +86,22 @@ module _ {R : Type 0} (nodes : List (NodeLists R)) (v r c : ℕ) (p : ProductDat
             subst (λ z. length (product_of replaced z s k).frontier ≤ max 1 (length (product_of old z s k).frontier) + more z) (sym e)
             (subst (λ z. length (product_of replaced v z k).frontier ≤ max 1 (length (product_of old v z k).frontier) + more v) (sym f)
             (subst (λ z. length (product_of replaced v r z).frontier ≤ max 1 (length (product_of old v r z).frontier) + more v) (sym i)
-            (omega (arith, own, ap (λ (z : ProductData R). length z.frontier) replaced_product))))
+            (omega (arith, own, ap (λ (z : ProductView R). length z.frontier) replaced_product))))
       ]
     ]
   ]
     where
       other : (w s k : ℕ) → ((w ≢ v) ⊎ (s ≢ r) ⊎ (k ≢ c)) → length (product_of replaced w s k).frontier ≤ max 1 (length (product_of old w s k).frontier) + more w
-      other w s k n = omega (arith, q w s k, ap (λ (z : ProductData R). length z.frontier) (replaced_others w s k n))
+      other w s k n = omega (arith, q w s k, ap (λ (z : ProductView R). length z.frontier) (replaced_others w s k n))
 
-module _ {R : Type 0} (d : ℕ) (key : R → KeyOf d 16) (t : List (NodeData R)) where
+module _ {R : Type 0} (d : ℕ) (key : R → KeyOf d 16) (t : List (NodeView R)) where
   -- what follows an entry stays known
   pub answered_stays : (q : ℕ) (es es' : List (Linked (Found R))) (i : ℕ) (o : Option ℕ) → i < length es → IsStoreGrown q es es' → IsAnswered d key t es i o → IsAnswered d key t es' i o
   answered_stays q es es' i (Some n) l g h = g.links i n h
   answered_stays q es es' i None l g h =
       ap (λ z. length (group_list d key t z (group_of es' i))) (g.nodes i l) ∙ ap (λ z. length (group_list d key t (node_of es i) z)) (g.groups i l) ∙ h ∙ ap (λ z. z + 1) (sym (g.places i l))
 
-  pub extended_none : (v r c : ℕ) (es : List (Linked (Found R))) (nodes : List (NodeLists R)) → IsExtended t v r c es nodes es nodes
+  pub extended_none : (v r c : ℕ) (es : List (Linked (Found R))) (nodes : List (NodeStreamsView R)) → IsExtended t v r c es nodes es nodes
   extended_none v r c es nodes = record {
     store = store_stays (suc v) es;
     above = λ w l. refl;
@@ -112,7 +112,7 @@ module _ {R : Type 0} (d : ℕ) (key : R → KeyOf d 16) (t : List (NodeData R))
   }
 
   -- one product of the row is replaced
-  pub extended_replaced : (v r c k : ℕ) (p : ProductData R) (a b : List (Linked (Found R))) (n m o : List (NodeLists R)) → IsExtended t v r c a n b m → k < c → v < length m → r < length (lists_of m v).products → k < length (products_of m v r)
+  pub extended_replaced : (v r c k : ℕ) (p : ProductView R) (a b : List (Linked (Found R))) (n m o : List (NodeStreamsView R)) → IsExtended t v r c a n b m → k < c → v < length m → r < length (lists_of m v).products → k < length (products_of m v r)
       → o ≡ slice_set m v (with_product (lists_of m v) r k p) → IsExtended t v r c a n b o
   extended_replaced v r c k p a b n m o x l in_nodes in_rows in_row e = subst (λ z. IsExtended t v r c a n b z) (sym e) (record {
     store = x.store;
@@ -124,7 +124,7 @@ module _ {R : Type 0} (d : ℕ) (key : R → KeyOf d 16) (t : List (NodeData R))
   })
 
   module _ (formed : IsFormed d key t) (v r c : ℕ) (in_tree : v < length t) (in_kids : c < child_count t v) where
-    pub extended_child : (a b : List (Linked (Found R))) (n m : List (NodeLists R)) → IsGrown (parent t) (child t v c) a n b m → IsExtended t v r (suc c) a n b m
+    pub extended_child : (a b : List (Linked (Found R))) (n m : List (NodeStreamsView R)) → IsGrown (parent t) (child t v c) a n b m → IsExtended t v r (suc c) a n b m
     extended_child a b n m g =
         let below : v < child t v c = kid_below d key t formed v c in_kids in
         let own : lists_of m v ≡ lists_of n v = g.above v below in
@@ -137,7 +137,7 @@ module _ {R : Type 0} (d : ℕ) (key : R → KeyOf d 16) (t : List (NodeData R))
           growth = λ w. omega (arith, g.growth w);
         }
 
-    pub extended_on : (a b e : List (Linked (Found R))) (n m o : List (NodeLists R)) → IsGrown (parent t) (child t v c) a n b m → IsExtended t v r c b m e o → IsExtended t v r (suc c) a n e o
+    pub extended_on : (a b e : List (Linked (Found R))) (n m o : List (NodeStreamsView R)) → IsGrown (parent t) (child t v c) a n b m → IsExtended t v r c b m e o → IsExtended t v r (suc c) a n e o
     extended_on a b e n m o g y =
         let x : IsExtended t v r (suc c) a n b m = extended_child a b n m g in
         record {
@@ -149,14 +149,14 @@ module _ {R : Type 0} (d : ℕ) (key : R → KeyOf d 16) (t : List (NodeData R))
           growth = λ w. omega (arith, g.growth w, y.growth w);
         }
 
-    pub queues_on : (n m o : List (NodeLists R)) → AreQueuesGrown (is_below (parent t) (child t v c)) n m → AreQueuesGrown (λ w. below_kids t v c w + cond (nat_eq w v) 1 0) m o
+    pub queues_on : (n m o : List (NodeStreamsView R)) → AreQueuesGrown (is_below (parent t) (child t v c)) n m → AreQueuesGrown (λ w. below_kids t v c w + cond (nat_eq w v) 1 0) m o
         → AreQueuesGrown (λ w. below_kids t v (suc c) w + cond (nat_eq w v) 1 0) n o
     queues_on n m o a b w s k = omega (arith, a w s k, b w s k)
 
-    pub queues_child : (n m : List (NodeLists R)) → AreQueuesGrown (is_below (parent t) (child t v c)) n m → AreQueuesGrown (λ w. below_kids t v (suc c) w + cond (nat_eq w v) 1 0) n m
+    pub queues_child : (n m : List (NodeStreamsView R)) → AreQueuesGrown (is_below (parent t) (child t v c)) n m → AreQueuesGrown (λ w. below_kids t v (suc c) w + cond (nat_eq w v) 1 0) n m
     queues_child n m a w s k = omega (arith, a w s k)
 
-module _ {R : Type 0} (d : ℕ) (key : R → KeyOf d 16) (t : List (NodeData R)) (es : List (Linked (Found R))) (nodes : List (NodeLists R)) (h : IsStreams d key t es nodes) where
+module _ {R : Type 0} (d : ℕ) (key : R → KeyOf d 16) (t : List (NodeView R)) (es : List (Linked (Found R))) (nodes : List (NodeStreamsView R)) (h : IsStreams d key t es nodes) where
   -- the stream whose queue is empty is its group's whole ranking
   pub last_of_all : (i : ℕ) → i < length es → next_of es i ≡ None → (stream_of nodes (node_of es i) (group_of es i)).queue ≡ [] → IsAnswered d key t es i None
   last_of_all i l none empty =
@@ -192,7 +192,7 @@ module _ {R : Type 0} (d : ℕ) (key : R → KeyOf d 16) (t : List (NodeData R))
   reached_none v r place l a = inr (omega (arith, own_only d key t h.tree v r l))
 
   -- all is as it was, if only the room of a product changes
-  pub reserved_holds : (v r c : ℕ) (p : ProductData R) → v < length t → r < rows t v → c < length (products_of nodes v r) → p.found ≡ (product_of nodes v r c).found → p.frontier ≡ (product_of nodes v r c).frontier → p.ranks ≡ (product_of nodes v r c).ranks
+  pub reserved_holds : (v r c : ℕ) (p : ProductView R) → v < length t → r < rows t v → c < length (products_of nodes v r) → p.found ≡ (product_of nodes v r c).found → p.frontier ≡ (product_of nodes v r c).frontier → p.ranks ≡ (product_of nodes v r c).ranks
       → IsStreams d key t es (slice_set nodes v (with_product (lists_of nodes v) r c p))
   reserved_holds v r c p l row in_row found frontier ranks =
       let rises : length (product_of nodes v r c).found ≤ length p.found = omega (arith, ap length found) in
@@ -201,7 +201,7 @@ module _ {R : Type 0} (d : ℕ) (key : R → KeyOf d 16) (t : List (NodeData R))
       (product_stays d key t es es nodes (slice_set nodes v (with_product (lists_of nodes v) r c p)) (held_itself es) v r c (ap (λ z. z.found) new ∙ found) (ap (λ z. z.frontier) new ∙ frontier) (ap (λ z. z.ranks) new ∙ ranks)
       (changed_known d key t es nodes h v r c p l row in_row rises v r c) (h.products v r c l row in_row))
 
-  pub reached_kept : (v r c k place : ℕ) (p : ProductData R) → v < length t → r < rows t v → c < length (products_of nodes v r) → p.found ≡ (product_of nodes v r c).found → IsReached d key t nodes v r k place
+  pub reached_kept : (v r c k place : ℕ) (p : ProductView R) → v < length t → r < rows t v → c < length (products_of nodes v r) → p.found ≡ (product_of nodes v r c).found → IsReached d key t nodes v r k place
       → IsReached d key t (slice_set nodes v (with_product (lists_of nodes v) r c p)) v r k place
   reached_kept v r c k place p l row in_row found (inl a) =
       let rises : length (product_of nodes v r c).found ≤ length p.found = omega (arith, ap length found) in
@@ -209,7 +209,7 @@ module _ {R : Type 0} (d : ℕ) (key : R → KeyOf d 16) (t : List (NodeData R))
   reached_kept v r c k place p l row in_row found (inr a) = inr a
 
   -- the head of a stream stays the same entry
-  pub head_stays : (k q g : ℕ) (es' : List (Linked (Found R))) (nodes' : List (NodeLists R)) → IsStoreGrown k es es' → IsStreams d key t es' nodes' → q < length t → g < group_count t q → (stream_of nodes' q g).head ≡ (stream_of nodes q g).head
+  pub head_stays : (k q g : ℕ) (es' : List (Linked (Found R))) (nodes' : List (NodeStreamsView R)) → IsStoreGrown k es es' → IsStreams d key t es' nodes' → q < length t → g < group_count t q → (stream_of nodes' q g).head ≡ (stream_of nodes q g).head
   head_stays k q g es' nodes' grown h' l in_group =
       let s = h.streams q g l in_group in
       let s' = h'.streams q g l in_group in
@@ -240,12 +240,12 @@ no_size (e ∷ es) w n h l = omega (arith, no_size es w n (λ i a. h (suc i) (om
     other : (a b : ℕ) → a ≢ b → cond {A = ℕ} (nat_eq a b) 1 0 ≡ 0
     other a b n = grind (arith, nat_tests)
 
-pub no_queue : {R : Type 0} (nodes : List (NodeLists R)) (w s k : ℕ) → length nodes ≤ w → length (product_of nodes w s k).frontier ≡ 0
+pub no_queue : {R : Type 0} (nodes : List (NodeStreamsView R)) (w s k : ℕ) → length nodes ≤ w → length (product_of nodes w s k).frontier ≡ 0
 no_queue {R} nodes w s k l =
     let none : lists_of nodes w ≡ record { children = []; streams = []; products = [] } = get_past nodes w (record { children = []; streams = []; products = [] }) l in
-    ap (λ (n : NodeLists R). length (product_at n s k).frontier) none
+    ap (λ (n : NodeStreamsView R). length (product_at n s k).frontier) none
 
-module _ {R : Type 0} (d : ℕ) (key : R → KeyOf d 16) (t : List (NodeData R)) (v r c : ℕ) (in_tree : v < length t) (few : c ≤ child_count t v) (a b : List (Linked (Found R))) (n m o : List (NodeLists R)) (h : IsStreams d key t b o)
+module _ {R : Type 0} (d : ℕ) (key : R → KeyOf d 16) (t : List (NodeView R)) (v r c : ℕ) (in_tree : v < length t) (few : c ≤ child_count t v) (a b : List (Linked (Found R))) (n m o : List (NodeStreamsView R)) (h : IsStreams d key t b o)
     (above : (w : ℕ) → w ≢ v → lists_of m w ≡ lists_of n w) (x : IsExtended t v r c a m b o) where
   pub grown_of : IsGrown (parent t) v a n b o
   grown_of = record {
@@ -264,7 +264,7 @@ module _ {R : Type 0} (d : ℕ) (key : R → KeyOf d 16) (t : List (NodeData R))
   ]
 
   -- and one more entry of the node's own
-  module _ (e : List (Linked (Found R))) (z : List (NodeLists R)) (h' : IsStreams d key t e z) (store : IsStoreGrown v b e) (same : (w : ℕ) → w ≢ v → lists_of z w ≡ lists_of o w) (products : (lists_of z v).products ≡ (lists_of o v).products)
+  module _ (e : List (Linked (Found R))) (z : List (NodeStreamsView R)) (h' : IsStreams d key t e z) (store : IsStoreGrown v b e) (same : (w : ℕ) → w ≢ v → lists_of z w ≡ lists_of o w) (products : (lists_of z v).products ≡ (lists_of o v).products)
       (growth : (w : ℕ) → node_size e w ≤ node_size b w + cond (nat_eq w v) 1 0) where
     pub grown_more : IsGrown (parent t) v a n e z
     grown_more = record {
@@ -284,4 +284,4 @@ module _ {R : Type 0} (d : ℕ) (key : R → KeyOf d 16) (t : List (NodeData R))
 
     pub queues_more : AreQueuesGrown (λ w. 0) n m → AreQueuesGrown (λ w. below_kids t v c w + cond (nat_eq w v) 1 0) m o → AreQueuesGrown (is_below (parent t) v) n z
     queues_more p q w s k =
-        omega (arith, queues_of p q w s k, ap (λ (ps : List (List (ProductData R))). length (get_or (get_or ps s []) k (record { found = []; ranks = []; frontier = []; room = 0; frontier_room = 0 })).frontier) (same_products w))
+        omega (arith, queues_of p q w s k, ap (λ (ps : List (List (ProductView R))). length (get_or (get_or ps s []) k (record { found = []; ranks = []; frontier = []; room = 0; frontier_room = 0 })).frontier) (same_products w))

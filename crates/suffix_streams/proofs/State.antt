@@ -8,7 +8,7 @@ use Rattle.stream_cells.specs.declared.source.Source.{Source}
 use Rattle.tdp_model.specs.KeyTuple.{KeyOf}
 use Rattle.suffix_streams.specs.declared.stream.Found.{Found}
 use Rattle.suffix_streams.specs.Frontiers.{AreFirst, AreFirstBy}
-use Rattle.suffix_streams.specs.StreamsData.{stream, node_size}
+use Rattle.suffix_streams.specs.TreeStreams.{stream, node_size}
 
 later : {A : Type 0} (b c : Bool) (x a : A) (xs : List A) →
     cond b (cond c (x ∷ (xs ++ (a ∷ []))) (xs ++ (a ∷ []))) (xs ++ (a ∷ [])) ≡ cond b (cond c (x ∷ xs) xs) xs ++ (a ∷ [])

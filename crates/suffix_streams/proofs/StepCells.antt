@@ -7,16 +7,16 @@ use Rattle.std.specs.List.Sorted.{IsPermutation}
 use Rattle.std.proofs.lemmas.List.Sorted.{length_permutation}
 use Rattle.stream_model.specs.Offers.{offers}
 use Rattle.take2_heap.specs.declared.entry.Entry.{Entry}
-use Rattle.tdp_core.specs.TreeData.{NodeData, rows, group_named}
+use Rattle.tdp_core.specs.TreeView.{NodeView, rows, group_named}
 use Rattle.tdp_model.specs.KeyTuple.{KeyOf}
 use Rattle.stream_model.specs.Links.{IsLinkedAt}
 use Rattle.stream_cells.specs.declared.cell.Cell.{Cell}
 use Rattle.suffix_streams.specs.declared.stream.Found.{Found}
-use Rattle.suffix_streams.specs.ProductData.{ProductData}
-use Rattle.suffix_streams.specs.NodeLists.{NodeLists, product_at, with_product}
+use Rattle.suffix_streams.specs.ProductView.{ProductView}
+use Rattle.suffix_streams.specs.NodeStreamsView.{NodeStreamsView, product_at, with_product}
 use Rattle.stream_cells.specs.Cells.{cell_down}
 use Rattle.suffix_streams.specs.Rankings.{child}
-use Rattle.suffix_streams.specs.StreamsData.{node_list, group_list_of, node_of, group_of, lists_of, products_of, product_of, stream_of, part_known, IsStreamOf, IsStreams, IsCell, IsOffer}
+use Rattle.suffix_streams.specs.TreeStreams.{node_list, group_list_of, node_of, group_of, lists_of, products_of, product_of, stream_of, part_known, IsStreamOf, IsStreams, IsCell, IsOffer}
 use Rattle.suffix_streams.specs.Growing.{IsAnswered}
 use Rattle.suffix_streams.proofs.Rankings.{kid}
 use Rattle.suffix_streams.proofs.Stores.{node_length}
@@ -28,7 +28,7 @@ pub first_of : {A : Type 0} (xs : List A) → 0 < length xs → (x : A) × (x �
 first_of [] l = absurd (omega arith)
 first_of (x ∷ xs) l = (x, refl)
 
-module _ {R : Type 0} (d : ℕ) (key : R → KeyOf d 16) (t : List (NodeData R)) (es : List (Linked (Found R))) (nodes : List (NodeLists R)) (h : IsStreams d key t es nodes) (v r c : ℕ)
+module _ {R : Type 0} (d : ℕ) (key : R → KeyOf d 16) (t : List (NodeView R)) (es : List (Linked (Found R))) (nodes : List (NodeStreamsView R)) (h : IsStreams d key t es nodes) (v r c : ℕ)
     (l : v < length t) (row : r < rows t v) (in_row : c < length (products_of nodes v r)) (cell : Cell) (some : 0 < length (product_of nodes v r c).frontier)
     (is_cell : (x : Entry R Cell) → (get_or (product_of nodes v r c).frontier 0 x).tag ≡ cell) where
   pub cell_known : IsCell d key t es nodes v r c cell
@@ -58,26 +58,26 @@ module _ {R : Type 0} (d : ℕ) (key : R → KeyOf d 16) (t : List (NodeData R))
       (record { left = m.1; right = omega (arith, e, s.head_in); node = ap (λ z. node_of es z) e ∙ s.head_node; group = ap (λ z. group_of es z) e ∙ s.head_group })
 
 -- if only one left part is known, no cell beside is offered
-pub none_beside : {R : Type 0} (d : ℕ) (key : R → KeyOf d 16) (t : List (NodeData R)) (es : List (Linked (Found R))) (v r c : ℕ) (cell : Cell) (head known : ℕ) → known ≤ 1 → (o : Option Cell) (e : Option (Entry R Cell))
+pub none_beside : {R : Type 0} (d : ℕ) (key : R → KeyOf d 16) (t : List (NodeView R)) (es : List (Linked (Found R))) (v r c : ℕ) (cell : Cell) (head known : ℕ) → known ≤ 1 → (o : Option Cell) (e : Option (Entry R Cell))
     → MatchOption o (cell.right ≡ head → known ≤ cell.left + 1) (λ x. (cell.right ≡ head) × (cell.left + 1 < known) × (x ≡ record { left = cell.left + 1; right = head })) → IsOffer d key t es v r c o e → IsSome e → ⊥
 none_beside d key t es v r c cell head known one (Some x) (Some e) m f s = omega (arith, one, m.1)
 none_beside d key t es v r c cell head known one (Some x) None m f s = f
 none_beside d key t es v r c cell head known one None (Some e) m f s = f
 none_beside d key t es v r c cell head known one None None m f s = cc
 
-module _ {R : Type 0} (nodes : List (NodeLists R)) (v r c : ℕ) (m n : NodeLists R) (in_nodes : v < length nodes) (at : m ≡ get_or nodes v m) (changed : n ≡ with_product m r c (product_at n r c)) where
+module _ {R : Type 0} (nodes : List (NodeStreamsView R)) (v r c : ℕ) (m n : NodeStreamsView R) (in_nodes : v < length nodes) (at : m ≡ get_or nodes v m) (changed : n ≡ with_product m r c (product_at n r c)) where
   -- a change of one product, in terms of the lists
   pub one_change : slice_set nodes v n ≡ slice_set nodes v (with_product (lists_of nodes v) r c (product_at n r c))
   one_change = ap (λ z. slice_set nodes v z) (changed ∙ ap (λ z. with_product z r c (product_at n r c)) (sym (lists_at nodes v m at in_nodes)))
 
-  module _ (m' n' : NodeLists R) (row : r < length (lists_of nodes v).products) (at' : m' ≡ get_or (slice_set nodes v n) v m') (changed' : n' ≡ with_product m' r c (product_at n' r c)) where
+  module _ (m' n' : NodeStreamsView R) (row : r < length (lists_of nodes v).products) (at' : m' ≡ get_or (slice_set nodes v n) v m') (changed' : n' ≡ with_product m' r c (product_at n' r c)) where
     pub again : m' ≡ n
     again = at' ∙ get_or-set_same nodes v n m' in_nodes
 
     twice : with_product n r c (product_at n' r c) ≡ with_product (lists_of nodes v) r c (product_at n' r c)
     twice =
         ap (λ z. with_product z r c (product_at n' r c)) (changed ∙ ap (λ z. with_product z r c (product_at n r c)) (sym (lists_at nodes v m at in_nodes)))
-        ∙ ap (λ (ps : List (List (ProductData R))). (let x : NodeLists R = record (lists_of nodes v) { products = ps } in x))
+        ∙ ap (λ (ps : List (List (ProductView R))). (let x : NodeStreamsView R = record (lists_of nodes v) { products = ps } in x))
         (set-set (lists_of nodes v).products r (slice_set (products_of nodes v r) c (product_at n r c)) _ ∙ ap (λ z. slice_set (lists_of nodes v).products r z)
         (ap (λ z. slice_set z c (product_at n' r c)) (get_or-set_same (lists_of nodes v).products r (slice_set (products_of nodes v r) c (product_at n r c)) [] row) ∙ set-set (products_of nodes v r) c (product_at n r c) (product_at n' r c)))
 

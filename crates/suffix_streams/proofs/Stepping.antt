@@ -8,7 +8,7 @@ use Rattle.std.proofs.lemmas.List.Sorted.{All-permutation}
 use Rattle.stream_store.specs.declared.entry.Linked.{Linked}
 use Rattle.take2_heap.specs.declared.entry.Entry.{Entry}
 use Rattle.take2_heap.specs.Order.{IsLeast}
-use Rattle.tdp_core.specs.TreeData.{NodeData, rows, child_count, group_named}
+use Rattle.tdp_core.specs.TreeView.{NodeView, rows, child_count, group_named}
 use Rattle.tdp_model.specs.KeyTuple.{KeyOf, key_add, key_none}
 use Rattle.tdp_model.specs.Product.{Pair, pair_key}
 use Rattle.stream_model.specs.Offers.{offers}
@@ -19,12 +19,12 @@ use Rattle.stream_model.proofs.Linking.{place_once}
 use Rattle.stream_model.proofs.Steps.{IsDown, IsAcross}
 use Rattle.stream_cells.specs.declared.cell.Cell.{Cell}
 use Rattle.suffix_streams.specs.declared.stream.Found.{Found}
-use Rattle.suffix_streams.specs.ProductData.{ProductData, with_rank}
-use Rattle.suffix_streams.specs.NodeLists.{NodeLists, with_product}
+use Rattle.suffix_streams.specs.ProductView.{ProductView, with_rank}
+use Rattle.suffix_streams.specs.NodeStreamsView.{NodeStreamsView, with_product}
 use Rattle.stream_cells.specs.Cells.{cell_down}
 use Rattle.suffix_streams.specs.Rankings.{child, part_list, group_list}
 use Rattle.suffix_streams.specs.Frontiers.{IsFrontier}
-use Rattle.suffix_streams.specs.StreamsData.{KeepsRanks, node_list, group_list_of, node_of, group_of, place_of, next_of, lists_of, products_of, product_of, stream_of, part_known, pair_of, IsProductOf, IsStreamOf, IsStreams, IsOffer}
+use Rattle.suffix_streams.specs.TreeStreams.{KeepsRanks, node_list, group_list_of, node_of, group_of, place_of, next_of, lists_of, products_of, product_of, stream_of, part_known, pair_of, IsProductOf, IsStreamOf, IsStreams, IsOffer}
 use Rattle.suffix_streams.specs.Growing.{IsAnswered, IsReached}
 use Rattle.suffix_streams.proofs.Rankings.{part_ascends, group_ascends, kid}
 use Rattle.suffix_streams.proofs.Stores.{node_length, group_length}
@@ -34,7 +34,7 @@ use Rattle.suffix_streams.proofs.Ranks.{ranks_more}
 use Rattle.suffix_streams.proofs.Entries.{entry_key, child_in, known_inside, named_stream}
 use Rattle.suffix_streams.proofs.Changes.{changed_product, changed_known, product_set}
 
-module _ {R : Type 0} (d : ℕ) (key : R → KeyOf d 16) (t : List (NodeData R)) (es : List (Linked (Found R))) (nodes : List (NodeLists R)) (h : IsStreams d key t es nodes) (v r c : ℕ)
+module _ {R : Type 0} (d : ℕ) (key : R → KeyOf d 16) (t : List (NodeView R)) (es : List (Linked (Found R))) (nodes : List (NodeStreamsView R)) (h : IsStreams d key t es nodes) (v r c : ℕ)
     (l : v < length t) (row : r < rows t v) (in_row : c < length (products_of nodes v r))
     (cell : Cell) (below : Option ℕ) (head : ℕ) (beside : Option Cell) (down across : Option (Entry R Cell)) (top : Entry R Cell) (new : List (Entry R Cell))
     (some : 0 < length (product_of nodes v r c).frontier) (is_top : top ≡ get_or (product_of nodes v r c).frontier 0 top) (is_cell : top.tag ≡ cell)
@@ -49,7 +49,7 @@ module _ {R : Type 0} (d : ℕ) (key : R → KeyOf d 16) (t : List (NodeData R))
   abbrev ys : List (KeyOf d 16)
   ys = group_list d key t (child t v c) (group_named t v r c)
 
-  abbrev old : ProductData R
+  abbrev old : ProductView R
   old = product_of nodes v r c
 
   abbrev Held : Entry R Cell → Type 0
@@ -192,7 +192,7 @@ module _ {R : Type 0} (d : ℕ) (key : R → KeyOf d 16) (t : List (NodeData R))
   sums_grow next more is_next next_least = (next_sum next more is_next next_least).2
 
   -- its rank is kept too, if the product keeps ranks
-  pub ranks_grow : (next : Entry R Cell) → 0 < length new → next ≡ get_or new 0 next → IsLeast d key next new → (p : ProductData R) → p.found ≡ old.found ++ (next.tag ∷ []) → p.ranks ≡ with_rank old.ranks next.rank
+  pub ranks_grow : (next : Entry R Cell) → 0 < length new → next ≡ get_or new 0 next → IsLeast d key next new → (p : ProductView R) → p.found ≡ old.found ++ (next.tag ∷ []) → p.ranks ≡ with_rank old.ranks next.rank
       → suc c < child_count t v → KeepsRanks d key (part_list d key t v r (suc c)) p
   ranks_grow next more is_next next_least p found ranks few =
       let s = next_sum next more is_next next_least in
@@ -201,16 +201,16 @@ module _ {R : Type 0} (d : ℕ) (key : R → KeyOf d 16) (t : List (NodeData R))
   pub ranks_kept : suc c < child_count t v → KeepsRanks d key (part_list d key t v r (suc c)) old
   ranks_kept few = own.ranked few
 
-  abbrev KnownAfter : ProductData R → Cell → Type 0
+  abbrev KnownAfter : ProductView R → Cell → Type 0
   KnownAfter p x = (x.left < part_known (slice_set nodes v (with_product (lists_of nodes v) r c p)) v r c) × (x.right < length es) × (node_of es x.right ≡ child t v c) × (group_of es x.right ≡ group_named t v r c)
 
-  cells_after : {E : Type 0} (at : E → Cell) (p : ProductData R) → (rises : length old.found ≤ length p.found) → (es1 es2 : List E) → es2 ≡ es1 → All (λ e. KnownCell (at e)) es1 → All (λ e. KnownAfter p (at e)) es2
+  cells_after : {E : Type 0} (at : E → Cell) (p : ProductView R) → (rises : length old.found ≤ length p.found) → (es1 es2 : List E) → es2 ≡ es1 → All (λ e. KnownCell (at e)) es1 → All (λ e. KnownAfter p (at e)) es2
   cells_after at p rises es1 es2 same a =
       subst (All (λ e. KnownAfter p (at e))) (sym same)
       (All-weaker (λ e. KnownCell (at e)) (λ e. KnownAfter p (at e)) (λ e k. (omega (arith, k.0, changed_known d key t es nodes h v r c p l row in_row rises v r c), k.1, k.2, k.3)) es1 a)
 
   -- the invariants after the step
-  pub step_holds : (p : ProductData R) → p.frontier ≡ new → length new < 2 ^ 64 → (rises : length old.found ≤ length p.found) → All KnownCell p.found → IsFrontier d key (pair_of es) xs ys (part_list d key t v r (suc c)) p.found new
+  pub step_holds : (p : ProductView R) → p.frontier ≡ new → length new < 2 ^ 64 → (rises : length old.found ≤ length p.found) → All KnownCell p.found → IsFrontier d key (pair_of es) xs ys (part_list d key t v r (suc c)) p.found new
       → (suc c < child_count t v → KeepsRanks d key (part_list d key t v r (suc c)) p) → IsStreams d key t es (slice_set nodes v (with_product (lists_of nodes v) r c p))
   step_holds p same few rises found_known f ranked =
       product_set d key t es nodes h v r c p l row in_row rises
@@ -218,9 +218,9 @@ module _ {R : Type 0} (d : ℕ) (key : R → KeyOf d 16) (t : List (NodeData R))
         few = subst (λ z. length z < 2 ^ 64) (sym (at_frontier ∙ same)) few;
         known = cells_after (λ (e : Entry R Cell). e.tag) p rises new (product_of (slice_set nodes v (with_product (lists_of nodes v) r c p)) v r c).frontier (at_frontier ∙ same) new_known;
         found_known = cells_after (λ (x : Cell). x) p rises p.found (product_of (slice_set nodes v (with_product (lists_of nodes v) r c p)) v r c).found (ap (λ z. z.found) at_product) found_known;
-        sums = subst (λ (z : ProductData R). IsFrontier d key (pair_of es) xs ys (part_list d key t v r (suc c)) z.found z.frontier) (sym at_product)
+        sums = subst (λ (z : ProductView R). IsFrontier d key (pair_of es) xs ys (part_list d key t v r (suc c)) z.found z.frontier) (sym at_product)
             (subst (λ (z : List (Entry R Cell)). IsFrontier d key (pair_of es) xs ys (part_list d key t v r (suc c)) p.found z) (sym same) f);
-        ranked = λ less. subst (λ (z : ProductData R). KeepsRanks d key (part_list d key t v r (suc c)) z) (sym at_product) (ranked less);
+        ranked = λ less. subst (λ (z : ProductView R). KeepsRanks d key (part_list d key t v r (suc c)) z) (sym at_product) (ranked less);
       })
     where
       at_product : product_of (slice_set nodes v (with_product (lists_of nodes v) r c p)) v r c ≡ p

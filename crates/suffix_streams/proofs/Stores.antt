@@ -5,7 +5,7 @@ use Rattle.stream_store.specs.declared.entry.Linked.{Linked}
 use Rattle.stream_model.specs.Links.{place_in, IsLinked}
 use Rattle.stream_model.proofs.Linking.{link_kept, place_kept}
 use Rattle.suffix_streams.specs.declared.stream.Found.{Found}
-use Rattle.suffix_streams.specs.StreamsData.{open_rows, node_list, group_list_of, next_list, node_of, group_of, place_of, next_of, stream, node_size}
+use Rattle.suffix_streams.specs.TreeStreams.{open_rows, node_list, group_list_of, next_list, node_of, group_of, place_of, next_of, stream, node_size}
 use Rattle.suffix_streams.specs.Growing.{IsStoreGrown}
 use Rattle.suffix_streams.proofs.State.{stream_own, stream_other, node_size_more, stream_linked, count_more}
 

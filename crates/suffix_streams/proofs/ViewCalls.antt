@@ -4,17 +4,17 @@ use Rattle.std.proofs.lemmas.Bool.{cases_lt}
 use Rattle.stream_store.specs.declared.entry.Linked.{Linked}
 use Rattle.rank_key.specs.Bits.{bit_length}
 use Rattle.rank_key.proofs.BitLemmas.{bit_length_rises}
-use Rattle.tdp_core.specs.SeenAnswers.{counted}
-use Rattle.tdp_core.specs.TreeData.{NodeData, parent, rows, child_count, members, group_count, node_at, row_count}
+use Rattle.tdp_core.specs.AnswerView.{counted}
+use Rattle.tdp_core.specs.TreeView.{NodeView, parent, rows, child_count, members, group_count, node_at, row_count}
 use Rattle.tdp_core.specs.WellFormed.{IsFormed}
 use Rattle.tdp_core.proofs.TreeFacts.{group_rows_within, term_within}
 use Rattle.tdp_model.specs.Below.{ascends, is_below}
 use Rattle.tdp_model.specs.KeyTuple.{KeyOf}
 use Rattle.tdp_model.specs.TreeProblem.{sum_from}
 use Rattle.suffix_streams.specs.declared.stream.Found.{Found}
-use Rattle.suffix_streams.specs.ProductData.{ProductData}
-use Rattle.suffix_streams.specs.NodeLists.{NodeLists}
-use Rattle.suffix_streams.specs.StreamsData.{node_of, lists_of, products_of, product_of, IsStreams}
+use Rattle.suffix_streams.specs.ProductView.{ProductView}
+use Rattle.suffix_streams.specs.NodeStreamsView.{NodeStreamsView}
+use Rattle.suffix_streams.specs.TreeStreams.{node_of, lists_of, products_of, product_of, IsStreams}
 use Rattle.suffix_streams.specs.Growing.{IsStoreGrown, AreQueuesGrown, IsAnswered, IsWithinSteps, subtree_size}
 use Rattle.suffix_streams.specs.StreamsView.{StreamsView, AreKept, Follows}
 use Rattle.suffix_streams.proofs.BeginOwners.{get_past}
@@ -44,7 +44,7 @@ unfolding sum_from
 few_terms f zero q h = omega arith
 few_terms f (suc n) q h = omega (arith, h q, few_terms f n (suc q) h)
 
-module _ {R : Type 0} (d : ℕ) (key : R → KeyOf d 16) (t : List (NodeData R)) where
+module _ {R : Type 0} (d : ℕ) (key : R → KeyOf d 16) (t : List (NodeView R)) where
   pub subtree_within : (q : ℕ) → subtree_size t q ≤ length t
   subtree_within q = few_terms (is_below (parent t) q) (length t) 0 (λ v. below_few (parent t) q v)
 
@@ -63,7 +63,7 @@ module _ {R : Type 0} (d : ℕ) (key : R → KeyOf d 16) (t : List (NodeData R))
         omega (arith, empty)
   ]
 
-  module _ (formed : IsFormed d key t) (es es' : List (Linked (Found R))) (nodes nodes' : List (NodeLists R)) where
+  module _ (formed : IsFormed d key t) (es es' : List (Linked (Found R))) (nodes nodes' : List (NodeStreamsView R)) where
     -- the step bound, from the number of calls
     pub call_steps : (calls e old new : ℕ) → (some : 1 ≤ row_count t) → ((v r c : ℕ) → length (product_of nodes v r c).frontier ≤ calls + 1)
         → IsWithinSteps t nodes (is_below (parent t) (node_of es e)) (λ b. 20 * subtree_size t (node_of es e) * (1 + b)) old new
@@ -96,21 +96,21 @@ module _ {R : Type 0} (d : ℕ) (key : R → KeyOf d 16) (t : List (NodeData R))
           omega (arith, count, limit)
     ]
       where
-        no_product : (xs : List (List (ProductData R))) → length xs ≤ r → length (get_or (get_or xs r []) c (record { found = []; ranks = []; frontier = []; room = 0; frontier_room = 0 })).frontier ≡ 0
-        no_product xs l = ap (λ (ps : List (ProductData R)). length (get_or ps c (record { found = []; ranks = []; frontier = []; room = 0; frontier_room = 0 })).frontier) (get_past xs r [] l)
+        no_product : (xs : List (List (ProductView R))) → length xs ≤ r → length (get_or (get_or xs r []) c (record { found = []; ranks = []; frontier = []; room = 0; frontier_room = 0 })).frontier ≡ 0
+        no_product xs l = ap (λ (ps : List (ProductView R)). length (get_or ps c (record { found = []; ranks = []; frontier = []; room = 0; frontier_room = 0 })).frontier) (get_past xs r [] l)
 
         limit : length (product_of nodes' v r c).frontier ≤ 2 ^ 64
         limit = elim (cases_lt v (length t)) [
           | inl lv ↦ elim (cases_lt r (rows t v)) [
             | inl lr ↦ elim (cases_lt c (length (products_of nodes' v r))) [
               | inl lc ↦ let f = (s.products v r c lv lr lc).few in omega arith
-              | inr past ↦ omega (arith, ap (λ (p : ProductData R). length p.frontier) (get_past (products_of nodes' v r) c (record { found = []; ranks = []; frontier = []; room = 0; frontier_room = 0 }) past))
+              | inr past ↦ omega (arith, ap (λ (p : ProductView R). length p.frontier) (get_past (products_of nodes' v r) c (record { found = []; ranks = []; frontier = []; room = 0; frontier_room = 0 }) past))
             ]
             | inr past ↦ omega (arith, no_product (lists_of nodes' v).products (omega (arith, past, s.all_rows v lv, open_few (child_count t v) (rows t v))))
           ]
           | inr past ↦
               let none : lists_of nodes' v ≡ record { children = []; streams = []; products = [] } = get_past nodes' v (record { children = []; streams = []; products = [] }) (omega (arith, past, s.all_nodes)) in
-              omega (arith, ap (λ (n : NodeLists R). length (get_or (get_or n.products r []) c (record { found = []; ranks = []; frontier = []; room = 0; frontier_room = 0 })).frontier) none)
+              omega (arith, ap (λ (n : NodeStreamsView R). length (get_or (get_or n.products r []) c (record { found = []; ranks = []; frontier = []; room = 0; frontier_room = 0 })).frontier) none)
         ]
 
 -- the entry that follows, as callers see it

@@ -8,13 +8,13 @@ use Rattle.tdp_model.specs.KeyTuple.{KeyOf, key_below, key_none}
 use Rattle.tdp_model.proofs.KeyTuples.{tuple_keys}
 use Rattle.stream_cells.specs.declared.source.Source.{Source}
 use Rattle.take2_heap.specs.declared.entry.Entry.{Entry}
-use Rattle.tdp_core.specs.TreeData.{NodeData, group_count}
+use Rattle.tdp_core.specs.TreeView.{NodeView, group_count}
 use Rattle.stream_model.specs.Links.{IsLinkedAt}
 use Rattle.suffix_streams.specs.declared.stream.Found.{Found}
-use Rattle.suffix_streams.specs.NodeLists.{NodeLists}
+use Rattle.suffix_streams.specs.NodeStreamsView.{NodeStreamsView}
 use Rattle.suffix_streams.specs.Rankings.{GroupSolution, group_list}
 use Rattle.suffix_streams.specs.Frontiers.{AreFirst}
-use Rattle.suffix_streams.specs.StreamsData.{node_list, group_list_of, node_of, group_of, place_of, next_of, stream, IsStreams}
+use Rattle.suffix_streams.specs.TreeStreams.{node_list, group_list_of, node_of, group_of, place_of, next_of, stream, IsStreams}
 use Rattle.suffix_streams.proofs.BeginOwners.{owned_within}
 use Rattle.suffix_streams.proofs.Rankings.{group_is_ranking}
 use Rattle.suffix_streams.proofs.ViewEntries.{stream_length, entry_at}
@@ -34,7 +34,7 @@ module _ {R : Type 0} (d : ℕ) (key : R → KeyOf d 16) where
     sym (get_or-map (λ x. key x.rank) xs i a (key_none d 16) l) ∙ ap (λ z. get_or z i (key_none d 16)) p.2 ∙ get_taken (length xs) i ks (key_none d 16) l,
   )
 
-  module _ (t : List (NodeData R)) (es : List (Linked (Found R))) (nodes : List (NodeLists R)) (s : IsStreams d key t es nodes) where
+  module _ (t : List (NodeView R)) (es : List (Linked (Found R))) (nodes : List (NodeStreamsView R)) (s : IsStreams d key t es nodes) where
     -- each stream is a prefix of any ranking of its group
     pub all_prefixes : (q g : ℕ) (ks : List (KeyOf d 16)) → q < length t → g < group_count t q → IsRanking (KeyOf d 16) (key_below d 16) (GroupSolution d key t q g) ks → AreFirst d key (stream es q g) ks
     all_prefixes q g ks l lg r =

@@ -3,17 +3,17 @@ use Rattle.std.proofs.Common.{◌≡◌, ℕ, zero, suc, ◌+◌, ◌-◌, ◌*�
 use Rattle.stream_store.specs.declared.entry.Linked.{Linked}
 use Rattle.tdp_model.specs.KeyTuple.{KeyOf}
 use Rattle.tdp_model.specs.TreeProblem.{sum_from}
-use Rattle.tdp_core.specs.TreeData.{NodeData, rows, row_count}
+use Rattle.tdp_core.specs.TreeView.{NodeView, rows, row_count}
 use Rattle.tdp_core.specs.WellFormed.{IsFormed, IsTieFreeTree}
 use Rattle.suffix_streams.specs.declared.stream.Found.{Found}
-use Rattle.suffix_streams.specs.NodeLists.{NodeLists}
+use Rattle.suffix_streams.specs.NodeStreamsView.{NodeStreamsView}
 use Rattle.suffix_streams.specs.StreamsView.{IsStreamsView}
 use Rattle.suffix_streams.specs.Beginnings.{IsBegunFrom}
 use Rattle.suffix_streams.proofs.BeginBegun.{streams_begun, few_begun}
 use Rattle.suffix_streams.proofs.BeginNodes.{rows_from, rows_more}
 
-module _ {R : Type 0} (d : ℕ) (key : R → KeyOf d 16) (t : List (NodeData R)) where
-  pub start_view : IsFormed d key t → IsTieFreeTree t → (es : List (Linked (Found R))) (nodes : List (NodeLists R)) (v : ℕ) → v ≡ 0 → IsBegunFrom d key t es nodes v
+module _ {R : Type 0} (d : ℕ) (key : R → KeyOf d 16) (t : List (NodeView R)) where
+  pub start_view : IsFormed d key t → IsTieFreeTree t → (es : List (Linked (Found R))) (nodes : List (NodeStreamsView R)) (v : ℕ) → v ≡ 0 → IsBegunFrom d key t es nodes v
       → IsStreamsView d key (record { tree = t; entries = es; nodes = nodes; calls = 0 })
   start_view formed free es nodes v e b = record {
     formed = formed;

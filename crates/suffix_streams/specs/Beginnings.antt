@@ -2,37 +2,37 @@
 use Rattle.std.specs.Prelude.{◌≡◌, ℕ, ◌<◌, ◌≤◌, None, cond, nat_lt, List, [], ◌∷◌, length, slice_index, slice_index_or}
 use Rattle.stream_store.specs.declared.entry.Linked.{Linked}
 use Rattle.take2_heap.specs.declared.entry.Entry.{Entry}
-use Rattle.tdp_core.specs.TreeData.{NodeData, group_count, child_count, rows}
+use Rattle.tdp_core.specs.TreeView.{NodeView, group_count, child_count, rows}
 use Rattle.tdp_model.specs.KeyTuple.{KeyOf, key_none}
 use Rattle.stream_model.specs.Links.{owned}
 use Rattle.suffix_streams.specs.declared.stream.Found.{Found}
 use Rattle.stream_cells.specs.declared.source.Source.{Source}
-use Rattle.suffix_streams.specs.NodeLists.{NodeLists}
+use Rattle.suffix_streams.specs.NodeStreamsView.{NodeStreamsView}
 use Rattle.suffix_streams.specs.Firsts.{IsFirstOf}
 use Rattle.suffix_streams.specs.Rankings.{child, group_list}
-use Rattle.suffix_streams.specs.StreamsData.{open_rows, node_list, group_list_of, node_of, group_of, next_of, lists_of, stream_of, products_of, HasKey}
+use Rattle.suffix_streams.specs.TreeStreams.{open_rows, node_list, group_list_of, node_of, group_of, next_of, lists_of, stream_of, products_of, HasKey}
 
 -- the queue has the first solution of the first member of group g of node q, which stands for all
-abbrev pub HasFirst : {R : Type 0} (d : ℕ) → (R → KeyOf d 16) → List (NodeData R)
+abbrev pub HasFirst : {R : Type 0} (d : ℕ) → (R → KeyOf d 16) → List (NodeView R)
     → List (Linked (Found R)) → ℕ → ℕ → List (Entry R Source) → Type 0
 HasFirst {R} d key t es q g queue = (e : Entry R Source) × (queue ≡ e ∷ [])
     × IsFirstOf d key t es q g 0 e
 
-module _ {R : Type 0} (t : List (NodeData R)) where
+module _ {R : Type 0} (t : List (NodeView R)) where
   -- the children of node v in ascending order
   pub record AreChildren (v : ℕ) (children : List ℕ) : Type 0 where
     pub count : length children ≡ child_count t v
     pub each : (c : ℕ) → c < child_count t v → slice_index children c ≡ child t v c
 
   -- node v without streams and without products
-  pub record IsEmptyNode (v : ℕ) (n : NodeLists R) : Type 0 where
+  pub record IsEmptyNode (v : ℕ) (n : NodeStreamsView R) : Type 0 where
     pub children : AreChildren v n.children
     pub no_streams : n.streams ≡ []
     pub all_rows : length n.products ≡ open_rows (child_count t v) (rows t v)
     pub no_products : (r : ℕ) → slice_index_or n.products r [] ≡ []
 
-module _ {R : Type 0} (d : ℕ) (key : R → KeyOf d 16) (t : List (NodeData R))
-    (es : List (Linked (Found R))) (nodes : List (NodeLists R)) where
+module _ {R : Type 0} (d : ℕ) (key : R → KeyOf d 16) (t : List (NodeView R))
+    (es : List (Linked (Found R))) (nodes : List (NodeStreamsView R)) where
   -- the stream of group g of node q has only its head
   pub record IsBegunAt (q g : ℕ) : Type 0 where
     pub head_in : (stream_of nodes q g).head < length es

@@ -3,14 +3,14 @@ use Rattle.std.specs.Prelude.{◌≡◌, ◌≢◌, ℕ, suc, ◌+◌, ◌-◌, 
 use Rattle.std.specs.List.Sorted.{IsPermutation}
 use Rattle.take2_heap.specs.declared.entry.Entry.{Entry}
 use Rattle.stream_store.specs.declared.entry.Linked.{Linked}
-use Rattle.tdp_core.specs.TreeData.{NodeData, members, best, child_count, group_named}
+use Rattle.tdp_core.specs.TreeView.{NodeView, members, best, child_count, group_named}
 use Rattle.tdp_model.specs.KeyTuple.{KeyOf}
 use Rattle.stream_model.specs.Offers.{offers}
 use Rattle.stream_cells.specs.declared.cell.Cell.{Cell}
 use Rattle.stream_cells.specs.declared.source.Source.{Source}
 use Rattle.suffix_streams.specs.declared.stream.Found.{Found}
 use Rattle.suffix_streams.specs.Rankings.{child}
-use Rattle.suffix_streams.specs.StreamsData.{node_of, group_of, place_of, run_of}
+use Rattle.suffix_streams.specs.TreeStreams.{node_of, group_of, place_of, run_of}
 
 -- the most entries that enter the queue of a group of n members when its top is passed, beside the
 -- one that replaces the top
@@ -19,7 +19,7 @@ can_enter n = min 2 (n - 1)
 
 -- the cell has the parts of the first solution of row r of node q with its first c + 1 children,
 -- which are first solutions too
-pub record IsFirstCell {R : Type 0} (t : List (NodeData R)) (es : List (Linked (Found R)))
+pub record IsFirstCell {R : Type 0} (t : List (NodeView R)) (es : List (Linked (Found R)))
     (q r c : ℕ) (cell : Cell) : Type 0 where
   pub left : cell.left ≡ 0
   pub right : cell.right < length es
@@ -28,11 +28,11 @@ pub record IsFirstCell {R : Type 0} (t : List (NodeData R)) (es : List (Linked (
   pub place : place_of es cell.right ≡ 0
 
 -- the cell has the parts of the first solution of row r of node q, if the node has children
-abbrev pub HasFirstParts : {R : Type 0} → List (NodeData R) → List (Linked (Found R)) → ℕ → ℕ → Cell
+abbrev pub HasFirstParts : {R : Type 0} → List (NodeView R) → List (Linked (Found R)) → ℕ → ℕ → Cell
     → Type 0
 HasFirstParts t es q r cell = (c : ℕ) → child_count t q ≡ suc c → IsFirstCell t es q r c cell
 
-module _ {R : Type 0} (d : ℕ) (key : R → KeyOf d 16) (t : List (NodeData R))
+module _ {R : Type 0} (d : ℕ) (key : R → KeyOf d 16) (t : List (NodeView R))
     (es : List (Linked (Found R))) (q g : ℕ) where
   -- e is the first solution of member j of group g of node q
   abbrev pub IsFirstOf : ℕ → Entry R Source → Type 0

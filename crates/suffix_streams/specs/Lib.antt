@@ -1,10 +1,10 @@
-pub mod ProductData
-pub mod StreamData
+pub mod ProductView
+pub mod StreamView
 pub mod OpenedRows
-pub mod NodeLists
+pub mod NodeStreamsView
 pub mod Rankings
 pub mod Frontiers
-pub mod StreamsData
+pub mod TreeStreams
 pub mod Growing
 pub mod StreamsView
 pub mod Firsts

@@ -1,7 +1,7 @@
 -- The rankings of a tree's groups, and of its rows with their first children, as lists.
 use Rattle.std.specs.Prelude.{ℕ, zero, suc, ◌-◌, ◌<◌, cond, nat_eq, nat_lt, List, length, slice_index}
 use Rattle.rankings.specs.Order.{ranked}
-use Rattle.tdp_core.specs.TreeData.{NodeData, kids_below, parent, members, group, rank}
+use Rattle.tdp_core.specs.TreeView.{NodeView, kids_below, parent, members, group, rank}
 use Rattle.tdp_model.specs.KeyTuple.{KeyOf, key_below, key_add, key_none}
 use Rattle.tdp_model.specs.TreeProblem.{RowHas, PartHas, gather, part_keys, row_keys}
 use Rattle.tdp_model.proofs.KeyTuples.{tuple_keys}
@@ -14,7 +14,7 @@ child_among parent v c (suc n) =
     (cond (nat_eq (kids_below parent v n) c) n (child_among parent v c n))
     (child_among parent v c n)) (child_among parent v c n)
 
-module _ {R : Type 0} (t : List (NodeData R)) where
+module _ {R : Type 0} (t : List (NodeView R)) where
   -- child number c of node v
   abbrev pub child : ℕ → ℕ → ℕ
   child v c = child_among (parent t) v c (length t)
@@ -24,7 +24,7 @@ module _ {R : Type 0} (t : List (NodeData R)) where
   part_end v zero = 0
   part_end v (suc c) = child v c - v
 
-module _ {R : Type 0} (d : ℕ) (key : R → KeyOf d 16) (t : List (NodeData R)) where
+module _ {R : Type 0} (d : ℕ) (key : R → KeyOf d 16) (t : List (NodeView R)) where
   abbrev pub RowSolution : ℕ → ℕ → KeyOf d 16 → Type 0
   RowSolution v r k = RowHas (key_add d 16) (key_none d 16) (length t) (parent t) (rank t d key)
       (group t) (length t) v r k

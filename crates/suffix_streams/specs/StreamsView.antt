@@ -2,21 +2,21 @@
 use Rattle.std.specs.Prelude.{◌≡◌, ℕ, ◌+◌, ◌<◌, ◌≤◌, Option, Some, None, List, length, slice_index_or}
 use Rattle.stream_store.specs.declared.entry.Linked.{Linked}
 use Rattle.rankings.specs.Order.{IsRanking}
-use Rattle.tdp_core.specs.TreeData.{NodeData, group_count}
+use Rattle.tdp_core.specs.TreeView.{NodeView, group_count}
 use Rattle.tdp_core.specs.WellFormed.{IsFormed, IsTieFreeTree}
 use Rattle.tdp_model.specs.KeyTuple.{KeyOf, key_below, key_none}
 use Rattle.suffix_streams.specs.declared.stream.Found.{Found}
-use Rattle.suffix_streams.specs.NodeLists.{NodeLists}
+use Rattle.suffix_streams.specs.NodeStreamsView.{NodeStreamsView}
 use Rattle.suffix_streams.specs.Rankings.{GroupSolution, group_list}
 use Rattle.suffix_streams.specs.Frontiers.{AreFirst}
-use Rattle.suffix_streams.specs.StreamsData.{IsStreams, node_of, group_of, place_of, stream, node_size, product_of}
+use Rattle.suffix_streams.specs.TreeStreams.{IsStreams, node_of, group_of, place_of, stream, node_size, product_of}
 
 -- a tree, the entries of all streams in the order in which they were found, the data of each node,
 -- and the number of calls so far, which stays at its last value
 pub record StreamsView (R : Type 0) : Type 0 where
-  pub tree : List (NodeData R)
+  pub tree : List (NodeView R)
   pub entries : List (Linked (Found R))
-  pub nodes : List (NodeLists R)
+  pub nodes : List (NodeStreamsView R)
   pub calls : ℕ
 
 module _ {R : Type 0} where

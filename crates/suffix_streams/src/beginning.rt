@@ -2,11 +2,11 @@
 ghost use Rattle.std.specs.Prelude.{◌≡◌, ◌≢◌, ℕ, ◌+◌, ◌*◌, ◌<◌, ◌≤◌, [], ◌∷◌, ◌++◌, None, length, slice_index, slice_index_or, IfOk, OnOk};
 ghost use Rattle.stream_store.specs.declared.entry.Linked.{Linked};
 ghost use Rattle.take2_heap.specs.declared.entry.Entry.{Entry};
-ghost use Rattle.tdp_core.specs.TreeData.{rows, group_count, child_count, members};
+ghost use Rattle.tdp_core.specs.TreeView.{rows, group_count, child_count, members};
 ghost use Rattle.tdp_core.specs.WellFormed.{IsFormed};
 ghost use Rattle.tdp_model.specs.KeyTuple.{key_none};
 ghost use Rattle.suffix_streams.specs.Rankings.{group_list};
-ghost use Rattle.suffix_streams.specs.StreamsData.{open_rows, lists_of, IsHeaded};
+ghost use Rattle.suffix_streams.specs.TreeStreams.{open_rows, lists_of, IsHeaded};
 ghost use Rattle.suffix_streams.specs.Beginnings.{AreChildren, IsEmptyNode, HasFirst, IsBegunFrom};
 
 use crate::members::first_solution;

@@ -3,10 +3,10 @@
 ghost use Rattle.std.specs.Prelude.{◌≡◌, ℕ, ◌+◌, ◌*◌, ◌<◌, ◌≤◌, length, slice_set, slice_index, slice_index_or};
 ghost use Rattle.rank_key.specs.Bits.{bit_length};
 ghost use Rattle.take2_heap.specs.Order.{IsLeast};
-ghost use Rattle.tdp_core.specs.TreeData.{group_count, members};
+ghost use Rattle.tdp_core.specs.TreeView.{group_count, members};
 ghost use Rattle.tdp_core.specs.WellFormed.{IsFormed};
-ghost use Rattle.suffix_streams.specs.StreamsData.{IsHeaded, IsStreams, lists_of, stream_of};
-ghost use Rattle.suffix_streams.specs.NodeLists.{with_queue};
+ghost use Rattle.suffix_streams.specs.TreeStreams.{IsHeaded, IsStreams, lists_of, stream_of};
+ghost use Rattle.suffix_streams.specs.NodeStreamsView.{with_queue};
 ghost use Rattle.suffix_streams.specs.Firsts.{IsFirstOf, IsFirstBelow, AreFirstsMoved, can_enter};
 
 use crate::node::NodeStreams;

@@ -7,9 +7,9 @@ ghost use Rattle.take2_heap.specs.declared.entry.Entry.{Entry};
 ghost use Rattle.stream_model.specs.Offers.{offers};
 ghost use Rattle.stream_cells.specs.declared.cell.Cell.{Cell};
 ghost use Rattle.stream_cells.specs.declared.source.Source.{Source};
-ghost use Rattle.suffix_streams.specs.ProductData.{with_rank};
+ghost use Rattle.suffix_streams.specs.ProductView.{with_rank};
 ghost use Rattle.suffix_streams.specs.Firsts.{can_enter};
-ghost use Rattle.suffix_streams.specs.NodeLists.{known_of, product_at, stream_at, with_product, with_queue};
+ghost use Rattle.suffix_streams.specs.NodeStreamsView.{known_of, product_at, stream_at, with_product, with_queue};
 
 use crate::opened::RowProducts;
 use crate::product::Product;
@@ -33,9 +33,9 @@ pub(crate) struct NodeStreams<R: Rank, A: Allocator> {
 }
 
 impl<R: Rank, A: Allocator> Model for NodeStreams<R, A> {
-    ghost use Rattle.suffix_streams.specs.NodeLists.{NodeLists};
+    ghost use Rattle.suffix_streams.specs.NodeStreamsView.{NodeStreamsView};
 
-    ghost Value = { NodeLists R };
+    ghost Value = { NodeStreamsView R };
 
     ghost view = { λ n. record {
       children = n.children.items;

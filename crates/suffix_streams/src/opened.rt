@@ -1,7 +1,7 @@
 //! The products of a node's rows, with room for the lists of opened rows only.
 ghost use Rattle.std.specs.Prelude.{◌≡◌, ℕ, ◌<◌, [], length, slice_set, slice_index_or, IfOk, OnOk, OnErr};
 ghost use Rattle.std.specs.Borrow.{Lends, sem};
-ghost use Rattle.suffix_streams.specs.ProductData.{ProductData};
+ghost use Rattle.suffix_streams.specs.ProductView.{ProductView};
 
 use crate::product::Product;
 use rank_key::Rank;
@@ -21,10 +21,10 @@ pub(crate) struct RowProducts<R: Rank, A: Allocator> {
 
 impl<R: Rank, A: Allocator> Model for RowProducts<R, A> {
     ghost use Rattle.std.specs.Prelude.{List, map, length};
-    ghost use Rattle.suffix_streams.specs.ProductData.{ProductData};
+    ghost use Rattle.suffix_streams.specs.ProductView.{ProductView};
     ghost use Rattle.suffix_streams.specs.OpenedRows.{list_numbered, HaveOwnLists};
 
-    ghost Value = { List (List (ProductData R)) };
+    ghost Value = { List (List (ProductView R)) };
 
     ghost view = { λ p. map (list_numbered (map (λ l. l.items) p.lists.items)) p.opened.items };
 
@@ -60,7 +60,7 @@ impl<R: Rank, A: Allocator> RowProducts<R, A> {
     /// A product of a row. Products count from 0.
     pub(crate) fn product(&self, row: u32, child: usize) -> &Product<R, A>
         requires { child < length (slice_index_or self.now row []) }
-        ensures { (d : ProductData R)
+        ensures { (d : ProductView R)
             → result.now ≡ slice_index_or (slice_index_or self.now row []) child d }
     {
         let list = self.opened[row as usize] as usize - 1;
@@ -74,7 +74,7 @@ impl<R: Rank, A: Allocator> RowProducts<R, A> {
             (product_row R.row A.row R.Rank A.Allocator) self.entry result
             (λ w. slice_set self.old row
             (slice_set (slice_index_or self.old row []) child w))) }
-        ensures value { (d : ProductData R)
+        ensures value { (d : ProductView R)
             → result.now ≡ slice_index_or (slice_index_or self.old row []) child d }
     {
         let list = self.opened[row as usize] as usize - 1;

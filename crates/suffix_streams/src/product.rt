@@ -6,7 +6,7 @@ ghost use Rattle.take2_heap.specs.Order.{IsMinHeap, IsLeast};
 ghost use Rattle.take2_heap.specs.declared.entry.Entry.{Entry};
 ghost use Rattle.stream_model.specs.Offers.{offers};
 ghost use Rattle.stream_cells.specs.declared.cell.Cell.{Cell};
-ghost use Rattle.suffix_streams.specs.ProductData.{with_rank};
+ghost use Rattle.suffix_streams.specs.ProductView.{with_rank};
 
 use rank_key::Rank;
 use std::alloc::Allocator;
@@ -33,9 +33,9 @@ pub(crate) struct Product<R: Rank, A: Allocator> {
 impl<R: Rank, A: Allocator> Model for Product<R, A> {
     ghost use Rattle.std.specs.Prelude.{◌-◌, ◌<◌, ◌^◌, min};
     ghost use Rattle.std.specs.Vec.{vec_len, vec_capacity};
-    ghost use Rattle.suffix_streams.specs.ProductData.{ProductData, room_for};
+    ghost use Rattle.suffix_streams.specs.ProductView.{ProductView, room_for};
 
-    ghost Value = { ProductData R };
+    ghost Value = { ProductView R };
 
     ghost view = { λ p. record {
       found = p.found.items;

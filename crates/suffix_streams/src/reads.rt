@@ -1,13 +1,13 @@
 //! Reading entries and products, which changes nothing.
 ghost use Rattle.std.specs.Prelude.{◌≡◌, ℕ, ◌+◌, ◌*◌, ◌<◌, ◌≤◌, length, slice_index_or, IfOk, IfSome, IfNone};
-ghost use Rattle.tdp_core.specs.TreeData.{child_count, group_named, rows};
+ghost use Rattle.tdp_core.specs.TreeView.{child_count, group_named, rows};
 ghost use Rattle.tdp_core.specs.WellFormed.{IsFormed, IsTieFreeTree};
 ghost use Rattle.tdp_model.specs.KeyTuple.{key_add, key_none};
 ghost use Rattle.tdp_model.specs.Product.{pair_key};
 ghost use Rattle.suffix_streams.specs.Rankings.{child as child_node, part_list, group_list};
 ghost use Rattle.stream_cells.specs.declared.source.Source.{Source};
 ghost use Rattle.suffix_streams.specs.Firsts.{HasFirstParts};
-ghost use Rattle.suffix_streams.specs.StreamsData.{lists_of, products_of, stream_of, part_known, row_known, pair_of, IsSumOf, IsStreams, IsHeaded, HasParts, IsCell, IsOffer, AreFreshTo, AreLefts};
+ghost use Rattle.suffix_streams.specs.TreeStreams.{lists_of, products_of, stream_of, part_known, row_known, pair_of, IsSumOf, IsStreams, IsHeaded, HasParts, IsCell, IsOffer, AreFreshTo, AreLefts};
 
 use crate::node::NodeStreams;
 use crate::product::Product;

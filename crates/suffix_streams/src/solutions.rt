@@ -1,15 +1,15 @@
 //! The next solution of a stream, and the steps at the nodes below it.
 ghost use Rattle.std.specs.Prelude.{◌≡◌, ◌≢◌, ℕ, ◌+◌, ◌*◌, ◌<◌, ◌≤◌, Option, None, cond, nat_eq, length, slice_set, slice_index, slice_index_or, IfOk, OnOk, OnErr, IsOk, IsSome};
 ghost use Rattle.take2_heap.specs.declared.entry.Entry.{Entry};
-ghost use Rattle.tdp_core.specs.TreeData.{parent, rows, child_count, group_count, group_named, members};
+ghost use Rattle.tdp_core.specs.TreeView.{parent, rows, child_count, group_count, group_named, members};
 ghost use Rattle.tdp_core.specs.WellFormed.{IsTieFreeTree};
 ghost use Rattle.tdp_model.specs.Below.{is_below};
 ghost use Rattle.rank_key.specs.Bits.{bit_length};
 ghost use Rattle.suffix_streams.specs.Rankings.{child as child_node};
 ghost use Rattle.stream_cells.specs.declared.cell.Cell.{Cell};
 ghost use Rattle.stream_cells.specs.declared.source.Source.{Source};
-ghost use Rattle.suffix_streams.specs.StreamsData.{IsStreams, node_of, group_of, next_of, node_size, lists_of, stream_of, product_of, products_of, part_known, row_known};
-ghost use Rattle.suffix_streams.specs.NodeLists.{with_queue};
+ghost use Rattle.suffix_streams.specs.TreeStreams.{IsStreams, node_of, group_of, next_of, node_size, lists_of, stream_of, product_of, products_of, part_known, row_known};
+ghost use Rattle.suffix_streams.specs.NodeStreamsView.{with_queue};
 ghost use Rattle.suffix_streams.specs.Firsts.{can_enter};
 ghost use Rattle.suffix_streams.specs.Refusals.{AreUnstepped};
 ghost use Rattle.suffix_streams.specs.Growing.{IsStoreGrown, IsGrown, IsExtended, IsReached, IsAnswered, HasOtherProduct, AreQueuesGrown, IsWithinSteps, below_kids, kids_size};

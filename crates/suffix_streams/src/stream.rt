@@ -39,9 +39,9 @@ pub(crate) struct Stream<R: Rank, A: Allocator> {
 }
 
 impl<R: Rank, A: Allocator> Model for Stream<R, A> {
-    ghost use Rattle.suffix_streams.specs.StreamData.{StreamData};
+    ghost use Rattle.suffix_streams.specs.StreamView.{StreamView};
 
-    ghost Value = { StreamData R };
+    ghost Value = { StreamView R };
 
     ghost view = { λ s. record {
       head = s.head;

@@ -1,11 +1,11 @@
 //! The streams of a tree, one for each group of its nodes.
 ghost use Rattle.std.specs.Prelude.{◌≡◌, ◌≢◌, ℕ, ◌+◌, ◌-◌, ◌*◌, ◌^◌, ◌<◌, ◌≤◌, Some, min, length, IfOk, IsOk, IsSome};
 ghost use Rattle.rank_key.specs.Bits.{bit_length};
-ghost use Rattle.tdp_core.specs.TreeData.{group_count, row_count};
+ghost use Rattle.tdp_core.specs.TreeView.{group_count, row_count};
 ghost use Rattle.tdp_core.specs.WellFormed.{IsTieFreeTree};
-ghost use Rattle.tdp_core.specs.SeenAnswers.{rows_of_key, counted};
+ghost use Rattle.tdp_core.specs.AnswerView.{rows_of_key, counted};
 ghost use Rattle.suffix_streams.specs.StreamsView.{IsStreamsView, entry_node, entry_group, entry_place, entry_key, size_of_node, ArePrefixes, AreKept, IsEntry, Follows};
-ghost use Rattle.suffix_streams.specs.StreamsData.{next_of};
+ghost use Rattle.suffix_streams.specs.TreeStreams.{next_of};
 
 use crate::beginning::{begin_node, empty_nodes};
 use crate::solutions::Solutions;

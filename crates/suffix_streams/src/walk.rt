@@ -1,12 +1,12 @@
 //! Reading the rows of a solution, from entry to entry. Each row number is added at its item to the numbers that were read
 //! before.
 ghost use Rattle.std.specs.Prelude.{◌≡◌, ℕ, ◌+◌, ◌*◌, ◌<◌, ◌≤◌, length, slice_index_or};
-ghost use Rattle.tdp_core.specs.TreeData.{child_count, group_named, rank, rows};
+ghost use Rattle.tdp_core.specs.TreeView.{child_count, group_named, rank, rows};
 ghost use Rattle.tdp_core.specs.WellFormed.{IsFormed, IsTieFreeTree};
 ghost use Rattle.tdp_model.specs.KeyTuple.{key_add, key_none};
 ghost use Rattle.tdp_model.specs.Product.{pair_key};
 ghost use Rattle.suffix_streams.specs.Rankings.{child as child_node, part_list, group_list};
-ghost use Rattle.suffix_streams.specs.StreamsData.{IsKnownPart, IsSumOf, IsStreams, pair_of, node_of, group_of, place_of};
+ghost use Rattle.suffix_streams.specs.TreeStreams.{IsKnownPart, IsSumOf, IsStreams, pair_of, node_of, group_of, place_of};
 ghost use Rattle.suffix_streams.specs.Growing.{subtree_size, kids_size};
 ghost use Rattle.suffix_streams.specs.RowNumbers.{AreAddable, AreAdded};
 

@@ -4,8 +4,8 @@ use Rattle.std.specs.List.{AllByRecursion}
 use Rattle.std.proofs.lemmas.List.{map-append}
 use Rattle.std.proofs.Math.Seq.{take-append_seam}
 use Rattle.anyk_model.specs.Table.{Table}
-use Rattle.table_store.specs.StoredTables.{IsStored, shown}
-use Rattle.table_store.specs.Tables.{IsSound, KeepsTables, all_shown}
+use Rattle.table_store.specs.StoredTables.{IsStored, stored_view}
+use Rattle.table_store.specs.Tables.{IsSound, KeepsTables, stored_views}
 use Rattle.table_store.specs.Values.{Extends, with_rows, with_tables}
 use Rattle.table_store.specs.declared.stored.StoredTable.{StoredTable}
 use Rattle.table_store.proofs.Stands.{all_push, stands_more, with_rows_extends}
@@ -22,20 +22,20 @@ with_tables_push texts [] table = refl
 with_tables_push texts (t ∷ tables) table = with_tables_push (with_rows texts t.rows) tables table
 
 module _ (old new : List (List ℕ)) (stored : List StoredTable) (s : StoredTable) (table : Table)
-    (kept : KeepsTables old stored) (new-is : new ≡ with_rows old table.rows) (shows : shown s ≡ table) where
+    (kept : KeepsTables old stored) (new-is : new ≡ with_rows old table.rows) (shows : stored_view s ≡ table) where
   extends : Extends old new
   extends = let e = with_rows_extends old table.rows in (e.0, new-is ∙ e.1)
 
   -- a table that is stored stands after the others
-  pub shown_push : all_shown (stored ++ s ∷ []) ≡ all_shown stored ++ table ∷ []
-  shown_push = map-append shown stored (s ∷ []) ∙ (λ i. all_shown stored ++ shows i ∷ [])
+  pub shown_push : stored_views (stored ++ s ∷ []) ≡ stored_views stored ++ table ∷ []
+  shown_push = map-append stored_view stored (s ∷ []) ∙ (λ i. stored_views stored ++ shows i ∷ [])
 
   pub keeps_push : IsStored new s → IsSound table → length stored + 1 ≤ 16 → KeepsTables new (stored ++ s ∷ [])
   keeps_push whole sound few = record {
     whole = all_push (IsStored new) stored s (whole_more old new stored extends kept.whole) whole;
     known = new-is ∙ ap (λ t. with_rows t table.rows) kept.known
-        ∙ sym (with_tables_push [] (all_shown stored) table) ∙ ap (with_tables []) (sym shown_push);
-    sound = subst (AllByRecursion IsSound) (sym shown_push) (all_push IsSound (all_shown stored) table kept.sound sound);
+        ∙ sym (with_tables_push [] (stored_views stored) table) ∙ ap (with_tables []) (sym shown_push);
+    sound = subst (AllByRecursion IsSound) (sym shown_push) (all_push IsSound (stored_views stored) table kept.sound sound);
     few = omega (arith, few, length-append stored (s ∷ []));
   }
 

@@ -4,8 +4,8 @@ use Rattle.csv.specs.Records.{Rising, cut_from, last_end}
 use Rattle.anyk_model.specs.Table.{Fields}
 use Rattle.table_store.specs.declared.fields.FieldList.TheInside.{Inside}
 
-abbrev pub fields_in_order : Inside → Fields
-fields_in_order a = cut_from 0 a.ends.items a.bytes.items
+abbrev pub fields_view : Inside → Fields
+fields_view a = cut_from 0 a.ends.items a.bytes.items
 
 -- the ends rise, and the last of them is that of the bytes
 pub record IsPacked (a : Inside) : Type 0 where

@@ -5,8 +5,8 @@ use Rattle.table_store.specs.StoredTables.{cut_rows}
 use Rattle.table_store.specs.Values.{lists_of}
 use Rattle.table_store.specs.declared.plain_table.PlainTable.TheInside.{Inside}
 
-abbrev pub table_shown : Inside → Table
-table_shown t = record {
+abbrev pub table_view : Inside → Table
+table_view t = record {
   names = lists_of t.names.items;
   rows = cut_rows (length t.names.items) t.count t.fields;
 }

@@ -10,8 +10,8 @@ cut_rows width zero xs = []
 cut_rows width (suc count) xs = take width xs ∷ cut_rows width count (drop width xs)
 
 -- the table that a stored one shows
-abbrev pub shown : StoredTable → Table
-shown s = record {
+abbrev pub stored_view : StoredTable → Table
+stored_view s = record {
   names = lists_of s.names.items;
   rows = cut_rows (length s.names.items) s.rows.count s.rows.fields;
 }

@@ -2,7 +2,7 @@
 use Rattle.std.specs.Prelude.{◌≡◌, ℕ, ◌≤◌, List, [], ◌∷◌, map, length, None}
 use Rattle.std.specs.List.{AllByRecursion}
 use Rattle.anyk_model.specs.Table.{Table, flaw_of}
-use Rattle.table_store.specs.StoredTables.{IsStored, shown}
+use Rattle.table_store.specs.StoredTables.{IsStored, stored_view}
 use Rattle.table_store.specs.Values.{with_tables}
 use Rattle.table_store.specs.declared.stored.StoredTable.{StoredTable}
 use Rattle.table_store.specs.declared.tables.Tables.TheInside.{Inside}
@@ -12,19 +12,19 @@ abbrev pub IsSound : Table → Type 0
 IsSound table = flaw_of (table.names ∷ table.rows) ≡ None
 
 -- the tables that stored ones show
-abbrev pub all_shown : List StoredTable → List Table
-all_shown stored = map shown stored
+abbrev pub stored_views : List StoredTable → List Table
+stored_views stored = map stored_view stored
 
 -- the tables are whole, the texts are those of the tables, and no table has a flaw
 pub record KeepsTables (texts : List (List ℕ)) (stored : List StoredTable) : Type 0 where
   pub whole : AllByRecursion (IsStored texts) stored
-  pub known : texts ≡ with_tables [] (all_shown stored)
-  pub sound : AllByRecursion IsSound (all_shown stored)
+  pub known : texts ≡ with_tables [] (stored_views stored)
+  pub sound : AllByRecursion IsSound (stored_views stored)
   pub few : length stored ≤ 16
 
 -- the tables, in the order in which they were read
-abbrev pub tables_of : Inside → List Table
-tables_of a = all_shown a.tables.items
+abbrev pub tables_view : Inside → List Table
+tables_view a = stored_views a.tables.items
 
 abbrev pub IsKept : Inside → Type 0
 IsKept a = KeepsTables a.texts a.tables.items

@@ -3,5 +3,5 @@ use Rattle.std.specs.Prelude.{ℕ, List}
 use Rattle.table_store.specs.declared.texts.Texts.TheInside.{Inside}
 
 -- in the order of their numbers
-abbrev pub texts_of : Inside → List (List ℕ)
-texts_of a = a.set.keys
+abbrev pub texts_view : Inside → List (List ℕ)
+texts_view a = a.set.keys

@@ -22,11 +22,11 @@ pub(crate) struct FieldList {
 
 impl Model for FieldList {
     ghost use Rattle.anyk_model.specs.Table.{Fields};
-    ghost use Rattle.table_store.specs.Fields.{IsPacked, fields_in_order};
+    ghost use Rattle.table_store.specs.Fields.{IsPacked, fields_view};
 
     ghost Value = { Fields };
 
-    ghost view = { fields_in_order };
+    ghost view = { fields_view };
 
     ghost invariant = { IsPacked };
 }

@@ -3,7 +3,7 @@ ghost use Rattle.std.specs.Prelude.{◌≡◌, ◌<◌, ◌∷◌, [], IfOk, OnE
 ghost use Rattle.csv.specs.Records.{fields_of};
 ghost use Rattle.anyk_model.specs.Table.{table_of};
 ghost use Rattle.table_store.specs.PlainTables.{with_row};
-ghost use Rattle.table_store.specs.StoredTables.{IsStored, shown};
+ghost use Rattle.table_store.specs.StoredTables.{IsStored, stored_view};
 ghost use Rattle.table_store.specs.Values.{Extends, lists_of, with_rows};
 
 use crate::fields::FieldList;
@@ -24,11 +24,11 @@ pub struct PlainTable {
 
 impl Model for PlainTable {
     ghost use Rattle.anyk_model.specs.Table.{Table};
-    ghost use Rattle.table_store.specs.PlainTables.{IsWhole, table_shown};
+    ghost use Rattle.table_store.specs.PlainTables.{IsWhole, table_view};
 
     ghost Value = { Table };
 
-    ghost view = { table_shown };
+    ghost view = { table_view };
 
     ghost invariant = { IsWhole };
 }
@@ -60,7 +60,7 @@ impl PlainTable {
     /// The table as it is stored, with the numbers of its fields. Its new texts are added after the others, and some of
     /// them may be if memory is refused.
     pub(crate) fn store(self, texts: &mut Texts) -> Result<StoredTable, NoMemory>
-        ensures shown { IfOk result (λ t. shown t ≡ self) }
+        ensures shown { IfOk result (λ t. stored_view t ≡ self) }
         ensures stored { IfOk result (IsStored texts.new) }
         ensures texts { OnOk result (texts.new ≡ with_rows texts.old self.rows) }
         ensures err { OnErr result (Extends texts.old texts.new) }

@@ -29,9 +29,9 @@ impl Model for Tables {
 
     ghost Value = { List Table };
 
-    ghost use Rattle.table_store.specs.Tables.{IsKept, tables_of};
+    ghost use Rattle.table_store.specs.Tables.{IsKept, tables_view};
 
-    ghost view = { tables_of };
+    ghost view = { tables_view };
 
     ghost invariant = { IsKept };
 }

@@ -20,11 +20,11 @@ pub(crate) struct Texts {
 
 impl Model for Texts {
     ghost use Rattle.std.specs.Prelude.{List, ℕ};
-    ghost use Rattle.table_store.specs.Texts.{texts_of};
+    ghost use Rattle.table_store.specs.Texts.{texts_view};
 
     ghost Value = { List (List ℕ) };
 
-    ghost view = { texts_of };
+    ghost view = { texts_view };
 }
 
 impl Texts {

@@ -16,7 +16,7 @@ use Rattle.union_list.specs.TaggedRows.{Tagged, branch_at}
 use Rattle.union_list.specs.Union.{union_of}
 use Rattle.union_list.specs.UnionOutput.{union_output_of}
 use Rattle.bound_query.specs.WeighedQuery.{BoundQuery}
-use Rattle.input_load.specs.Input.{InputData, loaded_of}
+use Rattle.input_load.specs.Input.{InputView, loaded_of}
 use Rattle.plan_model.specs.Plans.{ArePrepared, preparation_of}
 use Rattle.verdict.specs.Bound.{IsBounded, IsPaced, IsPrompt, IsWithin, cost_of}
 use Rattle.verdict.specs.AcceptedInput.{Found, found_of, is_union, queries_in, query_of, structure_of}
@@ -111,20 +111,20 @@ chosen : {A : Type 0} (b : Bool) (x y : A) → b ≡ true → (if b then x else 
 chosen true x y e = refl
 chosen false x y e = absurd (false≢true e)
 
-are_union : (input : InputData) (shapes : List Shape) → 1 < length input.queries
+are_union : (input : InputView) (shapes : List Shape) → 1 < length input.queries
     → is_union (found_of (loaded_of input) shapes) ≡ true
 are_union input shapes more =
     let count = length-map input.queries (λ (q : BoundQuery). q.query) in
     lt-ltb 1 (length (queries_in input.queries)) (omega (arith, count, more))
 
-pub several_output : (words : Words) (input : InputData) (shapes : List Shape) → 1 < length input.queries
+pub several_output : (words : Words) (input : InputView) (shapes : List Shape) → 1 < length input.queries
     → answers_text words (found_of (loaded_of input) shapes)
     ≡ union_output_of (queries_in input.queries) input.tables (style_of words)
     (cut (branch_at (queries_in input.queries) 0).limit (union_of (queries_in input.queries) input.tables))
 several_output words input shapes more =
     chosen (is_union (found_of (loaded_of input) shapes)) _ _ (are_union input shapes more)
 
-pub several_within : (words : Words) (input : InputData) (shapes : List Shape) (before now : ℕ)
+pub several_within : (words : Words) (input : InputView) (shapes : List Shape) (before now : ℕ)
     → 1 < length input.queries
     → now ≤ before + union_cost input.tables (tagged_of (found_of (loaded_of input) shapes)) 0
     (queries_in input.queries) shapes
@@ -133,7 +133,7 @@ several_within words input shapes before now more h =
     subst (λ (most : ℕ). now ≤ before + most)
     (sym (chosen (is_union (found_of (loaded_of input) shapes)) _ _ (are_union input shapes more))) h
 
-pub several_paced : (words : Words) (input : InputData) (shapes : List Shape) (old new : Option (List ℕ))
+pub several_paced : (words : Words) (input : InputView) (shapes : List Shape) (old new : Option (List ℕ))
     (before now : ℕ) → 1 < length input.queries
     → ((start part : List ℕ) → old ≡ Some start → new ≡ Some (start ++ part) → now ≤ before + union_cost input.tables
     (take (union_records (queries_in input.queries) input.tables (tagged_of (found_of (loaded_of input) shapes))

@@ -1,7 +1,7 @@
 //! The style of the records that a command writes.
 ghost use Rattle.std.specs.Prelude.{◌≡◌};
-ghost use Rattle.answer_print.specs.StyleView.{style_shown};
-ghost use Rattle.cmd_words.specs.ArgumentMeaning.{seen_words};
+ghost use Rattle.answer_print.specs.StyleView.{style_view};
+ghost use Rattle.cmd_words.specs.ArgumentMeaning.{words_view};
 ghost use Rattle.verdict.specs.Output.{style_of};
 ghost use Rattle.task_plan.specs.Tasks.{words_of};
 
@@ -10,7 +10,7 @@ use cmd_words::Words;
 
 /// The style that the words ask for, without the name of a cursor.
 pub(crate) fn style_in(words: &Words) -> Style<'static>
-    ensures { style_shown result ≡ style_of (words_of (seen_words words.now)) }
+    ensures { style_view result ≡ style_of (words_of (words_view words.now)) }
 {
     Style {
         ranks: words.ranks,

@@ -1,14 +1,14 @@
 -- An input, as contracts see it, from its parts.
-use Rattle.proof_text.specs.ProofView.{seen_proof}
-use Rattle.input_load.specs.Input.{InputData}
+use Rattle.proof_text.specs.ProofView.{proof_view}
+use Rattle.input_load.specs.Input.{InputView}
 use Rattle.input_load.specs.declared.binding.Input.TheInside.{Inside}
 
-abbrev pub input_shown : Inside → InputData
-input_shown input =
+abbrev pub input_view : Inside → InputView
+input_view input =
     record {
       queries = input.queries.items;
       tables = input.tables;
       best = input.best;
       steps = input.script.items;
-      proof = seen_proof input.proof;
+      proof = proof_view input.proof;
     }

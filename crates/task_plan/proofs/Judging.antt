@@ -9,7 +9,7 @@ use Rattle.outer_io.specs.Files.{Files}
 use Rattle.bound_query.specs.WeighedQuery.{BoundQuery}
 use Rattle.query_shape.specs.Shape.{Shape}
 use Rattle.union_list.specs.TaggedRows.{branch_at}
-use Rattle.input_load.specs.Input.{InputData, loaded_of}
+use Rattle.input_load.specs.Input.{InputView, loaded_of}
 use Rattle.input_load.specs.Turns.{IsTurn}
 use Rattle.plan_model.specs.Plans.{ArePrepared, preparation_of}
 use Rattle.refusal_lines.specs.Reason.{Reason}
@@ -103,10 +103,10 @@ one_prepared (query ∷ []) tables before now one h =
     let sum = sum_by-cons (preparation_of tables) query [] in omega (arith, h, sum)
 one_prepared (query ∷ other ∷ queries) tables before now one h = absurd (omega (arith, one))
 
-count_queries : (input : InputData) → length input.queries ≡ 1 → length (queries_in input.queries) ≡ 1
+count_queries : (input : InputView) → length input.queries ≡ 1 → length (queries_in input.queries) ≡ 1
 count_queries input one = length-map input.queries (λ (q : BoundQuery). q.query) ∙ one
 
-input_prepared : (command : Command) (input : InputData) (shapes : List Shape) (before now : ℕ) → HasOne command input
+input_prepared : (command : Command) (input : InputView) (shapes : List Shape) (before now : ℕ) → HasOne command input
     → ArePrepared (queries_in input.queries) input.tables before now
     → IsEarlyFor command (found_of (loaded_of input) shapes) before now
 input_prepared (run words) input shapes before now one h = h
@@ -136,7 +136,7 @@ verdict_structured (prove words) files found h = h
 verdict_structured (verify proof words) files found (followed {a = other} h (followed valid same)) =
     subst (λ (f : Found). IsStructured (built (verify proof words)) files (Ok f)) (sym (same_found same)) h
 
-accepted_prepared : (command : Command) (files : Files) (input : InputData) (before now : ℕ)
+accepted_prepared : (command : Command) (files : Files) (input : InputView) (before now : ℕ)
     → IsLoaded (built command) files (Ok (loaded_of input))
     → HasOne command input → ArePrepared (queries_in input.queries) input.tables before now
     → (found : Found) → IsStructured (built command) files (Ok found) → IsEarlyFor command found before now
@@ -148,7 +148,7 @@ accepted_prepared command files input before now h one prepared found
     subst (λ (f : Found). IsEarlyFor command f before now) whole
     (input_prepared command input shapes before now one prepared)
 
-pub early_prepared : (command : Command) (old new : Shelved) (input : InputData) (before now : ℕ)
+pub early_prepared : (command : Command) (old new : Shelved) (input : InputView) (before now : ℕ)
     → IsLooked command old new (Ok (loaded_of input))
     → HasOne command input → ArePrepared (queries_in input.queries) input.tables before now
     → IsEarlyWithin command (known_to (built command) old.files) before now
@@ -162,7 +162,7 @@ early_prepared command old new input before now h one prepared =
         accepted_prepared command files input before now loads one prepared found (verdict_structured command files found verdict)
 
 -- what is known of the item whose rows are asked for
-pub unnamed_of : (command : Command) (input : InputData) → HasOne command input → IsUnnamed command input.best
+pub unnamed_of : (command : Command) (input : InputView) → HasOne command input → IsUnnamed command input.best
 unnamed_of (run words) input one = tt
 unnamed_of (plan words) input one = tt
 unnamed_of (session script words) input one = tt

@@ -11,7 +11,7 @@ use Rattle.std.proofs.Math.Seq.{take-length}
 use Rattle.anyk_model.specs.Query.{Query}
 use Rattle.anyk_model.specs.Table.{Table}
 use Rattle.hyper_graph.specs.Items.{items_of}
-use Rattle.plan_model.specs.Plan.{IsPlanOf, PlanData, shape_of}
+use Rattle.plan_model.specs.Plan.{IsPlanOf, PlanView, shape_of}
 use Rattle.plan_build.specs.Faults.{TellsFlaw}
 use Rattle.plan_build.specs.RankedPlan.{IsRankedPlan, fixed_key, key_of_packed}
 use Rattle.plan_build.specs.declared.fault.PlanFault.{PlanFault}
@@ -30,7 +30,7 @@ use Rattle.session_script.specs.declared.step.Step.{Step}
 use Rattle.step_bounds.specs.RunBounds.{IsPrepared}
 use Rattle.tdp_model.specs.KeyTuple.{KeyOf}
 use Rattle.union_list.specs.TaggedRows.{HaveKeys}
-use Rattle.input_load.specs.Input.{InputData, loaded_of}
+use Rattle.input_load.specs.Input.{InputView, loaded_of}
 use Rattle.verdict.specs.Faults.{of_shape}
 use Rattle.verdict.specs.AcceptedInput.{found_of, queries_in}
 use Rattle.verdict.specs.Loading.{are_several}
@@ -40,19 +40,19 @@ use Rattle.verdict.specs.Verdict.{AreStructures, IsFlawed, IsShaped, IsStructure
 use Rattle.verdict.proofs.Staging.{pure_refused}
 use Rattle.verdict.proofs.Structure.{shapes_found, structures_refused}
 use Rattle.task_plan.specs.Plans.{IsOnePlanOf, found_by, plan_reason, shapes_of}
-use Rattle.task_plan.specs.Plans.{shown_shape}
+use Rattle.task_plan.specs.Plans.{shape_result_view}
 
 -- # One query
 
 plan_structured : {R : Type 0} (d : ℕ) (key : R → KeyOf d 16) (query : BoundQuery) (tables : List Table)
-    (best : Option ℕ) (made : PlanData R)
+    (best : Option ℕ) (made : PlanView R)
     → IsPlanOf d key query tables best made → IsShape query.query tables (Ok (shape_of made))
 plan_structured d key query tables best made is =
     plan_shape d key query tables made (whole_of d key query tables best made is)
 
 pub planned_shown : (query : BoundQuery) (tables : List Table) (best : Option ℕ) (made : RankedPlan)
     → IsRankedPlan query tables best made
-    → Pure (IsStructure None tables query.query) (shown_shape (Ok made))
+    → Pure (IsStructure None tables query.query) (shape_result_view (Ok made))
 planned_shown query tables best (Packed made) is = plan_structured 1 key_of_packed query tables best made is
 planned_shown query tables best (MiddleSum made) is = plan_structured 1 (fixed_key 1 8) query tables best made is
 planned_shown query tables best (Sum made) is = plan_structured 1 (fixed_key 1 16) query tables best made is
@@ -70,10 +70,10 @@ flawed_shown query tables (fault.TooManyRows most) tells =
 -- # Several queries
 
 module _ {R : Type 0} (d : ℕ) (key : R → KeyOf d 16) (tables : List Table) where
-  abbrev IsPlanned : BoundQuery → PlanData R → Type 0
+  abbrev IsPlanned : BoundQuery → PlanView R → Type 0
   IsPlanned query plan = IsPlanOf d key query tables None plan
 
-  pub plans_shaped : (queries : List BoundQuery) (plans : List (PlanData R)) → HavePlans d key tables queries plans
+  pub plans_shaped : (queries : List BoundQuery) (plans : List (PlanView R)) → HavePlans d key tables queries plans
       → HaveShapes tables (queries_in queries) (shapes_of plans)
   plans_shaped [] [] h = tt
   plans_shaped [] (plan ∷ plans) h = absurd h
@@ -81,7 +81,7 @@ module _ {R : Type 0} (d : ℕ) (key : R → KeyOf d 16) (tables : List Table) w
   plans_shaped (query ∷ queries) (plan ∷ plans) h =
       (plan_structured d key query tables None plan h.0, plans_shaped queries plans h.1)
 
-  refused_list : (before : List BoundQuery) (query : BoundQuery) (later : List BoundQuery) (plans : List (PlanData R))
+  refused_list : (before : List BoundQuery) (query : BoundQuery) (later : List BoundQuery) (plans : List (PlanView R))
       (place : ℕ) (flaw : Flaw)
       → HavePlans d key tables before plans → place ≡ 1 + length before → IsShape query.query tables (Err flaw)
       → AreStructures true 1 tables (queries_in (before ++ query ∷ later)) (Err (of_shape (Some place) flaw))
@@ -95,7 +95,7 @@ module _ {R : Type 0} (d : ℕ) (key : R → KeyOf d 16) (tables : List Table) w
       (of_shape (Some place) flaw)
       (plans_shaped before plans h) (omega (arith, at, count)) flawed)
 
-  flawed_list : (before : List BoundQuery) (query : BoundQuery) (later : List BoundQuery) (plans : List (PlanData R))
+  flawed_list : (before : List BoundQuery) (query : BoundQuery) (later : List BoundQuery) (plans : List (PlanView R))
       (place : ℕ) (fault : PlanFault)
       → HavePlans d key tables before plans → place ≡ 1 + length before → TellsFlaw query.query tables fault
       → Pure (AreStructures true 1 tables (queries_in (before ++ query ∷ later))) (Err (plan_reason (Some place) fault))
@@ -106,7 +106,7 @@ module _ {R : Type 0} (d : ℕ) (key : R → KeyOf d 16) (tables : List Table) w
       refused_list before query later plans place too_many_rows h at tells.1
 
   -- the plans of the first queries, and the steps of their preparation
-  pub record HasPlanned (queries : List BoundQuery) (n : ℕ) (plans : List (PlanData R)) (before now : ℕ) : Type 0 where
+  pub record HasPlanned (queries : List BoundQuery) (n : ℕ) (plans : List (PlanView R)) (before now : ℕ) : Type 0 where
     pub made : HavePlans d key tables (take n queries) plans
     pub count : length plans ≡ n
     pub cost : now ≤ before + sum_by (λ (q : BoundQuery). preparation_of tables q.query) (take n queries)
@@ -114,8 +114,8 @@ module _ {R : Type 0} (d : ℕ) (key : R → KeyOf d 16) (tables : List Table) w
   pub none_planned : (queries : List BoundQuery) (before : ℕ) → HasPlanned queries 0 [] before before
   none_planned queries before = record { made = tt; count = refl; cost = omega arith }
 
-  pub planned_more : (queries : List BoundQuery) (n : ℕ) (plans : List (PlanData R)) (before now new : ℕ)
-      (query : BoundQuery) (plan : PlanData R)
+  pub planned_more : (queries : List BoundQuery) (n : ℕ) (plans : List (PlanView R)) (before now new : ℕ)
+      (query : BoundQuery) (plan : PlanView R)
       → HasPlanned queries n plans before now → n < length queries → query ≡ get_or queries n query
       → IsPlanOf d key query tables None plan → IsPrepared query.query tables now new
       → HasPlanned queries (n + 1) (plans ++ plan ∷ []) before new
@@ -142,14 +142,14 @@ module _ {R : Type 0} (d : ℕ) (key : R → KeyOf d 16) (tables : List Table) w
       let right = sum_by-cons (preparation_of tables) query.query (queries_in queries) in
       omega (arith, rest, left, right)
 
-  pub all_planned : (queries : List BoundQuery) (n : ℕ) (plans : List (PlanData R)) (before now : ℕ)
+  pub all_planned : (queries : List BoundQuery) (n : ℕ) (plans : List (PlanView R)) (before now : ℕ)
       → HasPlanned queries n plans before now → n ≡ length queries
       → HavePlans d key tables queries plans
   all_planned queries n plans before now was at =
       subst (λ (qs : List BoundQuery). HavePlans d key tables qs plans)
       (ap (λ (k : ℕ). take k queries) at ∙ take-length queries) was.made
 
-  pub all_prepared : (queries : List BoundQuery) (n : ℕ) (plans : List (PlanData R)) (before now : ℕ)
+  pub all_prepared : (queries : List BoundQuery) (n : ℕ) (plans : List (PlanView R)) (before now : ℕ)
       → HasPlanned queries n plans before now → n ≡ length queries
       → ArePrepared (queries_in queries) tables before now
   all_prepared queries n plans before now was at =
@@ -160,7 +160,7 @@ module _ {R : Type 0} (d : ℕ) (key : R → KeyOf d 16) (tables : List Table) w
       omega (arith, whole, sum, spent)
 
   -- after one more query
-  pub some_prepared : (queries : List BoundQuery) (n : ℕ) (plans : List (PlanData R)) (before now new : ℕ)
+  pub some_prepared : (queries : List BoundQuery) (n : ℕ) (plans : List (PlanView R)) (before now new : ℕ)
       (query : BoundQuery)
       → HasPlanned queries n plans before now → n < length queries → query ≡ get_or queries n query
       → IsPrepared query.query tables now new
@@ -172,7 +172,7 @@ module _ {R : Type 0} (d : ℕ) (key : R → KeyOf d 16) (tables : List Table) w
       let spent = was.cost in
       omega (arith, more, own, sum, spent, cost)
 
-  pub next_flawed : (queries : List BoundQuery) (n : ℕ) (plans : List (PlanData R)) (before now place : ℕ)
+  pub next_flawed : (queries : List BoundQuery) (n : ℕ) (plans : List (PlanView R)) (before now place : ℕ)
       (query : BoundQuery) (fault : PlanFault)
       → HasPlanned queries n plans before now → n < length queries → query ≡ get_or queries n query → place ≡ n + 1
       → TellsFlaw query.query tables fault
@@ -196,14 +196,14 @@ only_one [] x one at = absurd (omega (arith, one))
 only_one (y ∷ []) x one at = ap (λ z. z ∷ []) (sym at)
 only_one (y ∷ other ∷ ys) x one at = absurd (omega (arith, one))
 
-pub one_found : (input : InputData) (query : BoundQuery) (shape : Shape) → input.queries ≡ query ∷ []
+pub one_found : (input : InputView) (query : BoundQuery) (shape : Shape) → input.queries ≡ query ∷ []
     → IsShape query.query input.tables (Ok shape)
     → IsShaped (loaded_of input) (Ok (found_of (loaded_of input) (shape ∷ [])))
 one_found input query shape only is =
     shapes_found (loaded_of input) (shape ∷ [])
     (subst (λ (qs : List BoundQuery). HaveShapes input.tables (queries_in qs) (shape ∷ [])) (sym only) (is, tt))
 
-pub one_refused : (input : InputData) (query : BoundQuery) (refusal : Reason) → input.queries ≡ query ∷ []
+pub one_refused : (input : InputView) (query : BoundQuery) (refusal : Reason) → input.queries ≡ query ∷ []
     → Pure (IsStructure None input.tables query.query) (Err refusal) → Pure (IsShaped (loaded_of input)) (Err refusal)
 one_refused input query refusal only h =
     let loaded = λ (qs : List BoundQuery). loaded_of (record input { queries = qs }) in
@@ -213,13 +213,13 @@ one_refused input query refusal only h =
     pure_refused (AreStructures false 1 input.tables (query.query ∷ [])) _ refusal first in
     subst (λ (qs : List BoundQuery). Pure (IsShaped (loaded qs)) (Err refusal)) (sym only) whole
 
-pub several_found : {R : Type 0} (d : ℕ) (key : R → KeyOf d 16) (input : InputData) (plans : List (PlanData R))
+pub several_found : {R : Type 0} (d : ℕ) (key : R → KeyOf d 16) (input : InputView) (plans : List (PlanView R))
     → HavePlans d key input.tables input.queries plans
     → IsShaped (loaded_of input) (Ok (found_of (loaded_of input) (shapes_of plans)))
 several_found d key input plans have =
     shapes_found (loaded_of input) (shapes_of plans) (plans_shaped d key input.tables input.queries plans have)
 
-pub several_refused : (input : InputData) (refusal : Reason) → 1 < length input.queries
+pub several_refused : (input : InputView) (refusal : Reason) → 1 < length input.queries
     → Pure (AreStructures true 1 input.tables (queries_in input.queries)) (Err refusal)
     → Pure (IsShaped (loaded_of input)) (Err refusal)
 several_refused input refusal more h =
@@ -249,7 +249,7 @@ keys_within keys most (query ∷ queries) first have at some few =
     (each_within keys most (omega (arith, same, own, few)) (query ∷ queries) have)
 
 -- what is found of the one query
-pub one_printed : (input : InputData) (query : BoundQuery) (script : List Step) (shape : Shape)
+pub one_printed : (input : InputView) (query : BoundQuery) (script : List Step) (shape : Shape)
     → input.queries ≡ query ∷ [] → input.steps ≡ script
     → found_of (loaded_of input) (shape ∷ []) ≡ found_by query input.tables input.best script input.proof shape
 one_printed input query script shape only steps =
@@ -262,7 +262,7 @@ one_printed input query script shape only steps =
       proof = input.proof;
     })
 
-pub one_cost : (input : InputData) (query : BoundQuery) → input.queries ≡ query ∷ [] → (before now : ℕ)
+pub one_cost : (input : InputView) (query : BoundQuery) → input.queries ≡ query ∷ [] → (before now : ℕ)
     → ArePrepared (queries_in input.queries) input.tables before now → IsPrepared query.query input.tables before now
 one_cost input query only before now h =
     let own : ArePrepared (query.query ∷ []) input.tables before now =
@@ -271,7 +271,7 @@ one_cost input query only before now h =
     omega (arith, own, sum)
 
 -- the first query of an input that has one plan
-module _ {R : Type 0} (d : ℕ) (key : R → KeyOf d 16) (input : InputData) (made : PlanData R) (query : BoundQuery)
+module _ {R : Type 0} (d : ℕ) (key : R → KeyOf d 16) (input : InputView) (made : PlanView R) (query : BoundQuery)
     (is : IsOnePlanOf d key input.queries input.tables input.best made) (first : query ≡ get_or input.queries 0 query)
   where
     first_same : query ≡ is.query

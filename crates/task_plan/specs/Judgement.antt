@@ -1,6 +1,6 @@
 -- What reading the input of a command and planning its query give.
 use Rattle.std.specs.Prelude.{◌≡◌, ℕ, Bool, List, [], None, Option, Result, length}
-use Rattle.input_load.specs.Input.{InputData}
+use Rattle.input_load.specs.Input.{InputView}
 use Rattle.input_load.specs.Turns.{IsTurn}
 use Rattle.refusal_lines.specs.Reason.{Reason}
 use Rattle.verdict.specs.AcceptedInput.{Found}
@@ -38,7 +38,7 @@ IsLooked (load number rows) old new result =
     Pure (IsLoadedOn (sought_by (load number rows)) (made_files number rows)) result × (new ≡ old)
 
 -- There is one query, unless the command is `run`. `prove` and `verify` have no item whose rows are asked for.
-abbrev pub HasOne : Command → InputData → Type 0
+abbrev pub HasOne : Command → InputView → Type 0
 HasOne (run words) input = Unit {0}
 HasOne (plan words) input = length input.queries ≡ 1
 HasOne (session script words) input = length input.queries ≡ 1

@@ -5,7 +5,7 @@ use Rattle.std.specs.Global.{Global}
 use Rattle.anyk_model.specs.Table.{Table}
 use Rattle.hyper_graph.specs.Items.{items_of}
 use Rattle.outer_io.specs.Files.{Files}
-use Rattle.plan_model.specs.Plan.{IsPlanOf, PlanData, shape_of}
+use Rattle.plan_model.specs.Plan.{IsPlanOf, PlanView, shape_of}
 use Rattle.plan_model.specs.Plans.{ArePrepared, HavePlans}
 use Rattle.plan_build.specs.RankedPlan.{fixed_key, key_of_packed}
 use Rattle.plan_build.specs.declared.fault.PlanFault.{PlanFault}
@@ -22,7 +22,7 @@ use Rattle.refusal_lines.specs.Reason as reason
 use Rattle.refusal_lines.specs.Reason.{Reason}
 use Rattle.refusal_lines.specs.RefusalReasons.{reason_of}
 use Rattle.step_bounds.specs.RunBounds.{IsPrepared}
-use Rattle.input_load.specs.Input.{InputData, loaded_of}
+use Rattle.input_load.specs.Input.{InputView, loaded_of}
 use Rattle.verdict.specs.AcceptedInput.{Found, found_of, query_of}
 use Rattle.verdict.specs.Loading.{Loaded}
 use Rattle.verdict.specs.Verdict.{IsVerdict}
@@ -42,7 +42,7 @@ shape_in (SmallLex made) = shape_of made
 shape_in (Lex made) = shape_of made
 
 -- that of each plan
-abbrev pub shapes_of : {R : Type 0} → List (PlanData R) → List Shape
+abbrev pub shapes_of : {R : Type 0} → List (PlanView R) → List Shape
 shapes_of plans = map shape_of plans
 
 abbrev pub shapes_in : Plans → List Shape
@@ -50,18 +50,18 @@ shapes_in (One made) = shape_in made ∷ []
 shapes_in (Sums plans) = shapes_of plans.items
 shapes_in (Lexes plans) = shapes_of plans.items
 
-abbrev pub shown_shape : Result RankedPlan Refusal → Result Shape Reason
-shown_shape (Ok made) = Ok (shape_in made)
-shown_shape (Err refusal) = Err (reason_of refusal)
+abbrev pub shape_result_view : Result RankedPlan Refusal → Result Shape Reason
+shape_result_view (Ok made) = Ok (shape_in made)
+shape_result_view (Err refusal) = Err (reason_of refusal)
 
-abbrev pub shown_shapes : {R : Type 0} → Result (Vec (PlanData R) Global) Refusal
+abbrev pub shapes_result_view : {R : Type 0} → Result (Vec (PlanView R) Global) Refusal
     → Result (List Shape) Reason
-shown_shapes (Ok plans) = Ok (shapes_of plans.items)
-shown_shapes (Err refusal) = Err (reason_of refusal)
+shapes_result_view (Ok plans) = Ok (shapes_of plans.items)
+shapes_result_view (Err refusal) = Err (reason_of refusal)
 
-abbrev pub shown_plans : Loaded → Result Plans Refusal → Result Found Reason
-shown_plans loaded (Ok plans) = Ok (found_of loaded (shapes_in plans))
-shown_plans loaded (Err refusal) = Err (reason_of refusal)
+abbrev pub plans_result_view : Loaded → Result Plans Refusal → Result Found Reason
+plans_result_view loaded (Ok plans) = Ok (found_of loaded (shapes_in plans))
+plans_result_view loaded (Err refusal) = Err (reason_of refusal)
 
 -- what is known of a query, its tables, the item whose rows are asked for, a script and a certificate,
 -- with the structure of the query
@@ -78,9 +78,9 @@ found_by query tables best steps proof shape = record {
 abbrev pub found_in : Planned → Found
 found_in planned = found_of (loaded_of planned.input) (shapes_in planned.plans)
 
-abbrev pub shown_planned : Result Planned Refusal → Result Found Reason
-shown_planned (Ok planned) = Ok (found_in planned)
-shown_planned (Err refusal) = Err (reason_of refusal)
+abbrev pub planned_result_view : Result Planned Refusal → Result Found Reason
+planned_result_view (Ok planned) = Ok (found_in planned)
+planned_result_view (Err refusal) = Err (reason_of refusal)
 
 -- the branch is told if there are several
 abbrev pub plan_reason : Option ℕ → PlanFault → Reason
@@ -92,7 +92,7 @@ plan_reason branch fault.NoMemory = reason.NoMemory
 
 -- the plan of the one query
 pub record IsOnePlanOf {R : Type 0} (d : ℕ) (key : R → KeyOf d 16) (queries : List BoundQuery)
-    (tables : List Table) (best : Option ℕ) (made : PlanData R)
+    (tables : List Table) (best : Option ℕ) (made : PlanView R)
     : Type 0 where
   pub query : BoundQuery
   pub only : queries ≡ query ∷ []
@@ -108,7 +108,7 @@ IsOnePlan queries tables best (Lex made) = IsOnePlanOf 8 (fixed_key 8 16) querie
 
 -- the plans of the queries of an input: of one query with the item that is named, and of several by
 -- one rank type
-abbrev pub ArePlans : InputData → Plans → Type 0
+abbrev pub ArePlans : InputView → Plans → Type 0
 ArePlans input (One made) = IsOnePlan input.queries input.tables input.best made
 ArePlans input (Sums plans) =
     (1 < length input.queries) × HavePlans 1 (fixed_key 1 16) input.tables input.queries plans.items

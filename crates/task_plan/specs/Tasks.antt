@@ -1,5 +1,5 @@
 -- The commands that plan their queries, as their verdicts name them.
-use Rattle.cmd_words.specs.ArgumentMeaning.{WordsSaid, seen_words}
+use Rattle.cmd_words.specs.ArgumentMeaning.{WordsSaid, words_view}
 use Rattle.std.specs.Prelude.{string_bytes}
 use Rattle.verdict.specs.Words.{Command, Words, run, plan, session, load, prove}
 use Rattle.task_plan.specs.declared.task.Task.{Task}
@@ -17,8 +17,8 @@ words_of said = record {
 
 -- a command that plans its queries
 abbrev pub command_of : Task → Command
-command_of (Run words) = run (words_of (seen_words words))
-command_of (Plan words) = plan (words_of (seen_words words))
-command_of (Session script words) = session (string_bytes script) (words_of (seen_words words))
+command_of (Run words) = run (words_of (words_view words))
+command_of (Plan words) = plan (words_of (words_view words))
+command_of (Session script words) = session (string_bytes script) (words_of (words_view words))
 command_of (Load engine made) = load made.number made.rows
-command_of (Prove words) = prove (words_of (seen_words words))
+command_of (Prove words) = prove (words_of (words_view words))

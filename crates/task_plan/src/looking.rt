@@ -1,9 +1,9 @@
 //! The input of a command.
 ghost use Rattle.std.specs.Prelude.{◌≡◌, None, false, IfOk, Option, length, option_map};
 ghost use Rattle.std.specs.String.{string_bytes};
-ghost use Rattle.cmd_words.specs.ArgumentMeaning.{seen_words};
-ghost use Rattle.input_load.specs.StageViews.{shown_input};
-ghost use Rattle.input_load.specs.Sought.{aside_shown};
+ghost use Rattle.cmd_words.specs.ArgumentMeaning.{words_view};
+ghost use Rattle.input_load.specs.StageViews.{input_result_view};
+ghost use Rattle.input_load.specs.Sought.{aside_view};
 ghost use Rattle.verdict.specs.StageResults.{shelved};
 ghost use Rattle.task_plan.specs.Tasks.{words_of};
 ghost use Rattle.task_plan.specs.Judgement.{HasOne, IsLooked, IsLookedUp, sought_in};
@@ -26,7 +26,7 @@ pub(crate) fn look_at<'a, F: Shelf>(
     keys: Keys,
 ) -> Result<Input, Refusal<'a>>
     ensures looked { IsLooked (command_of task.now)
-        (shelved F.Shelf shelf.old) (shelved F.Shelf shelf.new) (shown_input result) }
+        (shelved F.Shelf shelf.old) (shelved F.Shelf shelf.new) (input_result_view result) }
     ensures alone { IfOk result (HasOne (command_of task.now)) }
 {
     match task {
@@ -77,9 +77,9 @@ pub fn look_up<'a, F: Shelf>(
     shelf: &mut F,
     keys: Keys,
 ) -> Result<Input, Refusal<'a>>
-    ensures looked { IsLookedUp (sought_in (words_of (seen_words words.now)) several
-        (aside_shown aside.entry) (option_map (λ t. t.now) best_of.entry))
-        (shelved F.Shelf shelf.old) (shelved F.Shelf shelf.new) (shown_input result) }
+    ensures looked { IsLookedUp (sought_in (words_of (words_view words.now)) several
+        (aside_view aside.entry) (option_map (λ t. t.now) best_of.entry))
+        (shelved F.Shelf shelf.old) (shelved F.Shelf shelf.new) (input_result_view result) }
     ensures alone { several ≡ false → IfOk result (λ input. length input.queries ≡ 1) }
     ensures unnamed { best_of.entry ≡ None → IfOk result (λ input. input.best ≡ None) }
 {

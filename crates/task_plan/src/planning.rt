@@ -15,7 +15,7 @@ ghost use Rattle.verdict.specs.Verdict.{AreStructures, IsShaped, IsStructure};
 ghost use Rattle.verdict.specs.Words.{built};
 ghost use Rattle.task_plan.specs.Judgement.{HasOne, IsJudged};
 ghost use Rattle.task_plan.specs.Plans.{ArePlans, IsEarlyWithin, plan_reason};
-ghost use Rattle.task_plan.specs.Plans.{shown_plans, shown_planned, shown_shape, shown_shapes};
+ghost use Rattle.task_plan.specs.Plans.{plans_result_view, planned_result_view, shape_result_view, shapes_result_view};
 ghost use Rattle.task_plan.specs.Tasks.{command_of};
 
 use crate::looking::look_at;
@@ -62,7 +62,7 @@ pub fn plan_task<'a, F: Shelf, L: Ledger>(
 ) -> Result<Planned, Refusal<'a>>
     ensures judged { IsJudged (command_of task.now)
         (shelved F.Shelf shelf.old) (shelved F.Shelf shelf.new)
-        (shown_planned result) }
+        (planned_result_view result) }
     ensures plans { IfOk result (λ p. ArePlans p.input p.plans) }
     ensures alone { IfOk result (λ p. HasOne (command_of task.now) p.input) }
     ensures cost { IfOk result (λ p.
@@ -82,7 +82,7 @@ fn plans_of<'a, L: Ledger>(
     steps: &mut Steps<L>,
 ) -> Result<Plans, Refusal<'a>>
     ensures shaped { Pure (IsShaped (loaded_of input.now))
-        (shown_plans (loaded_of input.now) result) }
+        (plans_result_view (loaded_of input.now) result) }
     ensures plans { IfOk result (ArePlans input.now) }
     ensures cost { ArePrepared (queries_in input.now.queries) input.now.tables steps.old steps.new }
 {
@@ -113,7 +113,7 @@ fn plan_of<'a, L: Ledger>(
 ) -> Result<RankedPlan, Refusal<'a>>
     requires fits { Fits query.now tables.now }
     requires item { IfSome best (λ i. i < length query.now.query.items) }
-    ensures shaped { Pure (IsStructure None tables.now query.now.query) (shown_shape result) }
+    ensures shaped { Pure (IsStructure None tables.now query.now.query) (shape_result_view result) }
     ensures plan { IfOk result (IsRankedPlan query.now tables.now best) }
     ensures cost { IsPrepared query.now.query tables.now steps.old steps.new }
 {
@@ -138,7 +138,7 @@ fn plans_for<'a, R: Rank, L: Ledger>(
     requires slots { 16 ≤ R.ITEMS }
     requires limit { All (λ q. CapsBelow R.LIMIT q tables.now) queries.now }
     ensures shaped { let all = queries_in queries.now in
-        Pure (AreStructures true 1 tables.now all) (shown_shapes result) }
+        Pure (AreStructures true 1 tables.now all) (shapes_result_view result) }
     ensures plans { IfOk result (λ v. HavePlans R.KEYS R.key tables.now queries.now v.items) }
     ensures cost { ArePrepared (queries_in queries.now) tables.now steps.old steps.new }
 {

@@ -1,7 +1,7 @@
 //! The command `run`.
 ghost use Rattle.std.specs.Prelude.{ℕ};
 ghost use Rattle.anyk_model.specs.Output.{cut, output_of};
-ghost use Rattle.answer_print.specs.StyleView.{style_shown};
+ghost use Rattle.answer_print.specs.StyleView.{style_view};
 ghost use Rattle.best_list.specs.BestList.{list_of};
 ghost use Rattle.plan_model.specs.Plan.{IsPlanOf};
 ghost use Rattle.bound_query.specs.WeighedQuery.{Fits};
@@ -41,14 +41,14 @@ pub fn print_run<'a, R: Rank, S: Sink, L: Ledger>(
     requires fits { Fits query.now tables.now }
     requires plan { IsPlanOf R.KEYS R.key query.now tables.now best plan.now }
     ensures printed { Printed (state_of S.Sink out.old) (state_of S.Sink out.new)
-        (output_of query.now.query tables.now (style_shown style.now)
+        (output_of query.now.query tables.now (style_view style.now)
         (cut query.now.query.limit (list_of query.now.query tables.now best))) result }
     ensures bounded { (before : ℕ) → IsPrepared query.now.query tables.now before steps.old
         → KeepsBound query.now.query tables.now
         (list_of query.now.query tables.now best) before steps.new }
     ensures paced { (before : ℕ) → IsPrepared query.now.query tables.now before steps.old
         → KeepsPace query.now.query tables.now (list_of query.now.query tables.now best)
-        (style_shown style.now) (S.written out.old) (S.written out.new) before steps.new }
+        (style_view style.now) (S.written out.old) (S.written out.new) before steps.new }
 {
     let arena = Bump::new(alloc);
     let mut chosen = engine_over(alloc, engine, plan, best, &arena, steps)?;

@@ -1,7 +1,7 @@
 //! The command `session`.
 ghost use Rattle.std.specs.Prelude.{[], ℕ};
 ghost use Rattle.anyk_model.specs.Output.{cut};
-ghost use Rattle.answer_print.specs.StyleView.{style_shown};
+ghost use Rattle.answer_print.specs.StyleView.{style_view};
 ghost use Rattle.best_list.specs.BestList.{list_of};
 ghost use Rattle.plan_model.specs.Plan.{IsPlanOf};
 ghost use Rattle.bound_query.specs.WeighedQuery.{Fits};
@@ -48,7 +48,7 @@ pub fn print_script<'a, R: Rank, S: Sink, L: Ledger>(
     requires plan { IsPlanOf R.KEYS R.key query.now tables.now best plan.now }
     requires rules { KeepsRules [] script.now }
     ensures printed { Printed (state_of S.Sink out.old) (state_of S.Sink out.new)
-        (session_text query.now.query tables.now (style_shown style.now)
+        (session_text query.now.query tables.now (style_view style.now)
         (cut query.now.query.limit (list_of query.now.query tables.now best)) script.now) result }
     ensures bounded { (before : ℕ) → IsPrepared query.now.query tables.now before steps.old
         → KeepsSessionBound query.now.query tables.now

@@ -29,7 +29,7 @@ use Rattle.query_shape.proofs.OneShape.{one_tree}
 use Rattle.refusal_lines.specs.Reason as reason
 use Rattle.refusal_lines.specs.Reason.{Reason}
 use Rattle.session_script.specs.declared.step.Step.{Step}
-use Rattle.input_load.specs.Input.{InputData, loaded_of}
+use Rattle.input_load.specs.Input.{InputView, loaded_of}
 use Rattle.input_load.specs.Turns.{IsTurn}
 use Rattle.verdict.specs.Faults.{of_proof}
 use Rattle.verdict.specs.Output.{answers_text, style_of}
@@ -40,7 +40,7 @@ use Rattle.verdict.specs.Stages.{Then, followed, refused}
 use Rattle.verdict.specs.Verdict.{IsLoadedOn, IsShaped, IsStructure, IsVerdict, IsVerified}
 use Rattle.verdict.specs.Words.{Words, built, verify, sought_by}
 use Rattle.verdict.proofs.Staging.{found_within, pure_staged}
-use Rattle.task_verify.specs.Verifications.{HasAnswers, IsChecked, IsCheckedFor, IsVerifiedIn, shape_reason, shown_done}
+use Rattle.task_verify.specs.Verifications.{HasAnswers, IsChecked, IsCheckedFor, IsVerifiedIn, shape_reason, done_result_view}
 use Rattle.task_verify.specs.declared.verify.Checked.{Checked}
 use Rattle.task_plan.specs.Judgement.{IsJudgedOn, IsLookedUp}
 
@@ -180,7 +180,7 @@ module _ (query : Query) (tables : List Table) (join : JoinTree) (proof : Certif
 
 -- ---- an input of one query
 
-abbrev with_queries : InputData → List BoundQuery → Loaded
+abbrev with_queries : InputView → List BoundQuery → Loaded
 with_queries input queries = record {
   queries = queries_in queries;
   tables = input.tables;
@@ -189,8 +189,8 @@ with_queries input queries = record {
   proof = input.proof;
 }
 
-pub verified_in : {A : Type 0} (input : InputData) (query : BoundQuery) → input.queries ≡ query ∷ [] → (r : Result A Refusal)
-    → Pure (IsCheckedFor query.query input.tables input.proof) (shown_done r) → IsVerifiedIn (loaded_of input) r
+pub verified_in : {A : Type 0} (input : InputView) (query : BoundQuery) → input.queries ≡ query ∷ [] → (r : Result A Refusal)
+    → Pure (IsCheckedFor query.query input.tables input.proof) (done_result_view r) → IsVerifiedIn (loaded_of input) r
 verified_in {A} input query only (Ok a) h =
     subst (λ (qs : List BoundQuery). IsVerifiedIn {A = A} (with_queries input qs) (Ok a)) (sym only)
     (checked_found query.query input.tables input.best input.steps input.proof h)
@@ -206,7 +206,7 @@ combine_all query tables n [] sound = tt
 combine_all query tables n (a ∷ answers) sound =
     ((sound (take n a) (inl refl)).0, combine_all query tables n answers (λ rows m. sound rows (inr m)))
 
-pub answers_combine : (input : InputData) (answers : List (List ℕ)) (h : HasAnswers input answers)
+pub answers_combine : (input : InputView) (answers : List (List ℕ)) (h : HasAnswers input answers)
     → AllByRecursion (λ rows. IsCombination (row_counts h.query.query.items input.tables) (take (length h.query.query.items) rows)) answers
 answers_combine input answers h =
     let query = h.query.query in
@@ -215,7 +215,7 @@ answers_combine input answers h =
     (cut_member rows query.limit (ranking_of query input.tables) (subst (IsMember rows) h.listed m)))
 
 -- the text of these answers
-pub answers_shown : (words : Words) (input : InputData) (shape : Shape) (answers : List (List ℕ)) (h : HasAnswers input answers)
+pub answers_shown : (words : Words) (input : InputView) (shape : Shape) (answers : List (List ℕ)) (h : HasAnswers input answers)
     → output_of h.query.query input.tables (style_of words) (item_rows h.query.query answers)
     ≡ answers_text words (found_of (loaded_of input) (shape ∷ []))
 answers_shown words input shape answers h =
@@ -230,13 +230,13 @@ answers_shown words input shape answers h =
     ap (output_of h.query.query input.tables (style_of words)) h.listed
     ∙ sym (ap (text (h.query ∷ [])) h.unnamed) ∙ sym (ap (λ (qs : List BoundQuery). text qs input.best) h.only)
 
-pub looked_checked : (proof : List ℕ) (words : Words) (before after : Shelved) (input : InputData) (r : Result Checked Refusal)
+pub looked_checked : (proof : List ℕ) (words : Words) (before after : Shelved) (input : InputView) (r : Result Checked Refusal)
     → IsLookedUp (sought_by (verify proof words)) before after (Ok (loaded_of input))
     → IfOk r (λ checked. checked.input ≡ input) → IsVerifiedIn (loaded_of input) r
     → IsChecked (verify proof words) before after r
 looked_checked proof words before after input (Ok checked) looked same verified = (
   verified.0,
-  subst (λ (i : InputData). IsJudgedOn (verify proof words) before after (Ok (found_of (loaded_of i) (verified.0 ∷ [])))) (sym same)
+  subst (λ (i : InputView). IsJudgedOn (verify proof words) before after (Ok (found_of (loaded_of i) (verified.0 ∷ [])))) (sym same)
       (looked_verified proof words before after (loaded_of input) (Ok (found_of (loaded_of input) (verified.0 ∷ []))) looked verified.1),
 )
 looked_checked proof words before after input (Err refusal) looked same verified =

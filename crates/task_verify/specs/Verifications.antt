@@ -15,7 +15,7 @@ use Rattle.refusal_lines.specs.declared.refusal.Refusal.{Refusal}
 use Rattle.refusal_lines.specs.Reason as reason
 use Rattle.refusal_lines.specs.Reason.{Reason}
 use Rattle.refusal_lines.specs.RefusalReasons.{reason_of}
-use Rattle.input_load.specs.Input.{InputData, loaded_of}
+use Rattle.input_load.specs.Input.{InputView, loaded_of}
 use Rattle.verdict.specs.AcceptedInput.{found_of}
 use Rattle.verdict.specs.Loading.{Loaded}
 use Rattle.verdict.specs.StageResults.{Pure, Shelved}
@@ -26,9 +26,9 @@ use Rattle.task_plan.specs.Judgement.{IsJudgedOn}
 use Rattle.task_verify.specs.declared.verify.Checked.{Checked}
 
 -- a result without its value
-abbrev pub shown_done : {A : Type 0} → Result A Refusal → Result (Unit {0}) Reason
-shown_done (Ok a) = Ok tt
-shown_done (Err refusal) = Err (reason_of refusal)
+abbrev pub done_result_view : {A : Type 0} → Result A Refusal → Result (Unit {0}) Reason
+done_result_view (Ok a) = Ok tt
+done_result_view (Err refusal) = Err (reason_of refusal)
 
 -- why a query has no join tree
 abbrev pub shape_reason : ShapeFault → Reason
@@ -55,7 +55,7 @@ IsChecked command old new (Ok checked) =
 IsChecked command old new (Err refusal) = IsJudgedOn command old new (Err (reason_of refusal))
 
 -- the input has one query and no item whose rows are asked for, and these are its first answers
-pub record HasAnswers (input : InputData) (answers : List (List ℕ)) : Type 0 where
+pub record HasAnswers (input : InputView) (answers : List (List ℕ)) : Type 0 where
   pub query : BoundQuery
   pub only : input.queries ≡ query ∷ []
   pub unnamed : input.best ≡ None

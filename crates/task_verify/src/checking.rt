@@ -6,13 +6,13 @@ ghost use Rattle.anyk_model.specs.Table.{Table};
 ghost use Rattle.join_tree.specs.Rerooting.{IsTree};
 ghost use Rattle.node_build.specs.Nodes.{CapsBelow};
 ghost use Rattle.proof_check.specs.RowLists.{item_rows};
-ghost use Rattle.proof_text.specs.ProofView.{seen_proof};
+ghost use Rattle.proof_text.specs.ProofView.{proof_view};
 ghost use Rattle.bound_query.specs.WeighedQuery.{Fits};
 ghost use Rattle.query_shape.specs.JoinTreeView.{HasItems, HasStoredTree};
 ghost use Rattle.refusal_lines.specs.RefusalReasons.{reason_of};
 ghost use Rattle.verdict.specs.StageResults.{Pure};
 ghost use Rattle.verdict.specs.Verdict.{IsStructure};
-ghost use Rattle.task_verify.specs.Verifications.{IsCheckedFor, shape_reason, shown_done};
+ghost use Rattle.task_verify.specs.Verifications.{IsCheckedFor, shape_reason, done_result_view};
 
 use bound_query::Query;
 use input_load::proof_refusal;
@@ -39,8 +39,8 @@ pub(crate) fn check_proof<'a, L: Ledger>(
     steps: &mut Steps<L>,
 ) -> Result<Vec<[u32; 16]>, Refusal<'a>>
     requires fits { Fits query.now tables.now }
-    ensures checked { Pure (IsCheckedFor query.now.query tables.now (seen_proof proof.now))
-        (shown_done result) }
+    ensures checked { Pure (IsCheckedFor query.now.query tables.now (proof_view proof.now))
+        (done_result_view result) }
     ensures answers { IfOk result (λ found. item_rows query.now.query found.items
         ≡ cut query.now.query.limit (ranking_of query.now.query tables.now)) }
 {
@@ -99,8 +99,8 @@ fn listed_answers<'a, R: Rank, L: Ledger>(
     requires ordered { IsTree join.now.count join.now.atom join.now.parent }
     requires items { HasItems join.now.count join.now.atom (length query.now.query.items) }
     requires count { join.now.count ≡ length query.now.query.items }
-    ensures checked { Pure (IsCheckedFor query.now.query tables.now (seen_proof proof.now))
-        (shown_done result) }
+    ensures checked { Pure (IsCheckedFor query.now.query tables.now (proof_view proof.now))
+        (done_result_view result) }
     ensures answers { IfOk result (λ found. item_rows query.now.query found.items
         ≡ cut query.now.query.limit (ranking_of query.now.query tables.now)) }
 {

@@ -1,6 +1,6 @@
 //! The command `verify`.
 ghost use Rattle.std.specs.Prelude.{◌≡◌, ◌∷◌, [], IfErr, IfOk, None, OnOk, length};
-ghost use Rattle.cmd_words.specs.ArgumentMeaning.{seen_words};
+ghost use Rattle.cmd_words.specs.ArgumentMeaning.{words_view};
 ghost use Rattle.input_load.specs.Input.{loaded_of};
 ghost use Rattle.query_shape.specs.Shape.{Shape};
 ghost use Rattle.refusal_lines.specs.Printing.{Printed};
@@ -48,15 +48,15 @@ pub fn answer_verified<'a, F: Shelf, S: Sink, L: Ledger>(
     keys: Keys,
     steps: &mut Steps<L>,
 ) -> Result<(), Refusal<'a>>
-    ensures done { let command = verify proof.now (words_of (seen_words words.now)) in
+    ensures done { let command = verify proof.now (words_of (words_view words.now)) in
         OnOk result (IsComplete (built command) (F.files shelf.old)
         (seen_by F.Shelf S.Sink shelf.old out.old) (seen_by F.Shelf S.Sink shelf.new out.new)) }
-    ensures fits { let command = verify proof.now (words_of (seen_words words.now)) in
+    ensures fits { let command = verify proof.now (words_of (words_view words.now)) in
         IfErr result (λ refusal. IsReason (built command) (F.files shelf.old) (reason_of refusal)) }
     ensures caused { IfErr result (λ refusal. IsCaused
         (seen_by F.Shelf S.Sink shelf.old out.old)
         (seen_by F.Shelf S.Sink shelf.new out.new) (reason_of refusal)) }
-    ensures cut { let command = verify proof.now (words_of (seen_words words.now)) in
+    ensures cut { let command = verify proof.now (words_of (words_view words.now)) in
         IfErr result (λ refusal. IsCut (built command) (F.files shelf.old)
         (seen_by F.Shelf S.Sink shelf.old out.old)
         (seen_by F.Shelf S.Sink shelf.new out.new) (reason_of refusal)) }
@@ -77,7 +77,7 @@ fn print_checked<'a, S: Sink>(
 ) -> Result<(), Refusal<'a>>
     requires { HasAnswers input.now answers.now }
     ensures { (shape : Shape) → Printed (state_of S.Sink out.old) (state_of S.Sink out.new)
-        (answers_text (words_of (seen_words words.now))
+        (answers_text (words_of (words_view words.now))
         (found_of (loaded_of input.now) (shape ∷ []))) result }
 {
     let style = Style {
@@ -98,7 +98,7 @@ fn check_input<'a, F: Shelf, L: Ledger>(
     keys: Keys,
     steps: &mut Steps<L>,
 ) -> Result<Checked, Refusal<'a>>
-    ensures checked { IsChecked (verify proof.now (words_of (seen_words words.now)))
+    ensures checked { IsChecked (verify proof.now (words_of (words_view words.now)))
         (shelved F.Shelf shelf.old) (shelved F.Shelf shelf.new) result }
     ensures answers { IfOk result (λ checked. HasAnswers checked.input checked.answers.items) }
 {

@@ -10,5 +10,5 @@ pub mod RawReads
 pub mod RawRowLists
 pub mod RowKeys
 pub mod RowPlaces
-pub mod SeenFacts
+pub mod AnswerFacts
 pub mod TreeFacts

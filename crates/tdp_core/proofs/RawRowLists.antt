@@ -5,7 +5,7 @@ use Rattle.std.specs.List.{All}
 use Rattle.std.proofs.lemmas.List.{length-take-le, take-append-le, drop-append-le}
 use Rattle.std.proofs.lemmas.List.Elements.{All-head}
 use Rattle.tdp_core.specs.declared.parts.NodeRow.{NodeRow}
-use Rattle.tdp_core.specs.RawRows.{RawRowData, raw_rows, AreRawRows}
+use Rattle.tdp_core.specs.RawRows.{RawRowView, raw_rows, AreRawRows}
 use Rattle.tdp_core.proofs.RawReads.{field_read}
 
 module _ {R : Type 0} where
@@ -15,7 +15,7 @@ module _ {R : Type 0} where
   rows_length w (row ∷ rows) (own ∷ owns) named e = ap suc (rows_length w rows owns (drop w named) (omega (arith, e)))
 
   -- a row with its links
-  abbrev pub with_links : ℕ → List ℕ → List ℕ → ℕ → NodeRow R → RawRowData R
+  abbrev pub with_links : ℕ → List ℕ → List ℕ → ℕ → NodeRow R → RawRowView R
   with_links w owns named i x = record { row = x; own = get_or owns i 0; children = take w (drop (i * w) named) }
 
   pub rows_read : (w : ℕ) (rows : List (NodeRow R)) (owns named : List ℕ) (i : ℕ) (x : NodeRow R) → length owns ≡ length rows → i < length rows → x ≡ get_or rows i x
@@ -87,7 +87,7 @@ module _ {R : Type 0} where
         }
 
   module _ (w : ℕ) (rows : List (NodeRow R)) (owns named : List ℕ) (formed : AreRawRows w rows owns named) (i : ℕ) (inside : i < length rows) where
-    abbrev at_row : RawRowData R → Type 0
+    abbrev at_row : RawRowView R → Type 0
     at_row x = slice_get (raw_rows w rows owns named) i ≡ Some x
 
     -- the links that a row names

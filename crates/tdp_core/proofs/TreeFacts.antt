@@ -2,7 +2,7 @@
 use Rattle.std.proofs.Common.{◌≡◌, ◌≢◌, ℕ, zero, suc, ◌+◌, ◌-◌, ◌<◌, ◌≤◌, Bool, true, false, cond, nat_eq, List, [], ◌∷◌, ◌++◌, length, map, get_or, unsigned_abs, refl, sym, ap, subst, ◌∙◌, inl, inr, arith}
 use Rattle.std.proofs.lemmas.Bool.{cases_lt, cases_eq, eq-eqb, ne_eqb, cond-true, cond-false}
 use Rattle.std.proofs.lemmas.List.{length-map, get_or_past}
-use Rattle.tdp_model.specs.Laws.{TreeView}
+use Rattle.tdp_model.specs.Laws.{TieFreeTree}
 use Rattle.tdp_model.specs.KeyTuple.{KeyOf, key_below, key_add, key_none, slot_of}
 use Rattle.tdp_model.specs.KeyNumbers.{sum_of}
 use Rattle.tdp_model.specs.TreeProblem.{sum_from, bound_of, IsAbove, IsTree, IsTieFree, IsReached, RowHas, PartHas}
@@ -12,7 +12,7 @@ use Rattle.rank_key.specs.Keys.{KeyFits, CanSwap}
 use Rattle.tdp_model.specs.Remains.{AtMost}
 use Rattle.tdp_model.proofs.LeastKeys.{least_had, least_at_most}
 use Rattle.tdp_core.proofs.KeyRanges.{subtree_fits, part_fits, swap_fits}
-use Rattle.tdp_core.specs.TreeData.{NodeData, node_at, parent, item, cap, rows, number, child_place, group_count, members, group_named, group_number, group, rank, best}
+use Rattle.tdp_core.specs.TreeView.{NodeView, node_at, parent, item, cap, rows, number, child_place, group_count, members, group_named, group_number, group, rank, best}
 use Rattle.tdp_core.specs.Solutions.{IsLeastKey}
 use Rattle.tdp_core.specs.WellFormed.{IsFormed, RowFits, IsTieFreeTree}
 use Rattle.tdp_core.proofs.GroupMembers.{group_within, groups_within, member_below, members_distinct}
@@ -25,7 +25,7 @@ term_within f (suc n) q v a b = elim (cases_eq q v) [
   | inr d ↦ omega (arith, term_within f n (suc q) v (omega arith) (omega arith))
 ]
 
-module _ {R : Type 0} (d : ℕ) (key : R → KeyOf d 16) (t : List (NodeData R)) (formed : IsFormed d key t) where
+module _ {R : Type 0} (d : ℕ) (key : R → KeyOf d 16) (t : List (NodeView R)) (formed : IsFormed d key t) where
   pub rows_within : (v : ℕ) → v < length t → rows t v ≤ 4194304
   rows_within v l = omega (arith, term_within (rows t) (length t) 0 v (omega arith) (omega arith), formed.few_rows)
 
@@ -138,8 +138,8 @@ module _ {R : Type 0} (d : ℕ) (key : R → KeyOf d 16) (t : List (NodeData R))
       swap_fits d key (length t) (parent t) (item t) (cap t) (number t) (rank t d key) formed.shaped formed.held ranked_of (group t) (best t d key) (λ v r. r < rows t v) (tree_of live)
 
   -- the tree as the laws of ranked enumeration see it
-  abbrev pub tree_view : 0 < group_count t 0 → IsTieFreeTree t → TreeView d 16
-  tree_view live apart = record {
+  abbrev pub tie_free_tree : 0 < group_count t 0 → IsTieFreeTree t → TieFreeTree d 16
+  tie_free_tree live apart = record {
     nodes = length t;
     parent = parent t;
     rank = rank t d key;

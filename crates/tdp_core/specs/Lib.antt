@@ -1,10 +1,10 @@
 pub mod NamedRows
-pub mod RawData
+pub mod RawView
 pub mod RawRows
 pub mod RisingShares
 pub mod RowGroups
-pub mod SeenAnswers
+pub mod AnswerView
 pub mod Shares
 pub mod Solutions
-pub mod TreeData
+pub mod TreeView
 pub mod WellFormed

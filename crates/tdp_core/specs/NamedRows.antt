@@ -2,7 +2,7 @@
 use Rattle.std.specs.Prelude.{ℕ, zero, suc, List, [], ◌∷◌, drop, take}
 
 -- how many children there are, and for each row the group of each child
-pub record NamedData : Type 0 where
+pub record NamedView : Type 0 where
   pub width : ℕ
   pub rows : List (List ℕ)
 

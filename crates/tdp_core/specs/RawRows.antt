@@ -3,13 +3,13 @@ use Rattle.std.specs.Prelude.{◌≡◌, ℕ, ◌*◌, List, [], ◌∷◌, drop
 use Rattle.tdp_core.specs.declared.parts.NodeRow.{NodeRow}
 
 -- a row, its own link, and the link that it names for each child of its node
-pub record RawRowData (R : Type 0) : Type 0 where
+pub record RawRowView (R : Type 0) : Type 0 where
   pub row : NodeRow R
   pub own : ℕ
   pub children : List ℕ
 
 -- rows with their own links; each row names as many links as there are children, and these are one after another
-abbrev pub raw_rows : {R : Type 0} → ℕ → List (NodeRow R) → List ℕ → List ℕ → List (RawRowData R)
+abbrev pub raw_rows : {R : Type 0} → ℕ → List (NodeRow R) → List ℕ → List ℕ → List (RawRowView R)
 raw_rows width [] owns named = []
 raw_rows width (row ∷ rows) [] named = []
 raw_rows width (row ∷ rows)

@@ -1,10 +1,10 @@
 -- The most steps that one answer of a tree takes.
 use Rattle.std.specs.Prelude.{ℕ, ◌+◌, ◌*◌, cond, nat_lt, List, [], ◌∷◌, slice_index, length}
 use Rattle.rank_key.specs.Bits.{bit_length}
-use Rattle.tdp_core.specs.TreeData.{NodeData, group_count, row_count}
+use Rattle.tdp_core.specs.TreeView.{NodeView, group_count, row_count}
 
 -- what the bound depends on beside the number of calls: the number of nodes, of all rows, and of the root's groups
-abbrev pub size_of : {R : Type 0} → List (NodeData R) → List ℕ
+abbrev pub size_of : {R : Type 0} → List (NodeView R) → List ℕ
 size_of t = length t ∷ (row_count t ∷ (group_count t 0 ∷ []))
 
 -- The most steps of a call after `calls` calls over `nodes` nodes that have `rows` rows in all: 24 for each node and each binary

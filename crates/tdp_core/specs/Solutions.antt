@@ -5,8 +5,8 @@ use Rattle.tdp_model.specs.Below.{is_below}
 use Rattle.tdp_model.specs.KeyTuple.{KeyOf, key_add, key_none, key_below}
 use Rattle.tdp_model.specs.Remains.{AtMost}
 use Rattle.tdp_model.specs.TreeProblem.{sum_from, RowHas, SolutionHas}
-use Rattle.tdp_core.specs.RawData.{RawData, raw_len, raw_number, raw_rank, own_link, child_link, shape_parent, shape_child_place}
-use Rattle.tdp_core.specs.TreeData.{NodeData, parent, group, rank}
+use Rattle.tdp_core.specs.RawView.{RawView, raw_len, raw_number, raw_rank, own_link, child_link, shape_parent, shape_child_place}
+use Rattle.tdp_core.specs.TreeView.{NodeView, parent, group, rank}
 
 -- m nodes, and a relation: row i of node q is linked to row r of q's parent. At the root each row is linked to any
 -- number.
@@ -26,7 +26,7 @@ module _ (m : ℕ) (parent : ℕ → ℕ) (Linked : ℕ → ℕ → ℕ → Type
 
 -- # Raw trees
 
-module _ {R : Type 0} (t : RawData R) where
+module _ {R : Type 0} (t : RawView R) where
   -- the row's own link is the one that the parent's row names
   abbrev pub RawLinked : ℕ → ℕ → ℕ → Type 0
   RawLinked q r i =
@@ -53,7 +53,7 @@ module _ {R : Type 0} (t : RawData R) where
 
 -- # Trees
 
-module _ {R : Type 0} (t : List (NodeData R)) where
+module _ {R : Type 0} (t : List (NodeView R)) where
   -- the row is a member of the group that the parent's row names
   abbrev pub TreeLinked : ℕ → ℕ → ℕ → Type 0
   TreeLinked q r i = Contains (group t q r) i
@@ -67,19 +67,19 @@ module _ {R : Type 0} (t : List (NodeData R)) where
       (length t) 0
 
 -- k is the key of a subtree solution of row r of node v
-abbrev pub SubtreeHas : {R : Type 0} → List (NodeData R) → (d : ℕ) (key : R → KeyOf d 16) → ℕ → ℕ
+abbrev pub SubtreeHas : {R : Type 0} → List (NodeView R) → (d : ℕ) (key : R → KeyOf d 16) → ℕ → ℕ
     → KeyOf d 16 → Type 0
 SubtreeHas t d key v r k = RowHas (key_add d 16) (key_none d 16) (length t) (parent t)
     (rank t d key) (group t) (length t) v r k
 
 -- k is the least of these keys
-pub record IsLeastKey {R : Type 0} (t : List (NodeData R)) (d : ℕ) (key : R → KeyOf d 16) (v r : ℕ)
+pub record IsLeastKey {R : Type 0} (t : List (NodeView R)) (d : ℕ) (key : R → KeyOf d 16) (v r : ℕ)
     (k : KeyOf d 16) : Type 0 where
   pub had : SubtreeHas t d key v r k
   pub least : (other : KeyOf d 16) → SubtreeHas t d key v r other → AtMost (key_below d 16) k other
 
 -- these are the keys of the tree's solutions, in ascending order
-abbrev pub IsTreeRanking : {R : Type 0} → List (NodeData R) → (d : ℕ) (key : R → KeyOf d 16)
+abbrev pub IsTreeRanking : {R : Type 0} → List (NodeView R) → (d : ℕ) (key : R → KeyOf d 16)
     → List (KeyOf d 16) → Type 0
 IsTreeRanking t d key ks =
     IsRanking (KeyOf d 16) (key_below d 16)

@@ -21,9 +21,9 @@ pub struct NamedGroups {
 
 impl Model for NamedGroups {
     ghost use Rattle.std.specs.Prelude.{◌≡◌, ◌*◌, length};
-    ghost use Rattle.tdp_core.specs.NamedRows.{NamedData, pieces};
+    ghost use Rattle.tdp_core.specs.NamedRows.{NamedView, pieces};
 
-    ghost Value = { NamedData };
+    ghost Value = { NamedView };
 
     ghost view = { λ g. record { width = g.width; rows = pieces g.width g.count g.named.items } };
 

@@ -1,7 +1,7 @@
 //! Answers, and what an engine is.
 ghost use Rattle.std.specs.Prelude.{◌≡◌, ℕ, ◌+◌, ◌≤◌, List, [], ◌∷◌, IfOk, IfSome, IfNone, OnErr};
 ghost use Rattle.tdp_model.specs.KeyNumbers.{numbers};
-ghost use Rattle.tdp_core.specs.SeenAnswers.{Seen, counted};
+ghost use Rattle.tdp_core.specs.AnswerView.{AnswerView, counted};
 
 use rank_key::Rank;
 use std::sync::ledger::Ledger;
@@ -19,7 +19,7 @@ pub struct Answer<R> {
 pub trait Ranked {
     type Key: Rank;
 
-    ghost rest: { Self → List Seen };
+    ghost rest: { Self → List AnswerView };
 
     ghost calls: { Self → ℕ };
 

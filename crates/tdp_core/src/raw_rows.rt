@@ -2,7 +2,7 @@
 ghost use Rattle.std.specs.Prelude.{◌≡◌, ◌+◌, ◌<◌, ◌≤◌, Some, [], ◌∷◌, ◌++◌, length, map, slice_get, slice_index, slice_index_or, OnOk, OnErr};
 ghost use Rattle.std.specs.List.{All};
 ghost use Rattle.std.specs.Vec.{vec_capacity, vec_len};
-ghost use Rattle.tdp_core.specs.RawRows.{RawRowData};
+ghost use Rattle.tdp_core.specs.RawRows.{RawRowView};
 
 use crate::parts::NodeRow;
 use rank_key::Rank;
@@ -24,9 +24,9 @@ pub(crate) struct RawRows<R: Rank> {
 
 impl<R: Rank> Model for RawRows<R> {
     ghost use Rattle.std.specs.Prelude.{List};
-    ghost use Rattle.tdp_core.specs.RawRows.{RawRowData, raw_rows, AreRawRows};
+    ghost use Rattle.tdp_core.specs.RawRows.{RawRowView, raw_rows, AreRawRows};
 
-    ghost Value = { List (RawRowData R) };
+    ghost Value = { List (RawRowView R) };
 
     ghost view = { λ t. raw_rows t.width t.rows.items t.owns.items t.named.items };
 

@@ -1,7 +1,7 @@
 //! Trees whose rows are not in groups yet.
 ghost use Rattle.std.specs.Prelude.{◌≡◌, ℕ, ◌+◌, ◌<◌, Some, [], length, replicate, IfOk, OnOk, OnErr};
 ghost use Rattle.tdp_model.specs.NodeRows.{most_node_rows};
-ghost use Rattle.tdp_core.specs.RawData.{AreShapes, AreShapesHeld, IsRawFormed, RawRowFits, row_total, with_row, without_rows, shape_at, shape_children, raw_len, raw_row_at, raw_rank, raw_number, own_link, child_link};
+ghost use Rattle.tdp_core.specs.RawView.{AreShapes, AreShapesHeld, IsRawFormed, RawRowFits, row_total, with_row, without_rows, shape_at, shape_children, raw_len, raw_row_at, raw_rank, raw_number, own_link, child_link};
 
 use crate::parts::{NodeRow, NodeShape};
 use crate::raw_rows::RawRows;
@@ -21,9 +21,9 @@ pub struct RawTree<R: Rank> {
 }
 
 impl<R: Rank> Model for RawTree<R> {
-    ghost use Rattle.tdp_core.specs.RawData.{RawData, IsRawFormed};
+    ghost use Rattle.tdp_core.specs.RawView.{RawView, IsRawFormed};
 
-    ghost Value = { RawData R };
+    ghost Value = { RawView R };
 
     ghost view = { λ t. record { shapes = t.shapes.items; rows = t.rows.items } };
 

@@ -1,6 +1,6 @@
 //! Well-formed trees, which the engines read.
 ghost use Rattle.std.specs.Prelude.{◌≡◌, ℕ, ◌+◌, ◌<◌, Some, length, nat_lt, slice_get, slice_index};
-ghost use Rattle.tdp_core.specs.TreeData.{tree_data, node_at, rows, number, child_count, child_place, parent, group_count, members, group_named, rank, best};
+ghost use Rattle.tdp_core.specs.TreeView.{tree_view, node_at, rows, number, child_count, child_place, parent, group_count, members, group_named, rank, best};
 ghost use Rattle.tdp_core.specs.WellFormed.{IsFormed};
 ghost use Rattle.tdp_core.specs.Solutions.{IsLeastKey};
 
@@ -19,21 +19,21 @@ pub struct Tree<R: Rank> {
 
 impl<R: Rank> Model for Tree<R> {
     ghost use Rattle.std.specs.Prelude.{List};
-    ghost use Rattle.tdp_core.specs.TreeData.{NodeData, tree_data};
+    ghost use Rattle.tdp_core.specs.TreeView.{NodeView, tree_view};
     ghost use Rattle.tdp_core.specs.WellFormed.{IsFormed};
 
-    ghost Value = { List (NodeData R) };
+    ghost Value = { List (NodeView R) };
 
-    ghost view = { λ t. tree_data t.nodes.items };
+    ghost view = { λ t. tree_view t.nodes.items };
 
-    ghost invariant = { λ t. IsFormed R.KEYS R.key (tree_data t.nodes.items) };
+    ghost invariant = { λ t. IsFormed R.KEYS R.key (tree_view t.nodes.items) };
 }
 
 impl<R: Rank> Tree<R> {
     /// The tree of well-formed parts. It takes no memory.
     pub fn from_parts(nodes: Vec<NodeParts<R>>) -> Tree<R>
-        requires { IsFormed R.KEYS R.key (tree_data nodes.items) }
-        ensures { result ≡ tree_data nodes.items }
+        requires { IsFormed R.KEYS R.key (tree_view nodes.items) }
+        ensures { result ≡ tree_view nodes.items }
     {
         Tree { nodes }
     }

@@ -2,7 +2,7 @@
 use Rattle.std.proofs.Common.{◌≡◌, ℕ, zero, suc, ◌<◌, [], ◌∷◌, get_or, refl, ap, arith}
 use Rattle.tdp_model.specs.KeyTuple.{key_add, key_none, slot_of}
 use Rattle.tdp_model.specs.TreeProblem.{sum_from, kid_part, best_by_kids}
-use Rattle.tdp_model.specs.Laws.{TreeView}
+use Rattle.tdp_model.specs.Laws.{TieFreeTree}
 use Rattle.tdp_model.proofs.KeyTuples.{slot_of_add, slot_of_none}
 
 example_bests : (v r : ℕ) → v < 2 → key_none 1 2 ≡ best_by_kids (key_add 1 2) (key_none 1 2) 2 (λ q. 0) (λ v r. key_none 1 2) (λ q r. 0 ∷ []) (λ v r. key_none 1 2) v r
@@ -11,7 +11,7 @@ example_bests zero r l = refl
 example_bests (suc zero) r l = refl
 example_bests (suc (suc v)) r l = absurd (omega arith)
 
-pub example : TreeView 1 2
+pub example : TieFreeTree 1 2
 example = record {
   nodes = 2;
   parent = λ q. 0;

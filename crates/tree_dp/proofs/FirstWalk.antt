@@ -13,13 +13,13 @@ use Rattle.tdp_model.proofs.KeyTuples.{tuple_keys, slot_of_add, slot_of_none}
 use Rattle.tdp_model.proofs.Sums.{get_front, get_end, length_end, none_add, sum_same, sum_last}
 use Rattle.tdp_model.proofs.Ties.{slot_zero}
 use Rattle.tdp_model.proofs.TreeStaged.{tree_staged, other_of, bound_parts, bound_whole}
-use Rattle.tdp_core.specs.SeenAnswers.{rows_of_key}
-use Rattle.tdp_core.specs.TreeData.{NodeData, node_at, parent, item, rows, number, group_count, group, rank, best}
+use Rattle.tdp_core.specs.AnswerView.{rows_of_key}
+use Rattle.tdp_core.specs.TreeView.{NodeView, node_at, parent, item, rows, number, group_count, group, rank, best}
 use Rattle.tdp_core.specs.WellFormed.{IsFormed, IsTieFreeTree}
-use Rattle.tdp_core.proofs.SeenFacts.{rows_of_key_length, rows_of_key_at}
+use Rattle.tdp_core.proofs.AnswerFacts.{rows_of_key_length, rows_of_key_at}
 use Rattle.tdp_core.proofs.TreeFacts.{tree_of, tie_free_of, ranked_of}
 
-module _ {R : Type 0} (d : ℕ) (key : R → KeyOf d 16) (t : List (NodeData R)) where
+module _ {R : Type 0} (d : ℕ) (key : R → KeyOf d 16) (t : List (NodeView R)) where
   -- the least key of a solution that begins with these rows
   abbrev pub least_with : List ℕ → KeyOf d 16
   least_with pre = bound_of (key_add d 16) (key_none d 16) (length t) (parent t) (rank t d key) (group t) (best t d key) pre

@@ -11,7 +11,7 @@ use Rattle.tdp_model.specs.TreeProblem.{least_of, kid_part, kid_key, RowHas}
 use Rattle.tdp_model.proofs.KeyTuples.{tuple_keys, slot_of_none}
 use Rattle.tdp_model.proofs.KeyNumbers.{sum_of_none}
 use Rattle.rank_key.specs.Keys.{KeyFits}
-use Rattle.tdp_core.specs.TreeData.{NodeData, node_at, parent, item, cap, rows, number, kids_below, child_place, group_count, members, group_named, group_number, group, rank, best}
+use Rattle.tdp_core.specs.TreeView.{NodeView, node_at, parent, item, cap, rows, number, kids_below, child_place, group_count, members, group_named, group_number, group, rank, best}
 use Rattle.tdp_core.specs.WellFormed.{RowFits}
 use Rattle.tdp_core.proofs.Children.{kids_below_first, kids_below_other, child_place_within}
 use Rattle.tdp_core.proofs.GroupMembers.{member_below}
@@ -30,7 +30,7 @@ no_kids_yet parents m v (suc n) first l h =
     let above = first (n + 1) (omega arith) (omega arith) in
     ap (λ k. kids_below parents v (k + 1)) last ∙ kids_below_other parents v (n + 1) (λ e. omega (arith, above, e)) ∙ no_kids_yet parents m v n first l (omega arith)
 
-module _ {R : Type 0} (d : ℕ) (key : R → KeyOf d 16) (t : List (NodeData R)) (laid : IsLaidOut d key t) where
+module _ {R : Type 0} (d : ℕ) (key : R → KeyOf d 16) (t : List (NodeView R)) (laid : IsLaidOut d key t) where
   pub member_row : (v g i : ℕ) → v < length t → i < length (members t v g) → get_or (members t v g) i 0 < rows t v
   member_row v g i l h = member_below (rows t v) (node_at t v).groups (laid.grouped v l) g i h
 

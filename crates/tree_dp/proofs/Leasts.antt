@@ -6,7 +6,7 @@ use Rattle.std.specs.declared.vec.Vec.{Vec}
 use Rattle.std.proofs.lemmas.Bool.{cases_eq}
 use Rattle.std.proofs.lemmas.List.{length-map, map-append, get_or-map, get_or-set_same, get_or-set_other}
 use Rattle.tdp_model.specs.KeyTuple.{KeyOf, key_none}
-use Rattle.tdp_core.specs.TreeData.{NodeData, node_at, group_count, members, best}
+use Rattle.tdp_core.specs.TreeView.{NodeView, node_at, group_count, members, best}
 use Rattle.tree_dp.specs.Orders.{key_at}
 use Rattle.tree_dp.specs.Progress.{AreLeastsFrom}
 
@@ -47,7 +47,7 @@ other_list : {X : Type 0} (x : List X) (xs : List (List X)) (v w : ℕ) → v < 
 other_list x xs v w l = let more : w - v ≡ suc (w - (v + 1)) = omega arith in ap (λ k. get_or (x ∷ xs) k []) more
 
 -- the least ranks of one more node, where only that node is put into another order
-pub leasts_next : {R : Type 0} (d : ℕ) (key : R → KeyOf d 16) (t u : List (NodeData R)) (v : ℕ) (own : List R) (leasts : List (List R)) → length u ≡ length t
+pub leasts_next : {R : Type 0} (d : ℕ) (key : R → KeyOf d 16) (t u : List (NodeView R)) (v : ℕ) (own : List R) (leasts : List (List R)) → length u ≡ length t
     → ((w : ℕ) → w ≢ v → node_at u w ≡ node_at t w) → v < length t → AreLeastsFrom d key t (v + 1) leasts → length own ≡ group_count u v
     → ((g : ℕ) → g < group_count u v → key_at d key own g ≡ best u d key v (get_or (members u v g) 0 0)) → AreLeastsFrom d key u v (own ∷ leasts)
 leasts_next {R} d key t u v own leasts count others inside later long least = record {
@@ -69,7 +69,7 @@ leasts_next {R} d key t u v own leasts count others inside later long least = re
 vector_read : {X Z : Type 0} (vs : List (Vec X Z)) (k : ℕ) (v : Vec X Z) → k < length vs → v ≡ get_or vs k v → get_or (map (λ u. u.items) vs) k [] ≡ v.items
 vector_read vs k v l is = get_or-map (λ u. u.items) vs k v [] l ∙ ap (λ u. u.items) (sym is)
 
-module _ {R Z : Type 0} (d : ℕ) (key : R → KeyOf d 16) (t : List (NodeData R)) (v : ℕ) (vs : List (Vec R Z)) (leasts : AreLeastsFrom d key t (v + 1) (map (λ u. u.items) vs)) (q : ℕ) (after : v < q)
+module _ {R Z : Type 0} (d : ℕ) (key : R → KeyOf d 16) (t : List (NodeView R)) (v : ℕ) (vs : List (Vec R Z)) (leasts : AreLeastsFrom d key t (v + 1) (map (λ u. u.items) vs)) (q : ℕ) (after : v < q)
     (inside : q < length t) where
   node_within : q - v - 1 < length vs
   node_within = omega (arith, leasts.all_nodes, length-map vs (λ u. u.items), after, inside)

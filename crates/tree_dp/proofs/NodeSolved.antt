@@ -6,12 +6,12 @@ use Rattle.tdp_model.specs.Remains.{AtMost}
 use Rattle.tdp_model.specs.TreeProblem.{sum_from, kid_part}
 use Rattle.tdp_model.proofs.KeyTuples.{tuple_keys}
 use Rattle.tdp_model.proofs.Sums.{sum_same}
-use Rattle.tdp_core.specs.TreeData.{NodeData, node_at, parent, rows, members, group, group_number, rank, best}
+use Rattle.tdp_core.specs.TreeView.{NodeView, node_at, parent, rows, members, group, group_number, rank, best}
 use Rattle.tree_dp.specs.Progress.{IsSolvedFrom, by_children}
 use Rattle.tree_dp.specs.SolvedTrees.{IsReordered}
 use Rattle.tree_dp.proofs.Reordered.{parent_same, rows_same, rank_same, group_number_same}
 
-module _ {R : Type 0} (d : ℕ) (key : R → KeyOf d 16) (t u : List (NodeData R)) (v : ℕ) (count : length u ≡ length t) (nodes : (w : ℕ) → IsReordered (node_at t w) (node_at u w))
+module _ {R : Type 0} (d : ℕ) (key : R → KeyOf d 16) (t u : List (NodeView R)) (v : ℕ) (count : length u ≡ length t) (nodes : (w : ℕ) → IsReordered (node_at t w) (node_at u w))
     (others : (w : ℕ) → w ≢ v → node_at u w ≡ node_at t w) where
   group_later : (q r : ℕ) → q ≢ v → group u q r ≡ group t q r
   group_later q r other = ap (members u q) (group_number_same t u nodes q r) ∙ ap (λ n. get_or n.groups (group_number t q r) []) (others q other)
@@ -36,7 +36,7 @@ module _ {R : Type 0} (d : ℕ) (key : R → KeyOf d 16) (t u : List (NodeData R
       ∙ ap (λ k. cond (nat_eq (parent u q) w) k (key_none d 16)) (sym (best_later q (get_or (group u q r) 0 0) other)))
       ∙ ap (λ m. sum_from (key_add d 16) (key_none d 16) (kid_part (key_add d 16) (key_none d 16) (length u) (parent u) (rank u d key) (group u) (best u d key) w r) (m - suc w) (suc w)) (sym count))
 
-  HeapsOver : NodeData R → Type 0
+  HeapsOver : NodeView R → Type 0
   HeapsOver n = (g i : ℕ) → 0 < i → i < length (get_or n.groups g [])
       → AtMost (key_below d 16) (get_or (map key n.best) (get_or (get_or n.groups g []) ((i - 1) / 2) 0) (key_none d 16)) (get_or (map key n.best) (get_or (get_or n.groups g []) i 0) (key_none d 16))
 

@@ -10,8 +10,8 @@ use Rattle.tdp_model.proofs.Division.{stands_place, times_pos}
 use Rattle.tdp_model.proofs.KeyTuples.{tuple_keys}
 use Rattle.tdp_model.proofs.Keys.{at_most_trans}
 use Rattle.tdp_model.proofs.Subtrees.{climbs_ordered, climbs_all}
-use Rattle.tdp_core.specs.SeenAnswers.{answer_of, answers_of}
-use Rattle.tdp_core.specs.TreeData.{NodeData, node_at, parent, group_count, members, group, rank, best}
+use Rattle.tdp_core.specs.AnswerView.{answer_of, answers_of}
+use Rattle.tdp_core.specs.TreeView.{NodeView, node_at, parent, group_count, members, group, rank, best}
 use Rattle.tdp_core.specs.Solutions.{IsTreeRanking}
 use Rattle.tdp_core.specs.WellFormed.{IsFormed}
 use Rattle.tdp_core.proofs.TreeFacts.{member_is_row, best_had, best_least}
@@ -25,7 +25,7 @@ none_chosen members n (x ∷ rest) empty h =
     let place : place_of x (members []) < length (members []) = stands_place x (members []) both.0 in
     omega (arith, place, ap length empty)
 
-module _ {R : Type 0} (d : ℕ) (key : R → KeyOf d 16) (t : List (NodeData R)) (formed : IsFormed d key t) where
+module _ {R : Type 0} (d : ℕ) (key : R → KeyOf d 16) (t : List (NodeView R)) (formed : IsFormed d key t) where
   abbrev pub HasSolution : KeyOf d 16 → Type 0
   HasSolution k = SolutionHas (key_add d 16) (key_none d 16) (length t) (parent t) (rank t d key) (group t) k
 

@@ -8,15 +8,15 @@ use Rattle.std.proofs.lemmas.List.Elements.{Contains-get_or}
 use Rattle.std.proofs.lemmas.List.Sorted.{IsPermutation-refl, IsPermutation-sym, IsPermutation-trans, IsPermutation-append, Contains-permutation, length_permutation}
 use Rattle.tdp_model.specs.KeyTuple.{KeyOf, key_add, key_none}
 use Rattle.tdp_model.specs.TreeProblem.{sum_from}
-use Rattle.tdp_core.specs.TreeData.{NodeData, node_at, parent, item, cap, cap_of, rows, number, kids_below, child_place, group_count, members, group_named, group_number, group, rank}
+use Rattle.tdp_core.specs.TreeView.{NodeView, node_at, parent, item, cap, cap_of, rows, number, kids_below, child_place, group_count, members, group_named, group_number, group, rank}
 use Rattle.tdp_core.specs.WellFormed.{AreHeld, IsShaped, RowFits, IsLaidOut, IsTieFreeTree}
 use Rattle.tdp_core.specs.Solutions.{IsTreeSolution}
 use Rattle.tree_dp.specs.SolvedTrees.{IsReordered, IsSolved}
 
-pub reordered_refl : {R : Type 0} (n : NodeData R) → IsReordered n n
+pub reordered_refl : {R : Type 0} (n : NodeView R) → IsReordered n n
 reordered_refl n = record { shape = refl; rows = refl; to_child = refl; group_count = refl; groups = λ g. IsPermutation-refl (get_or n.groups g []) }
 
-pub reordered_trans : {R : Type 0} (a b c : NodeData R) → IsReordered a b → IsReordered b c → IsReordered a c
+pub reordered_trans : {R : Type 0} (a b c : NodeView R) → IsReordered a b → IsReordered b c → IsReordered a c
 reordered_trans a b c p q = record {
   shape = q.shape ∙ p.shape;
   rows = q.rows ∙ p.rows;
@@ -38,7 +38,7 @@ place_of xs ys moved i l =
     let in_xs : Contains xs (get_or ys i 0) = Contains-permutation ys xs (get_or ys i 0) (IsPermutation-sym xs ys moved) (Contains-get_or ys i 0 l) in
     (in_xs.0, in_xs.1, get_or_default xs in_xs.0 0 (get_or ys i 0) in_xs.1 ∙ in_xs.2)
 
-module _ {R : Type 0} (before after : List (NodeData R)) (nodes : (v : ℕ) → IsReordered (node_at before v) (node_at after v)) where
+module _ {R : Type 0} (before after : List (NodeView R)) (nodes : (v : ℕ) → IsReordered (node_at before v) (node_at after v)) where
   pub parent_same : parent after ≡ parent before
   parent_same = fun_ext (λ q. ap (λ s. s.parent) (nodes q).shape)
 
@@ -143,7 +143,7 @@ module _ {R : Type 0} (before after : List (NodeData R)) (nodes : (v : ℕ) → 
     }
 
 -- the same tree problem
-pub solved_of : {R : Type 0} (before after : List (NodeData R)) → length after ≡ length before → ((v : ℕ) → IsReordered (node_at before v) (node_at after v)) → IsSolved before after
+pub solved_of : {R : Type 0} (before after : List (NodeView R)) → length after ≡ length before → ((v : ℕ) → IsReordered (node_at before v) (node_at after v)) → IsSolved before after
 solved_of before after count nodes = record {
   node_count = count;
   nodes = nodes;

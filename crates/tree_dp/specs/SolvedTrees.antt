@@ -2,12 +2,12 @@
 use Rattle.std.specs.Prelude.{◌≡◌, ℕ, ◌↔◌, List, [], length, slice_index_or}
 use Rattle.std.specs.List.Sorted.{IsPermutation}
 use Rattle.tdp_model.specs.KeyTuple.{KeyOf}
-use Rattle.tdp_core.specs.TreeData.{NodeData, node_at}
+use Rattle.tdp_core.specs.TreeView.{NodeView, node_at}
 use Rattle.tdp_core.specs.Solutions.{IsTreeSolution, solution_key}
 use Rattle.tdp_core.specs.WellFormed.{IsTieFreeTree}
 
 -- the same node, but for the least keys and the order in each group
-pub record IsReordered {R : Type 0} (before after : NodeData R) : Type 0 where
+pub record IsReordered {R : Type 0} (before after : NodeView R) : Type 0 where
   pub shape : after.shape ≡ before.shape
   pub rows : after.rows ≡ before.rows
   pub to_child : after.to_child ≡ before.to_child
@@ -16,7 +16,7 @@ pub record IsReordered {R : Type 0} (before after : NodeData R) : Type 0 where
       → IsPermutation (slice_index_or before.groups g []) (slice_index_or after.groups g [])
 
 -- the same tree problem, with the same solutions and the same keys of them
-pub record IsSolved {R : Type 0} (before after : List (NodeData R)) : Type 0 where
+pub record IsSolved {R : Type 0} (before after : List (NodeView R)) : Type 0 where
   pub node_count : length after ≡ length before
   pub nodes : (v : ℕ) → IsReordered (node_at before v) (node_at after v)
   pub solutions : (t : ℕ → ℕ) → IsTreeSolution before t ↔ IsTreeSolution after t

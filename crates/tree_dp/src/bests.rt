@@ -1,6 +1,6 @@
 //! The least rank of each row's subtree solutions.
 ghost use Rattle.std.specs.Prelude.{◌≡◌, ℕ, ◌+◌, ◌*◌, ◌<◌, ◌≤◌, [], length, map, slice_index_or, IfOk};
-ghost use Rattle.tdp_core.specs.TreeData.{tree_data, node_at, rows, group_named};
+ghost use Rattle.tdp_core.specs.TreeView.{tree_view, node_at, rows, group_named};
 ghost use Rattle.tree_dp.specs.Orders.{key_at};
 ghost use Rattle.tdp_core.specs.WellFormed.{IsLaidOut};
 ghost use Rattle.tree_dp.specs.Progress.{IsSolvedFrom, AreLeastsFrom, by_children};
@@ -21,16 +21,16 @@ pub(crate) fn bests_of<R: Rank, L: Ledger>(
     steps: &mut Steps<L>,
 ) -> Result<Vec<R>, NoMemory>
     requires node { node < length nodes.now }
-    requires laid_out { IsLaidOut R.KEYS R.key (tree_data nodes.now) }
-    requires solved { IsSolvedFrom R.KEYS R.key (tree_data nodes.now) (node + 1) }
-    requires leasts { AreLeastsFrom R.KEYS R.key (tree_data nodes.now) (node + 1)
+    requires laid_out { IsLaidOut R.KEYS R.key (tree_view nodes.now) }
+    requires solved { IsSolvedFrom R.KEYS R.key (tree_view nodes.now) (node + 1) }
+    requires leasts { AreLeastsFrom R.KEYS R.key (tree_view nodes.now) (node + 1)
         (map (λ ls. ls.items) leasts.now) }
-    ensures count { IfOk result (λ bests. length bests.items ≡ rows (tree_data nodes.now) node) }
+    ensures count { IfOk result (λ bests. length bests.items ≡ rows (tree_view nodes.now) node) }
     ensures bests { IfOk result
-        (λ bests. (r : ℕ) → r < rows (tree_data nodes.now) node
+        (λ bests. (r : ℕ) → r < rows (tree_view nodes.now) node
         → key_at R.KEYS R.key bests.items r
-        ≡ by_children R.KEYS R.key (tree_data nodes.now) node r) }
-    ensures cost { steps.new ≤ steps.old + rows (tree_data nodes.now) node * length nodes.now }
+        ≡ by_children R.KEYS R.key (tree_view nodes.now) node r) }
+    ensures cost { steps.new ≤ steps.old + rows (tree_view nodes.now) node * length nodes.now }
 {
     let mut bests = Vec::with_capacity(alloc, nodes[node].rows.len())?;
     for row in 0..nodes[node].rows.len() {
@@ -50,12 +50,12 @@ fn row_best<R: Rank, L: Ledger>(
     steps: &mut Steps<L>,
 ) -> R
     requires node { node < length nodes.now }
-    requires row { row < rows (tree_data nodes.now) node }
-    requires laid_out { IsLaidOut R.KEYS R.key (tree_data nodes.now) }
-    requires solved { IsSolvedFrom R.KEYS R.key (tree_data nodes.now) (node + 1) }
-    requires leasts { AreLeastsFrom R.KEYS R.key (tree_data nodes.now) (node + 1)
+    requires row { row < rows (tree_view nodes.now) node }
+    requires laid_out { IsLaidOut R.KEYS R.key (tree_view nodes.now) }
+    requires solved { IsSolvedFrom R.KEYS R.key (tree_view nodes.now) (node + 1) }
+    requires leasts { AreLeastsFrom R.KEYS R.key (tree_view nodes.now) (node + 1)
         (map (λ ls. ls.items) leasts.now) }
-    ensures best { R.key result ≡ by_children R.KEYS R.key (tree_data nodes.now) node row }
+    ensures best { R.key result ≡ by_children R.KEYS R.key (tree_view nodes.now) node row }
     ensures cost { steps.new ≤ steps.old + length nodes.now }
 {
     let mut best = nodes[node].rows[row].rank;
@@ -73,11 +73,11 @@ fn row_best<R: Rank, L: Ledger>(
 /// The group that a row names for a child of its node.
 fn named_group<R: Rank>(nodes: &[NodeParts<R>], node: usize, row: usize, child: usize) -> usize
     requires node { node < length nodes.now }
-    requires row { row < length (node_at (tree_data nodes.now) node).to_child }
+    requires row { row < length (node_at (tree_view nodes.now) node).to_child }
     requires child { child
-        < length (slice_index_or (node_at (tree_data nodes.now) node).to_child row []) }
+        < length (slice_index_or (node_at (tree_view nodes.now) node).to_child row []) }
     requires few { child < 16 }
-    ensures { result ≡ group_named (tree_data nodes.now) node row child }
+    ensures { result ≡ group_named (tree_view nodes.now) node row child }
 {
     nodes[node].to_child.get(row, child) as usize
 }

@@ -2,9 +2,9 @@
 ghost use Rattle.std.specs.Prelude.{◌≡◌, ℕ, ◌+◌, ◌*◌, ◌<◌, ◌≤◌, List, [], length, slice_get, slice_index, Some, IfSome, IfNone};
 ghost use Rattle.tdp_model.specs.KeyTuple.{KeyOf};
 ghost use Rattle.tdp_model.specs.KeyNumbers.{numbers};
-ghost use Rattle.tdp_core.specs.SeenAnswers.{answers_of, rows_of_key};
+ghost use Rattle.tdp_core.specs.AnswerView.{answers_of, rows_of_key};
 ghost use Rattle.tdp_core.specs.Solutions.{IsTreeRanking};
-ghost use Rattle.tdp_core.specs.TreeData.{parent, rows, group_number, group, best};
+ghost use Rattle.tdp_core.specs.TreeView.{parent, rows, group_number, group, best};
 ghost use Rattle.tdp_core.specs.WellFormed.{IsFormed, IsTieFreeTree};
 
 use rank_key::{Rank, SLOTS};

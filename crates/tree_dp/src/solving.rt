@@ -1,6 +1,6 @@
 //! From parts in groups to a well-formed tree.
 ghost use Rattle.std.specs.Prelude.{◌≡◌, ℕ, ◌+◌, ◌*◌, ◌<◌, ◌≤◌, ◌∷◌, length, map, OnOk, IfOk};
-ghost use Rattle.tdp_core.specs.TreeData.{tree_data, node_at, rows, row_count};
+ghost use Rattle.tdp_core.specs.TreeView.{tree_view, node_at, rows, row_count};
 ghost use Rattle.tdp_core.specs.WellFormed.{IsLaidOut};
 ghost use Rattle.semi_join.specs.GroupedTrees.{IsGrouped};
 ghost use Rattle.tree_dp.specs.Progress.{IsSolvedFrom, AreLeastsFrom};
@@ -23,11 +23,11 @@ pub fn solve<R: Rank, L: Ledger>(
     reduced: Reduced<R>,
     steps: &mut Steps<L>,
 ) -> Result<Tree<R>, NoMemory>
-    requires { IsGrouped R.KEYS R.key (tree_data reduced.nodes.items) }
-    ensures solved { IfOk result (λ tree. IsSolved (tree_data reduced.nodes.items) tree) }
+    requires { IsGrouped R.KEYS R.key (tree_view reduced.nodes.items) }
+    ensures solved { IfOk result (λ tree. IsSolved (tree_view reduced.nodes.items) tree) }
     ensures cost { steps.new
         ≤ steps.old + 4 * length reduced.nodes.items
-        * (1 + row_count (tree_data reduced.nodes.items)) }
+        * (1 + row_count (tree_view reduced.nodes.items)) }
 {
     let mut nodes = reduced.nodes;
     solve_nodes(alloc, nodes.as_mut_slice(), steps)?;
@@ -40,13 +40,13 @@ fn solve_nodes<R: Rank, L: Ledger>(
     nodes: &mut [NodeParts<R>],
     steps: &mut Steps<L>,
 ) -> Result<(), NoMemory>
-    requires { IsLaidOut R.KEYS R.key (tree_data nodes.old) }
+    requires { IsLaidOut R.KEYS R.key (tree_view nodes.old) }
     ensures reordered { OnOk result
-        ((v : ℕ) → IsReordered (node_at (tree_data nodes.old) v)
-        (node_at (tree_data nodes.new) v)) }
-    ensures solved { OnOk result (IsSolvedFrom R.KEYS R.key (tree_data nodes.new) 0) }
+        ((v : ℕ) → IsReordered (node_at (tree_view nodes.old) v)
+        (node_at (tree_view nodes.new) v)) }
+    ensures solved { OnOk result (IsSolvedFrom R.KEYS R.key (tree_view nodes.new) 0) }
     ensures cost { steps.new
-        ≤ steps.old + row_count (tree_data nodes.old) * (length nodes.old + 2) }
+        ≤ steps.old + row_count (tree_view nodes.old) * (length nodes.old + 2) }
 {
     let mut leasts: Vec<Vec<R>> = Vec::new(alloc);
     for node in (0..nodes.len()).rev() {
@@ -66,19 +66,19 @@ fn solve_node<R: Rank, L: Ledger>(
     steps: &mut Steps<L>,
 ) -> Result<Vec<R>, NoMemory>
     requires node { node < length nodes.old }
-    requires laid_out { IsLaidOut R.KEYS R.key (tree_data nodes.old) }
-    requires solved { IsSolvedFrom R.KEYS R.key (tree_data nodes.old) (node + 1) }
-    requires leasts { AreLeastsFrom R.KEYS R.key (tree_data nodes.old) (node + 1)
+    requires laid_out { IsLaidOut R.KEYS R.key (tree_view nodes.old) }
+    requires solved { IsSolvedFrom R.KEYS R.key (tree_view nodes.old) (node + 1) }
+    requires leasts { AreLeastsFrom R.KEYS R.key (tree_view nodes.old) (node + 1)
         (map (λ ls. ls.items) leasts.now) }
     ensures reordered { OnOk result
-        ((v : ℕ) → IsReordered (node_at (tree_data nodes.old) v)
-        (node_at (tree_data nodes.new) v)) }
-    ensures solved { OnOk result (IsSolvedFrom R.KEYS R.key (tree_data nodes.new) node) }
+        ((v : ℕ) → IsReordered (node_at (tree_view nodes.old) v)
+        (node_at (tree_view nodes.new) v)) }
+    ensures solved { OnOk result (IsSolvedFrom R.KEYS R.key (tree_view nodes.new) node) }
     ensures leasts { IfOk result
-        (λ own. AreLeastsFrom R.KEYS R.key (tree_data nodes.new) node
+        (λ own. AreLeastsFrom R.KEYS R.key (tree_view nodes.new) node
         (own.items ∷ map (λ ls. ls.items) leasts.now)) }
     ensures cost { steps.new
-        ≤ steps.old + rows (tree_data nodes.old) node * (length nodes.old + 2) }
+        ≤ steps.old + rows (tree_view nodes.old) node * (length nodes.old + 2) }
 {
     let best = bests_of(alloc, nodes, node, leasts, steps)?;
     let parts = &mut nodes[node];

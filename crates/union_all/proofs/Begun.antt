@@ -7,20 +7,20 @@ use Rattle.std.proofs.lemmas.List.Sums.{sum_by-append, sum_by-cons, sum_by_push}
 use Rattle.anyk_model.specs.Table.{Table}
 use Rattle.anyk_model.specs.Query.{Query}
 use Rattle.bound_query.specs.WeighedQuery.{BoundQuery, Fits}
-use Rattle.tdp_core.specs.SeenAnswers.{Seen}
+use Rattle.tdp_core.specs.AnswerView.{AnswerView}
 use Rattle.witness_key.specs.WitnessKey.{combinations_in}
-use Rattle.union_all.specs.Merge.{AreBegun, AreBranches, AreLeft, BranchSeen, EngineSeen, HasCalled, rests_of}
+use Rattle.union_all.specs.Merge.{AreBegun, AreBranches, AreLeft, BranchView, EngineView, HasCalled, rests_of}
 
 abbrev pub queries_bound : List BoundQuery → List Query
 queries_bound bounds = map (λ (q : BoundQuery). q.query) bounds
 
-called_more : (olds news : List EngineSeen) (old new : EngineSeen) → AreBegun olds news → HasCalled old new → AreBegun (olds ++ old ∷ []) (news ++ new ∷ [])
+called_more : (olds news : List EngineView) (old new : EngineView) → AreBegun olds news → HasCalled old new → AreBegun (olds ++ old ∷ []) (news ++ new ∷ [])
 called_more [] [] old new all one = (one, tt)
 called_more [] (n ∷ news) old new all one = absurd all
 called_more (o ∷ olds) [] old new all one = absurd all
 called_more (o ∷ olds) (n ∷ news) old new all one = (all.0, called_more olds news old new all.1 one)
 
-module _ {E : Type 0} (rest : E → List Seen) (seen : E → EngineSeen) (due : E → ℕ) where
+module _ {E : Type 0} (rest : E → List AnswerView) (seen : E → EngineView) (due : E → ℕ) where
   rests_more : (queries : List Query) (engines : List E) (query : Query) (engine : E) → length queries ≡ length engines
       → rests_of rest (queries ++ query ∷ []) (engines ++ engine ∷ []) ≡ rests_of rest queries engines ++ combinations_in query (rest engine) ∷ []
   rests_more [] [] query engine same = refl
@@ -30,17 +30,17 @@ module _ {E : Type 0} (rest : E → List Seen) (seen : E → EngineSeen) (due : 
       ap (λ (l : List (List (List ℕ))). combinations_in q (rest e) ∷ l) (rests_more queries engines query engine (omega (arith, same)))
 
   -- the branches of the engines so far, of all queries
-  pub record HasBegun (bounds : List BoundQuery) (engines : List E) (branches : List BranchSeen) (before now : ℕ) : Type 0 where
+  pub record HasBegun (bounds : List BoundQuery) (engines : List E) (branches : List BranchView) (before now : ℕ) : Type 0 where
     pub within : length engines ≤ length bounds
-    pub bound : map (λ (b : BranchSeen). b.bound) branches ≡ take (length engines) bounds
-    pub left : map (λ (b : BranchSeen). b.left) branches ≡ rests_of rest (queries_bound (take (length engines) bounds)) engines
-    pub called : AreBegun (map seen engines) (map (λ (b : BranchSeen). b.engine) branches)
+    pub bound : map (λ (b : BranchView). b.bound) branches ≡ take (length engines) bounds
+    pub left : map (λ (b : BranchView). b.left) branches ≡ rests_of rest (queries_bound (take (length engines) bounds)) engines
+    pub called : AreBegun (map seen engines) (map (λ (b : BranchView). b.engine) branches)
     pub cost : now ≤ before + sum_by due engines
 
   pub none_begun : (bounds : List BoundQuery) (before : ℕ) → HasBegun bounds [] [] before before
   none_begun bounds before = record { within = omega arith; bound = refl; left = refl; called = tt; cost = omega arith }
 
-  pub begun_more : (bounds : List BoundQuery) (engines : List E) (branches : List BranchSeen) (before now new : ℕ) (q : BoundQuery) (engine : E) (branch : BranchSeen)
+  pub begun_more : (bounds : List BoundQuery) (engines : List E) (branches : List BranchView) (before now new : ℕ) (q : BoundQuery) (engine : E) (branch : BranchView)
       → HasBegun bounds engines branches before now → length engines < length bounds → get_or bounds (length engines) q ≡ q
       → branch.bound ≡ q → branch.left ≡ combinations_in q.query (rest engine) → HasCalled (seen engine) branch.engine → new ≤ now + due engine
       → HasBegun bounds (engines ++ engine ∷ []) (branches ++ branch ∷ []) before new
@@ -55,24 +55,24 @@ module _ {E : Type 0} (rest : E → List Seen) (seen : E → EngineSeen) (due : 
       let spent = was.cost in
       record {
         within = omega (arith, more, inside);
-        bound = map-append (λ (b : BranchSeen). b.bound) branches (branch ∷ [])
+        bound = map-append (λ (b : BranchView). b.bound) branches (branch ∷ [])
             ∙ (λ i. was.bound i ++ bound i ∷ []) ∙ sym taken;
-        left = map-append (λ (b : BranchSeen). b.left) branches (branch ∷ [])
+        left = map-append (λ (b : BranchView). b.left) branches (branch ∷ [])
             ∙ (λ i. was.left i ++ left i ∷ [])
             ∙ sym (rests_more (queries_bound (take n bounds)) engines q.query engine same)
             ∙ ap (λ (l : List Query). rests_of rest l (engines ++ engine ∷ [])) (sym (ap queries_bound taken ∙ map-append (λ (x : BoundQuery). x.query) (take n bounds) (q ∷ [])));
-        called = subst (λ (l : List EngineSeen). AreBegun l (map (λ (b : BranchSeen). b.engine) (branches ++ branch ∷ []))) (sym (map-append seen engines (engine ∷ [])))
-            (subst (λ (l : List EngineSeen). AreBegun (map seen engines ++ seen engine ∷ []) l) (sym (map-append (λ (b : BranchSeen). b.engine) branches (branch ∷ [])))
-            (called_more (map seen engines) (map (λ (b : BranchSeen). b.engine) branches) (seen engine) branch.engine was.called called));
+        called = subst (λ (l : List EngineView). AreBegun l (map (λ (b : BranchView). b.engine) (branches ++ branch ∷ []))) (sym (map-append seen engines (engine ∷ [])))
+            (subst (λ (l : List EngineView). AreBegun (map seen engines ++ seen engine ∷ []) l) (sym (map-append (λ (b : BranchView). b.engine) branches (branch ∷ [])))
+            (called_more (map seen engines) (map (λ (b : BranchView). b.engine) branches) (seen engine) branch.engine was.called called));
         cost = omega (arith, sums, spent, cost);
       }
 
   -- there is a query for one engine more, and as many branches as engines so far
-  pub record HasNext (bounds : List BoundQuery) (yielded : List E) (branches : List BranchSeen) : Type 0 where
+  pub record HasNext (bounds : List BoundQuery) (yielded : List E) (branches : List BranchView) : Type 0 where
     pub inside : length yielded < length bounds
     pub count : length branches ≡ length yielded
 
-  pub has_next : (bounds : List BoundQuery) (engines yielded left later : List E) (engine : E) (branches : List BranchSeen) (before now : ℕ) → length engines ≡ length bounds
+  pub has_next : (bounds : List BoundQuery) (engines yielded left later : List E) (engine : E) (branches : List BranchView) (before now : ℕ) → length engines ≡ length bounds
       → yielded ++ left ≡ engines → left ≡ engine ∷ later → HasBegun bounds yielded branches before now → HasNext bounds yielded branches
   has_next bounds engines yielded left later engine branches before now each whole more was =
       let sizes = ap length whole in
@@ -81,11 +81,11 @@ module _ {E : Type 0} (rest : E → List Seen) (seen : E → EngineSeen) (due : 
       let inside : length yielded < length bounds = omega (arith, sizes, parts, one, each) in
       record {
         inside = inside;
-        count = sym (length-map branches (λ (b : BranchSeen). b.bound)) ∙ ap length was.bound ∙ length-take-le (length yielded) bounds (omega (arith, inside));
+        count = sym (length-map branches (λ (b : BranchView). b.bound)) ∙ ap length was.bound ∙ length-take-le (length yielded) bounds (omega (arith, inside));
       }
 
   -- the next engine's call is paid for
-  pub cost_within : (bounds : List BoundQuery) (engines yielded left later : List E) (engine : E) (branches : List BranchSeen) (before now new : ℕ)
+  pub cost_within : (bounds : List BoundQuery) (engines yielded left later : List E) (engine : E) (branches : List BranchView) (before now new : ℕ)
       → yielded ++ left ≡ engines → left ≡ engine ∷ later → HasBegun bounds yielded branches before now → new ≤ now + due engine → new ≤ before + sum_by due engines
   cost_within bounds engines yielded left later engine branches before now new whole more was cost =
       let all : sum_by due (yielded ++ engine ∷ later) ≡ sum_by due engines = ap (λ (l : List E). sum_by due (yielded ++ l)) (sym more) ∙ ap (sum_by due) whole in
@@ -93,13 +93,13 @@ module _ {E : Type 0} (rest : E → List Seen) (seen : E → EngineSeen) (due : 
       omega (arith, all, spent, cost, sum_by-append due yielded (engine ∷ later), sum_by-cons due engine later)
 
   -- the branches of all engines
-  pub record AllBegun (bounds : List BoundQuery) (engines : List E) (branches : List BranchSeen) (before now : ℕ) : Type 0 where
-    pub bounds_are : map (λ (b : BranchSeen). b.bound) branches ≡ bounds
-    pub lists_are : map (λ (b : BranchSeen). b.left) branches ≡ rests_of rest (queries_bound bounds) engines
-    pub called : AreBegun (map seen engines) (map (λ (b : BranchSeen). b.engine) branches)
+  pub record AllBegun (bounds : List BoundQuery) (engines : List E) (branches : List BranchView) (before now : ℕ) : Type 0 where
+    pub bounds_are : map (λ (b : BranchView). b.bound) branches ≡ bounds
+    pub lists_are : map (λ (b : BranchView). b.left) branches ≡ rests_of rest (queries_bound bounds) engines
+    pub called : AreBegun (map seen engines) (map (λ (b : BranchView). b.engine) branches)
     pub cost : now ≤ before + sum_by due engines
 
-  pub all_begun : (bounds : List BoundQuery) (engines yielded left : List E) (branches : List BranchSeen) (before now : ℕ) → length engines ≡ length bounds
+  pub all_begun : (bounds : List BoundQuery) (engines yielded left : List E) (branches : List BranchView) (before now : ℕ) → length engines ≡ length bounds
       → yielded ++ left ≡ engines → left ≡ [] → HasBegun bounds yielded branches before now → AllBegun bounds engines branches before now
   all_begun bounds engines yielded left branches before now each whole none was =
       let same : yielded ≡ engines = sym (append-nil yielded) ∙ ap (λ (l : List E). yielded ++ l) (sym none) ∙ whole in
@@ -114,32 +114,32 @@ module _ {E : Type 0} (rest : E → List Seen) (seen : E → EngineSeen) (due : 
 
 -- # Branches of all queries
 
-own_queries : (branches : List BranchSeen) → map (λ (b : BranchSeen). b.bound.query) branches ≡ queries_bound (map (λ (b : BranchSeen). b.bound) branches)
+own_queries : (branches : List BranchView) → map (λ (b : BranchView). b.bound.query) branches ≡ queries_bound (map (λ (b : BranchView). b.bound) branches)
 own_queries [] = refl
 own_queries (b ∷ branches) = ap (λ (l : List Query). b.bound.query ∷ l) (own_queries branches)
 
-pub same_queries : (bounds : List BoundQuery) (branches : List BranchSeen) → map (λ (b : BranchSeen). b.bound) branches ≡ bounds
-    → map (λ (b : BranchSeen). b.bound.query) branches ≡ queries_bound bounds
+pub same_queries : (bounds : List BoundQuery) (branches : List BranchView) → map (λ (b : BranchView). b.bound) branches ≡ bounds
+    → map (λ (b : BranchView). b.bound.query) branches ≡ queries_bound bounds
 same_queries bounds branches each = own_queries branches ∙ ap queries_bound each
 
-abbrev none : BranchSeen
+abbrev none : BranchView
 none = record {
   bound = record { query = record { items = []; equalities = []; order = []; list = []; limit = None }; weighed = []; variables = []; lists = []; filters = [] };
   left = [];
   engine = record { calls = 0; due = 0; size = [] };
 }
 
-pub all_branches : (tables : List Table) (bounds : List BoundQuery) (branches : List BranchSeen) (lists : List (List (List ℕ)))
-    → map (λ (b : BranchSeen). b.bound) branches ≡ bounds → map (λ (b : BranchSeen). b.left) branches ≡ lists → length bounds ≤ 8
+pub all_branches : (tables : List Table) (bounds : List BoundQuery) (branches : List BranchView) (lists : List (List (List ℕ)))
+    → map (λ (b : BranchView). b.bound) branches ≡ bounds → map (λ (b : BranchView). b.left) branches ≡ lists → length bounds ≤ 8
     → All (λ (q : BoundQuery). Fits q tables) bounds → AreLeft (queries_bound bounds) tables lists → AreBranches tables branches
 all_branches tables bounds branches lists each left few fits are =
-    let count : length branches ≡ length bounds = sym (length-map branches (λ (b : BranchSeen). b.bound)) ∙ ap length each in
+    let count : length branches ≡ length bounds = sym (length-map branches (λ (b : BranchView). b.bound)) ∙ ap length each in
     record {
       few = omega (arith, count, few);
-      fit = All-from_get_or (λ (b : BranchSeen). Fits b.bound tables) branches none (λ i inside.
+      fit = All-from_get_or (λ (b : BranchView). Fits b.bound tables) branches none (λ i inside.
           let own = All-get_or (λ (q : BoundQuery). Fits q tables) bounds i none.bound (omega (arith, inside, count)) fits in
-          let same : get_or bounds i none.bound ≡ (get_or branches i none).bound = ap (λ (l : List BoundQuery). get_or l i none.bound) (sym each) ∙ get_or-map (λ (b : BranchSeen). b.bound) branches i none none.bound inside in
+          let same : get_or bounds i none.bound ≡ (get_or branches i none).bound = ap (λ (l : List BoundQuery). get_or l i none.bound) (sym each) ∙ get_or-map (λ (b : BranchView). b.bound) branches i none none.bound inside in
           subst (λ (q : BoundQuery). Fits q tables) same own);
-      left = subst (λ (q : List Query). AreLeft q tables (map (λ (b : BranchSeen). b.left) branches)) (sym (same_queries bounds branches each))
+      left = subst (λ (q : List Query). AreLeft q tables (map (λ (b : BranchView). b.left) branches)) (sym (same_queries bounds branches each))
           (subst (λ (l : List (List (List ℕ))). AreLeft (queries_bound bounds) tables l) (sym left) are);
     }

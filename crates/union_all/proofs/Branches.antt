@@ -8,7 +8,7 @@ use Rattle.anyk_model.specs.Query.{IsCombination, Query, rank_of, row_counts}
 use Rattle.anyk_model.specs.Ranking.{is_before}
 use Rattle.bound_query.specs.WeighedQuery.{BoundQuery, Fits}
 use Rattle.union_list.specs.TaggedRows.{branch_at}
-use Rattle.union_all.specs.Merge.{AreBranches, BranchSeen, lists_of, queries_of}
+use Rattle.union_all.specs.Merge.{AreBranches, BranchView, lists_of, queries_of}
 
 -- the sums of the rows of a query's items as they are compared
 abbrev pub sums_in : List Table → List ℕ → Query → List ℤ
@@ -21,19 +21,19 @@ pub less_told : (tables : List Table) (rows others : List ℕ) (one two : Query)
 less_told tables rows others one two other_one other_two result is first second =
     is ∙ (λ i. is_before (sums_in tables rows (first i)) (sums_in tables others (second i)))
 
-module _ (branches : List BranchSeen) (b : ℕ) (inside : b < length branches) (x : BranchSeen) (at : x ≡ get_or branches b x) where
+module _ (branches : List BranchView) (b : ℕ) (inside : b < length branches) (x : BranchView) (at : x ≡ get_or branches b x) where
   -- what is left of the branch
   pub list_at : get_or (lists_of branches) b [] ≡ x.left
-  list_at = get_or-map (λ (s : BranchSeen). s.left) branches b x [] inside ∙ ap (λ (s : BranchSeen). s.left) (sym at)
+  list_at = get_or-map (λ (s : BranchView). s.left) branches b x [] inside ∙ ap (λ (s : BranchView). s.left) (sym at)
 
   -- its query
   pub query_at : branch_at (queries_of branches) b ≡ x.bound.query
   query_at =
-      get_or-map (λ (s : BranchSeen). s.bound.query) branches b x (record { items = []; equalities = []; order = []; list = []; limit = None }) inside
-      ∙ ap (λ (s : BranchSeen). s.bound.query) (sym at)
+      get_or-map (λ (s : BranchView). s.bound.query) branches b x (record { items = []; equalities = []; order = []; list = []; limit = None }) inside
+      ∙ ap (λ (s : BranchView). s.bound.query) (sym at)
 
   -- the same branch, read again
-  pub same_branch : (y : BranchSeen) → y ≡ get_or branches b y → x ≡ y
+  pub same_branch : (y : BranchView) → y ≡ get_or branches b y → x ≡ y
   same_branch y again = get_or_read branches b x inside at y ∙ sym again
 
   -- its first combination
@@ -43,14 +43,14 @@ module _ (branches : List BranchSeen) (b : ℕ) (inside : b < length branches) (
 
   -- is one of its rows
   pub head_fits : (tables : List Table) → AreBranches tables branches → (rows : List ℕ) (later : List (List ℕ)) → x.left ≡ take (length x.bound.query.items) rows ∷ later
-      → (y : BranchSeen) → y ≡ get_or branches b y → (q : BoundQuery) → q ≡ y.bound → IsCombination (row_counts q.query.items tables) (take (length q.query.items) rows)
+      → (y : BranchView) → y ≡ get_or branches b y → (q : BoundQuery) → q ≡ y.bound → IsCombination (row_counts q.query.items tables) (take (length q.query.items) rows)
   head_fits tables all rows later is y again q bound =
       let one = subst (λ (l : List (List ℕ)). AllByRecursion (IsCombination (row_counts (branch_at (queries_of branches) b).items tables)) l) (head_at rows later is) (all.left.combinations b) in
-      let own : branch_at (queries_of branches) b ≡ q.query = query_at ∙ ap (λ (s : BranchSeen). s.bound.query) (same_branch y again) ∙ ap (λ (s : BoundQuery). s.query) (sym bound) in
+      let own : branch_at (queries_of branches) b ≡ q.query = query_at ∙ ap (λ (s : BranchView). s.bound.query) (same_branch y again) ∙ ap (λ (s : BoundQuery). s.query) (sym bound) in
       subst (λ (k : Query). IsCombination (row_counts k.items tables) (take (length k.items) rows)) own one.0
 
   -- its query fits the tables
   pub query_fits : (tables : List Table) → AreBranches tables branches → (q : BoundQuery) → q ≡ x.bound → Fits q tables
   query_fits tables all q bound =
-      let one = All-get_or (λ (s : BranchSeen). Fits s.bound tables) branches b x inside all.fit in
-      subst (λ (k : BoundQuery). Fits k tables) (ap (λ (s : BranchSeen). s.bound) (sym at) ∙ sym bound) one
+      let one = All-get_or (λ (s : BranchView). Fits s.bound tables) branches b x inside all.fit in
+      subst (λ (k : BoundQuery). Fits k tables) (ap (λ (s : BranchView). s.bound) (sym at) ∙ sym bound) one

@@ -13,11 +13,11 @@ use Rattle.union_list.specs.TaggedRows.{Tagged, branch_at, tagged}
 use Rattle.union_list.specs.Union.{left_of}
 use Rattle.union_list.proofs.Merging.{merge_end, merge_step, some_list, tail_up}
 use Rattle.union_all.specs.Firsts.{HasFirst}
-use Rattle.union_all.specs.Merge.{AreBranches, AreLeft, BranchSeen, EngineSeen, HasCalled, IsCalled, Merged, engine_at, engines_of, lists_of, queries_of}
+use Rattle.union_all.specs.Merge.{AreBranches, AreLeft, BranchView, EngineView, HasCalled, IsCalled, MergeView, engine_at, engines_of, lists_of, queries_of}
 use Rattle.union_all.proofs.Branches.{list_at}
 
 -- a merge of these branches, as contracts see it
-abbrev pub merged : List Table → List BranchSeen → Merged
+abbrev pub merged : List Table → List BranchView → MergeView
 merged tables branches = record {
   queries = queries_of branches;
   rest = left_of (queries_of branches) tables (lists_of branches);
@@ -40,44 +40,44 @@ first_left queries tables lists n b all left h =
     merge_step queries tables lists b h.rows h.later left.ascending h.is_first
     (λ c other others apart is. let inside = some_list lists c other others is in h.least c other others (omega (arith, inside, all)) apart is)
 
-module _ (tables : List Table) (branches : List BranchSeen) (b : ℕ) (inside : b < length branches) (x y : BranchSeen) (at : x ≡ get_or branches b x) (bound : y.bound ≡ x.bound) where
-  abbrev after : List BranchSeen
+module _ (tables : List Table) (branches : List BranchView) (b : ℕ) (inside : b < length branches) (x y : BranchView) (at : x ≡ get_or branches b x) (bound : y.bound ≡ x.bound) where
+  abbrev after : List BranchView
   after = set branches b y
 
   same_queries : queries_of after ≡ queries_of branches
-  same_queries = map-set_same (λ (s : BranchSeen). s.bound.query) branches b y x (ap (λ (q : BoundQuery). q.query) bound ∙ ap (λ (s : BranchSeen). s.bound.query) at)
+  same_queries = map-set_same (λ (s : BranchView). s.bound.query) branches b y x (ap (λ (q : BoundQuery). q.query) bound ∙ ap (λ (s : BranchView). s.bound.query) at)
 
   one_list : lists_of after ≡ set (lists_of branches) b y.left
-  one_list = map-set (λ (s : BranchSeen). s.left) branches b y
+  one_list = map-set (λ (s : BranchView). s.left) branches b y
 
   one_engine : engines_of after ≡ set (engines_of branches) b y.engine
-  one_engine = map-set (λ (s : BranchSeen). s.engine) branches b y
+  one_engine = map-set (λ (s : BranchView). s.engine) branches b y
 
   engine_was : engine_at (engines_of branches) b ≡ x.engine
   engine_was =
-      get_or-map (λ (s : BranchSeen). s.engine) branches b x (record { calls = 0; due = 0; size = [] }) inside ∙ ap (λ (s : BranchSeen). s.engine) (sym at)
+      get_or-map (λ (s : BranchView). s.engine) branches b x (record { calls = 0; due = 0; size = [] }) inside ∙ ap (λ (s : BranchView). s.engine) (sym at)
 
   engine_is : engine_at (engines_of after) b ≡ y.engine
   engine_is =
-      ap (λ (l : List EngineSeen). engine_at l b) one_engine
-      ∙ get_or-set_same (engines_of branches) b y.engine (record { calls = 0; due = 0; size = [] }) (omega (arith, inside, length-map branches (λ (s : BranchSeen). s.engine)))
+      ap (λ (l : List EngineView). engine_at l b) one_engine
+      ∙ get_or-set_same (engines_of branches) b y.engine (record { calls = 0; due = 0; size = [] }) (omega (arith, inside, length-map branches (λ (s : BranchView). s.engine)))
 
   pub is_called : (most : List ℕ → ℕ → ℕ) (before now : ℕ) → HasCalled x.engine y.engine → now ≤ before + x.engine.due → now ≤ before + most x.engine.size x.engine.calls
       → IsCalled most (merged tables branches) (merged tables after) b before now
   is_called most before now called cost share = record {
     queries = same_queries;
     count = ap length one_engine ∙ length-set (engines_of branches) b y.engine;
-    others = λ c apart. ap (λ (l : List EngineSeen). engine_at l c) one_engine ∙ get_or-set_other (engines_of branches) b c y.engine (record { calls = 0; due = 0; size = [] }) apart;
-    called = subst (λ (e : EngineSeen). HasCalled e (engine_at (engines_of after) b)) (sym engine_was) (subst (λ (e : EngineSeen). HasCalled x.engine e) (sym engine_is) called);
-    cost = subst (λ (e : EngineSeen). now ≤ before + e.due) (sym engine_was) cost;
-    share = subst (λ (e : EngineSeen). now ≤ before + most e.size e.calls) (sym engine_was) share;
+    others = λ c apart. ap (λ (l : List EngineView). engine_at l c) one_engine ∙ get_or-set_other (engines_of branches) b c y.engine (record { calls = 0; due = 0; size = [] }) apart;
+    called = subst (λ (e : EngineView). HasCalled e (engine_at (engines_of after) b)) (sym engine_was) (subst (λ (e : EngineView). HasCalled x.engine e) (sym engine_is) called);
+    cost = subst (λ (e : EngineView). now ≤ before + e.due) (sym engine_was) cost;
+    share = subst (λ (e : EngineView). now ≤ before + most e.size e.calls) (sym engine_was) share;
   }
 
   module _ (all : AreBranches tables branches) where
-    fits : All (λ (s : BranchSeen). Fits s.bound tables) after
+    fits : All (λ (s : BranchView). Fits s.bound tables) after
     fits =
-        All-set (λ (s : BranchSeen). Fits s.bound tables) branches b y
-        (subst (λ (q : BoundQuery). Fits q tables) (sym (bound ∙ ap (λ (s : BranchSeen). s.bound) at)) (All-get_or (λ (s : BranchSeen). Fits s.bound tables) branches b x inside all.fit)) all.fit
+        All-set (λ (s : BranchView). Fits s.bound tables) branches b y
+        (subst (λ (q : BoundQuery). Fits q tables) (sym (bound ∙ ap (λ (s : BranchView). s.bound) at)) (All-get_or (λ (s : BranchView). Fits s.bound tables) branches b x inside all.fit)) all.fit
 
     few : length after ≤ 8
     few = let h = length-set branches b y in let f = all.few in omega (arith, h, f)
@@ -109,7 +109,7 @@ module _ (tables : List Table) (branches : List BranchSeen) (b : ℕ) (inside : 
       combinations c = elim (cases_eq c b) [
         | inl e ↦
             let own : get_or (set (lists_of branches) b y.left) b [] ≡ y.left =
-            get_or-set_same (lists_of branches) b y.left [] (omega (arith, inside, length-map branches (λ (s : BranchSeen). s.left))) in
+            get_or-set_same (lists_of branches) b y.left [] (omega (arith, inside, length-map branches (λ (s : BranchView). s.left))) in
             let was = subst (λ (l : List (List ℕ)). AllByRecursion (IsCombination (row_counts (branch_at (queries_of branches) b).items tables)) l) head (all.left.combinations b) in
             subst (λ (k : ℕ). AllByRecursion (IsCombination (row_counts (branch_at (queries_of branches) k).items tables)) (get_or (set (lists_of branches) b y.left) k [])) (sym e)
             (subst (λ (l : List (List ℕ)). AllByRecursion (IsCombination (row_counts (branch_at (queries_of branches) b).items tables)) l) (sym own) was.1)
@@ -128,6 +128,6 @@ module _ (tables : List Table) (branches : List BranchSeen) (b : ℕ) (inside : 
           let same : h.rows ∷ h.later ≡ rows ∷ y.left = sym h.is_first ∙ head in
           let first : h.rows ≡ rows = cc same in
           let later : h.later ≡ y.left = cc same in
-          first_left (queries_of branches) tables (lists_of branches) (length branches) b (sym (length-map branches (λ (s : BranchSeen). s.left))) all.left h
+          first_left (queries_of branches) tables (lists_of branches) (length branches) b (sym (length-map branches (λ (s : BranchView). s.left))) all.left h
           ∙ (λ i. tagged b (first i) ∷ left_of (queries_of branches) tables (set (lists_of branches) b (later i)))
           ∙ ap (λ (l : List Tagged). tagged b rows ∷ l) (sym (ap (λ (q : List Query). left_of q tables (lists_of after)) same_queries ∙ ap (left_of (queries_of branches) tables) one_list))

@@ -6,8 +6,8 @@ use Rattle.union_list.specs.TaggedRows.{StandsBefore, Tagged, branch_at, tagged}
 use Rattle.union_all.specs.declared.tagged.Tagged as stored
 
 -- what contracts see of a stored member: its rows are those of the branch's items
-abbrev pub tagged_shown : List Query → stored.Tagged → Tagged
-tagged_shown queries t = tagged t.branch (take (length (branch_at queries t.branch).items) t.rows)
+abbrev pub tagged_view : List Query → stored.Tagged → Tagged
+tagged_view queries t = tagged t.branch (take (length (branch_at queries t.branch).items) t.rows)
 
 module _ (queries : List Query) (tables : List Table) (lists : List (List (List ℕ))) where
   -- the first combination of branch b stands before that of each other branch, of the first n branches

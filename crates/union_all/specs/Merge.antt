@@ -4,38 +4,38 @@ use Rattle.std.specs.List.{All, AllByRecursion}
 use Rattle.anyk_model.specs.Table.{Table}
 use Rattle.anyk_model.specs.Query.{IsCombination, Query, row_counts}
 use Rattle.bound_query.specs.WeighedQuery.{BoundQuery, Fits}
-use Rattle.tdp_core.specs.SeenAnswers.{Seen, counted}
+use Rattle.tdp_core.specs.AnswerView.{AnswerView, counted}
 use Rattle.witness_key.specs.WitnessKey.{combinations_in}
 use Rattle.union_list.specs.TaggedRows.{Tagged, branch_at}
 use Rattle.union_list.specs.Union.{AreAscending}
 
 -- an engine: the number of calls so far, the greatest number of steps of the next call, and what a bound on the steps
 -- depends on beside the calls
-pub record EngineSeen : Type 0 where
+pub record EngineView : Type 0 where
   pub calls : ℕ
   pub due : ℕ
   pub size : List ℕ
 
 -- a branch: its query, the combinations that are left of it, and its engine
-pub record BranchSeen : Type 0 where
+pub record BranchView : Type 0 where
   pub bound : BoundQuery
   pub left : List (List ℕ)
-  pub engine : EngineSeen
+  pub engine : EngineView
 
 -- a merge: the queries of its branches, the members that are left of their union, and the branches' engines
-pub record Merged : Type 0 where
+pub record MergeView : Type 0 where
   pub queries : List Query
   pub rest : List Tagged
-  pub engines : List EngineSeen
+  pub engines : List EngineView
 
-abbrev pub queries_of : List BranchSeen → List Query
-queries_of branches = map (λ (b : BranchSeen). b.bound.query) branches
+abbrev pub queries_of : List BranchView → List Query
+queries_of branches = map (λ (b : BranchView). b.bound.query) branches
 
-abbrev pub lists_of : List BranchSeen → List (List (List ℕ))
-lists_of branches = map (λ (b : BranchSeen). b.left) branches
+abbrev pub lists_of : List BranchView → List (List (List ℕ))
+lists_of branches = map (λ (b : BranchView). b.left) branches
 
-abbrev pub engines_of : List BranchSeen → List EngineSeen
-engines_of branches = map (λ (b : BranchSeen). b.engine) branches
+abbrev pub engines_of : List BranchView → List EngineView
+engines_of branches = map (λ (b : BranchView). b.engine) branches
 
 -- the combination of the first rows, one for each of n items, if there are rows
 abbrev pub first_of : ℕ → Option (List ℕ) → List (List ℕ)
@@ -43,7 +43,7 @@ first_of n None = []
 first_of n (Some rows) = take n rows ∷ []
 
 -- the combinations that each branch's engine has left
-abbrev pub rests_of : {E : Type 0} → (E → List Seen) → List Query → List E → List (List (List ℕ))
+abbrev pub rests_of : {E : Type 0} → (E → List AnswerView) → List Query → List E → List (List (List ℕ))
 rests_of rest [] engines = []
 rests_of rest (query ∷ queries) [] = []
 rests_of rest (query ∷ queries) (engine ∷ engines) = combinations_in query (rest engine)
@@ -58,30 +58,30 @@ pub record AreLeft (queries : List Query) (tables : List Table)
       (get_or lists b [])
 
 -- at most 8 branches, of queries that fit the tables
-pub record AreBranches (tables : List Table) (branches : List BranchSeen) : Type 0 where
+pub record AreBranches (tables : List Table) (branches : List BranchView) : Type 0 where
   pub few : length branches ≤ 8
-  pub fit : All (λ (b : BranchSeen). Fits b.bound tables) branches
+  pub fit : All (λ (b : BranchView). Fits b.bound tables) branches
   pub left : AreLeft (queries_of branches) tables (lists_of branches)
 
 -- # Calls of engines
 
 -- one call was made
-pub record HasCalled (old new : EngineSeen) : Type 0 where
+pub record HasCalled (old new : EngineView) : Type 0 where
   pub calls : new.calls ≡ counted old.calls
   pub size : new.size ≡ old.size
 
-abbrev pub engine_at : List EngineSeen → ℕ → EngineSeen
+abbrev pub engine_at : List EngineView → ℕ → EngineView
 engine_at engines b = get_or engines b (record { calls = 0; due = 0; size = [] })
 
 -- each engine was called once
-abbrev pub AreBegun : List EngineSeen → List EngineSeen → Type 0
+abbrev pub AreBegun : List EngineView → List EngineView → Type 0
 AreBegun [] [] = Unit {0}
 AreBegun [] (new ∷ news) = ⊥
 AreBegun (old ∷ olds) [] = ⊥
 AreBegun (old ∷ olds) (new ∷ news) = HasCalled old new × AreBegun olds news
 
 -- The engine of branch b was called once, and no other. The steps that it took are within what it had due, and within the most that its size and calls allow.
-pub record IsCalled (most : List ℕ → ℕ → ℕ) (old new : Merged) (b before now : ℕ) : Type 0 where
+pub record IsCalled (most : List ℕ → ℕ → ℕ) (old new : MergeView) (b before now : ℕ) : Type 0 where
   pub queries : new.queries ≡ old.queries
   pub count : length new.engines ≡ length old.engines
   pub others : (c : ℕ) → c ≢ b → engine_at new.engines c ≡ engine_at old.engines c

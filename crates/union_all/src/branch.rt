@@ -1,7 +1,7 @@
 //! One branch of a union, with the first of its answers at hand.
 ghost use Rattle.std.specs.Prelude.{◌≡◌, ◌+◌, ◌≤◌, ℕ, [], ◌∷◌, List, length, option_map, take, IfOk, IfSome, IfNone, MatchOption, OnErr};
 ghost use Rattle.witness_key.specs.WitnessKey.{combinations_in};
-ghost use Rattle.union_all.specs.Merge.{BranchSeen, HasCalled};
+ghost use Rattle.union_all.specs.Merge.{BranchView, HasCalled};
 
 use bound_query::Query;
 use rank_key::Rank;
@@ -22,9 +22,9 @@ pub(crate) struct Branch<'q, E: Ranked> {
 impl<'q, E: Ranked> Model for Branch<'q, E> {
     ghost use Rattle.std.specs.Prelude.{◌≡◌, ◌++◌, [], None, length};
     ghost use Rattle.witness_key.specs.WitnessKey.{combinations_in};
-    ghost use Rattle.union_all.specs.Merge.{BranchSeen, first_of};
+    ghost use Rattle.union_all.specs.Merge.{BranchView, first_of};
 
-    ghost Value = { BranchSeen };
+    ghost Value = { BranchView };
 
     ghost view = { λ s. record {
       bound = s.query.now;

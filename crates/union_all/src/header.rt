@@ -3,7 +3,7 @@ ghost use Rattle.std.specs.Prelude.{◌≡◌, ◌≤◌, ◌++◌, ◌∷◌, [
 ghost use Rattle.std.specs.List.{All};
 ghost use Rattle.anyk_model.specs.Output.{numbered};
 ghost use Rattle.bound_query.specs.WeighedQuery.{Fits};
-ghost use Rattle.answer_print.specs.StyleView.{style_shown};
+ghost use Rattle.answer_print.specs.StyleView.{style_view};
 ghost use Rattle.union_list.specs.UnionOutput as output;
 
 use answer_print::{
@@ -28,7 +28,7 @@ pub fn header_of(
     ensures { IfOk result
         (λ text. text.items
         ≡ output.union_header_text (map (λ q. q.query) queries.now) tables.now
-        (style_shown style.now)) }
+        (style_view style.now)) }
 {
     let first = &queries[0];
     let titles = number_titles(alloc, first, most_items(queries), style)?;

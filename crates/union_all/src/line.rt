@@ -5,10 +5,10 @@ ghost use Rattle.std.specs.List.{All};
 ghost use Rattle.anyk_model.specs.Output.{optional_field};
 ghost use Rattle.anyk_model.specs.Query.{IsCombination, row_counts, sum_of, value_of};
 ghost use Rattle.bound_query.specs.WeighedQuery.{Fits};
-ghost use Rattle.answer_print.specs.StyleView.{style_shown};
+ghost use Rattle.answer_print.specs.StyleView.{style_view};
 ghost use Rattle.union_list.specs.TaggedRows.{branch_at};
 ghost use Rattle.union_list.specs.UnionOutput as output;
-ghost use Rattle.union_all.specs.Firsts.{tagged_shown};
+ghost use Rattle.union_all.specs.Firsts.{tagged_view};
 ghost use Rattle.union_all.specs.Rows.{HasRows, rows_of};
 
 use crate::fields::push_empty;
@@ -36,11 +36,11 @@ pub fn line_of(
     requires branch { tagged.now.branch < length queries.now }
     requires fits { All (λ q. Fits q tables.now) queries.now }
     requires rows { let all = map (λ q. q.query) queries.now in
-        let shown = tagged_shown all tagged.now in
+        let shown = tagged_view all tagged.now in
         IsCombination (row_counts (branch_at all shown.branch).items tables.now) shown.rows }
     ensures { let all = map (λ q. q.query) queries.now in IfOk result (λ text. text.items
-        ≡ output.union_line_text all tables.now (style_shown style.now)
-        (tagged_shown all tagged.now)) }
+        ≡ output.union_line_text all tables.now (style_view style.now)
+        (tagged_view all tagged.now)) }
 {
     let query = &queries[tagged.branch as usize];
     let mut numbers = Numbers::new(alloc);
@@ -73,11 +73,11 @@ pub fn write_line_of(
     requires branch { tagged.now.branch < length queries.now }
     requires fits { All (λ q. Fits q tables.now) queries.now }
     requires rows { let all = map (λ q. q.query) queries.now in
-        let shown = tagged_shown all tagged.now in
+        let shown = tagged_view all tagged.now in
         IsCombination (row_counts (branch_at all shown.branch).items tables.now) shown.rows }
     ensures { let all = map (λ q. q.query) queries.now in OnOk result (writer.new
-        ≡ output.union_line_text all tables.now (style_shown style.now)
-        (tagged_shown all tagged.now)) }
+        ≡ output.union_line_text all tables.now (style_view style.now)
+        (tagged_view all tagged.now)) }
 {
     let query = &queries[tagged.branch as usize];
     writer.numbers.clear();

@@ -4,7 +4,7 @@ ghost use Rattle.std.specs.List.{All, sum_by};
 ghost use Rattle.bound_query.specs.WeighedQuery.{Fits};
 ghost use Rattle.union_list.specs.TaggedRows as union;
 ghost use Rattle.union_list.specs.Union.{left_of};
-ghost use Rattle.union_all.specs.Firsts.{tagged_shown};
+ghost use Rattle.union_all.specs.Firsts.{tagged_view};
 ghost use Rattle.union_all.specs.Merge.{AreBegun, AreLeft, IsCalled, rests_of};
 
 use crate::branch::Branch;
@@ -28,9 +28,9 @@ pub struct Merge<'q, E: Ranked> {
 
 impl<'q, E: Ranked> Model for Merge<'q, E> {
     ghost use Rattle.union_list.specs.Union.{left_of};
-    ghost use Rattle.union_all.specs.Merge.{AreBranches, Merged, engines_of, lists_of, queries_of};
+    ghost use Rattle.union_all.specs.Merge.{AreBranches, MergeView, engines_of, lists_of, queries_of};
 
-    ghost Value = { Merged };
+    ghost Value = { MergeView };
 
     ghost view = { λ s. record {
       queries = queries_of s.branches.items;
@@ -72,7 +72,7 @@ impl<'q, E: Ranked + Drop> Merge<'q, E> {
     /// the member is taken out. `NoMemory` if memory is refused; no member is lost then.
     pub fn next<L: Ledger>(&mut self, steps: &mut Steps<L>) -> Result<Option<Tagged>, NoMemory>
         ensures found { IfOk result
-            (λ o. IfSome o (λ t. (self.old.rest ≡ tagged_shown self.old.queries t ∷ self.new.rest)
+            (λ o. IfSome o (λ t. (self.old.rest ≡ tagged_view self.old.queries t ∷ self.new.rest)
             × IsCalled E.share self.old self.new t.branch steps.old steps.new)) }
         ensures end { IfOk result
             (λ o. IfNone o ((self.old.rest ≡ []) × (self.new ≡ self.old)

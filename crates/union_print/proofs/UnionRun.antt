@@ -13,7 +13,7 @@ use Rattle.anyk_model.specs.Table.{Table}
 use Rattle.command_union.specs.UnionSteps.{AreMembers, IsMember as IsUnionMember, steps_from}
 use Rattle.engine_choice.specs.Engines.{calls_of, rest_of, tree_of}
 use Rattle.engine_choice.specs.declared.engine.ChosenEngine.{ChosenEngine}
-use Rattle.plan_model.specs.Plan.{IsPlanOf, PlanData}
+use Rattle.plan_model.specs.Plan.{IsPlanOf, PlanView}
 use Rattle.plan_build.proofs.ShapeIs.{rows_counted}
 use Rattle.plan_build.proofs.Rooted.{whole_of}
 use Rattle.plan_model.specs.Plans.{ArePrepared, HavePlans, preparation_of}
@@ -23,11 +23,11 @@ use Rattle.rankings.specs.Order.{IsMember}
 use Rattle.step_bounds.specs.RunBounds.{cost_over}
 use Rattle.step_bounds.specs.Steps.{steps_for}
 use Rattle.tdp_core.specs.RisingShares.{shares_rise}
-use Rattle.tdp_core.specs.SeenAnswers.{counted}
+use Rattle.tdp_core.specs.AnswerView.{counted}
 use Rattle.tdp_core.specs.Shares.{share_of, size_of}
 use Rattle.tdp_core.specs.WellFormed.{IsTieFreeTree}
 use Rattle.tdp_model.specs.KeyTuple.{KeyOf}
-use Rattle.union_all.specs.Merge.{AreBegun, EngineSeen, HasCalled, rests_of}
+use Rattle.union_all.specs.Merge.{AreBegun, EngineView, HasCalled, rests_of}
 use Rattle.union_list.specs.TaggedRows.{Tagged, branch_at}
 use Rattle.union_list.specs.Union.{left_of, members_in, union_of}
 use Rattle.union_list.proofs.Unions.{rankings_union, union_is}
@@ -41,26 +41,26 @@ use Rattle.plan_engine.proofs.RunBounds.{called, started}
 
 module _ {R : Type 0} (d : ℕ) (key : R → KeyOf d 16) where
   -- the engines over the first plans, and the steps that they took
-  pub record HasStarted (plans : List (PlanData R)) (n : ℕ) (engines : List (ChosenEngine R)) (before now : ℕ) : Type
+  pub record HasStarted (plans : List (PlanView R)) (n : ℕ) (engines : List (ChosenEngine R)) (before now : ℕ) : Type
       0 where
     pub started : AreStarted d key (take n plans) engines
     pub count : length engines ≡ n
     pub cost : now ≤ before + starts_of (take n plans)
 
-  pub none_started : (plans : List (PlanData R)) (before : ℕ) → HasStarted plans 0 [] before before
+  pub none_started : (plans : List (PlanView R)) (before : ℕ) → HasStarted plans 0 [] before before
   none_started plans before = record { started = tt; count = refl; cost = omega arith }
 
-  pub started_more : (plans : List (PlanData R)) (n : ℕ) (engines : List (ChosenEngine R)) (before now new : ℕ)
-      (plan : PlanData R) (engine : ChosenEngine R)
+  pub started_more : (plans : List (PlanView R)) (n : ℕ) (engines : List (ChosenEngine R)) (before now new : ℕ)
+      (plan : PlanView R) (engine : ChosenEngine R)
       → HasStarted plans n engines before now → n < length plans → plan ≡ get_or plans n plan
       → IsStarted d key plan engine → new ≤ now + start_of plan
       → HasStarted plans (n + 1) (engines ++ engine ∷ []) before new
   started_more plans n engines before now new plan engine was inside at is cost =
       let taken : take (n + 1) plans ≡ take n plans ++ plan ∷ [] =
-      take_more plans n plan inside ∙ ap (λ (p : PlanData R). take n plans ++ p ∷ []) (sym at) in
+      take_more plans n plan inside ∙ ap (λ (p : PlanView R). take n plans ++ p ∷ []) (sym at) in
       let more = all_zipped_more (IsStarted d key) (take n plans) engines plan engine was.started is in
       let all : AreStarted d key (take (n + 1) plans) (engines ++ engine ∷ []) =
-      subst (λ (ps : List (PlanData R)). AreStarted d key ps (engines ++ engine ∷ [])) (sym taken) more in
+      subst (λ (ps : List (PlanView R)). AreStarted d key ps (engines ++ engine ∷ [])) (sym taken) more in
       let count = AllZip-long (IsStarted d key) (take (n + 1) plans) (engines ++ engine ∷ []) all in
       let length_taken = length-take-le (n + 1) plans (omega (arith, inside)) in
       let sum = sum_by_more (start_of {R = R}) plans n plan inside in
@@ -68,24 +68,24 @@ module _ {R : Type 0} (d : ℕ) (key : R → KeyOf d 16) where
       let spent = was.cost in
       record { started = all; count = count ∙ length_taken; cost = omega (arith, sum, own, spent, cost) }
 
-  pub all_started : (plans : List (PlanData R)) (n : ℕ) (engines : List (ChosenEngine R)) (before now : ℕ)
+  pub all_started : (plans : List (PlanView R)) (n : ℕ) (engines : List (ChosenEngine R)) (before now : ℕ)
       → HasStarted plans n engines before now
       → n ≡ length plans → AreStarted d key plans engines
   all_started plans n engines before now was at =
-      subst (λ (ps : List (PlanData R)). AreStarted d key ps engines)
+      subst (λ (ps : List (PlanView R)). AreStarted d key ps engines)
       (ap (λ (k : ℕ). take k plans) at ∙ take-length plans) was.started
 
-  pub all_spent : (plans : List (PlanData R)) (n : ℕ) (engines : List (ChosenEngine R)) (before now : ℕ)
+  pub all_spent : (plans : List (PlanView R)) (n : ℕ) (engines : List (ChosenEngine R)) (before now : ℕ)
       → HasStarted plans n engines before now
       → n ≡ length plans → now ≤ before + starts_of plans
   all_spent plans n engines before now was at =
-      let whole = ap (λ (ps : List (PlanData R)). starts_of ps) (ap (λ (k : ℕ). take k plans) at ∙ take-length plans) in
+      let whole = ap (λ (ps : List (PlanView R)). starts_of ps) (ap (λ (k : ℕ). take k plans) at ∙ take-length plans) in
       let spent = was.cost in
       omega (arith, whole, spent)
 
   -- after one more engine
-  pub some_spent : (plans : List (PlanData R)) (n : ℕ) (engines : List (ChosenEngine R)) (before now new : ℕ)
-      (plan : PlanData R)
+  pub some_spent : (plans : List (PlanView R)) (n : ℕ) (engines : List (ChosenEngine R)) (before now new : ℕ)
+      (plan : PlanView R)
       → HasStarted plans n engines before now → n < length plans → plan ≡ get_or plans n plan
       → new ≤ now + start_of plan → new ≤ before + starts_of plans
   some_spent plans n engines before now new plan was inside at cost =
@@ -95,25 +95,25 @@ module _ {R : Type 0} (d : ℕ) (key : R → KeyOf d 16) where
       omega (arith, more, own, spent, cost)
 
   module _ (tables : List Table) where
-    pub tie_free_lem : (queries : List BoundQuery) (plans : List (PlanData R)) → HavePlans d key tables queries plans
-        → All (λ (p : PlanData R). IsTieFreeTree p.tree) plans
-    tie_free_lem [] [] h = All-nil (λ (p : PlanData R). IsTieFreeTree p.tree)
+    pub tie_free_lem : (queries : List BoundQuery) (plans : List (PlanView R)) → HavePlans d key tables queries plans
+        → All (λ (p : PlanView R). IsTieFreeTree p.tree) plans
+    tie_free_lem [] [] h = All-nil (λ (p : PlanView R). IsTieFreeTree p.tree)
     tie_free_lem [] (plan ∷ plans) h = absurd h
     tie_free_lem (query ∷ queries) [] h = absurd h
     tie_free_lem (query ∷ queries) (plan ∷ plans) h =
-        All-cons (λ (p : PlanData R). IsTieFreeTree p.tree) plan plans
+        All-cons (λ (p : PlanView R). IsTieFreeTree p.tree) plan plans
         (whole_of d key query tables None plan h.0).tie_free (tie_free_lem queries plans h.1)
 
-    pub engines_same : (queries : List BoundQuery) (plans : List (PlanData R)) (engines : List (ChosenEngine R))
+    pub engines_same : (queries : List BoundQuery) (plans : List (PlanView R)) (engines : List (ChosenEngine R))
         → HavePlans d key tables queries plans
         → AreStarted d key plans engines → length engines ≡ length queries
     engines_same queries plans engines have started =
         AllZip-long (IsStarted d key) plans engines started
-        ∙ AllZip-long (λ (q : BoundQuery) (p : PlanData R). IsPlanOf d key q tables None p) queries plans have
+        ∙ AllZip-long (λ (q : BoundQuery) (p : PlanView R). IsPlanOf d key q tables None p) queries plans have
 
     -- # What is left
 
-    pub rests_are : (queries : List BoundQuery) (plans : List (PlanData R)) (engines : List (ChosenEngine R))
+    pub rests_are : (queries : List BoundQuery) (plans : List (PlanView R)) (engines : List (ChosenEngine R))
         → HavePlans d key tables queries plans
         → AreStarted d key plans engines
         → rests_of (rest_of d key) (queries_in queries) engines ≡ map (λ query. ranking_of query tables)
@@ -126,7 +126,7 @@ module _ {R : Type 0} (d : ℕ) (key : R → KeyOf d 16) where
         let rest = rests_are queries plans engines have.1 started.1 in
         (λ i. first i ∷ rest i)
 
-    pub union_left : (queries : List BoundQuery) (plans : List (PlanData R)) (engines : List (ChosenEngine R))
+    pub union_left : (queries : List BoundQuery) (plans : List (PlanView R)) (engines : List (ChosenEngine R))
         → HavePlans d key tables queries plans
         → AreStarted d key plans engines
         → left_of (queries_in queries) tables (rests_of (rest_of d key) (queries_in queries) engines) ≡ union_of
@@ -140,7 +140,7 @@ module _ {R : Type 0} (d : ℕ) (key : R → KeyOf d 16) where
     abbrev due_of : ChosenEngine R → ℕ
     due_of e = share_of (size_of (tree_of e)) (calls_of e)
 
-    abbrev seen_of : ChosenEngine R → EngineSeen
+    abbrev seen_of : ChosenEngine R → EngineView
     seen_of e = record { calls = calls_of e; due = due_of e; size = size_of (tree_of e) }
 
     counted_none : (n : ℕ) → n ≡ 0 → counted n ≡ 1
@@ -163,7 +163,7 @@ module _ {R : Type 0} (d : ℕ) (key : R → KeyOf d 16) where
         omega (arith, more, same, whole)
 
     -- one branch with m members
-    one_branch : (query : BoundQuery) (plan : PlanData R) (engine : ChosenEngine R) (new : EngineSeen) (shape : Shape)
+    one_branch : (query : BoundQuery) (plan : PlanView R) (engine : ChosenEngine R) (new : EngineView) (shape : Shape)
         (m : ℕ) → Fits query tables
         → IsPlanOf d key query tables None plan → IsStarted d key plan engine → HasCalled (seen_of engine) new
         → IsShape query.query tables (Ok shape)
@@ -188,8 +188,8 @@ module _ {R : Type 0} (d : ℕ) (key : R → KeyOf d 16) where
         (omega arith) in
         omega (arith, due, steps, within, all)
 
-    pub begun_within : (list : List Tagged) (b : ℕ) (queries : List BoundQuery) (plans : List (PlanData R))
-        (engines : List (ChosenEngine R)) (news : List EngineSeen)
+    pub begun_within : (list : List Tagged) (b : ℕ) (queries : List BoundQuery) (plans : List (PlanView R))
+        (engines : List (ChosenEngine R)) (news : List EngineView)
         (shapes : List Shape) → All (λ (q : BoundQuery). Fits q tables) queries → HavePlans d key tables queries plans
         → AreStarted d key plans engines
         → AreBegun (map seen_of engines) news → HaveShapes tables (queries_in queries) shapes
@@ -220,7 +220,7 @@ module _ {R : Type 0} (d : ℕ) (key : R → KeyOf d 16) where
         omega (arith, first, rest, preparations, starts, dues)
 
     -- engines that were called once
-    abbrev news_of : List (ChosenEngine R) → List EngineSeen
+    abbrev news_of : List (ChosenEngine R) → List EngineView
     news_of engines = map (λ (e : ChosenEngine R). record
         { calls = counted (calls_of e); due = 0; size = size_of (tree_of e) }) engines
 
@@ -229,7 +229,7 @@ module _ {R : Type 0} (d : ℕ) (key : R → KeyOf d 16) where
     news_begun (engine ∷ engines) = (record { calls = refl; size = refl }, news_begun engines)
 
     -- before any member
-    pub due_within : (list : List Tagged) (b : ℕ) (queries : List BoundQuery) (plans : List (PlanData R))
+    pub due_within : (list : List Tagged) (b : ℕ) (queries : List BoundQuery) (plans : List (PlanView R))
         (engines : List (ChosenEngine R)) (shapes : List Shape)
         → All (λ (q : BoundQuery). Fits q tables) queries → HavePlans d key tables queries plans
         → AreStarted d key plans engines
@@ -241,7 +241,7 @@ module _ {R : Type 0} (d : ℕ) (key : R → KeyOf d 16) where
         (news_begun engines) has in omega (arith, all)
 
     -- before any engine was called
-    pub starts_within : (list : List Tagged) (b : ℕ) (queries : List BoundQuery) (plans : List (PlanData R))
+    pub starts_within : (list : List Tagged) (b : ℕ) (queries : List BoundQuery) (plans : List (PlanView R))
         (shapes : List Shape)
         → All (λ (q : BoundQuery). Fits q tables) queries → HavePlans d key tables queries plans
         → HaveShapes tables (queries_in queries) shapes
@@ -266,7 +266,7 @@ module _ {R : Type 0} (d : ℕ) (key : R → KeyOf d 16) where
 
     -- # All steps of a run over the queries
 
-    module _ (queries : List BoundQuery) (plans : List (PlanData R))
+    module _ (queries : List BoundQuery) (plans : List (PlanView R))
         (fits : All (λ (q : BoundQuery). Fits q tables) queries)
         (have : HavePlans d key tables queries plans) (before now : ℕ)
         (prepared : ArePrepared (queries_in queries) tables before now) where
@@ -288,7 +288,7 @@ module _ {R : Type 0} (d : ℕ) (key : R → KeyOf d 16) where
           omega (arith, prepared, cost, first, all)
 
       -- with the members of this list
-      pub called_any : (engines : List (ChosenEngine R)) (news : List EngineSeen) → AreStarted d key plans engines
+      pub called_any : (engines : List (ChosenEngine R)) (news : List EngineView) → AreStarted d key plans engines
           → AreBegun (map seen_of engines) news
           → (new made last : ℕ) → new ≤ now + starts_of plans → made ≤ new + sum_by due_of engines
           → (list : List Tagged)

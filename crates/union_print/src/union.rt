@@ -2,7 +2,7 @@
 ghost use Rattle.std.specs.Prelude.{◌≡◌, ◌≤◌, ◌+◌, None, IfOk, length, vec_len, ℕ};
 ghost use Rattle.std.specs.List.{All};
 ghost use Rattle.anyk_model.specs.Output.{cut};
-ghost use Rattle.answer_print.specs.StyleView.{style_shown};
+ghost use Rattle.answer_print.specs.StyleView.{style_view};
 ghost use Rattle.plan_model.specs.Plans.{ArePrepared, HavePlans};
 ghost use Rattle.bound_query.specs.WeighedQuery.{Fits};
 ghost use Rattle.refusal_lines.specs.Printing.{Printed};
@@ -51,7 +51,7 @@ pub fn print_union_run<'a, R: Rank, S: Sink, L: Ledger>(
     requires plans { HavePlans R.KEYS R.key tables.now queries.now plans.now }
     ensures printed { let all = queries_in queries.now in
         Printed (state_of S.Sink out.old) (state_of S.Sink out.new)
-        (union_output_of all tables.now (style_shown style.now)
+        (union_output_of all tables.now (style_view style.now)
         (cut (branch_at all 0).limit (union_of all tables.now))) result }
     ensures bounded { let all = queries_in queries.now in
         (before : ℕ) → ArePrepared all tables.now before steps.old
@@ -60,7 +60,7 @@ pub fn print_union_run<'a, R: Rank, S: Sink, L: Ledger>(
     ensures paced { let all = queries_in queries.now in
         (before : ℕ) → ArePrepared all tables.now before steps.old
         → KeepsUnionPace all tables.now (cut (branch_at all 0).limit (union_of all tables.now))
-        (style_shown style.now) (S.written out.old) (S.written out.new) before steps.new }
+        (style_view style.now) (S.written out.old) (S.written out.new) before steps.new }
 {
     let arenas = arenas_for(alloc, plans.len())?;
     let engines = engines_over(alloc, engine, plans, arenas.as_slice(), steps)?;

@@ -4,7 +4,7 @@ use Rattle.std.specs.Prelude.{◌≡◌, ℕ, List, length, map, take}
 use Rattle.std.specs.List.{AllByRecursion}
 use Rattle.tdp_model.specs.KeyTuple.{KeyOf}
 use Rattle.tdp_model.specs.KeyNumbers.{key_of_lists}
-use Rattle.tdp_core.specs.SeenAnswers.{Seen, answer_of}
+use Rattle.tdp_core.specs.AnswerView.{AnswerView, answer_of}
 use Rattle.anyk_model.specs.Table.{Table}
 use Rattle.anyk_model.specs.Query.{Query, IsCombination, IsWitness, rank_of, row_counts}
 
@@ -23,19 +23,19 @@ pub record IsWitnessKey (d : ℕ) (query : Query) (tables : List Table)
 
 -- the answer that stands for a combination: its row numbers, filled with zeros up to 16, and the
 -- numbers of its key
-abbrev pub answer_of_witness : (d : ℕ) → Query → List Table → List ℕ → Seen
+abbrev pub answer_of_witness : (d : ℕ) → Query → List Table → List ℕ → AnswerView
 answer_of_witness d query tables rows = answer_of d (witness_key d query tables rows)
 
 -- the answers that stand for combinations
-abbrev pub answers_of_ranking : (d : ℕ) → Query → List Table → List (List ℕ) → List Seen
+abbrev pub answers_of_ranking : (d : ℕ) → Query → List Table → List (List ℕ) → List AnswerView
 answers_of_ranking d query tables list = map (answer_of_witness d query tables) list
 
 -- the combinations that answers stand for: the rows of the query's items, of each answer
-abbrev pub combinations_in : Query → List Seen → List (List ℕ)
-combinations_in query answers = map (λ (a : Seen). take (length query.items) a.rows) answers
+abbrev pub combinations_in : Query → List AnswerView → List (List ℕ)
+combinations_in query answers = map (λ (a : AnswerView). take (length query.items) a.rows) answers
 
 -- each answer stands for a combination of rows of the query's items
-abbrev pub AreCombinations : Query → List Table → List Seen → Type 0
+abbrev pub AreCombinations : Query → List Table → List AnswerView → Type 0
 AreCombinations query tables answers =
-    AllByRecursion (λ (a : Seen). IsCombination (row_counts query.items tables)
+    AllByRecursion (λ (a : AnswerView). IsCombination (row_counts query.items tables)
     (take (length query.items) a.rows)) answers

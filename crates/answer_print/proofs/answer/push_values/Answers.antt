@@ -2,7 +2,7 @@ use Rattle.std.proofs.Common.{◌≡◌, ◌-◌, ℕ, get_or, length, take, ap,
 use Rattle.anyk_model.specs.Table.{field_at, table_at}
 use Rattle.anyk_model.specs.Query.{value_of}
 use Rattle.bound_query.specs.Items.{item_at}
-use Rattle.bound_query.specs.StoredParts.{column_shown}
+use Rattle.bound_query.specs.StoredParts.{column_view}
 use Rattle.answer_print.proofs.Places.{column_there, row_there}
 use Rattle.answer_print.proofs.Pushing.{element_more}
 use Rattle.answer_print.proofs.answer.push_values.Goals as goal
@@ -46,8 +46,8 @@ loop-item-preserved c =
     let column = get_or c.columns-item-items.result.now c.loop-item.item-index (0, 0) in
     let row = row_there tables query.items c.args.rows.now column.0 c.requires.rows there.item in
     let chosen = take (length query.items) c.args.rows.now in
-    let read : c.field.result.now ≡ value_of query tables chosen (get_or query.list c.loop-item.item-index (column_shown (0, 0))) =
+    let read : c.field.result.now ≡ value_of query tables chosen (get_or query.list c.loop-item.item-index (column_view (0, 0))) =
     c.field.ensures ∙ ap (λ (t : ℕ). field_at (table_at tables t) (get_or c.args.rows.now column.0 0 - 1) column.1) c.table_of-table.ensures
     ∙ ap (λ (r : ℕ). field_at (table_at tables (item_at query.items column.0).table) (r - 1) column.1) (sym row.same) ∙ ap (value_of query tables chosen) there.same in
-    element_more (λ f. f.now) (value_of query tables chosen) c.loop-item.fields.items c.push.new.self.items c.field.result _ query.list c.loop-item.item-index (column_shown (0, 0))
+    element_more (λ f. f.now) (value_of query tables chosen) c.loop-item.fields.items c.push.new.self.items c.field.result _ query.list c.loop-item.item-index (column_view (0, 0))
     c.loop-item.invariant c.in_ok-push.ensures.ok read there.place

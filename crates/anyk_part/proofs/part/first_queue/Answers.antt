@@ -4,7 +4,7 @@ use Rattle.take2_heap.specs.declared.entry.Entry.{Entry}
 use Rattle.rank_key.specs.Bits.{bit_length}
 use Rattle.rank_key.proofs.BitLemmas.{bit_length_is}
 use Rattle.tdp_core.specs.Solutions.{IsTreeRanking}
-use Rattle.tdp_core.specs.TreeData.{members, rows, group_count}
+use Rattle.tdp_core.specs.TreeView.{members, rows, group_count}
 use Rattle.tdp_core.proofs.TreeFacts.{member_is_row}
 use Rattle.anyk_part.specs.declared.candidate.Candidate.{Candidate}
 use Rattle.anyk_part.specs.Regions.{IsPart, rest_keys, regions_of}

@@ -1,6 +1,6 @@
 use Rattle.std.proofs.Common.{rules, ◌≡◌, ◌<◌, length, ◌∙◌, arith}
 use Rattle.std.proofs.Math.ListN.{length-set}
-use Rattle.tdp_core.specs.TreeData.{parent, child_count, child_place}
+use Rattle.tdp_core.specs.TreeView.{parent, child_count, child_place}
 use Rattle.anyk_part.proofs.Placed.{placed_next}
 use Rattle.anyk_part.proofs.paths.child_places.Goals as goal
 

@@ -1,5 +1,5 @@
 use Rattle.std.proofs.Common.{◌≡◌, ℕ, ◌<◌, length, get_or}
-use Rattle.tdp_core.specs.TreeData.{parent, child_count, child_place}
+use Rattle.tdp_core.specs.TreeView.{parent, child_count, child_place}
 use Rattle.anyk_part.proofs.paths.child_places.Given as goal
 
 abbrev pub invariant-loop-node : goal.invariant-loop-node

@@ -1,5 +1,5 @@
 use Rattle.std.proofs.Common.{rules, ◌≡◌, ◌<◌, get_or, subst, sym, arith}
-use Rattle.tdp_core.specs.TreeData.{parent, rows, child_count}
+use Rattle.tdp_core.specs.TreeView.{parent, rows, child_count}
 use Rattle.anyk_part.proofs.paths.group_at.Goals as goal
 
 pub bounds-chosen-parent : goal.bounds-chosen-parent

@@ -1,7 +1,7 @@
 use Rattle.std.proofs.Common.{rules, ◌≡◌, ◌≢◌, ℕ, ◌+◌, ◌<◌, ◌≤◌, length, get_or, ◌∙◌, subst, arith}
 use Rattle.std.proofs.Common.{ap, sym}
 use Rattle.std.proofs.Math.ListN.{set, length-set}
-use Rattle.tdp_core.specs.TreeData.{item, number}
+use Rattle.tdp_core.specs.TreeView.{item, number}
 use Rattle.anyk_part.proofs.Numbers.{numbers_are, own_next, others_next}
 use Rattle.anyk_part.proofs.paths.row_numbers.Goals as goal
 

@@ -1,6 +1,6 @@
 use Rattle.std.proofs.Common.{ℕ, List, None, Option, Some}
 use Rattle.std.specs.String.{string_bytes}
-use Rattle.cmd_words.specs.ArgumentMeaning.{seen_words}
+use Rattle.cmd_words.specs.ArgumentMeaning.{words_view}
 use Rattle.outer_io.specs.Files.{Files}
 use Rattle.verdict.specs.Bound.{IsBounded, IsPrompt}
 use Rattle.verdict.specs.Words.{Words, built, verify}
@@ -48,11 +48,11 @@ returns-in-Verify-clause-cut g c = rw c.in-Verify.is (rw c.as_str.ensures.value 
 pub returns-in-Verify-clause-bounded : goal.returns-in-Verify-clause-bounded
 returns-in-Verify-clause-bounded g c =
     rw c.in-Verify.is
-    (verify_bounded (string_bytes c.in-Verify.proof) (words_of (seen_words c.in-Verify.words)) (g.F.Shelf.files c.args.shelf.now)
+    (verify_bounded (string_bytes c.in-Verify.proof) (words_of (words_view c.in-Verify.words)) (g.F.Shelf.files c.args.shelf.now)
     c.args.steps.now c.answer_verified.new.steps)
 
 pub returns-in-Verify-clause-prompt : goal.returns-in-Verify-clause-prompt
 returns-in-Verify-clause-prompt g c =
     rw c.in-Verify.is
-    (verify_prompt (string_bytes c.in-Verify.proof) (words_of (seen_words c.in-Verify.words)) (g.F.Shelf.files c.args.shelf.now)
+    (verify_prompt (string_bytes c.in-Verify.proof) (words_of (words_view c.in-Verify.words)) (g.F.Shelf.files c.args.shelf.now)
     (g.S.Sink.written c.args.out.now) (g.S.Sink.written c.answer_verified.new.out) c.args.steps.now c.answer_verified.new.steps)

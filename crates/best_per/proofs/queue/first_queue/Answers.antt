@@ -5,7 +5,7 @@ use Rattle.take2_heap.specs.declared.entry.Entry.{Entry}
 use Rattle.rank_key.specs.Bits.{bit_length}
 use Rattle.rank_key.proofs.BitLemmas.{bit_length_is}
 use Rattle.tdp_model.specs.KeyTuple.{KeyOf}
-use Rattle.tdp_core.specs.TreeData.{NodeData, node_at, group_count}
+use Rattle.tdp_core.specs.TreeView.{NodeView, node_at, group_count}
 use Rattle.tdp_core.specs.WellFormed.{IsFormed, IsTieFreeTree}
 use Rattle.tree_dp.specs.BestRanking.{IsBestRanking}
 use Rattle.best_per.specs.RootHeap.{root_len, rest_keys, IsPlace, IsQueue}
@@ -14,7 +14,7 @@ use Rattle.best_per.proofs.Queues.{queue_begins}
 use Rattle.best_per.proofs.queue.first_queue.Goals as goal
 
 -- the queue over a tree without solutions
-none_begins : {R : Type 0} (d : ℕ) (key : R → KeyOf d 16) (t : List (NodeData R)) (es : List (Entry R ℕ)) (spare : ℕ) → IsFormed d key t → IsTieFreeTree t → group_count t 0 ≤ 0 → es ≡ []
+none_begins : {R : Type 0} (d : ℕ) (key : R → KeyOf d 16) (t : List (NodeView R)) (es : List (Entry R ℕ)) (spare : ℕ) → IsFormed d key t → IsTieFreeTree t → group_count t 0 ≤ 0 → es ≡ []
     → IsQueue d key t es spare × IsBestRanking t d key (rest_keys d key t es)
 none_begins {R} d key t es spare formed apart dead is =
     let none : root_len t ≤ 0 = omega (arith, ap length (get_or_past (node_at t 0).groups 0 [] dead)) in

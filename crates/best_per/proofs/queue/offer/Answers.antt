@@ -2,7 +2,7 @@ use Rattle.std.proofs.Common.{◌<◌, ◌≤◌, ◌∙◌, ℕ, ap, sym, subst
 use Rattle.std.proofs.lemmas.List.Elements.{All-cons}
 use Rattle.std.proofs.lemmas.List.Sorted.{All-permutation, length_permutation, sum_by_pushed}
 use Rattle.take2_heap.specs.declared.entry.Entry.{Entry}
-use Rattle.tdp_core.specs.TreeData.{rows, best}
+use Rattle.tdp_core.specs.TreeView.{rows, best}
 use Rattle.tdp_core.proofs.TreeFacts.{member_is_row}
 use Rattle.best_per.specs.RootHeap.{root_len, holds, IsPlace}
 use Rattle.best_per.proofs.Places.{none_past}

@@ -6,7 +6,7 @@ use Rattle.clap.specs.Faults.{fault_of, is_simple_and_free}
 use Rattle.clap.specs.Matches.{found_of}
 use Rattle.clap.specs.Simple.{is_simple, matches_of}
 use Rattle.clap.specs.Walk.{rows_of}
-use Rattle.cmd_words.specs.ArgumentMeaning.{seen_texts}
+use Rattle.cmd_words.specs.ArgumentMeaning.{arguments_view}
 use Rattle.cmd_words.specs.Arguments.{prove_app}
 use Rattle.cmd_words.proofs.Taken.{at_known, same_error, prove_taken, prove_refused, prove_simple, prove_free}
 use Rattle.cmd_words.proofs.reading.read_prove.Goals as goal
@@ -27,10 +27,10 @@ pub returns-clause-words : goal.returns-clause-words
 returns-clause-words c = IfOk-weaker c.read_texts.result _ _ (λ said h. prove_taken prove_app (map string_bytes c.args.words.now) (rows_of (found_of c.in_ok-matches.matches))
     (at_known c.prove_command.result prove_app (λ app. fault_of app (map string_bytes c.args.words.now) ≡ []) c.prove_command.ensures c.in_ok-matches.ensures.taken)
     (at_known c.prove_command.result prove_app (λ app. rows_of (found_of c.in_ok-matches.matches) ≡ matches_of app (map string_bytes c.args.words.now)) c.prove_command.ensures c.in_ok-matches.ensures.matches)
-    (seen_texts c.texts_of-texts.result) c.texts_of-texts.ensures refl ∙ h) c.read_texts.ensures.words
+    (arguments_view c.texts_of-texts.result) c.texts_of-texts.ensures refl ∙ h) c.read_texts.ensures.words
 
 pub returns-clause-usage : goal.returns-clause-usage
 returns-clause-usage c = λ h. prove_taken prove_app (map string_bytes c.args.words.now) (rows_of (found_of c.in_ok-matches.matches))
     (at_known c.prove_command.result prove_app (λ app. fault_of app (map string_bytes c.args.words.now) ≡ []) c.prove_command.ensures c.in_ok-matches.ensures.taken)
     (at_known c.prove_command.result prove_app (λ app. rows_of (found_of c.in_ok-matches.matches) ≡ matches_of app (map string_bytes c.args.words.now)) c.prove_command.ensures c.in_ok-matches.ensures.matches)
-    (seen_texts c.texts_of-texts.result) c.texts_of-texts.ensures refl ∙ c.read_texts.ensures.usage h
+    (arguments_view c.texts_of-texts.result) c.texts_of-texts.ensures refl ∙ c.read_texts.ensures.usage h

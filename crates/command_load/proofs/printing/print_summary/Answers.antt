@@ -1,5 +1,5 @@
 use Rattle.std.proofs.Common.{◌≡◌, Err, length, sym, take, rules}
-use Rattle.tdp_core.specs.SeenAnswers.{Seen}
+use Rattle.tdp_core.specs.AnswerView.{AnswerView}
 use Rattle.refusal_lines.specs.declared.refusal.Refusal.TheVariants as refusal
 use Rattle.refusal_lines.proofs.Prints.{unprinted}
 use Rattle.command_load.proofs.Members.{calls_map, ends_text_lem, first_rows, last_rows}
@@ -29,5 +29,5 @@ returns-clause-printed g c =
 pub returns-clause-bounded : goal.returns-clause-bounded
 returns-clause-bounded g c =
     let query = c.args.query.now.query in
-    let calls = calls_map (λ (a : Seen). take (length query.items) a.rows) query.limit (g.E.Ranked.rest c.args.engine.now) in
+    let calls = calls_map (λ (a : AnswerView). take (length query.items) a.rows) query.limit (g.E.Ranked.rest c.args.engine.now) in
     rw (c.limit.ensures, sym calls) at c.take_ends.ensures.bounded

@@ -3,12 +3,12 @@ use Rattle.std.specs.Prelude.{codes, slice_set}
 use Rattle.std.proofs.lemmas.List.{set-get_or}
 use Rattle.anyk_model.specs.Output.{cut, line_text}
 use Rattle.anyk_model.specs.Query.{IsCombination, row_counts}
-use Rattle.answer_print.specs.StyleView.{style_shown}
+use Rattle.answer_print.specs.StyleView.{style_view}
 use Rattle.refusal_lines.specs.declared.refusal.Refusal.TheVariants as refusal
 use Rattle.refusal_lines.specs.Printing.{Printed}
 use Rattle.refusal_lines.specs.SinkState.{state_of}
 use Rattle.verdict.specs.Session.{next_text, with_name}
-use Rattle.tdp_core.specs.SeenAnswers.{Seen}
+use Rattle.tdp_core.specs.AnswerView.{AnswerView}
 use Rattle.witness_key.specs.WitnessKey.{combinations_in}
 use Rattle.command_session.proofs.Follows.{always, answer_given, answer_inside, answers_ended, ending_left, given_all, given_less, next_done, next_start, place_set, places_set, told_all}
 use Rattle.command_session.proofs.Costs.{paid_spent, spent_places}
@@ -22,7 +22,7 @@ use Rattle.command_session.proofs.moving.print_next.Goals as goal
 
 module _ (g : Over) (c : At-loop-given g) where
   -- the combination that an answer stands for
-  abbrev rows_of : Seen → List ℕ
+  abbrev rows_of : AnswerView → List ℕ
   rows_of a = take (length c.args.query.now.query.items) a.rows
 
   -- the list, and its members within the limit
@@ -34,7 +34,7 @@ module _ (g : Over) (c : At-loop-given g) where
 
   -- what is printed of a member, and at the end
   abbrev line : List ℕ → List ℕ
-  line = line_text c.args.query.now.query c.args.tables.now (with_name (style_shown c.args.style.now) c.args.cursor.now.name.now)
+  line = line_text c.args.query.now.query c.args.tables.now (with_name (style_view c.args.style.now) c.args.cursor.now.name.now)
 
   abbrev ending : List ℕ
   ending = c.args.cursor.now.name.now ++ codes "\n"
@@ -60,7 +60,7 @@ pub loop-given-init : goal.loop-given-init
 loop-given-init g c =
     let query = c.args.query.now.query in
     let members = cut query.limit (combinations_in query c.args.set.now.answers) in
-    let line = line_text query c.args.tables.now (with_name (style_shown c.args.style.now) c.args.cursor.now.name.now) in
+    let line = line_text query c.args.tables.now (with_name (style_view c.args.style.now) c.args.cursor.now.name.now) in
     let ending = c.args.cursor.now.name.now ++ codes "\n" in
     let whole = next_text line ending (drop c.args.cursor.now.place members) c.args.count in
     record {
@@ -128,7 +128,7 @@ print_answer-requires-clause-rows g c =
     let query = c.args.query.now.query in
     let found = rw c.limit.ensures at (rw c.in-Some.is at c.in_ok-answer.ensures.some) in
     let at_place = rw c.loop-given.invariant.answers at found.2 in
-    told_all (λ (a : Seen). IsCombination (row_counts query.items c.args.tables.now) (take (length query.items) a.rows)) c.args.set.now.answers
+    told_all (λ (a : AnswerView). IsCombination (row_counts query.items c.args.tables.now) (take (length query.items) a.rows)) c.args.set.now.answers
     c.loop-given.cursor.place _ c.requires.rows at_place
 
 pub returns-in_err-print_answer-clause-printed : goal.returns-in_err-print_answer-clause-printed

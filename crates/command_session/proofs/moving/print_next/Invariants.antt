@@ -1,7 +1,7 @@
 use Rattle.std.proofs.Common.{◌≡◌, ◌+◌, ◌-◌, ◌≤◌, ◌++◌, Some, length, drop}
 use Rattle.std.specs.Prelude.{codes, slice_set}
 use Rattle.anyk_model.specs.Output.{cut, line_text}
-use Rattle.answer_print.specs.StyleView.{style_shown}
+use Rattle.answer_print.specs.StyleView.{style_view}
 use Rattle.cursor_set.specs.CursorSet.{place_of}
 use Rattle.refusal_lines.specs.SinkState.{state_of}
 use Rattle.verdict.specs.Session.{next_text, with_name}
@@ -13,7 +13,7 @@ use Rattle.command_session.proofs.moving.print_next.Given as goal
 abbrev pub invariant-loop-given : goal.invariant-loop-given
 invariant-loop-given g l =
     let members = cut l.query.query.limit (combinations_in l.query.query l.initial.set.answers) in
-    let line = line_text l.query.query l.tables (with_name (style_shown l.style) l.initial.cursor.name.now) in
+    let line = line_text l.query.query l.tables (with_name (style_view l.style) l.initial.cursor.name.now) in
     let ending = l.initial.cursor.name.now ++ codes "\n" in
     let start = l.initial.cursor.place in
     record {

@@ -1,6 +1,6 @@
 use Rattle.std.proofs.Common.{◌≡◌, ℕ, List, [], Err, subst, sym, refl, ◌∙◌, ◌<◌, length, get_or, arith, rules}
 use Rattle.anyk_model.specs.Output.{cut, line_text}
-use Rattle.answer_print.specs.StyleView.{style_shown}
+use Rattle.answer_print.specs.StyleView.{style_view}
 use Rattle.refusal_lines.specs.SinkState.{state_of}
 use Rattle.verdict.specs.Session.{no_cursors, places_after, steps_text, with_name}
 use Rattle.verdict.specs.SessionCalls.{calls_of_step, ends_by_itself, reach_of_step}
@@ -15,7 +15,7 @@ use Rattle.command_session.proofs.session.print_steps.Goals as goal
 pub loop-step-init : goal.loop-step-init
 loop-step-init g c =
     let query = c.args.query.now.query in
-    let line : List ℕ → List ℕ → List ℕ = λ name. line_text query c.args.tables.now (with_name (style_shown c.args.style.now) name) in
+    let line : List ℕ → List ℕ → List ℕ = λ name. line_text query c.args.tables.now (with_name (style_view c.args.style.now) name) in
     let members = cut query.limit (combinations_in query c.args.set.now.answers) in
     record {
       answers = refl;
@@ -37,7 +37,7 @@ take_step-requires-clause-rows g c =
 pub returns-in_err-take_step-clause-printed : goal.returns-in_err-take_step-clause-printed
 returns-in_err-take_step-clause-printed g c =
     let query = c.args.query.now.query in
-    let line : List ℕ → List ℕ → List ℕ = λ name. line_text query c.args.tables.now (with_name (style_shown c.args.style.now) name) in
+    let line : List ℕ → List ℕ → List ℕ = λ name. line_text query c.args.tables.now (with_name (style_view c.args.style.now) name) in
     let members = cut query.limit (combinations_in query c.args.set.now.answers) in
     let script = c.args.script.now in
     let i = c.loop-step.step-index in
@@ -53,7 +53,7 @@ returns-in_err-take_step-clause-printed g c =
 pub loop-step-preserved : goal.loop-step-preserved
 loop-step-preserved g c =
     let query = c.args.query.now.query in
-    let line : List ℕ → List ℕ → List ℕ = λ name. line_text query c.args.tables.now (with_name (style_shown c.args.style.now) name) in
+    let line : List ℕ → List ℕ → List ℕ = λ name. line_text query c.args.tables.now (with_name (style_view c.args.style.now) name) in
     let members = cut query.limit (combinations_in query c.args.set.now.answers) in
     let script = c.args.script.now in
     let i = c.loop-step.step-index in
@@ -80,7 +80,7 @@ loop-step-preserved g c =
 pub returns-in_err-take_step-clause-within : goal.returns-in_err-take_step-clause-within
 returns-in_err-take_step-clause-within g c =
     let query = c.args.query.now.query in
-    let line : List ℕ → List ℕ → List ℕ = λ name. line_text query c.args.tables.now (with_name (style_shown c.args.style.now) name) in
+    let line : List ℕ → List ℕ → List ℕ = λ name. line_text query c.args.tables.now (with_name (style_view c.args.style.now) name) in
     let members = cut query.limit (combinations_in query c.args.set.now.answers) in
     let script = c.args.script.now in
     let i = c.loop-step.step-index in
@@ -106,7 +106,7 @@ returns-clause-within g c =
 pub returns-clause-printed : goal.returns-clause-printed
 returns-clause-printed g c =
     let query = c.args.query.now.query in
-    let line : List ℕ → List ℕ → List ℕ = λ name. line_text query c.args.tables.now (with_name (style_shown c.args.style.now) name) in
+    let line : List ℕ → List ℕ → List ℕ = λ name. line_text query c.args.tables.now (with_name (style_view c.args.style.now) name) in
     let run = c.loop-step.invariant.run in
     taken_all line (cut query.limit (combinations_in query c.args.set.now.answers)) c.args.script.now c.loop-step.step-index run.places c.loop-step.set c.loop-step.cursors _ _ (omega arith)
     run.taken

@@ -1,7 +1,7 @@
 use Rattle.std.proofs.Common.{◌≡◌, ℕ, List, Some, Ok, Err, ap, sym, ◌∙◌, rules}
 use Rattle.std.specs.Prelude.{slice_set}
 use Rattle.anyk_model.specs.Output.{cut, line_text}
-use Rattle.answer_print.specs.StyleView.{style_shown}
+use Rattle.answer_print.specs.StyleView.{style_view}
 use Rattle.refusal_lines.specs.declared.refusal.Refusal.{Refusal}
 use Rattle.refusal_lines.specs.Printing.{Printed}
 use Rattle.refusal_lines.specs.SinkState.{state_of}
@@ -39,7 +39,7 @@ pub returns-in_err-print_next-clause-printed : goal.returns-in_err-print_next-cl
 returns-in_err-print_next-clause-printed g c = λ places held opened.
     let query = c.args.query.now.query in
     let tables = c.args.tables.now in
-    let line : List ℕ → List ℕ → List ℕ = λ name. line_text query tables (with_name (style_shown c.args.style.now) name) in
+    let line : List ℕ → List ℕ → List ℕ = λ name. line_text query tables (with_name (style_view c.args.style.now) name) in
     let members = cut query.limit (combinations_in query c.args.set.now.answers) in
     let found = found_named c.args.cursors.now c.in-Some.number c.args.name.now c.in-Some.ensures in
     let same = some_same (sym found.at ∙ c.in-Some-cursors.is) in
@@ -56,7 +56,7 @@ pub returns-clause-printed : goal.returns-clause-printed
 returns-clause-printed g c = λ places held opened.
     let query = c.args.query.now.query in
     let tables = c.args.tables.now in
-    let line : List ℕ → List ℕ → List ℕ = λ name. line_text query tables (with_name (style_shown c.args.style.now) name) in
+    let line : List ℕ → List ℕ → List ℕ = λ name. line_text query tables (with_name (style_view c.args.style.now) name) in
     let members = cut query.limit (combinations_in query c.args.set.now.answers) in
     let found = found_named c.args.cursors.now c.in-Some.number c.args.name.now c.in-Some.ensures in
     let same = some_same (sym found.at ∙ c.in-Some-cursors.is) in

@@ -1,5 +1,5 @@
 use Rattle.std.proofs.Common.{◌≡◌, ◌≤◌, [], ℕ, Option, None, Err, IfSome, map, refl, subst, sym, arith, rules}
-use Rattle.answer_print.specs.StyleView.{style_shown}
+use Rattle.answer_print.specs.StyleView.{style_view}
 use Rattle.bound_query.specs.WeighedQuery.{BoundQuery}
 use Rattle.refusal_lines.specs.declared.refusal.Refusal.TheVariants as refusal
 use Rattle.step_bounds.proofs.Calls.{limit_below, limit_reached, limit_within}
@@ -15,7 +15,7 @@ pub loop-given-init : goal.loop-given-init
 loop-given-init g c =
     let all = map (λ (q : BoundQuery). q.query) c.args.queries.now in
     let tables = c.args.tables.now in
-    let f = union_line_text all tables (style_shown c.args.style.now) in
+    let f = union_line_text all tables (style_view c.args.style.now) in
     none_printed g.E.Ranked.share g.met.E.Ranked.share_rises all tables f c.args.merge.now _ _
     c.requires.members
 
@@ -23,7 +23,7 @@ pub returns-in_err-tagged-clause-printed : goal.returns-in_err-tagged-clause-pri
 returns-in_err-tagged-clause-printed g c =
     let all = map (λ (q : BoundQuery). q.query) c.args.queries.now in
     let tables = c.args.tables.now in
-    let f = union_line_text all tables (style_shown c.args.style.now) in
+    let f = union_line_text all tables (style_view c.args.style.now) in
     let e : c.from_residual.result ≡ Err refusal.NoMemory = search rules in
     let low = limit_within c.args.limit c.loop-given._given _ _ c.unwrap_or-most.ensures c.loop-given-test.true in
     rw e (stopped_short (IsMember all tables) f itself c.args.merge.now.rest
@@ -33,7 +33,7 @@ pub returns-in_default-clause-printed : goal.returns-in_default-clause-printed
 returns-in_default-clause-printed g c =
     let all = map (λ (q : BoundQuery). q.query) c.args.queries.now in
     let tables = c.args.tables.now in
-    let f = union_line_text all tables (style_shown c.args.style.now) in
+    let f = union_line_text all tables (style_view c.args.style.now) in
     let low = limit_within c.args.limit c.loop-given._given _ _ c.unwrap_or-most.ensures c.loop-given-test.true in
     let ended = rw c.in_default.is at c.in_ok-tagged.ensures.end in
     printed_all (IsMember all tables) f itself c.args.merge.now.rest
@@ -44,7 +44,7 @@ pub print_member-requires-clause-member : goal.print_member-requires-clause-memb
 print_member-requires-clause-member g c =
     let all = map (λ (q : BoundQuery). q.query) c.args.queries.now in
     let tables = c.args.tables.now in
-    let f = union_line_text all tables (style_shown c.args.style.now) in
+    let f = union_line_text all tables (style_view c.args.style.now) in
     let found = rw c.in-Some.is at c.in_ok-tagged.ensures.found in
     let head = seen_by c.loop-given.merge c.in-Some.tagged _ all _ c.loop-given.invariant.queries
     c.requires.queries found.0 in
@@ -55,7 +55,7 @@ pub returns-in_err-print_member-clause-printed : goal.returns-in_err-print_membe
 returns-in_err-print_member-clause-printed g c =
     let all = map (λ (q : BoundQuery). q.query) c.args.queries.now in
     let tables = c.args.tables.now in
-    let f = union_line_text all tables (style_shown c.args.style.now) in
+    let f = union_line_text all tables (style_view c.args.style.now) in
     let i = c.loop-given._given in
     let found = rw c.in-Some.is at c.in_ok-tagged.ensures.found in
     let head = seen_by c.loop-given.merge c.in-Some.tagged _ all _ c.loop-given.invariant.queries
@@ -70,7 +70,7 @@ pub loop-given-preserved : goal.loop-given-preserved
 loop-given-preserved g c =
     let all = map (λ (q : BoundQuery). q.query) c.args.queries.now in
     let tables = c.args.tables.now in
-    let f = union_line_text all tables (style_shown c.args.style.now) in
+    let f = union_line_text all tables (style_view c.args.style.now) in
     let found = rw c.in-Some.is at c.in_ok-tagged.ensures.found in
     let head = seen_by c.loop-given.merge c.in-Some.tagged _ all _ c.loop-given.invariant.queries
     c.requires.queries found.0 in
@@ -83,7 +83,7 @@ pub returns-then-is_none-clause-printed : goal.returns-then-is_none-clause-print
 returns-then-is_none-clause-printed g c =
     let all = map (λ (q : BoundQuery). q.query) c.args.queries.now in
     let tables = c.args.tables.now in
-    let f = union_line_text all tables (style_shown c.args.style.now) in
+    let f = union_line_text all tables (style_view c.args.style.now) in
     let none : c.args.limit ≡ None = search rules in
     let low = subst (λ (o : Option ℕ). IfSome o (λ n. c.loop-given._given ≤ n)) (sym none) tt in
     stopped_short (IsMember all tables) f itself c.args.merge.now.rest
@@ -93,7 +93,7 @@ pub returns-clause-printed : goal.returns-clause-printed
 returns-clause-printed g c =
     let all = map (λ (q : BoundQuery). q.query) c.args.queries.now in
     let tables = c.args.tables.now in
-    let f = union_line_text all tables (style_shown c.args.style.now) in
+    let f = union_line_text all tables (style_view c.args.style.now) in
     let reached = limit_reached c.args.limit c.loop-given._given _ _ c.unwrap_or-most.ensures c.if-is_none.ensures
     c.loop-given-test.false c.loop-given.auto._given-end in
     printed_limit (IsMember all tables) f itself c.args.merge.now.rest
@@ -103,7 +103,7 @@ pub returns-in_err-tagged-clause-paced : goal.returns-in_err-tagged-clause-paced
 returns-in_err-tagged-clause-paced g c =
     let all = map (λ (q : BoundQuery). q.query) c.args.queries.now in
     let tables = c.args.tables.now in
-    let f = union_line_text all tables (style_shown c.args.style.now) in
+    let f = union_line_text all tables (style_view c.args.style.now) in
     let i = c.loop-given._given in
     let refused = c.in_err-tagged.ensures.refused in
     let below = limit_below c.args.limit i _ _ c.unwrap_or-most.ensures c.loop-given-test.true in
@@ -115,7 +115,7 @@ pub returns-in_default-clause-paced : goal.returns-in_default-clause-paced
 returns-in_default-clause-paced g c =
     let all = map (λ (q : BoundQuery). q.query) c.args.queries.now in
     let tables = c.args.tables.now in
-    let f = union_line_text all tables (style_shown c.args.style.now) in
+    let f = union_line_text all tables (style_view c.args.style.now) in
     let i = c.loop-given._given in
     let low = limit_within c.args.limit i _ _ c.unwrap_or-most.ensures c.loop-given-test.true in
     let ended = rw c.in_default.is at c.in_ok-tagged.ensures.end in
@@ -127,7 +127,7 @@ pub returns-in_err-print_member-clause-paced : goal.returns-in_err-print_member-
 returns-in_err-print_member-clause-paced g c =
     let all = map (λ (q : BoundQuery). q.query) c.args.queries.now in
     let tables = c.args.tables.now in
-    let f = union_line_text all tables (style_shown c.args.style.now) in
+    let f = union_line_text all tables (style_view c.args.style.now) in
     let i = c.loop-given._given in
     let found = rw c.in-Some.is at c.in_ok-tagged.ensures.found in
     let below = limit_below c.args.limit i _ _ c.unwrap_or-most.ensures c.loop-given-test.true in
@@ -140,7 +140,7 @@ pub returns-then-is_none-clause-paced : goal.returns-then-is_none-clause-paced
 returns-then-is_none-clause-paced g c =
     let all = map (λ (q : BoundQuery). q.query) c.args.queries.now in
     let tables = c.args.tables.now in
-    let f = union_line_text all tables (style_shown c.args.style.now) in
+    let f = union_line_text all tables (style_view c.args.style.now) in
     let i = c.loop-given._given in
     let none : c.args.limit ≡ None = search rules in
     let low = subst (λ (o : Option ℕ). IfSome o (λ n. i ≤ n)) (sym none) tt in
@@ -151,7 +151,7 @@ pub returns-clause-paced : goal.returns-clause-paced
 returns-clause-paced g c =
     let all = map (λ (q : BoundQuery). q.query) c.args.queries.now in
     let tables = c.args.tables.now in
-    let f = union_line_text all tables (style_shown c.args.style.now) in
+    let f = union_line_text all tables (style_view c.args.style.now) in
     let i = c.loop-given._given in
     let reached = limit_reached c.args.limit i _ _ c.unwrap_or-most.ensures c.if-is_none.ensures
     c.loop-given-test.false c.loop-given.auto._given-end in

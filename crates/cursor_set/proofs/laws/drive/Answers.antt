@@ -1,7 +1,7 @@
 use Rattle.std.proofs.Common.{◌≡◌, ◌+◌, Option, inl, inr, refl, sym, ◌∙◌, arith}
 use Rattle.std.proofs.lemmas.Bool.{false≢true}
 use Rattle.tdp_core.specs.declared.ranked.Answer.{Answer}
-use Rattle.tdp_core.specs.SeenAnswers.{counted}
+use Rattle.tdp_core.specs.AnswerView.{counted}
 use Rattle.cursor_set.proofs.Driving.{start_of, start_is, IsDriven-none, IsDriven-place, IsDriven-same, IsDriven-more, IsDriven-moved, IsDriven-end, refused_at, refused_counted, counted_none}
 use Rattle.cursor_set.proofs.laws.drive.Goals.{then-refused-refusals-via-then-refused-refusals, then-refused-refusals-via-else-refused-refusals+then-refused}
 use Rattle.cursor_set.proofs.laws.drive.Goals as goal

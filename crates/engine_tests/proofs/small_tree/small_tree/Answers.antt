@@ -1,5 +1,5 @@
 use Rattle.std.proofs.Common.{sym, ap, subst, ◌∙◌}
-use Rattle.tdp_core.specs.TreeData.{child_count}
+use Rattle.tdp_core.specs.TreeView.{child_count}
 use Rattle.tdp_core.specs.WellFormed.{IsFormed, IsTieFreeTree}
 use Rattle.engine_tests.proofs.SmallTree.{small_data, small_formed, nodes_held, small_fits, one_child}
 use Rattle.engine_tests.proofs.SmallTies.{small_tie_free}

@@ -1,7 +1,7 @@
 use Rattle.std.proofs.Common.{◌≡◌, ◌<◌, [], ap, sym, subst, ◌∙◌, arith}
 use Rattle.rank_key.specs.Keys.{row_key}
 use Rattle.tdp_core.specs.declared.parts.NodeShape.{NodeShape}
-use Rattle.tdp_core.specs.RawData.{shape_item, shape_cap}
+use Rattle.tdp_core.specs.RawView.{shape_item, shape_cap}
 use Rattle.tdp_core.specs.WellFormed.{RowFits}
 use Rattle.tdp_core.proofs.RowKeys.{row_key_fits}
 use Rattle.engine_tests.proofs.trees.add.Goals as goal

@@ -1,5 +1,5 @@
 use Rattle.std.proofs.Common.{◌≡◌, Err, rules}
-use Rattle.proof_text.specs.ProofView.{seen_proof}
+use Rattle.proof_text.specs.ProofView.{proof_view}
 use Rattle.refusal_lines.specs.RefusalReasons.{reason_of}
 use Rattle.verdict.specs.Loading.{proof_said, with_proof}
 use Rattle.input_load.proofs.Asides.{aside_found, aside_refused, aside_unread}
@@ -18,5 +18,5 @@ returns-in_err-proof-clause-staged g c =
 
 pub returns-clause-staged : goal.returns-clause-staged
 returns-clause-staged g c =
-    rw c.new.ensures.items (aside_found proof_said with_proof c.args.name.now c.in_ok-bytes.bytes.items _ _ (seen_proof c.in_ok-proof.proof)
+    rw c.new.ensures.items (aside_found proof_said with_proof c.args.name.now c.in_ok-bytes.bytes.items _ _ (proof_view c.in_ok-proof.proof)
     c.in_ok-bytes.ensures.staged (rw c.deref.ensures.value at c.in_ok-proof.ensures))

@@ -5,25 +5,25 @@ use Rattle.verdict.specs.Loading.{bound_in, loaded_in}
 use Rattle.verdict.specs.Stages.{Is, followed}
 use Rattle.verdict.proofs.Staging.{pure_found, pure_refused}
 use Rattle.verdict.specs.AcceptedInput.{queries_in}
-use Rattle.input_load.specs.StageViews.{seen_beside}
-use Rattle.input_load.specs.Sought.{sought_shown}
+use Rattle.input_load.specs.StageViews.{beside_view}
+use Rattle.input_load.specs.Sought.{sought_view}
 use Rattle.input_load.proofs.Best.{item_found, item_refused, shape_refused}
 use Rattle.input_load.proofs.Shapes.{keys_none_odd, odd_none}
 use Rattle.input_load.proofs.binding.bound_input.Goals as goal
 
 pub returns-in_err-queries-clause-bound : goal.returns-in_err-queries-clause-bound
 returns-in_err-queries-clause-bound c =
-    let sought = sought_shown c.args.sought.now in
+    let sought = sought_view c.args.sought.now in
     let tables = c.args.tables in
-    let beside = seen_beside c.args.beside in
+    let beside = beside_view c.args.beside in
     let e : c.from_residual.result ≡ Err c.in_err-queries.field-0.0 = search rules in
     rw e (pure_refused (Is (bound_in c.args.selects.now tables)) (λ queries. Is (loaded_in sought.best_of queries tables beside)) _ c.in_err-queries.ensures.bound)
 
 pub returns-in_err-check_shapes-clause-bound : goal.returns-in_err-check_shapes-clause-bound
 returns-in_err-check_shapes-clause-bound c =
-    let sought = sought_shown c.args.sought.now in
+    let sought = sought_view c.args.sought.now in
     let tables = c.args.tables in
-    let beside = seen_beside c.args.beside in
+    let beside = beside_view c.args.beside in
     let queries = queries_in c.in_ok-queries.queries.items in
     let reason = reason_of c.in_err-check_shapes.field-0.0 in
     let e : c.from_residual-in_err-check_shapes.result ≡ Err c.in_err-check_shapes.field-0.0 = search rules in
@@ -32,9 +32,9 @@ returns-in_err-check_shapes-clause-bound c =
 
 pub returns-in_err-best-clause-bound : goal.returns-in_err-best-clause-bound
 returns-in_err-best-clause-bound c =
-    let sought = sought_shown c.args.sought.now in
+    let sought = sought_view c.args.sought.now in
     let tables = c.args.tables in
-    let beside = seen_beside c.args.beside in
+    let beside = beside_view c.args.beside in
     let queries = queries_in c.in_ok-queries.queries.items in
     let reason = reason_of c.in_err-best.field-0.0 in
     let e : c.from_residual-in_err-best.result ≡ Err c.in_err-best.field-0.0 = search rules in
@@ -58,10 +58,10 @@ invariant_of-result c =
 
 pub returns-clause-bound : goal.returns-clause-bound
 returns-clause-bound c =
-    let sought = sought_shown c.args.sought.now in
+    let sought = sought_view c.args.sought.now in
     let queries = queries_in c.in_ok-queries.queries.items in
     followed {a = queries} c.in_ok-queries.ensures.bound
-    (item_found queries c.args.tables (seen_beside c.args.beside) sought.best_of c.in_ok-best.best (rw c.deref.ensures.value at c.in_ok-check_shapes.ensures) (rw c.deref-2.ensures.value at c.in_ok-best.ensures.best))
+    (item_found queries c.args.tables (beside_view c.args.beside) sought.best_of c.in_ok-best.best (rw c.deref.ensures.value at c.in_ok-check_shapes.ensures) (rw c.deref-2.ensures.value at c.in_ok-best.ensures.best))
 
 pub returns-in_err-queries-clause-branches : goal.returns-in_err-queries-clause-branches
 returns-in_err-queries-clause-branches c = IfOk-from_err c.from_residual.result _ c.from_residual.ensures.0

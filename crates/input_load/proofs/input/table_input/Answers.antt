@@ -11,15 +11,15 @@ use Rattle.verdict.proofs.Staging.{found_then, pure_staged, refusal_then}
 use Rattle.verdict.specs.Verdict.{IsBound}
 use Rattle.input_load.specs.Entries.{tables_of}
 use Rattle.input_load.proofs.FirstUses.{numbers_within}
-use Rattle.input_load.specs.StageViews.{seen_beside}
-use Rattle.input_load.specs.Sought.{sought_shown}
+use Rattle.input_load.specs.StageViews.{beside_view}
+use Rattle.input_load.specs.Sought.{sought_view}
 use Rattle.input_load.proofs.input.table_input.Goals as goal
 
 pub returns-in_err-tables-clause-staged : goal.returns-in_err-tables-clause-staged
 returns-in_err-tables-clause-staged g c =
-    let sought = sought_shown c.args.sought.now in
+    let sought = sought_view c.args.sought.now in
     let selects = c.args.selects.now in
-    let beside = seen_beside c.args.beside in
+    let beside = beside_view c.args.beside in
     let firsts : tables_of (map (λ e. named_pair e.now) c.in_ok-firsts.firsts.items) ≡ first_uses (all_items selects) =
     c.in_ok-firsts.ensures.tables ∙ ap (first_uses_after []) c.requires.tables in
     let read = c.in_err-tables.ensures.staged sought.named (rw c.deref-2.ensures.value (c.in_ok-firsts.ensures.entries sought.named c.requires.entries)) in
@@ -44,9 +44,9 @@ bound_input-requires-clause-known g c =
 
 pub returns-clause-staged : goal.returns-clause-staged
 returns-clause-staged g c =
-    let sought = sought_shown c.args.sought.now in
+    let sought = sought_view c.args.sought.now in
     let selects = c.args.selects.now in
-    let beside = seen_beside c.args.beside in
+    let beside = beside_view c.args.beside in
     let tables = c.in_ok-tables.tables in
     let firsts : tables_of (map (λ e. named_pair e.now) c.in_ok-firsts.firsts.items) ≡ first_uses (all_items selects) =
     c.in_ok-firsts.ensures.tables ∙ ap (first_uses_after []) c.requires.tables in

@@ -2,7 +2,7 @@ use Rattle.std.proofs.Common.{◌≡◌, ◌<◌, ◌*◌, ◌∙◌, ℕ, List,
 use Rattle.std.proofs.Math.Nat.{mul-le-mul_right}
 use Rattle.std.proofs.lemmas.List.Sums.{sum_by-take-le, sum_by_more, sum_by_more_le}
 use Rattle.tdp_core.specs.declared.parts.NodeShape.{NodeShape}
-use Rattle.tdp_core.specs.RawData.{AreShapes, AreShapesHeld, rows_at}
+use Rattle.tdp_core.specs.RawView.{AreShapes, AreShapesHeld, rows_at}
 use Rattle.rankings.specs.Order.{IsMember}
 use Rattle.node_build.specs.PartialTrees.{AreFilled, HasOnlyMore}
 use Rattle.node_build.specs.Links.{HasRowsOf}

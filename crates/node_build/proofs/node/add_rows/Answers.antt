@@ -1,6 +1,6 @@
 use Rattle.std.proofs.Common.{◌≡◌, ◌<◌, ◌≤◌, ◌+◌, ◌*◌, ◌∙◌, ℕ, length, get_or, refl, sym, ap, subst, arith}
 use Rattle.std.proofs.Math.Nat.{mul-le-mul_right}
-use Rattle.tdp_core.specs.RawData.{RawData, row_total, rows_at}
+use Rattle.tdp_core.specs.RawView.{RawView, row_total, rows_at}
 use Rattle.rankings.proofs.Members.{get_member}
 use Rattle.node_build.specs.Links.{HasRowsOf}
 use Rattle.node_build.specs.PartialTrees.{HasOnlyMore}
@@ -18,7 +18,7 @@ loop-row-init g c =
       more = more_same c.args.links.now;
       others = only_none node tree;
       rows = no_rows c.args.query.now c.args.tables.now c.args.join.now (lists_of c.args.columns.now.own.items) (lists_of c.args.columns.now.above.items) g.R.Rank.KEYS g.R.Rank.key
-          c.args.links.now node c.args.rows.now (rows_at tree node) (ap (λ (t : RawData g.row.R.Denot). rows_at t node) c.reserve.ensures ∙ c.requires.empty);
+          c.args.links.now node c.args.rows.now (rows_at tree node) (ap (λ (t : RawView g.row.R.Denot). rows_at t node) c.reserve.ensures ∙ c.requires.empty);
       cost = omega arith;
     }
 
@@ -32,7 +32,7 @@ add_row-requires-clause-row g c =
 
 pub add_row-requires-clause-shapes : goal.add_row-requires-clause-shapes
 add_row-requires-clause-shapes g c =
-    let same = c.loop-row.invariant.others.shapes ∙ ap (λ (t : RawData g.row.R.Denot). t.shapes) c.reserve.ensures in
+    let same = c.loop-row.invariant.others.shapes ∙ ap (λ (t : RawView g.row.R.Denot). t.shapes) c.reserve.ensures in
     subst (AreShapesOf c.args.query.now c.args.tables.now c.args.join.now c.args.join.now.count) (sym same) c.requires.shapes
 
 pub add_row-requires-clause-links : goal.add_row-requires-clause-links
@@ -40,7 +40,7 @@ add_row-requires-clause-links g c = c.loop-row.invariant.more.count ∙ c.requir
 
 pub add_row-requires-clause-room : goal.add_row-requires-clause-room
 add_row-requires-clause-room g c =
-    let same = ap (λ (t : RawData g.row.R.Denot). row_total t) c.reserve.ensures in
+    let same = ap (λ (t : RawView g.row.R.Denot). row_total t) c.reserve.ensures in
     let total = c.loop-row.invariant.others.total in
     omega (arith, same, total, c.requires.room)
 
@@ -56,7 +56,7 @@ loop-row-preserved g c =
     let x = c.in_ok-add_row.ensures.added in
     let node = c.args.node in
     let i = c.loop-row.row-index in
-    let same = ap (λ (t : RawData g.row.R.Denot). length t.rows) c.reserve.ensures in
+    let same = ap (λ (t : RawView g.row.R.Denot). length t.rows) c.reserve.ensures in
     let inside : node < length c.loop-row.tree.rows = omega (arith, c.requires.node, c.requires.each_node, same, before.others.each_node) in
     record {
       more = more_trans c.args.links.now c.loop-row.links c.add_row.new.links before.more c.in_ok-add_row.ensures.more;
@@ -71,7 +71,7 @@ pub returns-clause-others : goal.returns-clause-others
 returns-clause-others g c =
     let all : c.loop-row.row-index ≡ length c.args.rows.now = omega arith in
     subst (λ n. HasOnlyMore c.args.node n c.args.tree.now c.loop-row.tree) all
-    (subst (λ (t : RawData g.row.R.Denot). HasOnlyMore c.args.node c.loop-row.row-index t c.loop-row.tree) c.reserve.ensures c.loop-row.invariant.others)
+    (subst (λ (t : RawView g.row.R.Denot). HasOnlyMore c.args.node c.loop-row.row-index t c.loop-row.tree) c.reserve.ensures c.loop-row.invariant.others)
 
 pub returns-clause-rows : goal.returns-clause-rows
 returns-clause-rows g c =

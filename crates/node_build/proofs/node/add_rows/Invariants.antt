@@ -1,5 +1,5 @@
 use Rattle.std.proofs.Common.{◌≤◌, ◌+◌, ◌*◌}
-use Rattle.tdp_core.specs.RawData.{rows_at}
+use Rattle.tdp_core.specs.RawView.{rows_at}
 use Rattle.node_build.specs.PartialTrees.{HasOnlyMore}
 use Rattle.counted_index.specs.Pairs.{AreMore}
 use Rattle.node_build.specs.Links.{HasRowsOf}

@@ -1,5 +1,5 @@
 use Rattle.std.proofs.Common.{◌≡◌, ◌≢◌, ◌<◌, ◌+◌, ◌∙◌, ◌∷◌, ℕ, List, [], length, get_or, sym, ap, subst, arith, length-append}
-use Rattle.tdp_core.specs.TreeData.{kids_below}
+use Rattle.tdp_core.specs.TreeView.{kids_below}
 use Rattle.tdp_core.proofs.Children.{kids_below_child, kids_below_other}
 use Rattle.anyk_model.specs.Table.{table_at}
 use Rattle.bound_query.specs.Weights.{table_in}

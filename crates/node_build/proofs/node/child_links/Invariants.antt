@@ -1,5 +1,5 @@
 use Rattle.std.proofs.Common.{◌≡◌, ◌≤◌, ◌+◌, length}
-use Rattle.tdp_core.specs.TreeData.{kids_below}
+use Rattle.tdp_core.specs.TreeView.{kids_below}
 use Rattle.counted_index.specs.Pairs.{AreMore}
 use Rattle.node_build.specs.Links.{NamesLinks}
 use Rattle.node_build.specs.Nodes.{parent_of}

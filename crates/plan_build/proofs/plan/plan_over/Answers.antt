@@ -1,8 +1,8 @@
 use Rattle.std.proofs.Common.{◌≡◌, refl, arith, length, sym, ap, ◌∙◌}
 use Rattle.std.proofs.lemmas.Result.{IfOk-from_err}
 use Rattle.std.proofs.lemmas.List.{length-map}
-use Rattle.tdp_core.specs.RawData.{row_total}
-use Rattle.tdp_core.specs.TreeData.{node_data, tree_data, row_count}
+use Rattle.tdp_core.specs.RawView.{row_total}
+use Rattle.tdp_core.specs.TreeView.{node_view, tree_view, row_count}
 use Rattle.plan_build.proofs.Kept.{kept_in_all}
 use Rattle.plan_build.proofs.Planned.{items_are, parents_are, planned}
 use Rattle.plan_build.proofs.Sizes.{steps_of_plan, steps_of_reduction}
@@ -18,11 +18,11 @@ pub returns-in_err-tree-clause-cost : goal.returns-in_err-tree-clause-cost
 returns-in_err-tree-clause-cost g c =
     let built = c.in_ok-built.ensures in
     let raw = c.in_ok-built.built.tree in
-    let parts = tree_data c.in_ok-reduced.reduced.nodes.items in
+    let parts = tree_view c.in_ok-reduced.reduced.nodes.items in
     let reduced = c.in_ok-reduced.ensures.reduced in
     let nodes : length raw.shapes ≡ length c.args.query.now.query.items = built.built.nodes ∙ c.requires.over.count in
     let long : length parts ≡ length raw.shapes = sym (length-map parts (λ n. n.shape)) ∙ ap length reduced.shapes in
-    let alike : length c.in_ok-reduced.reduced.nodes.items ≡ length c.args.query.now.query.items = sym (length-map c.in_ok-reduced.reduced.nodes.items node_data) ∙ long ∙ nodes in
+    let alike : length c.in_ok-reduced.reduced.nodes.items ≡ length c.args.query.now.query.items = sym (length-map c.in_ok-reduced.reduced.nodes.items node_view) ∙ long ∙ nodes in
     let kept = kept_in_all g.R.Rank.KEYS g.R.Rank.key raw parts reduced built.formed.each_node in
     steps_of_plan _ _ _ _ _ _ _ (row_total raw) _ (row_count parts) c.requires.fits.some (omega (arith, built.used, built.fewer)) (rw long kept) nodes alike built.cost c.in_ok-reduced.ensures.cost c.solve.ensures.cost
 
@@ -51,11 +51,11 @@ pub returns-clause-cost : goal.returns-clause-cost
 returns-clause-cost g c =
     let built = c.in_ok-built.ensures in
     let raw = c.in_ok-built.built.tree in
-    let parts = tree_data c.in_ok-reduced.reduced.nodes.items in
+    let parts = tree_view c.in_ok-reduced.reduced.nodes.items in
     let reduced = c.in_ok-reduced.ensures.reduced in
     let nodes : length raw.shapes ≡ length c.args.query.now.query.items = built.built.nodes ∙ c.requires.over.count in
     let long : length parts ≡ length raw.shapes = sym (length-map parts (λ n. n.shape)) ∙ ap length reduced.shapes in
-    let alike : length c.in_ok-reduced.reduced.nodes.items ≡ length c.args.query.now.query.items = sym (length-map c.in_ok-reduced.reduced.nodes.items node_data) ∙ long ∙ nodes in
+    let alike : length c.in_ok-reduced.reduced.nodes.items ≡ length c.args.query.now.query.items = sym (length-map c.in_ok-reduced.reduced.nodes.items node_view) ∙ long ∙ nodes in
     let kept = kept_in_all g.R.Rank.KEYS g.R.Rank.key raw parts reduced built.formed.each_node in
     steps_of_plan _ _ _ _ _ _ _ (row_total raw) _ (row_count parts) c.requires.fits.some (omega (arith, built.used, built.fewer)) (rw long kept) nodes alike built.cost c.in_ok-reduced.ensures.cost c.solve.ensures.cost
 

@@ -1,7 +1,7 @@
 use Rattle.std.proofs.Common.{◌≡◌, ◌∙◌, ◌++◌, ℕ, List, ap, sym, subst, length, codes, decimal, arith}
 use Rattle.std.specs.List.{flat_map, range_with_len}
 use Rattle.query_shape.specs.Shape.{Shape}
-use Rattle.plan_model.specs.Plan.{shape_of, tree_shown}
+use Rattle.plan_model.specs.Plan.{shape_of, shape_view}
 use Rattle.query_shape.specs.Report.{node_line, total_line, total_rows}
 use Rattle.plan_build.proofs.Lines.{atoms_same, count_same, lines_more, nodes_counted, ordered_same, rows_counted, rows_same, shape_same, total_same}
 use Rattle.plan_build.proofs.reporting.report.Goals as goal
@@ -20,8 +20,8 @@ push_node-requires-clause-counted g c =
 pub loop-node-preserved : goal.loop-node-preserved
 loop-node-preserved g c =
     let query = c.args.query.now.query in
-    let same : tree_shown c.plan.inside.join c.deref.result.now ≡ shape_of c.args.plan.now =
-    ap (λ (rows : List ℕ). tree_shown c.plan.inside.join rows) c.deref.ensures.value ∙ shape_same _ _ c.plan.view_is in
+    let same : shape_view c.plan.inside.join c.deref.result.now ≡ shape_of c.args.plan.now =
+    ap (λ (rows : List ℕ). shape_view c.plan.inside.join rows) c.deref.ensures.value ∙ shape_same _ _ c.plan.view_is in
     let one = subst (λ (s : Shape). c.push_node.new.text.items ≡ c.loop-node.text.items ++ node_line query s c.loop-node.node) same c.in_ok-push_node.ensures in
     lines_more (node_line query (shape_of c.args.plan.now)) c.loop-node.node _ _ c.loop-node.invariant one
 

@@ -3,7 +3,7 @@ use Rattle.std.proofs.lemmas.Result.{IfOk-weaker}
 use Rattle.engine_choice.specs.Engines.{rest_of}
 use Rattle.plan_model.specs.Plan.{IsPlanOf}
 use Rattle.tdp_core.specs.Solutions.{IsTreeRanking}
-use Rattle.tdp_core.specs.TreeData.{NodeData}
+use Rattle.tdp_core.specs.TreeView.{NodeView}
 use Rattle.tdp_core.specs.WellFormed.{IsFormed}
 use Rattle.tree_dp.specs.BestRanking.{IsBestRanking}
 use Rattle.plan_engine.proofs.Left.{best_left, ranking_left}
@@ -19,7 +19,7 @@ returns-in-None-clause-asked g c bound tables is =
     rw c.in-None.is
     (IfOk-weaker c.choose_engine.result _ _
     (λ e ranking.
-    let of_plan = subst (λ (t : List (NodeData g.row.R.Denot)). IsTreeRanking t d key ranking.0) c.tree-tree.ensures ranking.1 in
+    let of_plan = subst (λ (t : List (NodeView g.row.R.Denot)). IsTreeRanking t d key ranking.0) c.tree-tree.ensures ranking.1 in
     ranking_left d key bound tables plan whole (rest_of d key e) ranking.0 of_plan ranking.2)
     c.choose_engine.ensures.ranking)
 
@@ -31,11 +31,11 @@ returns-in-Some-clause-asked g c bound tables is =
     let item : ℕ = c.in-Some.field-0 in
     let P : Option ℕ → Type 0 = λ best. IsPlanOf d key bound tables best plan in
     let at = subst P c.in-Some.is is in
-    let formed : IsFormed d key plan.tree = subst (λ (t : List (NodeData g.row.R.Denot)). IsFormed d key t) c.tree-tree.ensures c.nodes-nodes.ensures.formed in
+    let formed : IsFormed d key plan.tree = subst (λ (t : List (NodeView g.row.R.Denot)). IsFormed d key t) c.tree-tree.ensures c.nodes-nodes.ensures.formed in
     rw c.in-Some.is
     (IfOk-weaker c.best_engine.result _ _
     (λ e best.
-    let of_plan = subst (λ (t : List (NodeData g.row.R.Denot)). IsBestRanking t d key best.0) c.tree-tree.ensures best.1 in
+    let of_plan = subst (λ (t : List (NodeView g.row.R.Denot)). IsBestRanking t d key best.0) c.tree-tree.ensures best.1 in
     best_left d key bound tables item plan at formed (rest_of d key e) best.0 of_plan best.2)
     c.best_engine.ensures.best)
 
@@ -44,7 +44,7 @@ returns-in-None-clause-ranking g c = λ none.
     IfOk-weaker c.choose_engine.result _ _
     (λ e ranking. (
       ranking.0,
-      subst (λ (t : List (NodeData g.row.R.Denot)). IsTreeRanking t g.R.Rank.KEYS g.R.Rank.key ranking.0) c.tree-tree.ensures ranking.1,
+      subst (λ (t : List (NodeView g.row.R.Denot)). IsTreeRanking t g.R.Rank.KEYS g.R.Rank.key ranking.0) c.tree-tree.ensures ranking.1,
       ranking.2,
     ))
     c.choose_engine.ensures.ranking

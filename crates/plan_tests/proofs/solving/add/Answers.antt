@@ -3,7 +3,7 @@ use Rattle.std.specs.Int.{w128}
 use Rattle.std.proofs.lemmas.Int.{to_z-of_z, fits_signed_from_abs}
 use Rattle.rank_key.specs.Keys.{row_key}
 use Rattle.tdp_core.specs.declared.parts.NodeShape.{NodeShape}
-use Rattle.tdp_core.specs.RawData.{RawData, raw_len, row_total, shape_item, shape_cap, shape_children}
+use Rattle.tdp_core.specs.RawView.{RawView, raw_len, row_total, shape_item, shape_cap, shape_children}
 use Rattle.tdp_core.specs.WellFormed.{RowFits}
 use Rattle.tdp_core.proofs.RawReads.{length_within}
 use Rattle.tdp_core.proofs.RowKeys.{row_key_fits}
@@ -11,7 +11,7 @@ use Rattle.plan_tests.specs.SampleTrees.{IsSample}
 use Rattle.plan_tests.proofs.SampleFacts.{item_is, children_are, sum_capped, sample_more, on_ok_by}
 use Rattle.plan_tests.proofs.solving.add.Goals as goal
 
-low : {R : Type 0} (t : RawData R) (v number : ℕ) → number ≡ raw_len t v → row_total t < 100 → number < 2 ^ 21
+low : {R : Type 0} (t : RawView R) (v number : ℕ) → number ≡ raw_len t v → row_total t < 100 → number < 2 ^ 21
 low t v number is few = omega (arith, length_within t.rows v, is, few)
 
 pub add_row-requires-clause-fits : goal.add_row-requires-clause-fits

@@ -1,6 +1,6 @@
 use Rattle.std.proofs.Common.{◌≡◌, ◌+◌, ◌<◌, ℕ, suc, Err, IfErr, length, sym, ap, subst, ◌∙◌, refl, arith, rules}
 use Rattle.tdp_model.specs.Below.{is_below}
-use Rattle.proof_text.specs.ProofView.{seen_proof}
+use Rattle.proof_text.specs.ProofView.{proof_view}
 use Rattle.proof_text.specs.declared.fault.ProofFault.TheVariants as fault
 use Rattle.proof_model.specs.Faults.{TellsFlaw}
 use Rattle.proof_model.specs.QueryProblem.{problem_in}
@@ -20,14 +20,14 @@ overflow_add-result g c =
     let query = c.args.query.now.query in
     let tables = c.args.tables.now in
     let join = c.args.join.now in
-    let found = c.in-Some.ensures query tables (seen_proof c.args.proof.now) c.requires.keys c.requires.bounded in
+    let found = c.in-Some.ensures query tables (proof_view c.args.proof.now) c.requires.keys c.requires.bounded in
     omega (arith, found.0, nodes_few query tables join, c.requires.ordered.few)
 
 pub returns-in-Some-clause-fault : goal.returns-in-Some-clause-fault
 returns-in-Some-clause-fault g c =
     let query = c.args.query.now.query in
     let tables = c.args.tables.now in
-    let cert = seen_proof c.args.proof.now in
+    let cert = proof_view c.args.proof.now in
     let b = c.requires.bounded in
     let v = c.in-Some.node in
     let found = c.in-Some.ensures query tables cert c.requires.keys b in
@@ -46,7 +46,7 @@ returns-in_err-places-clause-fault g c =
     let query = c.args.query.now.query in
     let tables = c.args.tables.now in
     let join = c.args.join.now in
-    let cert = seen_proof c.args.proof.now in
+    let cert = proof_view c.args.proof.now in
     let b = c.requires.bounded in
     let t = problem_in query tables join in
     let e : c.from_residual.result ≡ Err c.in_err-places.field-0.0 = search rules in
@@ -66,7 +66,7 @@ last_rank-requires-clause-answers g c =
     let query = c.args.query.now.query in
     let tables = c.args.tables.now in
     let join = c.args.join.now in
-    let cert = seen_proof c.args.proof.now in
+    let cert = proof_view c.args.proof.now in
     let rows : HasProblemRows query tables join d key c.tree.inside.raw =
     subst (λ z. HasProblemRows query tables join d key z.raw) (sym c.tree.view_is) c.requires.bounded.rows in
     record {
@@ -86,7 +86,7 @@ returns-in_err-last-clause-fault g c =
     let query = c.args.query.now.query in
     let tables = c.args.tables.now in
     let join = c.args.join.now in
-    let cert = seen_proof c.args.proof.now in
+    let cert = proof_view c.args.proof.now in
     let b = c.requires.bounded in
     let t = problem_in query tables join in
     let e : c.from_residual-in_err-last.result ≡ Err c.in_err-last.field-0.0 = search rules in
@@ -109,7 +109,7 @@ returns-then-not-is_count-clause-fault g c =
     let query = c.args.query.now.query in
     let tables = c.args.tables.now in
     let join = c.args.join.now in
-    let cert = seen_proof c.args.proof.now in
+    let cert = proof_view c.args.proof.now in
     let b = c.requires.bounded in
     let t = problem_in query tables join in
     let tree : HasProblemRows query tables join d key c.tree.inside.raw =
@@ -140,7 +140,7 @@ returns-clause-placed g c =
     let query = c.args.query.now.query in
     let tables = c.args.tables.now in
     let join = c.args.join.now in
-    let cert = seen_proof c.args.proof.now in
+    let cert = proof_view c.args.proof.now in
     let b = c.requires.bounded in
     let t = problem_in query tables join in
     let raw = c.args.tree.now.raw in
@@ -181,7 +181,7 @@ returns-clause-last g c =
     let query = c.args.query.now.query in
     let tables = c.args.tables.now in
     let join = c.args.join.now in
-    let cert = seen_proof c.args.proof.now in
+    let cert = proof_view c.args.proof.now in
     let tree : HasProblemRows query tables join d key c.tree.inside.raw =
     subst (λ z. HasProblemRows query tables join d key z.raw) (sym c.tree.view_is) c.requires.bounded.rows in
     let answers : AreAnswers query tables join c.tree.inside.raw cert c.as_slice.result.now =

@@ -1,6 +1,6 @@
 use Rattle.std.proofs.Common.{◌<◌, length, sym, ap, subst, ◌∙◌, arith, below_more}
 use Rattle.std.proofs.lemmas.Bool.{false≢true}
-use Rattle.tdp_core.specs.RawData.{raw_len, raw_number}
+use Rattle.tdp_core.specs.RawView.{raw_len, raw_number}
 use Rattle.proof_model.specs.QueryProblem.{problem_in}
 use Rattle.proof_model.specs.Valid.{IsCovered}
 use Rattle.proof_answers.proofs.Coverings.{not-true}

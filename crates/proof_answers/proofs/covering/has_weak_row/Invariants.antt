@@ -1,5 +1,5 @@
 use Rattle.std.proofs.Common.{ℕ, ◌<◌}
-use Rattle.tdp_core.specs.RawData.{raw_number}
+use Rattle.tdp_core.specs.RawView.{raw_number}
 use Rattle.proof_model.specs.QueryProblem.{problem_in}
 use Rattle.proof_model.specs.Valid.{IsCovered}
 use Rattle.proof_answers.specs.Lows.{OfEach}

@@ -4,7 +4,7 @@ use Rattle.anyk_model.specs.Query.{Query}
 use Rattle.anyk_model.specs.Table.{Table}
 use Rattle.tdp_model.specs.KeyTuple.{key_add}
 use Rattle.rank_key.specs.Keys.{KeyFits}
-use Rattle.tdp_core.specs.RawData.{IsRawFormed, raw_len, raw_number, raw_rank}
+use Rattle.tdp_core.specs.RawView.{IsRawFormed, raw_len, raw_number, raw_rank}
 use Rattle.proof_model.specs.QueryProblem.{problem_in}
 use Rattle.proof_bounds.specs.BoundedRows.{named_bound, rank_of_bound}
 use Rattle.proof_answers.specs.Lows.{IsLow}

@@ -1,6 +1,6 @@
 use Rattle.std.proofs.Common.{◌≡◌, ◌<◌, option_map, [], length, sym, ap, arith}
 use Rattle.proof_text.specs.Certificate.{AnswerLine}
-use Rattle.proof_text.specs.ProofView.{seen_answer, seen_proof}
+use Rattle.proof_text.specs.ProofView.{listed_view, proof_view}
 use Rattle.proof_text.specs.declared.fault.ProofFault.TheVariants as fault
 use Rattle.proof_model.specs.QueryProblem.{problem_in}
 use Rattle.proof_model.specs.Valid.{answer_at, answer_key}
@@ -17,7 +17,7 @@ rank_of_places-rank-requires-clause-solution g c =
       query = a.query;
       tables = a.tables;
       join = a.join;
-      rows = (answer_at (problem_in a.query a.tables a.join) (seen_proof c.args.proof.now) i).rows;
+      rows = (answer_at (problem_in a.query a.tables a.join) (proof_view c.args.proof.now) i).rows;
       tree = a.tree;
       placed = a.answers.each i (omega (arith, c.loop-i-test.true, a.answers.count));
     }
@@ -27,7 +27,7 @@ returns-then-not-is_after-clause-fault g c query tables join few tree answers =
     let d = g.R.Rank.KEYS in
     let key = g.R.Rank.key in
     let t = problem_in query tables join in
-    let cert = seen_proof c.args.proof.now in
+    let cert = proof_view c.args.proof.now in
     let i = c.loop-i.i in
     let x = c.index.result.now in
     let l : i < length cert.answers = omega (arith, c.loop-i-test.true, answers.count) in
@@ -39,7 +39,7 @@ returns-then-not-is_after-clause-fault g c query tables join few tree answers =
     let found = behind query tables join d cert few i (option_map key c.loop-i.last)
     (key c.rank_of_places-rank.result) here
     before.0 c.is_after.result test c.if-not-is_after.true in
-    let is : answer_at t cert i ≡ seen_answer x =
+    let is : answer_at t cert i ≡ listed_view x =
     seen_at c.args.proof.now.answers.items i x (record { line = 0; rows = [] })
     (omega (arith, l, seen_count c.args.proof.now.answers.items)) c.index.ensures in
     (i, ap (λ (a : AnswerLine). fault.Order a.line) (sym is), (found.0, l, found.1, before.1))
@@ -49,7 +49,7 @@ loop-i-preserved g c query tables join few tree answers =
     let d = g.R.Rank.KEYS in
     let key = g.R.Rank.key in
     let t = problem_in query tables join in
-    let cert = seen_proof c.args.proof.now in
+    let cert = proof_view c.args.proof.now in
     let i = c.loop-i.i in
     let l : i < length cert.answers = omega (arith, c.loop-i-test.true, answers.count) in
     let before = c.loop-i.invariant query tables join few tree answers in
@@ -64,7 +64,7 @@ loop-i-preserved g c query tables join few tree answers =
 
 pub returns-clause-last : goal.returns-clause-last
 returns-clause-last g c query tables join few tree answers =
-    let cert = seen_proof c.args.proof.now in
+    let cert = proof_view c.args.proof.now in
     let done : c.loop-i.i ≡ length cert.answers =
     omega (arith, c.loop-i.auto.i-end, c.loop-i-test.false, answers.count) in
     last_key query tables join g.R.Rank.KEYS cert c.loop-i.i (option_map g.R.Rank.key c.loop-i.last) done

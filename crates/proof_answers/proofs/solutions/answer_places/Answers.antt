@@ -1,7 +1,7 @@
 use Rattle.std.proofs.Common.{◌≡◌, ◌+◌, ◌<◌, ℕ, List, [], ◌∷◌, ◌++◌, length, get_or, sym, ap, subst, ◌∙◌, inr, arith}
 use Rattle.std.proofs.Common.{below_more, length-append}
 use Rattle.proof_text.specs.Certificate.{AnswerLine}
-use Rattle.proof_text.specs.ProofView.{seen_answer, seen_proof}
+use Rattle.proof_text.specs.ProofView.{listed_view, proof_view}
 use Rattle.proof_text.specs.declared.fault.ProofFault.TheVariants as fault
 use Rattle.proof_model.specs.Problem.{IsSolutionAt}
 use Rattle.proof_model.specs.QueryProblem.{problem_in}
@@ -13,13 +13,13 @@ use Rattle.proof_answers.proofs.solutions.answer_places.Goals as goal
 pub returns-in-None-clause-fault : goal.returns-in-None-clause-fault
 returns-in-None-clause-fault g c query tables join tree =
     let t = problem_in query tables join in
-    let cert = seen_proof c.args.proof.now in
+    let cert = proof_view c.args.proof.now in
     let items = c.args.proof.now.answers.items in
     let i = c.loop-answer.answer-index in
     let x = c.answer-item.result in
     let list = c.deref-answer-items.ensures.value in
     let l : i < length items = omega (arith, c.loop-answer-test.true, ap length list) in
-    let is : answer_at t cert i ≡ seen_answer x =
+    let is : answer_at t cert i ≡ listed_view x =
     seen_at items i x (record { line = 0; rows = [] }) l (c.answer-item.is ∙ ap (λ xs. get_or xs i x) list) in
     let rows : (answer_at t cert i).rows ≡ c.as_slice.result.now =
     ap (λ (a : AnswerLine). a.rows) is ∙ sym c.as_slice.ensures.value in
@@ -47,8 +47,8 @@ loop-answer-preserved g c =
       long = ap length pushed ∙ length-append before (found ∷ []) ∙ ap (λ n. n + 1) c.loop-answer.invariant.long;
       each = λ query tables join tree.
           let t = problem_in query tables join in
-          let cert = seen_proof c.args.proof.now in
-          let is : answer_at t cert i ≡ seen_answer x =
+          let cert = proof_view c.args.proof.now in
+          let is : answer_at t cert i ≡ listed_view x =
           seen_at items i x (record { line = 0; rows = [] }) l (c.answer-item.is ∙ ap (λ xs. get_or xs i x) list) in
           let rows : c.as_slice.result.now ≡ (answer_at t cert i).rows =
           c.as_slice.ensures.value ∙ ap (λ (a : AnswerLine). a.rows) (sym is) in

@@ -1,6 +1,6 @@
 use Rattle.std.proofs.Common.{◌≡◌, ◌++◌, Err, drop, take, [], length, map, get_or, rules, sym, ap, subst, ◌∙◌, arith}
 use Rattle.std.proofs.lemmas.List.{length-map}
-use Rattle.proof_text.specs.ProofView.{seen_bound, seen_proof}
+use Rattle.proof_text.specs.ProofView.{bound_view, proof_view}
 use Rattle.proof_bounds.specs.BoundedRows.{IsBounded}
 use Rattle.proof_bounds.specs.Lines.{AreLineGroups, ArePlacedLines}
 use Rattle.proof_bounds.proofs.LineFaults.{groups_few, rows_few, tells_bad, tells_twice}
@@ -13,7 +13,7 @@ pub returns-in_err-tops-clause-fault : goal.returns-in_err-tops-clause-fault
 returns-in_err-tops-clause-fault g c =
     let e : c.from_residual.result ≡ Err c.in_err-tops.field-0.0 = search rules in
     rw e
-    (tells_bad c.args.query.now.query c.args.tables.now c.args.join.now (seen_proof c.args.proof.now) c.requires.shape
+    (tells_bad c.args.query.now.query c.args.tables.now c.args.join.now (proof_view c.args.proof.now) c.requires.shape
     c.in_err-tops.field-0.0
     (c.in_err-tops.ensures.fault c.args.query.now.query c.args.tables.now c.args.join.now c.requires.keys c.requires.rows))
 
@@ -25,7 +25,7 @@ line_groups-requires g c = record {
   ranks = map (λ b. b.ranks.items) c.in_ok-tops.field-0.bounds.items;
   tree = c.requires.rows;
   placed = subst (λ tops. ArePlacedLines c.args.query.now.query c.args.tables.now c.args.join.now g.R.Rank.KEYS g.R.Rank.key
-      c.args.raw (seen_proof c.args.proof.now) (length c.args.proof.now.bounds.items) tops
+      c.args.raw (proof_view c.args.proof.now) (length c.args.proof.now.bounds.items) tops
       (map (λ b. b.ranks.items) c.in_ok-tops.field-0.bounds.items)) (sym c.as_slice.ensures.value)
       (c.in_ok-tops.ensures.placed c.args.query.now.query c.args.tables.now c.args.join.now c.requires.keys c.requires.rows);
 }
@@ -34,23 +34,23 @@ pub returns-in_err-groups-clause-fault : goal.returns-in_err-groups-clause-fault
 returns-in_err-groups-clause-fault g c =
     let e : c.from_residual-in_err-groups.result ≡ Err c.in_err-groups.field-0.0 = search rules in
     rw e
-    (tells_twice c.args.query.now.query c.args.tables.now c.args.join.now (seen_proof c.args.proof.now) c.requires.shape
+    (tells_twice c.args.query.now.query c.args.tables.now c.args.join.now (proof_view c.args.proof.now) c.requires.shape
     c.in_err-groups.field-0.0
     (c.in_err-groups.ensures.fault c.args.query.now.query c.args.tables.now c.args.join.now
     (map (λ b. b.ranks.items) c.in_ok-tops.field-0.bounds.items) c.requires.rows
     (subst (λ tops. ArePlacedLines c.args.query.now.query c.args.tables.now c.args.join.now g.R.Rank.KEYS g.R.Rank.key
-    c.args.raw (seen_proof c.args.proof.now) (length c.args.proof.now.bounds.items) tops
+    c.args.raw (proof_view c.args.proof.now) (length c.args.proof.now.bounds.items) tops
     (map (λ b. b.ranks.items) c.in_ok-tops.field-0.bounds.items)) (sym c.as_slice.ensures.value)
     (c.in_ok-tops.ensures.placed c.args.query.now.query c.args.tables.now c.args.join.now c.requires.keys c.requires.rows))))
 
 pub name_all-requires-clause-few : goal.name_all-requires-clause-few
 name_all-requires-clause-few g c = λ v l.
     let p = subst (λ tops. ArePlacedLines c.args.query.now.query c.args.tables.now c.args.join.now g.R.Rank.KEYS g.R.Rank.key
-    c.args.raw (seen_proof c.args.proof.now) (length c.args.proof.now.bounds.items) tops
+    c.args.raw (proof_view c.args.proof.now) (length c.args.proof.now.bounds.items) tops
     (map (λ b. b.ranks.items) c.in_ok-tops.field-0.bounds.items)) (sym c.as_slice.ensures.value)
     (c.in_ok-tops.ensures.placed c.args.query.now.query c.args.tables.now c.args.join.now c.requires.keys c.requires.rows) in
     let few = groups_few c.args.query.now.query c.args.tables.now c.args.join.now g.R.Rank.KEYS g.R.Rank.key c.args.raw
-    c.nodes-nodes.ensures.formed.shaped c.requires.rows (seen_proof c.args.proof.now) (length c.args.proof.now.bounds.items)
+    c.nodes-nodes.ensures.formed.shaped c.requires.rows (proof_view c.args.proof.now) (length c.args.proof.now.bounds.items)
     c.as_slice.result.now (map (λ b. b.ranks.items) c.in_ok-tops.field-0.bounds.items) p (length c.args.proof.now.bounds.items)
     (omega arith) c.in_ok-groups.groups.items c.in_ok-groups.ensures.groups v l in
     let all = rows_few g.R.Rank.KEYS g.R.Rank.key c.args.raw c.nodes-nodes.ensures.formed v in
@@ -63,10 +63,10 @@ returns-clause-bounded g c =
     let tables = c.args.tables.now in
     let join = c.args.join.now in
     let raw = c.args.raw in
-    let certificate = seen_proof c.args.proof.now in
+    let certificate = proof_view c.args.proof.now in
     let items = c.args.proof.now.bounds.items in
     let shape = c.requires.shape in
-    let all = sym (length-map items seen_bound) in
+    let all = sym (length-map items bound_view) in
     let ranks = ap (map (λ b. b.ranks.items)) (sym c.as_mut_slice.ensures.value) ∙ sym c.in_ok-name_all.ensures.ranks in
     let p = subst (λ k. ArePlacedLines query tables join g.R.Rank.KEYS g.R.Rank.key raw certificate k c.as_slice.result.now
     (map (λ b. b.ranks.items) c.name_all.new.bounds)) all

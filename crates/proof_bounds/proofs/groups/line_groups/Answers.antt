@@ -3,7 +3,7 @@ use Rattle.std.proofs.Math.ListN.{set}
 use Rattle.std.proofs.lemmas.List.{length-map}
 use Rattle.tdp_core.proofs.RawReads.{list_read}
 use Rattle.proof_text.specs.Certificate.{BoundLine}
-use Rattle.proof_text.specs.ProofView.{seen_bound, seen_proof}
+use Rattle.proof_text.specs.ProofView.{bound_view, proof_view}
 use Rattle.proof_text.specs.declared.fault.ProofFault.TheVariants as fault
 use Rattle.proof_bounds.specs.Lines.{AreLineGroups}
 use Rattle.proof_bounds.proofs.LineFaults.{groups_few, groups_more, line_is, node_read, node_within, rows_few, some_node_lem, twice}
@@ -57,7 +57,7 @@ add_group-requires g c =
     c.args.tops.now h.ranks h.placed c.loop-line.line c.bound-item.result inside
     (subst (λ xs. c.bound-item.result ≡ get_or xs c.loop-line.line c.bound-item.result) value c.bound-item.is) in
     let few = groups_few h.query h.tables h.join g.R.Rank.KEYS g.R.Rank.key c.args.raw.now c.nodes.ensures.formed.shaped h.tree
-    (seen_proof c.args.proof.now) (length c.args.proof.now.bounds.items) c.args.tops.now h.ranks h.placed c.loop-line.line
+    (proof_view c.args.proof.now) (length c.args.proof.now.bounds.items) c.args.tops.now h.ranks h.placed c.loop-line.line
     (omega (arith, inside)) c.loop-line.groups.items c.loop-line.invariant (c.bound-item.result.node - 1) low in
     let all = rows_few g.R.Rank.KEYS g.R.Rank.key c.args.raw.now c.nodes.ensures.formed (c.bound-item.result.node - 1) in
     let read = list_read c.loop-line.groups.items (c.bound-item.result.node - 1) c.index_mut.result.now
@@ -83,9 +83,9 @@ returns-in-Ok-false-clause-fault g c = λ query tables join ranks has p.
     inr (
       c.loop-line.line,
       ap (λ x. fault.BoundTwice x.line) (sym (line_is items c.loop-line.line c.bound-item.result none_at inside is)),
-      twice query tables join g.R.Rank.KEYS g.R.Rank.key c.args.raw.now shaped has (seen_proof c.args.proof.now) (length items) c.args.tops.now
+      twice query tables join g.R.Rank.KEYS g.R.Rank.key c.args.raw.now shaped has (proof_view c.args.proof.now) (length items) c.args.tops.now
           ranks p c.loop-line.line (omega (arith, inside)) c.loop-line.groups.items c.loop-line.invariant query.limit
-          (c.bound-item.result.node - 1) at.0 (sym (length-map items seen_bound)) low
+          (c.bound-item.result.node - 1) at.0 (sym (length-map items bound_view)) low
           (subst (λ xs. at.0 < length xs) (sym read) at.1) inside node
           (ap (λ xs. get_or xs at.0 0) read ∙ at.2 ∙ c.group_link-link.ensures),
     )
@@ -104,10 +104,10 @@ loop-line-preserved g c =
     let read = list_read c.loop-line.groups.items (c.bound-item.result.node - 1) c.index_mut.result.now
     (omega (arith, low, c.loop-line.invariant.each_node)) c.index_mut.ensures.value in
     let absent = c.in-Ok-true.ensures.absent c.in-Ok-true.field-0-test in
-    subst (λ xs. AreLineGroups c.args.raw.now (seen_proof c.args.proof.now) c.args.tops.now (c.loop-line.line + 1)
+    subst (λ xs. AreLineGroups c.args.raw.now (proof_view c.args.proof.now) c.args.tops.now (c.loop-line.line + 1)
     (set c.loop-line.groups.items (c.bound-item.result.node - 1) xs))
     (ap (λ xs. xs ++ (c.group_link-link.result ∷ [])) read ∙ sym (c.in-Ok-true.ensures.added c.in-Ok-true.field-0-test))
-    (groups_more h.query h.tables h.join g.R.Rank.KEYS g.R.Rank.key c.args.raw.now shaped h.tree (seen_proof c.args.proof.now)
+    (groups_more h.query h.tables h.join g.R.Rank.KEYS g.R.Rank.key c.args.raw.now shaped h.tree (proof_view c.args.proof.now)
     (length c.args.proof.now.bounds.items) c.args.tops.now h.ranks h.placed c.loop-line.line (omega (arith, inside))
     c.loop-line.groups.items c.loop-line.invariant (c.bound-item.result.node - 1) c.group_link-link.result low inside node
     c.group_link-link.ensures
@@ -137,5 +137,5 @@ pub returns-clause-groups : goal.returns-clause-groups
 returns-clause-groups g c =
     let all : c.loop-line.line ≡ length c.args.proof.now.bounds.items =
     omega (arith, c.loop-line-test.false, c.loop-line.auto.line-end, ap length c.deref-bound-items.ensures.value) in
-    subst (λ n. AreLineGroups c.args.raw.now (seen_proof c.args.proof.now) c.args.tops.now n c.loop-line.groups.items) all
+    subst (λ n. AreLineGroups c.args.raw.now (proof_view c.args.proof.now) c.args.tops.now n c.loop-line.groups.items) all
     c.loop-line.invariant

@@ -1,6 +1,6 @@
-use Rattle.proof_text.specs.ProofView.{seen_proof}
+use Rattle.proof_text.specs.ProofView.{proof_view}
 use Rattle.proof_bounds.specs.Lines.{AreLineGroups}
 use Rattle.proof_bounds.proofs.groups.line_groups.Given as goal
 
 abbrev pub invariant-loop-line : goal.invariant-loop-line
-invariant-loop-line g l = AreLineGroups l.raw (seen_proof l.proof) l.tops l.line l.groups.items
+invariant-loop-line g l = AreLineGroups l.raw (proof_view l.proof) l.tops l.line l.groups.items

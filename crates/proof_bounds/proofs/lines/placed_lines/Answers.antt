@@ -2,7 +2,7 @@ use Rattle.std.proofs.Common.{◌≡◌, ◌+◌, ◌-◌, ◌<◌, ◌++◌, �
 use Rattle.std.proofs.Math.ListN.{length-set, set}
 use Rattle.std.proofs.lemmas.List.{length-map}
 use Rattle.proof_text.specs.Certificate.{BoundLine}
-use Rattle.proof_text.specs.ProofView.{seen_proof}
+use Rattle.proof_text.specs.ProofView.{proof_view}
 use Rattle.proof_text.specs.declared.fault.ProofFault.TheVariants as fault
 use Rattle.proof_model.specs.QueryProblem.{problem_in}
 use Rattle.proof_model.specs.Valid.{bound_at}
@@ -37,7 +37,7 @@ returns-in_default-clause-fault g c = λ query tables join few has.
     inr (
       c.loop-bound.bound-index,
       ap (λ x. fault.BadBound x.line) (sym (line_is items c.loop-bound.bound-index c.bound-item.result none_at inside is)),
-      first_bad (problem_in query tables join) (seen_proof c.args.proof.now) query.limit c.loop-bound.bound-index p.solutions
+      first_bad (problem_in query tables join) (proof_view c.args.proof.now) query.limit c.loop-bound.bound-index p.solutions
           (none_read query tables join c.args.proof.now c.loop-bound.bound-index c.bound-item.result inside is
           (c.in_default.ensures query tables join has)),
     )
@@ -101,23 +101,23 @@ loop-bound-preserved g c =
           let same : s.0 ≡ c.bound-item.result.node - 1 = omega (arith, s.2) in
           let read = line_is items c.loop-bound.bound-index c.bound-item.result none_at inside is in
           let number = line_number items c.loop-bound.bound-index c.bound-item.result none_at inside is in
-          let here : line_node (seen_proof c.args.proof.now) c.loop-bound.bound-index ≡ suc (c.bound-item.result.node - 1) =
+          let here : line_node (proof_view c.args.proof.now) c.loop-bound.bound-index ≡ suc (c.bound-item.result.node - 1) =
           omega (arith, number, s.2) in
           let placed = subst (λ rows. ArePlacesOf query tables join c.args.raw.now (c.bound-item.result.node - 1) rows c.in-Some.places)
           (sym (ap (λ x. x.rows) read))
           (subst (λ v. ArePlacesOf query tables join c.args.raw.now v c.bound-item.result.rows.items c.in-Some.places) same s.3) in
           let rank = c.rank_of_places-rank.ensures query tables join
-          (bound_at (problem_in query tables join) (seen_proof c.args.proof.now) c.loop-bound.bound-index).rows few has placed in
+          (bound_at (problem_in query tables join) (proof_view c.args.proof.now) c.loop-bound.bound-index).rows few has placed in
           let low : c.bound-item.result.node - 1 < length c.args.raw.now.shapes = omega (arith, s.1, same) in
           let p = c.loop-bound.invariant.placed query tables join few has in
-          subst (λ tops. ArePlacedLines query tables join g.R.Rank.KEYS g.R.Rank.key c.args.raw.now (seen_proof c.args.proof.now)
+          subst (λ tops. ArePlacedLines query tables join g.R.Rank.KEYS g.R.Rank.key c.args.raw.now (proof_view c.args.proof.now)
           (c.loop-bound.bound-index + 1) tops
           (map (λ b. b.ranks.items) (set bounds (c.bound-item.result.node - 1) (record old { ranks = c.push-in-loop-bound.new.self }))))
           (sym c.in_ok-push.ensures.items)
-          (subst (λ lists. ArePlacedLines query tables join g.R.Rank.KEYS g.R.Rank.key c.args.raw.now (seen_proof c.args.proof.now)
+          (subst (λ lists. ArePlacedLines query tables join g.R.Rank.KEYS g.R.Rank.key c.args.raw.now (proof_view c.args.proof.now)
           (c.loop-bound.bound-index + 1) (c.loop-bound.tops.items ++ (get_or c.in-Some.places (c.bound-item.result.node - 1) 0 ∷ [])) lists)
           (sym ranks)
-          (lines_placed query tables join g.R.Rank.KEYS g.R.Rank.key c.args.raw.now shaped has (seen_proof c.args.proof.now)
+          (lines_placed query tables join g.R.Rank.KEYS g.R.Rank.key c.args.raw.now shaped has (proof_view c.args.proof.now)
           c.loop-bound.bound-index c.loop-bound.tops.items (map (λ b. b.ranks.items) bounds) p (c.bound-item.result.node - 1)
           c.rank_of_places-rank.result c.in-Some.places low here placed rank));
     }
@@ -127,7 +127,7 @@ returns-clause-placed g c = λ query tables join few has.
     let long = ap length c.deref-bound-items.ensures.value in
     let end : c.loop-bound.bound-index ≡ length c.args.proof.now.bounds.items =
     omega (arith, c.loop-bound-test.false, c.loop-bound.auto.bound-index-end, long) in
-    subst (λ k. ArePlacedLines query tables join g.R.Rank.KEYS g.R.Rank.key c.args.raw.now (seen_proof c.args.proof.now) k
+    subst (λ k. ArePlacedLines query tables join g.R.Rank.KEYS g.R.Rank.key c.args.raw.now (proof_view c.args.proof.now) k
     c.loop-bound.tops.items (map (λ b. b.ranks.items) c.loop-bound.bounds.items)) end
     (c.loop-bound.invariant.placed query tables join few has)
 

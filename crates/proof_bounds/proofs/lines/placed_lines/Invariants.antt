@@ -2,7 +2,7 @@ use Rattle.std.proofs.Common.{◌≡◌, ◌≤◌, List, length, map}
 use Rattle.anyk_model.specs.Table.{Table}
 use Rattle.anyk_model.specs.Query.{Query}
 use Rattle.join_tree.specs.declared.tree.JoinTree.{JoinTree}
-use Rattle.proof_text.specs.ProofView.{seen_proof}
+use Rattle.proof_text.specs.ProofView.{proof_view}
 use Rattle.proof_bounds.specs.BoundedRows.{HasProblemRows}
 use Rattle.proof_bounds.specs.Lines.{ArePlacedLines}
 use Rattle.proof_bounds.proofs.lines.placed_lines.Given as goal
@@ -12,6 +12,6 @@ invariant-loop-bound g l = record {
   each_node : length l.bounds.items ≡ length l.raw.shapes;
   placed : (query : Query) (tables : List Table) (join : JoinTree) → length query.order ≤ g.R.Rank.KEYS
       → HasProblemRows query tables join g.R.Rank.KEYS g.R.Rank.key l.raw
-      → ArePlacedLines query tables join g.R.Rank.KEYS g.R.Rank.key l.raw (seen_proof l.proof) l.bound-index l.tops.items
+      → ArePlacedLines query tables join g.R.Rank.KEYS g.R.Rank.key l.raw (proof_view l.proof) l.bound-index l.tops.items
       (map (λ b. b.ranks.items) l.bounds.items);
 }

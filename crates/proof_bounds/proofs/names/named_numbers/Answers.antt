@@ -1,5 +1,5 @@
 use Rattle.std.proofs.Common.{◌≡◌, ◌+◌, ◌∷◌, [], None, nat_eq, position, length, get_or, ap, ◌∙◌, length-append}
-use Rattle.tdp_core.specs.RawData.{child_link, shape_parent}
+use Rattle.tdp_core.specs.RawView.{child_link, shape_parent}
 use Rattle.proof_bounds.specs.Lines.{named_link}
 use Rattle.proof_bounds.proofs.Pushed.{pushed_more}
 use Rattle.std.proofs.lemmas.Result.{IfOk-from_err}

@@ -1,6 +1,6 @@
 use Rattle.std.proofs.Common.{◌≡◌, ◌+◌, ◌-◌, ◌/◌, ◌<◌, ℕ, ap, ◌∙◌, inl, inr, arith}
 use Rattle.std.proofs.lemmas.Bool.{cases_lt}
-use Rattle.tdp_core.specs.RawData.{raw_len, raw_number}
+use Rattle.tdp_core.specs.RawView.{raw_len, raw_number}
 use Rattle.proof_bounds.proofs.Subtrees.{rows_ascend}
 use Rattle.proof_bounds.proofs.searching.row_place.Goals as goal
 

@@ -1,5 +1,5 @@
 use Rattle.std.proofs.Common.{◌-◌, ℕ, ◌<◌, ◌≤◌}
-use Rattle.tdp_core.specs.RawData.{raw_len, raw_number}
+use Rattle.tdp_core.specs.RawView.{raw_len, raw_number}
 use Rattle.proof_bounds.specs.Subtrees.{AreAscending}
 use Rattle.proof_bounds.proofs.searching.row_place.Given as goal
 

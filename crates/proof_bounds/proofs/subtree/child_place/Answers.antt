@@ -1,6 +1,6 @@
 use Rattle.std.proofs.Common.{◌≡◌, ◌≢◌, ◌+◌, ◌-◌, length, sym, ap, ◌∙◌, arith}
-use Rattle.tdp_core.specs.RawData.{shape_parent}
-use Rattle.tdp_core.specs.TreeData.{kids_below}
+use Rattle.tdp_core.specs.RawView.{shape_parent}
+use Rattle.tdp_core.specs.TreeView.{kids_below}
 use Rattle.tdp_core.proofs.Children.{kids_below_first, kids_below_child, kids_below_other, kids_below_most, child_place_within}
 use Rattle.proof_bounds.proofs.subtree.child_place.Goals as goal
 use Rattle.proof_bounds.proofs.subtree.child_place.Goals.{then-shape-parent, else-shape-parent}

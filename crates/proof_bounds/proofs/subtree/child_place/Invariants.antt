@@ -1,6 +1,6 @@
 use Rattle.std.proofs.Common.{◌≡◌}
-use Rattle.tdp_core.specs.RawData.{shape_parent}
-use Rattle.tdp_core.specs.TreeData.{kids_below}
+use Rattle.tdp_core.specs.RawView.{shape_parent}
+use Rattle.tdp_core.specs.TreeView.{kids_below}
 use Rattle.proof_bounds.proofs.subtree.child_place.Given as goal
 
 abbrev pub invariant-loop-other : goal.invariant-loop-other

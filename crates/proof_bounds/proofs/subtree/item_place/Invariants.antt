@@ -1,6 +1,6 @@
 use Rattle.std.proofs.Common.{◌≡◌, ◌≤◌, ◌<◌, ◌+◌, ◌*◌, ℕ, cond, nat_lt, length}
 use Rattle.tdp_model.specs.TreeProblem.{sum_from}
-use Rattle.tdp_core.specs.RawData.{shape_item}
+use Rattle.tdp_core.specs.RawView.{shape_item}
 use Rattle.proof_bounds.specs.Subtrees.{AreBelow, raw_below}
 use Rattle.proof_bounds.proofs.subtree.item_place.Given as goal
 

@@ -9,7 +9,7 @@ use Rattle.std.specs.Prelude.{Ok}
 use Rattle.proof_text.specs.declared.fault.ProofFault.{ProofFault}
 use Rattle.proof_text.specs.declared.proof.Listed.{Listed}
 use Rattle.proof_text.specs.Certificate.{AnswerLine, Certificate}
-use Rattle.proof_text.specs.ProofView.{seen_answer, seen_proof}
+use Rattle.proof_text.specs.ProofView.{listed_view, proof_view}
 use Rattle.proof_model.specs.Faults.{TellsFlaw}
 use Rattle.proof_model.specs.QueryProblem.{problem_in}
 use Rattle.proof_model.specs.Valid.{IsFirst, missed}
@@ -38,7 +38,7 @@ rows_of-requires-clause-each g c =
     let some : 0 < join.count = let e = c.requires.count in let s = c.requires.fits.some in omega (arith, e, s) in
     let each : (i : ℕ) → i < length xs → length (list_at (map (λ a. a.rows.items) xs) i) ≡ join.count = λ i l.
     ap length (rows_at xs i l)
-    ∙ (placed.answers i (omega (arith, l, length-map xs seen_answer))).count
+    ∙ (placed.answers i (omega (arith, l, length-map xs listed_view))).count
     ∙ tree_size query tables join c.requires.ordered long some in
     subst (λ ys. (i : ℕ) → i < length ys → length (list_at (map (λ a. a.rows.items) ys) i) ≡ join.count)
     (sym c.deref.ensures.value) each
@@ -46,11 +46,11 @@ rows_of-requires-clause-each g c =
 pub returns-in-Ok-clause-rows : goal.returns-in-Ok-clause-rows
 returns-in-Ok-clause-rows g c =
     let xs = c.args.proof.now.answers.items in
-    let same : map (λ (a : Listed). a.rows.items) c.deref.result.now ≡ map (λ (a : AnswerLine). a.rows) (map seen_answer xs) =
+    let same : map (λ (a : Listed). a.rows.items) c.deref.result.now ≡ map (λ (a : AnswerLine). a.rows) (map listed_view xs) =
     ap (map (λ (a : Listed). a.rows.items)) c.deref.ensures.value ∙ sym (rows_seen xs) in
     IfOk-weaker c.rows_of.result
     (λ found. map (take c.args.join.now.count) found.items ≡ map (λ (a : Listed). a.rows.items) c.deref.result.now)
-    (λ found. item_rows c.args.query.now.query found.items ≡ map (λ (a : AnswerLine). a.rows) (map seen_answer xs))
+    (λ found. item_rows c.args.query.now.query found.items ≡ map (λ (a : AnswerLine). a.rows) (map listed_view xs))
     (λ found e. ap (λ n. map (take n) found.items) (sym c.requires.count) ∙ e ∙ same) c.rows_of.ensures.rows
 
 pub returns-clause-fault : goal.returns-clause-fault
@@ -58,7 +58,7 @@ returns-clause-fault g c =
     let query = c.args.query.now.query in
     let tables = c.args.tables.now in
     let join = c.args.join.now in
-    let cert = seen_proof c.args.proof.now in
+    let cert = proof_view c.args.proof.now in
     let bounded = c.in_ok-tree.ensures.bounded in
     let placed = c.in_ok-answers.ensures.placed in
     told_first query tables join cert bounded.shape bounded.is_shape

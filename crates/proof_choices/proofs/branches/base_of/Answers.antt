@@ -6,7 +6,7 @@ use Rattle.tdp_model.specs.TreeProblem.{sum_from}
 use Rattle.tdp_model.proofs.KeyTuples.{tuple_keys}
 use Rattle.tdp_model.proofs.Sums.{sum_last}
 use Rattle.rank_key.specs.Keys.{KeyFits}
-use Rattle.tdp_core.specs.RawData.{IsRawFormed}
+use Rattle.tdp_core.specs.RawView.{IsRawFormed}
 use Rattle.proof_model.specs.QueryProblem.{problem_in}
 use Rattle.proof_answers.proofs.Nodes.{all_nodes}
 use Rattle.proof_choices.specs.Levels.{IsBase, base_part}

@@ -1,5 +1,5 @@
 use Rattle.std.proofs.Common.{◌≡◌, ◌<◌, length, slice_index, ap, subst, sym, ◌∙◌, inl, inr, Some, arith}
-use Rattle.tdp_core.specs.RawData.{raw_len, raw_rank}
+use Rattle.tdp_core.specs.RawView.{raw_len, raw_rank}
 use Rattle.proof_answers.proofs.Nodes.{all_nodes}
 use Rattle.proof_choices.proofs.Parts.{empty_part, named_part, named_row, row_part}
 use Rattle.proof_choices.proofs.branches.base_part.Goals as goal

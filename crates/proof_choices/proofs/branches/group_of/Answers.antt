@@ -2,8 +2,8 @@ use Rattle.std.proofs.Common.{◌≡◌, ◌<◌, ℕ, List, Option, None, Some,
 use Rattle.std.specs.Option.{MatchOption}
 use Rattle.join_tree.specs.declared.tree.JoinTree.{JoinTree}
 use Rattle.tdp_model.specs.KeyTuple.{KeyOf}
-use Rattle.tdp_core.specs.RawData.{raw_len}
-use Rattle.proof_bounds.specs.BoundedRows.{BoundedData, bound_ranks, named_bound}
+use Rattle.tdp_core.specs.RawView.{raw_len}
+use Rattle.proof_bounds.specs.BoundedRows.{BoundedView, bound_ranks, named_bound}
 use Rattle.proof_model.specs.QueryProblem.{problem_in}
 use Rattle.proof_answers.proofs.Nodes.{all_nodes, parent_at}
 use Rattle.proof_choices.specs.Levels.{IsGroupOf}
@@ -50,7 +50,7 @@ returns g c =
     (found q above tree join g.R.Rank.KEYS g.R.Rank.key c.args.start.now some refl
     (λ n e. (b.bounded.named_is q above n some l row e).0) (named_bound tree q above) refl)
   where
-    found : {R : Type 0} (q above : ℕ) (tree : BoundedData R)
+    found : {R : Type 0} (q above : ℕ) (tree : BoundedView R)
         (join : JoinTree) (d : ℕ)
         (key : R → KeyOf d 16) (start : List ℕ) → 0 < q
         → above ≡ slice_index start (slice_index join.parent q)

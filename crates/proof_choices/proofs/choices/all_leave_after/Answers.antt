@@ -1,6 +1,6 @@
 use Rattle.std.proofs.Common.{◌≡◌, option_map, length, sym, ap, subst, inl, inr, arith}
 use Rattle.std.proofs.lemmas.Bool.{cases_lt, false≢true}
-use Rattle.tdp_core.specs.RawData.{IsRawFormed}
+use Rattle.tdp_core.specs.RawView.{IsRawFormed}
 use Rattle.proof_answers.proofs.Nodes.{all_nodes}
 use Rattle.proof_choices.specs.Levels.{IsPassedAt}
 use Rattle.std.proofs.lemmas.Result.{IfOk-from_err}

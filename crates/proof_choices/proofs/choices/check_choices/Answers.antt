@@ -1,7 +1,7 @@
 use Rattle.std.proofs.Common.{◌≡◌, not, option_map, length, refl, sym, ap, subst, ◌∙◌}
 use Rattle.std.proofs.Common.{inl, inr}
 use Rattle.std.proofs.lemmas.Bool.{false≢true}
-use Rattle.proof_text.specs.ProofView.{seen_proof}
+use Rattle.proof_text.specs.ProofView.{proof_view}
 use Rattle.proof_choices.specs.Levels.{IsMissedAt, IsPassedAt}
 use Rattle.proof_choices.proofs.Passing.{IsLimit, all_passed, is_missed, limit_from}
 use Rattle.proof_choices.proofs.choices.check_choices.Goals as goal
@@ -16,7 +16,7 @@ returns-in-Ok-true-clause-passed g c =
     let query = c.args.query.now.query in
     let tables = c.args.tables.now in
     let join = c.args.join.now in
-    let cert = seen_proof c.args.proof.now in
+    let cert = proof_view c.args.proof.now in
     let tree = c.args.tree.now in
     let long : length join.atom ≡ 16 = c.all_leave_after.ensures.room in
     let limit : IsLimit query tables join d key cert tree c.requires.keys c.requires.bounded c.requires.ordered long
@@ -43,7 +43,7 @@ returns-in-Ok-false-clause-fault g c =
     let query = c.args.query.now.query in
     let tables = c.args.tables.now in
     let join = c.args.join.now in
-    let cert = seen_proof c.args.proof.now in
+    let cert = proof_view c.args.proof.now in
     let tree = c.args.tree.now in
     let long : length join.atom ≡ 16 = c.all_leave_after.ensures.room in
     let limit : IsLimit query tables join d key cert tree c.requires.keys c.requires.bounded c.requires.ordered long

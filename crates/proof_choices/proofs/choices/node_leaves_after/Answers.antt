@@ -1,6 +1,6 @@
 use Rattle.std.proofs.Common.{◌<◌, ℕ, option_map, length, slice_index, sym, subst}
 use Rattle.tdp_model.specs.KeyTuple.{KeyOf}
-use Rattle.tdp_core.specs.RawData.{raw_len}
+use Rattle.tdp_core.specs.RawView.{raw_len}
 use Rattle.proof_choices.specs.Levels.{IsPast, IsWay, list_at}
 use Rattle.proof_choices.proofs.Preparing.{start_rows}
 use Rattle.std.proofs.lemmas.Result.{IfOk-from_err, IfOk-weaker}

@@ -2,7 +2,7 @@ use Rattle.std.proofs.Common.{◌≡◌, ◌<◌, Some, [], length, map, option_
 use Rattle.std.proofs.Math.ListN.{set}
 use Rattle.std.proofs.lemmas.List.{get_or-set_other, get_or-set_same, length-map, map-set}
 use Rattle.proof_choices.specs.Levels.{AreOffers, HasLow}
-use Rattle.tdp_core.specs.RawData.{raw_len}
+use Rattle.tdp_core.specs.RawView.{raw_len}
 use Rattle.std.proofs.lemmas.Result.{IfOk-from_err}
 use Rattle.proof_choices.proofs.leaving.fill.Goals as goal
 

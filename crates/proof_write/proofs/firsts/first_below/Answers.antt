@@ -1,5 +1,5 @@
 use Rattle.std.proofs.Common.{◌≡◌, ◌<◌, None, get_or, sym, subst, ap, ◌∙◌}
-use Rattle.tdp_core.specs.TreeData.{group_count, parent, rows}
+use Rattle.tdp_core.specs.TreeView.{group_count, parent, rows}
 use Rattle.tdp_core.proofs.TreeFacts.{member_is_row}
 use Rattle.proof_write.proofs.firsts.first_below.Goals as goal
 

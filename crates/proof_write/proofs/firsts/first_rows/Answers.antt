@@ -1,5 +1,5 @@
 use Rattle.std.proofs.Common.{◌≡◌, ◌<◌, length, sym, subst, ap, arith}
-use Rattle.tdp_core.specs.TreeData.{item, parent, rows}
+use Rattle.tdp_core.specs.TreeView.{item, parent, rows}
 use Rattle.tdp_core.proofs.TreeFacts.{member_is_row}
 use Rattle.proof_write.proofs.Chosen.{chosen_all, chosen_start, chosen_under, next_none, next_some}
 use Rattle.proof_write.proofs.firsts.first_rows.Goals as goal

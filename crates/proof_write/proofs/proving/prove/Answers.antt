@@ -1,6 +1,6 @@
 use Rattle.std.proofs.Common.{◌≡◌, ◌++◌, List, [], length, sym, ap, subst, ◌∙◌, rules}
 use Rattle.anyk_model.specs.Output.{cut}
-use Rattle.tdp_core.specs.TreeData.{NodeData}
+use Rattle.tdp_core.specs.TreeView.{NodeView}
 use Rattle.tdp_core.specs.Solutions.{IsTreeRanking}
 use Rattle.witness_key.specs.WitnessKey.{combinations_in}
 use Rattle.proof_text.specs.Certificate.{BoundLine}
@@ -15,7 +15,7 @@ pub push_bounds-requires : goal.push_bounds-requires
 push_bounds-requires g c =
     let planned = c.requires.planned in
     let plan = planned.1 in
-    subst (λ (tree : List (NodeData g.row.R.Denot)). AreTold tree) planned.4
+    subst (λ (tree : List (NodeView g.row.R.Denot)). AreTold tree) planned.4
     (told c.args.query.now planned.0 plan.tree planned.3.whole.reduced)
 
 pub returns : goal.returns
@@ -33,11 +33,11 @@ returns g c = record {
       let list = cut query.query.limit (combinations_in query.query rest) in
       let empty : c.new-text.result.items ≡ [] = search rules in
       plan_text d key query tables fits plan is
-      (subst (λ (tree : List (NodeData g.row.R.Denot)). IsFormed d key tree) back there.formed)
+      (subst (λ (tree : List (NodeView g.row.R.Denot)). IsFormed d key tree) back there.formed)
       ranked.0
-      (subst (λ (tree : List (NodeData g.row.R.Denot)). IsTreeRanking tree d key ranked.0) back ranked.1)
+      (subst (λ (tree : List (NodeView g.row.R.Denot)). IsTreeRanking tree d key ranked.0) back ranked.1)
       rest ranked.2
-      bounds (subst (λ (tree : List (NodeData g.row.R.Denot)). AreBounds tree
+      bounds (subst (λ (tree : List (NodeView g.row.R.Denot)). AreBounds tree
       (length tree) bounds) back there.appended.1) c.in_ok-ended.ended ended.ended
       c.push_last.new.text.items
       (text_parts bounds list c.in_ok-ended.ended _ _ _ c.push_last.new.text.items

@@ -1,7 +1,7 @@
 use Rattle.std.proofs.Common.{◌≡◌, ◌<◌, ◌+◌, ◌*◌, ◌++◌, ◌∷◌, ◌∙◌, [], List, length, get_or, set, refl, sym, ap, subst, arith}
 use Rattle.anyk_model.specs.Query.{Column}
 use Rattle.rankings.specs.Order.{IsMember}
-use Rattle.bound_query.specs.StoredParts.{column_shown, term_shown}
+use Rattle.bound_query.specs.StoredParts.{column_view, term_view}
 use Rattle.query_bind.specs.Tallies.{AreTallies, StandOnce, columns_of, tally_size, with_one}
 use Rattle.query_bind.specs.declared.tallies.Tally.{Tally}
 use Rattle.query_bind.proofs.Tallying.{at_most_sum, once_again, once_first, tallies_again, tallies_first}
@@ -25,19 +25,19 @@ returns-in-Some-clause-same c = λ terms known.
     let j = c.in-Some.place in
     let y = c.index.result.now in
     let inside : j < length ys = omega (arith, c.in-Some.ensures.within, ap length c.as_slice.ensures.value) in
-    let same : column_shown (get_or ys j y).column ≡ (term_shown c.args.term.now).column =
-    ap (λ (l : List Tally). column_shown (get_or l j y).column) (sym c.as_slice.ensures.value) ∙ ap column_shown (c.in-Some.ensures.there y) in
+    let same : column_view (get_or ys j y).column ≡ (term_view c.args.term.now).column =
+    ap (λ (l : List Tally). column_view (get_or l j y).column) (sym c.as_slice.ensures.value) ∙ ap column_view (c.in-Some.ensures.there y) in
     let new : c.counted.result ≡ with_one c.args.term.now.minus (get_or ys j y) = c.counted.ensures ∙ ap (with_one c.args.term.now.minus) c.index.ensures in
-    subst (λ (z : Tally). AreTallies (terms ++ term_shown c.args.term.now ∷ []) (set ys j z)) (sym new)
-    (tallies_again terms ys (term_shown c.args.term.now) known j y inside same)
+    subst (λ (z : Tally). AreTallies (terms ++ term_view c.args.term.now ∷ []) (set ys j z)) (sym new)
+    (tallies_again terms ys (term_view c.args.term.now) known j y inside same)
 
 pub returns-in_ok-push-in-None-clause-same : goal.returns-in_ok-push-in-None-clause-same
 returns-in_ok-push-in-None-clause-same c = λ terms known.
     let ys = c.args.tallies.now.items in
     let fresh : Tally = record { column = c.args.term.now.column; plus = 0; minus = 0 } in
     let pushed = c.in_ok-push-in-None.ensures.items ∙ ap (λ (z : Tally). ys ++ z ∷ []) c.counted-in-None.ensures in
-    subst (λ (l : List Tally). AreTallies (terms ++ term_shown c.args.term.now ∷ []) l) (sym pushed)
-    (tallies_first terms ys (term_shown c.args.term.now) known fresh refl refl refl)
+    subst (λ (l : List Tally). AreTallies (terms ++ term_view c.args.term.now ∷ []) l) (sym pushed)
+    (tallies_first terms ys (term_view c.args.term.now) known fresh refl refl refl)
 
 pub returns-in-Some-clause-once : goal.returns-in-Some-clause-once
 returns-in-Some-clause-once c = λ known.

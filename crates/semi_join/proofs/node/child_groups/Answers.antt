@@ -1,6 +1,6 @@
 use Rattle.std.proofs.Common.{◌<◌, ◌∙◌, sym, ap, subst, arith, length, get_or, map, ◌-◌, suc, refl, nat_eq, position}
 use Rattle.std.specs.List.{list_any}
-use Rattle.tdp_core.specs.RawData.{shape_parent}
+use Rattle.tdp_core.specs.RawView.{shape_parent}
 use Rattle.semi_join.specs.Reduction.{links_of}
 use Rattle.semi_join.proofs.Kids.{kids_few, child_after, child_index, children_count}
 use Rattle.semi_join.proofs.Rows.{few_read, links_read, child_links_at, length-map, met_more, named_more, missed, found_any, missing_any}

@@ -1,5 +1,5 @@
 use Rattle.std.proofs.Common.{◌∙◌, sym, ap, arith}
-use Rattle.tdp_core.specs.RawData.{shape_parent}
+use Rattle.tdp_core.specs.RawView.{shape_parent}
 use Rattle.semi_join.proofs.Kids.{kid_added, kid_passed}
 use Rattle.semi_join.proofs.node.children_of.Goals as goal
 use Rattle.semi_join.proofs.node.children_of.Goals.{then-shape-node+in_ok-push, else-shape-node}

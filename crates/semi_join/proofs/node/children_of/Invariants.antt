@@ -1,6 +1,6 @@
 use Rattle.std.proofs.Common.{◌≡◌, suc, ◌-◌}
 use Rattle.semi_join.proofs.FirstOnes.{children_among}
-use Rattle.tdp_core.specs.RawData.{shape_parent}
+use Rattle.tdp_core.specs.RawView.{shape_parent}
 use Rattle.semi_join.proofs.node.children_of.Given as goal
 
 abbrev pub invariant-loop-later : goal.invariant-loop-later

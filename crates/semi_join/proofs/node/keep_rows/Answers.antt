@@ -1,5 +1,5 @@
 use Rattle.std.proofs.Common.{◌≡◌, ◌<◌, ◌+◌, ◌≤◌, ◌++◌, ◌∷◌, [], map, length, sym, ap, subst, ◌∙◌, arith, true, nat_eq, IfSome}
-use Rattle.tdp_core.specs.RawData.{raw_len, raw_row_at}
+use Rattle.tdp_core.specs.RawView.{raw_len, raw_row_at}
 use Rattle.tdp_core.proofs.RawReads.{length_within}
 use Rattle.semi_join.specs.Reduction.{links_of, child_nodes, has_partners, group_link, groups_named, EndsInPlaceOf, IsNumbering}
 use Rattle.indexmap.specs.IndexSet.{insert_all, insert_key}

@@ -1,7 +1,7 @@
 use Rattle.std.proofs.Common.{◌≡◌, ◌≢◌, suc, ◌+◌, ◌-◌, ◌<◌, ◌∷◌, [], map, length, sym, ap, subst, ◌∙◌, refl, arith}
 use Rattle.std.proofs.lemmas.List.{get_or-set_other}
-use Rattle.tdp_core.specs.RawData.{IsRawFormed, RawData, rows_at}
-use Rattle.tdp_core.specs.TreeData.{node_data}
+use Rattle.tdp_core.specs.RawView.{IsRawFormed, RawView, rows_at}
+use Rattle.tdp_core.specs.TreeView.{node_view}
 use Rattle.tdp_core.proofs.RawFacts.{formed_less}
 use Rattle.semi_join.specs.Reduction.{links_of, IsReducedNode, AreFew, group_links}
 use Rattle.semi_join.proofs.FromLast.{links_last, AreReducedLast}
@@ -54,7 +54,7 @@ loop-node-preserved g c =
     let more : suc (length raw.shapes - c.loop-node.node) ≡ length raw.shapes - v = omega (arith, before.count) in
     let same = before.rows v (omega arith) in
     let later = map links_of c.loop-node.later.items in
-    let part = node_data c.in_ok-grouped.grouped.parts in
+    let part = node_view c.in_ok-grouped.grouped.parts in
     let links = links_of c.in_ok-grouped.grouped.links in
     let found = subst (λ l. IsReducedNode tree v (map links_of l) part) c.deref.ensures.value c.in_ok-grouped.ensures.reduced in
     let reduced = subst (λ l. IsReducedNode raw v l part) before.links (reduced_same v later tree raw before.shapes same part found) in
@@ -62,14 +62,14 @@ loop-node-preserved g c =
     let one = steps_same v later tree raw before.shapes same c.loop-node.steps c.reduce_node.new.steps c.reduce_node.ensures.cost in
     record {
       formed = subst (IsRawFormed g.R.Rank.KEYS g.R.Rank.key) (sym c.clear.ensures) (formed_less g.R.Rank.KEYS g.R.Rank.key tree v before.formed here);
-      shapes = ap (λ (t : RawData g.row.R.Denot). t.shapes) c.clear.ensures ∙ before.shapes;
+      shapes = ap (λ (t : RawView g.row.R.Denot). t.shapes) c.clear.ensures ∙ before.shapes;
       rows = λ u h.
           let other : u ≢ v = λ e. omega (arith, h, e) in
-          ap (λ (t : RawData g.row.R.Denot). rows_at t u) c.clear.ensures ∙ get_or-set_other tree.rows v u [] [] other ∙ before.rows u (omega (arith, h));
+          ap (λ (t : RawView g.row.R.Denot). rows_at t u) c.clear.ensures ∙ get_or-set_other tree.rows v u [] [] other ∙ before.rows u (omega (arith, h));
       reduced =
-          subst (λ ps. AreReducedLast raw (length raw.shapes - v) (map node_data ps)) (sym c.in_ok-insert.ensures.items)
-          (subst (λ n. AreReducedLast raw n (part ∷ map node_data c.loop-node.nodes.items)) more
-          (from_more raw (length raw.shapes - c.loop-node.node) v part (map node_data c.loop-node.nodes.items) sum before.reduced reduced));
+          subst (λ ps. AreReducedLast raw (length raw.shapes - v) (map node_view ps)) (sym c.in_ok-insert.ensures.items)
+          (subst (λ n. AreReducedLast raw n (part ∷ map node_view c.loop-node.nodes.items)) more
+          (from_more raw (length raw.shapes - c.loop-node.node) v part (map node_view c.loop-node.nodes.items) sum before.reduced reduced));
       links =
           ap (map links_of) c.in_ok-insert-2.ensures.items
           ∙ links_more raw (length raw.shapes - c.loop-node.node) v links later sum before.links keys
@@ -82,8 +82,8 @@ loop-node-preserved g c =
 pub returns-clause-reduced : goal.returns-clause-reduced
 returns-clause-reduced g c =
     let all : length c.args.raw.shapes - c.loop-node.node ≡ length c.args.raw.shapes = omega arith in
-    whole_reduction g.R.Rank.KEYS g.R.Rank.key c.args.raw (map node_data c.loop-node.nodes.items) c.nodes-node.ensures.formed
-    (subst (λ n. AreReducedLast c.args.raw n (map node_data c.loop-node.nodes.items)) all c.loop-node.invariant.reduced)
+    whole_reduction g.R.Rank.KEYS g.R.Rank.key c.args.raw (map node_view c.loop-node.nodes.items) c.nodes-node.ensures.formed
+    (subst (λ n. AreReducedLast c.args.raw n (map node_view c.loop-node.nodes.items)) all c.loop-node.invariant.reduced)
 
 pub loop-node-init : goal.loop-node-init
 loop-node-init g c =
@@ -94,7 +94,7 @@ loop-node-init g c =
       formed = c.nodes-node.ensures.formed;
       shapes = refl;
       rows = λ v h. refl;
-      reduced = from_none raw c.nodes-node.result (map node_data c.new-nodes.result.items) all (ap (map node_data) c.new-nodes.ensures.items);
+      reduced = from_none raw c.nodes-node.result (map node_view c.new-nodes.result.items) all (ap (map node_view) c.new-nodes.ensures.items);
       links = links_none raw c.nodes-node.result (map links_of c.new-later.result.items) all no_links;
       few = few_none (map links_of c.new-later.result.items) no_links;
       count = omega (arith, all, ap length c.new-later.ensures.items);

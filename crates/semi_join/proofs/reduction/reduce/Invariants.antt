@@ -1,6 +1,6 @@
 use Rattle.std.proofs.Common.{◌≡◌, ◌≤◌, ◌<◌, ℕ, ◌+◌, ◌-◌, ◌*◌, map, length, drop, sum_by}
-use Rattle.tdp_core.specs.RawData.{IsRawFormed, rows_at}
-use Rattle.tdp_core.specs.TreeData.{node_data}
+use Rattle.tdp_core.specs.RawView.{IsRawFormed, rows_at}
+use Rattle.tdp_core.specs.TreeView.{node_view}
 use Rattle.semi_join.specs.Reduction.{AreFew, links_of}
 use Rattle.semi_join.proofs.FromLast.{AreReducedLast, links_last}
 use Rattle.semi_join.proofs.reduction.reduce.Given as goal
@@ -10,7 +10,7 @@ invariant-loop-node g l = record {
   formed : IsRawFormed g.R.Rank.KEYS g.R.Rank.key l.tree;
   shapes : l.tree.shapes ≡ l.fn.raw.shapes;
   rows : (v : ℕ) → v < l.node → rows_at l.tree v ≡ rows_at l.fn.raw v;
-  reduced : AreReducedLast l.fn.raw (length l.fn.raw.shapes - l.node) (map node_data l.nodes.items);
+  reduced : AreReducedLast l.fn.raw (length l.fn.raw.shapes - l.node) (map node_view l.nodes.items);
   links : map links_of l.later.items ≡ links_last l.fn.raw (length l.fn.raw.shapes - l.node);
   few : AreFew (map links_of l.later.items);
   count : l.node + length l.later.items ≡ length l.fn.raw.shapes;

@@ -1,10 +1,10 @@
 use Rattle.std.proofs.Common.{◌+◌, ◌<◌, List, length, get_or, slice_set, refl, sym, subst, arith}
 use Rattle.stream_store.specs.declared.entry.Linked.{Linked}
-use Rattle.tdp_core.specs.TreeData.{members, group_count}
+use Rattle.tdp_core.specs.TreeView.{members, group_count}
 use Rattle.tdp_core.proofs.TreeFacts.{group_count_within, member_is_row}
 use Rattle.suffix_streams.specs.declared.stream.Found.{Found}
-use Rattle.suffix_streams.specs.NodeLists.{NodeLists}
-use Rattle.suffix_streams.specs.StreamsData.{IsHeaded}
+use Rattle.suffix_streams.specs.NodeStreamsView.{NodeStreamsView}
+use Rattle.suffix_streams.specs.TreeStreams.{IsHeaded}
 use Rattle.suffix_streams.specs.Beginnings.{IsBegunIn}
 use Rattle.suffix_streams.proofs.BeginBegun.{headed_begun}
 use Rattle.suffix_streams.proofs.BeginNodes.{in_more, nodes_set}
@@ -71,7 +71,7 @@ first_stream-requires-clause-headed g c =
     let t = c.args.tree.now in
     let within : c.loop-group.group < group_count t c.args.node = omega (arith, c.loop-group-test.true, c.groups-group-end.ensures) in
     let row = member_is_row d key t c.requires.formed c.args.node c.loop-group.group 0 c.requires.node (c.requires.formed.inhabited c.args.node c.loop-group.group c.requires.node within) in
-    subst (λ (z : List (NodeLists g.row.R.Denot)). IsHeaded d key t c.loop-group.entries.entries z c.args.node (get_or (members t c.args.node c.loop-group.group) 0 0)) (sym c.as_slice.ensures.value)
+    subst (λ (z : List (NodeStreamsView g.row.R.Denot)). IsHeaded d key t c.loop-group.entries.entries z c.args.node (get_or (members t c.args.node c.loop-group.group) 0 0)) (sym c.as_slice.ensures.value)
     (headed_begun d key t c.requires.formed c.loop-group.entries.entries c.loop-group.nodes.items c.loop-group.invariant.begun.streams c.args.node (get_or (members t c.args.node c.loop-group.group) 0 0) c.requires.node row c.loop-group.invariant.begun.behind)
 
 pub first_stream-requires-clause-formed : goal.first_stream-requires-clause-formed

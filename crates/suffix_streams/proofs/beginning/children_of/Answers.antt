@@ -1,6 +1,6 @@
 use Rattle.std.proofs.Common.{◌≡◌, ℕ, ◌+◌, ◌∷◌, [], ◌++◌, Vec, length, get_or, sym, ap, ◌∙◌, arith}
 use Rattle.tdp_core.specs.declared.parts.NodeShape.{NodeShape}
-use Rattle.tdp_core.specs.TreeData.{parent}
+use Rattle.tdp_core.specs.TreeView.{parent}
 use Rattle.suffix_streams.proofs.BeginChildren.{no_kids_before, each_more, each_other}
 use Rattle.suffix_streams.proofs.beginning.children_of.Goals as goal
 use Rattle.suffix_streams.proofs.beginning.children_of.Goals.{then-shape-node+in_ok-push, else-shape-node}

@@ -1,5 +1,5 @@
 use Rattle.std.proofs.Common.{◌≡◌, ℕ, ◌<◌, length, get_or}
-use Rattle.tdp_core.specs.TreeData.{parent, kids_below}
+use Rattle.tdp_core.specs.TreeView.{parent, kids_below}
 use Rattle.suffix_streams.specs.Rankings.{child_among}
 use Rattle.suffix_streams.proofs.beginning.children_of.Given as goal
 

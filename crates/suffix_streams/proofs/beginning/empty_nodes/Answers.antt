@@ -1,6 +1,6 @@
 use Rattle.std.proofs.Common.{◌+◌, List, length, sym, ap, ◌∙◌, subst}
-use Rattle.suffix_streams.specs.NodeLists.{NodeLists}
-use Rattle.suffix_streams.specs.StreamsData.{lists_of}
+use Rattle.suffix_streams.specs.NodeStreamsView.{NodeStreamsView}
+use Rattle.suffix_streams.specs.TreeStreams.{lists_of}
 use Rattle.suffix_streams.specs.Beginnings.{IsEmptyNode}
 use Rattle.suffix_streams.proofs.BeginOwners.{length_behind}
 use Rattle.suffix_streams.proofs.BeginNodes.{empties_more}
@@ -12,6 +12,6 @@ loop-node-preserved g c =
     let same = c.in_ok-push.ensures.items in
     record {
       count = ap length same ∙ length_behind c.loop-node.nodes.items c.in_ok-empty_node.field-0 ∙ ap (λ z. z + 1) c.loop-node.invariant.count;
-      empty = λ v l. subst (λ (ns : List (NodeLists g.row.R.Denot)). IsEmptyNode t v (lists_of ns v)) (sym same)
+      empty = λ v l. subst (λ (ns : List (NodeStreamsView g.row.R.Denot)). IsEmptyNode t v (lists_of ns v)) (sym same)
           (empties_more g.R.Rank.KEYS g.R.Rank.key t c.loop-node.nodes.items c.in_ok-empty_node.field-0 c.loop-node.node c.loop-node.invariant.count c.loop-node.invariant.empty c.in_ok-empty_node.ensures v l);
     }

@@ -1,5 +1,5 @@
 use Rattle.std.proofs.Common.{◌≡◌, ℕ, ◌<◌, length}
-use Rattle.suffix_streams.specs.StreamsData.{lists_of}
+use Rattle.suffix_streams.specs.TreeStreams.{lists_of}
 use Rattle.suffix_streams.specs.Beginnings.{IsEmptyNode}
 use Rattle.suffix_streams.proofs.beginning.empty_nodes.Given as goal
 

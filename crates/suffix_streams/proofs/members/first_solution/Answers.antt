@@ -1,5 +1,5 @@
 use Rattle.std.proofs.Common.{◌<◌, refl, sym, ap, ◌∙◌, subst}
-use Rattle.tdp_core.specs.TreeData.{rows, best}
+use Rattle.tdp_core.specs.TreeView.{rows, best}
 use Rattle.tdp_core.proofs.TreeFacts.{member_is_row}
 use Rattle.suffix_streams.specs.Firsts.{HasFirstParts}
 use Rattle.suffix_streams.proofs.members.first_solution.Goals as goal

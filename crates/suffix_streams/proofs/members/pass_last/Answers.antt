@@ -5,21 +5,21 @@ use Rattle.take2_heap.specs.Order.{IsLeast}
 use Rattle.stream_model.specs.Offers.{offers}
 use Rattle.stream_cells.specs.declared.source.Source.{Source}
 use Rattle.rank_key.specs.Bits.{bit_length}
-use Rattle.suffix_streams.specs.NodeLists.{NodeLists, stream_at, with_queue}
-use Rattle.suffix_streams.specs.StreamsData.{IsStreams, lists_of, stream_of}
+use Rattle.suffix_streams.specs.NodeStreamsView.{NodeStreamsView, stream_at, with_queue}
+use Rattle.suffix_streams.specs.TreeStreams.{IsStreams, lists_of, stream_of}
 use Rattle.suffix_streams.specs.Firsts.{IsFirstBelow}
 use Rattle.suffix_streams.proofs.Changes.{lists_same}
 use Rattle.suffix_streams.proofs.Heads.{lists_at}
 use Rattle.suffix_streams.proofs.members.pass_last.Goals as goal
 
 -- only the queue of group k of node v changed
-queue_alone : {R : Type 0} (n : List (NodeLists R)) (v k : ℕ) (old new : NodeLists R) → v < length n → old ≡ get_or n v old → new ≡ with_queue old k (stream_at new k).queue (stream_at new k).room
+queue_alone : {R : Type 0} (n : List (NodeStreamsView R)) (v k : ℕ) (old new : NodeStreamsView R) → v < length n → old ≡ get_or n v old → new ≡ with_queue old k (stream_at new k).queue (stream_at new k).room
     → slice_set n v new ≡ slice_set n v (with_queue (lists_of n v) k (stream_of (slice_set n v new) v k).queue (stream_of (slice_set n v new) v k).room)
 queue_alone {R} n v k old new inside read changed =
     let before : old ≡ lists_of n v = sym (lists_at n v old read inside) in
     let after : new ≡ lists_of (slice_set n v new) v = sym (lists_same n v new inside) in
-    ap (λ (z : NodeLists R). slice_set n v z) (changed ∙ ap (λ (z : NodeLists R). with_queue z k (stream_at new k).queue (stream_at new k).room) before)
-    ∙ ap (λ (z : NodeLists R). slice_set n v (with_queue (lists_of n v) k (stream_at z k).queue (stream_at z k).room)) after
+    ap (λ (z : NodeStreamsView R). slice_set n v z) (changed ∙ ap (λ (z : NodeStreamsView R). with_queue z k (stream_at new k).queue (stream_at new k).room) before)
+    ∙ ap (λ (z : NodeStreamsView R). slice_set n v (with_queue (lists_of n v) k (stream_at z k).queue (stream_at z k).room)) after
 
 pub returns-then-place-eq1-clause-moved : goal.returns-then-place-eq1-clause-moved
 returns-then-place-eq1-clause-moved g c =
@@ -38,23 +38,23 @@ returns-then-place-eq1-clause-moved g c =
       below (2 * c.args.member + 1) left c.firsts_below-left.ensures.left,
       below (2 * c.args.member + 2) right c.firsts_below-left.ensures.right,
       λ e.
-          subst (λ (z : NodeLists g.row.R.Denot). IsPermutation (offers right None (offers c.args.next left (stream_of n v k).queue)) (get_or (stream_of n v k).queue 0 e ∷ (stream_at z k).queue)) (sym (lists_same n v new inside))
-          (subst (λ (z : NodeLists g.row.R.Denot). IsPermutation (offers right None (offers c.args.next left (stream_at z k).queue)) (get_or (stream_at z k).queue 0 e ∷ (stream_at new k).queue)) (sym (lists_at n v c.index_mut.result.now c.index_mut.ensures.value inside)) (c.pass.ensures.moved e)),
+          subst (λ (z : NodeStreamsView g.row.R.Denot). IsPermutation (offers right None (offers c.args.next left (stream_of n v k).queue)) (get_or (stream_of n v k).queue 0 e ∷ (stream_at z k).queue)) (sym (lists_same n v new inside))
+          (subst (λ (z : NodeStreamsView g.row.R.Denot). IsPermutation (offers right None (offers c.args.next left (stream_at z k).queue)) (get_or (stream_at z k).queue 0 e ∷ (stream_at new k).queue)) (sym (lists_at n v c.index_mut.result.now c.index_mut.ensures.value inside)) (c.pass.ensures.moved e)),
     )
 
 pub returns-then-place-eq1-clause-least : goal.returns-then-place-eq1-clause-least
 returns-then-place-eq1-clause-least g c e =
-    subst (λ (z : NodeLists g.row.R.Denot). IsLeast g.R.Rank.KEYS g.R.Rank.key (get_or (stream_at z c.args.group).queue 0 e) (stream_at z c.args.group).queue)
+    subst (λ (z : NodeStreamsView g.row.R.Denot). IsLeast g.R.Rank.KEYS g.R.Rank.key (get_or (stream_at z c.args.group).queue 0 e) (stream_at z c.args.group).queue)
     (sym (lists_at c.args.nodes.now.items c.args.node c.index_mut.result.now c.index_mut.ensures.value (omega (arith, c.requires.formed.all_nodes, c.requires.node)))) (c.pass.ensures.least e)
 
 pub returns-else-place-eq1-clause-least : goal.returns-else-place-eq1-clause-least
 returns-else-place-eq1-clause-least g c e =
-    subst (λ (z : NodeLists g.row.R.Denot). IsLeast g.R.Rank.KEYS g.R.Rank.key (get_or (stream_at z c.args.group).queue 0 e) (stream_at z c.args.group).queue)
+    subst (λ (z : NodeStreamsView g.row.R.Denot). IsLeast g.R.Rank.KEYS g.R.Rank.key (get_or (stream_at z c.args.group).queue 0 e) (stream_at z c.args.group).queue)
     (sym (lists_at c.args.nodes.now.items c.args.node c.index_mut-else-place-eq1.result.now c.index_mut-else-place-eq1.ensures.value (omega (arith, c.requires.formed.all_nodes, c.requires.node)))) (c.pass-else-place-eq1.ensures.least e)
 
 pub firsts_below-left-requires-clause-formed : goal.firsts_below-left-requires-clause-formed
 firsts_below-left-requires-clause-formed g c =
-    subst (λ (z : List (NodeLists g.row.R.Denot)). IsStreams g.R.Rank.KEYS g.R.Rank.key c.args.tree.now c.args.entries.now.entries z) (sym c.as_slice.ensures.value) c.requires.formed
+    subst (λ (z : List (NodeStreamsView g.row.R.Denot)). IsStreams g.R.Rank.KEYS g.R.Rank.key c.args.tree.now c.args.entries.now.entries z) (sym c.as_slice.ensures.value) c.requires.formed
 
 pub index_mut-requires : goal.index_mut-requires
 index_mut-requires g c = omega (arith, c.requires.formed.all_nodes, c.requires.node)
@@ -63,12 +63,12 @@ pub pass-requires-clause-group : goal.pass-requires-clause-group
 pass-requires-clause-group g c =
     let inside : c.args.node < length c.args.nodes.now.items = omega (arith, c.requires.formed.all_nodes, c.requires.node) in
     let same = lists_at c.args.nodes.now.items c.args.node c.index_mut.result.now c.index_mut.ensures.value inside in
-    omega (arith, c.requires.group, c.requires.formed.all_streams c.args.node c.requires.node, ap (λ (z : NodeLists g.row.R.Denot). length z.streams) same)
+    omega (arith, c.requires.group, c.requires.formed.all_streams c.args.node c.requires.node, ap (λ (z : NodeStreamsView g.row.R.Denot). length z.streams) same)
 
 pub pass-requires-clause-top : goal.pass-requires-clause-top
 pass-requires-clause-top g c =
     let inside : c.args.node < length c.args.nodes.now.items = omega (arith, c.requires.formed.all_nodes, c.requires.node) in
-    subst (λ (z : NodeLists g.row.R.Denot). 0 < length (stream_at z c.args.group).queue) (lists_at c.args.nodes.now.items c.args.node c.index_mut.result.now c.index_mut.ensures.value inside) c.requires.top
+    subst (λ (z : NodeStreamsView g.row.R.Denot). 0 < length (stream_at z c.args.group).queue) (lists_at c.args.nodes.now.items c.args.node c.index_mut.result.now c.index_mut.ensures.value inside) c.requires.top
 
 pub returns-then-place-eq1-clause-changed : goal.returns-then-place-eq1-clause-changed
 returns-then-place-eq1-clause-changed g c =
@@ -84,9 +84,9 @@ returns-then-place-eq1-clause-cost g c =
       arith,
       c.pass.ensures.cost,
       c.firsts_below-left.ensures.cost,
-      ap (λ (z : NodeLists g.row.R.Denot). bit_length (length (stream_at z c.args.group).queue)) before,
-      ap (λ (z : NodeLists g.row.R.Denot). bit_length (length (stream_at z c.args.group).queue + 1)) before,
-      ap (λ (z : NodeLists g.row.R.Denot). bit_length (length (stream_at z c.args.group).queue)) after,
+      ap (λ (z : NodeStreamsView g.row.R.Denot). bit_length (length (stream_at z c.args.group).queue)) before,
+      ap (λ (z : NodeStreamsView g.row.R.Denot). bit_length (length (stream_at z c.args.group).queue + 1)) before,
+      ap (λ (z : NodeStreamsView g.row.R.Denot). bit_length (length (stream_at z c.args.group).queue)) after,
     )
 
 pub index_mut-requires-else-place-eq1 : goal.index_mut-requires-else-place-eq1
@@ -96,12 +96,12 @@ pub pass-requires-else-place-eq1-clause-group : goal.pass-requires-else-place-eq
 pass-requires-else-place-eq1-clause-group g c =
     let inside : c.args.node < length c.args.nodes.now.items = omega (arith, c.requires.formed.all_nodes, c.requires.node) in
     let same = lists_at c.args.nodes.now.items c.args.node c.index_mut-else-place-eq1.result.now c.index_mut-else-place-eq1.ensures.value inside in
-    omega (arith, c.requires.group, c.requires.formed.all_streams c.args.node c.requires.node, ap (λ (z : NodeLists g.row.R.Denot). length z.streams) same)
+    omega (arith, c.requires.group, c.requires.formed.all_streams c.args.node c.requires.node, ap (λ (z : NodeStreamsView g.row.R.Denot). length z.streams) same)
 
 pub pass-requires-else-place-eq1-clause-top : goal.pass-requires-else-place-eq1-clause-top
 pass-requires-else-place-eq1-clause-top g c =
     let inside : c.args.node < length c.args.nodes.now.items = omega (arith, c.requires.formed.all_nodes, c.requires.node) in
-    subst (λ (z : NodeLists g.row.R.Denot). 0 < length (stream_at z c.args.group).queue) (lists_at c.args.nodes.now.items c.args.node c.index_mut-else-place-eq1.result.now c.index_mut-else-place-eq1.ensures.value inside) c.requires.top
+    subst (λ (z : NodeStreamsView g.row.R.Denot). 0 < length (stream_at z c.args.group).queue) (lists_at c.args.nodes.now.items c.args.node c.index_mut-else-place-eq1.result.now c.index_mut-else-place-eq1.ensures.value inside) c.requires.top
 
 pub returns-else-place-eq1-clause-changed : goal.returns-else-place-eq1-clause-changed
 returns-else-place-eq1-clause-changed g c =
@@ -116,9 +116,9 @@ returns-else-place-eq1-clause-cost g c =
     omega (
       arith,
       c.pass-else-place-eq1.ensures.cost,
-      ap (λ (z : NodeLists g.row.R.Denot). bit_length (length (stream_at z c.args.group).queue)) before,
-      ap (λ (z : NodeLists g.row.R.Denot). bit_length (length (stream_at z c.args.group).queue + 1)) before,
-      ap (λ (z : NodeLists g.row.R.Denot). bit_length (length (stream_at z c.args.group).queue)) after,
+      ap (λ (z : NodeStreamsView g.row.R.Denot). bit_length (length (stream_at z c.args.group).queue)) before,
+      ap (λ (z : NodeStreamsView g.row.R.Denot). bit_length (length (stream_at z c.args.group).queue + 1)) before,
+      ap (λ (z : NodeStreamsView g.row.R.Denot). bit_length (length (stream_at z c.args.group).queue)) after,
     )
 
 pub returns-else-place-eq1-clause-moved : goal.returns-else-place-eq1-clause-moved
@@ -134,6 +134,6 @@ returns-else-place-eq1-clause-moved g c =
       inl c.if-place-eq1.false,
       inl c.if-place-eq1.false,
       λ e.
-          subst (λ (z : NodeLists g.row.R.Denot). IsPermutation (offers None None (offers c.args.next None (stream_of n v k).queue)) (get_or (stream_of n v k).queue 0 e ∷ (stream_at z k).queue)) (sym (lists_same n v new inside))
-          (subst (λ (z : NodeLists g.row.R.Denot). IsPermutation (offers None None (offers c.args.next None (stream_at z k).queue)) (get_or (stream_at z k).queue 0 e ∷ (stream_at new k).queue)) (sym (lists_at n v old.result.now old.ensures.value inside)) (c.pass-else-place-eq1.ensures.moved e)),
+          subst (λ (z : NodeStreamsView g.row.R.Denot). IsPermutation (offers None None (offers c.args.next None (stream_of n v k).queue)) (get_or (stream_of n v k).queue 0 e ∷ (stream_at z k).queue)) (sym (lists_same n v new inside))
+          (subst (λ (z : NodeStreamsView g.row.R.Denot). IsPermutation (offers None None (offers c.args.next None (stream_at z k).queue)) (get_or (stream_at z k).queue 0 e ∷ (stream_at new k).queue)) (sym (lists_at n v old.result.now old.ensures.value inside)) (c.pass-else-place-eq1.ensures.moved e)),
     )

@@ -1,5 +1,5 @@
 use Rattle.std.proofs.Common.{length, arith}
-use Rattle.tdp_core.specs.TreeData.{parent}
+use Rattle.tdp_core.specs.TreeView.{parent}
 use Rattle.tdp_core.proofs.Children.{kids_below_most}
 use Rattle.suffix_streams.proofs.Heads.{kid_within, stream_within, head_is}
 use Rattle.suffix_streams.proofs.reads.child_head.Goals as goal

@@ -1,5 +1,5 @@
 use Rattle.std.proofs.Common.{◌≡◌, ◌-◌, ◌<◌, length, refl, sym, subst, arith}
-use Rattle.tdp_core.specs.TreeData.{child_count}
+use Rattle.tdp_core.specs.TreeView.{child_count}
 use Rattle.suffix_streams.specs.Firsts.{IsFirstCell}
 use Rattle.suffix_streams.proofs.Heads.{children_count}
 use Rattle.suffix_streams.proofs.reads.first_cell.Goals as goal

@@ -1,8 +1,8 @@
 use Rattle.std.proofs.Common.{◌≡◌, ◌+◌, ◌<◌, length, sym, ap, ◌∙◌, subst, arith}
 use Rattle.std.proofs.lemmas.Bool.{cond-true, lt-ltb}
-use Rattle.tdp_core.specs.TreeData.{child_count, group_named}
+use Rattle.tdp_core.specs.TreeView.{child_count, group_named}
 use Rattle.suffix_streams.specs.Rankings.{child}
-use Rattle.suffix_streams.specs.StreamsData.{stream_of, AreFreshTo}
+use Rattle.suffix_streams.specs.TreeStreams.{stream_of, AreFreshTo}
 use Rattle.suffix_streams.proofs.Rankings.{own_first}
 use Rattle.suffix_streams.proofs.Firsts.{first_longer, firsts_fit}
 use Rattle.suffix_streams.proofs.Heads.{children_count, head_key, product_made}

@@ -1,14 +1,14 @@
 use Rattle.std.proofs.Common.{◌≡◌, ℕ, zero, suc, ◌-◌, ◌<◌, List, [], length, get_or, sym, ap, ◌∙◌, subst, arith}
-use Rattle.tdp_core.specs.TreeData.{NodeData}
+use Rattle.tdp_core.specs.TreeView.{NodeView}
 use Rattle.tdp_model.specs.KeyTuple.{KeyOf}
-use Rattle.suffix_streams.specs.NodeLists.{NodeLists, product_at}
-use Rattle.suffix_streams.specs.StreamsData.{AreLefts, part_known, product_of}
+use Rattle.suffix_streams.specs.NodeStreamsView.{NodeStreamsView, product_at}
+use Rattle.suffix_streams.specs.TreeStreams.{AreLefts, part_known, product_of}
 use Rattle.suffix_streams.proofs.Firsts.{own_at, known_key}
 use Rattle.suffix_streams.proofs.Heads.{lists_at}
 use Rattle.suffix_streams.proofs.reads.part_rank.Goals as goal
 
 -- the product before keeps the rank of a known solution
-kept_at : {R : Type 0} (d : ℕ) (key : R → KeyOf d 16) (t : List (NodeData R)) (nodes : List (NodeLists R)) (v r c b place : ℕ) → c ≡ suc b → AreLefts d key t nodes v r c → place < part_known nodes v r c → place < length (product_of nodes v r b).ranks
+kept_at : {R : Type 0} (d : ℕ) (key : R → KeyOf d 16) (t : List (NodeView R)) (nodes : List (NodeStreamsView R)) (v r c b place : ℕ) → c ≡ suc b → AreLefts d key t nodes v r c → place < part_known nodes v r c → place < length (product_of nodes v r b).ranks
 kept_at d key t nodes v r zero b place e h l = absurd (omega arith)
 kept_at d key t nodes v r (suc c) b place e h l =
     let same : c ≡ b = omega arith in

@@ -1,6 +1,6 @@
 use Rattle.std.proofs.Common.{[], ◌≡◌, refl, suc, ◌+◌, ◌-◌, ◌<◌, ◌≤◌, length, get_or, sym, ap, ◌∙◌, subst, arith}
-use Rattle.suffix_streams.specs.NodeLists.{product_at, known_of}
-use Rattle.suffix_streams.specs.StreamsData.{IsSumOf, lists_of, products_of, product_of, part_known}
+use Rattle.suffix_streams.specs.NodeStreamsView.{product_at, known_of}
+use Rattle.suffix_streams.specs.TreeStreams.{IsSumOf, lists_of, products_of, product_of, part_known}
 use Rattle.suffix_streams.proofs.Heads.{lists_at}
 use Rattle.suffix_streams.proofs.Entries.{parts_of}
 use Rattle.suffix_streams.proofs.PartRows.{product_cell}

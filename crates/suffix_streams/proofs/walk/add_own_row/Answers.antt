@@ -1,5 +1,5 @@
 use Rattle.std.proofs.Common.{◌+◌, slice_set, get_or, sym, subst}
-use Rattle.tdp_core.specs.TreeData.{item, rank}
+use Rattle.tdp_core.specs.TreeView.{item, rank}
 use Rattle.suffix_streams.specs.RowNumbers.{AreAdded}
 use Rattle.suffix_streams.proofs.Rows.{own_added}
 use Rattle.suffix_streams.proofs.walk.add_own_row.Goals as goal

@@ -1,5 +1,5 @@
 use Rattle.std.proofs.Common.{◌∷◌, [], ℕ, sym, subst}
-use Rattle.input_load.specs.Input.{InputData, loaded_of}
+use Rattle.input_load.specs.Input.{InputView, loaded_of}
 use Rattle.plan_model.specs.Plan.{shape_of}
 use Rattle.plan_model.specs.Plans.{ArePrepared}
 use Rattle.refusal_lines.specs.Printing.{PrintedSome}
@@ -10,50 +10,50 @@ use Rattle.verdict.specs.Output.{HasOutput}
 use Rattle.task_plan.specs.Judgement.{IsUnnamed}
 use Rattle.task_plan.specs.Plans.{IsOnePlanOf}
 use Rattle.task_plan.specs.Tasks.{command_of}
-use Rattle.task_plan.proofs.Inputs.{input_shown}
+use Rattle.task_plan.proofs.Inputs.{input_view}
 use Rattle.task_plan.proofs.Judging.{unnamed_of}
 use Rattle.task_plan.proofs.PlanList.{first_only, first_planned, one_cost, one_printed}
 use Rattle.task_answer.proofs.answering.print_plan.Goals as goal
 
 pub print_output-requires-clause-plan : goal.print_output-requires-clause-plan
 print_output-requires-clause-plan g c =
-    let input = input_shown c.input.inside in
-    let is = subst (λ (i : InputData). IsOnePlanOf g.R.Rank.KEYS g.R.Rank.key i.queries i.tables i.best c.args.plan.now)
+    let input = input_view c.input.inside in
+    let is = subst (λ (i : InputView). IsOnePlanOf g.R.Rank.KEYS g.R.Rank.key i.queries i.tables i.best c.args.plan.now)
     (sym c.input.view_is) c.requires.plan in
     first_planned g.R.Rank.KEYS g.R.Rank.key input c.args.plan.now c.index-query.result.now is c.index-query.ensures
 
 pub print_output-requires-clause-unnamed : goal.print_output-requires-clause-unnamed
 print_output-requires-clause-unnamed g c =
-    subst (λ (i : InputData). IsUnnamed (command_of c.args.task.now) i.best) (sym c.input.view_is)
+    subst (λ (i : InputView). IsUnnamed (command_of c.args.task.now) i.best) (sym c.input.view_is)
     (unnamed_of (command_of c.args.task.now) c.args.input.now c.requires.alone)
 
 pub returns-clause-printed : goal.returns-clause-printed
 returns-clause-printed g c =
-    let input = input_shown c.input.inside in
+    let input = input_view c.input.inside in
     let query = c.index-query.result.now in
     let made = c.args.plan.now in
-    let is = subst (λ (i : InputData). IsOnePlanOf g.R.Rank.KEYS g.R.Rank.key i.queries i.tables i.best made)
+    let is = subst (λ (i : InputView). IsOnePlanOf g.R.Rank.KEYS g.R.Rank.key i.queries i.tables i.best made)
     (sym c.input.view_is) c.requires.plan in
     let only = first_only g.R.Rank.KEYS g.R.Rank.key input made query is c.index-query.ensures in
     let found = one_printed input query c.as_slice-script.result.now (shape_of made) only
     (sym c.as_slice-script.ensures.value) in
     let P = λ (f : Found). PrintedSome (HasOutput (command_of c.args.task.now) f) (state_of g.S.Sink c.args.out.now)
     (state_of g.S.Sink c.print_output.new.out) c.print_output.result in
-    subst (λ (i : InputData). P (found_of (loaded_of i) (shape_of made ∷ []))) c.input.view_is
+    subst (λ (i : InputView). P (found_of (loaded_of i) (shape_of made ∷ []))) c.input.view_is
     (subst P (sym found) (c.print_output.ensures.printed input.proof))
 
 pub returns-clause-bounded : goal.returns-clause-bounded
 returns-clause-bounded g c =
-    let input = input_shown c.input.inside in
+    let input = input_view c.input.inside in
     let query = c.index-query.result.now in
     let made = c.args.plan.now in
-    let is = subst (λ (i : InputData). IsOnePlanOf g.R.Rank.KEYS g.R.Rank.key i.queries i.tables i.best made)
+    let is = subst (λ (i : InputView). IsOnePlanOf g.R.Rank.KEYS g.R.Rank.key i.queries i.tables i.best made)
     (sym c.input.view_is) c.requires.plan in
     let only = first_only g.R.Rank.KEYS g.R.Rank.key input made query is c.index-query.ensures in
     let found = one_printed input query c.as_slice-script.result.now (shape_of made) only
     (sym c.as_slice-script.ensures.value) in
     let P = λ (before : ℕ) (f : Found). IsWithin (command_of c.args.task.now) f before c.print_output.new.steps in
-    subst (λ (i : InputData). (before : ℕ) → ArePrepared (queries_in i.queries) i.tables before c.args.steps.now
+    subst (λ (i : InputView). (before : ℕ) → ArePrepared (queries_in i.queries) i.tables before c.args.steps.now
     → P before (found_of (loaded_of i) (shape_of made ∷ []))) c.input.view_is
     (λ before prepared. subst (P before) (sym found)
     (c.print_output.ensures.bounded input.proof before
@@ -61,17 +61,17 @@ returns-clause-bounded g c =
 
 pub returns-clause-paced : goal.returns-clause-paced
 returns-clause-paced g c =
-    let input = input_shown c.input.inside in
+    let input = input_view c.input.inside in
     let query = c.index-query.result.now in
     let made = c.args.plan.now in
-    let is = subst (λ (i : InputData). IsOnePlanOf g.R.Rank.KEYS g.R.Rank.key i.queries i.tables i.best made)
+    let is = subst (λ (i : InputView). IsOnePlanOf g.R.Rank.KEYS g.R.Rank.key i.queries i.tables i.best made)
     (sym c.input.view_is) c.requires.plan in
     let only = first_only g.R.Rank.KEYS g.R.Rank.key input made query is c.index-query.ensures in
     let found = one_printed input query c.as_slice-script.result.now (shape_of made) only
     (sym c.as_slice-script.ensures.value) in
     let P = λ (before : ℕ) (f : Found). IsPaced (command_of c.args.task.now) f (g.S.Sink.written c.args.out.now)
     (g.S.Sink.written c.print_output.new.out) before c.print_output.new.steps in
-    subst (λ (i : InputData). (before : ℕ) → ArePrepared (queries_in i.queries) i.tables before c.args.steps.now
+    subst (λ (i : InputView). (before : ℕ) → ArePrepared (queries_in i.queries) i.tables before c.args.steps.now
     → P before (found_of (loaded_of i) (shape_of made ∷ []))) c.input.view_is
     (λ before prepared. subst (P before) (sym found)
     (c.print_output.ensures.paced input.proof before

@@ -3,7 +3,7 @@ use Rattle.proof_model.specs.ProofTexts.{IsProofText}
 use Rattle.refusal_lines.specs.declared.refusal.Refusal.TheVariants as refusal
 use Rattle.refusal_lines.proofs.Prints.{none_printed}
 use Rattle.tdp_core.specs.Solutions.{IsTreeRanking}
-use Rattle.tdp_core.specs.TreeData.{NodeData}
+use Rattle.tdp_core.specs.TreeView.{NodeView}
 use Rattle.task_answer.proofs.prove.print_certificate.Goals as goal
 
 pub engine_over-requires : goal.engine_over-requires
@@ -24,7 +24,7 @@ print_proof-requires g c =
       planned = (plan.0, c.args.plan.now, plan.1, plan.2, sym c.tree.ensures);
       rest = (
         ranking.0,
-        subst (λ (t : List (NodeData g.row.R.Denot)). IsTreeRanking t g.R.Rank.KEYS g.R.Rank.key ranking.0) (sym c.tree.ensures) ranking.1,
+        subst (λ (t : List (NodeView g.row.R.Denot)). IsTreeRanking t g.R.Rank.KEYS g.R.Rank.key ranking.0) (sym c.tree.ensures) ranking.1,
         ranking.2,
       );
     }

@@ -1,10 +1,10 @@
 use Rattle.std.proofs.Common.{◌≡◌, None, Result, Ok, Err, IfOk, length, refl}
-use Rattle.input_load.specs.Input.{InputData}
+use Rattle.input_load.specs.Input.{InputView}
 use Rattle.refusal_lines.specs.declared.refusal.Refusal.{Refusal}
 use Rattle.task_plan.proofs.looking.look_at.Goals as goal
 
 -- nothing is asked of the number of queries
-any_count : (r : Result InputData Refusal) → IfOk r (λ input. Unit {0})
+any_count : (r : Result InputView Refusal) → IfOk r (λ input. Unit {0})
 any_count (Ok input) = tt
 any_count (Err refusal) = tt
 
@@ -35,7 +35,7 @@ returns-in-Load-clause-alone g c = rw c.in-Load.is c.load_made.ensures.alone
 pub returns-in-Prove-clause-looked : goal.returns-in-Prove-clause-looked
 returns-in-Prove-clause-looked g c = rw c.in-Prove.is c.look_up-in-Prove.ensures.looked
 
-both : (r : Result InputData Refusal) → IfOk r (λ input. length input.queries ≡ 1) → IfOk r (λ input. input.best ≡ None)
+both : (r : Result InputView Refusal) → IfOk r (λ input. length input.queries ≡ 1) → IfOk r (λ input. input.best ≡ None)
     → IfOk r (λ input. (length input.queries ≡ 1) × (input.best ≡ None))
 both (Ok input) one none = (one, none)
 both (Err refusal) one none = tt

@@ -4,7 +4,7 @@ use Rattle.refusal_lines.specs.RefusalReasons.{reason_of}
 use Rattle.verdict.specs.MadeFiles.{known_to}
 use Rattle.verdict.specs.StageResults.{Shelved, shelved}
 use Rattle.verdict.specs.Words.{built}
-use Rattle.task_plan.specs.Plans.{shown_plans}
+use Rattle.task_plan.specs.Plans.{plans_result_view}
 use Rattle.task_plan.specs.Tasks.{command_of}
 use Rattle.task_plan.proofs.Judging.{early_prepared, early_still, looked_refused, looked_then}
 use Rattle.task_plan.proofs.planning.plan_task.Goals as goal
@@ -41,5 +41,5 @@ pub returns-clause-judged : goal.returns-clause-judged
 returns-clause-judged g c =
     let before : Shelved = shelved g.F.Shelf c.args.shelf.now in
     let after : Shelved = shelved g.F.Shelf c.look_at.new.shelf in
-    looked_then c.args.task.now before after (loaded_of c.in_ok-input.input) (shown_plans (loaded_of c.in_ok-input.input) (Ok c.in_ok-plans.plans))
+    looked_then c.args.task.now before after (loaded_of c.in_ok-input.input) (plans_result_view (loaded_of c.in_ok-input.input) (Ok c.in_ok-plans.plans))
     c.in_ok-input.ensures.looked c.in_ok-plans.ensures.shaped

@@ -4,34 +4,34 @@ use Rattle.plan_model.specs.Plans.{ArePrepared, HavePlans}
 use Rattle.plan_build.specs.RankedPlan.{fixed_key}
 use Rattle.bound_query.specs.WeighedQuery.{BoundQuery}
 use Rattle.refusal_lines.specs.RefusalReasons.{reason_of}
-use Rattle.input_load.specs.Input.{InputData, loaded_of}
+use Rattle.input_load.specs.Input.{InputView, loaded_of}
 use Rattle.verdict.specs.AcceptedInput.{found_of, queries_in}
 use Rattle.verdict.specs.StageResults.{Pure}
 use Rattle.verdict.specs.Verdict.{IsShaped}
 use Rattle.task_plan.specs.Plans.{shape_in, shapes_of}
-use Rattle.task_plan.proofs.Inputs.{input_shown}
+use Rattle.task_plan.proofs.Inputs.{input_view}
 use Rattle.task_plan.proofs.PlanList.{caps_each, keys_within, one_found, one_refused, only_one, several_found, several_refused}
 use Rattle.task_plan.proofs.planning.plans_of.Goals as goal
 
 pub returns-in_err-plan-clause-shaped : goal.returns-in_err-plan-clause-shaped
 returns-in_err-plan-clause-shaped g c =
     let e : c.from_residual.result ≡ Err c.in_err-plan.field-0.0 = search rules in
-    let input = input_shown c.input.inside in
+    let input = input_view c.input.inside in
     let query = c.index-queries-0.result in
     let only = sym c.as_slice-queries.ensures.value ∙ only_one c.as_slice-queries.result.now query
     c.if-queries-eq1.true c.index-queries-0.is in
     let refusal = reason_of c.in_err-plan.field-0.0 in
-    rw e (subst (λ (i : InputData). Pure (IsShaped (loaded_of i)) (Err refusal)) c.input.view_is
+    rw e (subst (λ (i : InputView). Pure (IsShaped (loaded_of i)) (Err refusal)) c.input.view_is
     (one_refused input query refusal only c.in_err-plan.ensures.shaped))
 
 pub returns-then-queries-eq1-clause-shaped : goal.returns-then-queries-eq1-clause-shaped
 returns-then-queries-eq1-clause-shaped g c =
-    let input = input_shown c.input.inside in
+    let input = input_view c.input.inside in
     let query = c.index-queries-0.result in
     let only = sym c.as_slice-queries.ensures.value ∙ only_one c.as_slice-queries.result.now query
     c.if-queries-eq1.true c.index-queries-0.is in
     let shape = shape_in c.in_ok-plan.plan in
-    subst (λ (i : InputData). IsShaped (loaded_of i) (Ok (found_of (loaded_of i) (shape ∷ [])))) c.input.view_is
+    subst (λ (i : InputView). IsShaped (loaded_of i) (Ok (found_of (loaded_of i) (shape ∷ [])))) c.input.view_is
     (one_found input query shape only c.in_ok-plan.ensures.shaped)
 
 pub plans_for-requires-clause-keys : goal.plans_for-requires-clause-keys
@@ -52,12 +52,12 @@ plans_for-requires-clause-limit g c =
 pub returns-in_err-plans-clause-shaped : goal.returns-in_err-plans-clause-shaped
 returns-in_err-plans-clause-shaped g c =
     let e : c.from_residual-in_err-plans.result ≡ Err c.in_err-plans.field-0.0 = search rules in
-    let input = input_shown c.input.inside in
+    let input = input_view c.input.inside in
     let refusal = reason_of c.in_err-plans.field-0.0 in
     let some = c.input.invariant.some in
     let value = ap (length {A = BoundQuery}) c.as_slice-queries.ensures.value in
     let more : 1 < length input.queries = omega (arith, some, value, c.if-queries-eq1.false) in
-    rw e (subst (λ (i : InputData). Pure (IsShaped (loaded_of i)) (Err refusal)) c.input.view_is
+    rw e (subst (λ (i : InputView). Pure (IsShaped (loaded_of i)) (Err refusal)) c.input.view_is
     (several_refused input refusal more (rw c.as_slice-queries.ensures.value at c.in_err-plans.ensures.shaped)))
 
 pub plans_for-requires-else-keys-le1-clause-keys : goal.plans_for-requires-else-keys-le1-clause-keys
@@ -78,54 +78,54 @@ plans_for-requires-else-keys-le1-clause-limit g c =
 pub returns-in_err-plans-2-clause-shaped : goal.returns-in_err-plans-2-clause-shaped
 returns-in_err-plans-2-clause-shaped g c =
     let e : c.from_residual-in_err-plans-2.result ≡ Err c.in_err-plans-2.field-0.0 = search rules in
-    let input = input_shown c.input.inside in
+    let input = input_view c.input.inside in
     let refusal = reason_of c.in_err-plans-2.field-0.0 in
     let some = c.input.invariant.some in
     let value = ap (length {A = BoundQuery}) c.as_slice-queries.ensures.value in
     let more : 1 < length input.queries = omega (arith, some, value, c.if-queries-eq1.false) in
-    rw e (subst (λ (i : InputData). Pure (IsShaped (loaded_of i)) (Err refusal)) c.input.view_is
+    rw e (subst (λ (i : InputView). Pure (IsShaped (loaded_of i)) (Err refusal)) c.input.view_is
     (several_refused input refusal more (rw c.as_slice-queries.ensures.value at c.in_err-plans-2.ensures.shaped)))
 
 pub returns-in_ok-plans-clause-shaped : goal.returns-in_ok-plans-clause-shaped
 returns-in_ok-plans-clause-shaped g c =
-    let input = input_shown c.input.inside in
+    let input = input_view c.input.inside in
     let plans = c.in_ok-plans.plans.items in
     let have : HavePlans 1 (fixed_key 1 16) input.tables input.queries plans =
     rw c.as_slice-queries.ensures.value at c.in_ok-plans.ensures.plans in
-    subst (λ (i : InputData). IsShaped (loaded_of i) (Ok (found_of (loaded_of i) (shapes_of plans)))) c.input.view_is
+    subst (λ (i : InputView). IsShaped (loaded_of i) (Ok (found_of (loaded_of i) (shapes_of plans)))) c.input.view_is
     (several_found 1 (fixed_key 1 16) input plans have)
 
 pub returns-in_ok-plans-clause-plans : goal.returns-in_ok-plans-clause-plans
 returns-in_ok-plans-clause-plans g c =
-    let input = input_shown c.input.inside in
+    let input = input_view c.input.inside in
     let plans = c.in_ok-plans.plans.items in
     let have : HavePlans 1 (fixed_key 1 16) input.tables input.queries plans =
     rw c.as_slice-queries.ensures.value at c.in_ok-plans.ensures.plans in
     let some = c.input.invariant.some in
     let value = ap (length {A = BoundQuery}) c.as_slice-queries.ensures.value in
     let more : 1 < length input.queries = omega (arith, some, value, c.if-queries-eq1.false) in
-    subst (λ (i : InputData). (1 < length i.queries) × HavePlans 1 (fixed_key 1 16) i.tables i.queries plans)
+    subst (λ (i : InputView). (1 < length i.queries) × HavePlans 1 (fixed_key 1 16) i.tables i.queries plans)
     c.input.view_is (more, have)
 
 pub returns-in_ok-plans-2-clause-shaped : goal.returns-in_ok-plans-2-clause-shaped
 returns-in_ok-plans-2-clause-shaped g c =
-    let input = input_shown c.input.inside in
+    let input = input_view c.input.inside in
     let plans = c.in_ok-plans-2.plans.items in
     let have : HavePlans 8 (fixed_key 8 16) input.tables input.queries plans =
     rw c.as_slice-queries.ensures.value at c.in_ok-plans-2.ensures.plans in
-    subst (λ (i : InputData). IsShaped (loaded_of i) (Ok (found_of (loaded_of i) (shapes_of plans)))) c.input.view_is
+    subst (λ (i : InputView). IsShaped (loaded_of i) (Ok (found_of (loaded_of i) (shapes_of plans)))) c.input.view_is
     (several_found 8 (fixed_key 8 16) input plans have)
 
 pub returns-in_ok-plans-2-clause-plans : goal.returns-in_ok-plans-2-clause-plans
 returns-in_ok-plans-2-clause-plans g c =
-    let input = input_shown c.input.inside in
+    let input = input_view c.input.inside in
     let plans = c.in_ok-plans-2.plans.items in
     let have : HavePlans 8 (fixed_key 8 16) input.tables input.queries plans =
     rw c.as_slice-queries.ensures.value at c.in_ok-plans-2.ensures.plans in
     let some = c.input.invariant.some in
     let value = ap (length {A = BoundQuery}) c.as_slice-queries.ensures.value in
     let more : 1 < length input.queries = omega (arith, some, value, c.if-queries-eq1.false) in
-    subst (λ (i : InputData). (1 < length i.queries) × HavePlans 8 (fixed_key 8 16) i.tables i.queries plans)
+    subst (λ (i : InputView). (1 < length i.queries) × HavePlans 8 (fixed_key 8 16) i.tables i.queries plans)
     c.input.view_is (more, have)
 
 pub returns-in_err-plan-clause-plans : goal.returns-in_err-plan-clause-plans
@@ -139,22 +139,22 @@ returns-in_err-plans-2-clause-plans g c = IfOk-from_err c.from_residual-in_err-p
 
 pub returns-in_err-plans-clause-cost : goal.returns-in_err-plans-clause-cost
 returns-in_err-plans-clause-cost g c =
-    subst (λ (i : InputData). ArePrepared (queries_in i.queries) i.tables c.args.steps.now c.plans_for.new.steps) c.input.view_is
+    subst (λ (i : InputView). ArePrepared (queries_in i.queries) i.tables c.args.steps.now c.plans_for.new.steps) c.input.view_is
     (rw c.as_slice-queries.ensures.value at c.plans_for.ensures.cost)
 
 pub returns-in_ok-plans-clause-cost : goal.returns-in_ok-plans-clause-cost
 returns-in_ok-plans-clause-cost g c =
-    subst (λ (i : InputData). ArePrepared (queries_in i.queries) i.tables c.args.steps.now c.plans_for.new.steps) c.input.view_is
+    subst (λ (i : InputView). ArePrepared (queries_in i.queries) i.tables c.args.steps.now c.plans_for.new.steps) c.input.view_is
     (rw c.as_slice-queries.ensures.value at c.plans_for.ensures.cost)
 
 pub returns-in_err-plans-2-clause-cost : goal.returns-in_err-plans-2-clause-cost
 returns-in_err-plans-2-clause-cost g c =
-    subst (λ (i : InputData). ArePrepared (queries_in i.queries) i.tables c.args.steps.now c.plans_for-else-keys-le1.new.steps) c.input.view_is
+    subst (λ (i : InputView). ArePrepared (queries_in i.queries) i.tables c.args.steps.now c.plans_for-else-keys-le1.new.steps) c.input.view_is
     (rw c.as_slice-queries.ensures.value at c.plans_for-else-keys-le1.ensures.cost)
 
 pub returns-in_ok-plans-2-clause-cost : goal.returns-in_ok-plans-2-clause-cost
 returns-in_ok-plans-2-clause-cost g c =
-    subst (λ (i : InputData). ArePrepared (queries_in i.queries) i.tables c.args.steps.now c.plans_for-else-keys-le1.new.steps) c.input.view_is
+    subst (λ (i : InputView). ArePrepared (queries_in i.queries) i.tables c.args.steps.now c.plans_for-else-keys-le1.new.steps) c.input.view_is
     (rw c.as_slice-queries.ensures.value at c.plans_for-else-keys-le1.ensures.cost)
 
 pub plans_for-requires-clause-fits : goal.plans_for-requires-clause-fits

@@ -1,6 +1,6 @@
 use Rattle.std.proofs.Common.{◌≡◌, Err, None, rules}
 use Rattle.node_build.proofs.Shaped.{caps_small}
-use Rattle.proof_text.specs.ProofView.{seen_proof}
+use Rattle.proof_text.specs.ProofView.{proof_view}
 use Rattle.refusal_lines.specs.RefusalReasons.{reason_of}
 use Rattle.verdict.specs.Verdict.{IsCertified, IsStructure}
 use Rattle.verdict.proofs.Staging.{pure_refused}
@@ -11,7 +11,7 @@ returns-in_err-join-clause-checked g c =
     let query = c.args.query.now.query in
     let tables = c.args.tables.now in
     let e : c.from_residual.result ≡ Err c.in_err-join.field-0.0 = search rules in
-    rw e (pure_refused (IsStructure None tables query) (λ shape. IsCertified query tables shape (seen_proof c.args.proof.now))
+    rw e (pure_refused (IsStructure None tables query) (λ shape. IsCertified query tables shape (proof_view c.args.proof.now))
     (reason_of c.in_err-join.field-0.0) (c.in_err-join.ensures.refusal tables))
 
 pub listed_answers-requires-clause-limit : goal.listed_answers-requires-clause-limit

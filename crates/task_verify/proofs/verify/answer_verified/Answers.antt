@@ -1,5 +1,5 @@
 use Rattle.std.proofs.Common.{◌∷◌, [], refl}
-use Rattle.cmd_words.specs.ArgumentMeaning.{seen_words}
+use Rattle.cmd_words.specs.ArgumentMeaning.{words_view}
 use Rattle.input_load.specs.Input.{loaded_of}
 use Rattle.refusal_lines.specs.Printing.{PrintedSome}
 use Rattle.refusal_lines.specs.RefusalReasons.{reason_of}
@@ -22,7 +22,7 @@ use Rattle.task_verify.proofs.verify.answer_verified.Goals as goal
 
 module _ (g : Over) (c : After-print_checked g) where
   abbrev command : Command
-  command = verify c.args.proof.now (words_of (seen_words c.args.words.now))
+  command = verify c.args.proof.now (words_of (words_view c.args.words.now))
 
   -- what is seen before and after
   abbrev old : Outside
@@ -44,18 +44,18 @@ module _ (g : Over) (c : After-print_checked g) where
 
 pub returns-in-Err-clause-fits : goal.returns-in-Err-clause-fits
 returns-in-Err-clause-fits g c =
-    judged_reason (verify c.args.proof.now (words_of (seen_words c.args.words.now))) (shelved g.F.Shelf c.args.shelf.now)
+    judged_reason (verify c.args.proof.now (words_of (words_view c.args.words.now))) (shelved g.F.Shelf c.args.shelf.now)
     (shelved g.F.Shelf c.check_input.new.shelf) (reason_of c.in-Err.refusal) c.in-Err.ensures.checked
 
 pub returns-in-Err-clause-caused : goal.returns-in-Err-clause-caused
 returns-in-Err-clause-caused g c =
-    judged_caused (verify c.args.proof.now (words_of (seen_words c.args.words.now)))
+    judged_caused (verify c.args.proof.now (words_of (words_view c.args.words.now)))
     (seen_by g.F.Shelf g.S.Sink c.args.shelf.now c.args.out.now) (seen_by g.F.Shelf g.S.Sink c.check_input.new.shelf c.args.out.now)
     (g.F.Shelf.files c.args.shelf.now) (g.F.Shelf.files c.check_input.new.shelf) (reason_of c.in-Err.refusal) c.in-Err.ensures.checked
 
 pub returns-in-Err-clause-cut : goal.returns-in-Err-clause-cut
 returns-in-Err-clause-cut g c =
-    judged_cut (verify c.args.proof.now (words_of (seen_words c.args.words.now))) (shelved g.F.Shelf c.args.shelf.now)
+    judged_cut (verify c.args.proof.now (words_of (words_view c.args.words.now))) (shelved g.F.Shelf c.args.shelf.now)
     (shelved g.F.Shelf c.check_input.new.shelf)
     (seen_by g.F.Shelf g.S.Sink c.args.shelf.now c.args.out.now) (seen_by g.F.Shelf g.S.Sink c.check_input.new.shelf c.args.out.now)
     (reason_of c.in-Err.refusal) c.in-Err.ensures.checked (appends_nothing (g.S.Sink.written c.args.out.now))

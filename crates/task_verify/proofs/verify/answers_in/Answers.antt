@@ -1,16 +1,16 @@
 use Rattle.std.proofs.Common.{◌≡◌, ◌∙◌, ap, length, subst}
-use Rattle.input_load.specs.Input.{InputData, loaded_of}
+use Rattle.input_load.specs.Input.{InputView, loaded_of}
 use Rattle.task_verify.specs.Verifications.{IsVerifiedIn}
-use Rattle.task_plan.proofs.Inputs.{input_shown}
+use Rattle.task_plan.proofs.Inputs.{input_view}
 use Rattle.task_plan.proofs.PlanList.{only_one}
 use Rattle.task_verify.proofs.Verifying.{verified_in}
 use Rattle.task_verify.proofs.verify.answers_in.Goals as goal
 
 pub returns-clause-verified : goal.returns-clause-verified
 returns-clause-verified g c =
-    let input = input_shown c.input.inside in
+    let input = input_view c.input.inside in
     let query = c.index-query.result.now in
-    let one : length input.queries ≡ 1 = ap (λ (i : InputData). length i.queries) c.input.view_is ∙ c.requires.one in
+    let one : length input.queries ≡ 1 = ap (λ (i : InputView). length i.queries) c.input.view_is ∙ c.requires.one in
     let only = only_one input.queries query one c.index-query.ensures in
-    subst (λ (i : InputData). IsVerifiedIn (loaded_of i) c.check_proof.result) c.input.view_is
+    subst (λ (i : InputView). IsVerifiedIn (loaded_of i) c.check_proof.result) c.input.view_is
     (verified_in input query only c.check_proof.result c.check_proof.ensures.checked)

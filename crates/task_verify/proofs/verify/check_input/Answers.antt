@@ -1,4 +1,4 @@
-use Rattle.cmd_words.specs.ArgumentMeaning.{seen_words}
+use Rattle.cmd_words.specs.ArgumentMeaning.{words_view}
 use Rattle.refusal_lines.specs.RefusalReasons.{reason_of}
 use Rattle.verdict.specs.StageResults.{Shelved, shelved}
 use Rattle.verdict.specs.Words.{verify}
@@ -11,12 +11,12 @@ pub returns-in-Ok-clause-checked : goal.returns-in-Ok-clause-checked
 returns-in-Ok-clause-checked g c =
     let before : Shelved = shelved g.F.Shelf c.args.shelf.now in
     let after : Shelved = shelved g.F.Shelf c.look_up.new.shelf in
-    looked_checked c.args.proof.now (words_of (seen_words c.args.words.now)) before after c.in-Ok.input
+    looked_checked c.args.proof.now (words_of (words_view c.args.words.now)) before after c.in-Ok.input
     c.checked_input.result c.in-Ok.ensures.looked c.checked_input.ensures.same c.checked_input.ensures.verified
 
 pub returns-in-Err-clause-checked : goal.returns-in-Err-clause-checked
 returns-in-Err-clause-checked g c =
     let before : Shelved = shelved g.F.Shelf c.args.shelf.now in
     let after : Shelved = shelved g.F.Shelf c.look_up.new.shelf in
-    looked_refused (verify c.args.proof.now (words_of (seen_words c.args.words.now))) before after
+    looked_refused (verify c.args.proof.now (words_of (words_view c.args.words.now))) before after
     (reason_of c.in-Err.refusal) c.in-Err.ensures.looked

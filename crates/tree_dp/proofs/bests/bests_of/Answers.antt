@@ -2,7 +2,7 @@ use Rattle.std.proofs.Common.{◌≡◌, ℕ, ◌+◌, ◌*◌, ◌<◌, ◌≤�
 use Rattle.std.proofs.Math.Nat.{mul-le-mul_right}
 use Rattle.std.proofs.lemmas.Bool.{false≢true}
 use Rattle.tdp_core.specs.declared.parts.NodeParts.{NodeParts}
-use Rattle.tdp_core.specs.TreeData.{tree_data, rows}
+use Rattle.tdp_core.specs.TreeView.{tree_view, rows}
 use Rattle.tree_dp.specs.Orders.{key_at}
 use Rattle.tree_dp.specs.Progress.{by_children}
 use Rattle.tree_dp.proofs.Leasts.{keys_pushed}
@@ -22,7 +22,7 @@ steps_more n k = omega arith
 row_within : (start before after row count nodes : ℕ) → before ≤ start + row * nodes → after ≤ before + nodes → row < count → after ≤ start + count * nodes
 row_within start before after row count nodes h k l = omega (arith, mul-le-mul_right {m = row + 1} {n = count} nodes (omega (arith, l)))
 
-row_count : (g : Over) (c : After-len-row-end g) → c.len-row-end.result ≡ rows (tree_data c.args.nodes.now) c.args.node
+row_count : (g : Over) (c : After-len-row-end g) → c.len-row-end.result ≡ rows (tree_view c.args.nodes.now) c.args.node
 row_count g c =
     let node = c.index-nodes-node-2.result in
     c.len-row-end.ensures ∙ ap (λ (p : NodeParts g.row.R.Denot). p.rows.len) (sym c.index-nodes-node-2.is) ∙ node.rows.ok.0 ∙ rows_read c.args.nodes.now c.args.node node c.requires.node c.index-nodes-node-2.is
@@ -31,7 +31,7 @@ pub loop-row-preserved : goal.loop-row-preserved
 loop-row-preserved g c =
     let d = g.R.Rank.KEYS in
     let key = g.R.Rank.key in
-    let found = by_children d key (tree_data c.args.nodes.now) c.args.node in
+    let found = by_children d key (tree_view c.args.nodes.now) c.args.node in
     let l = c.loop-row in
     let best = c.row_best-best.result in
     let pushed = c.in_ok-push.ensures.items in
@@ -75,25 +75,25 @@ pub returns-in_err-push-clause-cost : goal.returns-in_err-push-clause-cost
 returns-in_err-push-clause-cost g c =
     let at = goal.at.returns-in_err-push-clause-cost g c in
     let count = row_count g at.After-len-row-end in
-    row_within c.args.steps.now c.loop-row.steps c.row_best-best.new.steps c.loop-row.row (rows (tree_data c.args.nodes.now) c.args.node) (length c.args.nodes.now) c.loop-row.invariant.counted c.row_best-best.ensures.cost (omega (arith, count, c.loop-row-test.true))
+    row_within c.args.steps.now c.loop-row.steps c.row_best-best.new.steps c.loop-row.row (rows (tree_view c.args.nodes.now) c.args.node) (length c.args.nodes.now) c.loop-row.invariant.counted c.row_best-best.ensures.cost (omega (arith, count, c.loop-row-test.true))
 
 pub returns-clause-count : goal.returns-clause-count
 returns-clause-count g c =
     let at = goal.at.returns-clause-count g c in
     let count = row_count g at.After-len-row-end in
-    let all : c.loop-row.row ≡ rows (tree_data c.args.nodes.now) c.args.node = omega (arith, count, c.loop-row-test.false, c.loop-row.auto.row-end) in
+    let all : c.loop-row.row ≡ rows (tree_view c.args.nodes.now) c.args.node = omega (arith, count, c.loop-row-test.false, c.loop-row.auto.row-end) in
     c.loop-row.invariant.long ∙ all
 
 pub returns-clause-bests : goal.returns-clause-bests
 returns-clause-bests g c =
     let at = goal.at.returns-clause-bests g c in
     let count = row_count g at.After-len-row-end in
-    let all : c.loop-row.row ≡ rows (tree_data c.args.nodes.now) c.args.node = omega (arith, count, c.loop-row-test.false, c.loop-row.auto.row-end) in
+    let all : c.loop-row.row ≡ rows (tree_view c.args.nodes.now) c.args.node = omega (arith, count, c.loop-row-test.false, c.loop-row.auto.row-end) in
     λ r h. c.loop-row.invariant.bests r (omega (arith, h, all))
 
 pub returns-clause-cost : goal.returns-clause-cost
 returns-clause-cost g c =
     let at = goal.at.returns-clause-cost g c in
     let count = row_count g at.After-len-row-end in
-    let all : c.loop-row.row ≡ rows (tree_data c.args.nodes.now) c.args.node = omega (arith, count, c.loop-row-test.false, c.loop-row.auto.row-end) in
+    let all : c.loop-row.row ≡ rows (tree_view c.args.nodes.now) c.args.node = omega (arith, count, c.loop-row-test.false, c.loop-row.auto.row-end) in
     omega (arith, c.loop-row.invariant.counted, ap (λ n. n * length c.args.nodes.now) all)

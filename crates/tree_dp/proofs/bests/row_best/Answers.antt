@@ -3,7 +3,7 @@ use Rattle.std.proofs.lemmas.List.{length-map, get_or-map}
 use Rattle.tdp_model.specs.KeyTuple.{key_below, key_add, key_none}
 use Rattle.tdp_model.proofs.KeyTuples.{tuple_keys}
 use Rattle.rank_key.specs.Keys.{KeyFits}
-use Rattle.tdp_core.specs.TreeData.{node_data, tree_data, node_at, parent, members, group_count, group_named, group, rank, best}
+use Rattle.tdp_core.specs.TreeView.{node_view, tree_view, node_at, parent, members, group_count, group_named, group, rank, best}
 use Rattle.tdp_core.proofs.Children.{kids_below_child, kids_below_other, kids_below_most}
 use Rattle.tree_dp.specs.Progress.{IsSolvedFrom}
 use Rattle.tree_dp.proofs.FirstParts.{first_part, first_part_none, first_part_child, first_part_other}
@@ -18,12 +18,12 @@ loop-child-init g c =
     let d = g.R.Rank.KEYS in
     let key = g.R.Rank.key in
     let parts = c.args.nodes.now in
-    let t = tree_data parts in
+    let t = tree_view parts in
     let v = c.args.node in
     let r = c.args.row in
-    let inside : v < length t = omega (arith, c.requires.node, length-map parts node_data) in
+    let inside : v < length t = omega (arith, c.requires.node, length-map parts node_view) in
     let node = get_or parts v c.index-nodes-node.result in
-    let at : node_at t v ≡ node_data node = read_node parts v c.index-nodes-node.result c.requires.node in
+    let at : node_at t v ≡ node_view node = read_node parts v c.index-nodes-node.result c.requires.node in
     let is_row : r < length node.rows.items = omega (arith, c.requires.row, ap (λ n. length n.rows) at) in
     let own : rank t d key v r ≡ key c.index.result.now.rank =
     ap (λ n. get_or (map (λ x. key x.rank) n.rows) r (key_none d 16)) at ∙ get_or-map (λ x. key x.rank) node.rows.items r c.index.result.now (key_none d 16) is_row ∙ ap (λ x. key x.rank) (sym c.index.ensures)
@@ -37,15 +37,15 @@ loop-child-init g c =
     }
 
 pub named_group-group-requires-clause-row : goal.named_group-group-requires-clause-row
-named_group-group-requires-clause-row g c = omega (arith, c.requires.row, c.requires.laid_out.all_name c.args.node (omega (arith, c.requires.node, length-map c.args.nodes.now node_data)))
+named_group-group-requires-clause-row g c = omega (arith, c.requires.row, c.requires.laid_out.all_name c.args.node (omega (arith, c.requires.node, length-map c.args.nodes.now node_view)))
 
 pub named_group-group-requires-clause-child : goal.named_group-group-requires-clause-child
 named_group-group-requires-clause-child g c =
     let parts = c.args.nodes.now in
-    let t = tree_data parts in
+    let t = tree_view parts in
     let q = c.loop-child.child in
-    let up : c.args.node < length t = omega (arith, c.requires.node, length-map parts node_data) in
-    let inside : q < length t = omega (arith, c.loop-child-test.true, length-map parts node_data) in
+    let up : c.args.node < length t = omega (arith, c.requires.node, length-map parts node_view) in
+    let inside : q < length t = omega (arith, c.loop-child-test.true, length-map parts node_view) in
     let is : parent t q ≡ c.args.node = ap (λ n. n.shape.parent) (read_node parts q c.index-nodes-child.result c.loop-child-test.true) ∙ c.if-nodes-child.true in
     let some : 0 < q = omega arith in
     subst (λ p. p < length (get_or (node_at t c.args.node).to_child c.args.row [])) (sym c.loop-child.invariant.placed)
@@ -53,13 +53,13 @@ named_group-group-requires-clause-child g c =
 
 pub named_group-group-requires-clause-few : goal.named_group-group-requires-clause-few
 named_group-group-requires-clause-few g c =
-    let t = tree_data c.args.nodes.now in
+    let t = tree_view c.args.nodes.now in
     omega (
       arith,
       c.loop-child.invariant.placed,
       kids_below_most (parent t) c.args.node c.loop-child.child,
       c.loop-child-test.true,
-      length-map c.args.nodes.now node_data,
+      length-map c.args.nodes.now node_view,
       c.requires.laid_out.shaped.few_nodes,
     )
 
@@ -68,11 +68,11 @@ index-requires-then-nodes-child g c =
     let d = g.R.Rank.KEYS in
     let key = g.R.Rank.key in
     let parts = c.args.nodes.now in
-    let t = tree_data parts in
+    let t = tree_view parts in
     let v = c.args.node in
     let r = c.args.row in
     let q = c.loop-child.child in
-    let inside : q < length t = omega (arith, c.loop-child-test.true, length-map parts node_data) in
+    let inside : q < length t = omega (arith, c.loop-child-test.true, length-map parts node_view) in
     let is : parent t q ≡ v = ap (λ n. n.shape.parent) (read_node parts q c.index-nodes-child.result c.loop-child-test.true) ∙ c.if-nodes-child.true in
     let some : 0 < q = omega arith in
     let named = sym (c.named_group-group.ensures ∙ ap (group_named t v r) c.loop-child.invariant.placed) in
@@ -89,12 +89,12 @@ join-best-requires g c =
     let d = g.R.Rank.KEYS in
     let key = g.R.Rank.key in
     let parts = c.args.nodes.now in
-    let t = tree_data parts in
+    let t = tree_view parts in
     let v = c.args.node in
     let r = c.args.row in
     let q = c.loop-child.child in
-    let up : v < length t = omega (arith, c.requires.node, length-map parts node_data) in
-    let inside : q < length t = omega (arith, c.loop-child-test.true, length-map parts node_data) in
+    let up : v < length t = omega (arith, c.requires.node, length-map parts node_view) in
+    let inside : q < length t = omega (arith, c.loop-child-test.true, length-map parts node_view) in
     let is : parent t q ≡ v = ap (λ n. n.shape.parent) (read_node parts q c.index-nodes-child.result c.loop-child-test.true) ∙ c.if-nodes-child.true in
     let some : 0 < q = omega arith in
     let so_far = first_part (key_below d 16) (key_add d 16) (key_none d 16) (tuple_keys d 16) (length t) (parent t) (rank t d key) (group t) (best t d key) v r in
@@ -118,13 +118,13 @@ join-best-requires g c =
 
 pub overflow_add-place : goal.overflow_add-place
 overflow_add-place g c =
-    let t = tree_data c.args.nodes.now in
+    let t = tree_view c.args.nodes.now in
     omega (
       arith,
       c.loop-child.invariant.placed,
       kids_below_most (parent t) c.args.node c.loop-child.child,
       c.loop-child-test.true,
-      length-map c.args.nodes.now node_data,
+      length-map c.args.nodes.now node_view,
       c.requires.laid_out.shaped.few_nodes,
     )
 
@@ -133,11 +133,11 @@ loop-child-preserved g c =
     let d = g.R.Rank.KEYS in
     let key = g.R.Rank.key in
     let parts = c.args.nodes.now in
-    let t = tree_data parts in
+    let t = tree_view parts in
     let v = c.args.node in
     let r = c.args.row in
     let q = c.loop-child.child in
-    let inside : q < length t = omega (arith, c.loop-child-test.true, length-map parts node_data) in
+    let inside : q < length t = omega (arith, c.loop-child-test.true, length-map parts node_view) in
     let later : v < q = omega arith in
     let at : parent t q ≡ (get_or parts q c.index-nodes-child.result).shape.parent = ap (λ n. n.shape.parent) (read_node parts q c.index-nodes-child.result c.loop-child-test.true) in
     let some : 0 < q = omega arith in

@@ -1,7 +1,7 @@
 use Rattle.std.proofs.Common.{◌≡◌, suc, ◌+◌, ◌-◌, ◌≤◌, length}
 use Rattle.tdp_model.specs.KeyTuple.{key_below, key_add, key_none}
 use Rattle.tdp_model.proofs.KeyTuples.{tuple_keys}
-use Rattle.tdp_core.specs.TreeData.{tree_data, parent, kids_below, group, rank, best}
+use Rattle.tdp_core.specs.TreeView.{tree_view, parent, kids_below, group, rank, best}
 use Rattle.tree_dp.proofs.FirstParts.{first_part}
 use Rattle.tree_dp.proofs.bests.row_best.Given as goal
 
@@ -9,7 +9,7 @@ abbrev pub invariant-loop-child : goal.invariant-loop-child
 invariant-loop-child g l =
     let d = g.R.Rank.KEYS in
     let key = g.R.Rank.key in
-    let t = tree_data l.nodes in
+    let t = tree_view l.nodes in
     record {
       placed : l.place ≡ kids_below (parent t) l.node l.child;
       added : key l.best

@@ -1,6 +1,6 @@
 use Rattle.std.proofs.Common.{◌≡◌, ℕ, ◌+◌, ◌*◌, ◌<◌, ◌≤◌, length, get_or, take}
 use Rattle.tdp_model.specs.KeyTuple.{slot_of}
-use Rattle.tdp_core.specs.TreeData.{rows, best}
+use Rattle.tdp_core.specs.TreeView.{rows, best}
 use Rattle.tree_dp.proofs.FirstWalk.{least_with, key_of_rows}
 use Rattle.tree_dp.proofs.first_answer.best_rows.Given as goal
 

@@ -1,8 +1,8 @@
 use Rattle.std.proofs.Common.{◌≡◌, ◌<◌, ℕ, ℤ, Bool, true, false, Some, List, length, get_or, nat_lt, sym, ap, subst, ◌∙◌, arith}
 use Rattle.std.proofs.lemmas.Bool.Decides.{nat_tests}
 use Rattle.tdp_model.specs.KeyNumbers.{numbers}
-use Rattle.tdp_core.specs.SeenAnswers.{Seen, rows_of_key}
-use Rattle.tdp_core.specs.TreeData.{NodeData, rows, group_count, members, best}
+use Rattle.tdp_core.specs.AnswerView.{AnswerView, rows_of_key}
+use Rattle.tdp_core.specs.TreeView.{NodeView, rows, group_count, members, best}
 use Rattle.tdp_core.specs.WellFormed.{IsFormed}
 use Rattle.tdp_core.proofs.TreeFacts.{member_is_row}
 use Rattle.tdp_model.specs.KeyTuple.{KeyOf}
@@ -22,7 +22,7 @@ is_live n b e f = let test : nat_lt 0 n ≡ true = sym e ∙ f in less n test
     less n h = grind (arith, nat_tests)
 
 -- what stands at place 0 of the root's group is a row
-top_row : {R : Type 0} (d : ℕ) (key : R → KeyOf d 16) (t : List (NodeData R)) → IsFormed d key t → 0 < group_count t 0 → (row : ℕ) → row ≡ get_or (members t 0 0) 0 0 → row < rows t 0
+top_row : {R : Type 0} (d : ℕ) (key : R → KeyOf d 16) (t : List (NodeView R)) → IsFormed d key t → 0 < group_count t 0 → (row : ℕ) → row ≡ get_or (members t 0 0) 0 0 → row < rows t 0
 top_row d key t formed live row is =
     let some : 0 < length t = omega (arith, formed.shaped.some_node) in
     subst (λ r. r < rows t 0) (sym is) (member_is_row d key t formed 0 0 0 some (formed.inhabited 0 0 some live))
@@ -48,5 +48,5 @@ returns-clause-head g c =
     let top = best t d key 0 (get_or (members t 0 0) 0 0) in
     let rank : key c.best-rank.result ≡ top = c.best-rank.ensures.best ∙ ap (best t d key 0) c.member-row.ensures.member in
     let rows : c.best_rows-rows.result ≡ rows_of_key d 16 top = c.best_rows-rows.ensures.rows ∙ ap (λ r. rows_of_key d 16 (best t d key 0 r)) c.member-row.ensures.member in
-    let seen : List ℕ → List ℤ → Seen = λ r k. record { rows = r; key = k } in
+    let seen : List ℕ → List ℤ → AnswerView = λ r k. record { rows = r; key = k } in
     λ ks ranking. top_ranked d key t formed live ks ranking ∙ ap (λ r. Some (seen r (numbers d 16 top))) (sym rows) ∙ ap (λ k. Some (seen c.best_rows-rows.result (numbers d 16 k))) (sym rank)

@@ -1,5 +1,5 @@
 use Rattle.std.proofs.Common.{◌<◌, get_or, inr, sym, subst}
-use Rattle.tdp_core.specs.TreeData.{parent, rows, members, group_number}
+use Rattle.tdp_core.specs.TreeView.{parent, rows, members, group_number}
 use Rattle.tdp_core.proofs.TreeFacts.{member_is_row, group_number_within}
 use Rattle.tree_dp.proofs.FirstWalk.{root_lives}
 use Rattle.tree_dp.proofs.first_answer.first_row.Goals as goal

@@ -1,6 +1,6 @@
 use Rattle.std.proofs.Common.{◌≡◌, ◌<◌, get_or, nat_eq, sym, ap, ◌∙◌, arith}
 use Rattle.std.proofs.lemmas.Bool.{ne_eqb, cond-false}
-use Rattle.tdp_core.specs.TreeData.{parent, group_named, child_place}
+use Rattle.tdp_core.specs.TreeView.{parent, group_named, child_place}
 use Rattle.tree_dp.proofs.first_answer.named_group.Goals as goal
 
 pub bounds-chosen-above : goal.bounds-chosen-above

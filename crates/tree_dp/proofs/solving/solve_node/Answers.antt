@@ -4,7 +4,7 @@ use Rattle.std.specs.List.{concat}
 use Rattle.std.proofs.lemmas.List.{length-map, length-set}
 use Rattle.std.proofs.lemmas.List.Elements.{All-from_get_or}
 use Rattle.tdp_model.specs.KeyTuple.{key_none}
-use Rattle.tdp_core.specs.TreeData.{node_data, tree_data, node_at, rows, members}
+use Rattle.tdp_core.specs.TreeView.{node_view, tree_view, node_at, rows, members}
 use Rattle.tree_dp.specs.Orders.{key_at, IsHeapOver}
 use Rattle.tree_dp.specs.SolvedTrees.{IsReordered}
 use Rattle.tree_dp.proofs.LaterNodes.{member_row, members_total}
@@ -16,9 +16,9 @@ use Rattle.tree_dp.proofs.solving.solve_node.Goals as goal
 pub order_groups-requires-clause-rows : goal.order_groups-requires-clause-rows
 order_groups-requires-clause-rows g c =
     let parts = c.args.nodes.now in
-    let t = tree_data parts in
+    let t = tree_view parts in
     let v = c.args.node in
-    let inside : v < length t = omega (arith, c.requires.node, length-map parts node_data) in
+    let inside : v < length t = omega (arith, c.requires.node, length-map parts node_view) in
     let groups : (node_at t v).groups ≡ (get_or parts v c.index-nodes-node.result).groups = ap (λ n. n.groups) (read_node parts v c.index-nodes-node.result c.requires.node) in
     let count : rows t v ≡ length c.as_slice.result.now = sym c.in_ok-best.ensures.count ∙ ap length (sym c.as_slice.ensures.value) in
     λ n. subst (λ gs. All (λ r. r < length c.as_slice.result.now) (get_or gs n [])) groups
@@ -28,27 +28,27 @@ order_groups-requires-clause-rows g c =
 pub order_groups-requires-clause-inhabited : goal.order_groups-requires-clause-inhabited
 order_groups-requires-clause-inhabited g c =
     let parts = c.args.nodes.now in
-    let t = tree_data parts in
+    let t = tree_view parts in
     let v = c.args.node in
-    let inside : v < length t = omega (arith, c.requires.node, length-map parts node_data) in
+    let inside : v < length t = omega (arith, c.requires.node, length-map parts node_view) in
     let groups : (node_at t v).groups ≡ (get_or parts v c.index-nodes-node.result).groups = ap (λ n. n.groups) (read_node parts v c.index-nodes-node.result c.requires.node) in
     subst (λ gs. (n : ℕ) → n < length gs → 0 < length (get_or gs n [])) groups (λ n l. c.requires.laid_out.inhabited v n inside l)
 
 pub returns-in_err-own-clause-cost : goal.returns-in_err-own-clause-cost
 returns-in_err-own-clause-cost g c =
     let parts = c.args.nodes.now in
-    let t = tree_data parts in
+    let t = tree_view parts in
     let v = c.args.node in
-    let inside : v < length t = omega (arith, c.requires.node, length-map parts node_data) in
+    let inside : v < length t = omega (arith, c.requires.node, length-map parts node_view) in
     let groups : (node_at t v).groups ≡ (get_or parts v c.index-nodes-node.result).groups = ap (λ n. n.groups) (read_node parts v c.index-nodes-node.result c.requires.node) in
     omega (arith, c.order_groups.ensures.cost, c.bests_of.ensures.cost, ap (λ gs. length (concat gs)) groups, members_total g.R.Rank.KEYS g.R.Rank.key t c.requires.laid_out v inside)
 
 pub returns-clause-cost : goal.returns-clause-cost
 returns-clause-cost g c =
     let parts = c.args.nodes.now in
-    let t = tree_data parts in
+    let t = tree_view parts in
     let v = c.args.node in
-    let inside : v < length t = omega (arith, c.requires.node, length-map parts node_data) in
+    let inside : v < length t = omega (arith, c.requires.node, length-map parts node_view) in
     let groups : (node_at t v).groups ≡ (get_or parts v c.index-nodes-node.result).groups = ap (λ n. n.groups) (read_node parts v c.index-nodes-node.result c.requires.node) in
     omega (arith, c.order_groups.ensures.cost, c.bests_of.ensures.cost, ap (λ gs. length (concat gs)) groups, members_total g.R.Rank.KEYS g.R.Rank.key t c.requires.laid_out v inside)
 
@@ -58,7 +58,7 @@ returns-clause-reordered g c =
     let v = c.args.node in
     let old = get_or parts v c.index-nodes-node.result in
     let new = record old { groups = c.order_groups.new.groups; best = c.in_ok-best.best } in
-    let same : IsReordered (node_data old) (node_data new) = record {
+    let same : IsReordered (node_view old) (node_view new) = record {
       shape = refl;
       rows = refl;
       to_child = refl;
@@ -72,15 +72,15 @@ returns-clause-solved g c =
     let d = g.R.Rank.KEYS in
     let key = g.R.Rank.key in
     let parts = c.args.nodes.now in
-    let t = tree_data parts in
+    let t = tree_view parts in
     let v = c.args.node in
     let old = get_or parts v c.index-nodes-node.result in
     let groups = c.order_groups.new.groups in
     let best = c.in_ok-best.best in
     let new = record old { groups = groups; best = best } in
-    let u = tree_data (set parts v new) in
-    let here : node_at u v ≡ node_data new = written_here parts v new c.requires.node in
-    let count : length u ≡ length t = length-map (set parts v new) node_data ∙ length-set parts v new ∙ sym (length-map parts node_data) in
+    let u = tree_view (set parts v new) in
+    let here : node_at u v ≡ node_view new = written_here parts v new c.requires.node in
+    let count : length u ≡ length t = length-map (set parts v new) node_view ∙ length-set parts v new ∙ sym (length-map parts node_view) in
     let heaps : (n : ℕ) → IsHeapOver d key best.items (get_or groups n []) =
     λ n. subst (λ bs. IsHeapOver d key bs (get_or groups n [])) c.as_slice.ensures.value (c.in_ok-own.ensures.heaps n)
     in
@@ -94,16 +94,16 @@ returns-clause-leasts g c =
     let d = g.R.Rank.KEYS in
     let key = g.R.Rank.key in
     let parts = c.args.nodes.now in
-    let t = tree_data parts in
+    let t = tree_view parts in
     let v = c.args.node in
     let old = get_or parts v c.index-nodes-node.result in
     let best = c.in_ok-best.best in
     let new = record old { groups = c.order_groups.new.groups; best = best } in
-    let u = tree_data (set parts v new) in
+    let u = tree_view (set parts v new) in
     let own = c.in_ok-own.own in
-    let here : node_at u v ≡ node_data new = written_here parts v new c.requires.node in
-    let count : length u ≡ length t = length-map (set parts v new) node_data ∙ length-set parts v new ∙ sym (length-map parts node_data) in
-    let inside : v < length t = omega (arith, c.requires.node, length-map parts node_data) in
+    let here : node_at u v ≡ node_view new = written_here parts v new c.requires.node in
+    let count : length u ≡ length t = length-map (set parts v new) node_view ∙ length-set parts v new ∙ sym (length-map parts node_view) in
+    let inside : v < length t = omega (arith, c.requires.node, length-map parts node_view) in
     let long : length own.items ≡ length new.groups = c.in_ok-own.ensures.least_count ∙ sym c.in_ok-own.ensures.group_count in
     leasts_next d key t u v own.items (map (λ ls. ls.items) c.args.leasts.now) count (written_elsewhere parts v new) inside c.requires.leasts (long ∙ ap (λ n. length n.groups) (sym here))
     (λ n l.

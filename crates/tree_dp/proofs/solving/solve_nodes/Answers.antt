@@ -1,7 +1,7 @@
 use Rattle.std.proofs.Common.{◌≡◌, ◌+◌, ◌-◌, ◌*◌, ◌<◌, ◌≤◌, ◌∷◌, length, map, sym, ap, subst, ◌∙◌, arith}
 use Rattle.std.proofs.lemmas.List.{length-map}
 use Rattle.tdp_model.proofs.Ranges.{times_small}
-use Rattle.tdp_core.specs.TreeData.{node_data, tree_data, node_at, rows}
+use Rattle.tdp_core.specs.TreeView.{node_view, tree_view, node_at, rows}
 use Rattle.tree_dp.specs.Progress.{AreLeastsFrom}
 use Rattle.tree_dp.proofs.Reordered.{reordered_trans, rows_same, layout_kept}
 use Rattle.tree_dp.proofs.RowTotals.{total_from_before, total_from_most}
@@ -9,15 +9,15 @@ use Rattle.tree_dp.proofs.solving.solve_nodes.Goals as goal
 
 pub solve_node-requires-clause-laid_out : goal.solve_node-requires-clause-laid_out
 solve_node-requires-clause-laid_out g c =
-    let before = tree_data c.args.nodes.now in
-    let now = tree_data c.loop-node.nodes in
-    layout_kept before now c.loop-node.invariant.reordered g.R.Rank.KEYS g.R.Rank.key (length-map c.loop-node.nodes node_data ∙ c.loop-node.auto.nodes ∙ sym (length-map c.args.nodes.now node_data)) c.requires
+    let before = tree_view c.args.nodes.now in
+    let now = tree_view c.loop-node.nodes in
+    layout_kept before now c.loop-node.invariant.reordered g.R.Rank.KEYS g.R.Rank.key (length-map c.loop-node.nodes node_view ∙ c.loop-node.auto.nodes ∙ sym (length-map c.args.nodes.now node_view)) c.requires
 
 pub solve_node-requires-clause-leasts : goal.solve_node-requires-clause-leasts
 solve_node-requires-clause-leasts g c =
     let d = g.R.Rank.KEYS in
     let key = g.R.Rank.key in
-    let now = tree_data c.loop-node.nodes in
+    let now = tree_view c.loop-node.nodes in
     let next : c.loop-node.node ≡ c.loop-node.node - 1 + 1 = omega arith in
     subst (λ vs. AreLeastsFrom d key now (c.loop-node.node - 1 + 1) (map (λ ls. ls.items) vs)) (sym c.deref.ensures.value)
     (subst (λ v. AreLeastsFrom d key now v (map (λ ls. ls.items) c.loop-node.leasts.items)) next c.loop-node.invariant.leasts)
@@ -26,17 +26,17 @@ pub loop-node-preserved : goal.loop-node-preserved
 loop-node-preserved g c =
     let d = g.R.Rank.KEYS in
     let key = g.R.Rank.key in
-    let before = tree_data c.args.nodes.now in
-    let now = tree_data c.loop-node.nodes in
-    let then = tree_data c.solve_node.new.nodes in
+    let before = tree_view c.args.nodes.now in
+    let now = tree_view c.loop-node.nodes in
+    let then = tree_view c.solve_node.new.nodes in
     let v = c.loop-node.node in
     let long = length c.args.nodes.now + 2 in
     let some : 0 < v = omega arith in
-    let inside : v ≤ length before = omega (arith, c.loop-node.auto.node, length-map c.args.nodes.now node_data) in
+    let inside : v ≤ length before = omega (arith, c.loop-node.auto.node, length-map c.args.nodes.now node_view) in
     let here : rows now (v - 1) ≡ rows before (v - 1) = ap (λ f. f (v - 1)) (rows_same before now c.loop-node.invariant.reordered) in
     let more = total_from_before (rows before) (length before) v some inside in
     record {
-      reordered = λ w. reordered_trans (node_at before w) (node_at now w) (node_at (tree_data c.solve_node.new.nodes) w) (c.loop-node.invariant.reordered w) (c.in_ok-own.ensures.reordered w);
+      reordered = λ w. reordered_trans (node_at before w) (node_at now w) (node_at (tree_view c.solve_node.new.nodes) w) (c.loop-node.invariant.reordered w) (c.in_ok-own.ensures.reordered w);
       solved = c.in_ok-own.ensures.solved;
       leasts =
           subst (λ vs. AreLeastsFrom d key then (v - 1) (map (λ ls. ls.items) vs)) (sym c.in_ok-insert.ensures.items)
@@ -46,12 +46,12 @@ loop-node-preserved g c =
 
 pub returns-in_err-own-clause-cost : goal.returns-in_err-own-clause-cost
 returns-in_err-own-clause-cost g c =
-    let before = tree_data c.args.nodes.now in
-    let now = tree_data c.loop-node.nodes in
+    let before = tree_view c.args.nodes.now in
+    let now = tree_view c.loop-node.nodes in
     let v = c.loop-node.node in
     let long = length c.args.nodes.now + 2 in
     let some : 0 < v = omega arith in
-    let inside : v ≤ length before = omega (arith, c.loop-node.auto.node, length-map c.args.nodes.now node_data) in
+    let inside : v ≤ length before = omega (arith, c.loop-node.auto.node, length-map c.args.nodes.now node_view) in
     let here : rows now (v - 1) ≡ rows before (v - 1) = ap (λ f. f (v - 1)) (rows_same before now c.loop-node.invariant.reordered) in
     let more = total_from_before (rows before) (length before) v some inside in
     omega (
@@ -66,12 +66,12 @@ returns-in_err-own-clause-cost g c =
 
 pub returns-in_err-insert-clause-cost : goal.returns-in_err-insert-clause-cost
 returns-in_err-insert-clause-cost g c =
-    let before = tree_data c.args.nodes.now in
-    let now = tree_data c.loop-node.nodes in
+    let before = tree_view c.args.nodes.now in
+    let now = tree_view c.loop-node.nodes in
     let v = c.loop-node.node in
     let long = length c.args.nodes.now + 2 in
     let some : 0 < v = omega arith in
-    let inside : v ≤ length before = omega (arith, c.loop-node.auto.node, length-map c.args.nodes.now node_data) in
+    let inside : v ≤ length before = omega (arith, c.loop-node.auto.node, length-map c.args.nodes.now node_view) in
     let here : rows now (v - 1) ≡ rows before (v - 1) = ap (λ f. f (v - 1)) (rows_same before now c.loop-node.invariant.reordered) in
     let more = total_from_before (rows before) (length before) v some inside in
     omega (

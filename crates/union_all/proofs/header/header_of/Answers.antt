@@ -1,7 +1,7 @@
 use Rattle.std.proofs.Common.{◌≡◌, ◌++◌, ◌∷◌, ◌∙◌, [], ℕ, List, codes, if◌then◌else◌, length, map, sym, ap, subst, IfOk}
 use Rattle.anyk_model.specs.Query.{Query}
 use Rattle.anyk_model.specs.Output.{cursor_title, header_fields, numbered, record_text}
-use Rattle.answer_print.specs.StyleView.{style_shown}
+use Rattle.answer_print.specs.StyleView.{style_view}
 use Rattle.union_list.specs.UnionOutput.{most_items, union_header_fields, without_rows}
 use Rattle.union_all.proofs.Texts.{header_told, queries_in, query_of}
 use Rattle.union_all.proofs.header.header_of.Goals as goal
@@ -9,7 +9,7 @@ use Rattle.union_all.proofs.header.header_of.Goals as goal
 pub returns : goal.returns
 returns c =
     let bounds = c.args.queries.now in
-    let style = style_shown c.args.style.now in
+    let style = style_view c.args.style.now in
     let tables = c.args.tables.now in
     let q = c.index-queries-0.result in
     let told = header_told _ _ _ _ _ _ _ (cursor_title style) (if style.ranks then numbered (codes "rank") (length q.query.order) else [])

@@ -1,6 +1,6 @@
 use Rattle.std.proofs.Common.{◌<◌, length, subst, sym}
 use Rattle.take2_heap.specs.declared.entry.Entry.{Entry}
-use Rattle.tdp_core.specs.TreeData.{members, rows}
+use Rattle.tdp_core.specs.TreeView.{members, rows}
 use Rattle.anyk_part.specs.declared.candidate.Candidate.{Candidate}
 use Rattle.anyk_part.specs.Regions.{IsEntry}
 use Rattle.anyk_part.proofs.Sites.{member_row, can_swap, new_entry, entry_at, held_put, entries_put, length_put}

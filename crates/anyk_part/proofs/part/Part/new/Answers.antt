@@ -1,8 +1,8 @@
 use Rattle.std.proofs.Common.{ℕ, ◌+◌, ◌*◌, ◌≤◌, List, length, ap, arith}
 use Rattle.stream_store.specs.declared.entry.Linked.{Linked}
 use Rattle.tdp_model.specs.Regions.{Region}
-use Rattle.tdp_core.specs.SeenAnswers.{answers_of}
-use Rattle.tdp_core.specs.TreeData.{row_count}
+use Rattle.tdp_core.specs.AnswerView.{answers_of}
+use Rattle.tdp_core.specs.TreeView.{row_count}
 use Rattle.anyk_part.specs.declared.candidate.Link.{Link}
 use Rattle.anyk_part.specs.Regions.{rest_keys, regions_of}
 use Rattle.anyk_part.proofs.Queues.{regions_seen}

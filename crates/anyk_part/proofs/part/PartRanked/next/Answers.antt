@@ -1,12 +1,12 @@
 use Rattle.std.proofs.Common.{rules, ◌≡◌, ◌+◌, ◌≤◌, List, [], length, refl, sym, ap, ◌∙◌, subst, arith}
 use Rattle.stream_store.specs.declared.entry.Linked.{Linked}
 use Rattle.take2_heap.specs.declared.entry.Entry.{Entry}
-use Rattle.tdp_core.specs.SeenAnswers.{rows_of_key}
+use Rattle.tdp_core.specs.AnswerView.{rows_of_key}
 use Rattle.anyk_part.specs.declared.candidate.Link.{Link}
 use Rattle.anyk_part.specs.declared.candidate.Candidate.{Candidate}
-use Rattle.tdp_core.specs.TreeData.{group_count, row_count}
+use Rattle.tdp_core.specs.TreeView.{group_count, row_count}
 use Rattle.tdp_core.specs.Shares.{most_steps}
-use Rattle.anyk_part.specs.Regions.{PartState, rest_of, candidates_of}
+use Rattle.anyk_part.specs.Regions.{PartView, rest_of, candidates_of}
 use Rattle.anyk_part.proofs.NextAnswers.{top_entry, top_next, top_key, answer_found, answers_end, steps_within}
 use Rattle.anyk_part.proofs.Starts.{starts_at}
 use Rattle.anyk_part.proofs.part.PartRanked.next.Goals as goal
@@ -18,7 +18,7 @@ returns-in_default-clause-end g c =
     let entries : List (Entry g.row.R.Denot Candidate) = c.self.inside.frontier.queue.entries in
     let empty : length entries ≤ 0 = search rules in
     let none : rest_of g.R.Rank.KEYS g.R.Rank.key t (candidates_of links (length t) entries) ≡ [] = answers_end g.R.Rank.KEYS g.R.Rank.key t links entries empty in
-    (ap (λ (s : PartState g.row.R.Denot). rest_of g.R.Rank.KEYS g.R.Rank.key s.tree s.candidates) (sym c.self.view_is) ∙ none, none)
+    (ap (λ (s : PartView g.row.R.Denot). rest_of g.R.Rank.KEYS g.R.Rank.key s.tree s.candidates) (sym c.self.view_is) ∙ none, none)
 
 pub prefix-chosen-requires-clause-count : goal.prefix-chosen-requires-clause-count
 prefix-chosen-requires-clause-count g c =
@@ -55,7 +55,7 @@ returns-clause-found g c =
     let t = c.self.inside.tree.now in
     let links : List (Linked Link) = c.self.inside.frontier.links.entries in
     let entries : List (Entry g.row.R.Denot Candidate) = c.self.inside.frontier.queue.entries in
-    ap (λ (s : PartState g.row.R.Denot). rest_of g.R.Rank.KEYS g.R.Rank.key s.tree s.candidates) (sym c.self.view_is)
+    ap (λ (s : PartView g.row.R.Denot). rest_of g.R.Rank.KEYS g.R.Rank.key s.tree s.candidates) (sym c.self.view_is)
     ∙ answer_found g.R.Rank.KEYS g.R.Rank.key t links c.divide.new.self.links.entries entries c.divide.new.self.queue.entries _ c.row_numbers-rows.result
     (top_next g.R.Rank.KEYS g.R.Rank.key t links c.make_room.new.self.links.entries entries c.make_room.new.self.queue.entries c.self.inside.calls _ _
     c.make_room.ensures.links c.make_room.ensures.entries c.self.invariant.0 (c.in-Some.ensures.variant.0 refl) c.in-Some.ensures.top
@@ -74,4 +74,4 @@ returns-clause-cost g c =
     let all : c.row_numbers-rows.new.steps ≤ c.args.steps.now + most_steps (length t) (row_count t) (group_count t 0) c.self.inside.calls =
     steps_within (length t) (row_count t) (group_count t 0) c.self.inside.calls (length c.make_room.new.self.queue.entries) _ c.args.steps.now c.prefix-chosen.new.steps c.divide.new.steps c.row_numbers-rows.new.steps
     c.self.invariant.0.formed.shaped.some_node (c.self.invariant.0.live (c.in-Some.ensures.variant.0 refl)) (omega (arith, few, same)) (omega (arith, entry.position)) c.prefix-chosen.ensures.cost c.divide.ensures.cost c.row_numbers-rows.ensures.cost in
-    subst (λ (s : PartState g.row.R.Denot). c.row_numbers-rows.new.steps ≤ c.args.steps.now + most_steps (length s.tree) (row_count s.tree) (group_count s.tree 0) s.calls) c.self.view_is all
+    subst (λ (s : PartView g.row.R.Denot). c.row_numbers-rows.new.steps ≤ c.args.steps.now + most_steps (length s.tree) (row_count s.tree) (group_count s.tree 0) s.calls) c.self.view_is all

@@ -1,7 +1,7 @@
 use Rattle.std.proofs.Common.{◌≡◌, ℕ, ◌+◌, ◌*◌, ◌<◌, ◌≤◌, Option, IfSome, IfNone, Result, Ok, Err, OnErr, Bool, true, false, nat_lt, List, length, sym, ap, ◌∙◌, subst, arith}
 use Rattle.std.proofs.lemmas.Bool.Decides.{nat_tests}
 use Rattle.tdp_core.specs.declared.ranked.Answer.{Answer}
-use Rattle.tdp_core.specs.TreeData.{NodeData, group_count}
+use Rattle.tdp_core.specs.TreeView.{NodeView, group_count}
 use Rattle.suffix_streams.specs.Rankings.{group_list}
 use Rattle.suffix_streams.specs.StreamsView.{entry_place, entry_key}
 use Rattle.tdp_core.specs.Shares.{size_of, share_of}
@@ -85,5 +85,5 @@ returns-clause-cost g c =
     let s = c.self.inside.streams in
     let live : 0 < group_count s.tree 0 = some_groups (group_count s.tree 0) c.self.inside.live c.self.invariant.live_is c.if-not-self.false in
     let within = call_within s.tree s.calls c.self.inside.calls c.args.steps.now c.following.new.steps c.self.invariant.formed.shaped.some_node live c.self.invariant.few_calls c.following.ensures.cost in
-    let rows : c.rows_of.new.steps ≤ c.following.new.steps + 4 * length s.tree = subst (λ (t : List (NodeData g.row.R.Denot)). c.rows_of.new.steps ≤ c.following.new.steps + 4 * length t) c.following.ensures.tree c.rows_of.ensures.cost in
+    let rows : c.rows_of.new.steps ≤ c.following.new.steps + 4 * length s.tree = subst (λ (t : List (NodeView g.row.R.Denot)). c.rows_of.new.steps ≤ c.following.new.steps + 4 * length t) c.following.ensures.tree c.rows_of.ensures.cost in
     subst (λ (r : RecView g.row.R.Denot). c.rank_of.new.steps ≤ c.args.steps.now + share_of (size_of r.streams.tree) r.calls) c.self.view_is (omega (arith, within, rows, c.rank_of.ensures.cost))

@@ -1,5 +1,5 @@
 use Rattle.std.proofs.Common.{◌+◌, ◌*◌, ◌≤◌, ℕ, length, arith}
-use Rattle.tdp_core.specs.TreeData.{row_count}
+use Rattle.tdp_core.specs.TreeView.{row_count}
 use Rattle.best_per.proofs.root_rows.BestPer.new.Goals as goal
 
 three_of_sixteen : (before after m n : ℕ) → after ≤ before + 3 * m → after ≤ before + 16 * (m * (1 + n))

@@ -5,11 +5,11 @@ use Rattle.rank_key.specs.Bits.{bit_length}
 use Rattle.rank_key.proofs.BitLemmas.{bit_length_rises, bit_length_zero}
 use Rattle.tdp_model.specs.KeyTuple.{KeyOf}
 use Rattle.tdp_model.specs.KeyNumbers.{numbers}
-use Rattle.tdp_core.specs.SeenAnswers.{Seen, answers_of, rows_of_key}
+use Rattle.tdp_core.specs.AnswerView.{AnswerView, answers_of, rows_of_key}
 use Rattle.tdp_core.specs.Shares.{share_of, size_of}
-use Rattle.tdp_core.specs.TreeData.{rows, row_count, group_count, best}
+use Rattle.tdp_core.specs.TreeView.{rows, row_count, group_count, best}
 use Rattle.tdp_core.proofs.TreeFacts.{member_is_row}
-use Rattle.best_per.specs.RootHeap.{BestState, rest_keys, place_key}
+use Rattle.best_per.specs.RootHeap.{BestView, rest_keys, place_key}
 use Rattle.best_per.proofs.Counts.{call_within}
 use Rattle.best_per.proofs.Queues.{top_place, others_placed, top_lives, heap_within, tag_small, rows_counted, some_left, queue_next, none_rest}
 use Rattle.best_per.proofs.root_rows.BestPerRanked.next.Goals as goal
@@ -23,7 +23,7 @@ returns-in_default-clause-end g c =
     let empty : length entries ≤ 0 = search rules in
     let none : answers_of d (rest_keys d key t entries) ≡ [] = ap (answers_of d) (none_rest d key t entries empty) in
     let same : c.pop.new.self.entries ≡ entries = search rules in (
-      ap (λ (s : BestState g.row.R.Denot). s.rest) (sym c.self.view_is) ∙ none,
+      ap (λ (s : BestView g.row.R.Denot). s.rest) (sym c.self.view_is) ∙ none,
       ap (λ (es : List (Entry g.row.R.Denot ℕ)). answers_of d (rest_keys d key t es)) same ∙ none,
     )
 
@@ -94,8 +94,8 @@ returns-clause-found g c =
     (omega (arith, c.offer-2.ensures.room, c.offer.ensures.room, c.in-Some.ensures.spare)) (omega (arith, c.offer-2.ensures.length, c.offer.ensures.length))).0
     in
     let rows_are : c.best_rows-rows.result ≡ rows_of_key d 16 k = c.best_rows-rows.ensures.rows ∙ ap (λ r. rows_of_key d 16 (best t d key 0 r)) c.member-row.ensures.member in
-    let seen : List ℕ → List ℤ → Seen = λ r ns. record { rows = r; key = ns } in
-    ap (λ (s : BestState g.row.R.Denot). s.rest) (sym c.self.view_is)
+    let seen : List ℕ → List ℤ → AnswerView = λ r ns. record { rows = r; key = ns } in
+    ap (λ (s : BestView g.row.R.Denot). s.rest) (sym c.self.view_is)
     ∙ ap (answers_of d) next
     ∙ ap (λ r. seen r (numbers d 16 k) ∷ answers_of d (rest_keys d key t left)) (sym rows_are)
     ∙ ap (λ z. seen c.best_rows-rows.result (numbers d 16 z) ∷ answers_of d (rest_keys d key t left)) (sym place.ranked)
@@ -124,4 +124,4 @@ returns-clause-cost g c =
     q.formed.shaped.some_node (top_lives d key t entries spare q e others popped) (omega (arith, one)) few c.pop.ensures.cost (omega (arith, c.offer.ensures.cost, first))
     (omega (arith, c.offer-2.ensures.cost, second)) c.member-row.ensures.counted c.best_rows-rows.ensures.cost
     in
-    subst (λ (s : BestState g.row.R.Denot). c.best_rows-rows.new.steps ≤ c.args.steps.now + share_of (size_of s.tree) 0) c.self.view_is all
+    subst (λ (s : BestView g.row.R.Denot). c.best_rows-rows.new.steps ≤ c.args.steps.now + share_of (size_of s.tree) 0) c.self.view_is all

@@ -3,7 +3,7 @@ use mir.Syntax.{w128}
 use mir.Val.{of_z, to_z}
 use Rattle.std.proofs.lemmas.Int.{to_z-of_z}
 use Rattle.bound_query.specs.WeighedQuery.{BoundQuery, ItemParts, item_parts, key_parts}
-use Rattle.bound_query.specs.WeighedView.{item_weights_shown, weighed_shown}
+use Rattle.bound_query.specs.WeighedView.{item_weights_view, weighed_view}
 use Rattle.bound_query.specs.Weights.{key_at}
 use Rattle.bound_query.proofs.Readers.{items_length, part_kept, parts_of, weighed_at}
 use Rattle.bound_query.proofs.query.Query.part.Goals as goal
@@ -16,8 +16,8 @@ index-requires-2 c =
     let key = key_at order c.args.key in
     let stored = ap (λ (b : BoundQuery). b.weighed) c.self.view_is ∙ c.requires.fits.weighed in
     let v = c.index.result.now in
-    let shown : weighed_shown v ≡ key_parts tables items key =
-    ap weighed_shown c.index.ensures ∙ weighed_at c.self.inside.weighed.items order (key_parts tables items) c.args.key v stored c.requires.key in
+    let shown : weighed_view v ≡ key_parts tables items key =
+    ap weighed_view c.index.ensures ∙ weighed_at c.self.inside.weighed.items order (key_parts tables items) c.args.key v stored c.requires.key in
     omega (arith, v.ok.0, items_length tables items key v shown, c.requires.item)
 
 pub returns : goal.returns
@@ -28,11 +28,11 @@ returns c =
     let key = key_at order c.args.key in
     let stored = ap (λ (b : BoundQuery). b.weighed) c.self.view_is ∙ c.requires.fits.weighed in
     let v = c.index.result.now in
-    let shown : weighed_shown v ≡ key_parts tables items key =
-    ap weighed_shown c.index.ensures ∙ weighed_at c.self.inside.weighed.items order (key_parts tables items) c.args.key v stored c.requires.key in
+    let shown : weighed_view v ≡ key_parts tables items key =
+    ap weighed_view c.index.ensures ∙ weighed_at c.self.inside.weighed.items order (key_parts tables items) c.args.key v stored c.requires.key in
     let w = c.index-2.result.now in
-    let own : item_weights_shown w ≡ item_parts tables items key c.args.item =
-    ap item_weights_shown c.index-2.ensures ∙ parts_of tables items key v shown c.args.item w c.requires.item in
+    let own : item_weights_view w ≡ item_parts tables items key c.args.item =
+    ap item_weights_view c.index-2.ensures ∙ parts_of tables items key v shown c.args.item w c.requires.item in
     let first = c.requires.first in
     let last = c.requires.row in
     let x = c.part_at.result in

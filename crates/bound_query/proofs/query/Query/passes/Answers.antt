@@ -1,6 +1,6 @@
 use Rattle.std.proofs.Common.{◌≡◌, ◌<◌, ◌-◌, ◌∙◌, sym, ap, subst, length, ℕ}
 use Rattle.anyk_model.specs.Table.{field_at, table_at}
-use Rattle.bound_query.specs.FilterViews.{constant_shown, filter_shown}
+use Rattle.bound_query.specs.FilterViews.{constant_view, filter_view}
 use Rattle.bound_query.specs.Filters.{HasConstants, HasEqual}
 use Rattle.bound_query.specs.Items.{item_at}
 use Rattle.bound_query.specs.WeighedQuery.{BoundQuery}
@@ -19,7 +19,7 @@ stands-requires-clause-left c =
     let t : c.table_of-table.result ≡ (item_at now.query.items c.args.item).table =
     c.table_of-table.ensures ∙ ap (λ (b : BoundQuery). (item_at b.query.items c.args.item).table) c.self.view_is in
     all_of_members (λ (v : ℕ × ℕ). v.0 < length (table_at tables c.table_of-table.result).names) w.pairs.items
-    (λ v m. subst (λ (n : ℕ). v.0 < length (table_at tables n).names) (sym t) (first_inside now.query tables c.requires.fits.within c.args.item (filter_shown w) known v m))
+    (λ v m. subst (λ (n : ℕ). v.0 < length (table_at tables n).names) (sym t) (first_inside now.query tables c.requires.fits.within c.args.item (filter_view w) known v m))
 
 pub stands-requires-clause-right : goal.stands-requires-clause-right
 stands-requires-clause-right c =
@@ -30,7 +30,7 @@ stands-requires-clause-right c =
     let t : c.table_of-table.result ≡ (item_at now.query.items c.args.item).table =
     c.table_of-table.ensures ∙ ap (λ (b : BoundQuery). (item_at b.query.items c.args.item).table) c.self.view_is in
     all_of_members (λ (v : ℕ × ℕ). v.1 < length (table_at tables c.table_of-table.result).names) w.pairs.items
-    (λ v m. subst (λ (n : ℕ). v.1 < length (table_at tables n).names) (sym t) (second_inside now.query tables c.requires.fits.within c.args.item (filter_shown w) known v m))
+    (λ v m. subst (λ (n : ℕ). v.1 < length (table_at tables n).names) (sym t) (second_inside now.query tables c.requires.fits.within c.args.item (filter_view w) known v m))
 
 pub stands-requires-clause-places : goal.stands-requires-clause-places
 stands-requires-clause-places c =
@@ -42,14 +42,14 @@ stands-requires-clause-places c =
     c.table_of-table.ensures ∙ ap (λ (b : BoundQuery). (item_at b.query.items c.args.item).table) c.self.view_is in
     all_of_members (λ (y : Constant). y.place < length (table_at tables c.table_of-table.result).names) w.constants.items
     (λ y m. subst (λ (n : ℕ). y.place < length (table_at tables n).names) (sym t)
-    (constant_inside now.query tables c.requires.fits.within c.args.item (filter_shown w) known (constant_shown y) (member_map constant_shown y w.constants.items m)))
+    (constant_inside now.query tables c.requires.fits.within c.args.item (filter_view w) known (constant_view y) (member_map constant_view y w.constants.items m)))
 
 pub returns : goal.returns
 returns c =
     let now = c.args.self.now in
     let tables = c.args.tables.now in
     let w = c.index.result.now in
-    let f = filter_shown w in
+    let f = filter_view w in
     let known = stored_filter now tables c.requires.fits c.self.inside.filters.items (ap (λ (b : BoundQuery). b.filters) c.self.view_is) c.args.item w c.requires.item c.index.ensures in
     let t : c.table_of-table.result ≡ (item_at now.query.items c.args.item).table =
     c.table_of-table.ensures ∙ ap (λ (b : BoundQuery). (item_at b.query.items c.args.item).table) c.self.view_is in

@@ -1,7 +1,7 @@
 use Rattle.std.proofs.Common.{◌≡◌, ◌<◌, ◌∙◌, sym, ap, subst, length, get_or, arith, [], List, Vec, Global, ℕ}
 use Rattle.std.proofs.lemmas.List.{get_or-map, length-map}
 use Rattle.bound_query.specs.Classes.{AreVariablesOf}
-use Rattle.bound_query.specs.StoredParts.{lists_shown}
+use Rattle.bound_query.specs.StoredParts.{lists_view}
 use Rattle.bound_query.specs.WeighedQuery.{BoundQuery, variables_at}
 use Rattle.bound_query.proofs.query.Query.variables_of.Goals as goal
 
@@ -10,7 +10,7 @@ returns-clause-variables c =
     let fits = c.requires.fits.1 in
     let xs = c.self.inside.variables.of_items.items in
     let item = c.args.item in
-    let shown : lists_shown xs ≡ c.args.self.now.lists = ap (λ (b : BoundQuery). b.lists) c.self.view_is in
+    let shown : lists_view xs ≡ c.args.self.now.lists = ap (λ (b : BoundQuery). b.lists) c.self.view_is in
     let inside : item < length xs = omega (arith, length-map xs (λ (v : Vec (ℕ × ℕ) Global). v.items), ap length shown, fits.listed, c.requires.item) in
     let e : variables_at c.args.self.now.lists item ≡ c.as_slice.result.now =
     ap (λ (l : List (List (ℕ × ℕ))). get_or l item []) (sym shown) ∙ get_or-map (λ (v : Vec (ℕ × ℕ) Global). v.items) xs item c.index.result.now [] inside

@@ -2,16 +2,16 @@ use Rattle.std.proofs.Common.{◌≡◌, ℕ, suc, ◌+◌, ◌-◌, ◌*◌, �
 use Rattle.std.proofs.lemmas.Bool.{cases_eq}
 use Rattle.stream_store.specs.declared.entry.Linked.{Linked}
 use Rattle.rank_key.specs.Bits.{bit_length}
-use Rattle.tdp_core.specs.TreeData.{NodeData, parent, rows, members, child_count, group_named}
+use Rattle.tdp_core.specs.TreeView.{NodeView, parent, rows, members, child_count, group_named}
 use Rattle.tdp_core.specs.WellFormed.{IsTieFreeTree}
 use Rattle.tdp_core.proofs.Children.{kids_below_most}
 use Rattle.suffix_streams.specs.declared.stream.Found.{Found}
-use Rattle.suffix_streams.specs.ProductData.{ProductData}
-use Rattle.suffix_streams.specs.StreamData.{StreamData}
-use Rattle.suffix_streams.specs.NodeLists.{NodeLists, product_at, stream_at, known_of}
+use Rattle.suffix_streams.specs.ProductView.{ProductView}
+use Rattle.suffix_streams.specs.StreamView.{StreamView}
+use Rattle.suffix_streams.specs.NodeStreamsView.{NodeStreamsView, product_at, stream_at, known_of}
 use Rattle.suffix_streams.specs.Firsts.{can_enter}
 use Rattle.suffix_streams.specs.Rankings.{child}
-use Rattle.suffix_streams.specs.StreamsData.{group_of, next_of, node_of, stream_of, part_known, row_known, IsStreams, IsHeaded}
+use Rattle.suffix_streams.specs.TreeStreams.{group_of, next_of, node_of, stream_of, part_known, row_known, IsStreams, IsHeaded}
 use Rattle.suffix_streams.specs.Growing.{IsGrown, IsExtended, IsReached, IsAnswered}
 use Rattle.suffix_streams.proofs.Heads.{lists_at}
 use Rattle.suffix_streams.proofs.Entries.{headed_of}
@@ -277,15 +277,15 @@ after-advance-requires-clause-queue_room g t c one =
     let a = row_of g t at.After-open_row o p in
     let k = counted_of g t at.After-child_count-count o a in
     let s = search_of g t at.After-extend in
-    subst (λ (z : List (NodeData g.row.R.Denot)). can_enter (length (members z c.get-found.result.now.node c.get-found.result.now.group)) ≤ (stream_of c.extend.new.self.nodes.items c.get-found.result.now.node c.get-found.result.now.group).room) (sym (c.extend.ensures.tree ∙ c.open_row.ensures.tree))
-    (subst (λ (z : StreamData g.row.R.Denot). can_enter (length (members c.args.self.now.tree.now c.get-found.result.now.node c.get-found.result.now.group)) ≤ z.room) (sym (searched_stream o a k s)) (c.in_ok-open_row.ensures.room (omega (arith, one, c.next_place-place.ensures))))
+    subst (λ (z : List (NodeView g.row.R.Denot)). can_enter (length (members z c.get-found.result.now.node c.get-found.result.now.group)) ≤ (stream_of c.extend.new.self.nodes.items c.get-found.result.now.node c.get-found.result.now.group).room) (sym (c.extend.ensures.tree ∙ c.open_row.ensures.tree))
+    (subst (λ (z : StreamView g.row.R.Denot). can_enter (length (members c.args.self.now.tree.now c.get-found.result.now.node c.get-found.result.now.group)) ≤ z.room) (sym (searched_stream o a k s)) (c.in_ok-open_row.ensures.room (omega (arith, one, c.next_place-place.ensures))))
 
 pub after-advance-requires-clause-row : goal.after-advance-requires-clause-row
 after-advance-requires-clause-row g t c =
     let at = goal.at.after-advance-requires-clause-row g t c in
     let o = entry_owned g t at.After-get-found in
     let p = top_of g t at.In-Some-top o in
-    subst (λ (z : List (NodeData g.row.R.Denot)). c.in-Some-top.top.tag.row ≡ get_or (members z c.get-found.result.now.node c.get-found.result.now.group) c.in-Some-top.top.tag.member 0) (sym (c.extend.ensures.tree ∙ c.open_row.ensures.tree)) p.row
+    subst (λ (z : List (NodeView g.row.R.Denot)). c.in-Some-top.top.tag.row ≡ get_or (members z c.get-found.result.now.node c.get-found.result.now.group) c.in-Some-top.top.tag.member 0) (sym (c.extend.ensures.tree ∙ c.open_row.ensures.tree)) p.row
 
 pub after-advance-requires-clause-member : goal.after-advance-requires-clause-member
 after-advance-requires-clause-member g t c =
@@ -353,7 +353,7 @@ after-returns-clause-cost g t c =
     let k = counted_of g t at.After-child_count-count o a in
     let s = search_of g t at.After-extend in
     let last : c.advance.new.steps ≤ c.extend.new.steps + 8 + 3 * child_count c.args.self.now.tree.now c.get-found.result.now.node + 4 * bit_length (length (members c.args.self.now.tree.now c.get-found.result.now.node c.get-found.result.now.group) + 1) =
-    subst (λ (z : List (NodeData g.row.R.Denot)). c.advance.new.steps ≤ c.extend.new.steps + 8 + 3 * child_count z c.get-found.result.now.node + 4 * bit_length (length (members z c.get-found.result.now.node c.get-found.result.now.group) + 1)) (c.extend.ensures.tree ∙ c.open_row.ensures.tree) c.advance.ensures.cost in
+    subst (λ (z : List (NodeView g.row.R.Denot)). c.advance.new.steps ≤ c.extend.new.steps + 8 + 3 * child_count z c.get-found.result.now.node + 4 * bit_length (length (members z c.get-found.result.now.node c.get-found.result.now.group) + 1)) (c.extend.ensures.tree ∙ c.open_row.ensures.tree) c.advance.ensures.cost in
     searched_steps o a k s c.advance.new.steps (λ b members. omega (arith, last, members c.get-found.result.now.node c.get-found.result.now.group))
 
 pub search-after-requires : goal.search-after-requires
@@ -367,8 +367,8 @@ search-extend-requires g t c κs within =
     let at = goal.at.search-extend-requires g t c in
     let a = room_of g t at.After-make_room in
     let b = child_of g t at.After-after a in
-    let in_tree = subst (λ (z : List (NodeData g.row.R.Denot)). c.args.node < length z) (sym c.after.ensures.tree) c.requires.node in
-    let in_node = subst (λ (z : List (NodeData g.row.R.Denot)). c.args.row < rows z c.args.node) (sym c.after.ensures.tree) c.requires.row in
+    let in_tree = subst (λ (z : List (NodeView g.row.R.Denot)). c.args.node < length z) (sym c.after.ensures.tree) c.requires.node in
+    let in_node = subst (λ (z : List (NodeView g.row.R.Denot)). c.args.row < rows z c.args.node) (sym c.after.ensures.tree) c.requires.row in
     elim (cases_eq c.in-Some.top.tag.right c.child_head-head.result) [
       | inl e ↦ (omega (arith, c.decreases, a.last, ap length c.after.ensures.tree, (c.left_search-earlier.ensures.beside e).0), (within.0, (within.1.0, (within.1.1, (c.after.ensures.formed, (subst IsTieFreeTree (sym c.after.ensures.tree) c.requires.tie_free, (in_tree, (in_node, (omega (arith, b.in_row, (c.left_search-earlier.ensures.beside e).0), left_within c.after.new.self.nodes.items c.args.node c.args.row (c.args.count - 1) c.left_search-earlier.result.0 c.left_search-earlier.result.1 c.in-Some.top.tag.left b.left (c.left_search-earlier.ensures.beside e).0 (c.left_search-earlier.ensures.beside e).1)))))))))
       | inr n ↦ (omega (arith, c.decreases, a.last, ap length c.after.ensures.tree, (c.left_search-earlier.ensures.apart n).0), (within.0, (within.1.0, (within.1.1, (c.after.ensures.formed, (subst IsTieFreeTree (sym c.after.ensures.tree) c.requires.tie_free, (in_tree, (in_node, (omega (arith, (c.left_search-earlier.ensures.apart n).0), none_within_known c.after.new.self.nodes.items c.args.node c.args.row c.left_search-earlier.result.0 c.left_search-earlier.result.1 (c.left_search-earlier.ensures.apart n).1)))))))))
@@ -485,16 +485,16 @@ search-returns-in_err-below-clause-cost g t c =
 
 pub search-child_head-head-requires-clause-headed : goal.search-child_head-head-requires-clause-headed
 search-child_head-head-requires-clause-headed g t c =
-    let in_tree = subst (λ (z : List (NodeData g.row.R.Denot)). c.args.node < length z) (sym c.after.ensures.tree) c.requires.node in
-    let in_node = subst (λ (z : List (NodeData g.row.R.Denot)). c.args.row < rows z c.args.node) (sym c.after.ensures.tree) c.requires.row in
-    subst (λ (z : List (NodeLists g.row.R.Denot)). IsHeaded g.R.Rank.KEYS g.R.Rank.key c.after.new.self.tree.now c.after.new.self.entries.entries z c.args.node c.args.row) (sym c.as_slice.ensures.value)
+    let in_tree = subst (λ (z : List (NodeView g.row.R.Denot)). c.args.node < length z) (sym c.after.ensures.tree) c.requires.node in
+    let in_node = subst (λ (z : List (NodeView g.row.R.Denot)). c.args.row < rows z c.args.node) (sym c.after.ensures.tree) c.requires.row in
+    subst (λ (z : List (NodeStreamsView g.row.R.Denot)). IsHeaded g.R.Rank.KEYS g.R.Rank.key c.after.new.self.tree.now c.after.new.self.entries.entries z c.args.node c.args.row) (sym c.as_slice.ensures.value)
     (headed_of g.R.Rank.KEYS g.R.Rank.key c.after.new.self.tree.now c.after.new.self.entries.entries c.after.new.self.nodes.items c.after.ensures.formed c.args.node c.args.row in_tree in_node)
 
 pub search-child_head-head-requires-clause-child : goal.search-child_head-head-requires-clause-child
 search-child_head-head-requires-clause-child g t c =
     let at = goal.at.search-child_head-head-requires-clause-child g t c in
     let a = room_of g t at.After-make_room in
-    subst (λ (z : List (NodeData g.row.R.Denot)). c.args.count - 1 < child_count z c.args.node) (sym c.after.ensures.tree) a.in_kids
+    subst (λ (z : List (NodeView g.row.R.Denot)). c.args.count - 1 < child_count z c.args.node) (sym c.after.ensures.tree) a.in_kids
 
 pub search-returns-in_err-extend-clause-extended : goal.search-returns-in_err-extend-clause-extended
 search-returns-in_err-extend-clause-extended g t c =
@@ -534,7 +534,7 @@ search-step-requires-clause-node g t c =
     let a = room_of g t at.After-make_room in
     let b = child_of g t at.After-after a in
     let l = left_of g t at.After-extend a b in
-    subst (λ (z : List (NodeData g.row.R.Denot)). c.args.node < length z) (sym l.searched.tree) c.requires.node
+    subst (λ (z : List (NodeView g.row.R.Denot)). c.args.node < length z) (sym l.searched.tree) c.requires.node
 
 pub search-step-requires-clause-row : goal.search-step-requires-clause-row
 search-step-requires-clause-row g t c =
@@ -542,7 +542,7 @@ search-step-requires-clause-row g t c =
     let a = room_of g t at.After-make_room in
     let b = child_of g t at.After-after a in
     let l = left_of g t at.After-extend a b in
-    subst (λ (z : List (NodeData g.row.R.Denot)). c.args.row < rows z c.args.node) (sym l.searched.tree) c.requires.row
+    subst (λ (z : List (NodeView g.row.R.Denot)). c.args.row < rows z c.args.node) (sym l.searched.tree) c.requires.row
 
 pub search-step-requires-clause-child : goal.search-step-requires-clause-child
 search-step-requires-clause-child g t c =
@@ -558,7 +558,7 @@ search-step-requires-clause-top g t c =
     let a = room_of g t at.After-make_room in
     let b = child_of g t at.After-after a in
     let l = left_of g t at.After-extend a b in
-    subst (λ (z : ProductData g.row.R.Denot). 0 < length z.frontier) (sym l.product) a.some
+    subst (λ (z : ProductView g.row.R.Denot). 0 < length z.frontier) (sym l.product) a.some
 
 pub search-step-requires-clause-cell : goal.search-step-requires-clause-cell
 search-step-requires-clause-cell g t c =
@@ -566,7 +566,7 @@ search-step-requires-clause-cell g t c =
     let a = room_of g t at.After-make_room in
     let b = child_of g t at.After-after a in
     let l = left_of g t at.After-extend a b in
-    λ x. ap (λ (z : ProductData g.row.R.Denot). (get_or z.frontier 0 x).tag) l.product ∙ a.first x
+    λ x. ap (λ (z : ProductView g.row.R.Denot). (get_or z.frontier 0 x).tag) l.product ∙ a.first x
 
 pub search-step-requires-clause-head : goal.search-step-requires-clause-head
 search-step-requires-clause-head g t c =
@@ -574,9 +574,9 @@ search-step-requires-clause-head g t c =
     let a = room_of g t at.After-make_room in
     let b = child_of g t at.After-after a in
     let l = left_of g t at.After-extend a b in
-    let head = subst (λ (z : List (NodeData g.row.R.Denot)). c.child_head-head.result ≡ (stream_of c.after.new.self.nodes.items (child z c.args.node (c.args.count - 1)) (group_named z c.args.node c.args.row (c.args.count - 1))).head) c.after.ensures.tree
-    (subst (λ (n : List (NodeLists g.row.R.Denot)). c.child_head-head.result ≡ (stream_of n (child c.after.new.self.tree.now c.args.node (c.args.count - 1)) (group_named c.after.new.self.tree.now c.args.node c.args.row (c.args.count - 1))).head) c.as_slice.ensures.value c.child_head-head.ensures.head) in
-    subst (λ (y : List (NodeData g.row.R.Denot)). c.child_head-head.result ≡ (stream_of c.extend.new.self.nodes.items (child y c.args.node (c.args.count - 1)) (group_named y c.args.node c.args.row (c.args.count - 1))).head) (sym l.searched.tree) (head ∙ sym l.head)
+    let head = subst (λ (z : List (NodeView g.row.R.Denot)). c.child_head-head.result ≡ (stream_of c.after.new.self.nodes.items (child z c.args.node (c.args.count - 1)) (group_named z c.args.node c.args.row (c.args.count - 1))).head) c.after.ensures.tree
+    (subst (λ (n : List (NodeStreamsView g.row.R.Denot)). c.child_head-head.result ≡ (stream_of n (child c.after.new.self.tree.now c.args.node (c.args.count - 1)) (group_named c.after.new.self.tree.now c.args.node c.args.row (c.args.count - 1))).head) c.as_slice.ensures.value c.child_head-head.ensures.head) in
+    subst (λ (y : List (NodeView g.row.R.Denot)). c.child_head-head.result ≡ (stream_of c.extend.new.self.nodes.items (child y c.args.node (c.args.count - 1)) (group_named y c.args.node c.args.row (c.args.count - 1))).head) (sym l.searched.tree) (head ∙ sym l.head)
 
 pub search-step-requires-clause-below : goal.search-step-requires-clause-below
 search-step-requires-clause-below g t c =
@@ -584,7 +584,7 @@ search-step-requires-clause-below g t c =
     let a = room_of g t at.After-make_room in
     let b = child_of g t at.After-after a in
     let l = left_of g t at.After-extend a b in
-    subst (λ (y : List (NodeData g.row.R.Denot)). IsAnswered g.R.Rank.KEYS g.R.Rank.key y c.extend.new.self.entries.entries c.in-Some.top.tag.right c.in_ok-below.below) (sym l.searched.tree)
+    subst (λ (y : List (NodeView g.row.R.Denot)). IsAnswered g.R.Rank.KEYS g.R.Rank.key y c.extend.new.self.entries.entries c.in-Some.top.tag.right c.in_ok-below.below) (sym l.searched.tree)
     (answered_stays g.R.Rank.KEYS g.R.Rank.key c.args.self.now.tree.now (suc c.args.node) c.after.new.self.entries.entries c.extend.new.self.entries.entries c.in-Some.top.tag.right c.in_ok-below.below (omega (arith, a.known.right, b.grown.store.longer)) l.searched.extended.store c.in_ok-below.ensures.answer)
 
 pub search-step-requires-clause-across : goal.search-step-requires-clause-across
@@ -597,7 +597,7 @@ search-step-requires-clause-room g t c =
     let a = room_of g t at.After-make_room in
     let b = child_of g t at.After-after a in
     let l = left_of g t at.After-extend a b in
-    subst (λ (z : ProductData g.row.R.Denot). 0 < z.room) (sym l.product) c.in_ok-make_room.ensures.room
+    subst (λ (z : ProductView g.row.R.Denot). 0 < z.room) (sym l.product) c.in_ok-make_room.ensures.room
 
 pub search-step-requires-clause-frontier_room : goal.search-step-requires-clause-frontier_room
 search-step-requires-clause-frontier_room g t c =
@@ -605,7 +605,7 @@ search-step-requires-clause-frontier_room g t c =
     let a = room_of g t at.After-make_room in
     let b = child_of g t at.After-after a in
     let l = left_of g t at.After-extend a b in
-    subst (λ (z : ProductData g.row.R.Denot). 0 < c.args.count - 1 → 0 < z.frontier_room) (sym l.product) c.in_ok-make_room.ensures.frontier_room
+    subst (λ (z : ProductView g.row.R.Denot). 0 < c.args.count - 1 → 0 < z.frontier_room) (sym l.product) c.in_ok-make_room.ensures.frontier_room
 
 pub search-returns-clause-tree : goal.search-returns-clause-tree
 search-returns-clause-tree g t c =
@@ -630,11 +630,11 @@ search-returns-clause-reached g t c =
     let b = child_of g t at.After-after a in
     let l = left_of g t at.After-extend a b in
     let at : part_known c.extend.new.self.nodes.items c.args.node c.args.row c.args.count ≡ part_known c.args.self.now.nodes.items c.args.node c.args.row c.args.count =
-    ap (λ z. part_known c.extend.new.self.nodes.items c.args.node c.args.row z) (sym a.last) ∙ ap (λ (z : ProductData g.row.R.Denot). length z.found) l.product ∙ ap length a.found ∙ ap (λ z. part_known c.args.self.now.nodes.items c.args.node c.args.row z) a.last in
+    ap (λ z. part_known c.extend.new.self.nodes.items c.args.node c.args.row z) (sym a.last) ∙ ap (λ (z : ProductView g.row.R.Denot). length z.found) l.product ∙ ap length a.found ∙ ap (λ z. part_known c.args.self.now.nodes.items c.args.node c.args.row z) a.last in
     let more : (c.args.count - 1) + 1 ≡ c.args.count = omega (arith, a.last) in
     subst (λ z. IsReached g.R.Rank.KEYS g.R.Rank.key c.args.self.now.tree.now c.step.new.self.nodes.items c.args.node c.args.row c.args.count z) at
     (subst (λ z. IsReached g.R.Rank.KEYS g.R.Rank.key c.args.self.now.tree.now c.step.new.self.nodes.items c.args.node c.args.row z (part_known c.extend.new.self.nodes.items c.args.node c.args.row z)) more
-    (subst (λ (y : List (NodeData g.row.R.Denot)). IsReached g.R.Rank.KEYS g.R.Rank.key y c.step.new.self.nodes.items c.args.node c.args.row ((c.args.count - 1) + 1) (part_known c.extend.new.self.nodes.items c.args.node c.args.row ((c.args.count - 1) + 1))) l.searched.tree c.step.ensures.reached))
+    (subst (λ (y : List (NodeView g.row.R.Denot)). IsReached g.R.Rank.KEYS g.R.Rank.key y c.step.new.self.nodes.items c.args.node c.args.row ((c.args.count - 1) + 1) (part_known c.extend.new.self.nodes.items c.args.node c.args.row ((c.args.count - 1) + 1))) l.searched.tree c.step.ensures.reached))
 
 pub search-returns-clause-room : goal.search-returns-clause-room
 search-returns-clause-room g t c =
@@ -829,7 +829,7 @@ after-returns-clause-tree g t c =
 
 pub after-returns-clause-answer : goal.after-returns-clause-answer
 after-returns-clause-answer g t c =
-    subst (λ (z : List (NodeData g.row.R.Denot)). IsAnswered g.R.Rank.KEYS g.R.Rank.key z c.advance.new.self.entries.entries c.args.entry c.advance.result) (c.advance.ensures.tree ∙ c.extend.ensures.tree ∙ c.open_row.ensures.tree) (subst (λ (z : List (NodeData g.row.R.Denot)). IsAnswered g.R.Rank.KEYS g.R.Rank.key z c.advance.new.self.entries.entries c.args.entry c.advance.result) (sym c.advance.ensures.tree) c.advance.ensures.answer)
+    subst (λ (z : List (NodeView g.row.R.Denot)). IsAnswered g.R.Rank.KEYS g.R.Rank.key z c.advance.new.self.entries.entries c.args.entry c.advance.result) (c.advance.ensures.tree ∙ c.extend.ensures.tree ∙ c.open_row.ensures.tree) (subst (λ (z : List (NodeView g.row.R.Denot)). IsAnswered g.R.Rank.KEYS g.R.Rank.key z c.advance.new.self.entries.entries c.args.entry c.advance.result) (sym c.advance.ensures.tree) c.advance.ensures.answer)
 
 pub extend-returns-then-place-known-clause-formed : goal.extend-returns-then-place-known-clause-formed
 extend-returns-then-place-known-clause-formed g t c =
@@ -873,7 +873,7 @@ search-child_head-head-requires-clause-node g t c =
 
 pub search-child_head-head-requires-clause-row : goal.search-child_head-head-requires-clause-row
 search-child_head-head-requires-clause-row g t c =
-    subst (λ (z : List (NodeData g.row.R.Denot)). c.args.row < rows z c.args.node) (sym c.after.ensures.tree) c.requires.row
+    subst (λ (z : List (NodeView g.row.R.Denot)). c.args.row < rows z c.args.node) (sym c.after.ensures.tree) c.requires.row
 
 pub search-index-requires-2 : goal.search-index-requires-2
 search-index-requires-2 g t c =

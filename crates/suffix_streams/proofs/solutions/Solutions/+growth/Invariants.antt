@@ -1,5 +1,5 @@
 use Rattle.std.proofs.Common.{◌+◌, ◌-◌, ◌*◌, length}
-use Rattle.suffix_streams.specs.StreamsData.{node_of}
+use Rattle.suffix_streams.specs.TreeStreams.{node_of}
 use Rattle.suffix_streams.proofs.solutions.Solutions.+growth.Given as goal
 
 abbrev pub decreases-after : goal.decreases-after

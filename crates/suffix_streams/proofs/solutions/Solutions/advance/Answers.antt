@@ -1,11 +1,11 @@
 use Rattle.std.proofs.Common.{◌≡◌, ◌≢◌, ℕ, ◌+◌, ◌*◌, ◌<◌, ◌≤◌, None, Some, IfSome, IfNone, is_some, List, [], length, get_or, refl, sym, ap, ◌∙◌, subst, arith}
 use Rattle.take2_heap.specs.Order.{IsLeast}
-use Rattle.tdp_core.specs.TreeData.{members, child_count}
+use Rattle.tdp_core.specs.TreeView.{members, child_count}
 use Rattle.tdp_model.specs.KeyTuple.{key_none}
 use Rattle.stream_store.specs.declared.entry.Linked.{Linked}
 use Rattle.suffix_streams.specs.declared.stream.Found.{Found}
-use Rattle.suffix_streams.specs.NodeLists.{NodeLists, stream_at, with_queue}
-use Rattle.suffix_streams.specs.StreamsData.{IsSumOf, row_known, products_of, IsStreams, node_list, group_list_of, node_of, group_of, lists_of, stream_of}
+use Rattle.suffix_streams.specs.NodeStreamsView.{NodeStreamsView, stream_at, with_queue}
+use Rattle.suffix_streams.specs.TreeStreams.{IsSumOf, row_known, products_of, IsStreams, node_list, group_list_of, node_of, group_of, lists_of, stream_of}
 use Rattle.suffix_streams.specs.Growing.{IsAnswered}
 use Rattle.suffix_streams.proofs.Changes.{lists_other, lists_same}
 use Rattle.suffix_streams.proofs.Heads.{lists_at}
@@ -36,7 +36,7 @@ module _ (g : Over) where
   offer_of : (c : After-pass_last g) → IfNone c.row_offer-offer.result (row_known c.args.self.now.nodes.items c.args.node c.args.row ≤ c.args.place) × IfSome c.row_offer-offer.result (λ e. (e.tag.member ≡ c.args.member) × (e.tag.place ≡ c.args.place)) × IfSome c.row_offer-offer.result (λ e. c.args.place < row_known c.args.self.now.nodes.items c.args.node c.args.row) × IfSome c.row_offer-offer.result (λ e. (e.tag.row ≡ c.args.row) × ((i : ℕ) → child_count c.args.self.now.tree.now c.args.node ≡ i + 1 → IsSumOf g.R.Rank.KEYS g.R.Rank.key c.args.self.now.tree.now c.args.self.now.entries.entries c.args.self.now.nodes.items c.args.node c.args.row i c.args.place e.tag.cell))
       × IfSome c.row_offer-offer.result (λ e. g.R.Rank.key e.rank ≡ get_or (part_list g.R.Rank.KEYS g.R.Rank.key c.args.self.now.tree.now c.args.node c.args.row (length (products_of c.args.self.now.nodes.items c.args.node c.args.row))) c.args.place (key_none g.R.Rank.KEYS 16))
   offer_of c =
-      subst (λ (z : List (NodeLists g.row.R.Denot)). IfNone c.row_offer-offer.result (row_known z c.args.node c.args.row ≤ c.args.place) × IfSome c.row_offer-offer.result (λ e. (e.tag.member ≡ c.args.member) × (e.tag.place ≡ c.args.place)) × IfSome c.row_offer-offer.result (λ e. c.args.place < row_known z c.args.node c.args.row) × IfSome c.row_offer-offer.result (λ e. (e.tag.row ≡ c.args.row) × ((i : ℕ) → child_count c.args.self.now.tree.now c.args.node ≡ i + 1 → IsSumOf g.R.Rank.KEYS g.R.Rank.key c.args.self.now.tree.now c.args.self.now.entries.entries z c.args.node c.args.row i c.args.place e.tag.cell))
+      subst (λ (z : List (NodeStreamsView g.row.R.Denot)). IfNone c.row_offer-offer.result (row_known z c.args.node c.args.row ≤ c.args.place) × IfSome c.row_offer-offer.result (λ e. (e.tag.member ≡ c.args.member) × (e.tag.place ≡ c.args.place)) × IfSome c.row_offer-offer.result (λ e. c.args.place < row_known z c.args.node c.args.row) × IfSome c.row_offer-offer.result (λ e. (e.tag.row ≡ c.args.row) × ((i : ℕ) → child_count c.args.self.now.tree.now c.args.node ≡ i + 1 → IsSumOf g.R.Rank.KEYS g.R.Rank.key c.args.self.now.tree.now c.args.self.now.entries.entries z c.args.node c.args.row i c.args.place e.tag.cell))
       × IfSome c.row_offer-offer.result (λ e. g.R.Rank.key e.rank ≡ get_or (part_list g.R.Rank.KEYS g.R.Rank.key c.args.self.now.tree.now c.args.node c.args.row (length (products_of z c.args.node c.args.row))) c.args.place (key_none g.R.Rank.KEYS 16))) c.as_slice.ensures.value
       (c.row_offer-offer.ensures.none, c.row_offer-offer.ensures.source, c.row_offer-offer.ensures.known, c.row_offer-offer.ensures.parts, c.row_offer-offer.ensures.key)
 
@@ -80,7 +80,7 @@ module _ (g : Over) where
   others_of c v other =
       let n = c.args.self.now.nodes.items in
       let queued = with_queue (lists_of n c.args.node) c.args.group (stream_of c.pass_last.new.nodes.items c.args.node c.args.group).queue (stream_of c.pass_last.new.nodes.items c.args.node c.args.group).room in
-      ap (λ (z : List (NodeLists g.row.R.Denot)). lists_of z v) c.pass_last.ensures.changed ∙ lists_other n c.args.node v queued other
+      ap (λ (z : List (NodeStreamsView g.row.R.Denot)). lists_of z v) c.pass_last.ensures.changed ∙ lists_other n c.args.node v queued other
 
   -- one more entry
   pushed_of : (c : After-push_reserved-next g) → length c.push_reserved-next.new.self.entries ≡ length c.args.self.now.entries.entries + 1
@@ -99,7 +99,7 @@ returns-in_err-top-clause-formed g c =
     let changed = c.pass_last.ensures.changed in
     let read = read_of g at.After-index o in
     let empty : (stream_of c.pass_last.new.nodes.items c.args.node c.args.group).queue ≡ [] = ap (λ n. (stream_at n c.args.group).queue) read ∙ no_top c.top.result (stream_at c.index.result.now c.args.group).queue c.in_err-top.was c.top.ensures.variant in
-    subst (λ (z : List (NodeLists g.row.R.Denot)). IsStreams g.R.Rank.KEYS g.R.Rank.key c.args.self.now.tree.now c.args.self.now.entries.entries z) (sym changed) (passed_ends p (stream_of c.pass_last.new.nodes.items c.args.node c.args.group).room empty)
+    subst (λ (z : List (NodeStreamsView g.row.R.Denot)). IsStreams g.R.Rank.KEYS g.R.Rank.key c.args.self.now.tree.now c.args.self.now.entries.entries z) (sym changed) (passed_ends p (stream_of c.pass_last.new.nodes.items c.args.node c.args.group).room empty)
 
 pub returns-in_err-top-clause-answer : goal.returns-in_err-top-clause-answer
 returns-in_err-top-clause-answer g c =
@@ -125,7 +125,7 @@ returns-clause-products g c =
     let at = goal.at.returns-clause-products g c in
     let o = top_of g at.After-as_slice in
     let changed = c.pass_last.ensures.changed in
-    ap (λ (z : List (NodeLists g.row.R.Denot)). (lists_of z c.args.node).products) changed ∙ queued_products g.R.Rank.KEYS g.R.Rank.key c.args.self.now.tree.now c.args.self.now.entries.entries c.args.self.now.entries.entries c.args.self.now.nodes.items c.requires.formed (held_itself c.args.self.now.entries.entries) c.args.node c.args.group o.node o.group (stream_of c.pass_last.new.nodes.items c.args.node c.args.group).queue (stream_of c.pass_last.new.nodes.items c.args.node c.args.group).room c.args.node
+    ap (λ (z : List (NodeStreamsView g.row.R.Denot)). (lists_of z c.args.node).products) changed ∙ queued_products g.R.Rank.KEYS g.R.Rank.key c.args.self.now.tree.now c.args.self.now.entries.entries c.args.self.now.entries.entries c.args.self.now.nodes.items c.requires.formed (held_itself c.args.self.now.entries.entries) c.args.node c.args.group o.node o.group (stream_of c.pass_last.new.nodes.items c.args.node c.args.group).queue (stream_of c.pass_last.new.nodes.items c.args.node c.args.group).room c.args.node
 
 pub returns-clause-store : goal.returns-clause-store
 returns-clause-store g c =
@@ -165,7 +165,7 @@ returns-clause-formed g c =
     let some = some_of g at.In_ok-top read in
     let first = first_is g at.In_ok-top read in
     let e = linked_of g at.After-set_next o in
-    subst (λ (z : List (NodeLists g.row.R.Denot)). IsStreams g.R.Rank.KEYS g.R.Rank.key c.args.self.now.tree.now c.set_next.new.self.entries z) (sym changed)
+    subst (λ (z : List (NodeStreamsView g.row.R.Denot)). IsStreams g.R.Rank.KEYS g.R.Rank.key c.args.self.now.tree.now c.set_next.new.self.entries z) (sym changed)
     (passed_grows p (stream_of c.pass_last.new.nodes.items c.args.node c.args.group).room c.set_next.new.self.entries c.in_ok-top.top (entry_held c.args.self.now.entries.entries c.set_next.new.self.entries e.store) e.owners e.linked e.others e.longer some first
     (subst (λ n. IsLeast g.R.Rank.KEYS g.R.Rank.key c.in_ok-top.top (stream_at n c.args.group).queue) (sym read) c.in_ok-top.ensures.least))
 
@@ -187,16 +187,16 @@ top-requires g c =
     let read = read_of g c o in
     let n = c.args.self.now.nodes.items in
     let queued = with_queue (lists_of n c.args.node) c.args.group (stream_of c.pass_last.new.nodes.items c.args.node c.args.group).queue (stream_of c.pass_last.new.nodes.items c.args.node c.args.group).room in
-    let streams = ap (λ (z : List (NodeLists g.row.R.Denot)). length (lists_of z c.args.node).streams) c.pass_last.ensures.changed ∙ ap (λ (m : NodeLists g.row.R.Denot). length m.streams) (lists_same n c.args.node queued o.in_nodes)
+    let streams = ap (λ (z : List (NodeStreamsView g.row.R.Denot)). length (lists_of z c.args.node).streams) c.pass_last.ensures.changed ∙ ap (λ (m : NodeStreamsView g.row.R.Denot). length m.streams) (lists_same n c.args.node queued o.in_nodes)
     ∙ set_length (lists_of n c.args.node).streams c.args.group (record (stream_of n c.args.node c.args.group) { queue = (stream_of c.pass_last.new.nodes.items c.args.node c.args.group).queue; room = (stream_of c.pass_last.new.nodes.items c.args.node c.args.group).room }) in
-    omega (arith, o.group, c.requires.formed.all_streams c.args.node o.node, streams, ap (λ (m : NodeLists g.row.R.Denot). length m.streams) read)
+    omega (arith, o.group, c.requires.formed.all_streams c.args.node o.node, streams, ap (λ (m : NodeStreamsView g.row.R.Denot). length m.streams) read)
 
 pub returns-in_err-top-clause-products : goal.returns-in_err-top-clause-products
 returns-in_err-top-clause-products g c =
     let at = goal.at.returns-in_err-top-clause-products g c in
     let o = top_of g at.After-as_slice in
     let changed = c.pass_last.ensures.changed in
-    ap (λ (z : List (NodeLists g.row.R.Denot)). (lists_of z c.args.node).products) changed ∙ queued_products g.R.Rank.KEYS g.R.Rank.key c.args.self.now.tree.now c.args.self.now.entries.entries c.args.self.now.entries.entries c.args.self.now.nodes.items c.requires.formed (held_itself c.args.self.now.entries.entries) c.args.node c.args.group o.node o.group (stream_of c.pass_last.new.nodes.items c.args.node c.args.group).queue (stream_of c.pass_last.new.nodes.items c.args.node c.args.group).room c.args.node
+    ap (λ (z : List (NodeStreamsView g.row.R.Denot)). (lists_of z c.args.node).products) changed ∙ queued_products g.R.Rank.KEYS g.R.Rank.key c.args.self.now.tree.now c.args.self.now.entries.entries c.args.self.now.entries.entries c.args.self.now.nodes.items c.requires.formed (held_itself c.args.self.now.entries.entries) c.args.node c.args.group o.node o.group (stream_of c.pass_last.new.nodes.items c.args.node c.args.group).queue (stream_of c.pass_last.new.nodes.items c.args.node c.args.group).room c.args.node
 
 pub pass_last-requires-clause-group : goal.pass_last-requires-clause-group
 pass_last-requires-clause-group g c =
@@ -205,7 +205,7 @@ pass_last-requires-clause-group g c =
 
 pub row_offer-offer-requires-clause-formed : goal.row_offer-offer-requires-clause-formed
 row_offer-offer-requires-clause-formed g c =
-    subst (λ (z : List (NodeLists g.row.R.Denot)). IsStreams g.R.Rank.KEYS g.R.Rank.key c.args.self.now.tree.now c.args.self.now.entries.entries z) (sym c.as_slice.ensures.value) c.requires.formed
+    subst (λ (z : List (NodeStreamsView g.row.R.Denot)). IsStreams g.R.Rank.KEYS g.R.Rank.key c.args.self.now.tree.now c.args.self.now.entries.entries z) (sym c.as_slice.ensures.value) c.requires.formed
 
 pub row_offer-offer-requires-clause-node : goal.row_offer-offer-requires-clause-node
 row_offer-offer-requires-clause-node g c =
@@ -213,7 +213,7 @@ row_offer-offer-requires-clause-node g c =
     (top_of g at.After-as_slice).node
 
 pub row_offer-offer-requires-clause-opened : goal.row_offer-offer-requires-clause-opened
-row_offer-offer-requires-clause-opened g c = ap (λ (z : List (NodeLists g.row.R.Denot)). length (products_of z c.args.node c.args.row)) c.as_slice.ensures.value ∙ c.requires.count
+row_offer-offer-requires-clause-opened g c = ap (λ (z : List (NodeStreamsView g.row.R.Denot)). length (products_of z c.args.node c.args.row)) c.as_slice.ensures.value ∙ c.requires.count
 
 pub pass_last-requires-clause-formed : goal.pass_last-requires-clause-formed
 pass_last-requires-clause-formed g c = c.requires.formed

@@ -1,12 +1,12 @@
 use Rattle.suffix_streams.proofs.Errors.{none_done}
 use Rattle.std.proofs.Common.{◌≡◌, ℕ, zero, suc, ◌+◌, ◌<◌, ◌≤◌, max, List, [], length, slice_set, get_or, refl, sym, ap, ◌∙◌, subst, arith}
 use Rattle.std.proofs.lemmas.List.{set-get_or}
-use Rattle.tdp_core.specs.TreeData.{child_count, members, rows}
-use Rattle.suffix_streams.specs.ProductData.{ProductData}
-use Rattle.suffix_streams.specs.StreamData.{StreamData}
+use Rattle.tdp_core.specs.TreeView.{child_count, members, rows}
+use Rattle.suffix_streams.specs.ProductView.{ProductView}
+use Rattle.suffix_streams.specs.StreamView.{StreamView}
 use Rattle.suffix_streams.specs.Firsts.{can_enter}
-use Rattle.suffix_streams.specs.NodeLists.{NodeLists, known_of, with_queue}
-use Rattle.suffix_streams.specs.StreamsData.{IsHeaded, IsStreams, AreFreshTo, lists_of, products_of, product_of, stream_of}
+use Rattle.suffix_streams.specs.NodeStreamsView.{NodeStreamsView, known_of, with_queue}
+use Rattle.suffix_streams.specs.TreeStreams.{IsHeaded, IsStreams, AreFreshTo, lists_of, products_of, product_of, stream_of}
 use Rattle.suffix_streams.proofs.Changes.{lists_same, lists_other}
 use Rattle.suffix_streams.proofs.Entries.{headed_of}
 use Rattle.suffix_streams.proofs.Heads.{lists_at}
@@ -25,26 +25,26 @@ room_of g c =
 
 -- the frontiers then
 room_queues : (g : Over) (c : After-make_queue_room g) (v r k : ℕ) → length (product_of c.make_queue_room.new.nodes.items v r k).frontier ≡ length (product_of c.args.self.now.nodes.items v r k).frontier
-room_queues g c v r k = ap (λ (ps : List (List (ProductData g.row.R.Denot))). length (get_or (get_or ps r []) k (record { found = []; ranks = []; frontier = []; room = 0; frontier_room = 0 })).frontier) ((room_of g c).products v)
+room_queues g c v r k = ap (λ (ps : List (List (ProductView g.row.R.Denot))). length (get_or (get_or ps r []) k (record { found = []; ranks = []; frontier = []; room = 0; frontier_room = 0 })).frontier) ((room_of g c).products v)
 
 -- the room in the queue, in terms of the tree
 roomy : (g : Over) (c : In_ok-make_queue_room g) → can_enter (length (members c.args.self.now.tree.now c.args.node c.args.group)) ≤ (stream_of c.make_queue_room.new.nodes.items c.args.node c.args.group).room
 roomy g c = subst (λ k. can_enter k ≤ (stream_of c.make_queue_room.new.nodes.items c.args.node c.args.group).room) c.group_len-members.ensures c.in_ok-make_queue_room.ensures.room
 
 -- of a row with a second known solution there are products
-products_of_second : {R : Type 0} (n : NodeLists R) (r k p : ℕ) → 0 < p → p < known_of n r k → 0 < k
+products_of_second : {R : Type 0} (n : NodeStreamsView R) (r k p : ℕ) → 0 < p → p < known_of n r k → 0 < k
 products_of_second n r zero p some known = omega (arith, some, known)
 products_of_second n r (suc k) p some known = omega arith
 
 -- new products leave the streams of a node
-streams_stay : {R : Type 0} (nodes : List (NodeLists R)) (v r : ℕ) (m n : NodeLists R) (ps : List (ProductData R)) → v < length nodes → m ≡ get_or nodes v m → n ≡ record m { products = slice_set m.products r ps }
+streams_stay : {R : Type 0} (nodes : List (NodeStreamsView R)) (v r : ℕ) (m n : NodeStreamsView R) (ps : List (ProductView R)) → v < length nodes → m ≡ get_or nodes v m → n ≡ record m { products = slice_set m.products r ps }
     → (lists_of (slice_set nodes v n) v).streams ≡ (lists_of nodes v).streams
 streams_stay nodes v r m n ps l at e = ap (λ z. z.streams) (lists_same nodes v n l ∙ e) ∙ ap (λ z. z.streams) (sym (lists_at nodes v m at l))
 
 pub made_products-requires-clause-headed : goal.made_products-requires-clause-headed
 made_products-requires-clause-headed g c =
     let at = goal.at.made_products-requires-clause-headed g c in
-    subst (λ (z : List (NodeLists g.row.R.Denot)). IsHeaded g.R.Rank.KEYS g.R.Rank.key c.args.self.now.tree.now c.args.self.now.entries.entries z c.args.node c.args.row) (sym c.as_slice.ensures.value)
+    subst (λ (z : List (NodeStreamsView g.row.R.Denot)). IsHeaded g.R.Rank.KEYS g.R.Rank.key c.args.self.now.tree.now c.args.self.now.entries.entries z c.args.node c.args.row) (sym c.as_slice.ensures.value)
     (headed_of g.R.Rank.KEYS g.R.Rank.key c.args.self.now.tree.now c.args.self.now.entries.entries c.make_queue_room.new.nodes.items (room_of g at.After-make_queue_room).formed c.args.node c.args.row c.requires.node c.requires.row)
 
 pub returns-in_ok-set_products-clause-formed : goal.returns-in_ok-set_products-clause-formed
@@ -52,8 +52,8 @@ returns-in_ok-set_products-clause-formed g c =
     let at = goal.at.returns-in_ok-set_products-clause-formed g c in
     let inside : c.args.node < length c.make_queue_room.new.nodes.items = omega (arith, (room_of g at.After-make_queue_room).formed.all_nodes, c.requires.node) in
     let few = row_lacks g.R.Rank.KEYS g.R.Rank.key c.args.self.now.tree.now c.args.self.now.entries.entries c.make_queue_room.new.nodes.items (room_of g at.After-make_queue_room).formed c.args.node c.args.row c.requires.node c.requires.row c.index-lists.result.now c.index-lists.ensures c.product_count.result c.child_count.result c.product_count.ensures c.child_count.ensures c.if-product_count-child_count.true in
-    let fresh = subst (λ (z : List (NodeLists g.row.R.Denot)). AreFreshTo g.R.Rank.KEYS g.R.Rank.key c.args.self.now.tree.now z c.args.node c.args.row (child_count c.args.self.now.tree.now c.args.node) c.in_ok-products.products.items) c.as_slice.ensures.value c.in_ok-products.ensures.fresh in
-    subst (λ (z : List (NodeLists g.row.R.Denot)). IsStreams g.R.Rank.KEYS g.R.Rank.key c.args.self.now.tree.now c.args.self.now.entries.entries z)
+    let fresh = subst (λ (z : List (NodeStreamsView g.row.R.Denot)). AreFreshTo g.R.Rank.KEYS g.R.Rank.key c.args.self.now.tree.now z c.args.node c.args.row (child_count c.args.self.now.tree.now c.args.node) c.in_ok-products.products.items) c.as_slice.ensures.value c.in_ok-products.ensures.fresh in
+    subst (λ (z : List (NodeStreamsView g.row.R.Denot)). IsStreams g.R.Rank.KEYS g.R.Rank.key c.args.self.now.tree.now c.args.self.now.entries.entries z)
     (sym (opened_is c.make_queue_room.new.nodes.items c.args.node c.args.row c.index_mut.result.now c.set_products.new.self c.in_ok-products.products.items inside c.index_mut.ensures.value c.in_ok-set_products.ensures.set))
     (row_opened g.R.Rank.KEYS g.R.Rank.key c.args.self.now.tree.now c.args.self.now.entries.entries c.make_queue_room.new.nodes.items (room_of g at.After-make_queue_room).formed c.requires.tie_free c.args.node c.args.row c.requires.node c.requires.row c.in_ok-products.products.items fresh few.0 few.1)
 
@@ -62,8 +62,8 @@ returns-in_ok-set_products-clause-count g c =
     let at = goal.at.returns-in_ok-set_products-clause-count g c in
     let inside : c.args.node < length c.make_queue_room.new.nodes.items = omega (arith, (room_of g at.After-make_queue_room).formed.all_nodes, c.requires.node) in
     let few = row_lacks g.R.Rank.KEYS g.R.Rank.key c.args.self.now.tree.now c.args.self.now.entries.entries c.make_queue_room.new.nodes.items (room_of g at.After-make_queue_room).formed c.args.node c.args.row c.requires.node c.requires.row c.index-lists.result.now c.index-lists.ensures c.product_count.result c.child_count.result c.product_count.ensures c.child_count.ensures c.if-product_count-child_count.true in
-    let fresh = subst (λ (z : List (NodeLists g.row.R.Denot)). AreFreshTo g.R.Rank.KEYS g.R.Rank.key c.args.self.now.tree.now z c.args.node c.args.row (child_count c.args.self.now.tree.now c.args.node) c.in_ok-products.products.items) c.as_slice.ensures.value c.in_ok-products.ensures.fresh in
-    ap (λ (z : List (NodeLists g.row.R.Denot)). length (products_of z c.args.node c.args.row))
+    let fresh = subst (λ (z : List (NodeStreamsView g.row.R.Denot)). AreFreshTo g.R.Rank.KEYS g.R.Rank.key c.args.self.now.tree.now z c.args.node c.args.row (child_count c.args.self.now.tree.now c.args.node) c.in_ok-products.products.items) c.as_slice.ensures.value c.in_ok-products.ensures.fresh in
+    ap (λ (z : List (NodeStreamsView g.row.R.Denot)). length (products_of z c.args.node c.args.row))
     (opened_is c.make_queue_room.new.nodes.items c.args.node c.args.row c.index_mut.result.now c.set_products.new.self c.in_ok-products.products.items inside c.index_mut.ensures.value c.in_ok-set_products.ensures.set)
     ∙ ap length (opened_row g.R.Rank.KEYS g.R.Rank.key c.args.self.now.tree.now c.args.self.now.entries.entries c.make_queue_room.new.nodes.items (room_of g at.After-make_queue_room).formed c.requires.tie_free c.args.node c.args.row c.requires.node c.requires.row c.in_ok-products.products.items fresh few.0 few.1)
     ∙ fresh.count
@@ -73,9 +73,9 @@ returns-in_ok-set_products-clause-queues g c =
     let at = goal.at.returns-in_ok-set_products-clause-queues g c in
     let inside : c.args.node < length c.make_queue_room.new.nodes.items = omega (arith, (room_of g at.After-make_queue_room).formed.all_nodes, c.requires.node) in
     let few = row_lacks g.R.Rank.KEYS g.R.Rank.key c.args.self.now.tree.now c.args.self.now.entries.entries c.make_queue_room.new.nodes.items (room_of g at.After-make_queue_room).formed c.args.node c.args.row c.requires.node c.requires.row c.index-lists.result.now c.index-lists.ensures c.product_count.result c.child_count.result c.product_count.ensures c.child_count.ensures c.if-product_count-child_count.true in
-    let fresh = subst (λ (z : List (NodeLists g.row.R.Denot)). AreFreshTo g.R.Rank.KEYS g.R.Rank.key c.args.self.now.tree.now z c.args.node c.args.row (child_count c.args.self.now.tree.now c.args.node) c.in_ok-products.products.items) c.as_slice.ensures.value c.in_ok-products.ensures.fresh in
+    let fresh = subst (λ (z : List (NodeStreamsView g.row.R.Denot)). AreFreshTo g.R.Rank.KEYS g.R.Rank.key c.args.self.now.tree.now z c.args.node c.args.row (child_count c.args.self.now.tree.now c.args.node) c.in_ok-products.products.items) c.as_slice.ensures.value c.in_ok-products.ensures.fresh in
     λ v r k. subst (λ q. length (product_of (slice_set c.make_queue_room.new.nodes.items c.args.node c.set_products.new.self) v r k).frontier ≤ max 1 q + 0) (room_queues g at.After-make_queue_room v r k) (
-    subst (λ (z : List (NodeLists g.row.R.Denot)). (v r k : ℕ) → length (product_of z v r k).frontier ≤ max 1 (length (product_of c.make_queue_room.new.nodes.items v r k).frontier) + 0)
+    subst (λ (z : List (NodeStreamsView g.row.R.Denot)). (v r k : ℕ) → length (product_of z v r k).frontier ≤ max 1 (length (product_of c.make_queue_room.new.nodes.items v r k).frontier) + 0)
     (sym (opened_is c.make_queue_room.new.nodes.items c.args.node c.args.row c.index_mut.result.now c.set_products.new.self c.in_ok-products.products.items inside c.index_mut.ensures.value c.in_ok-set_products.ensures.set))
     (opened_queues g.R.Rank.KEYS g.R.Rank.key c.args.self.now.tree.now c.args.self.now.entries.entries c.make_queue_room.new.nodes.items (room_of g at.After-make_queue_room).formed c.requires.tie_free c.args.node c.args.row c.requires.node c.requires.row c.in_ok-products.products.items fresh few.0 few.1) v r k)
 
@@ -114,12 +114,12 @@ refused g c same = put_back c.make_queue_room.new.nodes.items c.args.node c.inde
 pub returns-in_err-set_products-clause-formed : goal.returns-in_err-set_products-clause-formed
 returns-in_err-set_products-clause-formed g c =
     let at = goal.at.returns-in_err-set_products-clause-formed g c in
-    subst (λ (z : List (NodeLists g.row.R.Denot)). IsStreams g.R.Rank.KEYS g.R.Rank.key c.args.self.now.tree.now c.args.self.now.entries.entries z) (sym (refused g at.After-set_products c.in_err-set_products.ensures.refused)) (room_of g at.After-make_queue_room).formed
+    subst (λ (z : List (NodeStreamsView g.row.R.Denot)). IsStreams g.R.Rank.KEYS g.R.Rank.key c.args.self.now.tree.now c.args.self.now.entries.entries z) (sym (refused g at.After-set_products c.in_err-set_products.ensures.refused)) (room_of g at.After-make_queue_room).formed
 
 pub returns-in_err-set_products-clause-queues : goal.returns-in_err-set_products-clause-queues
 returns-in_err-set_products-clause-queues g c v r k =
     let at = goal.at.returns-in_err-set_products-clause-queues g c in
-    subst (λ (z : List (NodeLists g.row.R.Denot)). length (product_of z v r k).frontier ≤ max 1 (length (product_of c.args.self.now.nodes.items v r k).frontier) + 0) (sym (refused g at.After-set_products c.in_err-set_products.ensures.refused))
+    subst (λ (z : List (NodeStreamsView g.row.R.Denot)). length (product_of z v r k).frontier ≤ max 1 (length (product_of c.args.self.now.nodes.items v r k).frontier) + 0) (sym (refused g at.After-set_products c.in_err-set_products.ensures.refused))
     (omega (arith, room_queues g at.After-make_queue_room v r k))
 
 pub returns-else-product_count-child_count-clause-formed : goal.returns-else-product_count-child_count-clause-formed
@@ -259,12 +259,12 @@ returns-in_err-set_products-clause-above g c =
 pub returns-in_err-set_products-clause-streams : goal.returns-in_err-set_products-clause-streams
 returns-in_err-set_products-clause-streams g c =
     let at = goal.at.returns-in_err-set_products-clause-streams g c in
-    subst (λ (z : List (NodeLists g.row.R.Denot)). (lists_of z c.args.node).streams ≡ (with_queue (lists_of c.args.self.now.nodes.items c.args.node) c.args.group (stream_of c.args.self.now.nodes.items c.args.node c.args.group).queue (stream_of z c.args.node c.args.group).room).streams) (sym (refused g at.After-set_products c.in_err-set_products.ensures.refused)) (room_of g at.After-make_queue_room).streams
+    subst (λ (z : List (NodeStreamsView g.row.R.Denot)). (lists_of z c.args.node).streams ≡ (with_queue (lists_of c.args.self.now.nodes.items c.args.node) c.args.group (stream_of c.args.self.now.nodes.items c.args.node c.args.group).queue (stream_of z c.args.node c.args.group).room).streams) (sym (refused g at.After-set_products c.in_err-set_products.ensures.refused)) (room_of g at.After-make_queue_room).streams
 
 pub returns-in_err-set_products-clause-room : goal.returns-in_err-set_products-clause-room
 returns-in_err-set_products-clause-room g c =
     let at = goal.at.returns-in_err-set_products-clause-room g c in
-    on_ok c.from_residual-in_err-set_products.result (λ none. subst (λ (z : List (NodeLists g.row.R.Denot)). can_enter (length (members c.args.self.now.tree.now c.args.node c.args.group)) ≤ (stream_of z c.args.node c.args.group).room) (sym (refused g at.After-set_products c.in_err-set_products.ensures.refused)) (roomy g at.In_ok-make_queue_room))
+    on_ok c.from_residual-in_err-set_products.result (λ none. subst (λ (z : List (NodeStreamsView g.row.R.Denot)). can_enter (length (members c.args.self.now.tree.now c.args.node c.args.group)) ≤ (stream_of z c.args.node c.args.group).room) (sym (refused g at.After-set_products c.in_err-set_products.ensures.refused)) (roomy g at.In_ok-make_queue_room))
 
 pub returns-in_err-set_products-clause-cost : goal.returns-in_err-set_products-clause-cost
 returns-in_err-set_products-clause-cost g c =
@@ -281,14 +281,14 @@ returns-in_ok-set_products-clause-streams g c =
     let inside : c.args.node < length c.make_queue_room.new.nodes.items = omega (arith, (room_of g at.After-make_queue_room).formed.all_nodes, c.requires.node) in
     let stay = streams_stay c.make_queue_room.new.nodes.items c.args.node c.args.row c.index_mut.result.now c.set_products.new.self c.in_ok-products.products.items inside c.index_mut.ensures.value c.in_ok-set_products.ensures.set in
     stay ∙ (room_of g at.After-make_queue_room).streams
-    ∙ ap (λ (z : List (StreamData g.row.R.Denot)). (with_queue (lists_of c.args.self.now.nodes.items c.args.node) c.args.group (stream_of c.args.self.now.nodes.items c.args.node c.args.group).queue (get_or z c.args.group (record { head = 0; queue = []; room = 0 })).room).streams) (sym stay)
+    ∙ ap (λ (z : List (StreamView g.row.R.Denot)). (with_queue (lists_of c.args.self.now.nodes.items c.args.node) c.args.group (stream_of c.args.self.now.nodes.items c.args.node c.args.group).queue (get_or z c.args.group (record { head = 0; queue = []; room = 0 })).room).streams) (sym stay)
 
 pub returns-in_ok-set_products-clause-room : goal.returns-in_ok-set_products-clause-room
 returns-in_ok-set_products-clause-room g c =
     let at = goal.at.returns-in_ok-set_products-clause-room g c in
     let inside : c.args.node < length c.make_queue_room.new.nodes.items = omega (arith, (room_of g at.After-make_queue_room).formed.all_nodes, c.requires.node) in
     let stay = streams_stay c.make_queue_room.new.nodes.items c.args.node c.args.row c.index_mut.result.now c.set_products.new.self c.in_ok-products.products.items inside c.index_mut.ensures.value c.in_ok-set_products.ensures.set in
-    λ none. subst (λ (z : List (StreamData g.row.R.Denot)). can_enter (length (members c.args.self.now.tree.now c.args.node c.args.group)) ≤ (get_or z c.args.group (record { head = 0; queue = []; room = 0 })).room) (sym stay) (roomy g at.In_ok-make_queue_room)
+    λ none. subst (λ (z : List (StreamView g.row.R.Denot)). can_enter (length (members c.args.self.now.tree.now c.args.node c.args.group)) ≤ (get_or z c.args.group (record { head = 0; queue = []; room = 0 })).room) (sym stay) (roomy g at.In_ok-make_queue_room)
 
 pub returns-in_ok-set_products-clause-cost : goal.returns-in_ok-set_products-clause-cost
 returns-in_ok-set_products-clause-cost g c =

@@ -1,8 +1,8 @@
 use Rattle.std.proofs.Common.{◌≡◌, ◌<◌, List, [], length, get_or, sym, ap, ◌∙◌, subst, arith}
-use Rattle.tdp_core.specs.TreeData.{group_named}
-use Rattle.suffix_streams.specs.NodeLists.{NodeLists, product_at}
+use Rattle.tdp_core.specs.TreeView.{group_named}
+use Rattle.suffix_streams.specs.NodeStreamsView.{NodeStreamsView, product_at}
 use Rattle.suffix_streams.specs.Rankings.{child}
-use Rattle.suffix_streams.specs.StreamsData.{IsHeaded, products_of, stream_of}
+use Rattle.suffix_streams.specs.TreeStreams.{IsHeaded, products_of, stream_of}
 use Rattle.suffix_streams.proofs.Entries.{headed_of}
 use Rattle.suffix_streams.proofs.Heads.{lists_at}
 use Rattle.suffix_streams.proofs.PartRows.{first_cell, product_cell}
@@ -10,7 +10,7 @@ use Rattle.suffix_streams.proofs.solutions.Solutions.part_cell.Goals as goal
 
 pub child_head-right-requires-clause-headed : goal.child_head-right-requires-clause-headed
 child_head-right-requires-clause-headed g c =
-    subst (λ (z : List (NodeLists g.row.R.Denot)). IsHeaded g.R.Rank.KEYS g.R.Rank.key c.args.self.now.tree.now c.args.self.now.entries.entries z c.args.node c.args.row) (sym c.as_slice.ensures.value)
+    subst (λ (z : List (NodeStreamsView g.row.R.Denot)). IsHeaded g.R.Rank.KEYS g.R.Rank.key c.args.self.now.tree.now c.args.self.now.entries.entries z c.args.node c.args.row) (sym c.as_slice.ensures.value)
     (headed_of g.R.Rank.KEYS g.R.Rank.key c.args.self.now.tree.now c.args.self.now.entries.entries c.args.self.now.nodes.items c.requires.formed c.args.node c.args.row c.requires.node c.requires.row)
 
 pub returns-then-product_count-eq0-clause-sum : goal.returns-then-product_count-eq0-clause-sum
@@ -20,7 +20,7 @@ returns-then-product_count-eq0-clause-sum g c =
     let lists = lists_at n c.args.node c.index-lists.result.now c.index-lists.ensures inside in
     let none : length (products_of n c.args.node c.args.row) ≡ 0 = omega (arith, c.product_count.ensures, ap (λ m. length (get_or m.products c.args.row [])) lists, c.if-product_count-eq0.true) in
     first_cell g.R.Rank.KEYS g.R.Rank.key c.args.self.now.tree.now c.args.self.now.entries.entries n c.requires.formed c.requires.tie_free c.args.node c.args.row c.args.child c.args.place c.child_head-right.result c.requires.node c.requires.row c.requires.child none c.requires.place
-    (c.child_head-right.ensures.head ∙ ap (λ (z : List (NodeLists g.row.R.Denot)). (stream_of z (child c.args.self.now.tree.now c.args.node c.args.child) (group_named c.args.self.now.tree.now c.args.node c.args.row c.args.child)).head) c.as_slice.ensures.value)
+    (c.child_head-right.ensures.head ∙ ap (λ (z : List (NodeStreamsView g.row.R.Denot)). (stream_of z (child c.args.self.now.tree.now c.args.node c.args.child) (group_named c.args.self.now.tree.now c.args.node c.args.row c.args.child)).head) c.as_slice.ensures.value)
 
 pub returns-else-product_count-eq0-clause-sum : goal.returns-else-product_count-eq0-clause-sum
 returns-else-product_count-eq0-clause-sum g c =

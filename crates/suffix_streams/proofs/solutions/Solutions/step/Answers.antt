@@ -5,9 +5,9 @@ use Rattle.std.specs.List.{All}
 use Rattle.rank_key.specs.Bits.{bit_length}
 use Rattle.take2_heap.specs.Order.{IsLeast}
 use Rattle.stream_cells.specs.declared.cell.Cell.{Cell}
-use Rattle.suffix_streams.specs.NodeLists.{NodeLists, product_at, known_of, with_product}
-use Rattle.suffix_streams.specs.StreamsData.{HasParts, IsCell, IsStreams, pair_of, node_of, group_of, lists_of, product_of, part_known}
-use Rattle.tdp_core.specs.TreeData.{group_named}
+use Rattle.suffix_streams.specs.NodeStreamsView.{NodeStreamsView, product_at, known_of, with_product}
+use Rattle.suffix_streams.specs.TreeStreams.{HasParts, IsCell, IsStreams, pair_of, node_of, group_of, lists_of, product_of, part_known}
+use Rattle.tdp_core.specs.TreeView.{group_named}
 use Rattle.rank_key.proofs.BitLemmas.{bit_length_rises}
 use Rattle.suffix_streams.specs.Rankings.{child, part_list, group_list}
 use Rattle.suffix_streams.specs.Frontiers.{IsFrontier}
@@ -47,7 +47,7 @@ module _ (g : Over) where
   read_of c a = c.index-2.ensures ∙ get_or-set_same c.args.self.now.nodes.items c.args.node c.pass_product.new.self c.index-2.result.now a.in_nodes
 
   -- the product is there in what the node then is
-  child_of : (c : After-pass_product g) → IsProductPassed g.R.Rank.KEYS g.R.Rank.key c.args.self.now.tree.now c.args.self.now.entries.entries c.args.self.now.nodes.items c.args.node c.args.row c.args.child (product_at c.pass_product.new.self c.args.row c.args.child) → (n : NodeLists g.row.R.Denot) → n ≡ get_or (slice_set c.args.self.now.nodes.items c.args.node c.pass_product.new.self) c.args.node n → c.args.child < length (get_or n.products c.args.row [])
+  child_of : (c : After-pass_product g) → IsProductPassed g.R.Rank.KEYS g.R.Rank.key c.args.self.now.tree.now c.args.self.now.entries.entries c.args.self.now.nodes.items c.args.node c.args.row c.args.child (product_at c.pass_product.new.self c.args.row c.args.child) → (n : NodeStreamsView g.row.R.Denot) → n ≡ get_or (slice_set c.args.self.now.nodes.items c.args.node c.pass_product.new.self) c.args.node n → c.args.child < length (get_or n.products c.args.row [])
   child_of c a n read =
       let lists = read ∙ get_or-set_same c.args.self.now.nodes.items c.args.node c.pass_product.new.self n a.in_nodes ∙ c.pass_product.ensures.changed ∙ ap (λ n. with_product n c.args.row c.args.child (product_at c.pass_product.new.self c.args.row c.args.child)) (sym (lists_at c.args.self.now.nodes.items c.args.node c.index_mut.result.now c.index_mut.ensures.value a.in_nodes)) in
       subst (λ n. c.args.child < length (get_or n.products c.args.row [])) (sym lists) (omega (arith, c.requires.child, counts_kept (lists_of c.args.self.now.nodes.items c.args.node) c.args.row c.args.child (product_at c.pass_product.new.self c.args.row c.args.child) a.in_rows c.requires.child c.args.row))
@@ -57,11 +57,11 @@ module _ (g : Over) where
       sum_kept a c.in-Some.top c.index_mut.result.now c.index_mut-2.result.now c.pass_product.new.self c.keep.new.self refl c.requires.formed c.requires.node c.requires.row c.requires.child c.index_mut.ensures.value c.pass_product.ensures.changed c.index_mut-2.ensures.value c.keep.ensures.changed c.keep.ensures.found c.keep.ensures.ranks c.keep.ensures.frontier
 
 pub offered-down-requires-clause-parts : goal.offered-down-requires-clause-parts
-offered-down-requires-clause-parts g c = subst (λ (z : List (NodeLists g.row.R.Denot)). HasParts g.R.Rank.KEYS g.R.Rank.key c.args.self.now.tree.now c.args.self.now.entries.entries z c.args.node c.args.row c.args.child) (sym c.as_slice.ensures.value) (parts_of g.R.Rank.KEYS g.R.Rank.key c.args.self.now.tree.now c.args.self.now.entries.entries c.args.self.now.nodes.items c.requires.formed c.args.node c.args.row c.args.child c.requires.node c.requires.row c.requires.child)
+offered-down-requires-clause-parts g c = subst (λ (z : List (NodeStreamsView g.row.R.Denot)). HasParts g.R.Rank.KEYS g.R.Rank.key c.args.self.now.tree.now c.args.self.now.entries.entries z c.args.node c.args.row c.args.child) (sym c.as_slice.ensures.value) (parts_of g.R.Rank.KEYS g.R.Rank.key c.args.self.now.tree.now c.args.self.now.entries.entries c.args.self.now.nodes.items c.requires.formed c.args.node c.args.row c.args.child c.requires.node c.requires.row c.requires.child)
 
 pub offered-down-requires-clause-cell : goal.offered-down-requires-clause-cell
 offered-down-requires-clause-cell g c =
-    subst (λ (z : List (NodeLists g.row.R.Denot)). IfSome c.down_cell-down.result (IsCell g.R.Rank.KEYS g.R.Rank.key c.args.self.now.tree.now c.args.self.now.entries.entries z c.args.node c.args.row c.args.child)) (sym c.as_slice.ensures.value)
+    subst (λ (z : List (NodeStreamsView g.row.R.Denot)). IfSome c.down_cell-down.result (IsCell g.R.Rank.KEYS g.R.Rank.key c.args.self.now.tree.now c.args.self.now.entries.entries z c.args.node c.args.row c.args.child)) (sym c.as_slice.ensures.value)
     (subst (λ (o : Option Cell). IfSome o (IsCell g.R.Rank.KEYS g.R.Rank.key c.args.self.now.tree.now c.args.self.now.entries.entries c.args.self.now.nodes.items c.args.node c.args.row c.args.child)) (sym c.down_cell-down.ensures) (down_cell_known g.R.Rank.KEYS g.R.Rank.key c.args.self.now.tree.now c.args.self.now.entries.entries c.args.self.now.nodes.items c.requires.formed c.args.node c.args.row c.args.child c.requires.node c.requires.row c.requires.child c.args.cell.now c.requires.top c.requires.cell c.args.below c.requires.below))
 
 pub across_cell-across-requires : goal.across_cell-across-requires
@@ -71,14 +71,14 @@ across_cell-across-requires g c =
     omega (arith, known, (cell_known g.R.Rank.KEYS g.R.Rank.key c.args.self.now.tree.now c.args.self.now.entries.entries c.args.self.now.nodes.items c.requires.formed c.args.node c.args.row c.args.child c.requires.node c.requires.row c.requires.child c.args.cell.now c.requires.top c.requires.cell).left)
 
 pub offered-across-requires-clause-parts : goal.offered-across-requires-clause-parts
-offered-across-requires-clause-parts g c = subst (λ (z : List (NodeLists g.row.R.Denot)). HasParts g.R.Rank.KEYS g.R.Rank.key c.args.self.now.tree.now c.args.self.now.entries.entries z c.args.node c.args.row c.args.child) (sym c.as_slice-2.ensures.value) (parts_of g.R.Rank.KEYS g.R.Rank.key c.args.self.now.tree.now c.args.self.now.entries.entries c.args.self.now.nodes.items c.requires.formed c.args.node c.args.row c.args.child c.requires.node c.requires.row c.requires.child)
+offered-across-requires-clause-parts g c = subst (λ (z : List (NodeStreamsView g.row.R.Denot)). HasParts g.R.Rank.KEYS g.R.Rank.key c.args.self.now.tree.now c.args.self.now.entries.entries z c.args.node c.args.row c.args.child) (sym c.as_slice-2.ensures.value) (parts_of g.R.Rank.KEYS g.R.Rank.key c.args.self.now.tree.now c.args.self.now.entries.entries c.args.self.now.nodes.items c.requires.formed c.args.node c.args.row c.args.child c.requires.node c.requires.row c.requires.child)
 
 pub offered-across-requires-clause-cell : goal.offered-across-requires-clause-cell
 offered-across-requires-clause-cell g c =
     let at = goal.at.offered-across-requires-clause-cell g c in
     let known = known_is g at.After-known-known in
     let beside = subst (λ k. MatchOption c.across_cell-across.result (c.args.cell.now.right ≡ c.args.head → k ≤ c.args.cell.now.left + 1) (λ x. (c.args.cell.now.right ≡ c.args.head) × (c.args.cell.now.left + 1 < k) × (x ≡ record { left = c.args.cell.now.left + 1; right = c.args.head }))) known c.across_cell-across.ensures in
-    subst (λ (z : List (NodeLists g.row.R.Denot)). IfSome c.across_cell-across.result (IsCell g.R.Rank.KEYS g.R.Rank.key c.args.self.now.tree.now c.args.self.now.entries.entries z c.args.node c.args.row c.args.child)) (sym c.as_slice-2.ensures.value)
+    subst (λ (z : List (NodeStreamsView g.row.R.Denot)). IfSome c.across_cell-across.result (IsCell g.R.Rank.KEYS g.R.Rank.key c.args.self.now.tree.now c.args.self.now.entries.entries z c.args.node c.args.row c.args.child)) (sym c.as_slice-2.ensures.value)
     (beside_cell_known g.R.Rank.KEYS g.R.Rank.key c.args.self.now.tree.now c.args.self.now.entries.entries c.args.self.now.nodes.items c.requires.formed c.args.node c.args.row c.args.child c.requires.node c.requires.row c.requires.child c.args.cell.now c.requires.top c.requires.cell c.args.head c.requires.head c.across_cell-across.result beside)
 
 pub pass_product-requires-clause-room : goal.pass_product-requires-clause-room
@@ -111,7 +111,7 @@ returns-in_default-clause-formed g c =
     let changed = changed_of g at.After-pass_product a in
     let read = read_of g at.After-product_top a in
     let empty : (product_at c.pass_product.new.self c.args.row c.args.child).frontier ≡ [] = ap (λ n. (product_at n c.args.row c.args.child).frontier) (sym read) ∙ no_top c.product_top.result (product_at c.index-2.result.now c.args.row c.args.child).frontier c.in_default.is c.product_top.ensures.variant in
-    subst (λ (z : List (NodeLists g.row.R.Denot)). IsStreams g.R.Rank.KEYS g.R.Rank.key c.args.self.now.tree.now c.args.self.now.entries.entries z) (sym changed) (product_ends a empty)
+    subst (λ (z : List (NodeStreamsView g.row.R.Denot)). IsStreams g.R.Rank.KEYS g.R.Rank.key c.args.self.now.tree.now c.args.self.now.entries.entries z) (sym changed) (product_ends a empty)
 
 pub returns-in_default-clause-reached : goal.returns-in_default-clause-reached
 returns-in_default-clause-reached g c =
@@ -143,7 +143,7 @@ returns-clause-formed g c =
     let some : 0 < length (product_at c.pass_product.new.self c.args.row c.args.child).frontier = subst (λ n. 0 < length (product_at n c.args.row c.args.child).frontier) read (c.in-Some.ensures.variant.0 refl) in
     let first : c.in-Some.top ≡ get_or (product_at c.pass_product.new.self c.args.row c.args.child).frontier 0 c.in-Some.top = c.in-Some.ensures.top c.in-Some.top ∙ ap (λ n. get_or (product_at n c.args.row c.args.child).frontier 0 c.in-Some.top) read in
     let least : IsLeast g.R.Rank.KEYS g.R.Rank.key c.in-Some.top (product_at c.pass_product.new.self c.args.row c.args.child).frontier = subst (λ n. IsLeast g.R.Rank.KEYS g.R.Rank.key c.in-Some.top (product_at n c.args.row c.args.child).frontier) read c.in-Some.ensures.least in
-    subst (λ (z : List (NodeLists g.row.R.Denot)). IsStreams g.R.Rank.KEYS g.R.Rank.key c.args.self.now.tree.now c.args.self.now.entries.entries z) (sym k.changed)
+    subst (λ (z : List (NodeStreamsView g.row.R.Denot)). IsStreams g.R.Rank.KEYS g.R.Rank.key c.args.self.now.tree.now c.args.self.now.entries.entries z) (sym k.changed)
     (a.holds (product_at c.keep.new.self c.args.row c.args.child) k.frontier (subst (λ n. length (product_at n c.args.row c.args.child).frontier < 2 ^ 64) read c.in-Some.ensures.limit) k.rises (subst (All (λ (x : Cell). (x.left < part_known c.args.self.now.nodes.items c.args.node c.args.row c.args.child) × (x.right < length c.args.self.now.entries.entries) × (node_of c.args.self.now.entries.entries x.right ≡ child c.args.self.now.tree.now c.args.node c.args.child) × (group_of c.args.self.now.entries.entries x.right ≡ group_named c.args.self.now.tree.now c.args.node c.args.row c.args.child))) (sym k.found) (a.next_known c.in-Some.top some first))
     (subst (λ f. IsFrontier g.R.Rank.KEYS g.R.Rank.key (pair_of c.args.self.now.entries.entries) (part_list g.R.Rank.KEYS g.R.Rank.key c.args.self.now.tree.now c.args.node c.args.row c.args.child) (group_list g.R.Rank.KEYS g.R.Rank.key c.args.self.now.tree.now (child c.args.self.now.tree.now c.args.node c.args.child) (group_named c.args.self.now.tree.now c.args.node c.args.row c.args.child)) (part_list g.R.Rank.KEYS g.R.Rank.key c.args.self.now.tree.now c.args.node c.args.row (suc c.args.child)) f (product_at c.pass_product.new.self c.args.row c.args.child).frontier) (sym k.found)
     (a.grows c.in-Some.top some first least))
@@ -244,7 +244,7 @@ returns-in_default-clause-changed g c =
     let at = goal.at.returns-in_default-clause-changed g c in
     let n = c.args.self.now.nodes.items in
     let a = passed_of g at.After-pass_product in
-    let product = ap (λ (m : NodeLists g.row.R.Denot). product_at m c.args.row c.args.child) (lists_same n c.args.node c.pass_product.new.self a.in_nodes) in
+    let product = ap (λ (m : NodeStreamsView g.row.R.Denot). product_at m c.args.row c.args.child) (lists_same n c.args.node c.pass_product.new.self a.in_nodes) in
     changed_of g at.After-pass_product a ∙ ap (λ z. slice_set n c.args.node (with_product (lists_of n c.args.node) c.args.row c.args.child z)) (sym product)
 
 pub keep-requires-clause-room : goal.keep-requires-clause-room
@@ -256,8 +256,8 @@ keep-requires-clause-room g c =
       arith,
       c.requires.room,
       c.pass_product.ensures.found_room,
-      ap (λ (m : NodeLists g.row.R.Denot). (product_at m c.args.row c.args.child).room) read,
-      ap (λ (m : NodeLists g.row.R.Denot). (product_at m c.args.row c.args.child).room) (lists_at n c.args.node c.index_mut.result.now c.index_mut.ensures.value inside),
+      ap (λ (m : NodeStreamsView g.row.R.Denot). (product_at m c.args.row c.args.child).room) read,
+      ap (λ (m : NodeStreamsView g.row.R.Denot). (product_at m c.args.row c.args.child).room) (lists_at n c.args.node c.index_mut.result.now c.index_mut.ensures.value inside),
     )
 
 pub returns-clause-tree : goal.returns-clause-tree

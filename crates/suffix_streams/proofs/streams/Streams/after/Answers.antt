@@ -1,8 +1,8 @@
 use Rattle.std.proofs.Common.{◌≡◌, ◌+◌, ◌*◌, ◌<◌, ◌≤◌, Result, Ok, Err, IfOk, length, sym, ap, subst, arith}
 use Rattle.rank_key.specs.Bits.{bit_length}
-use Rattle.tdp_core.specs.TreeData.{parent, row_count}
+use Rattle.tdp_core.specs.TreeView.{parent, row_count}
 use Rattle.tdp_core.specs.WellFormed.{IsFormed, IsTieFreeTree}
-use Rattle.suffix_streams.specs.StreamsData.{node_of, group_of, node_size, IsStreams}
+use Rattle.suffix_streams.specs.TreeStreams.{node_of, group_of, node_size, IsStreams}
 use Rattle.suffix_streams.specs.Growing.{IsAnswered}
 use Rattle.suffix_streams.specs.StreamsView.{StreamsView, size_of_node}
 use Rattle.suffix_streams.proofs.ViewPrefixes.{all_prefixes}

@@ -1,6 +1,6 @@
 use Rattle.std.proofs.Common.{◌≡◌, ◌<◌, length, get_or, sym, ap, subst, arith}
-use Rattle.tdp_core.specs.SeenAnswers.{rows_of_key}
-use Rattle.suffix_streams.specs.StreamsData.{node_of, group_of, place_of}
+use Rattle.tdp_core.specs.AnswerView.{rows_of_key}
+use Rattle.suffix_streams.specs.TreeStreams.{node_of, group_of, place_of}
 use Rattle.suffix_streams.specs.Rankings.{group_list}
 use Rattle.tdp_model.specs.KeyTuple.{key_none}
 use Rattle.suffix_streams.proofs.Rankings.{solution_fits}

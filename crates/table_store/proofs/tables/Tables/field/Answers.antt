@@ -1,7 +1,7 @@
 use Rattle.std.proofs.Common.{◌≡◌, ◌<◌, ◌+◌, ◌-◌, ◌*◌, ◌∙◌, [], List, get_or, length, ap, sym, subst, arith}
 use Rattle.std.proofs.lemmas.List.{length-map}
 use Rattle.anyk_model.specs.Table.{Table, field_at, table_at}
-use Rattle.table_store.specs.StoredTables.{shown}
+use Rattle.table_store.specs.StoredTables.{stored_view}
 use Rattle.table_store.proofs.Places.{columns_now, field_shows, field-there, rows_now}
 use Rattle.table_store.proofs.tables.Tables.field.Goals as goal
 
@@ -9,7 +9,7 @@ pub get-requires : goal.get-requires
 get-requires c =
     let stored = c.self.inside.tables.items in
     let s = c.index-stored.result.now in
-    let inside : c.args.table < length stored = omega (arith, c.requires.table, ap length c.self.view_is, length-map stored shown) in
+    let inside : c.args.table < length stored = omega (arith, c.requires.table, ap length c.self.view_is, length-map stored stored_view) in
     let at = c.index-stored.ensures in
     let below : c.args.row - 1 < s.rows.count = omega (arith, c.requires.first, c.requires.row, rows_now stored c.args.table s inside at c.args.self.now c.self.view_is) in
     let there : c.args.column < length s.names.items = omega (arith, c.requires.column, columns_now stored c.args.table s inside at c.args.self.now c.self.view_is) in
@@ -21,7 +21,7 @@ pub returns : goal.returns
 returns c =
     let stored = c.self.inside.tables.items in
     let s = c.index-stored.result.now in
-    let inside : c.args.table < length stored = omega (arith, c.requires.table, ap length c.self.view_is, length-map stored shown) in
+    let inside : c.args.table < length stored = omega (arith, c.requires.table, ap length c.self.view_is, length-map stored stored_view) in
     let at = c.index-stored.ensures in
     let below : c.args.row - 1 < s.rows.count = omega (arith, c.requires.first, c.requires.row, rows_now stored c.args.table s inside at c.args.self.now c.self.view_is) in
     let there : c.args.column < length s.names.items = omega (arith, c.requires.column, columns_now stored c.args.table s inside at c.args.self.now c.self.view_is) in

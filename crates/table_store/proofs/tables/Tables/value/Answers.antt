@@ -2,8 +2,8 @@ use Rattle.std.proofs.Common.{◌≡◌, ◌<◌, ◌+◌, ◌-◌, ◌*◌, ◌
 use Rattle.std.specs.Vec.{vec_len}
 use Rattle.std.proofs.lemmas.List.{length-map}
 use Rattle.anyk_model.specs.Table.{Table, field_at, table_at}
-use Rattle.table_store.specs.StoredTables.{shown}
-use Rattle.table_store.specs.Tables.{all_shown}
+use Rattle.table_store.specs.StoredTables.{stored_view}
+use Rattle.table_store.specs.Tables.{stored_views}
 use Rattle.table_store.specs.Values.{number_in, number_of}
 use Rattle.table_store.proofs.Numbers.{AreDistinct, known_distinct, number_is}
 use Rattle.table_store.proofs.Places.{cell_there, columns_now, number_shows, rows_now}
@@ -13,7 +13,7 @@ pub index-requires : goal.index-requires
 index-requires c =
     let stored = c.self.inside.tables.items in
     let s = c.index-stored.result.now in
-    let inside : c.args.table < length stored = omega (arith, c.requires.table, ap length c.self.view_is, length-map stored shown) in
+    let inside : c.args.table < length stored = omega (arith, c.requires.table, ap length c.self.view_is, length-map stored stored_view) in
     let at = c.index-stored.ensures in
     let below : c.args.row - 1 < s.rows.count = omega (arith, c.requires.first, c.requires.row, rows_now stored c.args.table s inside at c.args.self.now c.self.view_is) in
     let there : c.args.column < length s.names.items = omega (arith, c.requires.column, columns_now stored c.args.table s inside at c.args.self.now c.self.view_is) in
@@ -26,7 +26,7 @@ returns c =
     let texts = c.self.inside.texts in
     let stored = c.self.inside.tables.items in
     let s = c.index-stored.result.now in
-    let inside : c.args.table < length stored = omega (arith, c.requires.table, ap length c.self.view_is, length-map stored shown) in
+    let inside : c.args.table < length stored = omega (arith, c.requires.table, ap length c.self.view_is, length-map stored stored_view) in
     let at = c.index-stored.ensures in
     let below : c.args.row - 1 < s.rows.count = omega (arith, c.requires.first, c.requires.row, rows_now stored c.args.table s inside at c.args.self.now c.self.view_is) in
     let there : c.args.column < length s.names.items = omega (arith, c.requires.column, columns_now stored c.args.table s inside at c.args.self.now c.self.view_is) in
@@ -35,7 +35,7 @@ returns c =
     let cell = subst (λ w. n ≡ get_or s.rows.cells.items ((c.args.row - 1) * w + c.args.column) n) width c.index.ensures in
     let is = number_shows stored c.args.table s inside at texts c.self.invariant.whole (c.args.row - 1) c.args.column below there n cell in
     let known = c.self.invariant.known in
-    let distinct = subst AreDistinct (sym known) (known_distinct (all_shown stored)) in
-    let f = field_at (table_at (all_shown stored) c.args.table) (c.args.row - 1) c.args.column in
+    let distinct = subst AreDistinct (sym known) (known_distinct (stored_views stored)) in
+    let f = field_at (table_at (stored_views stored) c.args.table) (c.args.row - 1) c.args.column in
     number_is texts f n distinct is ∙ ap (λ (t : List (List ℕ)). number_in t f) known
     ∙ ap (λ (ts : List Table). number_of ts (field_at (table_at ts c.args.table) (c.args.row - 1) c.args.column)) c.self.view_is

@@ -1,6 +1,6 @@
 use Rattle.std.proofs.Common.{◌≡◌, ◌<◌, length, ap, sym, subst}
 use Rattle.std.proofs.Math.ListN.{set}
-use Rattle.tdp_core.specs.RawData.{RawData, IsRawFormed}
+use Rattle.tdp_core.specs.RawView.{RawView, IsRawFormed}
 use Rattle.tdp_core.proofs.RawFacts.{formed_less}
 use Rattle.tdp_core.proofs.raw_tree.RawTree.clear.Goals as goal
 
@@ -11,7 +11,7 @@ invariant_of-self g c =
     let v = c.args.node in
     let shapes = c.self.inside.shapes.items in
     let rows = c.self.inside.rows.items in
-    let t : RawData g.row.R.Denot = record { shapes = shapes; rows = rows } in
-    let same : shapes ≡ c.args.self.now.shapes = ap (λ (z : RawData g.row.R.Denot). z.shapes) c.self.view_is in
+    let t : RawView g.row.R.Denot = record { shapes = shapes; rows = rows } in
+    let same : shapes ≡ c.args.self.now.shapes = ap (λ (z : RawView g.row.R.Denot). z.shapes) c.self.view_is in
     let within : v < length shapes = subst (λ s. v < length s) (sym same) c.requires in
     subst (λ l. IsRawFormed d key (record { shapes = shapes; rows = set rows v l })) (sym c.new.ensures) (formed_less d key t v c.self.invariant within)

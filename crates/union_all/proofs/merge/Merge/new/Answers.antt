@@ -1,7 +1,7 @@
 use Rattle.std.proofs.Common.{◌∙◌, List, map, sym, ap}
 use Rattle.anyk_model.specs.Query.{Query}
 use Rattle.union_list.specs.Union.{left_of}
-use Rattle.union_all.specs.Merge.{BranchSeen, rests_of}
+use Rattle.union_all.specs.Merge.{BranchView, rests_of}
 use Rattle.union_all.proofs.Begun.{all_branches, same_queries}
 use Rattle.union_all.proofs.merge.Merge.new.Goals as goal
 
@@ -15,5 +15,5 @@ returns-clause-queries g c = same_queries c.args.queries.now c.in_ok-branches.br
 pub returns-clause-rest : goal.returns-clause-rest
 returns-clause-rest g c =
     let branches = c.in_ok-branches.branches.items in
-    ap (left_of (map (λ (b : BranchSeen). b.bound.query) branches) c.args.tables.now)
+    ap (left_of (map (λ (b : BranchView). b.bound.query) branches) c.args.tables.now)
     (c.in_ok-branches.ensures.lists ∙ ap (λ (q : List Query). rests_of g.E.Ranked.rest q c.args.engines.items) (sym (same_queries c.args.queries.now branches c.in_ok-branches.ensures.bounds)))

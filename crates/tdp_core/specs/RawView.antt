@@ -5,14 +5,14 @@ use Rattle.std.specs.List.{All, sum_by}
 use Rattle.tdp_model.specs.KeyTuple.{KeyOf, key_none}
 use Rattle.tdp_core.specs.declared.parts.NodeShape.{NodeShape}
 use Rattle.tdp_core.specs.declared.parts.NodeRow.{NodeRow}
-pub use Rattle.tdp_core.specs.RawRows.{RawRowData}
-use Rattle.tdp_core.specs.TreeData.{kids_below, cap_of}
+pub use Rattle.tdp_core.specs.RawRows.{RawRowView}
+use Rattle.tdp_core.specs.TreeView.{kids_below, cap_of}
 use Rattle.tdp_core.specs.WellFormed.{AreHeld, IsShaped, RowFits}
 
 -- the nodes' shapes, and the rows of each node
-pub record RawData (R : Type 0) : Type 0 where
+pub record RawView (R : Type 0) : Type 0 where
   pub shapes : List NodeShape
-  pub rows : List (List (RawRowData R))
+  pub rows : List (List (RawRowView R))
 
 -- # Shapes
 
@@ -47,22 +47,22 @@ shape_child_place shapes q = kids_below (shape_parent shapes) (shape_parent shap
 -- # Rows
 
 -- the rows of node v
-abbrev pub rows_at : {R : Type 0} → RawData R → ℕ → List (RawRowData R)
+abbrev pub rows_at : {R : Type 0} → RawView R → ℕ → List (RawRowView R)
 rows_at t v = slice_index_or t.rows v []
 
 -- how many rows there are in all
-abbrev pub row_total : {R : Type 0} → RawData R → ℕ
+abbrev pub row_total : {R : Type 0} → RawView R → ℕ
 row_total t = sum_by length t.rows
 
 -- the tree with one more row at node v
-abbrev pub with_row : {R : Type 0} → RawData R → ℕ → RawRowData R → RawData R
+abbrev pub with_row : {R : Type 0} → RawView R → ℕ → RawRowView R → RawView R
 with_row t v x = record { shapes = t.shapes; rows = slice_set t.rows v (rows_at t v ++ x ∷ []) }
 
 -- the tree without the rows of node v
-abbrev pub without_rows : {R : Type 0} → RawData R → ℕ → RawData R
+abbrev pub without_rows : {R : Type 0} → RawView R → ℕ → RawView R
 without_rows t v = record { shapes = t.shapes; rows = slice_set t.rows v [] }
 
-module _ {R : Type 0} (t : RawData R) where
+module _ {R : Type 0} (t : RawView R) where
   -- how many rows node v has
   abbrev pub raw_len : ℕ → ℕ
   raw_len v = length (rows_at t v)
@@ -90,12 +90,12 @@ module _ {R : Type 0} (t : RawData R) where
 
 -- a row that node v can have
 abbrev pub RawRowFits : {R : Type 0} (d : ℕ) (key : R → KeyOf d 16) → List NodeShape → ℕ
-    → RawRowData R → Type 0
+    → RawRowView R → Type 0
 RawRowFits d key shapes v x =
     RowFits d (shape_item shapes v) (shape_cap shapes v) x.row.row (key x.row.rank)
     × (length x.children ≡ shape_children shapes v)
 
-pub record IsRawFormed {R : Type 0} (d : ℕ) (key : R → KeyOf d 16) (t : RawData R) : Type 0 where
+pub record IsRawFormed {R : Type 0} (d : ℕ) (key : R → KeyOf d 16) (t : RawView R) : Type 0 where
   pub shaped : AreShapes t.shapes
   pub held : AreShapesHeld d key t.shapes
   pub each_node : length t.rows ≡ length t.shapes

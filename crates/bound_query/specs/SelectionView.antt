@@ -1,15 +1,15 @@
 -- What contracts see of a stored query.
 use Rattle.std.specs.Prelude.{◌≤◌, map, length}
 use Rattle.anyk_model.specs.Query.{Query}
-use Rattle.bound_query.specs.StoredParts.{column_shown, equality_shown, items_shown, key_shown}
+use Rattle.bound_query.specs.StoredParts.{column_view, equality_view, items_view, key_view}
 use Rattle.bound_query.specs.declared.selection.Selection.TheInside.{Inside}
 
-abbrev pub query_shown : Inside → Query
-query_shown q = record {
-  items = items_shown q.items.items;
-  equalities = map equality_shown q.equalities.items;
-  order = map key_shown q.keys.items;
-  list = map column_shown q.list.items;
+abbrev pub selection_view : Inside → Query
+selection_view q = record {
+  items = items_view q.items.items;
+  equalities = map equality_view q.equalities.items;
+  order = map key_view q.keys.items;
+  list = map column_view q.list.items;
   limit = q.limit;
 }
 

@@ -3,7 +3,7 @@ use Rattle.std.specs.Prelude.{◌≡◌, ℕ, zero, suc, ◌+◌, ◌^◌, ◌<�
 use Rattle.std.specs.List.{All}
 use Rattle.take2_heap.specs.declared.entry.Entry.{Entry}
 use Rattle.stream_store.specs.declared.entry.Linked.{Linked}
-use Rattle.tdp_core.specs.TreeData.{NodeData, members, group_named, child_count, group_count, rows}
+use Rattle.tdp_core.specs.TreeView.{NodeView, members, group_named, child_count, group_count, rows}
 use Rattle.tdp_core.specs.WellFormed.{IsFormed}
 use Rattle.rank_key.specs.Keys.{KeyFits}
 use Rattle.tdp_model.specs.KeyTuple.{KeyOf, key_add, key_none}
@@ -12,9 +12,9 @@ use Rattle.stream_model.specs.Links.{place_in, IsLinked}
 use Rattle.stream_cells.specs.declared.cell.Cell.{Cell}
 use Rattle.stream_cells.specs.declared.source.Source.{Source}
 use Rattle.suffix_streams.specs.declared.stream.Found.{Found}
-use Rattle.suffix_streams.specs.ProductData.{ProductData}
-use Rattle.suffix_streams.specs.StreamData.{StreamData}
-use Rattle.suffix_streams.specs.NodeLists.{NodeLists, product_at, stream_at, known_of}
+use Rattle.suffix_streams.specs.ProductView.{ProductView}
+use Rattle.suffix_streams.specs.StreamView.{StreamView}
+use Rattle.suffix_streams.specs.NodeStreamsView.{NodeStreamsView, product_at, stream_at, known_of}
 use Rattle.suffix_streams.specs.Rankings.{child, part_list, group_list}
 use Rattle.suffix_streams.specs.Frontiers.{AreFirstBy, IsFrontier, IsMerge}
 
@@ -65,17 +65,17 @@ abbrev pub open_rows : ℕ → ℕ → ℕ
 open_rows zero n = 0
 open_rows (suc k) n = n
 
-module _ {R : Type 0} (nodes : List (NodeLists R)) where
-  abbrev pub lists_of : ℕ → NodeLists R
+module _ {R : Type 0} (nodes : List (NodeStreamsView R)) where
+  abbrev pub lists_of : ℕ → NodeStreamsView R
   lists_of v = slice_index_or nodes v (record { children = []; streams = []; products = [] })
 
-  abbrev pub products_of : ℕ → ℕ → List (ProductData R)
+  abbrev pub products_of : ℕ → ℕ → List (ProductView R)
   products_of v r = slice_index_or (lists_of v).products r []
 
-  abbrev pub product_of : ℕ → ℕ → ℕ → ProductData R
+  abbrev pub product_of : ℕ → ℕ → ℕ → ProductView R
   product_of v r c = product_at (lists_of v) r c
 
-  abbrev pub stream_of : ℕ → ℕ → StreamData R
+  abbrev pub stream_of : ℕ → ℕ → StreamView R
   stream_of q g = stream_at (lists_of q) g
 
   -- the number of known solutions of row r of node v with its first c children
@@ -94,14 +94,14 @@ abbrev pub run_of : Source → Pair
 run_of s = record { left = s.member; right = s.place }
 
 -- the product keeps the rank of each of its solutions, which are the first of the ranking ks
-abbrev pub KeepsRanks : {R : Type 0} (d : ℕ) → (R → KeyOf d 16) → List (KeyOf d 16) → ProductData R
+abbrev pub KeepsRanks : {R : Type 0} (d : ℕ) → (R → KeyOf d 16) → List (KeyOf d 16) → ProductView R
     → Type 0
 KeepsRanks d key ks p = (length p.ranks ≡ length p.found) × AreFirstBy d key p.ranks ks
 
 -- the ranks of the known solutions of row r of node v with its first c children are in their
 -- product; with no child there is one solution, whose rank is the row's
-abbrev pub AreLefts : {R : Type 0} (d : ℕ) (key : R → KeyOf d 16) → List (NodeData R)
-    → List (NodeLists R) → ℕ → ℕ → ℕ → Type 0
+abbrev pub AreLefts : {R : Type 0} (d : ℕ) (key : R → KeyOf d 16) → List (NodeView R)
+    → List (NodeStreamsView R) → ℕ → ℕ → ℕ → Type 0
 AreLefts d key t nodes v r zero = Unit {0}
 AreLefts d key t nodes v r (suc c) = KeepsRanks d key (part_list d key t v r (suc c))
     (product_of nodes v r c)
@@ -116,14 +116,14 @@ HasKey {R} d key es i k = (x : Linked (Found R))
 
 -- The solution at this place, of row r of node v with its first c children, is known. Of a row
 -- without products it is the first one.
-pub record IsKnownPart {R : Type 0} (nodes : List (NodeLists R)) (v r c place : ℕ) : Type 0 where
+pub record IsKnownPart {R : Type 0} (nodes : List (NodeStreamsView R)) (v r c place : ℕ) : Type 0 where
   pub found : 0 < length (products_of nodes v r) → place < part_known nodes v r c
   pub first : length (products_of nodes v r) ≡ 0 → place ≡ 0
 
 -- the solution at this place, of row r of node v with its first c + 1 children, is the sum of the
 -- cell's parts
-pub record IsSumOf {R : Type 0} (d : ℕ) (key : R → KeyOf d 16) (t : List (NodeData R))
-    (es : List (Linked (Found R))) (nodes : List (NodeLists R)) (v r c place : ℕ)
+pub record IsSumOf {R : Type 0} (d : ℕ) (key : R → KeyOf d 16) (t : List (NodeView R))
+    (es : List (Linked (Found R))) (nodes : List (NodeStreamsView R)) (v r c place : ℕ)
     (cell : Cell) : Type 0 where
   pub left : IsKnownPart nodes v r c cell.left
   pub right : cell.right < length es
@@ -136,16 +136,16 @@ pub record IsSumOf {R : Type 0} (d : ℕ) (key : R → KeyOf d 16) (t : List (No
 
 -- the source, of a solution of group g of node q, has its member's row, and its cell has the parts
 -- of the solution, if the node has children
-abbrev pub HasOwnParts : {R : Type 0} (d : ℕ) → (R → KeyOf d 16) → List (NodeData R)
-    → List (Linked (Found R)) → List (NodeLists R) → ℕ → ℕ → Source → Type 0
+abbrev pub HasOwnParts : {R : Type 0} (d : ℕ) → (R → KeyOf d 16) → List (NodeView R)
+    → List (Linked (Found R)) → List (NodeStreamsView R) → ℕ → ℕ → Source → Type 0
 HasOwnParts d key t es nodes q g s = (s.row ≡ slice_index (members t q g) s.member)
     × ((c : ℕ) → child_count t q ≡ suc c
     → IsSumOf d key t es nodes q (slice_index (members t q g) s.member) c s.place s.cell)
 
 -- # The invariants
 
-module _ {R : Type 0} (d : ℕ) (key : R → KeyOf d 16) (t : List (NodeData R))
-    (es : List (Linked (Found R))) (nodes : List (NodeLists R)) where
+module _ {R : Type 0} (d : ℕ) (key : R → KeyOf d 16) (t : List (NodeView R))
+    (es : List (Linked (Found R))) (nodes : List (NodeStreamsView R)) where
   -- the stream of group g of node q is a prefix of the group's ranking, and its queue has the rest
   pub record IsStreamOf (q g : ℕ) : Type 0 where
     pub head_in : (stream_of nodes q g).head < length es
@@ -243,7 +243,7 @@ module _ {R : Type 0} (d : ℕ) (key : R → KeyOf d 16) (t : List (NodeData R))
     pub group : group_of es cell.right ≡ group_named t v r c
 
 -- the cell, if there is one, with the key of its sum
-abbrev pub IsOffer : {R : Type 0} (d : ℕ) (key : R → KeyOf d 16) → List (NodeData R)
+abbrev pub IsOffer : {R : Type 0} (d : ℕ) (key : R → KeyOf d 16) → List (NodeView R)
     → List (Linked (Found R)) → ℕ → ℕ → ℕ → Option Cell → Option (Entry R Cell) → Type 0
 IsOffer d key t es v r c None None = Unit {0}
 IsOffer d key t es v r c None (Some e) = ⊥
@@ -255,8 +255,8 @@ IsOffer d key t es v r c (Some x) (Some e) =
 
 -- The product begins with the first solution of row r of node v with its first c + 1 children. It
 -- keeps its rank if it is not the last product of the row.
-abbrev pub IsFreshAt : {R : Type 0} (d : ℕ) (key : R → KeyOf d 16) → List (NodeData R)
-    → List (NodeLists R) → ℕ → ℕ → ℕ → ProductData R → Type 0
+abbrev pub IsFreshAt : {R : Type 0} (d : ℕ) (key : R → KeyOf d 16) → List (NodeView R)
+    → List (NodeStreamsView R) → ℕ → ℕ → ℕ → ProductView R → Type 0
 IsFreshAt {R} d key t nodes v r c p =
     (e : Entry R Cell) × (p.found ≡ e.tag ∷ []) × (p.frontier ≡ e ∷ [])
     × (e.tag ≡ record {
@@ -267,8 +267,8 @@ IsFreshAt {R} d key t nodes v r c p =
     × (suc c < child_count t v → p.ranks ≡ e.rank ∷ [])
 
 -- n products that begin with the first solutions of row r of node v
-pub record AreFreshTo {R : Type 0} (d : ℕ) (key : R → KeyOf d 16) (t : List (NodeData R))
-    (nodes : List (NodeLists R)) (v r n : ℕ) (products : List (ProductData R)) : Type 0 where
+pub record AreFreshTo {R : Type 0} (d : ℕ) (key : R → KeyOf d 16) (t : List (NodeView R))
+    (nodes : List (NodeStreamsView R)) (v r n : ℕ) (products : List (ProductView R)) : Type 0 where
   pub count : length products ≡ n
-  pub first : (c : ℕ) (p : ProductData R) → c < n
+  pub first : (c : ℕ) (p : ProductView R) → c < n
       → IsFreshAt d key t nodes v r c (slice_index_or products c p)
