@@ -153,8 +153,8 @@ fn push_shown(
     Ok(())
 }
 
-/// Appends the sums of the order keys over these rows, one for each item, counted from 1. `NoMemory`
-/// if memory is refused.
+/// Appends the sums of the order keys over these rows, one for each item, counted from 1.
+/// `NoMemory` if memory is refused.
 pub fn push_sums(
     numbers: &mut Numbers,
     query: &Query,

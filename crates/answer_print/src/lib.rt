@@ -1,4 +1,5 @@
-//! The records of a query's output: a header, and a line for each answer, as comma-separated values (RFC 4180).
+//! The records of a query's output: a header, and a line for each answer, as comma-separated values
+//! (RFC 4180).
 #![tactic(auto)]
 
 mod answer;

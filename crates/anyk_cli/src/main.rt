@@ -1,5 +1,5 @@
-//! The program `anyk`: passes the command line, the files and the standard streams of the system to `anyk_top`, and
-//! exits with the status that it returns.
+//! The program `anyk`: passes the command line, the files and the standard streams of the system to
+//! `anyk_top`, and exits with the status that it returns.
 #![tactic(auto)]
 
 use anyk_top::run_uncounted;
@@ -41,8 +41,8 @@ fn main(rt: HostRuntime) -> ExitCode {
     }
 }
 
-/// Keys drawn at random, so that nobody who writes the files can choose texts that collide. If the system gives no
-/// random words, the known keys are used.
+/// Keys drawn at random, so that nobody who writes the files can choose texts that collide. If the
+/// system gives no random words, the known keys are used.
 fn keys(rt: &HostRuntime) -> Keys {
     match RandomState::new(rt) {
         Ok(state) => Keys::Drawn(state),

@@ -22,7 +22,8 @@ pub record RankedRegion (R : Type 0) : Type 0 where
   pub region : Region
   pub rank : R
 
--- what an engine by regions is to its callers: the tree, the candidates in heap order, and the number of calls so far
+-- what an engine by regions is to its callers: the tree, the candidates in heap order, and the
+-- number of calls so far
 pub record PartView (R : Type 0) : Type 0 where
   pub tree : List (NodeView R)
   pub candidates : List (RankedRegion R)
@@ -56,7 +57,8 @@ module _ {R : Type 0} where
   abbrev pub Reached : List (NodeView R) → ℕ → List ℕ → Type 0
   Reached t = IsReached (length t) (λ v r. r < rows t v)
 
-  -- the region of the solutions that begin with the rows, and whose next row is in the subtree of a place
+  -- the region of the solutions that begin with the rows, and whose next row is in the subtree of a
+  -- place
   abbrev pub region_at : List (NodeView R) → List ℕ → ℕ → Region
   region_at t pre place = record { chosen = pre; place = place; left = length t - suc (length pre) }
 
@@ -80,7 +82,8 @@ module _ {R : Type 0} where
     abbrev pub rest_of : List (RankedRegion R) → List AnswerView
     rest_of cs = answers_of d (rest_keys (regions cs))
 
-    -- An entry of the queue: its links are in the store, its place is one of its group, and its rank is the least key of its region.
+    -- An entry of the queue: its links are in the store, its place is one of its group, and its
+    -- rank is the least key of its region.
     pub record IsEntry (links : List (Linked Link)) (e : Entry R Candidate) : Type 0 where
       pub position : e.tag.position < length t
       pub chained : IsChain links e.tag.position e.tag.before
@@ -88,7 +91,8 @@ module _ {R : Type 0} where
       pub place : e.tag.place < length (followers t (chain links e.tag.position e.tag.before))
       pub ranked : key e.rank ≡ rank_of (followers t) least (region_of links (length t) e.tag)
 
-    -- The queue's regions are disjoint and hold what is left, and each entry has the least key of its region as rank.
+    -- The queue's regions are disjoint and hold what is left, and each entry has the least key of
+    -- its region as rank.
     pub record IsPart (links : List (Linked Link)) (entries : List (Entry R Candidate))
         (calls : ℕ) : Type 0 where
       pub formed : IsFormed d key t

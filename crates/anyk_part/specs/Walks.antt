@@ -47,8 +47,9 @@ module _ {R : Type 0} (d : ℕ) (key : R → KeyOf d 16) (t : List (NodeView R))
     pub best : key s.best ≡ best t d key s.node s.row
     pub total : key s.total ≡ least d key t (chain links s.node s.before ++ (s.row ∷ []))
 
-  -- The division of a region has come to the walk's node: `chosen` are the rows before it, and `whole` is the rank of the region's best
-  -- solution, which goes on with the member at the walk's place.
+  -- The division of a region has come to the walk's node: `chosen` are the rows before it, and
+  -- `whole` is the rank of the region's best solution, which goes on with the member at the walk's
+  -- place.
   pub record IsAt (whole : R) (w : Walk) (chosen : List ℕ)
       (links : List (Linked Link)) : Type 0 where
     pub formed : IsFormed d key t
@@ -68,8 +69,8 @@ module _ {R : Type 0} (d : ℕ) (key : R → KeyOf d 16) (t : List (NodeView R))
   abbrev pub row_at : Walk → List (Linked Link) → ℕ
   row_at w links = slice_index (followers t (chain links w.node w.before)) w.place
 
-  -- The row of the walk's node is chosen, and the candidates that deviate from it are beside the entries that were
-  -- there before.
+  -- The row of the walk's node is chosen, and the candidates that deviate from it are beside the
+  -- entries that were there before.
   pub record IsChoice (w : Walk) (links : List (Linked Link)) (chosen : List ℕ)
       (before : List (Entry R Candidate)) (c : Choice)
       (rows : List ℕ) (entries : List (Entry R Candidate)) : Type 0 where
@@ -90,8 +91,9 @@ module _ {R : Type 0} (d : ℕ) (key : R → KeyOf d 16) (t : List (NodeView R))
   start_region links w = record
       { chosen = chain links w.node w.before; place = w.place; left = length t - suc w.node }
 
-  -- The division of the region `start` at the top of the queue `before`, so far: what the region holds is its best solution, the regions
-  -- that are still to be put in, and what the queue now holds beside the others.
+  -- The division of the region `start` at the top of the queue `before`, so far: what the region
+  -- holds is its best solution, the regions that are still to be put in, and what the queue now
+  -- holds beside the others.
   pub record IsDivision (start : Walk) (old_links : List (Linked Link))
       (before : List (Entry R Candidate)) (w : Walk)
       (links : List (Linked Link)) (entries : List (Entry R Candidate)) : Type 0 where

@@ -57,7 +57,8 @@ impl<R: Rank, A: Allocator + Clone> Frontier<R, A> {
         Some((entry.rank, walk))
     }
 
-    /// Makes room for all that one answer over this many nodes can add. Returns `NoMemory` if memory is refused.
+    /// Makes room for all that one answer over this many nodes can add. Returns `NoMemory` if
+    /// memory is refused.
     pub fn make_room(&mut self, nodes: u32) -> Result<(), NoMemory>
         requires { nodes ≤ 16 }
         ensures entries { self.new.queue.entries ≡ self.old.queue.entries }
@@ -95,7 +96,8 @@ impl<R: Rank, A: Allocator + Clone> Frontier<R, A> {
         chosen
     }
 
-    /// Puts a candidate in place of the queue's top, or beside the others if the top is already gone.
+    /// Puts a candidate in place of the queue's top, or beside the others if the top is already
+    /// gone.
     #[inline(always)]
     fn put<L: Ledger>(
         &mut self,
@@ -123,8 +125,8 @@ impl<R: Rank, A: Allocator + Clone> Frontier<R, A> {
         }
     }
 
-    /// Puts in the candidate at one place of a site. It replaces the region being divided if that is still at the top
-    /// of the queue.
+    /// Puts in the candidate at one place of a site. It replaces the region being divided if that
+    /// is still at the top of the queue.
     #[inline(always)]
     fn offer<L: Ledger>(
         &mut self,
@@ -167,7 +169,8 @@ impl<R: Rank, A: Allocator + Clone> Frontier<R, A> {
         self.put(rank, candidate, top_stands, steps);
     }
 
-    /// Chooses the row at one node, and puts in the candidates that deviate from it, if its group reaches that far.
+    /// Chooses the row at one node, and puts in the candidates that deviate from it, if its group
+    /// reaches that far.
     // Inlined, as are `put`, `offer` and `advance`: what they hand on is then in registers.
     #[inline(always)]
     fn choose<L: Ledger>(
@@ -283,8 +286,8 @@ impl<R: Rank, A: Allocator + Clone> Frontier<R, A> {
         }
     }
 
-    /// Chooses the best rows from the start of the top's region on, and replaces the top by the candidates that deviate
-    /// from them.
+    /// Chooses the best rows from the start of the top's region on, and replaces the top by the
+    /// candidates that deviate from them.
     pub fn divide<L: Ledger>(
         &mut self,
         tree: &Tree<R>,

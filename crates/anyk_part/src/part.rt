@@ -1,4 +1,5 @@
-//! The engine by regions: `next` takes the best candidate, divides its region and returns the answer.
+//! The engine by regions: `next` takes the best candidate, divides its region and returns the
+//! answer.
 ghost use Rattle.std.specs.Prelude.{◌≡◌, ℕ, ◌+◌, ◌-◌, ◌*◌, ◌<◌, ◌≤◌, List, [], length, IfOk};
 ghost use Rattle.stream_store.specs.declared.entry.Linked.{Linked};
 ghost use Rattle.std.specs.List.{All};
@@ -24,13 +25,13 @@ use stream_store::Store;
 use take2_heap::HeapOf;
 use tdp_core::{Answer, Ranked, Tree};
 
-/// The answers of a tree in order of rank. Contracts see the tree, the candidates in heap order and the number of calls
-/// so far.
+/// The answers of a tree in order of rank. Contracts see the tree, the candidates in heap order and
+/// the number of calls so far.
 ///
-/// A candidate is a region of the answers that are left, with the least of their ranks. Each call of `next` takes at
-/// most 24 * m * (1 + b) steps, where m is the number of nodes, N the number of rows of all nodes, and b the number of
-/// binary digits of N + (calls + 1) * m. Over a tree without a solution it takes none. If a call is refused memory, the
-/// answers are as they were.
+/// A candidate is a region of the answers that are left, with the least of their ranks. Each call
+/// of `next` takes at most 24 * m * (1 + b) steps, where m is the number of nodes, N the number of
+/// rows of all nodes, and b the number of binary digits of N + (calls + 1) * m. Over a tree without
+/// a solution it takes none. If a call is refused memory, the answers are as they were.
 #[derive(Drop)]
 pub struct Part<'t, R: Rank, A: Allocator + Clone> {
     tree: &'t Tree<R>,
@@ -88,8 +89,8 @@ fn first_queue<R: Rank, A: Allocator, L: Ledger>(
 }
 
 impl<'t, R: Rank, A: Allocator + Clone> Part<'t, R, A> {
-    /// Creates the engine over this tree, before its first answer. It takes at most 16 * m * (1 + N) steps for m nodes
-    /// with N rows in all, and returns `NoMemory` if memory is refused.
+    /// Creates the engine over this tree, before its first answer. It takes at most 16 * m * (1 +
+    /// N) steps for m nodes with N rows in all, and returns `NoMemory` if memory is refused.
     pub fn new<L: Ledger>(
         alloc: A,
         tree: &'t Tree<R>,
@@ -113,8 +114,8 @@ impl<'t, R: Rank, A: Allocator + Clone> Part<'t, R, A> {
         })
     }
 
-    /// The number of candidates. They are regions that share no answer and together hold exactly the answers that are
-    /// left, each with the least rank of its region.
+    /// The number of candidates. They are regions that share no answer and together hold exactly
+    /// the answers that are left, each with the least rank of its region.
     pub fn candidates(&self) -> usize
         ensures count { result ≡ length self.now.candidates }
         ensures left { HoldTheRest R.KEYS R.key self.now.tree self.now.candidates }

@@ -7,7 +7,8 @@ use Rattle.tdp_model.specs.KeyTuple.{KeyOf}
 use Rattle.suffix_streams.specs.Rankings.{group_list}
 use Rattle.suffix_streams.specs.StreamsView.{StreamsView, entry_node, entry_group, entry_place}
 
--- the streams, how many members of the root's stream were given, and the number of calls so far, which stays at its last value
+-- the streams, how many members of the root's stream were given, and the number of calls so far,
+-- which stays at its last value
 pub record RecView (R : Type 0) : Type 0 where
   pub streams : StreamsView R
   pub given : ℕ

@@ -22,11 +22,13 @@ use stream_store::EntryId;
 use suffix_streams::Streams;
 use tdp_core::{Answer, Ranked, Tree};
 
-/// The answers of a tree in order of rank: the members of the root's stream that were not given yet.
+/// The answers of a tree in order of rank: the members of the root's stream that were not given
+/// yet.
 ///
-/// Each call of `next` takes at most 24 * m * (1 + b) steps, where m is the number of nodes, N the number of rows of
-/// all nodes, and b the number of binary digits of N + (calls + 1) * m. Over a tree without a solution it takes none.
-/// If a call is refused memory no answer is lost, though streams may have grown.
+/// Each call of `next` takes at most 24 * m * (1 + b) steps, where m is the number of nodes, N the
+/// number of rows of all nodes, and b the number of binary digits of N + (calls + 1) * m. Over a
+/// tree without a solution it takes none. If a call is refused memory no answer is lost, though
+/// streams may have grown.
 #[derive(Drop)]
 pub struct Rec<'t, R: Rank, A: Allocator + Clone> {
     streams: Streams<'t, R, A>,
@@ -47,8 +49,8 @@ impl<'t, R: Rank, A: Allocator + Clone> Model for Rec<'t, R, A> {
 }
 
 impl<'t, R: Rank, A: Allocator + Clone> Rec<'t, R, A> {
-    /// Creates the engine over this tree, before its first answer. It takes at most 16 * m * (1 + N) steps for m nodes
-    /// with N rows in all, and returns `NoMemory` if memory is refused.
+    /// Creates the engine over this tree, before its first answer. It takes at most 16 * m * (1 +
+    /// N) steps for m nodes with N rows in all, and returns `NoMemory` if memory is refused.
     pub fn new<L: Ledger>(
         alloc: A,
         tree: &'t Tree<R>,
@@ -74,7 +76,8 @@ impl<'t, R: Rank, A: Allocator + Clone> Rec<'t, R, A> {
     }
 }
 
-/// The entry of the root's stream after `last`, or its head before the first answer. `None` if `last` is the end.
+/// The entry of the root's stream after `last`, or its head before the first answer. `None` if
+/// `last` is the end.
 fn following<'t, R: Rank, A: Allocator + Clone, L: Ledger>(
     streams: &mut Streams<'t, R, A>,
     last: Option<EntryId>,

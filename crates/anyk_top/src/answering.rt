@@ -18,9 +18,9 @@ use step_counter::Steps;
 use task_answer::answer_task;
 use task_verify::answer_verified;
 
-/// Reads or makes the input of the command, plans its query or checks its certificate, and prints the
-/// command's output. The result is an error if the input is refused, if a read or a write failed, or
-/// if memory is refused.
+/// Reads or makes the input of the command, plans its query or checks its certificate, and prints
+/// the command's output. The result is an error if the input is refused, if a read or a write
+/// failed, or if memory is refused.
 pub(crate) fn answer<'a, F: Shelf, S: Sink, L: Ledger>(
     alloc: Global,
     request: &'a Request,

@@ -9,7 +9,8 @@ use Rattle.bound_query.specs.Inside.{IsWithin}
 use Rattle.bound_query.specs.Parts.{numbers_of}
 use Rattle.bound_query.specs.Weights.{KeyInRange, KeyWeighs, cap_of, part_of, table_in, terms_in}
 
--- what an item adds to a key: the greatest absolute part that its columns allow, and the part of each row
+-- what an item adds to a key: the greatest absolute part that its columns allow, and the part of
+-- each row
 pub record ItemParts : Type 0 where
   pub cap : ℕ
   pub parts : List ℤ

@@ -42,8 +42,8 @@ impl Model for Query {
 }
 
 impl Query {
-    /// The query of a selection, with what its items add to its keys, its variables and the tests of
-    /// its rows.
+    /// The query of a selection, with what its items add to its keys, its variables and the tests
+    /// of its rows.
     pub fn new(
         alloc: Global,
         selection: Selection,

@@ -11,8 +11,9 @@ use Rattle.cmd_words.specs.declared.command.Engine.{Engine}
 use Rattle.cmd_words.specs.declared.command.Engine.TheVariants.{Part, Rec}
 use Rattle.cmd_words.specs.declared.command.Words.{Words}
 
--- what the arguments of a command over files say; only `session` has a script, only `verify` a certificate, and only
--- `run` and `session` may name an item of which each row's best answer is asked for
+-- what the arguments of a command over files say; only `session` has a script, only `verify` a
+-- certificate, and only `run` and `session` may name an item of which each row's best answer is
+-- asked for
 pub record WordsSaid : Type 0 where
   pub engine : Engine
   pub ranks : Bool

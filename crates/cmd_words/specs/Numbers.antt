@@ -8,7 +8,8 @@ abbrev pub begins_plainly : List ℕ → Bool
 begins_plainly text = not (slice_index text 0 == 43) &&
     (not (slice_index text 0 == 48) || nat_le (length text) 1)
 
--- the number that a text is, if it is from `low` to `high`: decimal digits, without a sign and without leading zeros
+-- the number that a text is, if it is from `low` to `high`: decimal digits, without a sign and
+-- without leading zeros
 abbrev pub number_in : ℕ → ℕ → List ℕ → Option ℕ
 number_in low high text =
     let n = digits_value 10 text in

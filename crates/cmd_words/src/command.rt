@@ -11,7 +11,8 @@ pub enum Engine {
     Rec,
 }
 
-/// What the arguments of a command over files say. An option that a command does not have keeps its default.
+/// What the arguments of a command over files say. An option that a command does not have keeps its
+/// default.
 #[derive(Drop)]
 pub struct Words {
     /// `--engine`, or `part` if it is not given.
@@ -41,8 +42,8 @@ pub enum Command {
     Session(Words),
     /// Shows the join tree of a query.
     Plan(Words),
-    /// Runs a query over generated tables: the engine, the generator's number from 0 to 2,147,483,647, and the rows of
-    /// each table, from 1 to 100,000.
+    /// Runs a query over generated tables: the engine, the generator's number from 0 to
+    /// 2,147,483,647, and the rows of each table, from 1 to 100,000.
     Load(Engine, u32, u32),
     /// Writes a certificate of the answers of a query.
     Prove(Words),

@@ -13,8 +13,8 @@ use clap::error::ErrorKind;
 use clap::{ArgMatches, Command as Parser, Error};
 use std::alloc::AllocError;
 
-/// The matches of the arguments, the first of which names the command. `Usage` if `clap` rejects them, and `NoMemory`
-/// if memory is refused or was refused for the command.
+/// The matches of the arguments, the first of which names the command. `Usage` if `clap` rejects
+/// them, and `NoMemory` if memory is refused or was refused for the command.
 pub fn parsed<'a>(
     command: Result<Parser<'a>, AllocError>,
     words: &'a [String],

@@ -17,10 +17,11 @@ use crate::texts::{
 };
 use std::alloc::Global;
 
-/// The command that the arguments after the program's name give. `Usage` exactly if they give none: if the first is
-/// none of `run`, `session`, `plan`, `load`, `prove` and `verify`, if `clap` rejects the others (a request for help is
-/// also rejected), if a TABLE=FILE argument has nothing before or after its first `=`, or if two of them name the same
-/// table. `NoMemory` if memory is refused.
+/// The command that the arguments after the program's name give. `Usage` exactly if they give none:
+/// if the first is none of `run`, `session`, `plan`, `load`, `prove` and `verify`, if `clap`
+/// rejects the others (a request for help is also rejected), if a TABLE=FILE argument has nothing
+/// before or after its first `=`, or if two of them name the same table. `NoMemory` if memory is
+/// refused.
 pub fn read_words(alloc: Global, words: &[String]) -> Result<Command, WordsFault>
     ensures words { IfOk result
         (λ command. said_of (map string_bytes words.now) ≡ Some (command_view command)) }

@@ -72,12 +72,13 @@ pub fn read_texts(alloc: Global, texts: Texts<'_, '_>) -> Result<Words, WordsFau
     })
 }
 
-/// What the values of `session` say, which has a script. `Usage` if they say nothing, and `NoMemory` if memory is
-/// refused.
+/// What the values of `session` say, which has a script. `Usage` if they say nothing, and
+/// `NoMemory` if memory is refused.
 pub fn read_session_texts(alloc: Global, texts: Texts<'_, '_>) -> Result<Words, WordsFault>
     ensures words { IfOk result
         (λ said. session_by (arguments_view texts.entry) ≡ Some (words_view said)) }
-    ensures usage { IsErrOf result WordsFault.Usage → session_by (arguments_view texts.entry) ≡ None }
+    ensures usage { IsErrOf result WordsFault.Usage
+        → session_by (arguments_view texts.entry) ≡ None }
 {
     match texts.script {
         Some(_) => read_texts(alloc, texts),
@@ -85,12 +86,13 @@ pub fn read_session_texts(alloc: Global, texts: Texts<'_, '_>) -> Result<Words, 
     }
 }
 
-/// What the values of `verify` say, which has a certificate. `Usage` if they say nothing, and `NoMemory` if memory is
-/// refused.
+/// What the values of `verify` say, which has a certificate. `Usage` if they say nothing, and
+/// `NoMemory` if memory is refused.
 pub fn read_verify_texts(alloc: Global, texts: Texts<'_, '_>) -> Result<Words, WordsFault>
     ensures words { IfOk result
         (λ said. verify_by (arguments_view texts.entry) ≡ Some (words_view said)) }
-    ensures usage { IsErrOf result WordsFault.Usage → verify_by (arguments_view texts.entry) ≡ None }
+    ensures usage { IsErrOf result WordsFault.Usage
+        → verify_by (arguments_view texts.entry) ≡ None }
 {
     match texts.proof {
         Some(_) => read_texts(alloc, texts),
@@ -149,8 +151,8 @@ fn read_engine(text: Option<&str>) -> Option<Engine>
     }
 }
 
-/// What the matches of `load` say: the engine, the generator's number and the rows of each table. `Usage` if they say
-/// nothing.
+/// What the matches of `load` say: the engine, the generator's number and the rows of each table.
+/// `Usage` if they say nothing.
 pub fn read_load_texts(matches: &ArgMatches<'_>) -> Result<(Engine, u32, u32), WordsFault>
     ensures words { IfOk result
         (λ said. load_by (rows_of (found_of matches.now)) ≡ Some (said.0, said.1, said.2)) }

@@ -32,7 +32,8 @@ impl Ends {
     /// Adds one answer after the others.
     fn push(&mut self, rows: [u32; 16])
         requires { self.old.count < 18446744073709551615 }
-        ensures { (given : List AnswerView) (answer : AnswerView) → HasEnds given self.old → answer.rows ≡ rows
+        ensures { (given : List AnswerView) (answer : AnswerView) → HasEnds given self.old
+            → answer.rows ≡ rows
             → HasEnds (given ++ answer ∷ []) self.new }
     {
         self.count += 1;

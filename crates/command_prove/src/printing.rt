@@ -20,9 +20,10 @@ use std::sync::ledger::Ledger;
 use step_counter::Steps;
 use tdp_core::{Ranked, Tree};
 
-/// Prints the text of a certificate of the query's first answers, as many as the limit allows, by one
-/// write. The tree is that of a plan of the query, and the engine has all answers left. `NoMemory` if
-/// memory is refused, before anything is written, and `WriteFault` if the write failed.
+/// Prints the text of a certificate of the query's first answers, as many as the limit allows, by
+/// one write. The tree is that of a plan of the query, and the engine has all answers left.
+/// `NoMemory` if memory is refused, before anything is written, and `WriteFault` if the write
+/// failed.
 pub fn print_proof<'a, R: Rank, E: Ranked<Key = R>, S: Sink, L: Ledger>(
     alloc: Global,
     query: &Query,

@@ -8,8 +8,8 @@ use Rattle.union_list.specs.TaggedRows.{Tagged, branch_at}
 use Rattle.union_list.specs.Union.{members_in}
 use Rattle.union_all.specs.Merge.{EngineView}
 
--- the most steps of the calls of each branch's engine for its members in the list; the first of these
--- branches has the number b
+-- the most steps of the calls of each branch's engine for its members in the list; the first of
+-- these branches has the number b
 abbrev pub steps_from : (List ℕ → ℕ → ℕ) → List Tagged → ℕ → List EngineView → ℕ
 steps_from share list b [] = 0
 steps_from share list b (engine ∷ engines) =
@@ -27,8 +27,9 @@ pub record IsMember (queries : List Query) (tables : List Table) (m : Tagged) : 
 abbrev pub AreMembers : List Query → List Table → List Tagged → Type 0
 AreMembers queries tables list = AllByRecursion (IsMember queries tables) list
 
--- The texts of members were written one by one, with calls between them. The steps of these calls are within those of
--- all the members, and within those of the members whose whole texts were written and of one member more.
+-- The texts of members were written one by one, with calls between them. The steps of these calls
+-- are within those of all the members, and within those of the members whose whole texts were
+-- written and of one member more.
 pub record UnionPaced (most : List Tagged → ℕ) (text : Tagged → List ℕ) (members : List Tagged)
     (old new : Option (List ℕ)) (before now : ℕ) : Type 0 where
   pub bounded : now ≤ before + most members

@@ -67,7 +67,8 @@ pub fn print_union<'a, 'q, E: Ranked + Drop, S: Sink, L: Ledger>(
     )
 }
 
-/// Prints the record above the members. `WriteFault` if the write failed, and `NoMemory` if memory is refused.
+/// Prints the record above the members. `WriteFault` if the write failed, and `NoMemory` if memory
+/// is refused.
 fn print_union_header<'a, S: Sink>(
     alloc: Global,
     queries: &[Query],
@@ -85,7 +86,8 @@ fn print_union_header<'a, S: Sink>(
     print(out, &text)
 }
 
-/// Prints the members, up to the limit or the end of the union. `records` keeps the memory for a record.
+/// Prints the members, up to the limit or the end of the union. `records` keeps the memory for a
+/// record.
 fn print_members<'a, 'q, E: Ranked + Drop, S: Sink, L: Ledger>(
     alloc: Global,
     records: &mut AnswerWriter,
@@ -122,8 +124,8 @@ fn print_members<'a, 'q, E: Ranked + Drop, S: Sink, L: Ledger>(
     Ok(())
 }
 
-/// Prints the record of a member. `records` keeps the memory for it. `WriteFault` if the write failed, and `NoMemory`
-/// if memory is refused.
+/// Prints the record of a member. `records` keeps the memory for it. `WriteFault` if the write
+/// failed, and `NoMemory` if memory is refused.
 fn print_member<'a, S: Sink>(
     alloc: Global,
     records: &mut AnswerWriter,

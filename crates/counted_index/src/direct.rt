@@ -8,7 +8,8 @@ use std::marker::Model;
 use std::sync::ledger::Ledger;
 use step_counter::{NoMemory, Steps};
 
-/// Links that are small numbers. Contracts see them as a list: the number of a link is its place there, from 0.
+/// Links that are small numbers. Contracts see them as a list: the number of a link is its place
+/// there, from 0.
 #[derive(Drop)]
 pub struct DirectIndex {
     links: Vec<u32>,
@@ -60,8 +61,8 @@ impl DirectIndex {
         if after == 0 { None } else { Some(after - 1) }
     }
 
-    /// The number of a link. A new link is added after the others, and a table that is too short for it grows. It counts
-    /// one step. `NoMemory` if memory is refused.
+    /// The number of a link. A new link is added after the others, and a table that is too short
+    /// for it grows. It counts one step. `NoMemory` if memory is refused.
     pub fn insert<L: Ledger>(&mut self, link: u32, steps: &mut Steps<L>) -> Result<u32, NoMemory>
         requires { length self.old ≤ most_links }
         ensures links { OnOk result (self.new ≡ insert_key nat_eq self.old link) }

@@ -10,7 +10,8 @@ use std::marker::Model;
 use std::sync::ledger::Ledger;
 use step_counter::{NoMemory, Steps};
 
-/// Links that may be any numbers. Contracts see them as a list: the number of a link is its place there, from 0.
+/// Links that may be any numbers. Contracts see them as a list: the number of a link is its place
+/// there, from 0.
 #[derive(Drop)]
 pub struct HashedIndex {
     set: IndexSet<u32, Keys>,
@@ -50,7 +51,8 @@ impl HashedIndex {
         self.set.get_index_of(&link)
     }
 
-    /// The number of a link. A new link is added after the others. It counts one step. `NoMemory` if memory is refused.
+    /// The number of a link. A new link is added after the others. It counts one step. `NoMemory`
+    /// if memory is refused.
     pub fn insert<L: Ledger>(&mut self, link: u32, steps: &mut Steps<L>) -> Result<u32, NoMemory>
         requires { length self.old ≤ most_links }
         ensures links { OnOk result (self.new ≡ insert_key nat_eq self.old link) }

@@ -1,4 +1,5 @@
-//! Numbers of lists of values, which are numbered pair by pair: the number of the values before, and the next value.
+//! Numbers of lists of values, which are numbered pair by pair: the number of the values before,
+//! and the next value.
 ghost use Rattle.std.specs.Prelude.{◌≡◌, ◌<◌, ◌+◌, [], OnOk, IfOk, length, replicate};
 ghost use Rattle.counted_index.specs.Pairs.{AreMore, IsNumbered};
 
@@ -9,8 +10,9 @@ use std::marker::Model;
 use std::sync::ledger::Ledger;
 use step_counter::{NoMemory, Steps};
 
-/// The number of a list of values, as far as the list has been read. Beginning a list counts one step, and there is no
-/// other way to make one, so the pairs of each list that is looked up are within a step that was counted.
+/// The number of a list of values, as far as the list has been read. Beginning a list counts one
+/// step, and there is no other way to make one, so the pairs of each list that is looked up are
+/// within a step that was counted.
 #[derive(Drop)]
 pub struct ListNumber {
     number: u32,
@@ -25,7 +27,8 @@ impl Model for ListNumber {
 }
 
 impl ListNumber {
-    /// The number of a list of one value, which is that value. It counts the one step of the whole list.
+    /// The number of a list of one value, which is that value. It counts the one step of the whole
+    /// list.
     pub fn begin<L: Ledger>(value: u32, steps: &mut Steps<L>) -> ListNumber
         ensures number { result ≡ value }
         ensures cost { steps.new ≡ steps.old + 1 }
@@ -42,8 +45,8 @@ impl ListNumber {
     }
 }
 
-/// For each node, pairs of numbers. Contracts see them as a list for each node: the number of a pair is its place
-/// there, from 0.
+/// For each node, pairs of numbers. Contracts see them as a list for each node: the number of a
+/// pair is its place there, from 0.
 #[derive(Drop)]
 pub struct PairIndex {
     sets: Vec<IndexSet<(u32, u32), Keys>>,
@@ -59,7 +62,8 @@ impl Model for PairIndex {
 }
 
 impl PairIndex {
-    /// No pairs, for this many nodes. They are hashed with these keys. `NoMemory` if memory is refused.
+    /// No pairs, for this many nodes. They are hashed with these keys. `NoMemory` if memory is
+    /// refused.
     pub fn new(alloc: Global, nodes: u32, keys: Keys) -> Result<PairIndex, NoMemory>
         ensures { IfOk result (λ pairs. pairs ≡ replicate nodes []) }
     {
@@ -70,9 +74,9 @@ impl PairIndex {
         Ok(PairIndex { sets })
     }
 
-    /// The number at a node of a list with one value more: that of the pair of its number and the value. A new pair is
-    /// added. The step of the list was counted when it was begun. `NoMemory` if memory is refused, or if there are 2^32
-    /// pairs.
+    /// The number at a node of a list with one value more: that of the pair of its number and the
+    /// value. A new pair is added. The step of the list was counted when it was begun. `NoMemory`
+    /// if memory is refused, or if there are 2^32 pairs.
     pub fn with_value(
         &mut self,
         node: usize,

@@ -2,7 +2,8 @@
 use std::alloc::{AllocError, AllocFailed};
 use step_counter::NoMemory;
 
-/// Why the bytes of a file are not a table, in the order in which a file is tested. Columns and rows count from 1.
+/// Why the bytes of a file are not a table, in the order in which a file is tested. Columns and
+/// rows count from 1.
 #[derive(Clone, Copy, Debug, PartialEq, Eq)]
 pub enum TableFault {
     /// The file has no record.

@@ -1,8 +1,9 @@
 //! Tables read from the bytes of csv files, and the bytes of records.
 //!
-//! A file is text as RFC 4180 has it, read by the crate `csv` with its defaults: commas between fields, double quotes
-//! around a field that needs them, and records of any length. A byte order mark at the start of the file is taken off
-//! by the reader. The first record names the columns, and each other record is a row.
+//! A file is text as RFC 4180 has it, read by the crate `csv` with its defaults: commas between
+//! fields, double quotes around a field that needs them, and records of any length. A byte order
+//! mark at the start of the file is taken off by the reader. The first record names the columns,
+//! and each other record is a row.
 #![tactic(auto)]
 
 mod fault;

@@ -31,8 +31,8 @@ fn check_names(names: &[Vec<u8>]) -> Result<(), TableFault>
     Ok(())
 }
 
-/// Tests whether this record may be the row with this number, from 1: there are not too many rows, and it has `width`
-/// fields.
+/// Tests whether this record may be the row with this number, from 1: there are not too many rows,
+/// and it has `width` fields.
 fn check_row(width: usize, number: usize, row: &ByteRecord) -> Result<(), TableFault>
     ensures { result ≡ refusal (row_flaw width number (fields_of row.now)) }
 {
@@ -115,8 +115,9 @@ fn parse_table(alloc: Global, bytes: &[u8]) -> Result<PlainTable, TableFault>
 
 /// Adds the table of the bytes of a csv file, and returns its number, from 0.
 ///
-/// The fault is the first in the file: a fault of the header, in the order of `TableFault`, or else of the first
-/// bad row. `NoMemory` may be returned at any point. After any error the tables are as before.
+/// The fault is the first in the file: a fault of the header, in the order of `TableFault`, or else
+/// of the first bad row. `NoMemory` may be returned at any point. After any error the tables are as
+/// before.
 pub fn read_table(tables: &mut Tables, bytes: &[u8]) -> Result<u32, TableFault>
     requires few { length tables.old < 16 }
     requires size { length bytes.now ≤ 67108864 }

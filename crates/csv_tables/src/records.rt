@@ -27,7 +27,8 @@ impl<'a> Model for Records<'a> {
 }
 
 impl<'a> Records<'a> {
-    /// All records of a text. The first is not special, and records may have different numbers of fields.
+    /// All records of a text. The first is not special, and records may have different numbers of
+    /// fields.
     pub(crate) fn new(alloc: Global, text: &'a [u8]) -> Self
         ensures { result ≡ records_of text.now }
     {
@@ -39,7 +40,8 @@ impl<'a> Records<'a> {
         }
     }
 
-    /// Reads the next record into `row`, and returns whether there was one. `NoMemory` if memory is refused.
+    /// Reads the next record into `row`, and returns whether there was one. `NoMemory` if memory is
+    /// refused.
     pub(crate) fn next(&mut self, row: &mut ByteRecord) -> Result<bool, NoMemory>
         ensures { IfOk result
             (λ found. MatchBool found (self.old ≡ fields_of row.new ∷ self.new) (self.old ≡ [])) }

@@ -8,11 +8,12 @@ use std::alloc::Global;
 use std::marker::Model;
 use step_counter::NoMemory;
 
-/// The greatest number of bytes of earlier records that a writer keeps. If it has more, a fresh writer replaces it.
+/// The greatest number of bytes of earlier records that a writer keeps. If it has more, a fresh
+/// writer replaces it.
 const MAX_KEPT: usize = 16_384;
 
-/// Writes records one after another, as `csv` writes them by default, each with its line end. Contracts see the text of
-/// the record that was written last.
+/// Writes records one after another, as `csv` writes them by default, each with its line end.
+/// Contracts see the text of the record that was written last.
 #[derive(Drop)]
 pub struct RecordWriter {
     writer: Writer<Vec<u8>>,
@@ -44,8 +45,8 @@ impl RecordWriter {
         }
     }
 
-    /// Writes a record of these fields, which replaces the one before. `NoMemory` if memory is refused; `text` is then
-    /// unspecified, and further records can be written.
+    /// Writes a record of these fields, which replaces the one before. `NoMemory` if memory is
+    /// refused; `text` is then unspecified, and further records can be written.
     pub fn write(&mut self, fields: &[&[u8]]) -> Result<(), NoMemory>
         ensures { OnOk result (self.new ≡ record_text (map (λ f. f.now) fields.now)) }
     {
@@ -79,8 +80,8 @@ fn new_writer(alloc: Global) -> Writer<Vec<u8>>
         .from_writer(Vec::new(alloc))
 }
 
-/// Puts a fresh writer in place of this one. It is a function of its own, since a writer holds a buffer of 8 KiB, which is set to
-/// zero at the entry of the function that makes one.
+/// Puts a fresh writer in place of this one. It is a function of its own, since a writer holds a
+/// buffer of 8 KiB, which is set to zero at the entry of the function that makes one.
 #[inline(never)]
 fn renew(writer: &mut Writer<Vec<u8>>, alloc: Global)
     ensures between { IsBetween writer.new }
@@ -89,7 +90,8 @@ fn renew(writer: &mut Writer<Vec<u8>>, alloc: Global)
     *writer = new_writer(alloc);
 }
 
-/// Writes a record of these fields after the earlier ones. Nothing is known of the writer if memory is refused.
+/// Writes a record of these fields after the earlier ones. Nothing is known of the writer if memory
+/// is refused.
 fn append_record(writer: &mut Writer<Vec<u8>>, fields: &[&[u8]]) -> Result<(), NoMemory>
     requires { IsBetween writer.old }
     ensures between { OnOk result (IsBetween writer.new) }
@@ -106,7 +108,8 @@ fn append_record(writer: &mut Writer<Vec<u8>>, fields: &[&[u8]]) -> Result<(), N
     Ok(())
 }
 
-/// A record of these fields as `csv` writes it by default, with its line end. `NoMemory` if memory is refused.
+/// A record of these fields as `csv` writes it by default, with its line end. `NoMemory` if memory
+/// is refused.
 pub fn line(alloc: Global, fields: &[&[u8]]) -> Result<Vec<u8>, NoMemory>
     ensures { IfOk result (λ v. v.items ≡ record_text (map (λ f. f.now) fields.now)) }
 {

@@ -5,8 +5,8 @@ use Rattle.cursor_set.specs.declared.cursor_id.CursorFault.{CursorFault}
 use Rattle.cursor_set.specs.declared.cursor_id.CursorFault.TheVariants.{Unknown, TooMany, NoMemory}
 use Rattle.cursor_set.specs.CursorSet.{CursorSet, place_of, first_free}
 
--- when a call of `next` on a cursor is refused: the cursor is unknown, or memory is refused for an answer that was not
--- found yet and the end was not seen
+-- when a call of `next` on a cursor is refused: the cursor is unknown, or memory is refused for an
+-- answer that was not found yet and the end was not seen
 abbrev pub RefusesNext : CursorSet → ℕ → CursorFault → Type 0
 RefusesNext s number (Unknown id) = (id.number ≡ number) × (place_of s number ≡ None)
 RefusesNext s number TooMany = ⊥

@@ -15,9 +15,9 @@ use tdp_core::{Answer, Ranked};
 /// The greatest number of cursors that may be open at once.
 pub const MAX_OPEN: usize = 64;
 
-/// Cursors over the answers of one engine, which is called once for each answer. A cursor is a place in the list of all
-/// answers, from 0. The set also counts its calls that were refused memory; the count stays at 2^64 - 1 once it gets
-/// there.
+/// Cursors over the answers of one engine, which is called once for each answer. A cursor is a
+/// place in the list of all answers, from 0. The set also counts its calls that were refused
+/// memory; the count stays at 2^64 - 1 once it gets there.
 #[derive(Drop)]
 pub struct Cursors<E: Ranked> {
     engine: E,
@@ -86,8 +86,8 @@ impl<E: Ranked> Cursors<E> {
         self.refused
     }
 
-    /// Opens the cursor with the least number that is not open, at place 0. The one error is `TooMany`, if all are
-    /// open.
+    /// Opens the cursor with the least number that is not open, at place 0. The one error is
+    /// `TooMany`, if all are open.
     pub fn open(&mut self) -> Result<CursorId, CursorFault>
         ensures opened { IfOk result
             (λ id. (first_free self.old ≡ Some id.number)
@@ -102,9 +102,9 @@ impl<E: Ranked> Cursors<E> {
         Ok(CursorId { number })
     }
 
-    /// The answer at a cursor's place, which then moves on by one. At the end of the list it is `None`, and the cursor
-    /// stays. `Unknown` if the cursor is not open. The engine is called, and `NoMemory` can be returned, only if no
-    /// cursor has been at this place before.
+    /// The answer at a cursor's place, which then moves on by one. At the end of the list it is
+    /// `None`, and the cursor stays. `Unknown` if the cursor is not open. The engine is called, and
+    /// `NoMemory` can be returned, only if no cursor has been at this place before.
     pub fn next<L: Ledger>(
         &mut self,
         id: CursorId,
@@ -158,8 +158,8 @@ impl<E: Ranked> Cursors<E> {
         }
     }
 
-    /// Opens the cursor with the least number that is not open, at the place of another cursor. `Unknown` if that
-    /// cursor is not open, else `TooMany` if all are open.
+    /// Opens the cursor with the least number that is not open, at the place of another cursor.
+    /// `Unknown` if that cursor is not open, else `TooMany` if all are open.
     pub fn fork(&mut self, id: CursorId) -> Result<CursorId, CursorFault>
         ensures forked { IfOk result
             (λ copy. IsSome (place_of self.old id.number) × (first_free self.old ≡ Some copy.number)

@@ -20,8 +20,9 @@ pub struct Driven {
     pub ended: bool,
 }
 
-/// Moves an open cursor on until `members` answers were returned, the end was met, or more than `refusals` calls were
-/// refused memory. If `refusals` is the greatest `u64`, it stops when that many were refused.
+/// Moves an open cursor on until `members` answers were returned, the end was met, or more than
+/// `refusals` calls were refused memory. If `refusals` is the greatest `u64`, it stops when that
+/// many were refused.
 pub fn drive<E: Ranked, L: Ledger>(
     cursors: &mut Cursors<E>,
     id: CursorId,

@@ -32,8 +32,8 @@ pub enum ChosenEngine<'t, R: Rank> {
     Best(BestPer<'t, R, Global>),
 }
 
-/// Creates the named engine over `tree`, before its first answer. It takes at most 16 * m * (1 + N) steps for m nodes
-/// with N rows in all, and returns `NoMemory` if memory is refused.
+/// Creates the named engine over `tree`, before its first answer. It takes at most 16 * m * (1 + N)
+/// steps for m nodes with N rows in all, and returns `NoMemory` if memory is refused.
 pub fn choose_engine<'t, R: Rank, L: Ledger>(
     alloc: Global,
     kind: EngineKind,
@@ -61,8 +61,9 @@ pub fn choose_engine<'t, R: Rank, L: Ledger>(
     }
 }
 
-/// Creates the engine that gives the best answer of each row of the root of `tree`, before its first answer. It takes at
-/// most 16 * m * (1 + N) steps for m nodes with N rows in all, and returns `NoMemory` if memory is refused.
+/// Creates the engine that gives the best answer of each row of the root of `tree`, before its
+/// first answer. It takes at most 16 * m * (1 + N) steps for m nodes with N rows in all, and
+/// returns `NoMemory` if memory is refused.
 pub fn best_engine<'t, R: Rank, L: Ledger>(
     alloc: Global,
     tree: &'t Tree<R>,

@@ -1,4 +1,5 @@
-//! Compares the rows of items 0 to 3 with what an engine returns, and with the solutions of streams.
+//! Compares the rows of items 0 to 3 with what an engine returns, and with the solutions of
+//! streams.
 ghost use Rattle.std.specs.Prelude.{◌<◌, length};
 ghost use Rattle.tdp_core.specs.TreeView.{group_count};
 

@@ -226,8 +226,8 @@ fn drive_from_the_front<E: Ranked, L: Ledger>(
     Ok(drive(cursors, id, members, refusals, steps))
 }
 
-/// The members and refusals up to which a cursor is driven, the answers and refusals that it meets, and whether it meets
-/// the end.
+/// The members and refusals up to which a cursor is driven, the answers and refusals that it meets,
+/// and whether it meets the end.
 const DRIVES: &[(u64, u64, u64, u64, bool)] = &[
     (3, 1, 0, 2, false),
     (3, 1, 3, 1, false),
@@ -236,7 +236,8 @@ const DRIVES: &[(u64, u64, u64, u64, bool)] = &[
     (5, 0, 5, 0, false),
 ];
 
-/// Whether cursors over five answers, one after another, are driven that far if the first three calls are refused.
+/// Whether cursors over five answers, one after another, are driven that far if the first three
+/// calls are refused.
 fn are_driven<E: Ranked, L: Ledger>(cursors: &mut Cursors<E>, steps: &mut Steps<L>) -> bool {
     for (members, refusals, given, refused, ended) in DRIVES {
         let driven = Driven {

@@ -120,7 +120,8 @@ fn pushed<R: Rank, L: Ledger>(
     Ok(drains(&mut heap, usize::from(count), steps))
 }
 
-/// Whether entries of each size leave in order of rank, both if made into a heap at once and if pushed one by one.
+/// Whether entries of each size leave in order of rank, both if made into a heap at once and if
+/// pushed one by one.
 fn all_drain<R: Rank, L: Ledger>(alloc: Global, steps: &mut Steps<L>) -> Result<bool, NoMemory>
     requires slots { 1 ≤ R.ITEMS }
     requires limit { 2 ^ 32 ≤ R.LIMIT }

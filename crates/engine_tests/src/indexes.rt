@@ -8,7 +8,8 @@ use std::marker::Brand;
 use std::sync::ledger::{Blank, Ledger};
 use step_counter::{NoMemory, Steps};
 
-/// Whether a table that has to grow and a hash give two links the same numbers, and find no third one.
+/// Whether a table that has to grow and a hash give two links the same numbers, and find no third
+/// one.
 fn indexes_agree<L: Ledger>(alloc: Global, blank: Blank) -> Result<bool, NoMemory>
     requires name { blank.name ≡ L.name }
     requires parts { blank.parts ≡ L.parts }
@@ -48,8 +49,8 @@ fn number_of_two<L: Ledger>(
     Ok(list.get())
 }
 
-/// Whether lists get the number of their last pair, apart for each node: one list twice, another at its node, and a list
-/// that is read at the other node.
+/// Whether lists get the number of their last pair, apart for each node: one list twice, another at
+/// its node, and a list that is read at the other node.
 fn lists_get_numbers<L: Ledger>(alloc: Global, blank: Blank) -> Result<bool, NoMemory>
     requires name { blank.name ≡ L.name }
     requires parts { blank.parts ≡ L.parts }

@@ -1,5 +1,5 @@
-//! The answers of a small tree from the engine by recursion, and from the streams below it, over two
-//! allocators.
+//! The answers of a small tree from the engine by recursion, and from the streams below it, over
+//! two allocators.
 ghost use Rattle.std.specs.Prelude.{◌≡◌, ◌<◌, length};
 ghost use Rattle.tdp_core.specs.TreeView.{group_count};
 ghost use Rattle.tdp_core.specs.WellFormed.{IsTieFreeTree};

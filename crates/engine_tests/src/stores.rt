@@ -33,7 +33,8 @@ fn fill<A: Allocator + Clone, L: Ledger>(
 /// What a store has to hold, in one vector: each entry's value, and the place of its next entry.
 type Plain = Vec<(u64, Option<usize>)>;
 
-/// Links the entry at one place to that at another, in the store and in the vector, if none follows it yet.
+/// Links the entry at one place to that at another, in the store and in the vector, if none follows
+/// it yet.
 fn link_both<A: Allocator + Clone, L: Ledger>(
     store: &mut Store<u64, A>,
     plain: &mut Plain,

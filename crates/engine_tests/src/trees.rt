@@ -183,7 +183,8 @@ fn adds<R: Rank, L: Ledger>(tree: &Tree<R>, node: u32, row: u32, steps: &mut Ste
     R::less(&own, &best, steps)
 }
 
-/// Whether the best of each row of a node is greater than the row's own rank exactly in the rows that `more` marks.
+/// Whether the best of each row of a node is greater than the row's own rank exactly in the rows
+/// that `more` marks.
 fn has_adds<R: Rank, L: Ledger>(
     tree: &Tree<R>,
     node: u32,

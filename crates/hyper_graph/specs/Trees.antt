@@ -1,7 +1,8 @@
 -- Trees as lists of parents, and paths in them.
 use Rattle.std.specs.Prelude.{◌≡◌, ◌≢◌, ◌⊎◌, ℕ, suc, ◌<◌, ◌≤◌, List, length, slice_index}
 
--- a list of parents, one for each node: node 0 is the root and its own parent, and every other node is after its parent
+-- a list of parents, one for each node: node 0 is the root and its own parent, and every other node
+-- is after its parent
 pub record ParentsFirst (parents : List ℕ) : Type 0 where
   pub root : slice_index parents 0 ≡ 0
   pub earlier : (k : ℕ) → 0 < k → k < length parents → slice_index parents k < k

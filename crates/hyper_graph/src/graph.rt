@@ -28,7 +28,8 @@ impl Model for Graph {
     ghost invariant = { λ g. IsGraph (record { atoms = g.atom_count; vars = g.sets.items }) };
 }
 
-/// Whether `f` has the variable of this set, if `a` shares it with one of the others; true if it does not.
+/// Whether `f` has the variable of this set, if `a` shares it with one of the others; true if it
+/// does not.
 fn keeps(set: u16, others: u16, a: u32, f: u32) -> bool
     requires a_in { a < 16 }
     requires f_in { f < 16 }
@@ -54,8 +55,8 @@ fn is_connected(set: u16, parents: &[u32]) -> bool
 }
 
 impl Graph {
-    /// A graph of 1 to 16 atoms. For each variable, `vars` has the set of the atoms that have it; atom 0 is the lowest
-    /// bit. `NoMemory` if memory is refused, and no other error.
+    /// A graph of 1 to 16 atoms. For each variable, `vars` has the set of the atoms that have it;
+    /// atom 0 is the lowest bit. `NoMemory` if memory is refused, and no other error.
     pub fn new(alloc: Global, atoms: u32, vars: &[u16]) -> Result<Graph, NoMemory>
         requires some { 1 ≤ atoms }
         requires few { atoms ≤ 16 }
@@ -99,8 +100,9 @@ impl Graph {
         false
     }
 
-    /// The least other live atom that has every variable which the live atom `a` shares with any other live atom.
-    /// `None` exactly if there is none, that is, if `a` is not an ear. Bits of `live` beyond the atoms are ignored.
+    /// The least other live atom that has every variable which the live atom `a` shares with any
+    /// other live atom. `None` exactly if there is none, that is, if `a` is not an ear. Bits of
+    /// `live` beyond the atoms are ignored.
     pub fn is_ear(&self, a: u32, live: u16) -> Option<u32>
         requires { IsLiveIn self.now live a }
         ensures { MatchOption result
@@ -134,8 +136,8 @@ impl Graph {
         true
     }
 
-    /// Whether every atom on the path between two atoms of a variable has it too, in a tree over the atoms. In
-    /// `parents` each atom is after its parent.
+    /// Whether every atom on the path between two atoms of a variable has it too, in a tree over
+    /// the atoms. In `parents` each atom is after its parent.
     pub fn connected(&self, var: u32, parents: &[u32]) -> bool
         requires var_in { var < length self.now.vars }
         requires each { length parents.now ≡ self.now.atoms }

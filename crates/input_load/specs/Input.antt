@@ -21,8 +21,8 @@ pub record InputView : Type 0 where
   -- the certificate, and the empty one if there is none
   pub proof : Certificate
 
--- the queries were bound to the tables and have as many order keys each, a query has the item if one is
--- named, and the steps keep the rules of scripts
+-- the queries were bound to the tables and have as many order keys each, a query has the item if
+-- one is named, and the steps keep the rules of scripts
 pub record IsSound (input : InputView) : Type 0 where
   pub some : 1 ≤ length input.queries
   pub few : length input.queries ≤ 8

@@ -10,8 +10,8 @@ pub record IsWithinLimits (select : Select) : Type 0 where
   pub items : length select.items ≤ 16
   pub keys : length select.keys ≤ 8
 
--- there is at least one, and no more than a query may have branches; all together have no more items than a
--- query may have
+-- there is at least one, and no more than a query may have branches; all together have no more
+-- items than a query may have
 pub record AreWithinLimits (selects : List Select) : Type 0 where
   pub some : 1 ≤ length selects
   pub few : length selects ≤ 8

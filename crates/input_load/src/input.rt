@@ -26,8 +26,8 @@ use query_select::select::Select;
 use refusal_lines::Refusal;
 use std::alloc::Global;
 
-/// The input that is in the query file, in the file of the script or of the certificate, if there is
-/// one, and in the tables' files, or its first refusal. The tables are hashed with these keys.
+/// The input that is in the query file, in the file of the script or of the certificate, if there
+/// is one, and in the tables' files, or its first refusal. The tables are hashed with these keys.
 pub fn load_input<'a, F: Shelf>(
     alloc: Global,
     sought: &Sought<'a>,
@@ -37,7 +37,8 @@ pub fn load_input<'a, F: Shelf>(
     ensures staged { let asked = sought_view sought.now in
         Staged (IsLoadedOn asked) (IsTurn asked)
         (shelved F.Shelf shelf.old) (shelved F.Shelf shelf.new) (input_result_view result) }
-    // If several branches are not allowed, there is one query, and if no item is named, there is none.
+    // If several branches are not allowed, there is one query, and if no item is named, there is
+    // none.
     ensures alone { sought.now.several ≡ false → IfOk result (λ input. length input.queries ≡ 1) }
     ensures unnamed { sought.now.best_of ≡ None → IfOk result (λ input. input.best ≡ None) }
 {

@@ -22,7 +22,8 @@ use step_counter::NoMemory;
 /// tables are the program's own, so that they are hashed with known keys.
 pub fn load_made<'a>(alloc: Global, made: &'a MadeTables) -> Result<Input, Refusal<'a>>
     ensures made { let asked = sought_by (load made.now.number made.now.rows) in
-        Pure (IsLoadedOn asked (made_files made.now.number made.now.rows)) (input_result_view result) }
+        Pure (IsLoadedOn asked (made_files made.now.number made.now.rows))
+        (input_result_view result) }
     ensures alone { IfOk result (λ input. length input.queries ≡ 1) }
 {
     let mut shelf = PureShelf::new(made_shelf(alloc, made)?);

@@ -14,8 +14,8 @@ use refusal_lines::Refusal;
 use std::alloc::Global;
 use step_counter::NoMemory;
 
-/// The query that these bytes write, or its branches if it may have several. The error is the refusal
-/// for the parser's fault.
+/// The query that these bytes write, or its branches if it may have several. The error is the
+/// refusal for the parser's fault.
 pub(crate) fn read_selects<'a>(
     alloc: Global,
     several: bool,

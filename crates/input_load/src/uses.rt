@@ -17,8 +17,8 @@ use refusal_lines::Refusal;
 use std::alloc::Global;
 use step_counter::NoMemory;
 
-/// The entry that names the table of each item, for all items of all selects in order. `UnknownTable`
-/// at the first item whose table has no entry, and `NoMemory` if memory is refused.
+/// The entry that names the table of each item, for all items of all selects in order.
+/// `UnknownTable` at the first item whose table has no entry, and `NoMemory` if memory is refused.
 pub(crate) fn entries_of<'a>(
     alloc: Global,
     named: &'a [Named],
@@ -41,8 +41,8 @@ pub(crate) fn entries_of<'a>(
     Ok(entries)
 }
 
-/// Adds the entry that names the table of each item. `UnknownTable` at the first item whose table has
-/// no entry, and `NoMemory` if memory is refused.
+/// Adds the entry that names the table of each item. `UnknownTable` at the first item whose table
+/// has no entry, and `NoMemory` if memory is refused.
 fn add_entries<'a>(
     named: &'a [Named],
     items: &[ItemRef],

@@ -13,7 +13,8 @@ pub record IsStep (Has : ℕ → ℕ → Type 0) (Live : ℕ → Type 0) (e f : 
   pub cover : CoversFirst Has Live e f
   pub greatest : (d : ℕ) → e < d → IsEar Has Live d → ⊥
 
--- the first `removed` atoms of `order` are removed one after another, each below its parent, and `core` is what is left
+-- the first `removed` atoms of `order` are removed one after another, each below its parent, and
+-- `core` is what is left
 pub record IsRun (graph : Hypergraph) (parent order : List ℕ) (removed core : ℕ) : Type 0 where
   pub steps : (k : ℕ) → k < removed
       → IsStep (HasVar graph) (IsLive graph.atoms order k) (slice_index order k)
@@ -31,13 +32,15 @@ pub record IsRemoval (graph : Hypergraph) (parent order : List ℕ) (removed cor
   pub run : IsRun graph parent order removed core
   pub stuck : (e : ℕ) → IsEar (HasVar graph) (IsIn core) e → ⊥
 
--- ears are removed in any order until none is left: each atom of `order` is an ear when its turn comes, and need not be the greatest
+-- ears are removed in any order until none is left: each atom of `order` is an ear when its turn
+-- comes, and need not be the greatest
 pub record IsAnyRemoval (graph : Hypergraph) (order : List ℕ) (removed : ℕ) : Type 0 where
   pub ears : (k : ℕ) → k < removed
       → IsEar (HasVar graph) (IsLive graph.atoms order k) (slice_index order k)
   pub stuck : (e : ℕ) → IsEar (HasVar graph) (IsLive graph.atoms order removed) e → ⊥
 
--- the tree of a removal that leaves one atom: its atoms in the reverse of the order in which they were removed, each below its parent
+-- the tree of a removal that leaves one atom: its atoms in the reverse of the order in which they
+-- were removed, each below its parent
 pub record IsTreeOf (parent order : List ℕ) (removed core : ℕ)
     (atoms parents : List ℕ) : Type 0 where
   pub root : IsIn core (slice_index atoms 0)

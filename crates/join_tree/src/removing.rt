@@ -38,9 +38,10 @@ fn greatest_ear(graph: &Graph, live: u16) -> Option<(u32, u32)>
     None
 }
 
-/// Removes ears as long as there are two atoms and one of them is an ear: the greatest ear first, each below the least
-/// atom that has the variables which it shares. One atom is left exactly if a join tree exists, and no other order of
-/// removal would leave one if this one does not. Takes no memory.
+/// Removes ears as long as there are two atoms and one of them is an ear: the greatest ear first,
+/// each below the least atom that has the variables which it shares. One atom is left exactly if a
+/// join tree exists, and no other order of removal would leave one if this one does not. Takes no
+/// memory.
 pub fn ears(graph: &Graph) -> Ears
     ensures removal { IsRemoval graph.now result.parent result.order result.removed result.core }
     ensures one { HasOne result.core ↔ HasJoinTree graph.now }

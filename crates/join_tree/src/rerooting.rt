@@ -7,8 +7,9 @@ ghost use Rattle.join_tree.specs.Rerooting.{IsTree, HasAtom, IsSameTree, IsRenum
 
 use crate::tree::JoinTree;
 
-/// The same tree with this atom as its root. It has the same atoms, and two of them are parent and child, in either
-/// direction, exactly if they were before. So it is a join tree of each graph of which `tree` is one. Takes no memory.
+/// The same tree with this atom as its root. It has the same atoms, and two of them are parent and
+/// child, in either direction, exactly if they were before. So it is a join tree of each graph of
+/// which `tree` is one. Takes no memory.
 pub fn reroot(tree: &JoinTree, atom: u32) -> JoinTree
     requires tree { IsTree tree.now.count tree.now.atom tree.now.parent }
     requires there { HasAtom tree.now.count tree.now.atom atom }
@@ -33,7 +34,8 @@ fn reroot_at(tree: &JoinTree, node: u32) -> JoinTree
     ensures tree { IsTree tree.now.count result.atom result.parent }
     ensures nodes { length result.atom ≡ 16 }
     ensures parents { length result.parent ≡ 16 }
-    ensures renumbered { (r : IsRenumbered tree.now.count tree.now.atom tree.now.parent result.atom result.parent)
+    ensures renumbered { (r : IsRenumbered tree.now.count tree.now.atom tree.now.parent
+        result.atom result.parent)
         × (r.old 0 ≡ node) }
 {
     if node == 0 {

@@ -20,8 +20,9 @@ pub struct JoinTree {
     pub parent: [u32; 16],
 }
 
-/// The join tree of a graph whose ears were removed. The last atom left is its root, and the others are in the reverse
-/// of the order in which they were removed. `None` exactly if the graph has no join tree.
+/// The join tree of a graph whose ears were removed. The last atom left is its root, and the others
+/// are in the reverse of the order in which they were removed. `None` exactly if the graph has no
+/// join tree.
 pub fn tree_of(ears: &Ears) -> Option<JoinTree>
     requires { (graph : Hypergraph)
         × IsRemoval graph ears.now.parent ears.now.order ears.now.removed ears.now.core }

@@ -1,5 +1,5 @@
-//! That the command `load` is always accepted: its query is parsed, its tables have no flaw, and its
-//! join is acyclic.
+//! That the command `load` is always accepted: its query is parsed, its tables have no flaw, and
+//! its join is acyclic.
 #![tactic(auto)]
 
 ghost use Rattle.load_law.specs.Laws.{LoadAccepted, LoadEnds};

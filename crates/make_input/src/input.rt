@@ -7,7 +7,8 @@ ghost use Rattle.make_input.specs.Input.{next_draw, draw, row_text, rows_text, t
 use std::alloc::{AllocError, Global};
 use step_counter::NoMemory;
 
-/// The query over the four tables P1 to P4: the 100 least sums of weights along their chain of joins.
+/// The query over the four tables P1 to P4: the 100 least sums of weights along their chain of
+/// joins.
 pub const LOAD_QUERY: &str =
     "select P1.a, P4.e from P1, P2, P3, P4 where P1.b = P2.b and P2.c = P3.c and P3.d = P4.d order by P1.w + P2.w + P3.w + P4.w limit 100";
 
@@ -73,8 +74,9 @@ fn table(
     Ok(text.into_bytes())
 }
 
-/// The files of the tables P1 to P4, made in this order with `rows` rows each, from this number. The values of their
-/// join fields are at most a hundredth of `rows`. `NoMemory` if memory is refused.
+/// The files of the tables P1 to P4, made in this order with `rows` rows each, from this number.
+/// The values of their join fields are at most a hundredth of `rows`. `NoMemory` if memory is
+/// refused.
 pub fn tables_of(alloc: Global, number: u32, rows: u32) -> Result<Vec<Vec<u8>>, NoMemory>
     requires small { number < 2 ^ 31 }
     requires some_rows { 1 ≤ rows }

@@ -17,8 +17,8 @@ abbrev pub values_in : List Table → Table → ℕ → List ℕ → List ℕ
 values_in tables table row columns = map
     (λ (c : ℕ). number_of tables (field_at table (row - 1) c)) columns
 
--- n is the number at node q of a list of values that begins with `first`. One value is its own number. The number of more is that
--- of a pair: the number of all but the last, and the last.
+-- n is the number at node q of a list of values that begins with `first`. One value is its own
+-- number. The number of more is that of a pair: the number of all but the last, and the last.
 abbrev pub IsListNumber : List (List (ℕ × ℕ)) → ℕ → ℕ → ℕ → List ℕ → Type 0
 IsListNumber names q first n [] = n ≡ first
 IsListNumber names q first n (value ∷ rest) = (m : ℕ) × IsNumbered names q m (first, value)

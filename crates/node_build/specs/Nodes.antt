@@ -82,7 +82,8 @@ module _ (bound : BoundQuery) (tables : List Table) where
         → raw_rank tree d key v r
         ≡ row_key d (row_parts (item_of join v) (raw_number tree v r)) (item_of join v)
         (raw_number tree v r)
-    -- a row of a node and a row of its parent have one link exactly if they agree on the variables that both items have
+    -- a row of a node and a row of its parent have one link exactly if they agree on the variables
+    -- that both items have
     pub links : (q i r : ℕ) → 0 < q → q < join.count → i < raw_len tree q
         → r < raw_len tree (parent_of join q)
         → (own_link tree q i

@@ -27,9 +27,10 @@ fn sum_of(numbers: &[u64]) -> u64
     numbers.iter().sum()
 }
 
-/// The raw tree of a query over the tables to which it is bound. It has one node for each node of the join tree, in the
-/// same order, with the rows of the node's item that pass, ascending. `TooManyRows` exactly if all nodes together have
-/// more rows than the budget, and `NoMemory` if memory is refused.
+/// The raw tree of a query over the tables to which it is bound. It has one node for each node of
+/// the join tree, in the same order, with the rows of the node's item that pass, ascending.
+/// `TooManyRows` exactly if all nodes together have more rows than the budget, and `NoMemory` if
+/// memory is refused.
 pub fn build<R: Rank, L: Ledger>(
     alloc: Global,
     query: &Query,

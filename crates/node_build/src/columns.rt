@@ -13,8 +13,8 @@ use join_tree::JoinTree;
 use std::alloc::Global;
 use step_counter::NoMemory;
 
-/// For each node after the first, the columns of its item, and for each of these the column of the same variable in its
-/// parent's item.
+/// For each node after the first, the columns of its item, and for each of these the column of the
+/// same variable in its parent's item.
 #[derive(Drop)]
 pub(crate) struct Columns {
     pub own: Vec<Vec<u32>>,

@@ -1,4 +1,5 @@
-//! Links: one number for the values that a row has in some columns, the same for two rows exactly if the values are.
+//! Links: one number for the values that a row has in some columns, the same for two rows exactly
+//! if the values are.
 ghost use Rattle.std.specs.Prelude.{◌≡◌, ◌<◌, ◌≤◌, ◌+◌, ℕ, length, slice_index, IfOk, OnOk};
 ghost use Rattle.anyk_model.specs.Table.{table_at};
 ghost use Rattle.counted_index.specs.Pairs.{AreMore};
@@ -9,7 +10,8 @@ use std::sync::ledger::Ledger;
 use step_counter::{NoMemory, Steps};
 use table_store::Tables;
 
-/// The number at a node of a list of values: those of `first`, and those that a row has in some columns.
+/// The number at a node of a list of values: those of `first`, and those that a row has in some
+/// columns.
 fn list_number(
     tables: &Tables,
     table: u32,
@@ -37,8 +39,8 @@ fn list_number(
     Ok(list.get())
 }
 
-/// The link at a node of the values that a row has in some columns: the value itself if there is one, 0 if there is
-/// none, and the number of their list if there are several. It counts one step.
+/// The link at a node of the values that a row has in some columns: the value itself if there is
+/// one, 0 if there is none, and the number of their list if there are several. It counts one step.
 pub(crate) fn link<L: Ledger>(
     tables: &Tables,
     table: u32,

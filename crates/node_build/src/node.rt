@@ -69,8 +69,8 @@ fn child_links<L: Ledger>(
     Ok(())
 }
 
-/// Adds a row of a node to the tree, with its links. `named` is room for the links that it names; its content is
-/// replaced.
+/// Adds a row of a node to the tree, with its links. `named` is room for the links that it names;
+/// its content is replaced.
 fn add_row<R: Rank, L: Ledger>(
     query: &Query,
     tables: &Tables,

@@ -1,4 +1,5 @@
-//! The text of a number in decimal digits, kept in place, and a writer of digits. Neither takes memory.
+//! The text of a number in decimal digits, kept in place, and a writer of digits. Neither takes
+//! memory.
 #![tactic(auto)]
 
 ghost use Rattle.std.specs.Prelude.{◌≡◌, ◌≤◌, ◌%◌, decimal, drop, false};
@@ -8,8 +9,9 @@ mod text;
 
 pub use text::NumberText;
 
-/// Writes the number's digits, without leading zeros, at the end of the buffer, and returns where they begin, from 0.
-/// Every `u64` fits in twenty digits. It divides by ten, from the last digit to the first.
+/// Writes the number's digits, without leading zeros, at the end of the buffer, and returns where
+/// they begin, from 0. Every `u64` fits in twenty digits. It divides by ten, from the last digit to
+/// the first.
 pub fn write_digits(number: u64, digits: &mut [u8; 20]) -> usize
     ensures within { result ≤ 20 }
     ensures digits { drop result digits.new ≡ decimal number }

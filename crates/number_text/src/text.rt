@@ -8,8 +8,8 @@ use std::marker::Model;
 /// The number of bytes of the longest text, that of the least `i128`.
 const MOST: usize = 40;
 
-/// The text of a number: its decimal digits, without leading zeros, and `-` before a negative one. It takes no memory.
-/// Contracts see its bytes.
+/// The text of a number: its decimal digits, without leading zeros, and `-` before a negative one.
+/// It takes no memory. Contracts see its bytes.
 #[derive(Drop)]
 pub struct NumberText {
     bytes: [u8; MOST],

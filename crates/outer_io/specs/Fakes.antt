@@ -37,7 +37,8 @@ went_with s holding = record
 abbrev pub closed : Holding → Holding
 closed h = record { files = h.files; rest = []; misses = h.misses; taken = h.taken }
 
--- after a call of `open` that does not fail: the file of the name is open, or none and a miss is counted
+-- after a call of `open` that does not fail: the file of the name is open, or none and a miss is
+-- counted
 abbrev pub opened : Holding → List ℕ → Holding
 opened h name = record {
   files = h.files;

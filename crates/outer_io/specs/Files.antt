@@ -3,7 +3,8 @@ use Rattle.std.specs.Prelude.{◌≡◌, ◌<◌, ℕ, List, [], ◌∷◌, leng
 use Rattle.std.specs.Option.{IsSome}
 use Rattle.std.specs.Str.{bytes_eq}
 
--- a finite map from names to bytes, as the list of its entries: a name has the bytes of its first one
+-- a finite map from names to bytes, as the list of its entries: a name has the bytes of its first
+-- one
 abbrev pub Files : Type 0
 Files = List (List ℕ × List ℕ)
 

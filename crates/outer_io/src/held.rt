@@ -77,7 +77,8 @@ impl Held {
         }
     }
 
-    /// Opens a file, or closes the open one and counts a miss. Returns whether there is such a file.
+    /// Opens a file, or closes the open one and counts a miss. Returns whether there is such a
+    /// file.
     pub fn open(&mut self, name: &str) -> bool
         ensures found { result ≡ is_some (bytes_of self.old.files name.now) }
         ensures after { self.new ≡ record self.old {

@@ -1,9 +1,11 @@
-//! The outside of a program as two traits: a shelf of files that are read, and a sink that takes bytes.
+//! The outside of a program as two traits: a shelf of files that are read, and a sink that takes
+//! bytes.
 //!
-//! Both follow `Read` and `Write` of `std::io`. Their contracts also count. A missing file, a failed read or a failed
-//! write may be returned only if a count rose, so that a caller that gives up without cause does not keep its contract.
-//! A count has 64 bits and stays at its last value; 'rose' means 'rose, or is there'. The contents of a shelf and the
-//! bytes that a sink has taken are known for the fakes in memory, and for none of the adapters to the system.
+//! Both follow `Read` and `Write` of `std::io`. Their contracts also count. A missing file, a
+//! failed read or a failed write may be returned only if a count rose, so that a caller that gives
+//! up without cause does not keep its contract. A count has 64 bits and stays at its last value;
+//! 'rose' means 'rose, or is there'. The contents of a shelf and the bytes that a sink has taken
+//! are known for the fakes in memory, and for none of the adapters to the system.
 #![tactic(auto)]
 
 mod held;

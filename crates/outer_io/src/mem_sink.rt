@@ -11,8 +11,9 @@ use std::alloc::Global;
 use std::marker::Model;
 use step_counter::NoMemory;
 
-/// A sink in memory with room for a given number of bytes. It takes at most `most` bytes in a call, and counts its
-/// calls from 1: it fails at those whose numbers are in `failing`, and takes nothing at those in `zeros`.
+/// A sink in memory with room for a given number of bytes. It takes at most `most` bytes in a call,
+/// and counts its calls from 1: it fails at those whose numbers are in `failing`, and takes nothing
+/// at those in `zeros`.
 #[derive(Drop)]
 pub struct MemSink {
     bytes: Vec<u8>,
@@ -45,8 +46,8 @@ impl Model for MemSink {
 }
 
 impl MemSink {
-    /// An empty sink, with memory for all of `room`, so that no call of `write` takes any. `NoMemory` if that is
-    /// refused.
+    /// An empty sink, with memory for all of `room`, so that no call of `write` takes any.
+    /// `NoMemory` if that is refused.
     pub fn new(
         alloc: Global,
         room: usize,

@@ -12,8 +12,8 @@ use crate::held::{Held, MemFile};
 use crate::{ReadFailed, Shelf, ShelfFault};
 use std::marker::Model;
 
-/// A shelf in memory that fails at the calls whose numbers are in `failing`. Calls of `open` and `read` are counted
-/// together, from 1.
+/// A shelf in memory that fails at the calls whose numbers are in `failing`. Calls of `open` and
+/// `read` are counted together, from 1.
 #[derive(Drop)]
 pub struct MemShelf {
     held: Held,

@@ -48,9 +48,9 @@ impl From<ReadFailed> for FileFault {
     }
 }
 
-/// The bytes of a file, read to its end. `Missing` if the shelf has no file of the name, `Failed` if the shelf failed,
-/// `TooLarge` if the file is longer than `MAX_FILE_BYTES`, and `NoMemory` if memory is refused. The shelf's files stay
-/// as they were.
+/// The bytes of a file, read to its end. `Missing` if the shelf has no file of the name, `Failed`
+/// if the shelf failed, `TooLarge` if the file is longer than `MAX_FILE_BYTES`, and `NoMemory` if
+/// memory is refused. The shelf's files stay as they were.
 pub fn read_file<F: Shelf>(alloc: Global, shelf: &mut F, name: &str) -> Result<Vec<u8>, FileFault>
     ensures files { F.files shelf.new ≡ F.files shelf.old }
     ensures bytes { IfOk result (λ bytes. HasFile (F.files shelf.old) name.now (Some bytes.items)) }
@@ -109,7 +109,8 @@ fn read_to_end<F: Shelf>(alloc: Global, shelf: &mut F) -> Result<Vec<u8>, FileFa
     }
 }
 
-/// One read after the first `filled` bytes. Room is made before it, so that no byte is lost if memory is refused.
+/// One read after the first `filled` bytes. Room is made before it, so that no byte is lost if
+/// memory is refused.
 fn read_more<F: Shelf>(
     shelf: &mut F,
     bytes: &mut Vec<u8>,
@@ -137,8 +138,8 @@ fn read_more<F: Shelf>(
     Ok(read_at(shelf, bytes.as_mut_slice(), filled)?)
 }
 
-/// Makes the vector longer than `filled`, by zeros, unless it is already. Room that an earlier read left unfilled is
-/// used first.
+/// Makes the vector longer than `filled`, by zeros, unless it is already. Room that an earlier read
+/// left unfilled is used first.
 fn make_room(bytes: &mut Vec<u8>, filled: usize) -> Result<(), AllocError>
     requires { filled ≤ vec_len bytes.old }
     ensures front { take filled bytes.new.items ≡ take filled bytes.old.items }

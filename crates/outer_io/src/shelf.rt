@@ -23,7 +23,8 @@ pub trait Shelf {
     /// The files, if the shelf's contents are known.
     ghost files: { Self → Option Files };
 
-    /// What is left of the open file, if the shelf's contents are known. It is empty if no file is open.
+    /// What is left of the open file, if the shelf's contents are known. It is empty if no file is
+    /// open.
     ghost rest: { Self → Option (List ℕ) };
 
     /// How often there was no file of a name.
@@ -49,8 +50,8 @@ pub trait Shelf {
         ensures faults { faults self.old ≤ faults self.new }
         ensures taken { taken self.new ≡ taken self.old };
 
-    /// Moves the next bytes of the open file to the front of the buffer, and returns how many. It returns 0 only at the
-    /// file's end, if no file is open, or if the buffer is empty.
+    /// Moves the next bytes of the open file to the front of the buffer, and returns how many. It
+    /// returns 0 only at the file's end, if no file is open, or if the buffer is empty.
     fn read(&mut self, buf: &mut [u8]) -> Result<usize, ReadFailed>
         ensures files { files self.new ≡ files self.old }
         ensures within { IfOk result (λ n. n ≤ length buf.new) }

@@ -16,7 +16,8 @@ pub trait Sink {
     /// How often the sink failed.
     ghost faults: { Self → ℕ };
 
-    /// Takes some of the first bytes, and returns how many. It returns 0 for some bytes only at a fault.
+    /// Takes some of the first bytes, and returns how many. It returns 0 for some bytes only at a
+    /// fault.
     fn write(&mut self, bytes: &[u8]) -> Result<usize, WriteFailed>
         ensures within { IfOk result (λ n. n ≤ length bytes.now) }
         ensures written { WriteAppends (written self.old) (written self.new) result bytes.now }

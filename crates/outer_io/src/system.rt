@@ -1,8 +1,9 @@
 //! The files, standard output and standard error of the system, over `std`.
 //!
-//! They keep the contracts of `Shelf` and `Sink`, but what a file has and what a stream has taken is not known to
-//! contracts here: `files`, `rest` and `written` are `None`. Misses, faults and bytes read are counted. A read or a
-//! write that a signal interrupts is made again, up to `TRIES` times in all.
+//! They keep the contracts of `Shelf` and `Sink`, but what a file has and what a stream has taken
+//! is not known to contracts here: `files`, `rest` and `written` are `None`. Misses, faults and
+//! bytes read are counted. A read or a write that a signal interrupts is made again, up to `TRIES`
+//! times in all.
 
 ghost use Rattle.std.specs.Io.{ReadsAtMost, WritesAtMost};
 
@@ -122,7 +123,8 @@ impl<W: Write> Sink for StdSink<W> {
     }
 }
 
-/// One read, made again if a signal interrupts it, up to `TRIES` times. An interrupted read has moved nothing.
+/// One read, made again if a signal interrupts it, up to `TRIES` times. An interrupted read has
+/// moved nothing.
 fn read_again<R: Read>(from: &mut R, buf: &mut [u8]) -> io::Result<usize>
     ensures { ReadsAtMost result buf.new }
 {
@@ -135,7 +137,8 @@ fn read_again<R: Read>(from: &mut R, buf: &mut [u8]) -> io::Result<usize>
     from.read(buf)
 }
 
-/// One write, made again if a signal interrupts it, up to `TRIES` times. An interrupted write has taken nothing.
+/// One write, made again if a signal interrupts it, up to `TRIES` times. An interrupted write has
+/// taken nothing.
 fn write_again<W: Write>(to: &mut W, bytes: &[u8]) -> io::Result<usize>
     ensures { WritesAtMost result bytes.now }
 {

@@ -12,8 +12,8 @@ pub struct Unwritten {
     pub taken: usize,
 }
 
-/// Passes all bytes to the sink, piece by piece as it takes them. It stops at the first fault, or if the sink takes
-/// none of some bytes; `Unwritten` says how many were taken. It takes no memory.
+/// Passes all bytes to the sink, piece by piece as it takes them. It stops at the first fault, or
+/// if the sink takes none of some bytes; `Unwritten` says how many were taken. It takes no memory.
 pub fn write_all<S: Sink>(sink: &mut S, bytes: &[u8]) -> Result<(), Unwritten>
     ensures all { OnOk result (Appends (S.written sink.old) (S.written sink.new) bytes.now) }
     ensures part { IfErr result

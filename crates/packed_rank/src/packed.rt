@@ -12,8 +12,8 @@ use step_counter::Steps;
 /// The unit of the sum.
 const SUM_UNIT: i128 = 1 << 84;
 
-/// A rank with one sum, of 44 bits with a sign, and with the first four slots, of 21 bits each, for a query of at most
-/// four items. All of them are in one number, and the sum has the greatest unit.
+/// A rank with one sum, of 44 bits with a sign, and with the first four slots, of 21 bits each, for
+/// a query of at most four items. All of them are in one number, and the sum has the greatest unit.
 #[derive(Clone, Copy)]
 pub struct PackedRank {
     number: Sum,

@@ -63,7 +63,8 @@ pub record HasRoom (bound : BoundQuery) (tables : List Table) (room : Room) : Ty
   pub items : length bound.query.items ≤ room.slots
   pub limit : CapsBelow room.limit bound tables
 
--- the ranks of the plan have room for the query, and no ranks that have room for it take fewer bytes
+-- the ranks of the plan have room for the query, and no ranks that have room for it take fewer
+-- bytes
 pub record HasLeastRoom (bound : BoundQuery) (tables : List Table)
     (plan : RankedPlan) : Type 0 where
   pub enough : HasRoom bound tables (room_of plan)

@@ -38,8 +38,8 @@ pub enum RankedPlan {
 }
 
 /// The plan of a query over the tables to which it is bound, with this item, counted from 0, at the
-/// root if one is given, and with the smallest ranks that have room for the order keys and the items.
-/// Its errors and its steps are those of `prepare`.
+/// root if one is given, and with the smallest ranks that have room for the order keys and the
+/// items. Its errors and its steps are those of `prepare`.
 pub fn prepare_ranked<L: Ledger>(
     alloc: Global,
     query: &Query,

@@ -1,5 +1,5 @@
-//! The engine of ranked enumeration over a plan: the one that the command line names, or that of the best answers of
-//! an item's rows.
+//! The engine of ranked enumeration over a plan: the one that the command line names, or that of
+//! the best answers of an item's rows.
 #![tactic(auto)]
 
 mod engine;

@@ -72,7 +72,8 @@ module _ (bound : BoundQuery) (tables : List Table) {R : Type 0} (tree : List (N
 
   -- the rows of the nodes and their groups, in terms of the query
   pub record HasReducedRows : Type 0 where
-    -- a node has exactly the rows of its item that pass and extend to one row for each node below it, in ascending order
+    -- a node has exactly the rows of its item that pass and extend to one row for each node below
+    -- it, in ascending order
     pub ascending : (v : ℕ) → v < length tree → IsAscending (λ a b. a < b) (numbers v)
     pub members : (v row : ℕ) → v < length tree
         → IsMember row (numbers v)
@@ -90,7 +91,8 @@ module _ (bound : BoundQuery) (tables : List Table) {R : Type 0} (tree : List (N
         × RowsAgree bound tables (item tree v) (item tree (parent tree v)) (number tree v i)
         (number tree (parent tree v) r))
 
--- a tree of rows for the query over these tables, with the shape of the query: what all its plans have
+-- a tree of rows for the query over these tables, with the shape of the query: what all its plans
+-- have
 pub record IsPlanFor {R : Type 0} (d : ℕ) (key : R → KeyOf d 16) (bound : BoundQuery)
     (tables : List Table) (plan : PlanView R) : Type 0 where
   -- the ranks have room for the order keys
@@ -107,7 +109,8 @@ pub record IsPlanFor {R : Type 0} (d : ℕ) (key : R → KeyOf d 16) (bound : Bo
   pub nodes : length plan.tree ≡ length bound.query.items
   pub fewer : row_count plan.tree ≤ sum_of_all shape.node_rows
   pub reduced : HasReducedRows bound tables plan.tree
-  -- the key of a row has the parts that the row has of the order keys, and the row's number in the slot of its item
+  -- the key of a row has the parts that the row has of the order keys, and the row's number in the
+  -- slot of its item
   pub ranks : (v r : ℕ) → v < length plan.tree → r < rows plan.tree v
       → rank plan.tree d key v r
       ≡ row_key d (map (part_of tables bound.query.items (item plan.tree v) (number plan.tree v r))
@@ -134,7 +137,8 @@ nodes_in tree = record {
   parent = map (λ n. n.shape.parent) tree;
 }
 
--- the plan with the item `at` at the root: the nodes of its tree are those of a join tree that has the same links
+-- the plan with the item `at` at the root: the nodes of its tree are those of a join tree that has
+-- the same links
 pub record IsPlanAt {R : Type 0} (d : ℕ) (key : R → KeyOf d 16) (bound : BoundQuery)
     (tables : List Table) (at : ℕ) (plan : PlanView R) : Type 0 where
   pub whole : IsPlanFor d key bound tables plan

@@ -1,4 +1,5 @@
--- The trees that the tests build: a root with two children, whose rows are numbered by their places.
+-- The trees that the tests build: a root with two children, whose rows are numbered by their
+-- places.
 use Rattle.std.specs.Prelude.{◌≡◌, ℕ, ◌<◌, cond, nat_eq, List, [], ◌∷◌, length}
 use Rattle.tdp_core.specs.declared.parts.NodeShape.{NodeShape}
 use Rattle.tdp_core.specs.RawView.{RawView, raw_len, raw_number}

@@ -39,8 +39,8 @@ pub(crate) fn read_two(tables: &mut Tables, files: Files) -> Result<(), TableFau
     Ok(())
 }
 
-/// The query bound to the tables; `which` names the table of each item. `None` if `which` has another length than its
-/// items, or if it cannot be bound.
+/// The query bound to the tables; `which` names the table of each item. `None` if `which` has
+/// another length than its items, or if it cannot be bound.
 fn bound(alloc: Global, tables: &Tables, select: &Select, which: &[u32]) -> Option<Query>
     requires few { length which.now ≤ 16 }
     requires known { AllByRecursion (λ t. t < length tables.now) which.now }

@@ -15,8 +15,8 @@ use table_store::Tables;
 use tdp_core::Tree;
 use tree_dp::first;
 
-/// Whether a rank has the sum 3: a key with the sum 3 and without rows is less than it, and a key with the sum 4 is
-/// greater.
+/// Whether a rank has the sum 3: a key with the sum 3 and without rows is less than it, and a key
+/// with the sum 4 is greater.
 fn is_three<R: Rank, L: Ledger>(rank: &R, steps: &mut Steps<L>) -> bool
     requires slots { 16 ≤ R.ITEMS }
     requires limit { 2 ^ 127 ≤ R.LIMIT }

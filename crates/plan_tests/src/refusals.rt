@@ -20,7 +20,8 @@ const CHUNK: usize = 448;
 /// The number of refusals in one call after which the test gives up.
 const TRIES: usize = 200;
 
-/// Lets the arena take more memory after each refusal: an engine that was not made leaves what it took in the arena.
+/// Lets the arena take more memory after each refusal: an engine that was not made leaves what it
+/// took in the arena.
 fn allow_more(arena: &Bump, refused: usize) {
     let limit = arena.allocation_limit().unwrap_or(0);
     let more = refused.saturating_add(1).saturating_mul(64);
@@ -44,7 +45,8 @@ fn engine_in<'t, 'a, R: Rank, L: Ledger>(
     Err(NoMemory)
 }
 
-/// The next answer, and how often memory was refused before it came. At first the arena may take no memory.
+/// The next answer, and how often memory was refused before it came. At first the arena may take no
+/// memory.
 fn next_in<E: Ranked, L: Ledger>(
     engine: &mut E,
     arena: &Bump,
@@ -60,8 +62,8 @@ fn next_in<E: Ranked, L: Ledger>(
     Err(NoMemory)
 }
 
-/// How often memory was refused while the engine returned all its answers, if these are the wanted rows of the first
-/// four items.
+/// How often memory was refused while the engine returned all its answers, if these are the wanted
+/// rows of the first four items.
 fn refusals_of_engine<E: Ranked, L: Ledger>(
     engine: &mut E,
     arena: &Bump,
@@ -109,8 +111,8 @@ fn refusals_in<R: Rank, L: Ledger>(
     refusals_over(&arena, tree, wanted, steps)
 }
 
-/// How often memory was refused in all runs, if the wanted rows came in each. What the arena has taken before a run
-/// moves the places of the refusals.
+/// How often memory was refused in all runs, if the wanted rows came in each. What the arena has
+/// taken before a run moves the places of the refusals.
 fn refusals_in_all<R: Rank, L: Ledger>(
     alloc: Global,
     tree: &Tree<R>,
@@ -129,8 +131,8 @@ fn refusals_in_all<R: Rank, L: Ledger>(
     Ok(Some(refusals))
 }
 
-/// Whether memory was refused more than 50 times over the plan of the query of this text, and the wanted rows came in
-/// each run.
+/// Whether memory was refused more than 50 times over the plan of the query of this text, and the
+/// wanted rows came in each run.
 fn comes_back<R: Rank, L: Ledger>(
     alloc: Global,
     files: Files,

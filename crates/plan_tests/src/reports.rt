@@ -140,7 +140,8 @@ fn reports_a_path_by_two_keys(rt: HostRuntime) {
     assert!(rt; reports::<Brand>(rt.alloc(), text, &[0, 1], path, Blank::new(1)));
 }
 
-/// A table counts once for each item, and rows that fail the test by the constant are not node rows.
+/// A table counts once for each item, and rows that fail the test by the constant are not node
+/// rows.
 #[test]
 fn reports_a_table_joined_to_itself(rt: HostRuntime) {
     let text = b"select \"x y\".a from R \"x y\", R b where \"x y\".b = b.b and b.a = '2'";

@@ -110,7 +110,8 @@ fn has_root<R: Rank>(tree: &Tree<R>, item: u32) -> bool {
     tree.nodes() > 0 && tree.shape(0).item == item
 }
 
-/// Whether the plan with this item at the root has it there, and the best answers of its rows have these rows.
+/// Whether the plan with this item at the root has it there, and the best answers of its rows have
+/// these rows.
 fn gives_at<R: Rank, L: Ledger>(
     alloc: Global,
     files: Files,

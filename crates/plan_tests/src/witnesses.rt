@@ -177,8 +177,8 @@ fn gives_none_where_none_holds(rt: HostRuntime) {
     assert!(rt; gives::<SumRank, Brand>(alloc, TWO, text, &[0], &rows, Blank::new(1)));
 }
 
-/// One row of B, of weight 5, is joined with two of A, of weights 3 and 0, and with one of D, of weight 1, which is
-/// joined with four of C, of weights 4, 2, 7 and 5.
+/// One row of B, of weight 5, is joined with two of A, of weights 3 and 0, and with one of D, of
+/// weight 1, which is joined with four of C, of weights 4, 2, 7 and 5.
 pub(crate) const OF_FOUR_ITEMS: Files = (
     "k,l,v,w\nx,q,4,3\nx,q,2,0\ny,q,7,0\ny,q,5,0\n",
     "k,l,m,w\nx,n,j,5\nz,q,j,1\n",

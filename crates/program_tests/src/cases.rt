@@ -121,7 +121,8 @@ fn shelf_of(alloc: Global, case: &Case<'_>) -> Result<Option<MemShelf>, AllocErr
     Ok(Some(MemShelf::new(files, unread)))
 }
 
-/// A sink that takes at most `most` bytes in a call, fails at one call and takes nothing at another.
+/// A sink that takes at most `most` bytes in a call, fails at one call and takes nothing at
+/// another.
 pub(super) fn sink_of(
     alloc: Global,
     most: usize,

@@ -20,7 +20,8 @@ const OF_RIGHT: Case<'static> = Case {
     ..OF_QUERY
 };
 
-/// The first calls open the query's file, read it and find its end. The calls for each table follow.
+/// The first calls open the query's file, read it and find its end. The calls for each table
+/// follow.
 const READS: &[Case<'static>] = &[
     Case {
         unread: 1,

@@ -77,7 +77,8 @@ const ACCEPTED: &[Case<'static>] = &[
         out: "a,c,rank1,row1,row2\n2,q,3,2,2\n3,q,5,3,3\n",
         ..RUN
     },
-    // Bounds may come in any order, lines may end with a carriage return, and the last line needs no end.
+    // Bounds may come in any order, lines may end with a carriage return, and the last line needs
+    // no end.
     Case {
         words: VERIFY,
         query: FIRST_TWO,

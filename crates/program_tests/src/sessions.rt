@@ -177,7 +177,8 @@ fn opened(alloc: Global, count: u32, lines: &str) -> Result<String, AllocError> 
     Ok(script)
 }
 
-/// Whether a session over the two tables that follows this script gives this status and these texts.
+/// Whether a session over the two tables that follows this script gives this status and these
+/// texts.
 fn follows(
     alloc: Global,
     script: &str,

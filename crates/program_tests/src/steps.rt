@@ -51,8 +51,8 @@ fn shelf_of_union(alloc: Global) -> Result<MemShelf, AllocError>
     Ok(MemShelf::new(files, Vec::new(alloc)))
 }
 
-/// Whether the call of the row gives its answers. It takes at most as many steps as the bound allows
-/// for two items, 12 rows of tables and nodes, and three calls for answers.
+/// Whether the call of the row gives its answers. It takes at most as many steps as the bound
+/// allows for two items, 12 rows of tables and nodes, and three calls for answers.
 fn answers_row<L: Ledger>(alloc: Global, steps: &mut Steps<L>) -> Result<bool, AllocError>
     ensures { steps.new ≤ steps.old + 7936 }
 {
@@ -66,9 +66,9 @@ fn answers_row<L: Ledger>(alloc: Global, steps: &mut Steps<L>) -> Result<bool, A
     Ok(status == 0 && is_quiet && out.bytes() == "a,c\n2,q\n3,q\n3,p\n".as_bytes())
 }
 
-/// Whether the call of the second row gives its answers. It takes at most as many steps as the bound
-/// allows for two queries, each with one item and 6 rows: 4 calls of the first engine, and 2 of the
-/// second one.
+/// Whether the call of the second row gives its answers. It takes at most as many steps as the
+/// bound allows for two queries, each with one item and 6 rows: 4 calls of the first engine, and 2
+/// of the second one.
 fn answers_union<L: Ledger>(alloc: Global, steps: &mut Steps<L>) -> Result<bool, AllocError>
     ensures { steps.new ≤ steps.old + 2816 }
 {

@@ -29,7 +29,8 @@ const IN_ORDER: &[Case<'static>] = &[
         out: "a,rank1,branch,row1\n2,1,1,2\n3,1,1,3\nq,2,2,2\n1,3,1,1\n",
         ..RUN
     },
-    // A branch with fewer items than another has empty fields in the place of the rows that it lacks.
+    // A branch with fewer items than another has empty fields in the place of the rows that it
+    // lacks.
     Case {
         words: "run --ranks --rows q.sql R=R.csv S=S.csv",
         query: JOIN_AND_LEFT,

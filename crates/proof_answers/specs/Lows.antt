@@ -25,8 +25,8 @@ module _ {K : Type 0} (t : Problem K) (c : Certificate) (v row : ℕ) where
 
 module _ (query : Query) (tables : List Table) (join : JoinTree) (d : ℕ) (c : Certificate)
     (v row : ℕ) where
-  -- Without a key, some group that the row names has no bound; else each has one, and whichever these are, the key is
-  -- the sum of the row's key and theirs.
+  -- Without a key, some group that the row names has no bound; else each has one, and whichever
+  -- these are, the key is the sum of the row's key and theirs.
   abbrev pub IsLow : Option (KeyOf d 16) → Type 0
   IsLow None = (below : ℕ → ℕ) → AreServed (problem_in query tables join) c v row below → ⊥
   IsLow (Some k) =
@@ -34,7 +34,8 @@ module _ (query : Query) (tables : List Table) (join : JoinTree) (d : ℕ) (c : 
       × ((below : ℕ → ℕ) → AreServed (problem_in query tables join) c v row below
       → k ≡ query_key query d (low_key (problem_in query tables join) c v row below))
 
--- the tree is that of some query, with the bounds of some certificate, and ranks have room for the query's order keys
+-- the tree is that of some query, with the bounds of some certificate, and ranks have room for the
+-- query's order keys
 pub record IsBoundedTree (join : JoinTree) (d : ℕ) {R : Type 0} (key : R → KeyOf d 16)
     (tree : BoundedView R) : Type 0 where
   pub query : Query

@@ -24,8 +24,8 @@ IsLastKey query tables join d c (Some k) =
     × (k ≡ query_key query d (answer_key (problem_in query tables join) c (length c.answers - 1)))
 
 module _ (query : Query) (tables : List Table) (join : JoinTree) (c : Certificate) where
-  -- Each answer has a row for each node, told by its place. Rows are compared with the bounds, and the answers
-  -- are solutions in order, as many as they may be.
+  -- Each answer has a row for each node, told by its place. Rows are compared with the bounds, and
+  -- the answers are solutions in order, as many as they may be.
   pub record ArePlaced {R : Type 0} (raw : RawView R) (places : List (List ℕ)) : Type 0 where
     pub count : length places ≡ length c.answers
     pub within : (i q : ℕ) → i < length c.answers → q < (problem_in query tables join).nodes

@@ -51,7 +51,8 @@ pub record AreAnswers {R : Type 0} (query : Query) (tables : List Table) (join :
       → ArePlacesOf query tables join raw 0 (answer_at (problem_in query tables join) c i).rows
       (slice_index_or places i [])
 
--- the raw tree has the rows of some query, ranks have room for its order keys, and the places are those of the answers
+-- the raw tree has the rows of some query, ranks have room for its order keys, and the places are
+-- those of the answers
 pub record HasAnswers {R : Type 0} (d : ℕ) (key : R → KeyOf d 16) (raw : RawView R)
     (c : Certificate)
     (places : List (List ℕ)) : Type 0 where

@@ -31,8 +31,8 @@ pub struct PlacedAnswers<R> {
     pub last: Option<R>,
 }
 
-/// The answers of a certificate whose bounds are found. `Weak`, `BadAnswer`, `Order` and `Count`, each exactly if it
-/// tells the first flaw. `NoMemory` if memory is refused.
+/// The answers of a certificate whose bounds are found. `Weak`, `BadAnswer`, `Order` and `Count`,
+/// each exactly if it tells the first flaw. `NoMemory` if memory is refused.
 pub fn placed_answers<R: Rank, L: Ledger>(
     alloc: Global,
     query: &Query,

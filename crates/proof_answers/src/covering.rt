@@ -18,8 +18,8 @@ use rank_key::Rank;
 use std::sync::ledger::Ledger;
 use step_counter::Steps;
 
-/// The first node with a row that is not covered: its own group has no bound, or one that is greater than the rank of
-/// the row with the bounds that it names. Nodes count from 0.
+/// The first node with a row that is not covered: its own group has no bound, or one that is
+/// greater than the rank of the row with the bounds that it names. Nodes count from 0.
 pub(crate) fn first_weak<R: Rank, L: Ledger>(
     join: &JoinTree,
     tree: &BoundedTree<R>,
@@ -64,8 +64,8 @@ fn has_weak_row<R: Rank, L: Ledger>(
     false
 }
 
-/// Whether a row's own group has a bound that is not greater than the rank of the row with the bounds that it names. If
-/// it names a group without a bound, nothing is asked of it.
+/// Whether a row's own group has a bound that is not greater than the rank of the row with the
+/// bounds that it names. If it names a group without a bound, nothing is asked of it.
 fn is_covered<R: Rank, L: Ledger>(
     join: &JoinTree,
     tree: &BoundedTree<R>,
@@ -90,8 +90,9 @@ fn is_covered<R: Rank, L: Ledger>(
     }
 }
 
-/// The rank of a row of a node together with the bounds of the groups that it names, one for each child of the node.
-/// `None` exactly if one of these groups has no bound. Nodes and rows count from 0.
+/// The rank of a row of a node together with the bounds of the groups that it names, one for each
+/// child of the node. `None` exactly if one of these groups has no bound. Nodes and rows count from
+/// 0.
 pub fn low_bound<R: Rank, L: Ledger>(
     join: &JoinTree,
     tree: &BoundedTree<R>,
@@ -134,8 +135,8 @@ fn own_rank<R: Rank>(tree: &BoundedTree<R>, node: u32, row: u32) -> Option<R>
     Some(bounds.ranks[number as usize])
 }
 
-/// The rank of the bound of the group of a node that a row of its parent names, if that group has one. Nodes and rows
-/// count from 0.
+/// The rank of the bound of the group of a node that a row of its parent names, if that group has
+/// one. Nodes and rows count from 0.
 pub fn named_rank<R: Rank>(tree: &BoundedTree<R>, node: u32, above: u32) -> Option<R>
     requires node { node < length tree.now.bounds }
     requires above { above

@@ -17,8 +17,8 @@ use std::sync::ledger::Ledger;
 use step_counter::Steps;
 use tdp_core::RawTree;
 
-/// The rank of the last answer, if there is one. `Order` exactly if an answer is not after the one before it: the first
-/// one.
+/// The rank of the last answer, if there is one. `Order` exactly if an answer is not after the one
+/// before it: the first one.
 pub(crate) fn last_rank<R: Rank, L: Ledger>(
     raw: &RawTree<R>,
     proof: &Proof,

@@ -14,8 +14,8 @@ use rank_key::Rank;
 use std::alloc::Global;
 use tdp_core::RawTree;
 
-/// The places of the rows of each answer, by node. `BadAnswer` exactly if an answer is no solution: the first one.
-/// `NoMemory` if memory is refused.
+/// The places of the rows of each answer, by node. `BadAnswer` exactly if an answer is no solution:
+/// the first one. `NoMemory` if memory is refused.
 pub(crate) fn answer_places<R: Rank>(
     alloc: Global,
     raw: &RawTree<R>,

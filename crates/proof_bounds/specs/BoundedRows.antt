@@ -44,8 +44,8 @@ abbrev pub query_key : (query : Query) (d : ℕ) → KeyOf (length query.order) 
 query_key query d k = wide (length query.order) d 16 k
 
 module _ (query : Query) (tables : List Table) (join : JoinTree) (d : ℕ) where
-  -- a raw tree has exactly the rows of the query's problem, those of a node in ascending order, and its links are the
-  -- groups of the problem
+  -- a raw tree has exactly the rows of the query's problem, those of a node in ascending order, and
+  -- its links are the groups of the problem
   pub record HasProblemRows {R : Type 0} (key : R → KeyOf d 16) (raw : RawView R) : Type 0 where
     pub nodes : length raw.shapes ≡ (problem_in query tables join).nodes
     pub parents : (v : ℕ) → v < (problem_in query tables join).nodes
@@ -77,8 +77,9 @@ module _ (query : Query) (tables : List Table) (join : JoinTree) (d : ℕ) where
         → (own_link raw q i ≡ own_link raw q j)
         ↔ (problem_in query tables join).IsGrouped q (raw_number raw q i) (raw_number raw q j)
 
-  -- Each bound line has a number at its node, and each row has the numbers of the bounds of its own group and of those
-  -- that it names. The lines are solutions of their subtrees, and no group has two.
+  -- Each bound line has a number at its node, and each row has the numbers of the bounds of its own
+  -- group and of those that it names. The lines are solutions of their subtrees, and no group has
+  -- two.
   pub record IsBounded {R : Type 0} (key : R → KeyOf d 16) (c : Certificate)
       (tree : BoundedView R) : Type 0 where
     pub rows : HasProblemRows key tree.raw

@@ -28,8 +28,8 @@ pub record HasProblem {R : Type 0} (d : ℕ) (key : R → KeyOf d 16) (raw : Raw
   pub join : JoinTree
   pub tree : HasProblemRows query tables join d key raw
 
--- The first n lines are subtree solutions. The row of each at its node has this place, and the ranks of a node's lines
--- are these, in the order of the lines.
+-- The first n lines are subtree solutions. The row of each at its node has this place, and the
+-- ranks of a node's lines are these, in the order of the lines.
 pub record ArePlacedLines {R : Type 0} (query : Query) (tables : List Table) (join : JoinTree)
     (d : ℕ)
     (key : R → KeyOf d 16) (raw : RawView R) (c : Certificate) (n : ℕ) (tops : List ℕ)
@@ -56,7 +56,8 @@ module _ {R : Type 0} (raw : RawView R) where
   abbrev pub named_link : ℕ → ℕ → ℕ
   named_link q r = child_link raw (shape_parent raw.shapes q) r (shape_child_place raw.shapes q)
 
-  -- the links of the groups of a node's lines, in the order of the lines; no two lines have one group
+  -- the links of the groups of a node's lines, in the order of the lines; no two lines have one
+  -- group
   pub record AreLineGroups (c : Certificate) (tops : List ℕ) (n : ℕ)
       (groups : List (List ℕ)) : Type 0 where
     pub each_node : length groups ≡ length raw.shapes
@@ -65,7 +66,8 @@ module _ {R : Type 0} (raw : RawView R) where
     pub apart : (v i j : ℕ) → i < j → j < n → line_node c i ≡ suc v → line_node c j ≡ suc v
         → group_link v (slice_index tops i) ≢ group_link v (slice_index tops j)
 
-  -- each row of node v has the number of its group among these, and each row of its parent that of the group it names
+  -- each row of node v has the number of its group among these, and each row of its parent that of
+  -- the group it names
   pub record AreNamed (groups : List ℕ) (v : ℕ) (own named : List (Option ℕ)) : Type 0 where
     pub own_length : length own ≡ raw_len raw v
     pub own_numbers : (i : ℕ) → i < raw_len raw v

@@ -10,8 +10,8 @@ use Rattle.proof_model.specs.Problem.{IsSolutionAt, row_in}
 use Rattle.proof_model.specs.QueryProblem.{problem_in}
 use Rattle.proof_bounds.specs.BoundedRows.{HasProblemRows}
 
--- The rows are a subtree solution of node v. The places of its rows are given by node, and are 0 at nodes outside of
--- the subtree.
+-- The rows are a subtree solution of node v. The places of its rows are given by node, and are 0 at
+-- nodes outside of the subtree.
 pub record ArePlacesOf {R : Type 0} (query : Query) (tables : List Table) (join : JoinTree)
     (raw : RawView R) (v : ℕ)
     (rows places : List ℕ) : Type 0 where

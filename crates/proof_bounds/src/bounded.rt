@@ -8,8 +8,8 @@ use tdp_core::RawTree;
 pub struct NodeBounds<R> {
     /// For each row of the node the number of its group's bound, if there is one.
     pub own: Vec<Option<u32>>,
-    /// For each row of the parent the number of the bound of the group that it names, if there is one. Empty at the
-    /// root.
+    /// For each row of the parent the number of the bound of the group that it names, if there is
+    /// one. Empty at the root.
     pub named: Vec<Option<u32>>,
     /// The rank of each bound.
     pub ranks: Vec<R>,

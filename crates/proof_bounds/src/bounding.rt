@@ -19,8 +19,8 @@ use step_counter::Steps;
 use table_store::Tables;
 use tdp_core::RawTree;
 
-/// The rows of a query's nodes with the bounds of a certificate. `BadBound` and `BoundTwice`, each exactly if it tells
-/// the first flaw. `NoMemory` if memory is refused.
+/// The rows of a query's nodes with the bounds of a certificate. `BadBound` and `BoundTwice`, each
+/// exactly if it tells the first flaw. `NoMemory` if memory is refused.
 pub fn with_bounds<R: Rank, L: Ledger>(
     alloc: Global,
     query: &Query,

@@ -19,8 +19,8 @@ use std::sync::ledger::Ledger;
 use step_counter::{NoMemory, Steps};
 use tdp_core::RawTree;
 
-/// The link by which the group of a row of a node is found: the row's own link, and at the root 0, since all rows of
-/// the root are in one group.
+/// The link by which the group of a row of a node is found: the row's own link, and at the root 0,
+/// since all rows of the root are in one group.
 pub(crate) fn group_link<R: Rank>(raw: &RawTree<R>, node: u32, place: u32) -> u32
     requires node { node < length raw.now.shapes }
     requires place { place < raw_len raw.now node }
@@ -62,8 +62,9 @@ fn add_group<L: Ledger>(
     }
 }
 
-/// For each node the groups of its lines, in the order of the lines. `BoundTwice` exactly if two lines of a node have
-/// one group, with the first line that has one before it, and `NoMemory` if memory is refused.
+/// For each node the groups of its lines, in the order of the lines. `BoundTwice` exactly if two
+/// lines of a node have one group, with the first line that has one before it, and `NoMemory` if
+/// memory is refused.
 pub(crate) fn line_groups<R: Rank, L: Ledger>(
     alloc: Global,
     raw: &RawTree<R>,

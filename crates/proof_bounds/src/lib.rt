@@ -1,7 +1,8 @@
 //! The bounds of a certificate, each found by its group.
 //!
-//! A bound line is a solution of its node's subtree, and stands for the group of its row there. Each row gets the
-//! number of its own group's bound and those of the groups that it names, so that no link is looked up twice.
+//! A bound line is a solution of its node's subtree, and stands for the group of its row there.
+//! Each row gets the number of its own group's bound and those of the groups that it names, so that
+//! no link is looked up twice.
 #![tactic(auto)]
 
 mod bounded;

@@ -29,8 +29,8 @@ pub(crate) struct PlacedLines<R> {
     pub bounds: Vec<NodeBounds<R>>,
 }
 
-/// The places of the rows of a line, by node. `None` exactly if there is no such node or the rows are no solution of its
-/// subtree.
+/// The places of the rows of a line, by node. `None` exactly if there is no such node or the rows
+/// are no solution of its subtree.
 fn line_places<R: Rank>(raw: &RawTree<R>, bound: &Bound) -> Option<[u32; 16]>
     ensures { (query : SelectQuery) (tables : List Table) (join : JoinTree)
         → HasProblemRows query tables join R.KEYS R.key raw.now
@@ -63,8 +63,8 @@ fn no_bounds<R: Rank>(alloc: Global, nodes: u32) -> Result<Vec<NodeBounds<R>>, A
     Ok(bounds)
 }
 
-/// The lines of a certificate. `BadBound` exactly if some line is no solution of its node's subtree, with the first
-/// such line, and `NoMemory` if memory is refused.
+/// The lines of a certificate. `BadBound` exactly if some line is no solution of its node's
+/// subtree, with the first such line, and `NoMemory` if memory is refused.
 pub(crate) fn placed_lines<R: Rank, L: Ledger>(
     alloc: Global,
     raw: &RawTree<R>,

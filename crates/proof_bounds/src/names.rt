@@ -77,7 +77,8 @@ fn named_numbers<R: Rank, L: Ledger>(
     Ok(named)
 }
 
-/// Names the groups of a node for its rows and for those of its parent. The ranks of the bounds stay.
+/// Names the groups of a node for its rows and for those of its parent. The ranks of the bounds
+/// stay.
 pub(crate) fn name_groups<R: Rank, L: Ledger>(
     alloc: Global,
     raw: &RawTree<R>,
@@ -99,7 +100,8 @@ pub(crate) fn name_groups<R: Rank, L: Ledger>(
     Ok(())
 }
 
-/// Names the groups of all nodes for their rows and for those of their parents. The ranks of the bounds stay.
+/// Names the groups of all nodes for their rows and for those of their parents. The ranks of the
+/// bounds stay.
 pub(crate) fn name_all<R: Rank, L: Ledger>(
     alloc: Global,
     raw: &RawTree<R>,

@@ -17,7 +17,8 @@ use std::sync::ledger::Ledger;
 use step_counter::Steps;
 use tdp_core::RawTree;
 
-/// Whether a row of a node has the link that a row of the node's parent names. Both are told by their places.
+/// Whether a row of a node has the link that a row of the node's parent names. Both are told by
+/// their places.
 fn is_linked<R: Rank>(raw: &RawTree<R>, node: u32, above: u32, place: u32) -> bool
     requires below_root { 0 < node }
     requires node { node < length raw.now.shapes }
@@ -30,9 +31,9 @@ fn is_linked<R: Rank>(raw: &RawTree<R>, node: u32, above: u32, place: u32) -> bo
     raw.own(node, place) == raw.link(parent, above, child_place(raw, node))
 }
 
-/// The places of the rows of a subtree solution of a node, by node, given a row for each item of the subtree in the
-/// order of the items. `None` exactly if the rows are no solution. Nodes and places count from 0, rows from 1, and at
-/// nodes outside of the subtree the place is 0.
+/// The places of the rows of a subtree solution of a node, by node, given a row for each item of
+/// the subtree in the order of the items. `None` exactly if the rows are no solution. Nodes and
+/// places count from 0, rows from 1, and at nodes outside of the subtree the place is 0.
 pub fn solution_places<R: Rank>(raw: &RawTree<R>, node: u32, rows: &[u32]) -> Option<[u32; 16]>
     requires { node < length raw.now.shapes }
     ensures { (query : SelectQuery) (tables : List Table) (join : JoinTree)

@@ -6,8 +6,8 @@ ghost use Rattle.proof_bounds.specs.Subtrees.{AreAscending};
 use rank_key::Rank;
 use tdp_core::RawTree;
 
-/// The place of a row of a node, from 0, by binary search among the node's rows. If these ascend, `None` exactly if the
-/// node does not have the row.
+/// The place of a row of a node, from 0, by binary search among the node's rows. If these ascend,
+/// `None` exactly if the node does not have the row.
 pub(crate) fn row_place<R: Rank>(raw: &RawTree<R>, node: u32, row: u32) -> Option<u32>
     requires { node < length raw.now.shapes }
     ensures within { IfSome result (λ i. i < raw_len raw.now node) }

@@ -25,9 +25,9 @@ use std::sync::ledger::Ledger;
 use step_counter::Steps;
 use table_store::Tables;
 
-/// The answers of a certificate: for each the row of each item, from 1, and 0 past the last item. Ok exactly if the
-/// certificate is valid and at most 4,194,304 rows of all nodes pass, and else the first fault in the order of
-/// `ProofFault`. `NoMemory` if memory is refused.
+/// The answers of a certificate: for each the row of each item, from 1, and 0 past the last item.
+/// Ok exactly if the certificate is valid and at most 4,194,304 rows of all nodes pass, and else
+/// the first fault in the order of `ProofFault`. `NoMemory` if memory is refused.
 pub fn verify<R: Rank, L: Ledger>(
     alloc: Global,
     query: &Query,

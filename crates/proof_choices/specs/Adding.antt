@@ -2,7 +2,8 @@
 use Rattle.std.specs.Prelude.{◌≡◌, ℕ, ◌⊎◌, List, [], ◌∷◌, ◌++◌, slice_index}
 use Rattle.proof_choices.specs.Levels.{IsPairAt}
 
--- The answer gets the number of the pair of its number before and its row. A new pair has its places.
+-- The answer gets the number of the pair of its number before and its row. A new pair has its
+-- places.
 pub record IsAdding (node : ℕ) (places : List ℕ) (before : ℕ) (old new : List (ℕ × ℕ))
     (numbers more : List ℕ)
     (starts longer : List (List ℕ)) : Type 0 where

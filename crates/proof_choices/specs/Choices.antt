@@ -9,7 +9,8 @@ use Rattle.proof_text.specs.declared.fault.ProofFault.TheVariants as fault
 use Rattle.proof_model.specs.QueryProblem.{problem_in}
 use Rattle.proof_model.specs.Valid.{Holds, IsPassed, OpenChoice, missed}
 
--- each way to leave the answers comes after the last one, and there is none if the certificate says `end`
+-- each way to leave the answers comes after the last one, and there is none if the certificate says
+-- `end`
 abbrev pub ArePassed : Query → List Table → JoinTree → Certificate → Type 0
 ArePassed query tables join c =
     (o : OpenChoice (problem_in query tables join) c)

@@ -74,7 +74,8 @@ module _ {R : Type 0} (d : ℕ) (key : R → KeyOf d 16) where
 module _ {R : Type 0} (join : JoinTree) (tree : BoundedView R) (d : ℕ) (key : R → KeyOf d 16) where
   -- # What is known before the row of node p is chosen
 
-  -- what node q gives: the rank of its row, or that of the bound of its group if an earlier row names it
+  -- what node q gives: the rank of its row, or that of the bound of its group if an earlier row
+  -- names it
   abbrev pub base_part : ℕ → List ℕ → ℕ → Option (KeyOf d 16)
   base_part p start q =
       cond (nat_le (suc q) p) (Some (raw_rank tree.raw d key q (slice_index start q)))
@@ -119,8 +120,8 @@ module _ {R : Type 0} (join : JoinTree) (tree : BoundedView R) (d : ℕ) (key : 
   abbrev pub IsInGroup : ℕ → ℕ → ℕ → Type 0
   IsInGroup p g i = (i < raw_len tree.raw p) × (own_bound tree p i ≡ Some g)
 
-  -- Row i leaves beginning n at node p, and no answer has it there: the pairs of a beginning and its next row in an
-  -- answer lack it. The key is the least that may follow.
+  -- Row i leaves beginning n at node p, and no answer has it there: the pairs of a beginning and
+  -- its next row in an answer lack it. The key is the least that may follow.
   pub record IsWay (p : ℕ) (starts : List (List ℕ)) (pairs : List (ℕ × ℕ)) (n i : ℕ)
       (k : KeyOf d 16) : Type 0 where
     pub number : n < length starts
@@ -141,7 +142,8 @@ module _ {R : Type 0} (join : JoinTree) (tree : BoundedView R) (d : ℕ) (key : 
       (i : ℕ) (low : KeyOf d 16) → IsInGroup p g i → HasLow p i (Some low)
       → KeyFits d key (key_add d 16 k low)
 
-  -- each row of the branch's group that no answer has after the beginning comes after the last answer
+  -- each row of the branch's group that no answer has after the beginning comes after the last
+  -- answer
   abbrev pub IsLeftAfter : ℕ → List (ℕ × ℕ) → ℕ → Option (KeyOf d 16) → Branch R → Type 0
   IsLeftAfter p pairs n last b =
       (i : ℕ) (low : KeyOf d 16) → IsInGroup p b.group i → (((j : ℕ) × IsPairAt pairs j (n, i)) → ⊥)
@@ -158,8 +160,8 @@ module _ {R : Type 0} (join : JoinTree) (tree : BoundedView R) (d : ℕ) (key : 
     pub has_low : HasLow p row (Some low)
     pub early : IsPast d last (key_add d 16 (key b.base) low) → ⊥
 
-  -- The branch's group has the least that is known for it, and that and the branch's own can be added to the ranks of
-  -- the group's rows.
+  -- The branch's group has the least that is known for it, and that and the branch's own can be
+  -- added to the ranks of the group's rows.
   pub record IsTestable (p : ℕ) (least : List (Option R)) (b : Branch R) : Type 0 where
     pub within : b.group < length least
     pub known : R
@@ -176,8 +178,8 @@ module _ {R : Type 0} (join : JoinTree) (tree : BoundedView R) (d : ℕ) (key : 
       HasLow p i None ⊎ ((low : KeyOf d 16) × HasLow p i (Some low)
       × IsPast d last (key_add d 16 least low))
 
-  -- Row i of node p has no such rank, or it is offered, or what is known for each beginning of its group, at least
-  -- `least`, makes it come after the last answer.
+  -- Row i of node p has no such rank, or it is offered, or what is known for each beginning of its
+  -- group, at least `least`, makes it come after the last answer.
   abbrev pub IsOffered : ℕ → KeyOf d 16 → Option (KeyOf d 16) → List (Offer R) → ℕ → Type 0
   IsOffered p least last offers i =
       HasLow p i None
@@ -190,14 +192,16 @@ module _ {R : Type 0} (join : JoinTree) (tree : BoundedView R) (d : ℕ) (key : 
       ((m : ℕ) × (m < length rows) × (slice_index rows m ≡ o.row))
       × HasLow p o.row (Some (key o.low))
 
-  -- The offers of these rows of node p. They are in order if there is a last answer that they are compared with.
+  -- The offers of these rows of node p. They are in order if there is a last answer that they are
+  -- compared with.
   pub record AreOffers (p : ℕ) (rows : List ℕ) (least : KeyOf d 16) (last : Option (KeyOf d 16))
       (offers : List (Offer R)) : Type 0 where
     pub each : All (IsOfferOf p rows) offers
     pub every : (m : ℕ) → m < length rows → IsOffered p least last offers (slice_index rows m)
     pub ordered : (last ≡ None) ⊎ AreAscending d key offers
 
-  -- For some groups the offers that the least of what is known for its beginnings asks for, and none for the others yet.
+  -- For some groups the offers that the least of what is known for its beginnings asks for, and
+  -- none for the others yet.
   pub record AreLists (p : ℕ) (last : Option (KeyOf d 16)) (groups : List (List ℕ))
       (least : List (Option R))
       (lists : List (List (Offer R))) : Type 0 where
@@ -263,7 +267,8 @@ module _ {R : Type 0} (d : ℕ) (key : R → KeyOf d 16) where
 abbrev pub own_bounds : {R : Type 0} → BoundedView R → ℕ → List (Option ℕ)
 own_bounds tree v = slice_index_or (map (λ b. b.own.items) tree.bounds) v []
 
--- The rows whose group has bound g, for each g below the count, and after them those whose group has no bound.
+-- The rows whose group has bound g, for each g below the count, and after them those whose group
+-- has no bound.
 pub record AreGroups (own : List (Option ℕ)) (bounds : ℕ) (groups : List (List ℕ)) : Type 0 where
   pub count : length groups ≡ bounds + 1
   pub rows : (g m : ℕ) → g < bounds → m < length (list_at groups g)

@@ -23,7 +23,8 @@ pub(crate) struct Branch<R> {
     pub(crate) base: R,
 }
 
-/// The place at which a beginning may be left at a node. `None` if some group that is open then has no bound.
+/// The place at which a beginning may be left at a node. `None` if some group that is open then has
+/// no bound.
 pub(crate) fn branch_of<R: Rank, L: Ledger>(
     join: &JoinTree,
     tree: &BoundedTree<R>,
@@ -89,8 +90,8 @@ fn named_number<R: Rank>(tree: &BoundedTree<R>, node: u32, above: u32) -> Option
     tree.bounds[node as usize].named[above as usize]
 }
 
-/// The ranks of the rows before a node together with the bounds of the other groups that these name. `None` if one of
-/// these groups has no bound.
+/// The ranks of the rows before a node together with the bounds of the other groups that these
+/// name. `None` if one of these groups has no bound.
 fn base_of<R: Rank, L: Ledger>(
     join: &JoinTree,
     tree: &BoundedTree<R>,

@@ -25,8 +25,8 @@ use std::sync::ledger::Ledger;
 use step_counter::{NoMemory, Steps};
 use table_store::Tables;
 
-/// Tests that each way to leave the answers comes after the last one, and that there is none if the certificate says
-/// `end`. `Missed` exactly if this is not so. `NoMemory` if memory is refused.
+/// Tests that each way to leave the answers comes after the last one, and that there is none if the
+/// certificate says `end`. `Missed` exactly if this is not so. `NoMemory` if memory is refused.
 pub fn check_choices<R: Rank, L: Ledger>(
     alloc: Global,
     query: &Query,
@@ -68,8 +68,8 @@ pub fn check_choices<R: Rank, L: Ledger>(
     }
 }
 
-/// Whether each way to leave the answers comes after the last one, or there is none if there is no last one. The answers
-/// are told by the places of their rows.
+/// Whether each way to leave the answers comes after the last one, or there is none if there is no
+/// last one. The answers are told by the places of their rows.
 fn all_leave_after<R: Rank, L: Ledger>(
     alloc: Global,
     join: JoinTree,

@@ -25,8 +25,9 @@ use std::sync::ledger::Ledger;
 use step_counter::{NoMemory, Steps};
 use tdp_core::Groups;
 
-/// Whether each way to leave the answers at a node comes after the last one, or there is none if there is no last one.
-/// `starts` are the answers' beginnings before the node, and `taken` the rows that follow them.
+/// Whether each way to leave the answers at a node comes after the last one, or there is none if
+/// there is no last one. `starts` are the answers' beginnings before the node, and `taken` the rows
+/// that follow them.
 pub(crate) fn leaves_after<R: Rank, L: Ledger>(
     alloc: Global,
     join: &JoinTree,
@@ -151,7 +152,8 @@ fn number_leaves_after<R: Rank, L: Ledger>(
     }
 }
 
-/// The same of a beginning that may be left. The offers of its group are added if they are not there.
+/// The same of a beginning that may be left. The offers of its group are added if they are not
+/// there.
 fn branch_leaves_after<R: Rank, L: Ledger>(
     alloc: Global,
     join: &JoinTree,
@@ -201,8 +203,8 @@ fn branch_leaves_after<R: Rank, L: Ledger>(
     }
 }
 
-/// Makes the offers of a group if there are none. A group from which an answer chooses has one, so its rows are gone
-/// through once.
+/// Makes the offers of a group if there are none. A group from which an answer chooses has one, so
+/// its rows are gone through once.
 fn fill<R: Rank, L: Ledger>(
     alloc: Global,
     join: &JoinTree,

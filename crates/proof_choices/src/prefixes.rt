@@ -12,8 +12,8 @@ use step_counter::NoMemory;
 pub(crate) struct Prefixes {
     /// For each answer the number of its beginning.
     pub(crate) numbers: Vec<usize>,
-    /// For each number the places of an answer that begins so. Before the first node there is one beginning, also if
-    /// there are no answers.
+    /// For each number the places of an answer that begins so. Before the first node there is one
+    /// beginning, also if there are no answers.
     pub(crate) starts: Vec<[u32; 16]>,
 }
 
@@ -28,7 +28,8 @@ impl Prefixes {
         Ok(Prefixes { numbers, starts })
     }
 
-    /// The beginnings with one node more. `taken` gets the rows of this node that follow each beginning.
+    /// The beginnings with one node more. `taken` gets the rows of this node that follow each
+    /// beginning.
     pub(crate) fn with_node(
         &self,
         alloc: Global,
@@ -55,7 +56,8 @@ impl Prefixes {
         Ok(next)
     }
 
-    /// Adds the beginning of one answer more, given its places and the number of its beginning before this node.
+    /// Adds the beginning of one answer more, given its places and the number of its beginning
+    /// before this node.
     fn add(
         &mut self,
         places: &[u32; 16],

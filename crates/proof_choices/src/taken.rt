@@ -8,7 +8,8 @@ use std::alloc::Global;
 use std::marker::Model;
 use step_counter::NoMemory;
 
-/// Pairs of a beginning's number and a row that follows it in an answer. Contracts see them as a list.
+/// Pairs of a beginning's number and a row that follows it in an answer. Contracts see them as a
+/// list.
 #[derive(Drop)]
 pub(crate) struct TakenRows {
     pairs: IndexSet<(usize, u32), Keys>,

@@ -19,7 +19,8 @@ use Rattle.proof_model.specs.Valid.{IsValid}
 abbrev pub answer_rows : Certificate → List (List ℕ)
 answer_rows c = map (λ (a : AnswerLine). a.rows) c.answers
 
--- a list of rows is a solution of the whole tree exactly if it is a witness, and has then the same key
+-- a list of rows is a solution of the whole tree exactly if it is a witness, and has then the same
+-- key
 abbrev pub SolutionsAreWitnesses : Type 0
 SolutionsAreWitnesses =
     (query : Query) (tables : List Table) (atoms parents : List ℕ) → IsWithin query tables
@@ -30,7 +31,8 @@ SolutionsAreWitnesses =
     → key_at (problem_of query tables atoms parents) 0 rows
     ≡ witness_key (length query.order) query tables rows)
 
--- the answers of a valid certificate are those that the limit leaves of the ranking, and all of it if it says `end`
+-- the answers of a valid certificate are those that the limit leaves of the ranking, and all of it
+-- if it says `end`
 abbrev pub AnswersBeginRanking : Type 0
 AnswersBeginRanking =
     (query : Query) (tables : List Table) (atoms parents : List ℕ) (c : Certificate)

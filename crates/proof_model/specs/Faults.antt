@@ -31,13 +31,14 @@ module _ (query : Query) (tables : List Table) (join : JoinTree) (c : Certificat
       × (told ≡ fault_of (problem_in query tables join) c f)
       × IsFirst (problem_in query tables join) c query.limit f
 
-  -- the fault that may be returned if a certificate is checked: memory ran out, there are too many node rows, or the
-  -- certificate has this flaw
+  -- the fault that may be returned if a certificate is checked: memory ran out, there are too many
+  -- node rows, or the certificate has this flaw
   abbrev pub TellsFlaw : ProofFault → Type 0
   TellsFlaw fault.NoMemory = Unit {0}
   TellsFlaw fault.BadHeader = ⊥
   TellsFlaw (fault.BadLine n) = ⊥
-  TellsFlaw (fault.TooManyRows most) = (most ≡ most_node_rows) × IsShape query tables (Err too_many_rows)
+  TellsFlaw (fault.TooManyRows most) = (most ≡ most_node_rows)
+      × IsShape query tables (Err too_many_rows)
   TellsFlaw (fault.BadBound n) = TellsFirst (fault.BadBound n)
   TellsFlaw (fault.BoundTwice n) = TellsFirst (fault.BoundTwice n)
   TellsFlaw (fault.Weak n) = TellsFirst (fault.Weak n)

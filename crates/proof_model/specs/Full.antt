@@ -1,5 +1,5 @@
--- Certificates that leave nothing out: each group with a solution has its least bound, and the answers are the first
--- solutions.
+-- Certificates that leave nothing out: each group with a solution has its least bound, and the
+-- answers are the first solutions.
 use Rattle.std.specs.Prelude.{◌≡◌, ℕ, ◌+◌, ◌-◌, ◌<◌, suc, false, Option, length}
 use Rattle.tdp_model.specs.Remains.{AtMost}
 use Rattle.proof_text.specs.Certificate.{Certificate}
@@ -20,7 +20,8 @@ pub record IsFull {K : Type 0} (t : Problem K) (c : Certificate) (limit : Option
   pub ascending : (i : ℕ) → i + 1 < length c.answers
       → t.Below (answer_key t c i) (answer_key t c (i + 1))
   pub count : IsCount t c limit c.ended (length c.answers)
-  -- a solution that is not listed comes after the last answer, and there is none if the certificate says `end`
+  -- a solution that is not listed comes after the last answer, and there is none if the certificate
+  -- says `end`
   pub others : (s : ℕ → ℕ) → IsSubtree t 0 s → ((i : ℕ) → Begins t c i s t.nodes → ⊥)
       → (c.ended ≡ false)
       × (0 < length c.answers → t.Below (answer_key t c (length c.answers - 1)) (subtree_key t 0 s))

@@ -5,7 +5,8 @@ use Rattle.tdp_model.specs.KeyLaws.{IsKeys}
 use Rattle.tdp_model.specs.TreeProblem.{sum_from}
 use Rattle.proof_model.specs.Problem.{Problem}
 
--- keys add up and are ordered, parents come first, and the rows that fit below one row are one group
+-- keys add up and are ordered, parents come first, and the rows that fit below one row are one
+-- group
 pub record IsProblem {K : Type 0} (t : Problem K) : Type 0 where
   pub keys : IsKeys K t.Below t.add t.none
   pub some : 0 < t.nodes

@@ -30,7 +30,8 @@ module _ {K : Type 0} (t : Problem K) where
   place_in v q = sum_from ◌+◌ 0
       (λ u. is_below t.parent v u * cond (nat_lt (t.item u) (t.item q)) 1 0) t.nodes 0
 
-  -- the row of node q, if a list has a row for each item of the subtree of node v, in the order of the items
+  -- the row of node q, if a list has a row for each item of the subtree of node v, in the order of
+  -- the items
   abbrev pub row_in : ℕ → List ℕ → ℕ → ℕ
   row_in v rows q = slice_index rows (place_in v q)
 

@@ -11,7 +11,8 @@ use Rattle.proof_text.specs.Writing.{proof_text}
 use Rattle.proof_model.specs.QueryProblem.{problem_of}
 use Rattle.proof_model.specs.WrittenProofs.{IsWritten}
 
--- the text of the certificate for the query's ranking; it says `more` if the limit's number of answers was given
+-- the text of the certificate for the query's ranking; it says `more` if the limit's number of
+-- answers was given
 abbrev pub IsProofText : Query → List Table → List ℕ → Type 0
 IsProofText query tables text =
     (shape : Shape) × IsShape query tables (Ok shape) × (c : Certificate)

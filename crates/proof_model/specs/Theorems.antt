@@ -37,7 +37,8 @@ UnlistedComeAfter =
     (answer_key (problem_of query tables atoms parents) c (length c.answers - 1))
     (subtree_key (problem_of query tables atoms parents) 0 rows)))
 
--- the keys of the answers are those that the limit leaves of the ranking of all solutions by their keys
+-- the keys of the answers are those that the limit leaves of the ranking of all solutions by their
+-- keys
 abbrev pub AnswersAreFirst : Type 0
 AnswersAreFirst =
     (query : Query) (tables : List Table) (atoms parents : List ℕ) (c : Certificate)
@@ -77,8 +78,8 @@ WideKeysAgree =
     → (wide few more e (key_add few e a b) ≡ key_add more e (wide few more e a) (wide few more e b))
     × (key_below more e (wide few more e a) (wide few more e b) ↔ key_below few e a b)
 
--- in a sum of keys of rows, at most one of each node, each sum fits 128 bits with a sign, and each slot
--- 32 bits without one
+-- in a sum of keys of rows, at most one of each node, each sum fits 128 bits with a sign, and each
+-- slot 32 bits without one
 abbrev pub SumsFit : Type 0
 SumsFit =
     (bound : BoundQuery) (tables : List Table) (atoms parents : List ℕ) (d : ℕ)

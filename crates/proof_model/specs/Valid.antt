@@ -67,7 +67,8 @@ module _ {K : Type 0} (t : Problem K) (c : Certificate) where
   abbrev pub Serves : ℕ → ℕ → ℕ → Type 0
   Serves v above i = IsBoundOf v i × t.Fits v above (bound_row v i)
 
-  -- If each child's group has a bound, the row's own group has one, not after the sum of the row's key and theirs.
+  -- If each child's group has a bound, the row's own group has one, not after the sum of the row's
+  -- key and theirs.
   abbrev pub IsCovered : ℕ → ℕ → Type 0
   IsCovered v row =
       (below : ℕ → ℕ) → ((q : ℕ) → v < q → q < t.nodes → t.parent q ≡ v → Serves q row (below q))
@@ -87,8 +88,8 @@ module _ {K : Type 0} (t : Problem K) (c : Certificate) where
   abbrev pub Begins : ℕ → (ℕ → ℕ) → ℕ → Type 0
   Begins i rows n = (i < length c.answers) × ((q : ℕ) → q < n → answer_row i q ≡ rows q)
 
-  -- Rows for the nodes up to `at`. Those before `at` are none or begin an answer, and no such answer has the last one.
-  -- Each group that these rows name and choose no row from has a bound.
+  -- Rows for the nodes up to `at`. Those before `at` are none or begin an answer, and no such
+  -- answer has the last one. Each group that these rows name and choose no row from has a bound.
   pub record OpenChoice : Type 0 where
     pub at : ℕ
     pub rows : ℕ → ℕ
@@ -114,7 +115,8 @@ module _ {K : Type 0} (t : Problem K) (c : Certificate) where
   IsCount None true k = Unit {0}
   IsCount (Some n) true k = k ≤ n
 
-  -- what the choice offers comes after the last answer, and if the certificate says `end` there is no choice
+  -- what the choice offers comes after the last answer, and if the certificate says `end` there is
+  -- no choice
   abbrev pub IsPassed : Bool → OpenChoice → Type 0
   IsPassed true o = ⊥
   IsPassed false o = 0 < length c.answers

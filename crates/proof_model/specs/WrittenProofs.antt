@@ -20,7 +20,8 @@ module _ {K : Type 0} (t : Problem K) (c : Certificate) where
         → t.IsGrouped v (row_in t v other v) (row_in t v rows v)
         → AtMost t.Below (key_at t v rows) (key_at t v other)
 
-  -- The first solution of each group that has one, in order, and then the first answers. Lines are numbered from 2.
+  -- The first solution of each group that has one, in order, and then the first answers. Lines are
+  -- numbered from 2.
   pub record IsWritten (listed : List (List ℕ)) : Type 0 where
     pub ordered : IsAscending BoundBefore c.bounds
     pub firsts : (i : ℕ) → i < length c.bounds

@@ -1,10 +1,12 @@
-//! Certificates of the first answers of a query: when one is valid, and what a valid one shows. No code.
+//! Certificates of the first answers of a query: when one is valid, and what a valid one shows. No
+//! code.
 //!
-//! A certificate has a bound for each group of rows, and the answers. Each row is compared with the bounds of the
-//! groups below it, as in dynamic programming over trees. Each way to leave the listed answers is compared by its rows
-//! and the bounds of the groups that it leaves open: these ways are the parts of Lawler's procedure ("A procedure for
-//! computing the K best solutions to discrete optimization problems", 1972). So a certificate is checked with no queue
-//! and no engine. That it then shows the first answers is proved here; its form is this project's own.
+//! A certificate has a bound for each group of rows, and the answers. Each row is compared with the
+//! bounds of the groups below it, as in dynamic programming over trees. Each way to leave the
+//! listed answers is compared by its rows and the bounds of the groups that it leaves open: these
+//! ways are the parts of Lawler's procedure ("A procedure for computing the K best solutions to
+//! discrete optimization problems", 1972). So a certificate is checked with no queue and no engine.
+//! That it then shows the first answers is proved here; its form is this project's own.
 #![tactic(auto)]
 
 ghost use Rattle.proof_model.specs.Theorems.{AnswersAreFirst, FullIsValid, OneFirstFlaw, OneText};
@@ -15,7 +17,8 @@ pub fn unlisted_come_after()
     ensures { UnlistedComeAfter }
 {}
 
-/// The keys of a valid certificate's answers are those that the limit leaves of the ranking of all solutions.
+/// The keys of a valid certificate's answers are those that the limit leaves of the ranking of all
+/// solutions.
 pub fn answers_are_first()
     ensures { AnswersAreFirst }
 {}
@@ -30,7 +33,8 @@ pub fn one_first_flaw()
     ensures { OneFirstFlaw }
 {}
 
-/// A certificate is valid if each group with a solution has its least bound, and its answers are the first solutions.
+/// A certificate is valid if each group with a solution has its least bound, and its answers are
+/// the first solutions.
 pub fn full_is_valid()
     ensures { FullIsValid }
 {}
@@ -40,8 +44,8 @@ pub fn wide_keys_agree()
     ensures { WideKeysAgree }
 {}
 
-/// In a sum of keys of rows, at most one of each node, each sum fits 128 bits with a sign, and each slot 32 bits
-/// without one.
+/// In a sum of keys of rows, at most one of each node, each sum fits 128 bits with a sign, and each
+/// slot 32 bits without one.
 pub fn sums_fit()
     ensures { SumsFit }
 {}

@@ -19,9 +19,9 @@ use std::sync::ledger::Ledger;
 use step_counter::Steps;
 use table_store::Tables;
 
-/// The rows of a query's nodes with the bounds of a certificate. `TooManyRows` exactly if more than 4,194,304 rows of
-/// all nodes pass; then `BadBound` and `BoundTwice`, each exactly if it tells the first flaw. `NoMemory` if memory is
-/// refused.
+/// The rows of a query's nodes with the bounds of a certificate. `TooManyRows` exactly if more than
+/// 4,194,304 rows of all nodes pass; then `BadBound` and `BoundTwice`, each exactly if it tells the
+/// first flaw. `NoMemory` if memory is refused.
 pub fn bounded_tree<R: Rank, L: Ledger>(
     alloc: Global,
     query: &Query,

@@ -22,8 +22,8 @@ use tdp_core::RawTree;
 /// The greatest number of rows of all nodes of a join tree together.
 const MAX_NODE_ROWS: u32 = 4_194_304;
 
-/// The raw tree of a query. `TooManyRows` exactly if more than 4,194,304 rows of all nodes pass, and `NoMemory` if
-/// memory is refused.
+/// The raw tree of a query. `TooManyRows` exactly if more than 4,194,304 rows of all nodes pass,
+/// and `NoMemory` if memory is refused.
 pub(crate) fn query_rows<R: Rank, L: Ledger>(
     alloc: Global,
     query: &Query,

@@ -6,8 +6,8 @@ ghost use Rattle.proof_text.specs.NumberedProofs.{IsNumbered};
 ghost use Rattle.proof_text.specs.Reading.{proof_of};
 ghost use Rattle.proof_text.specs.Writing.{proof_text};
 
-/// What is written is read as it was, if lines are numbered as they stand, each has a row, and numbers have at most
-/// 7 digits.
+/// What is written is read as it was, if lines are numbered as they stand, each has a row, and
+/// numbers have at most 7 digits.
 pub fn written_is_read()
     ensures { (c : Certificate) → IsNumbered c → proof_of (proof_text c) ≡ Ok c }
 {}

@@ -1,6 +1,7 @@
 //! A certificate, as it is read.
 
-/// A certificate of the first answers of a query. Neither its text nor its numbers need to be right.
+/// A certificate of the first answers of a query. Neither its text nor its numbers need to be
+/// right.
 #[derive(Debug, Drop)]
 pub struct Proof {
     /// The bounds, in the order of their lines.
@@ -18,7 +19,8 @@ pub struct Bound {
     pub line: u32,
     /// The number of a node of the join tree, as the line writes it: nodes count from 1.
     pub node: u32,
-    /// A row number for each item of the node's subtree, in the order of the items. Rows count from 1.
+    /// A row number for each item of the node's subtree, in the order of the items. Rows count from
+    /// 1.
     pub rows: Vec<u32>,
 }
 

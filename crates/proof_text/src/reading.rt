@@ -20,7 +20,8 @@ use text_lines::first_line;
 
 const HEADER: &[u8] = b"anyk-proof 1";
 
-/// The number of the line after this one. `NoMemory` if it does not fit 32 bits: there is no memory for so many lines.
+/// The number of the line after this one. `NoMemory` if it does not fit 32 bits: there is no memory
+/// for so many lines.
 fn number_after(number: u32) -> Result<u32, ProofFault>
     ensures { MatchResult result (λ next. next ≡ number + 1) (λ e. e ≡ NoMemory) }
 {
@@ -106,10 +107,10 @@ fn is_header(text: &[u8]) -> bool
     text == HEADER
 }
 
-/// The certificate that bytes are. Lines count from 1. `BadHeader` if the first line is missing, or another one than
-/// `anyk-proof 1`. `BadLine` with the first line that has no form, or one that it cannot have at its place; if the
-/// last line is missing, its number is that of the line after all. `NoMemory` if memory is refused, or if the
-/// number of a line does not fit 32 bits.
+/// The certificate that bytes are. Lines count from 1. `BadHeader` if the first line is missing, or
+/// another one than `anyk-proof 1`. `BadLine` with the first line that has no form, or one that it
+/// cannot have at its place; if the last line is missing, its number is that of the line after all.
+/// `NoMemory` if memory is refused, or if the number of a line does not fit 32 bits.
 pub fn read_proof(alloc: Global, bytes: &[u8]) -> Result<Proof, ProofFault>
     // The certificate that the text is, or the reason why it is none.
     ensures read { let all = proof_of bytes.now in

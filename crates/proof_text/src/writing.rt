@@ -50,8 +50,8 @@ pub fn push_header(text: &mut Vec<u8>) -> Result<(), NoMemory>
     Ok(())
 }
 
-/// Appends the line of a bound: its node, from 1, and its rows, from 1, in the order of the items. If memory is
-/// refused, `NoMemory`, and the text is as it was.
+/// Appends the line of a bound: its node, from 1, and its rows, from 1, in the order of the items.
+/// If memory is refused, `NoMemory`, and the text is as it was.
 pub fn push_bound(
     alloc: Global,
     text: &mut Vec<u8>,
@@ -66,8 +66,8 @@ pub fn push_bound(
     Ok(())
 }
 
-/// Appends the line of an answer: its rows, from 1, in the order of the items. If memory is refused, `NoMemory`, and
-/// the text is as it was.
+/// Appends the line of an answer: its rows, from 1, in the order of the items. If memory is
+/// refused, `NoMemory`, and the text is as it was.
 pub fn push_answer(alloc: Global, text: &mut Vec<u8>, rows: &[u32]) -> Result<(), NoMemory>
     ensures appended { OnOk result (text.new.items ≡ text.old.items ++ answer_text rows.now) }
     ensures kept { OnErr result (text.new.items ≡ text.old.items) }
@@ -77,8 +77,8 @@ pub fn push_answer(alloc: Global, text: &mut Vec<u8>, rows: &[u32]) -> Result<()
     Ok(())
 }
 
-/// Appends the last line: `end` if there is no answer after those that are listed, and else `more`. If memory is
-/// refused, `NoMemory`, and the text is as it was.
+/// Appends the last line: `end` if there is no answer after those that are listed, and else `more`.
+/// If memory is refused, `NoMemory`, and the text is as it was.
 pub fn push_last(text: &mut Vec<u8>, ended: bool) -> Result<(), NoMemory>
     ensures appended { OnOk result (text.new.items ≡ text.old.items ++ last_text ended) }
     ensures kept { OnErr result (text.new.items ≡ text.old.items) }

@@ -27,8 +27,8 @@ module _ {R : Type 0} (tree : List (NodeView R)) where
   -- the row numbers, by item, of the first solution of group g of node v
   pub record IsFirst (v g : ℕ) (numbers : List ℕ) : Type 0 where
     pub count : length numbers ≡ 16
-    -- the row of each node of the subtree: at v the first one of the group, and at the others the first one of the
-    -- group that the row of the node's parent names
+    -- the row of each node of the subtree: at v the first one of the group, and at the others the
+    -- first one of the group that the row of the node's parent names
     pub chosen : ℕ → ℕ
     pub top : chosen v ≡ slice_index (members tree v g) 0
     pub named : (q : ℕ) → v < q → IsUnder v q

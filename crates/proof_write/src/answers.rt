@@ -13,8 +13,8 @@ use std::sync::ledger::Ledger;
 use step_counter::{NoMemory, Steps};
 use tdp_core::Ranked;
 
-/// Appends the lines of the answers that the engine has left, as many as the limit allows. Returns whether the engine
-/// ended before the limit. `NoMemory` if memory is refused.
+/// Appends the lines of the answers that the engine has left, as many as the limit allows. Returns
+/// whether the engine ended before the limit. `NoMemory` if memory is refused.
 pub fn push_answers<E: Ranked, L: Ledger>(
     alloc: Global,
     query: &Query,

@@ -11,8 +11,9 @@ use std::sync::ledger::Ledger;
 use step_counter::{NoMemory, Steps};
 use tdp_core::Tree;
 
-/// The row numbers of the first solution of a group, by item: those of the row at place 0, and of the row at place 0 of
-/// each group that is named, down the subtree. Items of no node of the subtree have 0.
+/// The row numbers of the first solution of a group, by item: those of the row at place 0, and of
+/// the row at place 0 of each group that is named, down the subtree. Items of no node of the
+/// subtree have 0.
 pub fn first_rows<R: Rank, L: Ledger>(
     tree: &Tree<R>,
     node: u32,
@@ -38,7 +39,8 @@ pub fn first_rows<R: Rank, L: Ledger>(
     rows
 }
 
-/// The row at place 0 of the group that the row chosen at a node's parent names. `None` if no row is chosen there.
+/// The row at place 0 of the group that the row chosen at a node's parent names. `None` if no row
+/// is chosen there.
 fn first_below<R: Rank, L: Ledger>(
     tree: &Tree<R>,
     chosen: &[Option<u32>; 16],

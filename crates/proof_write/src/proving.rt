@@ -18,9 +18,10 @@ use std::sync::ledger::Ledger;
 use step_counter::{NoMemory, Steps};
 use tdp_core::{Ranked, Tree};
 
-/// The text of a certificate of the first answers: the first solution of each group of the tree, in order, and then as
-/// many answers as the limit allows. The tree is that of a plan of the query, and the engine has all answers left. It
-/// is not called after the limit's number of answers. `NoMemory` if memory is refused.
+/// The text of a certificate of the first answers: the first solution of each group of the tree, in
+/// order, and then as many answers as the limit allows. The tree is that of a plan of the query,
+/// and the engine has all answers left. It is not called after the limit's number of answers.
+/// `NoMemory` if memory is refused.
 pub fn prove<R: Rank, E: Ranked<Key = R>, L: Ledger>(
     alloc: Global,
     query: &Query,

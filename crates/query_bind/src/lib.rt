@@ -1,5 +1,5 @@
-//! Binding the names of a query to the columns of tables: what its references mean, what rows add to
-//! its order keys, and the variables that its equalities make.
+//! Binding the names of a query to the columns of tables: what its references mean, what rows add
+//! to its order keys, and the variables that its equalities make.
 //!
 //! Names are looked up as in SQL. The classes of equal columns are kept by quick find (Sedgewick
 //! and Wayne, Algorithms), where the label of a class is its least column.

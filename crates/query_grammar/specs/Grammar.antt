@@ -179,7 +179,8 @@ pub data IsNextBranch (many : Bool) : List Lexeme → List Lexeme → Select →
       → many ≡ true → One kind.Union ts a u → One kind.All a b w → IsBranch b rest s
       → IsNextBranch many ts rest s
 
--- branch {UNION ALL branch} [LIMIT digits] [";"], or branch [LIMIT digits] [";"] if there may not be several
+-- branch {UNION ALL branch} [LIMIT digits] [";"], or branch [LIMIT digits] [";"] if there may not
+-- be several
 pub data IsQueries (many : Bool) : List Lexeme → Branches → Type 0 where
   queries : {ts a b c : List Lexeme} {s : Select} {ss : List Select} {n : Option Lexeme}
       → IsBranch ts a s → Many (IsNextBranch many) a b ss → IsLimit b c n → IsEnd c

@@ -357,7 +357,8 @@ query_at tokens = do
 
 -- ---- several queries
 
--- branches without their limit, and the digits of the limit of the whole, whose number may be too great
+-- branches without their limit, and the digits of the limit of the whole, whose number may be too
+-- great
 abbrev pub Branches : Type 0
 Branches = List Select × Option Lexeme
 

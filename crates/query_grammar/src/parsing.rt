@@ -138,10 +138,10 @@ pub fn parse(alloc: Global, bytes: &[u8]) -> Result<Select, ParseFault>
     Ok(select)
 }
 
-/// The queries that the bytes write, with `UNION ALL` between them, as the branches of one. The items
-/// of all branches are counted together, and the order keys of each branch alone. Each fault is
-/// returned exactly if it holds and none before it does, in the order of `ParseFault`. Only `NoMemory`
-/// may be returned at any point.
+/// The queries that the bytes write, with `UNION ALL` between them, as the branches of one. The
+/// items of all branches are counted together, and the order keys of each branch alone. Each fault
+/// is returned exactly if it holds and none before it does, in the order of `ParseFault`. Only
+/// `NoMemory` may be returned at any point.
 pub fn parse_all(alloc: Global, bytes: &[u8]) -> Result<SelectAll, ParseFault>
     // Each result is true of the bytes.
     ensures sound { ParsesAll bytes.now result }

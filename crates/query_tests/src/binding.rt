@@ -217,8 +217,8 @@ fn binds_two_tables(rt: HostRuntime) {
     assert!(rt; told.columns == columns);
     assert!(rt; told.variables == [[Some((0, 1)), None], [Some((0, 0)), None], [None; 2]]);
     assert!(rt; told.graph == [3, 0, 0] && told.passes[0] == [true, true]);
-    // An item's rows add nothing to a key that has no column of the item, and a column that is named twice counts
-    // twice.
+    // An item's rows add nothing to a key that has no column of the item, and a column that is
+    // named twice counts twice.
     assert!(rt; told.parts == [[-1, 0, 2], [0, 4, 0]]);
     assert!(rt; told.caps == [[3, 0, 6], [0, 5, 0]]);
 }

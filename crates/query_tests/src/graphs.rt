@@ -41,7 +41,8 @@ fn has_no_ear(graph: &Graph) -> bool
         && graph.is_ear(4, 0b11111).is_none()
 }
 
-/// Without E, the atom D of that graph shares only y, which A has. D and E are linked only in the first tree.
+/// Without E, the atom D of that graph shares only y, which A has. D and E are linked only in the
+/// first tree.
 fn has_links(graph: &Graph) -> bool
     requires { graph.now ≡ record { atoms = 5; vars = 11 ∷ 6 ∷ 21 ∷ 24 ∷ [] } }
 {

@@ -1,6 +1,6 @@
-//! Tests of the query language and of what is made of a query: parsing, binding, hypergraphs, the join tree and its
-//! shape. They are worked examples over the public calls of those crates. They have a crate of their own, so that none
-//! of those is proved twice for its tests.
+//! Tests of the query language and of what is made of a query: parsing, binding, hypergraphs, the
+//! join tree and its shape. They are worked examples over the public calls of those crates. They
+//! have a crate of their own, so that none of those is proved twice for its tests.
 #![tactic(auto)]
 
 #[cfg(test)]

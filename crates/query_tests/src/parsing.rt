@@ -290,7 +290,8 @@ const WRITTEN: &[(&str, &str)] = &[
     ),
 ];
 
-/// The place of the first query that is written in another way, or whose text is not written as it is.
+/// The place of the first query that is written in another way, or whose text is not written as it
+/// is.
 fn first_written_otherwise(alloc: Global, queries: &[(&str, &str)]) -> Option<usize> {
     for (i, (query, wanted)) in queries.iter().enumerate() {
         if !is_written_as(alloc, query, wanted) || !is_written_as(alloc, wanted, wanted) {

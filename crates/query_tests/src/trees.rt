@@ -76,7 +76,8 @@ fn is_in(set: u16, atom: u32) -> bool {
     set >> (atom % 4) & 1 == 1
 }
 
-/// Whether a set of atoms is empty or connected in this tree: then it has one link fewer than atoms.
+/// Whether a set of atoms is empty or connected in this tree: then it has one link fewer than
+/// atoms.
 fn is_connected(parents: &[u32; 4], set: u16) -> bool {
     let mut atoms: u32 = 0;
     let mut links: u32 = 0;
@@ -101,7 +102,8 @@ fn connected_sets(parents: &[u32; 4]) -> [bool; 16] {
     connected
 }
 
-/// The connected sets of each tree of four atoms. A number of four digits to the base 4 names the parent of each atom.
+/// The connected sets of each tree of four atoms. A number of four digits to the base 4 names the
+/// parent of each atom.
 fn all_trees(alloc: Global) -> Result<Vec<[bool; 16]>, NoMemory> {
     let mut trees = Vec::new(alloc);
     for number in 0..256u32 {
@@ -153,8 +155,8 @@ fn is_right(alloc: Global, trees: &[[bool; 16]], x: u16, y: u16, z: u16) -> Resu
     Ok(is_tree(&parents) && connects(&connected_sets(&parents), sets))
 }
 
-/// For every graph of four atoms and three variables a tree is found exactly if some list of parents is a join tree,
-/// and the tree found is one.
+/// For every graph of four atoms and three variables a tree is found exactly if some list of
+/// parents is a join tree, and the tree found is one.
 #[test]
 fn finds_a_tree_where_one_is(rt: HostRuntime) -> Result<(), Fail> {
     let trees = all_trees(rt.alloc())?;

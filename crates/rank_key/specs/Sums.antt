@@ -21,7 +21,8 @@ low_of : (high low : ℕ) → low < 2 ^ 64 → (high * 2 ^ 64 + low) % 2 ^ 64 �
 low_of high low h = omega (arith, shr_split (high * 2 ^ 64 + low) 64, high_of high low h)
 
 -- the halves of the number that halves stand for are these
-pub halves_of_number : (s : Inside) → (s.high < 2 ^ 64) × (s.low < 2 ^ 64) → halves_of (sum_view s) ≡ s
+pub halves_of_number : (s : Inside) → (s.high < 2 ^ 64) × (s.low < 2 ^ 64)
+    → halves_of (sum_view s) ≡ s
 halves_of_number s fits =
     let bits : cast_unsigned w128 (cast_signed w128 (s.high * 2 ^ 64 + s.low)) ≡ s.high * 2 ^ 64 + s.low =
     of_z-to_z w128 (s.high * 2 ^ 64 + s.low) (omega (arith, fits.0, fits.1)) in

@@ -14,8 +14,8 @@ use std::cmp::Ordering;
 use std::sync::ledger::Ledger;
 use step_counter::Steps;
 
-/// A rank with `N` sums, which are before the slots and are compared first, and with the first `M` slots. The fewer of
-/// both, the less memory it takes.
+/// A rank with `N` sums, which are before the slots and are compared first, and with the first `M`
+/// slots. The fewer of both, the less memory it takes.
 #[derive(Clone, Copy)]
 pub struct FixedRank<const N: usize, const M: usize> {
     sums: [Sum; N],
@@ -34,7 +34,8 @@ pub type MiddleSumRank = FixedRank<1, 8>;
 /// A rank with eight sums, for an order by two to eight keys. Earlier keys are compared first.
 pub type LexRank = FixedRank<8, 16>;
 
-/// A rank with two sums and four slots, for a query of at most four items and an order by at most two keys.
+/// A rank with two sums and four slots, for a query of at most four items and an order by at most
+/// two keys.
 pub type SmallLexRank = FixedRank<2, 4>;
 
 /// Adds sums to others, place by place.

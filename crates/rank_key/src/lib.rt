@@ -1,11 +1,13 @@
-//! Ranks: the keys by which answers are ordered, as values that are only added, exchanged and compared, in counted steps.
+//! Ranks: the keys by which answers are ordered, as values that are only added, exchanged and
+//! compared, in counted steps.
 //!
-//! A key has one sum for each order key and then 16 row slots, one for each item of a query. A rank holds a key of
-//! which no slot after its last one is in use, so the ranks of a query of few items are small. Ranks are compared
-//! lexicographically, so that two answers with equal sums are ordered by their row numbers. An order by sums is fit for
-//! ranked enumeration because it is total and adding keeps it (Tziavelis et al., "Optimal Algorithms for Ranked
-//! Enumeration of Answers to Full Conjunctive Queries", PVLDB 2020): `rank_laws` states these laws for generic callers.
-//! The number of binary digits of a count, which bounds the steps of a heap, is here too.
+//! A key has one sum for each order key and then 16 row slots, one for each item of a query. A rank
+//! holds a key of which no slot after its last one is in use, so the ranks of a query of few items
+//! are small. Ranks are compared lexicographically, so that two answers with equal sums are ordered
+//! by their row numbers. An order by sums is fit for ranked enumeration because it is total and
+//! adding keeps it (Tziavelis et al., "Optimal Algorithms for Ranked Enumeration of Answers to Full
+//! Conjunctive Queries", PVLDB 2020): `rank_laws` states these laws for generic callers. The number
+//! of binary digits of a count, which bounds the steps of a heap, is here too.
 #![tactic(auto)]
 
 mod binary_digits;

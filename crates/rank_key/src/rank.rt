@@ -10,9 +10,10 @@ use step_counter::Steps;
 /// The number of row slots of a key.
 pub const SLOTS: usize = 16;
 
-/// A rank. Contracts see its key: `KEYS` sums and then 16 row slots, of which the rank holds the first `ITEMS`: the
-/// others are 0. Each key whose sums are below `LIMIT` in absolute value and whose slots are below `ROWS` is that of a
-/// rank. Ranks are used through the calls of this trait alone, and none of them takes memory.
+/// A rank. Contracts see its key: `KEYS` sums and then 16 row slots, of which the rank holds the
+/// first `ITEMS`: the others are 0. Each key whose sums are below `LIMIT` in absolute value and
+/// whose slots are below `ROWS` is that of a rank. Ranks are used through the calls of this trait
+/// alone, and none of them takes memory.
 pub trait Rank: Copy {
     ghost KEYS: { ℕ };
 
@@ -31,8 +32,8 @@ pub trait Rank: Copy {
     fn zero() -> Self
         ensures { key result ≡ key_none KEYS 16 };
 
-    /// The rank of one row: its sums, of which missing ones are 0, and its number in its slot. Slots count from 0, and
-    /// the other slots are 0.
+    /// The rank of one row: its sums, of which missing ones are 0, and its number in its slot.
+    /// Slots count from 0, and the other slots are 0.
     fn of_row(sums: &[i128], slot: u32, row: u32) -> Self
         requires sums { length sums.now ≤ KEYS }
         requires small { All (λ z. unsigned_abs z < LIMIT) sums.now }
@@ -47,8 +48,8 @@ pub trait Rank: Copy {
         ensures sum { key result ≡ key_add KEYS 16 (key a) (key b) }
         ensures counted { steps.new ≡ steps.old + 1 };
 
-    /// `total` with `new` in place of its part `old`, that is total - old + new. It takes one step. Both what is left
-    /// without `old` and the result must fit.
+    /// `total` with `new` in place of its part `old`, that is total - old + new. It takes one step.
+    /// Both what is left without `old` and the result must fit.
     fn swap<L: Ledger>(total: Self, old: Self, new: Self, steps: &mut Steps<L>) -> Self
         requires { CanSwap KEYS key (key total) (key old) (key new) }
         ensures swapped { (rest : KeyOf KEYS 16) → key total ≡ key_add KEYS 16 rest (key old)

@@ -5,8 +5,8 @@ ghost use Rattle.std.specs.Ordering.{int_cmp};
 use std::cmp::Ordering;
 use std::marker::Model;
 
-/// A whole number of 128 bits with a sign. It is kept in two halves, so that a rank needs no more room than its numbers
-/// take, at any place that is a multiple of 8.
+/// A whole number of 128 bits with a sign. It is kept in two halves, so that a rank needs no more
+/// room than its numbers take, at any place that is a multiple of 8.
 #[derive(Clone, Copy)]
 pub struct Sum {
     high: u64,
@@ -47,7 +47,8 @@ impl Sum {
         (((self.high as u128) << 64) + self.low as u128).cast_signed()
     }
 
-    /// The order of two numbers: that of the high halves with their sign, and then that of the low ones.
+    /// The order of two numbers: that of the high halves with their sign, and then that of the low
+    /// ones.
     pub fn compare(&self, other: &Sum) -> Ordering
         ensures { result ≡ int_cmp self.now other.now }
     {

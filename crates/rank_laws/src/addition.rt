@@ -50,7 +50,8 @@ pub fn grouped_both_ways<R: Rank, L: Ledger>(a: R, b: R, c: R, steps: &mut Steps
     (from_left, from_right)
 }
 
-/// Whether one rank is before another after the same rank is joined to both: exactly if it was before.
+/// Whether one rank is before another after the same rank is joined to both: exactly if it was
+/// before.
 pub fn less_joined<R: Rank, L: Ledger>(a: R, b: R, part: R, steps: &mut Steps<L>) -> bool
     requires first { KeyFits R.KEYS R.key (key_add R.KEYS 16 (R.key a) (R.key part)) }
     requires second { KeyFits R.KEYS R.key (key_add R.KEYS 16 (R.key b) (R.key part)) }
@@ -62,7 +63,8 @@ pub fn less_joined<R: Rank, L: Ledger>(a: R, b: R, part: R, steps: &mut Steps<L>
     R::less(&first, &second, steps)
 }
 
-/// How two ranks compare after the same rank is joined to both. The result holds without that rank too.
+/// How two ranks compare after the same rank is joined to both. The result holds without that rank
+/// too.
 pub fn compare_joined<R: Rank, L: Ledger>(a: R, b: R, part: R, steps: &mut Steps<L>) -> Ordering
     requires first { KeyFits R.KEYS R.key (key_add R.KEYS 16 (R.key a) (R.key part)) }
     requires second { KeyFits R.KEYS R.key (key_add R.KEYS 16 (R.key b) (R.key part)) }
@@ -76,7 +78,8 @@ pub fn compare_joined<R: Rank, L: Ledger>(a: R, b: R, part: R, steps: &mut Steps
     compare(&first, &second, steps)
 }
 
-/// A rest joined with an old part, and then the new part in place of the old one: the rest joined with the new part.
+/// A rest joined with an old part, and then the new part in place of the old one: the rest joined
+/// with the new part.
 pub fn swapped<R: Rank, L: Ledger>(rest: R, old: R, new: R, steps: &mut Steps<L>) -> R
     requires rest { KeyFits R.KEYS R.key (R.key rest) }
     requires before { KeyFits R.KEYS R.key (key_add R.KEYS 16 (R.key rest) (R.key old)) }

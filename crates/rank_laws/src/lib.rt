@@ -1,10 +1,11 @@
 //! The laws of ranks, for code that knows only that its type is a rank.
 //!
-//! Ranks are a strictly ordered commutative group without differences: `less` is a strict total order, `join` is
-//! associative and commutative with `zero` as its neutral element, and joining the same rank to two others keeps their
-//! order. These are the conditions under which ranked enumeration is correct (Tziavelis et al., "Optimal Algorithms for
-//! Ranked Enumeration of Answers to Full Conjunctive Queries", PVLDB 2020). Each function here uses a rank only through
-//! its trait, and each of its clauses is one law.
+//! Ranks are a strictly ordered commutative group without differences: `less` is a strict total
+//! order, `join` is associative and commutative with `zero` as its neutral element, and joining the
+//! same rank to two others keeps their order. These are the conditions under which ranked
+//! enumeration is correct (Tziavelis et al., "Optimal Algorithms for Ranked Enumeration of Answers
+//! to Full Conjunctive Queries", PVLDB 2020). Each function here uses a rank only through its
+//! trait, and each of its clauses is one law.
 #![tactic(auto)]
 
 mod addition;

@@ -17,7 +17,8 @@ pub fn is_before_itself<R: Rank, L: Ledger>(rank: &R, steps: &mut Steps<L>) -> b
     R::less(rank, rank, steps)
 }
 
-/// Whether the second of two ranks is before the first, given that the first is before the second; it never is.
+/// Whether the second of two ranks is before the first, given that the first is before the second;
+/// it never is.
 pub fn is_before_previous<R: Rank, L: Ledger>(first: &R, second: &R, steps: &mut Steps<L>) -> bool
     requires { key_less R.KEYS 16 (R.key first.now) (R.key second.now) ≡ true }
     ensures asymmetric { result ≡ false }
@@ -26,7 +27,8 @@ pub fn is_before_previous<R: Rank, L: Ledger>(first: &R, second: &R, steps: &mut
     R::less(second, first, steps)
 }
 
-/// Whether the first of three ranks is before the last, given that each is before the next; it always is.
+/// Whether the first of three ranks is before the last, given that each is before the next; it
+/// always is.
 pub fn is_before_last<R: Rank, L: Ledger>(
     first: &R,
     second: &R,
@@ -41,7 +43,8 @@ pub fn is_before_last<R: Rank, L: Ledger>(
     R::less(first, third, steps)
 }
 
-/// How two ranks compare. One of the three results always holds, and `Equal` means that their keys are equal.
+/// How two ranks compare. One of the three results always holds, and `Equal` means that their keys
+/// are equal.
 pub fn compare<R: Rank, L: Ledger>(a: &R, b: &R, steps: &mut Steps<L>) -> Ordering
     ensures less { result ≡ Less → key_below R.KEYS 16 (R.key a.now) (R.key b.now) }
     ensures equal { result ≡ Equal → R.key a.now ≡ R.key b.now }

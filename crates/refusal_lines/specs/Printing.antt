@@ -29,7 +29,8 @@ pub record Printed (old new : SinkState) (text : List ℕ)
 abbrev pub GotBeginning : (List ℕ → Type 0) → SinkState → SinkState → Type 0
 GotBeginning IsText old new = (text : List ℕ) × IsText text × GotPrefix old.written new.written text
 
--- what the sink got if printing ended early: if memory ran out, maybe nothing, before any text was known
+-- what the sink got if printing ended early: if memory ran out, maybe nothing, before any text was
+-- known
 abbrev pub IsBroken : (List ℕ → Type 0) → SinkState → SinkState → Reason → Type 0
 IsBroken IsText old new reason.NoMemory = Appends old.written new.written []
     ⊎ GotBeginning IsText old new

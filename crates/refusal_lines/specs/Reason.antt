@@ -1,5 +1,6 @@
--- Why a call ended before its output was complete: each reason with its status and its line. Branches, items,
--- keys, columns, rows and lines count from 1. The branch is named only if the query has several.
+-- Why a call ended before its output was complete: each reason with its status and its line.
+-- Branches, items, keys, columns, rows and lines count from 1. The branch is named only if the
+-- query has several.
 use Rattle.std.specs.Prelude.{ℕ, List, [], ◌++◌, Option, None, Some, codes, decimal}
 pub use Rattle.number_text.specs.SpacedNumbers.{spaced}
 

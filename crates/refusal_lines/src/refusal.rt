@@ -3,10 +3,10 @@ ghost use Rattle.std.specs.Prelude.{◌≡◌};
 ghost use Rattle.refusal_lines.specs.Reason.{branch_of, status_of};
 ghost use Rattle.refusal_lines.specs.RefusalReasons.{reason_of};
 
-/// Why a run ended before its output was complete. Branches, items, keys, columns, rows, the nodes of
-/// the join tree, and the lines of a script and of a certificate count from 1. The branch is given only
-/// if the query has several. An offset is that of a byte of the query, from 0. Tables and files have
-/// the names that the command line gives them.
+/// Why a run ended before its output was complete. Branches, items, keys, columns, rows, the nodes
+/// of the join tree, and the lines of a script and of a certificate count from 1. The branch is
+/// given only if the query has several. An offset is that of a byte of the query, from 0. Tables
+/// and files have the names that the command line gives them.
 #[derive(Clone, Copy, Drop)]
 pub enum Refusal<'a> {
     /// The arguments are not a command.
@@ -114,7 +114,8 @@ pub enum Refusal<'a> {
     /// The branch differs from the first one in its number of selected columns, in its number of
     /// order keys, or in the direction of a key.
     BranchShape(u32),
-    /// The query has several branches, and an item is named for the best answer of each of its rows.
+    /// The query has several branches, and an item is named for the best answer of each of its
+    /// rows.
     UnionBest,
 }
 

@@ -1,6 +1,6 @@
-//! Two worked rows, as laws: two tables of three rows each, joined in one column, of which the three
-//! best answers are asked for, and the same tables in two queries, of which the four best answers in
-//! one ranking are asked for.
+//! Two worked rows, as laws: two tables of three rows each, joined in one column, of which the
+//! three best answers are asked for, and the same tables in two queries, of which the four best
+//! answers in one ranking are asked for.
 #![tactic(auto)]
 
 ghost use Rattle.std.specs.Prelude.{◌≤◌, ◌+◌, ℕ, Some, Ok};
@@ -27,9 +27,9 @@ pub fn union_accepted()
     ensures { (found : Found) × IsVerdict row_asked union_files (Ok found) }
 {}
 
-/// A call over the files of the second row that keeps the bound on counted steps takes at most 2,816
-/// of them: each query has one item and 6 rows of its table and its node. The first one has three of
-/// the members and the second one has one, and each is called once more.
+/// A call over the files of the second row that keeps the bound on counted steps takes at most
+/// 2,816 of them: each query has one item and 6 rows of its table and its node. The first one has
+/// three of the members and the second one has one, and each is called once more.
 pub fn union_steps()
     ensures { (before now : ℕ) → IsBounded row_asked (Some union_files) before now
         → now ≤ before + 2816 }

@@ -13,8 +13,9 @@ use Rattle.semi_join.specs.GroupedTrees.{IsGrouped}
 abbrev pub ShareGroup : {R : Type 0} → List (NodeView R) → ℕ → ℕ → ℕ → Type 0
 ShareGroup t v i j = (g : ℕ) × Contains (members t v g) i × Contains (members t v g) j
 
--- The parts have the rows of the raw tree that extend to a solution of their subtree, in groups by their own links.
--- `kept` says for each node which rows these are: row i of the parts is row `slice_index (kept v) i` of the raw tree.
+-- The parts have the rows of the raw tree that extend to a solution of their subtree, in groups by
+-- their own links. `kept` says for each node which rows these are: row i of the parts is row
+-- `slice_index (kept v) i` of the raw tree.
 pub record IsReduced {R : Type 0} (d : ℕ) (key : R → KeyOf d 16) (raw : RawView R)
     (parts : List (NodeView R)) : Type 0 where
   pub shapes : map (λ n. n.shape) parts ≡ raw.shapes
@@ -37,7 +38,8 @@ pub record IsReduced {R : Type 0} (d : ℕ) (key : R → KeyOf d 16) (raw : RawV
       × (own_link raw q (slice_index (kept q) j)
       ≡ child_link raw (shape_parent raw.shapes q)
       (slice_index (kept (shape_parent raw.shapes q)) i) (shape_child_place raw.shapes q)))
-  -- a solution of the parts is one of the raw tree, no two are the same one, and each one comes from one
+  -- a solution of the parts is one of the raw tree, no two are the same one, and each one comes
+  -- from one
   pub solutions : (t : ℕ → ℕ) → IsTreeSolution parts t
       → IsRawSolution raw (λ q. slice_index (kept q) (t q))
   pub one_to_one : (t u : ℕ → ℕ) → IsTreeSolution parts t → IsTreeSolution parts u

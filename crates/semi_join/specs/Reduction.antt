@@ -19,8 +19,8 @@ links_of (Direct links) = links
 abbrev pub AreFew : List (List ℕ) → Type 0
 AreFew = All (λ links. length links ≤ most_node_rows)
 
--- The rows with one own link make one group, and each row is in its group once. `owns` has the own link of each row,
--- and `links` that of each group.
+-- The rows with one own link make one group, and each row is in its group once. `owns` has the own
+-- link of each row, and `links` that of each group.
 pub record IsGrouping (owns links : List ℕ) (groups : List (List ℕ)) : Type 0 where
   pub size : length groups ≡ length links
   pub distinct : (i j : ℕ) → i < length links → j < length links
@@ -33,7 +33,8 @@ pub record IsGrouping (owns links : List ℕ) (groups : List (List ℕ)) : Type 
       → slice_index owns (slice_index (slice_index_or groups g []) j) ≡ slice_index links g
   pub few : length links ≤ length owns
 
--- Each row has the place of its own link among the links, and each link is that of a row. `owns` has the own link of each row.
+-- Each row has the place of its own link among the links, and each link is that of a row. `owns`
+-- has the own link of each row.
 pub record IsNumbering (owns links numbers : List ℕ) : Type 0 where
   pub size : length numbers ≡ length owns
   pub distinct : (i j : ℕ) → i < length links → j < length links

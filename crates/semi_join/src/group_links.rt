@@ -10,8 +10,8 @@ use std::alloc::Global;
 use std::sync::ledger::Ledger;
 use step_counter::{NoMemory, Steps};
 
-/// The links of the groups of a node, numbered from 0 in the order in which they came. The number of a link is that of
-/// its group.
+/// The links of the groups of a node, numbered from 0 in the order in which they came. The number
+/// of a link is that of its group.
 #[derive(Drop)]
 pub(crate) enum GroupLinks {
     /// Links that may be any numbers.
@@ -21,8 +21,8 @@ pub(crate) enum GroupLinks {
 }
 
 impl GroupLinks {
-    /// No links, for a node with this many rows and this greatest link. They are found by a table if it is short
-    /// compared with the rows, and else by hashing with these keys.
+    /// No links, for a node with this many rows and this greatest link. They are found by a table
+    /// if it is short compared with the rows, and else by hashing with these keys.
     pub(crate) fn new(
         alloc: Global,
         keys: Keys,

@@ -34,8 +34,8 @@ struct KeptRows<R> {
     links: GroupLinks,
 }
 
-/// The node with the rows that are kept. `later` has the links of the groups of each later node, in the order of the
-/// nodes.
+/// The node with the rows that are kept. `later` has the links of the groups of each later node, in
+/// the order of the nodes.
 pub(crate) fn reduce_node<R: Rank, L: Ledger>(
     alloc: Global,
     raw: &RawTree<R>,
@@ -190,7 +190,8 @@ fn children_of<R: Rank>(alloc: Global, raw: &RawTree<R>, node: u32) -> Result<Ve
     Ok(children)
 }
 
-/// The link by which a row is put into its group: its own link, and at the root the same one for all rows.
+/// The link by which a row is put into its group: its own link, and at the root the same one for
+/// all rows.
 fn group_link_of<R: Rank>(raw: &RawTree<R>, node: u32, i: u32) -> u32
     requires node { node < length raw.now.shapes }
     requires row { i < raw_len raw.now node }

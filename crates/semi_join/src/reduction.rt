@@ -12,17 +12,18 @@ use std::sync::ledger::Ledger;
 use step_counter::{NoMemory, Steps};
 use tdp_core::{NodeParts, RawTree};
 
-/// Parts of a tree whose rows all extend to a solution of their subtree, with the rows of each node in groups. The
-/// least rank of each row is not known yet, and the groups have no order.
+/// Parts of a tree whose rows all extend to a solution of their subtree, with the rows of each node
+/// in groups. The least rank of each row is not known yet, and the groups have no order.
 #[derive(Drop)]
 pub struct Reduced<R> {
     pub nodes: Vec<NodeParts<R>>,
 }
 
-/// Drops the rows that extend to no solution of their subtree, from the last node up to the root, and puts those that
-/// are left into groups. Each look-up of a link that a row names and each insertion of a link counts one step, whether
-/// links are found by a table or by hashing; laying out the tables and the groups counts none. The raw rows of a node
-/// are freed as soon as it is done. `NoMemory` if memory is refused.
+/// Drops the rows that extend to no solution of their subtree, from the last node up to the root,
+/// and puts those that are left into groups. Each look-up of a link that a row names and each
+/// insertion of a link counts one step, whether links are found by a table or by hashing; laying
+/// out the tables and the groups counts none. The raw rows of a node are freed as soon as it is
+/// done. `NoMemory` if memory is refused.
 pub fn reduce<R: Rank, L: Ledger>(
     alloc: Global,
     raw: RawTree<R>,

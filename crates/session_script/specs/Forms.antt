@@ -33,7 +33,8 @@ SayEach (line ∷ lines) [] = ⊥
 abbrev pub said_lines : List (List ℕ) → List (List ℕ)
 said_lines lines = filter (λ line. not (is_skipped line)) lines
 
--- The line of this number, from 1, says no step, and each line before it says one, but for empty lines and comments.
+-- The line of this number, from 1, says no step, and each line before it says one, but for empty
+-- lines and comments.
 pub record IsBadLine (lines : List (List ℕ)) (number : ℕ) : Type 0 where
   pub before : List (List ℕ)
   pub line : List ℕ

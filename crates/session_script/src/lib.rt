@@ -1,7 +1,9 @@
-//! Scripts of a session, one line for each step of a named cursor: their steps, or the first line that breaks a rule.
+//! Scripts of a session, one line for each step of a named cursor: their steps, or the first line
+//! that breaks a rule.
 //!
-//! Lines are split as `str::lines` of Rust's library splits them, but in bytes. A step uses only cursors that are open
-//! before it and opens only ones that are not, and at most 64 are open at a time.
+//! Lines are split as `str::lines` of Rust's library splits them, but in bytes. A step uses only
+//! cursors that are open before it and opens only ones that are not, and at most 64 are open at a
+//! time.
 #![tactic(auto)]
 
 mod fault;

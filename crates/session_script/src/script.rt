@@ -57,9 +57,10 @@ fn read_steps(alloc: Global, bytes: &[u8]) -> Result<Vec<Step>, ScriptFault>
     Ok(steps)
 }
 
-/// The steps of a script, in the order of its lines. A line feed ends a line, a carriage return before it is dropped,
-/// and the last line may lack its end. Empty lines and lines that begin with `#` are skipped. The fault is that of the
-/// first line that breaks a rule, or `TooManyLines`; `NoMemory` if memory is refused.
+/// The steps of a script, in the order of its lines. A line feed ends a line, a carriage return
+/// before it is dropped, and the last line may lack its end. Empty lines and lines that begin with
+/// `#` are skipped. The fault is that of the first line that breaks a rule, or `TooManyLines`;
+/// `NoMemory` if memory is refused.
 pub fn read_script(alloc: Global, bytes: &[u8]) -> Result<Vec<Step>, ScriptFault>
     // The steps that the text says, or the reason why it says none.
     ensures value { MatchResult result (λ v. steps_of bytes.now ≡ Ok v.items)

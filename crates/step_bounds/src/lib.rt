@@ -1,4 +1,5 @@
-//! The bound on counted steps, and how the shares of preparation and of calls for answers add up to it.
+//! The bound on counted steps, and how the shares of preparation and of calls for answers add up to
+//! it.
 //!
 //! A counted step is one comparison, sum or exchange of ranks, one counted read of a tree, one
 //! index look-up or insertion, or one counted call on a stored entry. The bound is the delay of

@@ -1,7 +1,8 @@
 //! The error of a refused allocation.
 use std::alloc::{AllocError, AllocFailed};
 
-/// Memory was refused. It has one value and no cause. `?` makes it of each error that the allocator returns.
+/// Memory was refused. It has one value and no cause. `?` makes it of each error that the allocator
+/// returns.
 #[derive(Clone, Copy, Debug, PartialEq, Eq)]
 pub struct NoMemory;
 

@@ -10,8 +10,8 @@ use step_counter::Steps;
 use tdp_core::Tree;
 
 /// The source of a subtree solution of a group: a member of the group with its row, a place in the
-/// ranking of that member's solutions, and the parts of the solution there. Members, rows and places
-/// count from 0.
+/// ranking of that member's solutions, and the parts of the solution there. Members, rows and
+/// places count from 0.
 #[derive(Clone, Copy)]
 pub struct Source {
     /// The member of the group, from 0.

@@ -1,5 +1,5 @@
--- Linked entries of many lists in one store: each entry has an owner, a node and a group, and its place is the number of
--- entries of the same owner before it.
+-- Linked entries of many lists in one store: each entry has an owner, a node and a group, and its
+-- place is the number of entries of the same owner before it.
 use Rattle.std.specs.Prelude.{◌≡◌, ℕ, ◌+◌, ◌<◌, Option, Some, None, cond, nat_eq, List, [], ◌∷◌, length, take, slice_index, slice_index_or}
 
 -- how many entries the group has, where `nodes` and `groups` are the owners by entry

@@ -1,4 +1,5 @@
--- A queue as its callers see it: its entries in heap order, and the number of further ones that it has room for.
+-- A queue as its callers see it: its entries in heap order, and the number of further ones that it
+-- has room for.
 use Rattle.std.specs.Prelude.{[], ◌∷◌}
 use Rattle.take2_heap.specs.Heap.{Heap}
 use Rattle.stream_model.specs.declared.queue.Held.{Held}

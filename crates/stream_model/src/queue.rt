@@ -14,8 +14,8 @@ use std::sync::ledger::Ledger;
 use step_counter::{NoMemory, Steps};
 use take2_heap::{Entry, HeapOf};
 
-/// What a queue holds: no entry, one entry by its tag and its rank, or a heap. The tag comes first, since a rank begins at
-/// a multiple of 8 bytes.
+/// What a queue holds: no entry, one entry by its tag and its rank, or a heap. The tag comes first,
+/// since a rank begins at a multiple of 8 bytes.
 #[derive(Drop)]
 pub(crate) enum Held<R: Rank, T: Copy, A: Allocator> {
     Empty,
@@ -23,8 +23,9 @@ pub(crate) enum Held<R: Rank, T: Copy, A: Allocator> {
     Many(HeapOf<R, T, A>),
 }
 
-/// A queue of entries, whose top is before no other. One entry alone takes no memory beside the queue. Contracts see the
-/// entries in heap order, the top first, and the number of further ones for which room is reserved.
+/// A queue of entries, whose top is before no other. One entry alone takes no memory beside the
+/// queue. Contracts see the entries in heap order, the top first, and the number of further ones
+/// for which room is reserved.
 #[derive(Drop)]
 pub struct Queue<R: Rank, T: Copy, A: Allocator> {
     held: Held<R, T, A>,
@@ -82,8 +83,9 @@ impl<R: Rank, T: Copy, A: Allocator> Queue<R, T, A> {
         }
     }
 
-    /// Passes the top: the one or two entries that follow it, if there are any, take its place. It takes no memory, and at
-    /// most 2 * b + c steps for n entries, where n has b binary digits and n + 1 has c.
+    /// Passes the top: the one or two entries that follow it, if there are any, take its place. It
+    /// takes no memory, and at most 2 * b + c steps for n entries, where n has b binary digits and
+    /// n + 1 has c.
     pub fn pass<L: Ledger>(
         &mut self,
         next: Option<Entry<R, T>>,
@@ -111,8 +113,8 @@ impl<R: Rank, T: Copy, A: Allocator> Queue<R, T, A> {
         self.held = held_of(next.or(other));
     }
 
-    /// Adds an entry, if there is one, in reserved room. It takes at most as many steps as the new number of entries has
-    /// binary digits.
+    /// Adds an entry, if there is one, in reserved room. It takes at most as many steps as the new
+    /// number of entries has binary digits.
     pub fn offer<L: Ledger>(&mut self, entry: Option<Entry<R, T>>, steps: &mut Steps<L>)
         requires room { IsSome entry → 0 < self.old.spare }
         ensures moved { IsPermutation (offers entry None self.old.entries) self.new.entries }
@@ -126,8 +128,8 @@ impl<R: Rank, T: Copy, A: Allocator> Queue<R, T, A> {
 }
 
 impl<R: Rank, T: Copy, A: Allocator + Clone> Queue<R, T, A> {
-    /// Makes room for at least `count` more entries, from `alloc` if there was none before. After `NoMemory` the queue is
-    /// as it was. If there is room enough already, the call succeeds.
+    /// Makes room for at least `count` more entries, from `alloc` if there was none before. After
+    /// `NoMemory` the queue is as it was. If there is room enough already, the call succeeds.
     pub fn reserve(&mut self, alloc: &A, count: usize) -> Result<(), NoMemory>
         ensures entries { self.new.entries ≡ self.old.entries }
         ensures ok { OnOk result (count ≤ self.new.spare) }
@@ -162,7 +164,8 @@ fn held_of<R: Rank, T: Copy, A: Allocator>(entry: Option<Entry<R, T>>) -> Held<R
     }
 }
 
-/// The heap of this entry, if there is one, with room for at least `count` more. `NoMemory` if memory is refused.
+/// The heap of this entry, if there is one, with room for at least `count` more. `NoMemory` if
+/// memory is refused.
 fn heap_with_room<R: Rank, T: Copy, A: Allocator + Clone>(
     alloc: &A,
     entry: Option<Entry<R, T>>,

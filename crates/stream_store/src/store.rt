@@ -15,9 +15,9 @@ const MOST: usize = u32::MAX as usize;
 
 /// A list of linked entries, and the number of entries for which room is reserved.
 ///
-/// Bucket number k has room for 16 * 2^k entries. It gets all its memory at once, and no entry in it is ever moved.
-/// Buckets that were made before a later one was refused are kept for later use. Room for more than 2^32 - 1 entries is
-/// refused as memory is.
+/// Bucket number k has room for 16 * 2^k entries. It gets all its memory at once, and no entry in
+/// it is ever moved. Buckets that were made before a later one was refused are kept for later use.
+/// Room for more than 2^32 - 1 entries is refused as memory is.
 #[derive(Drop)]
 pub struct Store<T, A: Allocator + Clone> {
     buckets: Vec<Vec<Linked<T>, A>, A>,
@@ -112,8 +112,8 @@ impl<T, A: Allocator + Clone> Store<T, A> {
         }
     }
 
-    /// Adds an entry without a next entry. If memory is refused it returns the value, and the store is as it was. It
-    /// takes one step in either case.
+    /// Adds an entry without a next entry. If memory is refused it returns the value, and the store
+    /// is as it was. It takes one step in either case.
     pub fn push<L: Ledger>(
         &mut self,
         value: T,

@@ -47,10 +47,12 @@ module _ {R : Type 0} (d : ℕ) (key : R → KeyOf d 16) (t : List (NodeView R))
   IsFirstBelow place j None = (place ≢ 1) ⊎ (length (members t q g) ≤ j)
 
   -- The first of the queue was passed, and member j's solution before `place`. The solution `next`
-  -- entered, if there is one, and the first solutions of the members below, if that one was j's first.
+  -- entered, if there is one, and the first solutions of the members below, if that one was j's
+  -- first.
   abbrev pub AreFirstsMoved : ℕ → ℕ → Option (Entry R Source) → List (Entry R Source)
       → List (Entry R Source) → Type 0
-  AreFirstsMoved j place next old new = (left : Option (Entry R Source)) × (right : Option (Entry R Source))
+  AreFirstsMoved j place next old new =
+      (left : Option (Entry R Source)) × (right : Option (Entry R Source))
       × IsFirstBelow place (2 * j + 1) left × IsFirstBelow place (2 * j + 2) right
       × ((e : Entry R Source) → IsPermutation (offers right None (offers next left old))
       (slice_index_or old 0 e ∷ new))

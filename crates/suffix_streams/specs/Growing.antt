@@ -34,7 +34,8 @@ pub record IsGrown {R : Type 0} (parent : ℕ → ℕ) (q : ℕ) (es : List (Lin
 
 -- A queue of a product gets at most `more v` more entries at node v. A queue that is made has one
 -- entry.
-abbrev pub AreQueuesGrown : {R : Type 0} → (ℕ → ℕ) → List (NodeStreamsView R) → List (NodeStreamsView R)
+abbrev pub AreQueuesGrown : {R : Type 0} → (ℕ → ℕ) → List (NodeStreamsView R)
+    → List (NodeStreamsView R)
     → Type 0
 AreQueuesGrown more nodes nodes' =
     (v r c : ℕ) → length (product_of nodes' v r c).frontier
@@ -62,7 +63,8 @@ IsReached d key t nodes v r c place = (place < part_known nodes v r c)
 -- The effect of a search in row r of node v with its first c children. Other rows of node v, later
 -- products and streams are as they were.
 pub record IsExtended {R : Type 0} (t : List (NodeView R)) (v r c : ℕ)
-    (es : List (Linked (Found R))) (nodes : List (NodeStreamsView R)) (es' : List (Linked (Found R)))
+    (es : List (Linked (Found R))) (nodes : List (NodeStreamsView R))
+    (es' : List (Linked (Found R)))
     (nodes' : List (NodeStreamsView R)) : Type 0 where
   pub store : IsStoreGrown (suc v) es es'
   pub above : (w : ℕ) → w < v → lists_of nodes' w ≡ lists_of nodes w
@@ -81,7 +83,8 @@ kids_size t v c = sum_from ◌+◌ 0 (below_kids t v c) (length t) 0
 
 -- The step bound of a call. The queues of products of the nodes in question have at most k entries,
 -- and k + 1 and one more than the members of a group have at most b binary digits.
-abbrev pub IsWithinSteps : {R : Type 0} → List (NodeView R) → List (NodeStreamsView R) → (ℕ → ℕ) → (ℕ → ℕ)
+abbrev pub IsWithinSteps : {R : Type 0} → List (NodeView R) → List (NodeStreamsView R) → (ℕ → ℕ)
+    → (ℕ → ℕ)
     → ℕ → ℕ → Type 0
 IsWithinSteps t nodes visited share old new =
     (k b : ℕ) → 1 ≤ k → bit_length (k + 1) ≤ b
@@ -90,7 +93,8 @@ IsWithinSteps t nodes visited share old new =
     → new ≤ old + share b
 
 -- the nodes are as they were, except for product number c of row r of node v
-abbrev pub HasOtherProduct : {R : Type 0} → List (NodeStreamsView R) → ℕ → ℕ → ℕ → List (NodeStreamsView R)
+abbrev pub HasOtherProduct : {R : Type 0} → List (NodeStreamsView R) → ℕ → ℕ → ℕ
+    → List (NodeStreamsView R)
     → Type 0
 HasOtherProduct nodes v r c nodes' = nodes'
     ≡ slice_set nodes v (with_product (lists_of nodes v) r c (product_of nodes' v r c))

@@ -116,7 +116,8 @@ HasKey {R} d key es i k = (x : Linked (Found R))
 
 -- The solution at this place, of row r of node v with its first c children, is known. Of a row
 -- without products it is the first one.
-pub record IsKnownPart {R : Type 0} (nodes : List (NodeStreamsView R)) (v r c place : ℕ) : Type 0 where
+pub record IsKnownPart {R : Type 0} (nodes : List (NodeStreamsView R))
+    (v r c place : ℕ) : Type 0 where
   pub found : 0 < length (products_of nodes v r) → place < part_known nodes v r c
   pub first : length (products_of nodes v r) ≡ 0 → place ≡ 0
 

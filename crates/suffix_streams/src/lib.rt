@@ -1,4 +1,5 @@
-//! For each node and group of a tree, the ranking of the group's subtree solutions, found one by one.
+//! For each node and group of a tree, the ranking of the group's subtree solutions, found one by
+//! one.
 //!
 //! The solutions of a row are the sums of one solution of each child's group, formed as binary
 //! products one after another. The solutions of a group are those of its rows, merged. Each of

@@ -105,8 +105,8 @@ fn firsts_below<R: Rank, A: Allocator + Clone, L: Ledger>(
 }
 
 /// Passes the last solution of a group, which comes from this member. `place` is the place after it
-/// in the ranking of the member's solutions. `next` enters the queue, if there is one, and if a first
-/// solution is passed, so do the first solutions of the members below.
+/// in the ranking of the member's solutions. `next` enters the queue, if there is one, and if a
+/// first solution is passed, so do the first solutions of the members below.
 pub(crate) fn pass_last<R: Rank, A: Allocator + Clone, L: Ledger>(
     tree: &Tree<R>,
     nodes: &mut Vec<NodeStreams<R, A>, A>,

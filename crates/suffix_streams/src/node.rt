@@ -228,7 +228,8 @@ impl<R: Rank, A: Allocator> NodeStreams<R, A> {
         self.streams[group as usize].pass(next, left, right, steps);
     }
 
-    /// Sets the products of a row. `NoMemory` if memory is refused, and the node stays as it is then.
+    /// Sets the products of a row. `NoMemory` if memory is refused, and the node stays as it is
+    /// then.
     pub(crate) fn set_products(
         &mut self,
         row: u32,

@@ -210,7 +210,8 @@ pub(crate) fn row_offer<R: Rank, A: Allocator + Clone, L: Ledger>(
     ensures known { IfSome result (λ e. place < row_known nodes.now node row) }
     ensures parts { IfSome result (λ e. (e.tag.row ≡ row) × ((c : ℕ)
         → child_count tree.now node ≡ c + 1
-        → IsSumOf R.KEYS R.key tree.now entries.now.entries nodes.now node row c place e.tag.cell)) }
+        → IsSumOf R.KEYS R.key tree.now entries.now.entries nodes.now node row c place
+        e.tag.cell)) }
     ensures key { IfSome result (λ e. R.key e.rank
         ≡ slice_index_or
         (part_list R.KEYS R.key tree.now node row (length (products_of nodes.now node row)))

@@ -1,5 +1,5 @@
-//! Reading the rows of a solution, from entry to entry. Each row number is added at its item to the numbers that were read
-//! before.
+//! Reading the rows of a solution, from entry to entry. Each row number is added at its item to the
+//! numbers that were read before.
 ghost use Rattle.std.specs.Prelude.{◌≡◌, ℕ, ◌+◌, ◌*◌, ◌<◌, ◌≤◌, length, slice_index_or};
 ghost use Rattle.tdp_core.specs.TreeView.{child_count, group_named, rank, rows};
 ghost use Rattle.tdp_core.specs.WellFormed.{IsFormed, IsTieFreeTree};

@@ -12,7 +12,8 @@ pub record IsPacked (a : Inside) : Type 0 where
   pub rising : Rising 0 a.ends.items (length a.bytes.items)
   pub whole : last_end 0 a.ends.items ≡ length a.bytes.items
 
--- where each of some fields ends, if the first starts at `start` and each other where the one before ends
+-- where each of some fields ends, if the first starts at `start` and each other where the one
+-- before ends
 abbrev pub ends_from : ℕ → Fields → List ℕ
 ends_from start [] = []
 ends_from start (field ∷ fields) = (start + length field) ∷ ends_from (start + length field) fields

@@ -11,11 +11,13 @@ use Rattle.anyk_model.specs.Table.{Fields, Table}
 abbrev pub lists_of : List (Vec ℕ Global) → List (List ℕ)
 lists_of keys = map (λ (v : Vec ℕ Global). v.items) keys
 
--- each number below this one belongs to the field that writes it, and each from it on belongs to a text
+-- each number below this one belongs to the field that writes it, and each from it on belongs to a
+-- text
 abbrev pub first_text : ℕ
 first_text = 2 ^ 31
 
--- the number below `first_text` that a field writes as a decimal, without a sign and without leading zeros
+-- the number below `first_text` that a field writes as a decimal, without a sign and without
+-- leading zeros
 unfoldable pub own_number : List ℕ → Option ℕ
 own_number field =
     if nat_lt (digits_value 10 field) first_text && bytes_eq field (decimal (digits_value 10 field))
@@ -47,7 +49,8 @@ abbrev pub number_in : List (List ℕ) → List ℕ → ℕ
 number_in texts field = unwrap_or (own_number field)
     (first_text + position_or_len (bytes_eq field) texts)
 
--- the number of a field among those of tables, whose texts are in the order in which they first occur
+-- the number of a field among those of tables, whose texts are in the order in which they first
+-- occur
 abbrev pub number_of : List Table → List ℕ → ℕ
 number_of tables field = number_in (with_tables [] tables) field
 

@@ -83,8 +83,8 @@ impl FieldList {
         Ok(())
     }
 
-    /// Adds the fields of a record that stand before its first empty one, by one copy of bytes. Returns how many these
-    /// are. After a refusal of memory the list is as before.
+    /// Adds the fields of a record that stand before its first empty one, by one copy of bytes.
+    /// Returns how many these are. After a refusal of memory the list is as before.
     fn push_front(&mut self, row: &ByteRecord) -> Result<usize, NoMemory>
         ensures added { IfOk result (λ n. self.new ≡ self.old ++ take n (fields_of row.now)) }
         ensures within { IfOk result (λ n. n ≤ length (fields_of row.now)) }
@@ -123,10 +123,11 @@ impl FieldList {
     }
 }
 
-/// Appends the places where the fields of a record end, if its text is put behind `start` bytes. Goes up to the first
-/// empty field. `csv` states the bytes of each field and of the text, and not that fields lie one after another in it.
-/// Fields that are not empty must: each starts where the one before it ends. An empty one does not show where it lies.
-/// Returns how many fields these are, and where the last one ends.
+/// Appends the places where the fields of a record end, if its text is put behind `start` bytes.
+/// Goes up to the first empty field. `csv` states the bytes of each field and of the text, and not
+/// that fields lie one after another in it. Fields that are not empty must: each starts where the
+/// one before it ends. An empty one does not show where it lies. Returns how many fields these are,
+/// and where the last one ends.
 fn push_ends(ends: &mut Vec<u32>, start: usize, row: &ByteRecord) -> (usize, usize)
     requires room { vec_len ends.old + length (fields_of row.now) ≤ vec_capacity ends.old }
     requires size { start + length (text_of row.now) ≤ 4294967295 }

@@ -9,7 +9,8 @@ pub(crate) const FIRST_TEXT: u32 = 2_147_483_648;
 /// The most digits of a number below `FIRST_TEXT`.
 const MAX_DIGITS: usize = 10;
 
-/// The number that a field writes as a decimal without a sign and without leading zeros, if it is below `FIRST_TEXT`.
+/// The number that a field writes as a decimal without a sign and without leading zeros, if it is
+/// below `FIRST_TEXT`.
 pub(crate) fn own_number(field: &[u8]) -> Option<u32>
     ensures { result ≡ own_number field.now }
 {

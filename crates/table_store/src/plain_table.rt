@@ -57,8 +57,8 @@ impl PlainTable {
         Ok(())
     }
 
-    /// The table as it is stored, with the numbers of its fields. Its new texts are added after the others, and some of
-    /// them may be if memory is refused.
+    /// The table as it is stored, with the numbers of its fields. Its new texts are added after the
+    /// others, and some of them may be if memory is refused.
     pub(crate) fn store(self, texts: &mut Texts) -> Result<StoredTable, NoMemory>
         ensures shown { IfOk result (λ t. stored_view t ≡ self) }
         ensures stored { IfOk result (IsStored texts.new) }

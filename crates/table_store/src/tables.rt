@@ -69,7 +69,8 @@ impl Tables {
         self.alloc
     }
 
-    /// Adds a table, and returns its number, from 0. After a refusal of memory the tables are as before.
+    /// Adds a table, and returns its number, from 0. After a refusal of memory the tables are as
+    /// before.
     pub fn add(&mut self, table: PlainTable) -> Result<u32, NoMemory>
         requires few { length self.old < 16 }
         requires sound { IsSound table }
@@ -129,8 +130,8 @@ impl Tables {
         self.tables[table as usize].names[column as usize].as_slice()
     }
 
-    /// The number of a field, the same for two fields of any tables exactly if their bytes are the same. Tables and
-    /// columns count from 0, and rows from 1.
+    /// The number of a field, the same for two fields of any tables exactly if their bytes are the
+    /// same. Tables and columns count from 0, and rows from 1.
     pub fn value(&self, table: u32, row: u32, column: u32) -> u32
         requires table { table < length self.now }
         requires first { 1 ≤ row }
@@ -159,8 +160,9 @@ impl Tables {
             .get((row as usize - 1) * width + column as usize)
     }
 
-    /// The weight that a field writes: 0 if it is empty, else an optional `+` or `-` and 1 to 39 digits, if the number
-    /// fits an `i128`. `None` for any other field. Tables and columns count from 0, and rows from 1.
+    /// The weight that a field writes: 0 if it is empty, else an optional `+` or `-` and 1 to 39
+    /// digits, if the number fits an `i128`. `None` for any other field. Tables and columns count
+    /// from 0, and rows from 1.
     pub fn weight(&self, table: u32, row: u32, column: u32) -> Option<i128>
         requires table { table < length self.now }
         requires first { 1 ≤ row }
@@ -176,8 +178,8 @@ impl Tables {
     }
 }
 
-/// The numbers that `Tables::value` returns tell fields apart: two fields with the same number have the same bytes.
-/// Rows count from 0 here.
+/// The numbers that `Tables::value` returns tell fields apart: two fields with the same number have
+/// the same bytes. Rows count from 0 here.
 pub fn numbers_tell()
     ensures { (tables : List Table) (t row column : ℕ) (text : List ℕ) → t < length tables
         → row < length (table_at tables t).rows

@@ -11,7 +11,8 @@ use std::alloc::Global;
 use std::marker::Model;
 use step_counter::NoMemory;
 
-/// The texts of tables: their distinct fields that are not their own numbers, in the order in which they were first read.
+/// The texts of tables: their distinct fields that are not their own numbers, in the order in which
+/// they were first read.
 #[derive(Drop)]
 pub(crate) struct Texts {
     set: IndexSet<Text, Keys>,
@@ -73,8 +74,8 @@ impl Texts {
         Ok(place)
     }
 
-    /// The numbers of these fields, in their order. New texts are added after the others, and some of them may be if
-    /// memory is refused.
+    /// The numbers of these fields, in their order. New texts are added after the others, and some
+    /// of them may be if memory is refused.
     pub(crate) fn numbers(&mut self, fields: &FieldList) -> Result<Vec<u32>, NoMemory>
         ensures texts { OnOk result (self.new ≡ with_fields self.old fields.now) }
         ensures numbers { IfOk result (λ cells. StandsFor self.new cells.items fields.now) }

@@ -9,7 +9,8 @@ use rank_key::Rank;
 use std::sync::ledger::Ledger;
 use step_counter::Steps;
 
-/// An order of items by their keys, which may be elsewhere, as in a table of ranks. An item may have no key.
+/// An order of items by their keys, which may be elsewhere, as in a table of ranks. An item may
+/// have no key.
 pub trait KeyOrder<X> {
     ghost KEYS: { ℕ };
 

@@ -41,7 +41,8 @@ use task_print::{print_load, print_report, print_run, print_script};
 use union_print::print_union_run;
 
 /// Reads or makes the input of the command, plans its query, and prints the command's output. The
-/// result is an error if the input is refused, if a read or a write failed, or if memory is refused.
+/// result is an error if the input is refused, if a read or a write failed, or if memory is
+/// refused.
 pub fn answer_task<'a, F: Shelf, S: Sink, L: Ledger>(
     alloc: Global,
     task: &'a Task,

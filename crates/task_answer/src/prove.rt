@@ -21,7 +21,8 @@ use std::sync::ledger::Ledger;
 use step_counter::Steps;
 
 /// Prints the text of a certificate of the query's first answers, as many as the limit allows.
-/// `NoMemory` if memory is refused, before anything is written, and `WriteFault` if the write failed.
+/// `NoMemory` if memory is refused, before anything is written, and `WriteFault` if the write
+/// failed.
 pub(crate) fn print_certificate<'a, R: Rank, S: Sink, L: Ledger>(
     alloc: Global,
     engine: Engine,

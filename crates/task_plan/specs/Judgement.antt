@@ -10,7 +10,8 @@ use Rattle.verdict.specs.StageResults.{Pure, Shelved, Staged}
 use Rattle.verdict.specs.Verdict.{IsLoadedOn, IsVerdict}
 use Rattle.verdict.specs.Words.{Aside, Command, Sought, Words, built, run, plan, session, load, prove, verify, sought_by}
 
--- what words name, with several branches if they are allowed, and with this script or certificate and this alias
+-- what words name, with several branches if they are allowed, and with this script or certificate
+-- and this alias
 abbrev pub sought_in : Words → Bool → Aside → Option (List ℕ) → Sought
 sought_in words several aside best_of =
     record {
@@ -37,7 +38,8 @@ IsLooked (verify proof words) old new result = IsLookedUp
 IsLooked (load number rows) old new result =
     Pure (IsLoadedOn (sought_by (load number rows)) (made_files number rows)) result × (new ≡ old)
 
--- There is one query, unless the command is `run`. `prove` and `verify` have no item whose rows are asked for.
+-- There is one query, unless the command is `run`. `prove` and `verify` have no item whose rows are
+-- asked for.
 abbrev pub HasOne : Command → InputView → Type 0
 HasOne (run words) input = Unit {0}
 HasOne (plan words) input = length input.queries ≡ 1

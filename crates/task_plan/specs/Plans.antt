@@ -63,8 +63,8 @@ abbrev pub plans_result_view : Loaded → Result Plans Refusal → Result Found 
 plans_result_view loaded (Ok plans) = Ok (found_of loaded (shapes_in plans))
 plans_result_view loaded (Err refusal) = Err (reason_of refusal)
 
--- what is known of a query, its tables, the item whose rows are asked for, a script and a certificate,
--- with the structure of the query
+-- what is known of a query, its tables, the item whose rows are asked for, a script and a
+-- certificate, with the structure of the query
 abbrev pub found_by : BoundQuery → List Table → Option ℕ → List Step → Certificate → Shape → Found
 found_by query tables best steps proof shape = record {
   queries = query.query ∷ [];
@@ -101,9 +101,11 @@ pub record IsOnePlanOf {R : Type 0} (d : ℕ) (key : R → KeyOf d 16) (queries 
 -- the same with the ranks that its order needs
 abbrev pub IsOnePlan : List BoundQuery → List Table → Option ℕ → RankedPlan → Type 0
 IsOnePlan queries tables best (Packed made) = IsOnePlanOf 1 key_of_packed queries tables best made
-IsOnePlan queries tables best (MiddleSum made) = IsOnePlanOf 1 (fixed_key 1 8) queries tables best made
+IsOnePlan queries tables best (MiddleSum made) =
+    IsOnePlanOf 1 (fixed_key 1 8) queries tables best made
 IsOnePlan queries tables best (Sum made) = IsOnePlanOf 1 (fixed_key 1 16) queries tables best made
-IsOnePlan queries tables best (SmallLex made) = IsOnePlanOf 2 (fixed_key 2 4) queries tables best made
+IsOnePlan queries tables best (SmallLex made) =
+    IsOnePlanOf 2 (fixed_key 2 4) queries tables best made
 IsOnePlan queries tables best (Lex made) = IsOnePlanOf 8 (fixed_key 8 16) queries tables best made
 
 -- the plans of the queries of an input: of one query with the item that is named, and of several by
@@ -117,8 +119,8 @@ ArePlans input (Lexes plans) =
 
 -- ---- the steps of the preparation
 
--- No more steps than the preparation of the plans of what is found may take: `run` may have several queries, and
--- each other command has one. Nothing is said of the steps of `prove` and `verify`.
+-- No more steps than the preparation of the plans of what is found may take: `run` may have several
+-- queries, and each other command has one. Nothing is said of the steps of `prove` and `verify`.
 abbrev pub IsEarlyFor : Command → Found → ℕ → ℕ → Type 0
 IsEarlyFor (run words) found before now = ArePrepared found.queries found.tables before now
 IsEarlyFor (plan words) found before now = IsPrepared (query_of found) found.tables before now

@@ -1,5 +1,5 @@
-//! From a command that plans its queries to the plans: the input is read from a shelf of files or made, and each of its
-//! queries is planned. Nothing is printed.
+//! From a command that plans its queries to the plans: the input is read from a shelf of files or
+//! made, and each of its queries is planned. Nothing is printed.
 #![tactic(auto)]
 
 mod looking;

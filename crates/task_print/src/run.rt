@@ -25,8 +25,8 @@ use step_counter::Steps;
 use table_store::Tables;
 
 /// Prints the header, and then the first answers of the query, as many as the limit allows, each as
-/// soon as it is known: of all its answers, or of the best answer of each row of the item, if one is
-/// named. `WriteFault` if a write failed, and `NoMemory` if memory is refused.
+/// soon as it is known: of all its answers, or of the best answer of each row of the item, if one
+/// is named. `WriteFault` if a write failed, and `NoMemory` if memory is refused.
 pub fn print_run<'a, R: Rank, S: Sink, L: Ledger>(
     alloc: Global,
     engine: Engine,

@@ -29,8 +29,8 @@ use step_counter::Steps;
 use table_store::Tables;
 
 /// Prints the header with the title of the cursors' names, and then what the steps of the script
-/// print of the query's answers, as far as the limit allows: of all of them, or of the best answer of
-/// each row of the item, if one is named. `WriteFault` if a write failed, and
+/// print of the query's answers, as far as the limit allows: of all of them, or of the best answer
+/// of each row of the item, if one is named. `WriteFault` if a write failed, and
 /// `NoMemory` if memory is refused.
 pub fn print_script<'a, R: Rank, S: Sink, L: Ledger>(
     alloc: Global,

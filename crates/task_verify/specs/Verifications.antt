@@ -40,7 +40,8 @@ abbrev pub IsCheckedFor : Query → List Table → Certificate → Result (Unit 
 IsCheckedFor query tables proof = Then (IsStructure None tables query)
     (λ shape. IsCertified query tables shape proof)
 
--- the structure of what was loaded, and then the certificate: what is found has a structure, which is not kept
+-- the structure of what was loaded, and then the certificate: what is found has a structure, which
+-- is not kept
 abbrev pub IsVerifiedIn : {A : Type 0} → Loaded → Result A Refusal → Type 0
 IsVerifiedIn loaded (Ok answers) = (shape : Shape)
     × Then (IsShaped loaded) IsVerified (Ok (found_of loaded (shape ∷ [])))

@@ -27,10 +27,10 @@ use std::sync::ledger::Ledger;
 use step_counter::Steps;
 use table_store::Tables;
 
-/// The answers that a certificate lists, which are the first answers of the query: for each a row for
-/// each item, from 1, and 0 past the last item. `Cyclic` if the query has no join tree,
-/// `TooManyNodeRows` if its nodes have too many rows, and then the refusal for the certificate's first
-/// flaw. `NoMemory` if memory is refused.
+/// The answers that a certificate lists, which are the first answers of the query: for each a row
+/// for each item, from 1, and 0 past the last item. `Cyclic` if the query has no join tree,
+/// `TooManyNodeRows` if its nodes have too many rows, and then the refusal for the certificate's
+/// first flaw. `NoMemory` if memory is refused.
 pub(crate) fn check_proof<'a, L: Ledger>(
     alloc: Global,
     query: &Query,

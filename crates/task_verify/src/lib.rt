@@ -1,5 +1,5 @@
-//! The command `verify`, over a shelf of files and a sink: the input is read, its certificate is checked, and the
-//! answers that it lists are printed.
+//! The command `verify`, over a shelf of files and a sink: the input is read, its certificate is
+//! checked, and the answers that it lists are printed.
 #![tactic(auto)]
 
 mod checking;

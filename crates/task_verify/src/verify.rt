@@ -37,8 +37,8 @@ pub(crate) struct Checked {
 }
 
 /// Reads the input of `verify`, checks its certificate, and prints the answers that it lists. The
-/// result is an error if the input is refused, if the certificate is not valid, if a read or a write
-/// failed, or if memory is refused.
+/// result is an error if the input is refused, if the certificate is not valid, if a read or a
+/// write failed, or if memory is refused.
 pub fn answer_verified<'a, F: Shelf, S: Sink, L: Ledger>(
     alloc: Global,
     proof: &'a str,

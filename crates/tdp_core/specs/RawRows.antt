@@ -8,7 +8,8 @@ pub record RawRowView (R : Type 0) : Type 0 where
   pub own : ℕ
   pub children : List ℕ
 
--- rows with their own links; each row names as many links as there are children, and these are one after another
+-- rows with their own links; each row names as many links as there are children, and these are one
+-- after another
 abbrev pub raw_rows : {R : Type 0} → ℕ → List (NodeRow R) → List ℕ → List ℕ → List (RawRowView R)
 raw_rows width [] owns named = []
 raw_rows width (row ∷ rows) [] named = []

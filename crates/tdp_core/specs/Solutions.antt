@@ -8,8 +8,8 @@ use Rattle.tdp_model.specs.TreeProblem.{sum_from, RowHas, SolutionHas}
 use Rattle.tdp_core.specs.RawView.{RawView, raw_len, raw_number, raw_rank, own_link, child_link, shape_parent, shape_child_place}
 use Rattle.tdp_core.specs.TreeView.{NodeView, parent, group, rank}
 
--- m nodes, and a relation: row i of node q is linked to row r of q's parent. At the root each row is linked to any
--- number.
+-- m nodes, and a relation: row i of node q is linked to row r of q's parent. At the root each row
+-- is linked to any number.
 module _ (m : ℕ) (parent : ℕ → ℕ) (Linked : ℕ → ℕ → ℕ → Type 0) where
   -- `rows` has one row for each node
   abbrev pub IsSolution : (ℕ → ℕ) → Type 0
@@ -40,7 +40,8 @@ module _ {R : Type 0} (t : RawView R) where
   abbrev pub RawExtends : ℕ → ℕ → Type 0
   RawExtends = Extends (length t.shapes) (shape_parent t.shapes) RawLinked
 
-  -- any two rows of the root have different numbers, and so have any two rows of another node with the same own link
+  -- any two rows of the root have different numbers, and so have any two rows of another node with
+  -- the same own link
   abbrev pub IsTieFreeRaw : Type 0
   IsTieFreeRaw = (v i j : ℕ) → v < length t.shapes → i < raw_len t v → j < raw_len t v
       → (v ≡ 0) ⊎ (own_link t v i ≡ own_link t v j)

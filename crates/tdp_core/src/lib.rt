@@ -1,5 +1,5 @@
-//! Tree problems of ranked enumeration: trees whose nodes have rows, with the rows of each node in groups that the rows
-//! of its parent name, and engines that return the solutions one by one.
+//! Tree problems of ranked enumeration: trees whose nodes have rows, with the rows of each node in
+//! groups that the rows of its parent name, and engines that return the solutions one by one.
 //!
 //! They are the tree-based dynamic programs of Tziavelis and others, "Optimal Algorithms for Ranked
 //! Enumeration of Answers to Full Conjunctive Queries", PVLDB 2020.

@@ -7,8 +7,8 @@ use std::alloc::Global;
 use std::marker::Model;
 use step_counter::NoMemory;
 
-/// For each row of a node the groups of the node's children that it names, children in ascending order. Rows and
-/// children count from 0.
+/// For each row of a node the groups of the node's children that it names, children in ascending
+/// order. Rows and children count from 0.
 #[derive(Drop)]
 pub struct NamedGroups {
     /// The groups that the rows name, row by row.

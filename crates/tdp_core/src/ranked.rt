@@ -14,8 +14,9 @@ pub struct Answer<R> {
     pub rank: R,
 }
 
-/// An engine: it returns answers one by one. Contracts see the answers that are left, the number of calls so far, which
-/// stays at its last value of 64 bits, and the greatest number of steps of the next call.
+/// An engine: it returns answers one by one. Contracts see the answers that are left, the number of
+/// calls so far, which stays at its last value of 64 bits, and the greatest number of steps of the
+/// next call.
 pub trait Ranked {
     type Key: Rank;
 

@@ -10,8 +10,9 @@ use std::alloc::Global;
 use std::marker::Model;
 use step_counter::NoMemory;
 
-/// The rows of a node. Each has its own link, by which rows of the parent name it, and the link that it names for each
-/// child of its node, children in ascending order. Links are beside the rows, in lists of their own.
+/// The rows of a node. Each has its own link, by which rows of the parent name it, and the link
+/// that it names for each child of its node, children in ascending order. Links are beside the
+/// rows, in lists of their own.
 #[derive(Drop)]
 pub(crate) struct RawRows<R: Rank> {
     rows: Vec<NodeRow<R>>,
@@ -55,7 +56,8 @@ impl<R: Rank> RawRows<R> {
         Ok(())
     }
 
-    /// Appends a row, which names as many links as those before it. After `NoMemory` the rows are as before.
+    /// Appends a row, which names as many links as those before it. After `NoMemory` the rows are
+    /// as before.
     pub(crate) fn push(
         &mut self,
         row: NodeRow<R>,
@@ -111,8 +113,8 @@ impl<R: Rank> RawRows<R> {
     }
 }
 
-/// Appends numbers to a list that has room for them, one by one: for the few links of a row a call that copies memory
-/// takes longer.
+/// Appends numbers to a list that has room for them, one by one: for the few links of a row a call
+/// that copies memory takes longer.
 pub(crate) fn push_each(list: &mut Vec<u32>, numbers: &[u32])
     requires { vec_len list.old + length numbers.now ≤ vec_capacity list.old }
     ensures { list.new.items ≡ list.old.items ++ numbers.now }

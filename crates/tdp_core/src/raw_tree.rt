@@ -11,8 +11,8 @@ use std::alloc::Global;
 use std::marker::Model;
 use step_counter::NoMemory;
 
-/// A tree whose rows are not in groups yet: links say which rows belong together. Contracts see its shapes and the rows
-/// of each node. Nodes and rows count from 0.
+/// A tree whose rows are not in groups yet: links say which rows belong together. Contracts see its
+/// shapes and the rows of each node. Nodes and rows count from 0.
 #[derive(Drop)]
 pub struct RawTree<R: Rank> {
     shapes: Vec<NodeShape>,
@@ -32,8 +32,9 @@ impl<R: Rank> Model for RawTree<R> {
 }
 
 impl<R: Rank> RawTree<R> {
-    /// A tree without rows, whose links are hashed with known keys. Its nodes must be in order, parents first, and their
-    /// caps must be within what ranks hold. `NoMemory` if memory is refused.
+    /// A tree without rows, whose links are hashed with known keys. Its nodes must be in order,
+    /// parents first, and their caps must be within what ranks hold. `NoMemory` if memory is
+    /// refused.
     pub fn new(alloc: Global, shapes: &[NodeShape]) -> Result<RawTree<R>, NoMemory>
         requires shapes { AreShapes shapes.now }
         requires held { AreShapesHeld R.KEYS R.key shapes.now }
@@ -43,8 +44,9 @@ impl<R: Rank> RawTree<R> {
         RawTree::with_keys(alloc, shapes, Keys::Known)
     }
 
-    /// A tree without rows, whose links are hashed with these keys. Its nodes must be in order, parents first, and their
-    /// caps must be within what ranks hold. `NoMemory` if memory is refused.
+    /// A tree without rows, whose links are hashed with these keys. Its nodes must be in order,
+    /// parents first, and their caps must be within what ranks hold. `NoMemory` if memory is
+    /// refused.
     pub fn with_keys(
         alloc: Global,
         shapes: &[NodeShape],
@@ -65,7 +67,8 @@ impl<R: Rank> RawTree<R> {
         self.keys
     }
 
-    /// Reserves room for this many more rows of a node. The tree stays as it is, even if memory is refused.
+    /// Reserves room for this many more rows of a node. The tree stays as it is, even if memory is
+    /// refused.
     pub fn reserve(&mut self, node: u32, more: usize) -> Result<(), NoMemory>
         requires { node < length self.old.shapes }
         ensures { self.new ≡ self.old }
@@ -82,8 +85,8 @@ impl<R: Rank> RawTree<R> {
         self.rows[node as usize] = RawRows::new(alloc);
     }
 
-    /// Appends a row to a node, with its own link and the link that it names for each child of the node, children in
-    /// ascending order. After `NoMemory` the tree is as it was.
+    /// Appends a row to a node, with its own link and the link that it names for each child of the
+    /// node, children in ascending order. After `NoMemory` the tree is as it was.
     pub fn add_row(
         &mut self,
         node: u32,
@@ -148,7 +151,8 @@ impl<R: Rank> RawTree<R> {
         self.rows[node as usize].own(i as usize)
     }
 
-    /// The link that row `i` of a node names for one of the node's children. Children count from 0 in ascending order.
+    /// The link that row `i` of a node names for one of the node's children. Children count from 0
+    /// in ascending order.
     pub fn link(&self, node: u32, i: u32, child: u32) -> u32
         requires node { node < length self.now.shapes }
         requires row { i < raw_len self.now node }

@@ -10,8 +10,8 @@ use std::marker::Model;
 use std::sync::ledger::Ledger;
 use step_counter::Steps;
 
-/// A well-formed tree. Contracts see the list of its nodes. Nodes, rows, groups and places in a group count from 0, and
-/// so do the children of a node, in ascending order.
+/// A well-formed tree. Contracts see the list of its nodes. Nodes, rows, groups and places in a
+/// group count from 0, and so do the children of a node, in ascending order.
 #[derive(Drop)]
 pub struct Tree<R: Rank> {
     nodes: Vec<NodeParts<R>>,

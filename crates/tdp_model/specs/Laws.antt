@@ -28,7 +28,8 @@ abbrev pub IsTreeRanking : (d e : ℕ) → TieFreeTree d e → List (KeyOf d e) 
 IsTreeRanking d e t ks = IsRanking (KeyOf d e) (key_below d e)
     (SolutionHas (key_add d e) (key_none d e) t.nodes t.parent t.rank t.group) ks
 
--- Keys are added by components and ordered lexicographically as ranked enumeration needs it: a strict total order that adding keeps.
+-- Keys are added by components and ordered lexicographically as ranked enumeration needs it: a
+-- strict total order that adding keeps.
 abbrev pub KeysAreOrdered : Type 0
 KeysAreOrdered = (d e : ℕ) → IsKeys (KeyOf d e) (key_below d e) (key_add d e) (key_none d e)
 
@@ -70,7 +71,8 @@ abbrev pub QueueBegins : Type 0
 QueueBegins = (d e n : ℕ) (t : TieFreeTree d e) (ks : List (KeyOf d e)) → suc n ≡ t.nodes
     → IsTreeRanking d e t ks → IsTreeQueue d e t (whole_region n ∷ []) ks
 
--- The least candidate's rank is the head of the ranking, and its parts with the other candidates are the queue of the rest.
+-- The least candidate's rank is the head of the ranking, and its parts with the other candidates
+-- are the queue of the rest.
 abbrev pub QueueGoesOn : Type 0
 QueueGoesOn = (d e : ℕ) (t : TieFreeTree d e) (r : Region) (others : List Region)
     (ks : List (KeyOf d e)) → IsTreeQueue d e t (r ∷ others) ks

@@ -5,7 +5,8 @@ use Rattle.rankings.specs.Order.{IsMember, IsAscending}
 abbrev pub AtMost : {K : Type 0} → (K → K → Type 0) → K → K → Type 0
 AtMost Below a b = Below a b ⊎ (a ≡ b)
 
--- Each solution is held at most once, two that are held have different keys, and `ks` is the ranking of their keys.
+-- Each solution is held at most once, two that are held have different keys, and `ks` is the
+-- ranking of their keys.
 pub record Remains (X K : Type 0) (Below : K → K → Type 0) (key : X → K) (count : X → ℕ)
     (ks : List K) : Type 0 where
   pub once : (x : X) → count x ≤ 1
@@ -19,7 +20,8 @@ unfoldable pub total : {R X : Type 0} → (R → X → ℕ) → List R → X →
 total count [] x = 0
 total count (r ∷ rs) x = count r x + total count rs x
 
--- The region r holds its best solution b once, and none with a lesser key; without b it is the disjoint union of `parts`.
+-- The region r holds its best solution b once, and none with a lesser key; without b it is the
+-- disjoint union of `parts`.
 pub record IsDivided (R X K : Type 0) (Below : K → K → Type 0) (key : X → K) (count : R → X → ℕ)
     (r : R) (one : X → ℕ) (b : X) (parts : List R) : Type 0 where
   pub at : 0 < one b
@@ -32,8 +34,8 @@ abbrev pub IsLeastKey : {R X K : Type 0} → (K → K → Type 0) → (X → K) 
     → Type 0
 IsLeastKey {R} {X} Below key count k rs = (x : X) → 0 < total count rs x → AtMost Below k (key x)
 
--- A stream of the ranking `whole`: `given` has been passed, and the queue holds the rest. The queue's top, if there is
--- one, is the entry that follows `given`.
+-- A stream of the ranking `whole`: `given` has been passed, and the queue holds the rest. The
+-- queue's top, if there is one, is the entry that follows `given`.
 pub record IsStream (R X K : Type 0) (Below : K → K → Type 0) (key : X → K) (count : R → X → ℕ)
     (whole given : List K) (queue : List R) : Type 0 where
   pub rest : List K

@@ -1,4 +1,5 @@
-//! The lines of a text of bytes, one after another, and the parts of a line between spaces. Neither takes memory.
+//! The lines of a text of bytes, one after another, and the parts of a line between spaces. Neither
+//! takes memory.
 //!
 //! Lines are split as `str::lines` of Rust's library splits them, but in bytes.
 #![tactic(auto)]

@@ -22,8 +22,8 @@ fn without_return(line: &[u8]) -> &[u8]
     line
 }
 
-/// The first line without its end, and what is after that end. A line feed ends a line, a carriage return before it is
-/// dropped, and the last line may lack its end. `None` if there are no bytes.
+/// The first line without its end, and what is after that end. A line feed ends a line, a carriage
+/// return before it is dropped, and the last line may lack its end. `None` if there are no bytes.
 pub fn first_line(bytes: &[u8]) -> Option<(&[u8], &[u8])>
     // The first of the lines, and those after it.
     ensures value { MatchOption result (lines bytes.now ≡ [])
@@ -47,7 +47,8 @@ fn space(line: &[u8]) -> Option<usize>
     line.iter().position(|byte| *byte == b' ')
 }
 
-/// The part before the first space, and what is after that space. If there is no space, the part is the whole line.
+/// The part before the first space, and what is after that space. If there is no space, the part is
+/// the whole line.
 pub fn first_part(line: &[u8]) -> (&[u8], Option<&[u8]>)
     // The first of the parts, and those after it.
     ensures { parts line.now ≡ result.0.now ∷ parts_after result.1 }

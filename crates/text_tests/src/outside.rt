@@ -106,7 +106,8 @@ fn files_are_read_whole(rt: HostRuntime) {
     assert!(rt; first_failing_of_files(rt.alloc()) == Ok(None));
 }
 
-/// Over a shelf that fails at its calls 2, 4 and 7. The lines here make calls 1 and 2, 3, 4, none, 5 and so on.
+/// Over a shelf that fails at its calls 2, 4 and 7. The lines here make calls 1 and 2, 3, 4, none,
+/// 5 and so on.
 const OF_FAILING_CALLS: &[Call] = &[
     Call::Whole("a", Err(FileFault::Failed)),
     Call::Open("a", Ok(())),
@@ -169,7 +170,8 @@ const BYTE_BY_BYTE: &[Written] = &[
     ("", Ok(()), "byte by byte"),
 ];
 
-/// Whether after the texts that were cut writing nothing is no fault, and a byte is refused when no room is left.
+/// Whether after the texts that were cut writing nothing is no fault, and a byte is refused when no
+/// room is left.
 fn is_filled(sink: &mut MemSink) -> bool {
     are_written(sink, CUT)
         && sink.write(b"") == Ok(0)
@@ -177,7 +179,8 @@ fn is_filled(sink: &mut MemSink) -> bool {
         && sink.write(b"x") == Err(WriteFailed)
 }
 
-/// A sink with room for 12 bytes that takes four bytes a call, fails at call 2 and takes nothing at call 4.
+/// A sink with room for 12 bytes that takes four bytes a call, fails at call 2 and takes nothing at
+/// call 4.
 fn failing_sink(alloc: Global) -> Result<Option<MemSink>, AllocError> {
     let failing = vec![in alloc; 2]?;
     let zeros = vec![in alloc; 2, 4]?;

@@ -238,7 +238,8 @@ fn are_written_often(records: &mut RecordWriter, times: u32) -> bool {
     true
 }
 
-/// Whether records are written one after another that are together longer than what a writer keeps of earlier ones.
+/// Whether records are written one after another that are together longer than what a writer keeps
+/// of earlier ones.
 fn writes_many(alloc: Global) -> bool {
     let mut records = RecordWriter::new(alloc);
     records.text().is_empty() && are_written_often(&mut records, 600)

@@ -97,7 +97,8 @@ const PLAIN: Said = Said {
 };
 
 const COMMANDS: &[Line] = &[
-    // Options are before, between and after the other arguments, and the first `=` ends the table's name.
+    // Options are before, between and after the other arguments, and the first `=` ends the table's
+    // name.
     (
         &["run", "--engine=rec", "q.sql", "R=a", "--ranks", "S=b=c"],
         Read::Run(Said {

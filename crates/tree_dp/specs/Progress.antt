@@ -1,4 +1,5 @@
--- What holds of the parts of a tree while their least keys are found, from the last node to the root.
+-- What holds of the parts of a tree while their least keys are found, from the last node to the
+-- root.
 use Rattle.std.specs.Prelude.{◌≡◌, ℕ, ◌+◌, ◌-◌, ◌<◌, ◌≤◌, List, [], length, slice_index, slice_index_or}
 use Rattle.tdp_model.specs.KeyTuple.{KeyOf, key_below, key_add, key_none}
 use Rattle.tdp_model.specs.TreeProblem.{best_by_kids}
@@ -6,7 +7,8 @@ use Rattle.tdp_model.specs.Heap.{FollowsParent}
 use Rattle.tdp_core.specs.TreeView.{NodeView, node_at, parent, rows, group_count, members, group, rank, best}
 use Rattle.tree_dp.specs.Orders.{key_at}
 
--- the least key of a subtree solution of row r of node v, by the first members of its children's groups
+-- the least key of a subtree solution of row r of node v, by the first members of its children's
+-- groups
 abbrev pub by_children : {R : Type 0} (d : ℕ) (key : R → KeyOf d 16) → List (NodeView R) → ℕ → ℕ
     → KeyOf d 16
 by_children d key t v r = best_by_kids (key_add d 16) (key_none d 16) (length t) (parent t)
@@ -22,7 +24,8 @@ pub record IsSolvedFrom {R : Type 0} (d : ℕ) (key : R → KeyOf d 16) (t : Lis
       → FollowsParent (key_below d 16) (λ j. best t d key v (slice_index (members t v g) j))
       (length (members t v g)) i
 
--- the least rank of each group of each node from `from_node` on, in the order of the nodes and of their groups
+-- the least rank of each group of each node from `from_node` on, in the order of the nodes and of
+-- their groups
 pub record AreLeastsFrom {R : Type 0} (d : ℕ) (key : R → KeyOf d 16) (t : List (NodeView R))
     (from_node : ℕ) (leasts : List (List R)) : Type 0 where
   pub all_nodes : length leasts + from_node ≡ length t

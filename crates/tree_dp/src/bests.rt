@@ -11,8 +11,9 @@ use std::sync::ledger::Ledger;
 use step_counter::{NoMemory, Steps};
 use tdp_core::NodeParts;
 
-/// The rank of the least subtree solution of each row of a node. The later nodes must be solved, and `leasts` has the
-/// least rank of each of their groups. It takes at most one step for each row and each node.
+/// The rank of the least subtree solution of each row of a node. The later nodes must be solved,
+/// and `leasts` has the least rank of each of their groups. It takes at most one step for each row
+/// and each node.
 pub(crate) fn bests_of<R: Rank, L: Ledger>(
     alloc: Global,
     nodes: &[NodeParts<R>],
@@ -40,8 +41,8 @@ pub(crate) fn bests_of<R: Rank, L: Ledger>(
     Ok(bests)
 }
 
-/// The rank of the least subtree solution of a row of a node. The later nodes must be solved, and `leasts` has the
-/// least rank of each of their groups. It takes at most one step for each node.
+/// The rank of the least subtree solution of a row of a node. The later nodes must be solved, and
+/// `leasts` has the least rank of each of their groups. It takes at most one step for each node.
 fn row_best<R: Rank, L: Ledger>(
     nodes: &[NodeParts<R>],
     node: usize,

@@ -12,8 +12,8 @@ use std::sync::ledger::Ledger;
 use step_counter::Steps;
 use tdp_core::{Answer, Tree};
 
-/// The first answer of a tree, with which each ranking of its solutions begins; `None` if it has no solution. For m
-/// nodes it takes at most 4 * m steps, and no memory.
+/// The first answer of a tree, with which each ranking of its solutions begins; `None` if it has no
+/// solution. For m nodes it takes at most 4 * m steps, and no memory.
 pub fn first<R: Rank, L: Ledger>(tree: &Tree<R>, steps: &mut Steps<L>) -> Option<Answer<R>>
     requires { IsTieFreeTree tree.now }
     ensures none { (ks : List (KeyOf R.KEYS 16)) → IsTreeRanking tree.now R.KEYS R.key ks
@@ -32,8 +32,8 @@ pub fn first<R: Rank, L: Ledger>(tree: &Tree<R>, steps: &mut Steps<L>) -> Option
     Some(Answer { rows, rank })
 }
 
-/// The row numbers of the best solution that has this row of the root, by item. For m nodes it takes at most 3 * m - 2 steps,
-/// and no memory.
+/// The row numbers of the best solution that has this row of the root, by item. For m nodes it
+/// takes at most 3 * m - 2 steps, and no memory.
 pub fn best_rows<R: Rank, L: Ledger>(tree: &Tree<R>, row: u32, steps: &mut Steps<L>) -> [u32; 16]
     requires tie_free { IsTieFreeTree tree.now }
     requires row { row < rows tree.now 0 }
@@ -53,7 +53,8 @@ pub fn best_rows<R: Rank, L: Ledger>(tree: &Tree<R>, row: u32, steps: &mut Steps
     rows
 }
 
-/// The row at place 0 of the group that the row chosen at a node's parent names. It takes two steps.
+/// The row at place 0 of the group that the row chosen at a node's parent names. It takes two
+/// steps.
 fn first_row<R: Rank, L: Ledger>(
     tree: &Tree<R>,
     chosen: &[u32],

@@ -12,9 +12,9 @@ use step_counter::{NoMemory, Steps};
 use take2_heap::heapify_by;
 use tdp_core::Groups;
 
-/// Puts the rows of each group of a node into heap order by their best keys, and returns the least of these keys in
-/// each group, in the order of the groups. It takes at most two steps for each row. Beside the result it takes the
-/// memory of the longest group, once for all groups.
+/// Puts the rows of each group of a node into heap order by their best keys, and returns the least
+/// of these keys in each group, in the order of the groups. It takes at most two steps for each
+/// row. Beside the result it takes the memory of the longest group, once for all groups.
 pub(crate) fn order_groups<R: Rank, L: Ledger>(
     alloc: Global,
     groups: &mut Groups,
@@ -47,8 +47,8 @@ pub(crate) fn order_groups<R: Rank, L: Ledger>(
     Ok(leasts)
 }
 
-/// Replaces the content of `rows` by the rows of a group in heap order by their best keys, and returns the least of
-/// these keys. It takes at most two steps for each row.
+/// Replaces the content of `rows` by the rows of a group in heap order by their best keys, and
+/// returns the least of these keys. It takes at most two steps for each row.
 fn order_group<R: Rank, L: Ledger>(
     group: &[u32],
     best: &[R],

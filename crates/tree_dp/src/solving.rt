@@ -15,9 +15,9 @@ use std::sync::ledger::Ledger;
 use step_counter::{NoMemory, Steps};
 use tdp_core::{NodeParts, Tree};
 
-/// The well-formed tree of parts whose rows are in groups: with the rank of each row's least subtree solution, and each
-/// group in heap order by these ranks. It has the same solutions. For m nodes and N rows it takes at most
-/// 4 * m * (1 + N) steps, even if memory is refused.
+/// The well-formed tree of parts whose rows are in groups: with the rank of each row's least
+/// subtree solution, and each group in heap order by these ranks. It has the same solutions. For m
+/// nodes and N rows it takes at most 4 * m * (1 + N) steps, even if memory is refused.
 pub fn solve<R: Rank, L: Ledger>(
     alloc: Global,
     reduced: Reduced<R>,
@@ -56,8 +56,9 @@ fn solve_nodes<R: Rank, L: Ledger>(
     Ok(())
 }
 
-/// Finds the best of each row of a node and orders its groups. The later nodes must be solved, and `leasts` has the
-/// least rank of each of their groups, in the order of the nodes. Returns the least rank of each group of this node.
+/// Finds the best of each row of a node and orders its groups. The later nodes must be solved, and
+/// `leasts` has the least rank of each of their groups, in the order of the nodes. Returns the
+/// least rank of each group of this node.
 fn solve_node<R: Rank, L: Ledger>(
     alloc: Global,
     nodes: &mut [NodeParts<R>],

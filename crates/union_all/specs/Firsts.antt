@@ -10,7 +10,8 @@ abbrev pub tagged_view : List Query → stored.Tagged → Tagged
 tagged_view queries t = tagged t.branch (take (length (branch_at queries t.branch).items) t.rows)
 
 module _ (queries : List Query) (tables : List Table) (lists : List (List (List ℕ))) where
-  -- the first combination of branch b stands before that of each other branch, of the first n branches
+  -- the first combination of branch b stands before that of each other branch, of the first n
+  -- branches
   pub record HasFirst (n b : ℕ) : Type 0 where
     pub inside : b < n
     pub rows : List ℕ

@@ -9,8 +9,8 @@ use Rattle.witness_key.specs.WitnessKey.{combinations_in}
 use Rattle.union_list.specs.TaggedRows.{Tagged, branch_at}
 use Rattle.union_list.specs.Union.{AreAscending}
 
--- an engine: the number of calls so far, the greatest number of steps of the next call, and what a bound on the steps
--- depends on beside the calls
+-- an engine: the number of calls so far, the greatest number of steps of the next call, and what a
+-- bound on the steps depends on beside the calls
 pub record EngineView : Type 0 where
   pub calls : ℕ
   pub due : ℕ
@@ -22,7 +22,8 @@ pub record BranchView : Type 0 where
   pub left : List (List ℕ)
   pub engine : EngineView
 
--- a merge: the queries of its branches, the members that are left of their union, and the branches' engines
+-- a merge: the queries of its branches, the members that are left of their union, and the branches'
+-- engines
 pub record MergeView : Type 0 where
   pub queries : List Query
   pub rest : List Tagged
@@ -43,7 +44,8 @@ first_of n None = []
 first_of n (Some rows) = take n rows ∷ []
 
 -- the combinations that each branch's engine has left
-abbrev pub rests_of : {E : Type 0} → (E → List AnswerView) → List Query → List E → List (List (List ℕ))
+abbrev pub rests_of : {E : Type 0} → (E → List AnswerView) → List Query → List E
+    → List (List (List ℕ))
 rests_of rest [] engines = []
 rests_of rest (query ∷ queries) [] = []
 rests_of rest (query ∷ queries) (engine ∷ engines) = combinations_in query (rest engine)
@@ -80,7 +82,8 @@ AreBegun [] (new ∷ news) = ⊥
 AreBegun (old ∷ olds) [] = ⊥
 AreBegun (old ∷ olds) (new ∷ news) = HasCalled old new × AreBegun olds news
 
--- The engine of branch b was called once, and no other. The steps that it took are within what it had due, and within the most that its size and calls allow.
+-- The engine of branch b was called once, and no other. The steps that it took are within what it
+-- had due, and within the most that its size and calls allow.
 pub record IsCalled (most : List ℕ → ℕ → ℕ) (old new : MergeView) (b before now : ℕ) : Type 0 where
   pub queries : new.queries ≡ old.queries
   pub count : length new.engines ≡ length old.engines

@@ -10,8 +10,8 @@ use std::sync::ledger::Ledger;
 use step_counter::{NoMemory, Steps};
 use tdp_core::{Answer, Ranked};
 
-/// A branch: its query, the engine of its answers, and the rows of the first answer that is left. Contracts see the
-/// query, the combinations that are left, and the engine.
+/// A branch: its query, the engine of its answers, and the rows of the first answer that is left.
+/// Contracts see the query, the combinations that are left, and the engine.
 #[derive(Drop)]
 pub(crate) struct Branch<'q, E: Ranked> {
     query: &'q Query,
@@ -37,8 +37,8 @@ impl<'q, E: Ranked> Model for Branch<'q, E> {
 }
 
 impl<'q, E: Ranked + Drop> Branch<'q, E> {
-    /// The branch of the answers that an engine has left. The engine is called once, for the first of them. `NoMemory` if
-    /// memory is refused.
+    /// The branch of the answers that an engine has left. The engine is called once, for the first
+    /// of them. `NoMemory` if memory is refused.
     pub(crate) fn new<L: Ledger>(
         query: &'q Query,
         engine: E,
@@ -76,8 +76,9 @@ impl<'q, E: Ranked + Drop> Branch<'q, E> {
         self.head
     }
 
-    /// Takes out the first answer that is left, and returns its rows, or `None` if none is left. The engine is called
-    /// for the next one before. `NoMemory` if memory is refused; no answer is lost then.
+    /// Takes out the first answer that is left, and returns its rows, or `None` if none is left.
+    /// The engine is called for the next one before. `NoMemory` if memory is refused; no answer is
+    /// lost then.
     pub(crate) fn take<L: Ledger>(
         &mut self,
         steps: &mut Steps<L>,

@@ -8,7 +8,8 @@ use crate::sums::has_less_sums;
 use table_store::Tables;
 use tdp_core::Ranked;
 
-/// Whether the first answer of branch b comes before those of the branches before it, of which `first` has the first.
+/// Whether the first answer of branch b comes before those of the branches before it, of which
+/// `first` has the first.
 fn is_sooner<E: Ranked + Drop>(
     branches: &[Branch<'_, E>],
     tables: &Tables,
@@ -39,8 +40,8 @@ fn is_sooner<E: Ranked + Drop>(
     )
 }
 
-/// The branch that has the first answer of all that are left: the one with the least sums, and of equal sums the earliest
-/// one. `None` if no branch has an answer left.
+/// The branch that has the first answer of all that are left: the one with the least sums, and of
+/// equal sums the earliest one. `None` if no branch has an answer left.
 pub(crate) fn first_branch<E: Ranked + Drop>(
     branches: &[Branch<'_, E>],
     tables: &Tables,

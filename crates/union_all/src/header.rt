@@ -14,9 +14,9 @@ use std::alloc::Global;
 use step_counter::NoMemory;
 use table_store::Tables;
 
-/// The record of the columns' titles: `cursor` if a cursor is named, the names of the first branch's columns, `rank1`
-/// and so on if sums are shown, and if row numbers are shown `branch`, and `row1` and so on up to the items of the
-/// longest branch. `NoMemory` if memory is refused.
+/// The record of the columns' titles: `cursor` if a cursor is named, the names of the first
+/// branch's columns, `rank1` and so on if sums are shown, and if row numbers are shown `branch`,
+/// and `row1` and so on up to the items of the longest branch. `NoMemory` if memory is refused.
 pub fn header_of(
     alloc: Global,
     queries: &[Query],

@@ -1,5 +1,6 @@
-//! The union of several queries over the same tables: its members in order, merged from engines of the branches, one by
-//! one. Each branch has one member at hand, and the first of these is the next one of the union.
+//! The union of several queries over the same tables: its members in order, merged from engines of
+//! the branches, one by one. Each branch has one member at hand, and the first of these is the next
+//! one of the union.
 #![tactic(auto)]
 
 ghost use Rattle.std.specs.Prelude.{List, map};

@@ -23,9 +23,10 @@ use std::alloc::Global;
 use step_counter::NoMemory;
 use table_store::Tables;
 
-/// The record of a member: the cursor's name if there is one, the selected columns of its branch, the sums of the order
-/// keys if they are shown, and if row numbers are shown the branch, from 1, its row numbers, and an empty field for each
-/// item that it has less than the longest branch. `NoMemory` if memory is refused.
+/// The record of a member: the cursor's name if there is one, the selected columns of its branch,
+/// the sums of the order keys if they are shown, and if row numbers are shown the branch, from 1,
+/// its row numbers, and an empty field for each item that it has less than the longest branch.
+/// `NoMemory` if memory is refused.
 pub fn line_of(
     alloc: Global,
     tagged: &Tagged,
@@ -60,8 +61,9 @@ pub fn line_of(
     csv_tables::line(alloc, fields.as_slice())
 }
 
-/// Writes the record of a member, as `line_of` gives it, by a writer that is kept for many records. `NoMemory` if memory
-/// is refused; the writer's text is then unspecified, and further records can be written.
+/// Writes the record of a member, as `line_of` gives it, by a writer that is kept for many records.
+/// `NoMemory` if memory is refused; the writer's text is then unspecified, and further records can
+/// be written.
 pub fn write_line_of(
     alloc: Global,
     writer: &mut AnswerWriter,
@@ -97,7 +99,8 @@ pub fn write_line_of(
     writer.records.write(fields.as_slice())
 }
 
-/// The number of items that the branch of a query has less than the longest branch, if row numbers are shown, else 0.
+/// The number of items that the branch of a query has less than the longest branch, if row numbers
+/// are shown, else 0.
 fn lacking_items(queries: &[Query], query: &Query, style: &Style<'_>) -> u32
     ensures { result ≡ (if style.now.rows
         then output.most_items (map (λ q. q.query) queries.now)
@@ -110,8 +113,8 @@ fn lacking_items(queries: &[Query], query: &Query, style: &Style<'_>) -> u32
     }
 }
 
-/// Appends the fields of the record but the empty ones: the cursor's name if there is one, the selected columns of the
-/// rows, and these numbers.
+/// Appends the fields of the record but the empty ones: the cursor's name if there is one, the
+/// selected columns of the rows, and these numbers.
 fn push_fields<'a>(
     fields: &mut Fields<'a>,
     query: &Query,

@@ -18,8 +18,8 @@ use step_counter::{NoMemory, Steps};
 use table_store::Tables;
 use tdp_core::Ranked;
 
-/// The union of the answers that several engines have left, one for each branch. Contracts see the branches' queries, the
-/// members that are left, and the engines.
+/// The union of the answers that several engines have left, one for each branch. Contracts see the
+/// branches' queries, the members that are left, and the engines.
 #[derive(Drop)]
 pub struct Merge<'q, E: Ranked> {
     tables: &'q Tables,
@@ -42,8 +42,9 @@ impl<'q, E: Ranked> Model for Merge<'q, E> {
 }
 
 impl<'q, E: Ranked + Drop> Merge<'q, E> {
-    /// The union of what the engines have left, each of the query at its place. There are at most 8 queries. Each engine is
-    /// called once, for its first answer. `NoMemory` if memory is refused; the engines are dropped then.
+    /// The union of what the engines have left, each of the query at its place. There are at most 8
+    /// queries. Each engine is called once, for its first answer. `NoMemory` if memory is refused;
+    /// the engines are dropped then.
     pub fn new<L: Ledger>(
         alloc: Global,
         queries: &'q [Query],
@@ -68,8 +69,9 @@ impl<'q, E: Ranked + Drop> Merge<'q, E> {
         Ok(Merge { tables, branches })
     }
 
-    /// The next member, or `None` if none is left. The engine of the member's branch is called for the next answer before
-    /// the member is taken out. `NoMemory` if memory is refused; no member is lost then.
+    /// The next member, or `None` if none is left. The engine of the member's branch is called for
+    /// the next answer before the member is taken out. `NoMemory` if memory is refused; no member
+    /// is lost then.
     pub fn next<L: Ledger>(&mut self, steps: &mut Steps<L>) -> Result<Option<Tagged>, NoMemory>
         ensures found { IfOk result
             (λ o. IfSome o (λ t. (self.old.rest ≡ tagged_view self.old.queries t ∷ self.new.rest)

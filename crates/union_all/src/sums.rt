@@ -10,7 +10,8 @@ use answer_print::key_sum;
 use bound_query::Query;
 use table_store::Tables;
 
-/// The sum of an order key over the rows of the items, as it is compared: negated if the key descends.
+/// The sum of an order key over the rows of the items, as it is compared: negated if the key
+/// descends.
 fn compared_sum(query: &Query, tables: &Tables, rows: &[u32; 16], key: u32) -> i128
     requires fits { Fits query.now tables.now }
     requires rows { HasRows query.now tables.now rows.now }

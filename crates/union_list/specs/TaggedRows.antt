@@ -1,4 +1,5 @@
--- The members of a union of queries over the same tables, and their order. Each query is a branch, and branches count from 0.
+-- The members of a union of queries over the same tables, and their order. Each query is a branch,
+-- and branches count from 0.
 use Rattle.std.specs.Prelude.{◌≡◌, ◌⊎◌, ◌<◌, ℕ, ℤ, pos, List, [], ◌∷◌, ◌++◌, map, length, get_or, None}
 use Rattle.std.specs.List.{AllByRecursion}
 use Rattle.rankings.specs.Order as order
@@ -49,8 +50,8 @@ HaveKeys keys queries = AllByRecursion (λ (q : Query). length q.order ≡ keys)
 abbrev pub tagged_key : List Query → List Table → Tagged → List ℤ
 tagged_key queries tables m = sums_of queries tables m.branch m.rows ++ map pos (m.branch ∷ m.rows)
 
--- any combination of branch c comes after this one of branch b, if it has these rows or later ones: the sums decide, and
--- the branches if the sums are equal
+-- any combination of branch c comes after this one of branch b, if it has these rows or later ones:
+-- the sums decide, and the branches if the sums are equal
 abbrev pub StandsBefore : List Query → List Table → ℕ → List ℕ → ℕ → List ℕ → Type 0
 StandsBefore queries tables b rows c other =
     IsBefore (sums_of queries tables b rows) (sums_of queries tables c other)

@@ -15,14 +15,15 @@ most_items (query ∷ queries) = max (length query.items) (most_items queries)
 abbrev pub without_rows : Style → Style
 without_rows style = record { ranks = style.ranks; rows = false; cursor = style.cursor }
 
--- the titles of the first branch, and then those of the branch and of the row numbers if they are shown
+-- the titles of the first branch, and then those of the branch and of the row numbers if they are
+-- shown
 abbrev pub union_header_fields : List Query → List Table → Style → List (List ℕ)
 union_header_fields queries tables style =
     header_fields (branch_at queries 0) tables (without_rows style)
     ++ (if style.rows then codes "branch" ∷ numbered (codes "row") (most_items queries) else [])
 
--- the fields of the member's own branch, and then, if row numbers are shown, the branch, from 1, the row numbers, and an empty field
--- for each item that the branch has less than the longest one
+-- the fields of the member's own branch, and then, if row numbers are shown, the branch, from 1,
+-- the row numbers, and an empty field for each item that the branch has less than the longest one
 abbrev pub union_line_fields : List Query → List Table → Style → Tagged → List (List ℕ)
 union_line_fields queries tables style m =
     line_fields (branch_at queries m.branch) tables (without_rows style) m.rows

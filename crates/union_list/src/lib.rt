@@ -1,5 +1,5 @@
-//! The union of several queries over the same tables: definitions of its members, their order and what is
-//! printed of them, and laws that say what they mean.
+//! The union of several queries over the same tables: definitions of its members, their order and
+//! what is printed of them, and laws that say what they mean.
 #![tactic(auto)]
 
 ghost use Rattle.std.specs.Prelude.{◌≡◌, ◌↔◌, ◌<◌, [], ◌∷◌, List, length, map, ℕ};

@@ -14,10 +14,10 @@ use Rattle.verdict.specs.Words.{Asked, Command, Words, built, load, plan, prove,
 abbrev pub cost_of : Found → ℕ → ℕ
 cost_of found calls = cost_over (query_of found) found.tables (structure_of found) calls
 
--- The greatest number of steps. For `run` and `load` the bound counts the calls that give the members,
--- over several branches those of each branch, and for `plan` no call. For `session` it counts as many
--- calls as its steps reach far, and 4 more steps for each call that they make. There is no bound for
--- `prove` and `verify`.
+-- The greatest number of steps. For `run` and `load` the bound counts the calls that give the
+-- members, over several branches those of each branch, and for `plan` no call. For `session` it
+-- counts as many calls as its steps reach far, and 4 more steps for each call that they make. There
+-- is no bound for `prove` and `verify`.
 abbrev pub most_steps : Command → Found → Option ℕ
 most_steps (run words) found =
     Some (if is_union found then union_cost found.tables

@@ -1,5 +1,5 @@
--- The stages of loading an input: its query, or the branches of it, its script or its certificate, its tables, and the
--- queries bound to them.
+-- The stages of loading an input: its query, or the branches of it, its script or its certificate,
+-- its tables, and the queries bound to them.
 use Rattle.std.specs.Prelude.{◌≡◌, ◌≢◌, ◌+◌, ◌&&◌, ℕ, nat_eq, nat_lt, Bool, true, false, if◌then◌else◌, List, [], ◌∷◌, ◌++◌, map, length, Option, None, Some, option_map, position, unwrap_or, Result, Ok, Err}
 use Rattle.std.specs.List.{list_any, position_or_len}
 use Rattle.std.specs.Str.{bytes_eq}
@@ -238,7 +238,8 @@ abbrev pub known_item : Option ℕ → Result (Option ℕ) Reason
 known_item None = Err UnknownBest
 known_item (Some item) = Ok (Some item)
 
--- the number of the item that has the alias, if one is named; then there may not be several branches
+-- the number of the item that has the alias, if one is named; then there may not be several
+-- branches
 abbrev pub best_in : Option (List ℕ) → List Query → Result (Option ℕ) Reason
 best_in None queries = Ok None
 best_in (Some alias) [] = Err UnknownBest
@@ -260,7 +261,8 @@ pub record Loaded : Type 0 where
   -- the certificate, and the empty one if there is none
   pub proof : Certificate
 
--- the queries of one shape, the tables, and the script or the certificate, with the item that is named
+-- the queries of one shape, the tables, and the script or the certificate, with the item that is
+-- named
 abbrev pub loaded_in : Option (List ℕ) → List Query → List Table → Beside → Result Loaded Reason
 loaded_in alias queries tables beside =
     then_by (unless (odd_branch queries) queries)

@@ -53,8 +53,9 @@ GotNothing old new = Appends old.output new.output []
 
 -- ---- the reasons
 
--- The file is read for this input. It is the file of the query; or of the script or the certificate,
--- once the query is parsed; or of one of the tables up to the first refusal, once these are read.
+-- The file is read for this input. It is the file of the query; or of the script or the
+-- certificate, once the query is parsed; or of one of the tables up to the first refusal, once
+-- these are read.
 pub data IsTurnOf (sought : Sought) (files : Files) (name : List ℕ) : Type 0 where
   query_turn : name ≡ sought.query → IsTurnOf sought files name
   aside_turn : {bytes : List ℕ} (selects : List Select) → file_in files sought.query ≡ Ok bytes

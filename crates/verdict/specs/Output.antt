@@ -27,17 +27,17 @@ members_of found = cut (query_of found).limit (asked_list found)
 abbrev pub tagged_of : Found → List Tagged
 tagged_of found = cut (query_of found).limit (union_of found.queries found.tables)
 
--- the header, and then a record for each of these members: those of the list, or those of all branches if there are
--- several
+-- the header, and then a record for each of these members: those of the list, or those of all
+-- branches if there are several
 abbrev pub answers_text : Words → Found → List ℕ
 answers_text words found =
     if is_union found then union_output_of found.queries found.tables (style_of words)
     (tagged_of found)
     else output_of (query_of found) found.tables (style_of words) (members_of found)
 
--- The output of `run` is the answers, and so is that of `verify`. That of `plan` is the report of the join tree, that
--- of `session` is what the steps of its script print of the members of the list, that of `load` is their summary, and
--- that of `prove` is the text of a certificate.
+-- The output of `run` is the answers, and so is that of `verify`. That of `plan` is the report of
+-- the join tree, that of `session` is what the steps of its script print of the members of the
+-- list, that of `load` is their summary, and that of `prove` is the text of a certificate.
 abbrev pub HasOutput : Command → Found → List ℕ → Type 0
 HasOutput (run words) found text = text ≡ answers_text words found
 HasOutput (plan words) found text = text

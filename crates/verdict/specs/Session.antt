@@ -1,4 +1,5 @@
--- What a session prints: cursors over the members of one list, which the steps of a script open, move and close.
+-- What a session prints: cursors over the members of one list, which the steps of a script open,
+-- move and close.
 use Rattle.std.specs.Prelude.{ℕ, zero, suc, ◌+◌, List, [], ◌∷◌, ◌++◌, length, take, drop, if◌then◌else◌, Option, Some, None, unwrap_or, codes}
 use Rattle.std.specs.Str.{bytes_eq}
 use Rattle.session_script.specs.declared.step.Step.{Step}
@@ -58,7 +59,8 @@ steps_text line members places (step ∷ steps) = step_text line members places 
 abbrev pub with_name : Style → List ℕ → Style
 with_name style name = record style { cursor = Some name }
 
--- the header with the title of the cursors' names, and then what the steps print, each record with the name of its cursor
+-- the header with the title of the cursors' names, and then what the steps print, each record with
+-- the name of its cursor
 abbrev pub session_text : Query → List Table → Style → List (List ℕ) → List Step → List ℕ
 session_text query tables style members steps =
     header_text query tables (with_name style [])

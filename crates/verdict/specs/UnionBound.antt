@@ -10,8 +10,8 @@ use Rattle.union_list.specs.TaggedRows.{Tagged}
 use Rattle.union_list.specs.Union.{members_in}
 use Rattle.union_list.specs.UnionOutput.{union_header_text, union_line_text}
 
--- the sum over the branches, of which the first has the number b, of the bound for as many calls as the
--- branch has members in the list, and one more
+-- the sum over the branches, of which the first has the number b, of the bound for as many calls as
+-- the branch has members in the list, and one more
 abbrev pub union_cost : List Table → List Tagged → ℕ → List Query → List Shape → ℕ
 union_cost tables list b [] shapes = 0
 union_cost tables list b (query ∷ queries) [] = 0

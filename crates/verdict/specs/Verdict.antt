@@ -22,8 +22,8 @@ use Rattle.verdict.specs.Stages.{Then, Is}
 
 -- ---- loading
 
--- the names, the weights and the ranges of each branch, then the branches' shape, and then the item of
--- which each row's best answer is asked for
+-- the names, the weights and the ranges of each branch, then the branches' shape, and then the item
+-- of which each row's best answer is asked for
 abbrev pub IsBound : Sought → List Select → List Table → Beside → Result Loaded Reason → Type 0
 IsBound sought selects tables beside = Then (Is (bound_in selects tables))
     (λ queries. Is (loaded_in sought.best_of queries tables beside))

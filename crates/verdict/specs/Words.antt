@@ -28,7 +28,8 @@ pub data Command : Type 0 where
 abbrev pub Named : Type 0
 Named = List (List ℕ × List ℕ)
 
--- the file that a command reads beside its query and its tables: none, that of a script, or that of a certificate
+-- the file that a command reads beside its query and its tables: none, that of a script, or that of
+-- a certificate
 pub data Aside : Type 0 where
   nothing : Aside
   script : List ℕ → Aside
@@ -53,7 +54,8 @@ pub record Sought : Type 0 where
   -- the alias of the item of which each row's best answer is asked for, if there is one
   pub best_of : Option (List ℕ)
 
--- Only `run` may have several branches, and only `run` and `session` an item. `load` reads the files that it makes.
+-- Only `run` may have several branches, and only `run` and `session` an item. `load` reads the
+-- files that it makes.
 abbrev pub sought_by : Command → Sought
 sought_by (run words) = record {
   query = words.query;
