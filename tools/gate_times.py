@@ -13,12 +13,14 @@ down to a crate and to one of its parts:
     edits    the edits, each over the seed
     running  its tests, or its program
 
-At the end it prints a table (Markdown), or writes it between the two marker lines of FILE (--table), and writes the proof's seconds
-of each crate, one a line, for the launcher's estimate (--figures). The last lines give the whole, which is measured by the system
-and not sampled, and the longest chain of crates, each of which waits for the one below.
+Only what the command started counts, so that other work on the machine is in no figure. At the end the script prints a table
+(Markdown), or writes it between the two marker lines of FILE (--table), and writes the proof's seconds of each crate, one a line, for
+the launcher's estimate (--figures). The last lines give the whole, which is measured by the system and not sampled, and the longest
+chain of crates, each of which waits for the one below.
 """
 
 import argparse
+import contextlib
 import os
 import re
 import resource
@@ -33,6 +35,7 @@ from pathlib import Path
 PARTS = ("proof", "tests", "seed", "edits", "running")
 BEGIN, END = "<!-- table: begin -->", "<!-- table: end -->"
 TICK = os.sysconf("SC_CLK_TCK")
+OWN = str(os.getpid())
 
 
 def value_after(words, flag):
@@ -66,16 +69,26 @@ class Sampler(threading.Thread):
             self.look()
 
     def look(self):
+        stats = {}
         for number in filter(str.isdigit, os.listdir("/proc")):
-            try:
-                self.look_at(number)
-            except (OSError, ValueError, IndexError):
-                # (it ended meanwhile)
-                continue
+            # (one may end meanwhile)
+            with contextlib.suppress(OSError, ValueError):
+                text = Path(f"/proc/{number}/stat").read_text(errors="replace")
+                stats[number] = text[text.rindex(")") + 2 :].split()
+        for number, fields in stats.items():
+            if self.is_own(number, stats):
+                with contextlib.suppress(OSError, ValueError, IndexError):
+                    self.look_at(number, fields)
 
-    def look_at(self, number):
-        text = Path(f"/proc/{number}/stat").read_text(errors="replace")
-        fields = text[text.rindex(")") + 2 :].split()
+    def is_own(self, number, stats):
+        """Whether the command started the process. One whose parent has ended is known from before."""
+        if (number, stats[number][19]) in self.seen:
+            return True
+        while number in stats and number != OWN:
+            number = stats[number][1]
+        return number == OWN
+
+    def look_at(self, number, fields):
         found = self.seen.setdefault((number, fields[19]), [None, 0.0, 0])
         if not found[0]:
             # (a process is another program before it becomes the prover)
