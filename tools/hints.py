@@ -26,9 +26,11 @@ KEYWORDS = {b"select", b"from", b"where", b"and", b"order", b"by", b"limit", b"a
 # What other dialects have and this one has not, by the token where it shows.
 MISSING = {
     **dict.fromkeys("<>!", "no inequality; a table of the allowed pairs can take its place"),
-    **dict.fromkeys("()", "no function and no subquery"),
+    **dict.fromkeys("()", "no function, no subquery and no parenthesis"),
     **dict.fromkeys(("left", "right", "full", "outer"), "no outer join"),
-    **{it: f"no {it.upper()}" for it in ("distinct", "like", "in", "between", "having", "offset")},
+    **{it: f"no {it.upper()}" for it in ("distinct", "like", "ilike", "in", "between", "not", "having", "offset", "fetch", "nulls", "using")},
+    **dict.fromkeys(("cross", "natural"), "no such join: JOIN has an ON, or else a comma takes its place"),
+    "is": "no IS: an empty field is equal to ''",
     "or": "no OR: ask once for each side",
     "group": "no GROUP BY",
     "*": "no multiplication: name the column as often as it counts",
@@ -36,9 +38,16 @@ MISSING = {
     "/": "no division and no comment",
     "#": "no comment",
 }
+# Those of them that are taken for the alias of the item before them.
+JOINS = ("left", "right", "full", "outer", "cross", "natural")
+# Those of them that are taken for a name where they stand, so that it shows at the token after them.
+HIDDEN = ("distinct", "not", "group", "having", "offset", "fetch", "using")
 # The parts of a query: names, strings, numbers, signs.
 TOKEN = re.compile(rb"""\s+|[A-Za-z_][A-Za-z0-9_]*|"[^"]*"|'(?:[^']|'')*'|[0-9]+|.""", re.S)
+# How many columns of a terminal a line may take, without its indent.
 WIDTH = 72
+# What a call without a query has wrong.
+MISPLACED = "QUERYFILE is missing: it comes before the first TABLE=FILE"
 # The most bytes that are read of a file, and of a query.
 LARGEST = 67_108_864
 LONGEST = 65_536
@@ -61,15 +70,15 @@ def listed(names):
     return ", ".join(names[:SHOWN]) + (f" and {len(names) - SHOWN} more" if len(names) > SHOWN else "")
 
 
-def nearest(name, known):
-    """The known name that is most like the name, or None."""
+def nearest(name, known, least=0.6):
+    """The known name that is most like the name, or None if none is at least so much like it."""
     same = [it for it in known if it.strip().lower() == name.strip().lower()]
-    like = same or difflib.get_close_matches(name, known, 1)
+    like = same or difflib.get_close_matches(name, known, 1, least)
     return like[0] if like else None
 
 
-def perhaps(name, known):
-    found = nearest(name, [it for it in known if it != name]) if name is not None else None
+def perhaps(name, known, least=0.6):
+    found = nearest(name, [it for it in known if it != name], least) if name is not None else None
     return f"; perhaps {shown(repr(found) if found != found.strip() else found)} is meant" if found else ""
 
 
@@ -247,25 +256,35 @@ def is_name(word):
     return re.fullmatch(rb"[A-Za-z_][A-Za-z0-9_]*", word) and word not in KEYWORDS
 
 
-def meant(words, place):
+def meant(query, place):
     """What may be meant by a token at which a query cannot go on, as far as the tokens around it show."""
+    words, at = query.words, query.tokens[place][0]
     token = words[place].lower().decode(errors="replace")
     before, after = (words[place - 1] if place else b""), (words[place + 1 : place + 2] or [b""])[0]
+    hidden = before.lower().decode(errors="replace")
     if token == "." and before.isdigit():
         return ["a number with a point is written as a string, in single quotes"]
     if token.isdigit() and after == b"*":
         return [f"there is {MISSING['*']}"]
+    if token == "*" and before == b".":
+        return ["there is no * for one item: name its columns"]
+    if b"--" in query.text[max(at - 1, 0) : at + 2]:
+        return ["there is no comment"]
+    if before == b"union":
+        return ["there is no UNION without ALL"]
+    if hidden in HIDDEN:
+        return [f"there is {MISSING[hidden]}"]
     if token in MISSING:
         return [f"there is {MISSING[token]}"]
     if is_name(words[place]) and is_name(before):
-        guess = perhaps(token, [it.decode() for it in KEYWORDS])[2:]
+        guess = perhaps(token, [it.decode() for it in KEYWORDS], 0.7)[2:]
         return [guess or "a name with a blank is written in double quotes"]
     return []
 
 
 def on_syntax(call, query, at):
     place, lines = query.place_of(at), query.caret(at)
-    return lines + (meant(query.words, place) if place is not None else [])
+    return lines + (meant(query, place) if place is not None else [])
 
 
 def on_limit(call, query, at):
@@ -289,6 +308,9 @@ def on_alias_twice(call, query, number):
 def items_like(items, name):
     """The aliases of the items, and which of them a name that is none may mean."""
     tables = [alias for _, table, alias in items if table == name]
+    joins = [alias for _, table, alias in items if alias != table and alias.lower() in JOINS]
+    if joins:
+        return [f"there is no {joins[0].upper()} JOIN: {joins[0]} is taken for an alias"]
     more = f"; the table {shown(name)} is called {listed(tables)} there" if tables else perhaps(name, [it for _, _, it in items])
     return [f"the items are {listed([it for _, _, it in items])}{more}"] if items else []
 
@@ -461,6 +483,8 @@ def on_many_cursors(call, query, number):
 
 
 def on_not_found(call, query, name):
+    if name == call.query and "=" in name:
+        return [MISPLACED]
     if name.startswith("~"):
         return ["a shell expands ~ only at the start of an argument: write $HOME in its place"]
     folder, last = os.path.split(name)
@@ -474,6 +498,10 @@ def on_not_found(call, query, name):
 def on_read_failed(call, query, name):
     if os.path.isdir(name):
         return ["it is a folder"]
+    try:
+        os.stat(name)
+    except OSError as error:
+        return [f"the system says: {error.strerror}"]
     return [] if os.access(name, os.R_OK) else ["this user may not read it"]
 
 
@@ -497,7 +525,10 @@ def wrong_words(call):
     if call.command in ("help", "--help", "-h"):
         return ["there is no page of help for these arguments: call help alone, or with the name of one command"]
     if call.command not in COMMANDS:
-        return [f"{shown(call.command) or 'an empty argument'} is not a command{perhaps(call.command, COMMANDS)}"]
+        guess = "" if call.command.startswith("-") else perhaps(call.command, COMMANDS)
+        return [f"{shown(call.command) or 'an empty argument'} is not a command{guess}"]
+    if ("--help", None) in call.options or "-h" in call.plain:
+        return [f"anyk help {call.command} prints the page of {call.command}"]
     known, lines, seen = OPTIONS[call.command], [], set()
     for name, value in call.options:
         if name not in known:
@@ -517,7 +548,8 @@ def wrong_words(call):
     if not call.plain:
         return [*lines, "QUERYFILE and TABLE=FILE are missing"]
     if len(call.plain) == 1:
-        lines.append("TABLE=FILE is missing: each table of the query needs one")
+        is_table = "=" in call.query and not os.path.exists(call.query)
+        lines.append(MISPLACED if is_table else "TABLE=FILE is missing: each table of the query needs one")
     for word in call.plain[1:]:
         name, equals, file = word.partition("=")
         if not (name and equals and file):
