@@ -8,6 +8,7 @@ tools/ and man/ of this one, a few crates, and on the PATH a script `rt` that wr
 machines allow, as a file system that is mounted noexec, is passed over elsewhere. Where the real program is built, or the variable
 ANYK names it, the hints are also tried with it.
 """
+import fcntl
 import importlib.util
 import os
 import pty
@@ -15,6 +16,7 @@ import re
 import shutil
 import signal
 import stat
+import struct
 import subprocess
 import sys
 import tempfile
@@ -210,10 +212,11 @@ class House:
         if os.path.exists(f"{self.room}/hold-{crate}"):
             os.remove(f"{self.room}/hold-{crate}")
 
-    def on_terminal(self, *words, more=None, by=None, after=None, watch=None, **how):
+    def on_terminal(self, *words, more=None, by=None, after=None, watch=None, columns=0, **how):
         """The same, with a terminal for the error output. `after` is called with what was started, and `watch` with what was written
         so far."""
         master, slave = pty.openpty()
+        fcntl.ioctl(slave, termios.TIOCSWINSZ, struct.pack("4H", 24, columns, 0, 0))
         mode = termios.tcgetattr(slave)
         mode[1] &= ~termios.OPOST
         termios.tcsetattr(slave, termios.TCSANOW, mode)
@@ -899,6 +902,30 @@ def test_hints_of_the_program(house):
     os.utime(house.program, (now, now))
     for it in REFUSALS:
         hinted(house, *it)
+
+
+def test_hints_on_a_narrow_terminal(house):
+    house.built()
+    files_in(house)
+    for columns, before, after in ((40, "...  d.name ", "< 3 from trains  ..."), (10, "...  d.name ", "< 3 from trains  ..."),
+                                   (60, "... t d.number, d.price, d.name ", "< 3 from trains  ..."), (0, "select d.number, d.price, d.name ", "< 3 from trains d, x, y, z, zz")):
+        write(f"{house.room}/files/q.sql", "select d.number, d.price, d.name < 3 from trains d, x, y, z, zz")
+        said = house.on_terminal("run", "q.sql", cwd=f"{house.room}/files", more={"SAYS": "syntax error at byte 33", "STATUS": "3"}, columns=columns)[2]
+        has(said, at(before + after, len(before)))
+        check(columns in (0, 10) or len(before + after) + 6 <= columns, columns)
+
+
+def test_hints_of_wide_signs(house):
+    house.built()
+    # A sign of two columns, and one that is put on the sign before it.
+    for text, wide in (('select "日本", x < 3', 2), ('select "e\u0301", x < 3', -1), ("select '日', \"\" < 3", 1)):
+        write(f"{house.room}/files/q.sql", text)
+        place = len(text.partition("<")[0].encode())
+        said = house.on_terminal("run", "q.sql", cwd=f"{house.room}/files", more={"SAYS": f"syntax error at byte {place}", "STATUS": "3"})[2]
+        has(said, at(text, text.index("<") + wide))
+    write(f"{house.room}/files/q.sql", "select '" + "日" * 90 + "' < 3, '" + "日" * 90 + "'")
+    said = house.on_terminal("run", "q.sql", cwd=f"{house.room}/files", more={"SAYS": "syntax error at byte 280", "STATUS": "3"})[2]
+    has(said, at("... " + "日" * 23 + "' < 3, '" + "日" * 5 + " ...", 52))
 
 
 def test_each_refusal_has_a_sentence(house):

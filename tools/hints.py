@@ -7,12 +7,14 @@ STATUS and LINE are what the program ended with and wrote, and the rest are the 
 program's line, and repeats nothing of it. The sentences are those of the tables in 'Refusals' of docs/USING.md, and are only there.
 What cannot be found, for example since a file has changed, is left out.
 """
+import contextlib
 import csv
 import difflib
 import os
 import re
 import stat
 import sys
+import unicodedata
 
 HERE = os.path.dirname(os.path.realpath(__file__))
 # Beside the sources, and where the program is installed.
@@ -44,10 +46,10 @@ JOINS = ("left", "right", "full", "outer", "cross", "natural")
 HIDDEN = ("distinct", "not", "group", "having", "offset", "fetch", "using")
 # The parts of a query: names, strings, numbers, signs.
 TOKEN = re.compile(rb"""\s+|[A-Za-z_][A-Za-z0-9_]*|"[^"]*"|'(?:[^']|'')*'|[0-9]+|.""", re.S)
-# How many columns of a terminal a line may take, without its indent.
-WIDTH = 72
 # What a call without a query has wrong.
 MISPLACED = "QUERYFILE is missing: it comes before the first TABLE=FILE"
+# The most signs of a name, and of a line.
+WIDTH = 72
 # The most bytes that are read of a file, and of a query.
 LARGEST = 67_108_864
 LONGEST = 65_536
@@ -61,8 +63,38 @@ def shown(text):
 
 
 def plain(part):
-    """A part of a line with one sign for each place, so that a caret below it is at the right place."""
+    """A part of a line without signs that move a terminal's place otherwise than by their width."""
     return "".join(it if it.isprintable() else " " if it == "\t" else "?" for it in part.decode(errors="replace"))
+
+
+def room():
+    """How many columns a line of a query may take, so that the terminal does not break it above its caret."""
+    here = 0
+    with contextlib.suppress(OSError):
+        here = os.get_terminal_size(1).columns
+    # A terminal may say that it has none.
+    return min(max(here - 8, 32), WIDTH) if here else WIDTH
+
+
+def columns(text):
+    """How many columns of a terminal a text takes."""
+    return sum(0 if unicodedata.combining(it) else 2 if unicodedata.east_asian_width(it) in "WF" else 1 for it in text)
+
+
+def first_of(text, most):
+    """As much of the beginning of a text as has room in so many columns."""
+    text = text[:most]
+    while columns(text) > most:
+        text = text[:-1]
+    return text
+
+
+def last_of(text, most):
+    """As much of the end of a text as has room in so many columns."""
+    text = text[-most:]
+    while columns(text) > most:
+        text = text[1:]
+    return text
 
 
 def listed(names):
@@ -218,13 +250,14 @@ class Query:
         start = self.text.rfind(b"\n", 0, at) + 1
         end = (self.text.find(b"\n", at) + 1 or len(self.text) + 1) - 1
         before, after = plain(self.text[start:at]), plain(self.text[at:end].rstrip(b"\r"))
-        if len(before) > WIDTH - 20:
-            before = "... " + before[-(WIDTH - 24) :]
-        room = WIDTH - len(before)
-        after = after if len(after) <= room else after[: room - 4] + " ..."
+        width = room()
+        if columns(before) > width - 20:
+            before = "... " + last_of(before, width - 24)
+        left = width - columns(before)
+        after = after if columns(after) <= left else first_of(after, left - 4) + " ..."
         number = self.text.count(b"\n", 0, at) + 1
         what = " (the end of the query)" if is_end else ""
-        return [f"line {number} of {shown(self.file)}{what}:", f"    {before}{after}", f"    {' ' * len(before)}^"]
+        return [f"line {number} of {shown(self.file)}{what}:", f"    {before}{after}", f"    {' ' * columns(before)}^"]
 
 
 def item_named(query, number):
