@@ -634,10 +634,10 @@ def test_progress(house):
             if f"anyk: {number} of 3 crates proved" in said:
                 house.go(crate)
 
-    def progress():
+    def progress(**how):
         for crate in ("low", "middle", "anyk_cli"):
             house.hold(crate)
-        return house.on_terminal("x", watch=watch)
+        return house.on_terminal("x", watch=watch, **how)
 
     status, output, error = progress()
     same((status, output), (0, ran(1, house.top, ["x"])))
@@ -648,6 +648,11 @@ def test_progress(house):
     house.version(2)
     said = progress()[2]
     check(re.search("0 of 3 .*about 3[01] min left.*1 of 3 .*about 4 min left", said), said)
+    # What is written again and again has room in one line.
+    house.version(3)
+    status, output, said = progress(columns=30)
+    same((status, output), (0, ran(3, house.top, ["x"])))
+    has(said, "\ranyk: 2 of 3 crates proved, u\r")
 
 
 def module(name):

@@ -235,6 +235,9 @@ class Progress:
             text += ", and now the program"
         elif left is not None:
             text += f", {'about ' if left >= 60 else ''}{minutes(left)} left"
+        with contextlib.suppress(OSError):
+            # A line that is broken could not be written over. A terminal may say that it has no columns.
+            text = text[: (os.get_terminal_size(2).columns or 1000) - 1]
         print("\r" + text.ljust(self.width), end="", file=sys.stderr, flush=True)
         self.width = len(text)
 
