@@ -696,8 +696,9 @@ def test_help(house):
         same(house.on_terminal(*words), (0, output, ""))
     same(house.call(), (2, "", "anyk: usage\n"))
     same(house.on_terminal(), (2, "", "anyk: usage\n" + read(f"{TOP}/tools/help/anyk.txt")))
-    for words in (["install"], ["install", ""], ["install", "a", "b"]):
+    for words in (["install"], ["install", ""], ["install", "a", "b"], ["install", "--help"], ["install", "-h"]):
         same(house.call(*words), (2, "", "anyk: usage\n"))
+        same(house.on_terminal(*words), (2, "", "anyk: usage\n" + read(f"{TOP}/tools/help/install.txt")))
     same(house.calls(), [])
     # Other words are the program's.
     house.built()
