@@ -110,6 +110,7 @@ if [ -n "${REPORT-}" ]; then
 fi
 [ "$1" != input ] || cat
 [ "$1" != signal ] || kill -TERM $$
+[ "$1" != untold ] || exit 16
 [ "$1" != wait ] || { echo waiting; sleep 30; }
 echo "VERSION in $(pwd) with ${GLIBC_TUNABLES-nothing}"
 printf '<%s>' "$@"
@@ -908,6 +909,27 @@ def test_hints_of_the_program(house):
     os.utime(house.program, (now, now))
     for it in REFUSALS:
         hinted(house, *it)
+    same(house.on_terminal("run", "\udcff.sql", "t=a"), (16, "", "anyk: the argument \\xff.sql is not text (UTF-8)\n"))
+
+
+def test_hint_of_no_text(house):
+    house.built()
+    line = "anyk: the argument {} is not text (UTF-8)\n"
+    same(house.on_terminal("untold", "\udcff.sql", "å", "t=\x1b[\udcc3"), (16, "", line.format("\\xff.sql") + line.format("t=\\x1b[\\xc3")))
+    same(house.call("untold", "\udcff.sql"), (16, "", ""))
+
+
+def test_hints_in_another_locale(house):
+    house.built()
+    made = f"{house.room}/locales/en_US.ISO-8859-1"
+    os.mkdir(f"{house.room}/locales")
+    if not shutil.which("localedef") or subprocess.run(["localedef", "-i", "en_US", "-f", "ISO-8859-1", made], capture_output=True).returncode:
+        raise Skipped("no locale can be made here")
+    write(f"{house.room}/files/q.sql", 'select å from "bo"')
+    for locale in ("en_US.ISO-8859-1", "C", "C.UTF-8"):
+        more = {"SAYS": "byte 15: unknown table", "STATUS": "4", "LOCPATH": f"{house.room}/locales", "LC_ALL": locale}
+        said = house.on_terminal("run", "q.sql", "bø=t.csv", cwd=f"{house.room}/files", more=more)[2]
+        has(said, at('select å from "bo"', 14), "the table bø")
 
 
 def test_hints_on_a_narrow_terminal(house):

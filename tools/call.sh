@@ -71,8 +71,9 @@ run_program() {
     status=$?
     exec {output}>&-
     [ -z "$line" ] || printf '%s\n' "$line" >&2
-    if [ "$status" -ge 2 ] && [ "$status" -le 12 ] || [ "$status" -eq 14 ] || [ "$status" -eq 15 ]; then
-        python3 -ISB "$tools/hints.py" "$status" "$line" "$@" >&2 2> /dev/null
+    if [ "$status" -ge 2 ] && [ "$status" -le 12 ] || [ "$status" -ge 14 ] && [ "$status" -le 16 ]; then
+        # Names are taken as the program takes them, whatever the locale is.
+        python3 -X utf8 -ISB "$tools/hints.py" "$status" "$line" "$@" >&2 2> /dev/null
     fi
     exit "$status"
 }

@@ -4,7 +4,7 @@
 usage: tools/hints.py STATUS LINE ARGUMENT ..
 
 STATUS and LINE are what the program ended with and wrote, and the rest are the arguments of its call. A hint comes after the
-program's line, and repeats nothing of it. The sentences are those of the tables in 'Refusals' of docs/USING.md, and are only there.
+program's line, and repeats nothing of it. With status 16 the program writes none, and here is one for each argument that it means. The sentences are those of the tables in 'Refusals' of docs/USING.md, and are only there.
 What cannot be found, for example since a file has changed, is left out.
 """
 import contextlib
@@ -57,7 +57,8 @@ SHOWN = 16
 
 
 def shown(text):
-    """A text as a terminal may show it: no sign that moves or colours, and not too long."""
+    """A text as a terminal may show it: no sign that moves or colours, and not too long. What is no text is shown by its bytes."""
+    text = text.encode(errors="surrogateescape").decode(errors="backslashreplace")
     text = "".join(it if it.isprintable() else repr(it)[1:-1] for it in text)
     return text if len(text) <= WIDTH else text[: WIDTH - 4] + " ..."
 
@@ -662,6 +663,11 @@ def sentence(text):
 
 def main(status, line, *words):
     sys.stdout.reconfigure(errors="backslashreplace")
+    if status == "16":
+        for it in words:
+            if re.search("[\udc80-\udcff]", it):
+                print(f"anyk: the argument {shown(it)} is not text (UTF-8)")
+        return
     said = line.removeprefix("anyk: ")
     page = next((it for it in PAGES if os.path.isfile(it)), None)
     if not line.startswith("anyk: ") or not page:
