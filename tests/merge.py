@@ -9,6 +9,7 @@ import importlib.util
 import io
 import os
 import random
+import signal
 import subprocess
 import sys
 import tempfile
@@ -29,6 +30,8 @@ CALLS = [
     ([], ["a\nx\n"], 1, "", "merge: there is no column rank1: call anyk with --ranks\n"),
     ([], ["a,rank1\nx,1\n", ""], 1, "", "merge: 1.csv: there is no header\n"),
     ([], ["a,rank1\nx,one\n"], 1, None, "merge: 0.csv: row 1 has no ranks\n"),
+    ([], ["a,rank1\nx,1\n", 'a,rank1\n"x,2\n'], 1, None, "merge: 1.csv: a quote is never closed\n"),
+    (["--", "none.csv"], ["a,rank1\n"], 1, "", "merge: none.csv: No such file or directory\n"),
 ]
 
 
@@ -66,14 +69,32 @@ def of_calls():
             for name, content in zip(names, contents):
                 with open(f"{room}/{name}", "wb") as file:
                     file.write(content.encode())
-            ran = subprocess.run([sys.executable, TOOL, *words, "--", *names], cwd=room, stdin=subprocess.DEVNULL, capture_output=True, timeout=60)
+            ran = subprocess.run([sys.executable, TOOL, *words, *([] if "--" in words else ["--"]), *names], cwd=room, stdin=subprocess.DEVNULL, capture_output=True, timeout=60)
             output = ran.stdout.decode() if wanted[1] is not None else None
             yield f"call {words} over {contents}", wanted, [ran.returncode, output, ran.stderr.decode()]
 
 
+def of_streams():
+    """Outputs that are closed or full, and an interrupt."""
+    with tempfile.TemporaryDirectory(prefix="anyk-merge-") as room:
+        with open(f"{room}/0.csv", "wb") as file:
+            file.write(b"a,rank1\nx,1\n")
+        for to, *wanted in ((">&-", 1, "", "merge: the output is closed\n"), ("> /dev/full", 1, "", "merge: the output: No space left on device\n"),
+                            ("2>&-", 0, "a,rank1\nx,1\n", "")):
+            ran = subprocess.run(["sh", "-c", f'exec "$@" {to}', "sh", sys.executable, TOOL, "0.csv"], cwd=room, capture_output=True, text=True, timeout=60)
+            yield f"call with {to}", wanted, [ran.returncode, ran.stdout, ran.stderr]
+        ran = subprocess.run(["sh", "-c", 'exec "$@" 2>&-', "sh", sys.executable, TOOL, "none.csv"], cwd=room, capture_output=True, text=True, timeout=60)
+        yield "refusal with 2>&-", [1, ""], [ran.returncode, ran.stdout]
+        begun = subprocess.Popen([sys.executable, TOOL, "/dev/stdin", "0.csv"], cwd=room, stdin=subprocess.PIPE, stdout=subprocess.PIPE, stderr=subprocess.PIPE)
+        # A line that is longer than a pipe is taken once the tool reads.
+        begun.stdin.write(b"w" * 1_000_000)
+        begun.send_signal(signal.SIGINT)
+        yield "an interrupt", [(b"", b""), -signal.SIGINT], [begun.communicate(timeout=60), begun.returncode]
+
+
 def main():
     failed = count = 0
-    for what, wanted, got in [*of_answers(tool()), *of_calls()]:
+    for what, wanted, got in [*of_answers(tool()), *of_calls(), *of_streams()]:
         count += 1
         if wanted != got:
             failed += 1

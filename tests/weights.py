@@ -9,6 +9,7 @@ import decimal
 import importlib.util
 import os
 import random
+import signal
 import subprocess
 import sys
 import tempfile
@@ -119,10 +120,26 @@ def of_calls():
         yield "a file that is missing", (1, b"", b"weights: none.csv: No such file or directory\n"), (ran.returncode, ran.stdout, ran.stderr)
 
 
+def of_streams():
+    """Outputs that are closed or full, and an interrupt."""
+    with tempfile.TemporaryDirectory(prefix="anyk-weights-") as room:
+        with open(f"{room}/t.csv", "wb") as file:
+            file.write(b"w\n1\n")
+        for to, *wanted in ((">&-", 1, "", "weights: the output is closed\n"), ("> /dev/full", 1, "", "weights: the output: No space left on device\n"),
+                            ("2>&-", 0, "w\n1\n", "")):
+            ran = subprocess.run(["sh", "-c", f'exec "$@" {to}', "sh", sys.executable, TOOL, "t.csv", "w"], cwd=room, capture_output=True, text=True, timeout=60)
+            yield f"call with {to}", wanted, [ran.returncode, ran.stdout, ran.stderr]
+        begun = subprocess.Popen([sys.executable, TOOL, "/dev/stdin", "w"], cwd=room, stdin=subprocess.PIPE, stdout=subprocess.PIPE, stderr=subprocess.PIPE)
+        # A line that is longer than a pipe is taken once the tool reads.
+        begun.stdin.write(b"w" * 1_000_000)
+        begun.send_signal(signal.SIGINT)
+        yield "an interrupt", [(b"", b""), -signal.SIGINT], [begun.communicate(timeout=60), begun.returncode]
+
+
 def main():
     weights = tool()
     failed = count = 0
-    for what, wanted, got in [*of_fields(weights), *of_decimals(weights), *of_calls()]:
+    for what, wanted, got in [*of_fields(weights), *of_decimals(weights), *of_calls(), *of_streams()]:
         count += 1
         if wanted != got:
             failed += 1

@@ -12,7 +12,9 @@ import argparse
 import csv
 import heapq
 import itertools
+import os
 import re
+import signal
 import sys
 
 
@@ -55,10 +57,19 @@ def ranked(name, records, places, descending):
         yield sums, fields
 
 
+def records_of(name, file):
+    """The records of a file."""
+    try:
+        yield from csv.reader(lines_of(file), strict=True)
+    except csv.Error as error:
+        is_open = "unexpected end" in str(error)
+        raise Fault(f"{name}: " + ("a quote is never closed" if is_open else str(error))) from None
+
+
 def merged(names, files, descending):
     """The header, and the records of all files, best first."""
     csv.field_size_limit(2**31 - 1)
-    readers = [csv.reader(lines_of(it), strict=True) for it in files]
+    readers = [records_of(*it) for it in zip(names, files)]
     headers = [next(it, None) for it in readers]
     for name, header in zip(names, headers):
         if header is None or header != headers[0]:
@@ -75,22 +86,31 @@ def natural(text):
 
 
 def main():
+    if sys.stderr is None:
+        # Else what is said would go to the output.
+        sys.stderr = open(os.devnull, "w", encoding="utf-8")
     parser = argparse.ArgumentParser(prog="tools/merge.py", description="Merges the outputs of ./anyk run --ranks for parts of a table.")
     parser.add_argument("files", metavar="FILE", nargs="+", help="an output of ./anyk run --ranks")
     parser.add_argument("--limit", metavar="N", type=natural, help="write the first N answers")
     parser.add_argument("--descending", metavar="K", type=natural, action="append", default=[], help="order key K descends")
     given = parser.parse_args()
     try:
+        if sys.stdout is None:
+            raise Fault("the output is closed")
         files = [open(it, "rb") for it in given.files]
         header, records = merged(given.files, files, set(given.descending))
         for fields in itertools.chain([header], itertools.islice(records, given.limit)):
             sys.stdout.buffer.write(record_of(fields).encode("latin-1"))
         sys.stdout.buffer.flush()
-    except (Fault, csv.Error, OSError) as error:
-        print(f"merge: {error}", file=sys.stderr)
+    except Fault as fault:
+        print(f"merge: {fault}", file=sys.stderr)
+        return 1
+    except OSError as error:
+        print(f"merge: {error.filename or 'the output'}: {error.strerror}", file=sys.stderr)
         return 1
     return 0
 
 
 if __name__ == "__main__":
+    signal.signal(signal.SIGINT, signal.SIG_DFL)
     sys.exit(main())

@@ -20,6 +20,7 @@ import argparse
 import csv
 import os
 import re
+import signal
 import sys
 
 ORDER_MARK = b"\xef\xbb\xbf"
@@ -206,6 +207,9 @@ def arguments():
 
 
 def main():
+    if sys.stderr is None:
+        # Else what is said would go to the output.
+        sys.stderr = open(os.devnull, "w", encoding="utf-8")
     given = arguments()
     table = Table(given)
     try:
@@ -213,6 +217,9 @@ def main():
         table.take(content)
     except Fault as fault:
         print(f"weights: {fault}", file=sys.stderr)
+        return 1
+    if sys.stdout is None:
+        print("weights: the output is closed", file=sys.stderr)
         return 1
     try:
         sys.stdout.buffer.write(mark + "".join(table.written).encode("latin-1"))
@@ -227,4 +234,5 @@ def main():
 
 
 if __name__ == "__main__":
+    signal.signal(signal.SIGINT, signal.SIG_DFL)
     sys.exit(main())
