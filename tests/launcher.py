@@ -1165,6 +1165,11 @@ def test_completion(house):
         complete_at anyk pic
         complete_at anyk verify --p
         complete_at anyk verify --proof first
+        complete_at anyk run --engine =
+        complete_at anyk run --best-of =
+        complete_at anyk run --best-of = a
+        complete_at anyk load --rows ''
+        complete_at anyk run --rows fi
     """
     ran_by = subprocess.run(["bash", "-c", script], capture_output=True, text=True)
     lines = ran_by.stdout.splitlines()
@@ -1172,7 +1177,7 @@ def test_completion(house):
     check("stay.sql" in lines[7] and "trains.csv" in lines[7], lines[7])
     same(lines[:7] + lines[8:], ["run", "--engine --ranks --rows --best-of", "--script", "part rec", "rec", "stay.sql", "trains.csv",
                                  "--engine --number --rows", "plan picture prove", "", "--dot", "stay.sql", "trains.csv",
-                                 "picture", "--proof", "first_two.sql"])
+                                 "picture", "--proof", "first_two.sql", "part rec", "", "", "", "first_two.sql"])
     for shell, file in (("zsh", "_anyk"), ("fish", "anyk.fish"), ("bash", "anyk.bash")):
         if shutil.which(shell):
             tried_by = subprocess.run([shell, "-n", f"{TOP}/tools/completions/{file}"], **house.how(capture_output=True))

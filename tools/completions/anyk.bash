@@ -9,8 +9,9 @@ _anyk() {
         return
     fi
     # A word with = in it comes in up to three parts.
+    local option=${COMP_WORDS[COMP_CWORD - 2]-}
     if [ "$word" = '=' ]; then
-        before='=' word=
+        option=$before before='=' word=
     fi
     case $before in
         --engine)
@@ -18,14 +19,15 @@ _anyk() {
             return
             ;;
         --script | --proof | '=')
-            case ${COMP_WORDS[COMP_CWORD - 2]-} in
+            case $option in
                 --engine) mapfile -t COMPREPLY < <(compgen -W 'part rec' -- "$word") ;;
-                --best-of) ;;
+                --best-of | --number | --rows) ;;
                 *) mapfile -t COMPREPLY < <(compgen -f -- "$word") ;;
             esac
             return
             ;;
         --best-of | --number) return ;;
+        --rows) [ "$command" != load ] || return ;;
     esac
     case $command in
         run) options='--engine --ranks --rows --best-of' ;;
