@@ -695,6 +695,10 @@ def test_help(house):
         check(output.startswith(f"usage: anyk {page if len(words) > 1 else 'run'}"), output)
         check(all(len(it) <= 80 for it in output.splitlines() if not re.match("(usage:|      ) anyk ", it)), words)
         same(house.on_terminal(*words), (0, output, ""))
+    # The user's page names them all.
+    named = read(f"{TOP}/docs/USING.md").partition("\n**Help.**")[2].partition("\n\n")[0]
+    for page in os.listdir(f"{TOP}/tools/help"):
+        check(page == "anyk.txt" or f"`{page[:-4]}`" in named, page)
     same(house.call(), (2, "", "anyk: usage\n"))
     same(house.on_terminal(), (2, "", "anyk: usage\n" + read(f"{TOP}/tools/help/anyk.txt")))
     for words in (["install"], ["install", ""], ["install", "a", "b"], ["install", "--help"], ["install", "-h"]):
