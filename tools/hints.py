@@ -304,6 +304,8 @@ def meant(query, place):
         return ["there is no * for one item: name its columns"]
     if b"--" in query.text[max(at - 1, 0) : at + 2]:
         return ["there is no comment"]
+    if token == "union" and query.words[place - 2 : place - 1] == [b"limit"]:
+        return ["LIMIT is that of all branches: it comes once, at the end"]
     if before == b"union":
         return ["there is no UNION without ALL"]
     if hidden in HIDDEN:
@@ -318,6 +320,8 @@ def meant(query, place):
 
 def on_syntax(call, query, at):
     place, lines = query.place_of(at), query.caret(at)
+    if place is not None and query.words[place] == b"union" and call.command != "run":
+        return [*lines, f"{call.command} takes one query: put each branch into a file of its own"]
     return lines + (meant(query, place) if place is not None else [])
 
 
