@@ -1188,6 +1188,14 @@ def test_completion(house):
         if shutil.which(shell):
             tried_by = subprocess.run([shell, "-n", f"{TOP}/tools/completions/{file}"], **house.how(capture_output=True))
             same((shell, tried_by.stderr), (shell, b""))
+    # In zsh what an option takes may come after a = too.
+    options = re.findall(r"'--([a-z-]+)(=?)\[", read(f"{TOP}/tools/completions/_anyk"))
+    same({it for it, sign in options if sign}, {"engine", "best-of", "script", "proof", "number", "rows"})
+    if shutil.which("fish"):
+        for line, wanted in (("anyk load ", ""), ("anyk load --n", "--number"), ("anyk install us", "using/"), ("anyk plan us", "using/ USING.md"), ("anyk run --engine=r", "--engine=rec")):
+            shown = subprocess.run(["fish", "-c", f"source '{TOP}/tools/completions/anyk.fish'; complete -C '{line}'"],
+                                   **house.how(capture_output=True, text=True, cwd=f"{TOP}/docs"))
+            same((line, sorted(it.partition("\t")[0] for it in shown.stdout.splitlines())), (line, sorted(wanted.split())))
 
 
 def test_scripts_are_clean(house):

@@ -18,3 +18,5 @@ complete -c anyk -n '__fish_seen_subcommand_from picture' -l dot -d 'Write it in
 complete -c anyk -n '__fish_seen_subcommand_from load' -f -l number -x -d 'What the tables are made from'
 complete -c anyk -n '__fish_seen_subcommand_from load' -f -l rows -x -d 'Rows of each table'
 complete -c anyk -n '__fish_seen_subcommand_from help' -f -a 'run session plan picture prove verify load install'
+complete -c anyk -n '__fish_seen_subcommand_from load' -f
+complete -c anyk -n '__fish_seen_subcommand_from install' -f -a '(__fish_complete_directories)'
