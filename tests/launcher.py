@@ -8,7 +8,9 @@ tools/ and man/ of this one, a few crates, and on the PATH a script `rt` that wr
 machines allow, as a file system that is mounted noexec, is passed over elsewhere. Where the real program is built, or the variable
 ANYK names it, the hints are also tried with it.
 """
+import ast
 import fcntl
+import glob
 import importlib.util
 import os
 import pty
@@ -1048,6 +1050,27 @@ def test_picture(house):
     if shutil.which("dot"):
         drawn = subprocess.run(["dot", "-Tplain"], input=DOT, capture_output=True, text=True)
         same((drawn.returncode, drawn.stderr, drawn.stdout.count("\nnode "), drawn.stdout.count("\nedge ")), (0, "", 6, 5))
+
+
+def test_older_python(house):
+    for it in glob.glob(f"{TOP}/tools/*.py"):
+        ast.parse(read(it), feature_version=(3, 7))
+        check(not re.search(r"\.remove(pre|suf)fix\(", read(it)), it)
+    older = [it for it in (shutil.which(f"python3.{minor}") for minor in range(7, 11)) if it and not subprocess.call([it, "-ISc", ""], stderr=subprocess.DEVNULL)]
+    if not older:
+        raise Skipped("there is no older python here")
+    files_in(house)
+    for number, python in enumerate(older):
+        os.makedirs(f"{house.room}/older/{number}")
+        os.symlink(python, f"{house.room}/older/{number}/python3")
+        more = {"PATH": f"{house.room}/older/{number}:{house.env['PATH']}"}
+        house.version(number)
+        same((python, house.call("x", more=more)[:2]), (python, (0, ran(number, house.top, ["x"]))))
+        said = house.on_terminal("run", *WORDS[:2], cwd=f"{house.room}/files", more={**more, "SAYS": "byte 42: unknown table", "STATUS": "4"})[2]
+        has(said, "the arguments name the table trains")
+        said = house.on_terminal("session", "--script", "s3.txt", *WORDS, cwd=f"{house.room}/files", more={**more, "SAYS": "script line 3: cursor exists", "STATUS": "3"})[2]
+        has(said, "a was opened in line 2")
+        same((python, pictured(house, REPORT, "airports.sql", more={**more, "REPORT": f"{house.room}/report"})), (python, (0, TREE, "")))
 
 
 def test_picture_refused(house):

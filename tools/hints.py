@@ -473,7 +473,7 @@ def on_many_columns(call, query, name):
 def line_of(file, number):
     """The lines of the script or of the certificate up to the number, and what shows the last of them."""
     rows = (bytes_of(file) or b"").decode(errors="surrogateescape").split("\n")
-    rows = [it.removesuffix("\r") for it in rows[:number]]
+    rows = [it[:-1] if it.endswith("\r") else it for it in rows[:number]]
     return rows, [f"line {number} of {shown(file)}:", f"    {shown(rows[number - 1])}"]
 
 
@@ -672,7 +672,7 @@ def main(status, line, *words):
             if re.search("[\udc80-\udcff]", it):
                 print(f"anyk: the argument {shown(it)} is not text (UTF-8)")
         return
-    said = line.removeprefix("anyk: ")
+    said = line[len("anyk: ") :]
     page = next((it for it in PAGES if os.path.isfile(it)), None)
     if not line.startswith("anyk: ") or not page:
         return

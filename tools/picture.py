@@ -38,13 +38,15 @@ class Node:
 def nodes_of(report):
     """The nodes of a report, the root first, each after the one that it is below."""
     nodes, at = [], 0
-    while found := NODE.match(report, at):
+    found = NODE.match(report)
+    while found:
         number, parent, at = int(found[1]), int(found[2]), found.end()
         if number != len(nodes) + 1 or parent > len(nodes) or (parent == 0) != (number == 1):
             raise Fault("the report of plan has another form than picture can read", 1)
         nodes.append(Node(found[4], found[3]))
         if parent:
             nodes[parent - 1].below.append(nodes[-1])
+        found = NODE.match(report, at)
     if not nodes or not TOTAL.fullmatch(report, at):
         raise Fault("the report of plan has another form than picture can read", 1)
     return nodes
