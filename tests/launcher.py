@@ -834,7 +834,7 @@ REFUSALS = [
     (["run", "limit.sql", "big=big.csv"], 8, "limit at byte 24 out of range", [at("select n from big limit 99999999999999999999", 24)]),
     (["run", "stay.sql", "trains=tt.csv", "hotels=h.csv"], 9, "file tt.csv: not found", ["perhaps t.csv is meant"]),
     (["run", "trains=t.csv", "hotels=h.csv"], 9, "file trains=t.csv: not found", ["QUERYFILE is missing"]),
-    (["run", "stay.sql", "trains=~/t.csv", "hotels=h.csv"], 9, "file ~/t.csv: not found", ["write $HOME"]),
+    (["run", "stay.sql", "trains=~/t.csv", "hotels=h.csv"], 9, "file ~/t.csv: not found", ["the shell left ~ as it is there: write $HOME"]),
     (["run", "none/q.sql", "trains=t.csv"], 9, "file none/q.sql: not found", ["no folder none"]),
     (["run", "stay.sql", "trains=.", "hotels=h.csv"], 10, "file .: read failed", ["it is a folder"]),
     (["run", "stay.sql", "trains=t.csv/x", "hotels=h.csv"], 10, "file t.csv/x: read failed", ["the system says: Not a directory\n"]),

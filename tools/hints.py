@@ -524,7 +524,7 @@ def on_not_found(call, query, name):
     if name == call.query and "=" in name:
         return [MISPLACED]
     if name.startswith("~"):
-        return ["a shell expands ~ only at the start of an argument: write $HOME in its place"]
+        return ["the shell left ~ as it is there: write $HOME in its place"]
     folder, last = os.path.split(name)
     try:
         found = nearest(last, os.listdir(folder or "."))
