@@ -1142,6 +1142,8 @@ def test_install(house):
     said = house.on_terminal("run", "circle.sql", by=by, cwd=cwd, more={"SAYS": "cyclic query: items 1 2 3", "STATUS": "6"})[2]
     has(said, "item 2 is b (table trains)", f"{to}/share/doc/anyk/USING.md")
     same(pictured(house, REPORT, "airports.sql", by=by, cwd=cwd), (0, TREE, ""))
+    os.remove(f"{to}/libexec/anyk/anyk_cli")
+    same(house.call("x", by=by, cwd=cwd), (1, "", f"anyk: {to}/bin/../libexec/anyk/anyk_cli, which is the program, is not there: install it again\n"))
 
 
 def test_install_fails(house):

@@ -34,6 +34,10 @@ call() {
     # The C library takes its large blocks in huge pages if the machine gives them, which saves page faults and time for reads at
     # random. Another value of the variable stays, also an empty one.
     export GLIBC_TUNABLES=${GLIBC_TUNABLES-glibc.malloc.hugetlb=1}
+    if [ ! -e "$1" ]; then
+        echo "anyk: $1, which is the program, is not there: install it again" >&2
+        exit 1
+    fi
     if [ ! -x "$1" ]; then
         printf 'anyk: %s is built, but it may not be run: %s\n' "$1" \
             "its file system is mounted noexec, or its permissions forbid it" >&2
