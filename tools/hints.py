@@ -23,6 +23,8 @@ COMMANDS = ("run", "session", "plan", "picture", "prove", "verify", "load")
 OPTIONS = {"run": ("--engine", "--ranks", "--rows", "--best-of"), "session": ("--engine", "--ranks", "--rows", "--best-of", "--script"),
            "plan": (), "picture": ("--dot",), "prove": ("--engine",), "verify": ("--ranks", "--rows", "--proof"),
            "load": ("--engine", "--number", "--rows")}
+# The numbers that `load` takes.
+RANGES = {"--number": (0, 2147483647), "--rows": (1, 100000)}
 KEYWORDS = {b"select", b"from", b"where", b"and", b"order", b"by", b"limit", b"asc", b"desc", b"as", b"join", b"inner", b"on",
             b"union", b"all"}
 # What other dialects have and this one has not, by the token where it shows.
@@ -558,6 +560,11 @@ def on_usage(call, query):
     return lines
 
 
+def is_within(value, least, most):
+    """Whether an argument is a whole number in this range, as `load` reads it."""
+    return bool(re.fullmatch("0|[1-9][0-9]{0,9}", value or "")) and least <= int(value) <= most
+
+
 def wrong_words(call):
     """What is wrong with the arguments, as far as that is plain."""
     if call.command in ("help", "--help", "-h"):
@@ -577,6 +584,10 @@ def wrong_words(call):
             lines.append("--engine takes part or rec")
         elif name == "--best-of" and value is None:
             lines.append("--best-of takes the alias of an item")
+        elif value is not None and (name in ("--ranks", "--dot") or name == "--rows" and call.command != "load"):
+            lines.append(f"{name} takes no value")
+        elif call.command == "load" and name in RANGES and not is_within(value, *RANGES[name]):
+            lines.append(f"{name} takes a whole number from {RANGES[name][0]} to {RANGES[name][1]}")
         seen.add(name)
     wanted = {"session": ("--script",), "verify": ("--proof",), "load": ("--number", "--rows")}.get(call.command, ())
     lines += [f"{it} is missing" for it in wanted if it not in seen]
