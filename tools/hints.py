@@ -4,8 +4,9 @@
 usage: tools/hints.py STATUS LINE ARGUMENT ..
 
 STATUS and LINE are what the program ended with and wrote, and the rest are the arguments of its call. A hint comes after the
-program's line, and repeats nothing of it. With status 16 the program writes none, and here is one for each argument that it means. The sentences are those of the tables in 'Refusals' of docs/USING.md, and are only there.
-What cannot be found, for example since a file has changed, is left out.
+program's line, and repeats nothing of it. With status 16 the program writes none, and here is one for each argument that it means.
+The sentences are those of the tables in 'Refusals' of docs/USING.md, and are only there. What cannot
+be found, for example since a file has changed, is left out.
 """
 import contextlib
 import csv
@@ -345,10 +346,10 @@ def on_alias_twice(call, query, number):
     return [*query.caret(at), f"item {first} has the alias {shown(alias)} too"]
 
 
-def items_like(items, name):
+def items_like(query, items, name):
     """The aliases of the items, and which of them a name that is none may mean."""
     tables = [alias for _, table, alias in items if table == name]
-    joins = [alias for _, table, alias in items if alias != table and alias.lower() in JOINS]
+    joins = [alias for _, _, alias in items if alias.lower() in JOINS and (alias.encode(), b"join") in zip(query.words, query.words[1:])]
     if joins:
         return [f"there is no {joins[0].upper()} JOIN: {joins[0]} is taken for an alias"]
     more = f"; the table {shown(name)} is called {listed(tables)} there" if tables else perhaps(name, [it for _, _, it in items])
@@ -356,11 +357,11 @@ def items_like(items, name):
 
 
 def on_unknown_alias(call, query, at):
-    return query.caret(at) + items_like(query.items(at), query.name_at(query.place_of(at)))
+    return query.caret(at) + items_like(query, query.items(at), query.name_at(query.place_of(at)))
 
 
 def on_unknown_best(call, query):
-    return items_like(query.items(), dict(call.options).get("--best-of")) if query.is_one else []
+    return items_like(query, query.items(), dict(call.options).get("--best-of")) if query.is_one else []
 
 
 def on_unknown_column(call, query, at):
