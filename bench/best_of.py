@@ -10,7 +10,6 @@ what `./anyk` has built on its first use, or what ANYK names.
 """
 import re
 import subprocess
-import sys
 import tempfile
 
 import preparing
@@ -27,7 +26,8 @@ def instructions(folder, options, answers):
 
 
 def main():
-    rows, answers = [int(it) for it in sys.argv[1:] + ["1000000", "1000"][len(sys.argv) - 1:]]
+    rows, answers = preparing.arguments(__doc__, 1000000, 1000, least=1)
+    preparing.program_at(preparing.PROGRAM)
     print("| order | rows | answers | run | --best-of R | ratio |\n|---|---|---|---|---|---|")
     for order in preparing.KEYS:
         with tempfile.TemporaryDirectory() as folder:

@@ -18,12 +18,7 @@ import tempfile
 
 import preparing
 
-
-def given(place, default):
-    return int(sys.argv[place]) if len(sys.argv) > place else default
-
-
-ROWS, PATH_ROWS, ANSWERS = given(1, 1000000), given(2, 10000), given(3, 100000)
+ROWS, PATH_ROWS, ANSWERS = preparing.arguments(__doc__, 1000000, 10000, 100000, least=1)
 # (bench/ranking.py reads its own argument when it is loaded)
 sys.argv[1:] = [str(PATH_ROWS)]
 import ranking
@@ -101,6 +96,7 @@ def several(name, shape):
 
 
 def main():
+    preparing.program_at(preparing.PROGRAM)
     columns = ("query", "rows", "answers", "run", "prove", "verify", "prove / run", "verify / run", "run MB", "prove MB", "verify MB")
     print("| %s |\n|%s" % (" | ".join(columns), "---|" * len(columns)))
     for order in preparing.KEYS:

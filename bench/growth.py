@@ -20,9 +20,10 @@ import sys
 import tempfile
 
 TOP = os.path.dirname(os.path.dirname(os.path.abspath(__file__)))
-PROGRAM = os.environ.get("ANYK", os.path.join(TOP, "crates/anyk_cli/out/anyk_cli"))
-MOST = int(sys.argv[1]) if len(sys.argv) > 1 else 10000000
-ROWS = int(sys.argv[2]) if len(sys.argv) > 2 else 20000
+sys.path.append(os.path.join(TOP, "tests"))
+from arguments import MEASURED as PROGRAM, arguments, program_at
+
+MOST, ROWS = arguments(__doc__, 10000000, 20000, least=10)
 TABLES = [("P1", "ab"), ("P2", "bc"), ("P3", "cd"), ("P4", "de")]
 QUERY = ("select P1.w, P2.w, P3.w, P4.w from P1, P2, P3, P4 where P1.b = P2.b and P2.c = P3.c and P3.d = P4.d "
          "order by P1.w + P2.w + P3.w + P4.w limit %d\n")
@@ -69,6 +70,7 @@ def run(folder, engine, limit):
 
 
 def main():
+    program_at(PROGRAM)
     os.environ.setdefault("GLIBC_TUNABLES", "glibc.malloc.hugetlb=1")
     names = ("answers", "part, ns", "rec, ns", "part, bytes", "rec, bytes")
     print("| %s |\n|%s" % (" | ".join(names), "---|" * len(names)))

@@ -22,7 +22,9 @@ import sys
 import tempfile
 
 TOP = os.path.dirname(os.path.dirname(os.path.abspath(__file__)))
-PROGRAM = os.environ.get("ANYK", os.path.join(TOP, "crates/anyk_cli/out/anyk_cli"))
+sys.path.append(os.path.join(TOP, "tests"))
+from arguments import MEASURED as PROGRAM, arguments, program_at
+
 ANSWERS = 200000
 CURSORS = 64
 PATH = ["P%d=P%d.csv" % (it, it) for it in range(1, 5)]
@@ -93,7 +95,8 @@ def of_answers(folder, engine, count):
 
 def main():
     os.environ["GLIBC_TUNABLES"] = ""
-    rows = int(sys.argv[1]) if len(sys.argv) > 1 else 20000
+    [rows] = arguments(__doc__, 20000, least=10)
+    program_at(PROGRAM)
     kinds = [(engine, count) for engine in ("part", "rec") for count in (1, 8)]
     with tempfile.TemporaryDirectory() as small, tempfile.TemporaryDirectory() as large:
         write_tables(small, rows)

@@ -21,6 +21,9 @@ import re
 import sys
 
 HERE = os.path.dirname(os.path.abspath(__file__))
+sys.path.append(os.path.join(os.path.dirname(HERE), "tests"))
+from arguments import arguments
+
 INK, FAINT, GRID = "#222222", "#666666", "#dddddd"
 FONT = "font-family='system-ui, -apple-system, Segoe UI, Helvetica, Arial, sans-serif'"
 # Colours that differ for eyes that see few; each with its own mark and dashes.
@@ -210,6 +213,7 @@ def draw_growth(text):
 
 
 def main():
+    arguments(__doc__)
     with open(f"{HERE}/RESULTS.md", encoding="utf-8") as file:
         text = file.read()
     os.makedirs(f"{HERE}/plots", exist_ok=True)

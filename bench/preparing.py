@@ -33,7 +33,9 @@ import tempfile
 import databases
 
 TOP = os.path.dirname(os.path.dirname(os.path.abspath(__file__)))
-PROGRAM = os.environ.get("ANYK", os.path.join(TOP, "crates/anyk_cli/out/anyk_cli"))
+sys.path.append(os.path.join(TOP, "tests"))
+from arguments import MEASURED as PROGRAM, arguments, program_at
+
 JOIN = "select R.a, S.c from R, S where R.b = S.b order by R.w + S.w limit 1"
 READ = "select R.a, S.c from R, S where R.b = S.b and R.a = '' and S.c = '' order by R.w + S.w limit 1"
 COUNTED = 100000
@@ -135,7 +137,9 @@ def beside(folder, tables, rows, postgres):
 
 def main():
     os.environ.setdefault("GLIBC_TUNABLES", "glibc.malloc.hugetlb=1")
-    sizes = [int(it) for it in sys.argv[1:]] or [10000, 100000, 1000000]
+    sizes = arguments(__doc__, 10000, 100000, 1000000, least=1, takes_more=True)
+    sizes = sizes[:len(sys.argv) - 1] or sizes
+    program_at(PROGRAM)
     names = ("order", "rows", "preparing", "whole", "sqlite3", "sqlite3 with loading", "PostgreSQL", "PostgreSQL with loading", "factor", "instructions a row", "allocations")
     print("| %s |\n|%s" % (" | ".join(names), "---|" * len(names)))
     with databases.Postgres() if databases.is_installed() else contextlib.nullcontext() as postgres:

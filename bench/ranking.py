@@ -30,8 +30,10 @@ import tempfile
 import databases
 
 TOP = os.path.dirname(os.path.dirname(os.path.abspath(__file__)))
-PROGRAM = os.environ.get("ANYK", os.path.join(TOP, "crates/anyk_cli/out/anyk_cli"))
-ROWS = int(sys.argv[1]) if len(sys.argv) > 1 else 10000
+sys.path.append(os.path.join(TOP, "tests"))
+from arguments import MEASURED as PROGRAM, arguments, program_at
+
+[ROWS] = arguments(__doc__, 10000, least=1)
 
 # each table with its columns, and the equalities
 SHAPES = {
@@ -112,6 +114,7 @@ def measure(shape, tables, equalities, postgres):
 
 
 def main():
+    program_at(PROGRAM)
     os.environ.setdefault("GLIBC_TUNABLES", "glibc.malloc.hugetlb=1")
     print("%s rows a table\n" % f"{ROWS:,}")
     names = ("query", "answers asked for", "reading", "`--engine part`", "of it, writing", "`--engine rec`", "sqlite3", "PostgreSQL", "its loading")

@@ -12,7 +12,6 @@ its first use, or what ANYK names.
 """
 import re
 import subprocess
-import sys
 import tempfile
 
 import preparing
@@ -32,7 +31,8 @@ def instructions(folder, query):
 
 
 def main():
-    rows, answers = [int(it) for it in sys.argv[1:] + ["100000", "1000"][len(sys.argv) - 1:]]
+    rows, answers = preparing.arguments(__doc__, 100000, 1000, least=1)
+    preparing.program_at(preparing.PROGRAM)
     print("| order | rows | answers | single | union | ratio |\n|---|---|---|---|---|---|")
     for order in preparing.KEYS:
         with tempfile.TemporaryDirectory() as folder:

@@ -14,6 +14,7 @@ import os
 import random
 import sys
 
+from arguments import arguments, program_at
 from differential import JOIN, R, S, Case, classes_of, cyclic, output_record, removal_of, run, told, weight, with_other_engine
 
 TOP = os.path.dirname(os.path.dirname(os.path.abspath(__file__)))
@@ -459,8 +460,8 @@ def try_example(count, folder):
 
 
 def main():
-    count = Count(os.path.abspath(sys.argv[1] if len(sys.argv) > 1 else "./anyk"))
-    queries = int(sys.argv[2]) if len(sys.argv) > 2 else 150
+    program, queries = arguments(__doc__, "./anyk", 150)
+    count = Count(program_at(program))
     for seed in range(1, queries + 1):
         try_query(count, seed)
     fixed(count)

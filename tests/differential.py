@@ -23,6 +23,8 @@ import subprocess
 import sys
 import tempfile
 
+from arguments import arguments, program_at
+
 KEYWORDS = set("select from where and order by limit asc desc as join inner on union all".split())
 TABLE_NAMES = ["R", "S", "T", "u_2", "Big Table", "order", "Ab"]
 ALIASES = ["a", "b", "c", "x1", "Q", "left side", "from", "_"]
@@ -900,8 +902,8 @@ def failures(program, what, files, words, wanted, shown):
 
 
 def main():
-    program = os.path.abspath(sys.argv[1] if len(sys.argv) > 1 else "./anyk")
-    count = int(sys.argv[2]) if len(sys.argv) > 2 else 300
+    program, count = arguments(__doc__, "./anyk", 300)
+    program = program_at(program)
     failed = answers = cycles = of_unions = uneven = 0
     for seed in range(1, count + 1):
         case = Case(seed)

@@ -21,6 +21,7 @@ import sys
 import tempfile
 
 sys.dont_write_bytecode = True
+from arguments import arguments, program_at
 from using import TOP, commands, folder_of_calls, lines_of, pages
 
 # What no test runs, and why.
@@ -120,6 +121,7 @@ def why_no_plots():
     with tempfile.TemporaryDirectory(prefix="anyk-documents-") as room:
         copied = f"{room}/bench"
         subprocess.run(["cp", "-R", f"{TOP}/bench", copied], check=True)
+        os.symlink(f"{TOP}/tests", f"{room}/tests")  # It reads its arguments by a module that is there.
         plots = os.listdir(f"{copied}/plots")
         for it in plots:
             os.remove(f"{copied}/plots/{it}")
@@ -146,7 +148,7 @@ def faults(room):
 
 
 def main():
-    program = os.path.abspath(sys.argv[1] if len(sys.argv) > 1 else f"{TOP}/anyk")
+    program = program_at(*arguments(__doc__, f"{TOP}/anyk"))
     looked = failed = 0
     with tempfile.TemporaryDirectory(prefix="anyk-documents-") as room:
         folder_of_calls(room, program)

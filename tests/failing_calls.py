@@ -14,6 +14,7 @@ import errno
 import os
 import sys
 
+from arguments import arguments, program_at
 from preloaded import Failing, Skipped, first_inputs, in_turn, other_inputs
 
 MOST = 100000
@@ -85,8 +86,9 @@ def tried(failing, one, kind, how, count, is_right):
 
 
 def main():
+    program = program_at(*arguments(__doc__, "./anyk"))
     try:
-        failing = Failing(sys.argv[1] if len(sys.argv) > 1 else "./anyk")
+        failing = Failing(program)
     except Skipped as why:
         print(f"failing calls: SKIPPED, {why}")
         return 0

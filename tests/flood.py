@@ -21,6 +21,7 @@ import sys
 import tempfile
 import time
 
+from arguments import arguments, program_at
 from preloaded import Skipped, compile_c, in_turn, real_program
 
 DISTINCT = 4096
@@ -108,9 +109,10 @@ def tried(program, room, flood, fields):
 
 
 def main():
+    program = program_at(*arguments(__doc__, "./anyk"))
     room, began = tempfile.mkdtemp(prefix="anyk-flood-"), time.time()
     try:
-        program, search = real_program(sys.argv[1] if len(sys.argv) > 1 else "./anyk"), f"{room}/flood"
+        program, search = real_program(program), f"{room}/flood"
         compile_c("flood.c", search)
         words = [[search, of_hash, keys, str(DISTINCT), str(length), str(SEARCH)] for of_hash, keys, length in FLOODS]
         found = in_turn([lambda it=it: subprocess.run(it, capture_output=True, text=True, check=True).stdout.split() for it in words])

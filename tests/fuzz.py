@@ -27,6 +27,7 @@ try:
 except ImportError:
     sqlite3 = None
 
+from arguments import arguments, program_at
 from differential import KEYWORDS, TEXTS, WEIGHT_NAMES, COLUMN_NAMES, Case, DrawnUnion, Union, output_record, run, told, weight, with_other_engine
 
 STATUSES = (0, 3, 4, 5, 6, 7, 8, 15)
@@ -485,9 +486,8 @@ def tried_for(seconds, one, program, first):
 
 
 def main():
-    program = os.path.abspath(sys.argv[1] if len(sys.argv) > 1 else "./anyk")
-    seconds = float(sys.argv[2]) if len(sys.argv) > 2 else 60
-    first = int(sys.argv[3]) if len(sys.argv) > 3 else 1
+    program, seconds, first = arguments(__doc__, "./anyk", 60.0, 1)
+    program = program_at(program)
     parts = [("changed inputs", try_changed)] + ([("large queries", try_large)] if sqlite3 else [])
     failed, said = [], []
     for name, one in parts:

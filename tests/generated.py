@@ -15,6 +15,8 @@ import subprocess
 import sys
 import tempfile
 
+from arguments import arguments, program_at
+
 COLUMNS = ["a,b,w", "b,c,w", "c,d,w", "d,e,w"]
 QUERY = ("select P1.a, P4.e from P1, P2, P3, P4 where P1.b = P2.b and P2.c = P3.c and P3.d = P4.d "
          "order by P1.w + P2.w + P3.w + P4.w limit 100")
@@ -93,8 +95,8 @@ def agrees(program, number, rows):
 
 
 def main():
-    program = os.path.abspath(sys.argv[1] if len(sys.argv) > 1 else "./anyk")
-    rows = int(sys.argv[2]) if len(sys.argv) > 2 else 20000
+    program, rows = arguments(__doc__, "./anyk", 20000, least=1)
+    program = program_at(program)
     small = least_sums(tables_of(1, 2))
     if (len(small), small[0], small[-1]) != (16, 1080, 2695):
         print("generated tables: FAILED, the generator is another")

@@ -26,6 +26,8 @@ import termios
 import time
 from concurrent.futures import ThreadPoolExecutor
 
+from arguments import arguments
+
 TOP = os.path.dirname(os.path.dirname(os.path.abspath(__file__)))
 REAL = os.environ.get("ANYK", f"{TOP}/crates/anyk_cli/out/anyk_cli")
 NOBODY = 65534
@@ -1253,7 +1255,7 @@ def tried(name):
 
 def main():
     tests = [it for it in globals() if it.startswith("test_")]
-    tests = [it for it in sys.argv[1:] if it in tests] or tests
+    tests = [it for it in arguments(__doc__, "", takes_more=True) if it in tests] or tests
     # What is started heeds these signals, even if this script was started in the background, which ignores them.
     signal.signal(signal.SIGINT, signal.default_int_handler)
     signal.signal(signal.SIGHUP, signal.SIG_DFL)

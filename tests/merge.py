@@ -14,6 +14,8 @@ import subprocess
 import sys
 import tempfile
 
+from arguments import arguments
+
 TOP = os.path.dirname(os.path.dirname(os.path.abspath(__file__)))
 TOOL = f"{TOP}/tools/merge.py"
 TEXTS = ["x", "", "a,b", 'q"q', "two\nlines", "\r", "\xe5", "\x85"]
@@ -93,6 +95,7 @@ def of_streams():
 
 
 def main():
+    arguments(__doc__, "")
     failed = count = 0
     for what, wanted, got in [*of_answers(tool()), *of_calls(), *of_streams()]:
         count += 1

@@ -16,6 +16,7 @@ import subprocess
 import sys
 import tempfile
 
+from arguments import arguments, program_at
 from preloaded import Failing, Skipped, first_inputs, in_turn, other_inputs, real_program
 
 LINES = (b"", b"anyk: out of memory\n")
@@ -70,7 +71,7 @@ def counts_first(program):
 
 
 def main():
-    program = sys.argv[1] if len(sys.argv) > 1 else "./anyk"
+    program = program_at(*arguments(__doc__, "./anyk"))
     try:
         is_counted = counts_first(real_program(program))
         failing = Failing(program)

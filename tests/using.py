@@ -24,6 +24,8 @@ import subprocess
 import sys
 import tempfile
 
+from arguments import arguments, program_at
+
 TOP = os.path.dirname(os.path.dirname(os.path.abspath(__file__)))
 PAGES = ("README.md", "CONTRIBUTING.md", "docs/*.md", "bench/*.md", "examples/*.md", "examples/*/*.md")
 OPTIONAL = ("awk", "gzip", "iconv", "mlr")
@@ -124,8 +126,9 @@ def run_page(page, program):
 
 
 def main():
-    program = os.path.abspath(sys.argv[1] if len(sys.argv) > 1 else f"{TOP}/anyk")
-    results = [run_page(page, program) for page in sys.argv[2:] or pages()]
+    program, *named = arguments(__doc__, f"{TOP}/anyk", takes_more=True)
+    program = program_at(program)
+    results = [run_page(page, program) for page in named or pages()]
     failed, runs, skipped = (sum(it) for it in zip(*results))
     if runs == 0:
         sys.exit("using: no page shows a command")

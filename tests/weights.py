@@ -14,6 +14,8 @@ import subprocess
 import sys
 import tempfile
 
+from arguments import arguments
+
 TOP = os.path.dirname(os.path.dirname(os.path.abspath(__file__)))
 TOOL = f"{TOP}/tools/weights.py"
 GREATEST = 2**127 - 1
@@ -137,6 +139,7 @@ def of_streams():
 
 
 def main():
+    arguments(__doc__, "")
     weights = tool()
     failed = count = 0
     for what, wanted, got in [*of_fields(weights), *of_decimals(weights), *of_calls(), *of_streams()]:
