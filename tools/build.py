@@ -438,6 +438,12 @@ def stop(*_):
 
 if __name__ == "__main__":
     open_error()
+    if sys.argv[1:] in (["-h"], ["--help"]):
+        print(__doc__.strip())
+        sys.exit()
+    if sys.argv[1:]:
+        say(f"tools/build.py takes no argument, and {sys.argv[1]} is one")
+        sys.exit(1)
     signal.signal(signal.SIGTERM, stop)
     signal.signal(signal.SIGHUP, stop)
     try:

@@ -36,9 +36,15 @@ def copied(room):
 def main():
     known = sorted(it.name for it in MORE.iterdir() if it.is_dir())
     names = sys.argv[1:] or known
+    if "-h" in names or "--help" in names:
+        print(__doc__.strip())
+        return 0
     lacking = [it for it in names if it not in known]
     if lacking:
         print(f"edits: tests/wrong_bodies has nothing for {lacking[0]}", file=sys.stderr)
+        return 2
+    if not shutil.which("rt"):
+        print("edits: rt, which proves the crates, is not found", file=sys.stderr)
         return 2
     with tempfile.TemporaryDirectory(prefix="anyk-edits-") as room:
         copied(Path(room))
@@ -46,4 +52,7 @@ def main():
 
 
 if __name__ == "__main__":
-    sys.exit(main())
+    try:
+        sys.exit(main())
+    except KeyboardInterrupt:
+        sys.exit("edits: interrupted")

@@ -24,6 +24,7 @@ import contextlib
 import os
 import re
 import resource
+import shutil
 import subprocess
 import sys
 import threading
@@ -184,6 +185,24 @@ def write_between(path, lines):
     Path(path).write_text("\n".join([before + BEGIN, "", *lines, "", END + after]))
 
 
+def why_not(root, words, command):
+    """What is wrong with the call, if anything: it is said before the command runs, and not after it."""
+    if not os.access(Path(root, "crates.txt"), os.R_OK):
+        return "this folder has no crates.txt: call it from the top of the repository"
+    if not shutil.which(command[0]):
+        return f"{command[0]} is not found"
+    if words.table:
+        try:
+            before, _, rest = Path(words.table).read_text().partition(BEGIN)
+        except (OSError, ValueError):
+            return f"{words.table} cannot be read"
+        if END not in rest:
+            return f"{words.table} has not both marker lines"
+    if words.figures and not os.path.isdir(os.path.dirname(os.path.abspath(words.figures))):
+        return f"{words.figures} cannot be written: its folder is not there"
+    return None
+
+
 def main():
     own, command = sys.argv[1:], ["rt", "ci", "--anew"]
     if "--" in own:
@@ -194,6 +213,9 @@ def main():
     parser.add_argument("--figures", help="a file that gets each crate's seconds of proof")
     words = parser.parse_args(own)
     root = os.getcwd()
+    why = why_not(root, words, command)
+    if why:
+        parser.error(why)
     crates, sampler, begun = crates_of(root), Sampler(), time.time()
     sampler.start()
     status = subprocess.run(command, check=False).returncode
@@ -212,4 +234,7 @@ def main():
 
 
 if __name__ == "__main__":
-    sys.exit(main())
+    try:
+        sys.exit(main())
+    except KeyboardInterrupt:
+        sys.exit("gate_times: interrupted")

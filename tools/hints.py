@@ -702,4 +702,9 @@ def main(status, line, *words):
 
 
 if __name__ == "__main__":
-    main(*sys.argv[1:])
+    if sys.argv[1:2] in (["-h"], ["--help"]):
+        print(__doc__.strip())
+    elif len(sys.argv) < 3:
+        sys.exit("hints: a status and a line are needed")
+    else:
+        main(*sys.argv[1:])
