@@ -4,7 +4,7 @@ use Rattle.std.specs.Option.{option_or}
 use Rattle.std.proofs.lemmas.List.{append-nil}
 use Rattle.anyk_model.specs.Table.{Fields, Flaw, Table, flaw_of, row_flaw, rows_flaw, table_of}
 use Rattle.anyk_model.proofs.Flaws.{rows_flaw_append}
-use Rattle.table_store.specs.PlainTables.{with_row}
+use Rattle.csv_tables.specs.PlainTables.{with_row}
 use Rattle.table_store.specs.Tables.{IsSound}
 use Rattle.csv_tables.specs.Faults.{fault_of, refusal}
 use Rattle.csv_tables.specs.declared.fault.TableFault.{TableFault}

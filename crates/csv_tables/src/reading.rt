@@ -6,17 +6,112 @@ ghost use Rattle.csv_tables.specs.Faults.{Tells, refusal};
 ghost use Rattle.table_store.specs.Values.{lists_of};
 
 use crate::fault::TableFault;
+use crate::plain_table::PlainTable;
 use crate::records::Records;
+use crate::texts::Texts;
 use csv::ByteRecord;
+use hash_keys::Keys;
 use std::alloc::Global;
+use std::marker::Model;
 use step_counter::NoMemory;
-use table_store::{PlainTable, Tables};
+use table_store::Tables;
 
 /// The greatest number of columns of a table.
 const MAX_COLUMNS: usize = 64;
 
 /// The greatest number of rows of a table.
 const MAX_ROWS: usize = 1_048_576;
+
+/// Tables that are read one after another, with the set of their texts.
+#[derive(Drop)]
+pub struct TableReader {
+    tables: Tables,
+    texts: Texts,
+    alloc: Global,
+}
+
+impl Model for TableReader {
+    ghost use Rattle.std.specs.Prelude.{List};
+    ghost use Rattle.anyk_model.specs.Table.{Table};
+    ghost use Rattle.csv_tables.specs.TableReaders.{KnowsTexts, reader_view};
+
+    ghost Value = { List Table };
+
+    ghost view = { reader_view };
+
+    ghost invariant = { KnowsTexts };
+}
+
+impl TableReader {
+    ghost use Rattle.table_store.specs.Tables.{IsSound};
+
+    /// A reader that has read no table, and hashes with known keys. Takes no memory.
+    pub fn new(alloc: Global) -> TableReader
+        ensures { result ≡ [] }
+    {
+        TableReader::with_keys(alloc, Keys::Known)
+    }
+
+    /// A reader that has read no table, and hashes with these keys. Takes no memory.
+    pub fn with_keys(alloc: Global, keys: Keys) -> TableReader
+        ensures { result ≡ [] }
+    {
+        TableReader {
+            tables: Tables::new(alloc, keys),
+            texts: Texts::new(alloc, keys),
+            alloc,
+        }
+    }
+
+    /// Reads the table of the bytes of a csv file, and returns its number, from 0.
+    ///
+    /// The fault is the first in the file: a fault of the header, in the order of `TableFault`, or
+    /// else of the first bad row. `NoMemory` may be returned at any point. After any error the
+    /// tables are as before.
+    pub fn read(&mut self, bytes: &[u8]) -> Result<u32, TableFault>
+        requires few { length self.old < 16 }
+        requires size { length bytes.now ≤ 67108864 }
+        ensures number { IfOk result (λ n. n ≡ length self.old) }
+        ensures added { OnOk result (self.new ≡ self.old ++ table_of (records_of bytes.now) ∷ []) }
+        ensures sound { OnOk result (flaw_of (records_of bytes.now) ≡ None) }
+        ensures fault { IfErr result (Tells (flaw_of (records_of bytes.now))) }
+        ensures err { OnErr result (self.new ≡ self.old) }
+    {
+        let table = parse_table(self.alloc, bytes)?;
+        Ok(self.add(table)?)
+    }
+
+    /// Adds a table, and returns its number, from 0. After a refusal of memory the tables are as
+    /// before.
+    fn add(&mut self, table: PlainTable) -> Result<u32, NoMemory>
+        requires few { length self.old < 16 }
+        requires sound { IsSound table }
+        ensures number { IfOk result (λ n. n ≡ length self.old) }
+        ensures added { OnOk result (self.new ≡ self.old ++ table ∷ []) }
+        ensures err { OnErr result (self.new ≡ self.old) }
+    {
+        let known = self.texts.len();
+        let stored = match table.store(&mut self.texts) {
+            Ok(stored) => stored,
+            Err(refused) => {
+                self.texts.truncate(known);
+                return Err(refused);
+            }
+        };
+        let Ok(number) = self.tables.add(stored) else {
+            self.texts.truncate(known);
+            return Err(NoMemory);
+        };
+        Ok(number)
+    }
+
+    /// The tables that were read, in their order. The set of texts is dropped.
+    pub fn into_tables(self) -> Tables
+        ensures { result ≡ self }
+    {
+        self.tables
+    }
+}
 
 /// Tests the names of a table's columns: there are not too many, and no two are the same.
 fn check_names(names: &[Vec<u8>]) -> Result<(), TableFault>
@@ -111,22 +206,4 @@ fn parse_table(alloc: Global, bytes: &[u8]) -> Result<PlainTable, TableFault>
     let mut records = Records::new(alloc, bytes);
     let names = read_names(alloc, &mut records)?;
     read_rows(alloc, &mut records, names)
-}
-
-/// Adds the table of the bytes of a csv file, and returns its number, from 0.
-///
-/// The fault is the first in the file: a fault of the header, in the order of `TableFault`, or else
-/// of the first bad row. `NoMemory` may be returned at any point. After any error the tables are as
-/// before.
-pub fn read_table(tables: &mut Tables, bytes: &[u8]) -> Result<u32, TableFault>
-    requires few { length tables.old < 16 }
-    requires size { length bytes.now ≤ 67108864 }
-    ensures number { IfOk result (λ n. n ≡ length tables.old) }
-    ensures added { OnOk result (tables.new ≡ tables.old ++ table_of (records_of bytes.now) ∷ []) }
-    ensures sound { OnOk result (flaw_of (records_of bytes.now) ≡ None) }
-    ensures fault { IfErr result (Tells (flaw_of (records_of bytes.now))) }
-    ensures err { OnErr result (tables.new ≡ tables.old) }
-{
-    let table = parse_table(tables.alloc(), bytes)?;
-    Ok(tables.add(table)?)
 }

@@ -13,7 +13,7 @@ ghost use Rattle.input_load.specs.StageViews.{said_as, tables_result_view, table
 
 use crate::file::load;
 use cmd_words::Named;
-use csv_tables::TableFault;
+use csv_tables::{TableFault, TableReader};
 use hash_keys::Keys;
 use outer_io::Shelf;
 use refusal_lines::Refusal;
@@ -36,11 +36,11 @@ pub(crate) fn read_tables<'a, F: Shelf>(
         (shelved F.Shelf shelf.old) (shelved F.Shelf shelf.new) (tables_result_view result) }
     ensures count { IfOk result (λ tables. length tables ≡ length entries.now) }
 {
-    let mut tables = Tables::with_keys(alloc, keys);
+    let mut reader = TableReader::with_keys(alloc, keys);
     for entry in entries {
-        read_table(alloc, entry, shelf, &mut tables)?;
+        read_table(alloc, entry, shelf, &mut reader)?;
     }
-    Ok(tables)
+    Ok(reader.into_tables())
 }
 
 /// Reads one more table.
@@ -48,29 +48,33 @@ fn read_table<'a, F: Shelf>(
     alloc: Global,
     entry: &'a Named,
     shelf: &mut F,
-    tables: &mut Tables,
+    reader: &mut TableReader,
 ) -> Result<(), Refusal<'a>>
-    requires { length tables.old < 16 }
-    ensures longer { OnOk result (length tables.new ≡ length tables.old + 1) }
+    requires { length reader.old < 16 }
+    ensures longer { OnOk result (length reader.new ≡ length reader.old + 1) }
     ensures staged { (named : List (List ℕ × List ℕ)) → IsEntryOf named (named_pair entry.now)
         → Staged (λ files. Is
-        (table_after tables.old (table_in files named (string_bytes entry.now.table))))
+        (table_after reader.old (table_in files named (string_bytes entry.now.table))))
         (λ files file. file ≡ string_bytes entry.now.file)
-        (shelved F.Shelf shelf.old) (shelved F.Shelf shelf.new) (said_as tables.new result) }
+        (shelved F.Shelf shelf.old) (shelved F.Shelf shelf.new) (said_as reader.new result) }
 {
     let bytes = load(alloc, shelf, entry.file.as_str())?;
-    add_table(entry.table.as_bytes(), &bytes, tables)
+    add_table(entry.table.as_bytes(), &bytes, reader)
 }
 
 /// Adds the table of these bytes. The error is the refusal for its first flaw.
-fn add_table<'a>(name: &'a [u8], bytes: &[u8], tables: &mut Tables) -> Result<(), Refusal<'a>>
-    requires few { length tables.old < 16 }
+fn add_table<'a>(
+    name: &'a [u8],
+    bytes: &[u8],
+    reader: &mut TableReader,
+) -> Result<(), Refusal<'a>>
+    requires few { length reader.old < 16 }
     requires size { length bytes.now ≤ 67108864 }
-    ensures longer { OnOk result (length tables.new ≡ length tables.old + 1) }
-    ensures added { Pure (Is (table_after tables.old (sound_table name.now bytes.now)))
-        (said_as tables.new result) }
+    ensures longer { OnOk result (length reader.new ≡ length reader.old + 1) }
+    ensures added { Pure (Is (table_after reader.old (sound_table name.now bytes.now)))
+        (said_as reader.new result) }
 {
-    match csv_tables::read_table(tables, bytes) {
+    match reader.read(bytes) {
         Ok(_) => Ok(()),
         Err(fault) => Err(table_refusal(name, fault)),
     }

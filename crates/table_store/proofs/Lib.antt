@@ -1,6 +1,5 @@
 pub mod Cuts
 pub mod Digits
-pub mod Fronts
 pub mod Kept
 pub mod Numbers
 pub mod Own

@@ -1,70 +1,35 @@
--- Fields in one vector of bytes: what one more changes, and where each lies.
-use Rattle.std.proofs.Common.{◌≡◌, ◌<◌, ◌+◌, ◌-◌, ℕ, List, [], ◌∷◌, ◌++◌, take, drop, length, get_or, refl, sym, ap, ◌∙◌, arith, length-append, append-nil, append_assoc}
-use Rattle.std.proofs.Math.Seq.{drop-append_seam}
-use Rattle.std.specs.List.{concat}
-use Rattle.csv.specs.Records.{Rising, cut_from, last_end, prev}
-use Rattle.csv.proofs.RecordFacts.{cut-end, cut-more, field-cut, field-get, last-append, rising-end, rising-more}
+-- Where each of the fields lies that are in one vector of bytes.
+use Rattle.std.proofs.Common.{◌≡◌, ◌≤◌, ◌<◌, ◌-◌, ℕ, List, [], take, drop, length, get_or, sym, ap, ◌∙◌, arith}
+use Rattle.std.proofs.lemmas.List.{get_or_default}
+use Rattle.csv.specs.Records.{cut_from, prev}
+use Rattle.csv.proofs.RecordFacts.{cut-length, field-bounds, field-cut, field-get}
 use Rattle.anyk_model.specs.Table.{Fields}
-use Rattle.table_store.specs.Fields.{ends_from}
-
-pub none_cut : (bytes : List ℕ) → cut_from 0 [] bytes ≡ []
-unfolding cut_from
-none_cut bytes = refl
-
-pub none_rising : Rising 0 [] 0
-unfolding Rising
-none_rising = omega arith
-
-pub none_whole : last_end 0 [] ≡ 0
-unfolding last_end
-none_whole = refl
-
-module _ (ends bytes field : List ℕ) (rising : Rising 0 ends (length bytes)) (whole : last_end 0 ends ≡ length bytes) where
-  rising_grown : Rising 0 ends (length (bytes ++ field))
-  rising_grown = rising-more 0 ends (length bytes) (length (bytes ++ field)) rising (omega (arith, length-append bytes field))
-
-  -- the bytes of one more field, and its end
-  pub push_cut : cut_from 0 (ends ++ length (bytes ++ field) ∷ []) (bytes ++ field) ≡ cut_from 0 ends bytes ++ field ∷ []
-  push_cut =
-      let last : drop (last_end 0 ends) (bytes ++ field) ≡ field = ap (λ (n : ℕ). drop n (bytes ++ field)) whole ∙ drop-append_seam bytes field in
-      let front = cut-more 0 ends bytes field rising in
-      cut-end 0 ends (bytes ++ field) rising_grown ∙ (λ i. front i ++ last i ∷ [])
-
-  pub push_rising : Rising 0 (ends ++ length (bytes ++ field) ∷ []) (length (bytes ++ field))
-  push_rising = rising-end 0 ends (length (bytes ++ field)) rising_grown
-
-  pub push_whole : last_end 0 (ends ++ length (bytes ++ field) ∷ []) ≡ length (bytes ++ field)
-  push_whole = last-append 0 ends (length (bytes ++ field))
-
--- places and bytes that show these fields
-pub record Shows (ends bytes : List ℕ) (fields : Fields) : Type 0 where
-  pub rising : Rising 0 ends (length bytes)
-  pub whole : last_end 0 ends ≡ length bytes
-  pub cut : cut_from 0 ends bytes ≡ fields
-
-shows_push : (ends bytes : List ℕ) (fields : Fields) (f : List ℕ) → Shows ends bytes fields
-    → Shows (ends ++ (length bytes + length f) ∷ []) (bytes ++ f) (fields ++ f ∷ [])
-shows_push ends bytes fields f shows =
-    rw (sym (length-append bytes f)) (record {
-      rising = push_rising ends bytes f shows.rising shows.whole;
-      whole = push_whole ends bytes f shows.rising shows.whole;
-      cut = push_cut ends bytes f shows.rising shows.whole ∙ ap (λ (l : Fields). l ++ f ∷ []) shows.cut;
-    })
-
--- the bytes of more fields, and their ends
-pub shows_more : (more : Fields) (ends bytes : List ℕ) (fields : Fields) → Shows ends bytes fields
-    → Shows (ends ++ ends_from (length bytes) more) (bytes ++ concat more) (fields ++ more)
-shows_more [] ends bytes fields shows = rw (append-nil ends, append-nil bytes, append-nil fields) shows
-shows_more (f ∷ more) ends bytes fields shows =
-    let rest = shows_more more (ends ++ (length bytes + length f) ∷ []) (bytes ++ f) (fields ++ f ∷ []) (shows_push ends bytes fields f shows) in
-    rw (
-      length-append bytes f,
-      append_assoc ends ((length bytes + length f) ∷ []) (ends_from (length bytes + length f) more),
-      append_assoc bytes f (concat more),
-      append_assoc fields (f ∷ []) more,
-    ) at rest
+use Rattle.table_store.specs.Fields.{ArePacked}
 
 -- the field at a place is the bytes between its start and its end
 pub field_between : (ends bytes : List ℕ) (i : ℕ) → i < length ends
     → take (get_or ends i 0 - prev 0 ends i) (drop (prev 0 ends i) bytes) ≡ get_or (cut_from 0 ends bytes) i []
 field_between ends bytes i inside = sym (field-get (cut_from 0 ends bytes) i _ (field-cut 0 ends bytes i inside))
+
+-- a field's start and end lie in order within the bytes
+pub record Lies (ends bytes : List ℕ) (place start end : ℕ) : Type 0 where
+  pub inside : place < length ends
+  pub start_is : start ≡ prev 0 ends place
+  pub end_is : end ≡ get_or ends place 0
+  pub order : start ≤ end
+  pub within : end ≤ length bytes
+
+pub lies : (ends bytes read : List ℕ) (now : Fields) (place start end : ℕ) → ArePacked ends bytes → cut_from 0 ends bytes ≡ now → place < length now
+    → read ≡ ends → start ≡ prev 0 read place → end ≡ get_or ends place end → Lies ends bytes place start end
+lies ends bytes read now place start end packed shown below same starts ends_at =
+    let inside : place < length ends = omega (arith, below, ap length shown, cut-length 0 ends bytes) in
+    let start_is : start ≡ prev 0 ends place = starts ∙ ap (λ (l : List ℕ). prev 0 l place) same in
+    let end_is : end ≡ get_or ends place 0 = ends_at ∙ get_or_default ends place end 0 inside in
+    let f = field-bounds 0 ends (length bytes) place packed.rising inside in
+    record {
+      inside = inside;
+      start_is = start_is;
+      end_is = end_is;
+      order = omega (arith, start_is, end_is, f.0);
+      within = omega (arith, end_is, f.1);
+    }

@@ -6,7 +6,6 @@ use Rattle.std.specs.Str.{bytes_eq}
 use Rattle.std.proofs.lemmas.List.{map-append, append-nil, get_or_append_left}
 use Rattle.std.proofs.lemmas.Option.{get_or_from_slice_get, slice_get-map}
 use Rattle.std.proofs.lemmas.Slice.Eq.{bytes_eq-Decides}
-use Rattle.indexmap.specs.IndexSet.{insert_key}
 use Rattle.anyk_model.specs.Table.{Fields}
 use Rattle.table_store.specs.Values.{Extends, HasNumber, IsNumber, StandsFor, own_number, text_at, with_field, with_fields, with_rows, with_text}
 
@@ -17,27 +16,6 @@ with_text_extends texts text = by (list_any (bytes_eq text) texts)
     by : (b : Bool) → Extends texts (if b then texts else texts ++ text ∷ [])
     by true = ([], sym (append-nil texts))
     by false = (text ∷ [], refl)
-
-module _ {K : Type 0} (text : K → List ℕ) (eq : K → K → Bool) (same : (a b : K) → eq a b ≡ bytes_eq (text a) (text b)) where
-  any_texts : (keys : List K) (k : K) → list_any (eq k) keys ≡ list_any (bytes_eq (text k)) (map text keys)
-  any_texts [] k = refl
-  any_texts (a ∷ keys) k = λ i. same k a i || any_texts keys k i
-
-  -- an inserted key adds its text
-  pub texts_insert_key : (keys : List K) (k : K) → map text (insert_key eq keys k) ≡ with_text (map text keys) (text k)
-  texts_insert_key keys k =
-      by (list_any (eq k) keys) ∙ ap (λ b. if b then map text keys else map text keys ++ text k ∷ []) (any_texts keys k)
-    where
-      by : (b : Bool) → map text (if b then keys else keys ++ k ∷ []) ≡ (if b then map text keys else map text keys ++ text k ∷ [])
-      by true = refl
-      by false = map-append text keys (k ∷ [])
-
-  -- the key at an index that equals another has the other's text
-  pub text_at_stored : (keys : List K) (n : ℕ) (k stored : K) → slice_get keys n ≡ Some stored → eq k stored ≡ true
-      → text_at (map text keys) n ≡ text k
-  text_at_stored keys n k stored at alike =
-      get_or_from_slice_get (map text keys) n (text stored) [] (slice_get-map text keys n ∙ ap (option_map text) at)
-      ∙ sym ((bytes_eq-Decides (text k) (text stored)).0 (sym (same k stored) ∙ alike))
 
 -- ---- texts with more after them
 

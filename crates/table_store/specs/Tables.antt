@@ -15,10 +15,9 @@ IsSound table = flaw_of (table.names ∷ table.rows) ≡ None
 abbrev pub stored_views : List StoredTable → List Table
 stored_views stored = map stored_view stored
 
--- the tables are whole, the texts are those of the tables, and no table has a flaw
-pub record KeepsTables (texts : List (List ℕ)) (stored : List StoredTable) : Type 0 where
-  pub whole : AllByRecursion (IsStored texts) stored
-  pub known : texts ≡ with_tables [] (stored_views stored)
+-- the tables are whole, their numbers are those of all their texts, and no table has a flaw
+pub record KeepsTables (stored : List StoredTable) : Type 0 where
+  pub whole : AllByRecursion (IsStored (with_tables [] (stored_views stored))) stored
   pub sound : AllByRecursion IsSound (stored_views stored)
   pub few : length stored ≤ 16
 
@@ -27,4 +26,4 @@ abbrev pub tables_view : Inside → List Table
 tables_view a = stored_views a.tables.items
 
 abbrev pub IsKept : Inside → Type 0
-IsKept a = KeepsTables a.texts a.tables.items
+IsKept a = KeepsTables a.tables.items

@@ -1,21 +1,13 @@
 //! The bytes of many fields in one vector.
-ghost use Rattle.std.specs.Prelude.{◌≡◌, ◌+◌, ◌<◌, ◌≤◌, ◌∷◌, ◌++◌, [], IfOk, OnErr, OnOk, get_or, length, take};
-ghost use Rattle.std.specs.List.{concat};
-ghost use Rattle.std.specs.Vec.{vec_capacity, vec_len};
-ghost use Rattle.csv.specs.Records.{fields_of, prev, text_of};
-ghost use Rattle.table_store.specs.Fields.{ends_from};
+ghost use Rattle.std.specs.Prelude.{◌≡◌, ◌<◌, [], get_or, length};
+ghost use Rattle.csv.specs.Records.{cut_from, prev};
+ghost use Rattle.table_store.specs.Fields.{ArePacked};
 
-use csv::ByteRecord;
-use std::alloc::Global;
 use std::marker::Model;
-use step_counter::NoMemory;
-
-/// The greatest number of bytes of all fields, so that each place is a `u32`.
-const MAX_BYTES: usize = 4_294_967_295;
 
 /// Fields one after another; each is found by the place where it ends.
 #[derive(Drop)]
-pub(crate) struct FieldList {
+pub struct FieldList {
     bytes: Vec<u8>,
     ends: Vec<u32>,
 }
@@ -32,132 +24,36 @@ impl Model for FieldList {
 }
 
 impl FieldList {
-    /// An empty list. Takes no memory.
-    pub(crate) fn new(alloc: Global) -> FieldList
-        ensures { result ≡ [] }
+    /// The fields that end at these places of the bytes, one after another.
+    pub fn new(bytes: Vec<u8>, ends: Vec<u32>) -> FieldList
+        requires { ArePacked ends.items bytes.items }
+        ensures { result ≡ cut_from 0 ends.items bytes.items }
     {
-        FieldList {
-            bytes: Vec::new(alloc),
-            ends: Vec::new(alloc),
-        }
+        FieldList { bytes, ends }
     }
 
     /// The number of fields.
-    pub(crate) fn len(&self) -> usize
+    pub fn len(&self) -> usize
         ensures { result ≡ length self.now }
     {
         self.ends.len()
     }
 
-    /// Adds a field at the end. After a refusal of memory the list is as before.
-    pub(crate) fn push(&mut self, field: &[u8]) -> Result<(), NoMemory>
-        ensures added { OnOk result (self.new ≡ self.old ++ field.now ∷ []) }
-        ensures err { OnErr result (self.new ≡ self.old) }
-    {
-        let end = self.bytes.len() + field.len();
-        if end > MAX_BYTES {
-            return Err(NoMemory);
-        }
-        self.ends.reserve(1)?;
-        self.bytes.extend_from_slice(field)?;
-        self.ends.push_reserved(end as u32);
-        Ok(())
-    }
-
-    /// Adds the fields of a record at the end. After a refusal of memory the list is as before.
-    pub(crate) fn push_record(&mut self, row: &ByteRecord) -> Result<(), NoMemory>
-        ensures added { OnOk result (self.new ≡ self.old ++ fields_of row.now) }
-        ensures err { OnErr result (self.new ≡ self.old) }
-    {
-        let count = self.ends.len();
-        let front = self.push_front(row)?;
-        for i in front..row.len() {
-            let Some(field) = row.get(i) else {
-                unreachable!()
-            };
-            if let Err(refused) = self.push(field) {
-                self.truncate(count);
-                return Err(refused);
-            }
-        }
-        Ok(())
-    }
-
-    /// Adds the fields of a record that stand before its first empty one, by one copy of bytes.
-    /// Returns how many these are. After a refusal of memory the list is as before.
-    fn push_front(&mut self, row: &ByteRecord) -> Result<usize, NoMemory>
-        ensures added { IfOk result (λ n. self.new ≡ self.old ++ take n (fields_of row.now)) }
-        ensures within { IfOk result (λ n. n ≤ length (fields_of row.now)) }
-        ensures err { OnErr result (self.new ≡ self.old) }
-    {
-        let start = self.bytes.len();
-        let text = row.as_slice();
-        if start + text.len() > MAX_BYTES {
-            return Err(NoMemory);
-        }
-        self.ends.reserve(row.len())?;
-        self.bytes.extend_from_slice(text)?;
-        let (count, end) = push_ends(&mut self.ends, start, row);
-        self.bytes.truncate(end);
-        Ok(count)
-    }
-
-    /// Keeps only the first `len` fields.
-    fn truncate(&mut self, len: usize)
-        ensures { self.new ≡ take len self.old }
-    {
-        if len < self.ends.len() {
-            let (end, _) = bounds(&self.ends, len);
-            self.ends.truncate(len);
-            self.bytes.truncate(end);
-        }
-    }
-
     /// The field at a place, counted from 0.
-    pub(crate) fn get(&self, place: usize) -> &[u8]
+    pub fn get(&self, place: usize) -> &[u8]
         requires { place < length self.now }
         ensures { result.now ≡ get_or self.now place [] }
     {
-        let (start, end) = bounds(&self.ends, place);
-        &self.bytes.as_slice()[start..end]
+        let start = start_of(&self.ends, place);
+        &self.bytes.as_slice()[start..self.ends[place] as usize]
     }
 }
 
-/// Appends the places where the fields of a record end, if its text is put behind `start` bytes.
-/// Goes up to the first empty field. `csv` states the bytes of each field and of the text, and not
-/// that fields lie one after another in it. Fields that are not empty must: each starts where the
-/// one before it ends. An empty one does not show where it lies. Returns how many fields these are,
-/// and where the last one ends.
-fn push_ends(ends: &mut Vec<u32>, start: usize, row: &ByteRecord) -> (usize, usize)
-    requires room { vec_len ends.old + length (fields_of row.now) ≤ vec_capacity ends.old }
-    requires size { start + length (text_of row.now) ≤ 4294967295 }
-    ensures within { result.0 ≤ length (fields_of row.now) }
-    ensures ends { ends.new.items
-        ≡ ends.old.items ++ ends_from start (take result.0 (fields_of row.now)) }
-    ensures end { result.1 ≡ start + length (concat (take result.0 (fields_of row.now))) }
-    ensures text { take (length (concat (take result.0 (fields_of row.now)))) (text_of row.now)
-        ≡ concat (take result.0 (fields_of row.now)) }
-{
-    let mut end = start;
-    for i in 0..row.len() {
-        let Some(field) = row.get(i) else {
-            unreachable!()
-        };
-        if field.is_empty() {
-            return (i, end);
-        }
-        end += field.len();
-        ends.push_reserved(end as u32);
-    }
-    (row.len(), end)
-}
-
-/// Where the field at a place starts, and where it ends.
-fn bounds(ends: &[u32], place: usize) -> (usize, usize)
+/// Where the field at a place starts, if these are the places where fields end.
+pub fn start_of(ends: &[u32], place: usize) -> usize
     requires { place < length ends.now }
-    ensures start { result.0 ≡ prev 0 ends.now place }
-    ensures end { result.1 ≡ get_or ends.now place 0 }
+    ensures { result ≡ prev 0 ends.now place }
 {
     let start = if place == 0 { 0 } else { ends[place - 1] };
-    (start as usize, ends[place] as usize)
+    start as usize
 }

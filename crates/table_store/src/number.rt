@@ -4,14 +4,14 @@ ghost use Rattle.std.specs.Str.Parse.{AllDigits, digits_value};
 ghost use Rattle.table_store.specs.Values.{own_number};
 
 /// The number of the first text. Each number below it belongs to the field that writes it.
-pub(crate) const FIRST_TEXT: u32 = 2_147_483_648;
+pub const FIRST_TEXT: u32 = 2_147_483_648;
 
 /// The most digits of a number below `FIRST_TEXT`.
 const MAX_DIGITS: usize = 10;
 
 /// The number that a field writes as a decimal without a sign and without leading zeros, if it is
 /// below `FIRST_TEXT`.
-pub(crate) fn own_number(field: &[u8]) -> Option<u32>
+pub fn own_number(field: &[u8]) -> Option<u32>
     ensures { result ≡ own_number field.now }
 {
     if field.is_empty() || field.len() > MAX_DIGITS {

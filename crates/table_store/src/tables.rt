@@ -2,12 +2,10 @@
 ghost use Rattle.std.specs.Prelude.{◌≡◌, ◌+◌, ◌-◌, ◌*◌, ◌<◌, ◌≤◌, ◌∷◌, ◌++◌, [], IfOk, List, OnErr, OnOk, get_or, length, ℕ};
 ghost use Rattle.anyk_model.specs.Table.{Table, field_at, table_at};
 ghost use Rattle.anyk_model.specs.Weight.{weight_of};
-ghost use Rattle.table_store.specs.Values.{number_of};
+ghost use Rattle.table_store.specs.Values.{number_of, with_tables};
 
 use crate::number::FIRST_TEXT;
-use crate::plain_table::PlainTable;
 use crate::stored::StoredTable;
-use crate::texts::Texts;
 use crate::weight::parse_weight;
 use hash_keys::Keys;
 use std::alloc::Global;
@@ -17,10 +15,8 @@ use step_counter::NoMemory;
 /// The tables of a query in the order in which they were read, numbered from 0.
 #[derive(Drop)]
 pub struct Tables {
-    texts: Texts,
     tables: Vec<StoredTable>,
     keys: Keys,
-    alloc: Global,
 }
 
 impl Model for Tables {
@@ -38,24 +34,16 @@ impl Model for Tables {
 
 impl Tables {
     ghost use Rattle.std.specs.List.{AllByRecursion};
+    ghost use Rattle.table_store.specs.StoredTables.{IsStored, stored_view};
     ghost use Rattle.table_store.specs.Tables.{IsSound};
 
-    /// No tables, which will be hashed with known keys. Takes no memory.
-    pub fn new(alloc: Global) -> Tables
-        ensures { result ≡ [] }
-    {
-        Tables::with_keys(alloc, Keys::Known)
-    }
-
     /// No tables, which will be hashed with these keys. Takes no memory.
-    pub fn with_keys(alloc: Global, keys: Keys) -> Tables
+    pub fn new(alloc: Global, keys: Keys) -> Tables
         ensures { result ≡ [] }
     {
         Tables {
-            texts: Texts::new(alloc, keys),
             tables: Vec::new(alloc),
             keys,
-            alloc,
         }
     }
 
@@ -64,31 +52,18 @@ impl Tables {
         self.keys
     }
 
-    /// The memory that the tables are in.
-    pub fn alloc(&self) -> Global {
-        self.alloc
-    }
-
     /// Adds a table, and returns its number, from 0. After a refusal of memory the tables are as
     /// before.
-    pub fn add(&mut self, table: PlainTable) -> Result<u32, NoMemory>
+    pub fn add(&mut self, table: StoredTable) -> Result<u32, NoMemory>
         requires few { length self.old < 16 }
-        requires sound { IsSound table }
+        requires sound { IsSound (stored_view table) }
+        requires stored { IsStored (with_tables [] (self.old ++ stored_view table ∷ [])) table }
         ensures number { IfOk result (λ n. n ≡ length self.old) }
-        ensures added { OnOk result (self.new ≡ self.old ++ table ∷ []) }
+        ensures added { OnOk result (self.new ≡ self.old ++ stored_view table ∷ []) }
         ensures err { OnErr result (self.new ≡ self.old) }
     {
-        let known = self.texts.len();
         let number = self.tables.len() as u32;
-        let stored = match table.store(&mut self.texts) {
-            Ok(stored) => stored,
-            Err(refused) => {
-                self.texts.truncate(known);
-                return Err(refused);
-            }
-        };
-        let Ok(()) = self.tables.push(stored) else {
-            self.texts.truncate(known);
+        let Ok(()) = self.tables.push(table) else {
             return Err(NoMemory);
         };
         Ok(number)

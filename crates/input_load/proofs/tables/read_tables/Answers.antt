@@ -16,7 +16,7 @@ returns-in_err-read_table-clause-staged g c = λ named known.
     let is_entry = mapped_all (IsEntryOf named) (λ e. named_pair e.now) xs i x inside is known in
     let e : c.from_residual.result ≡ Err c.in_err-read_table.field-0.0 = search rules in
     rw e (reached_refused named (map (λ e. named_pair e.now) xs) i (named_pair x.now) (mapped_inside (λ e. named_pair e.now) xs i inside) (mapped_at (λ e. named_pair e.now) xs i x inside is) is_entry
-    c.loop-entry.tables _ _ _ _ (c.loop-entry.invariant.1 named known) (c.in_err-read_table.ensures.staged named is_entry))
+    c.loop-entry.reader _ _ _ _ (c.loop-entry.invariant.1 named known) (c.in_err-read_table.ensures.staged named is_entry))
 
 pub loop-entry-preserved : goal.loop-entry-preserved
 loop-entry-preserved g c =
@@ -31,7 +31,7 @@ loop-entry-preserved g c =
           let is = c.entry-item.is in
           let is_entry = mapped_all (IsEntryOf named) (λ e. named_pair e.now) xs i x inside is known in
           reached_more named (map (λ e. named_pair e.now) xs) i (named_pair x.now) (mapped_inside (λ e. named_pair e.now) xs i inside) (mapped_at (λ e. named_pair e.now) xs i x inside is) is_entry
-          c.loop-entry.tables _ _ _ c.read_table.new.tables (c.loop-entry.invariant.1 named known) (c.in_ok-read_table.ensures.staged named is_entry),
+          c.loop-entry.reader _ _ _ c.read_table.new.reader (c.loop-entry.invariant.1 named known) (c.in_ok-read_table.ensures.staged named is_entry),
     )
 
 pub returns-clause-staged : goal.returns-clause-staged
@@ -39,4 +39,4 @@ returns-clause-staged g c = λ named known.
     let xs = c.args.entries.now in
     let same = length-map xs (λ e. named_pair e.now) in
     let end : length (map (λ e. named_pair e.now) xs) ≤ c.loop-entry.entry-index = omega (arith, c.loop-entry-test.false, same) in
-    reached_end named (map (λ e. named_pair e.now) xs) c.loop-entry.entry-index c.loop-entry.tables _ _ end (c.loop-entry.invariant.1 named known)
+    reached_end named (map (λ e. named_pair e.now) xs) c.loop-entry.entry-index c.loop-entry.reader _ _ end (c.loop-entry.invariant.1 named known)

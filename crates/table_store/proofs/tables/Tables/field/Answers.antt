@@ -2,6 +2,8 @@ use Rattle.std.proofs.Common.{◌≡◌, ◌<◌, ◌+◌, ◌-◌, ◌*◌, ◌
 use Rattle.std.proofs.lemmas.List.{length-map}
 use Rattle.anyk_model.specs.Table.{Table, field_at, table_at}
 use Rattle.table_store.specs.StoredTables.{stored_view}
+use Rattle.table_store.specs.Tables.{stored_views}
+use Rattle.table_store.specs.Values.{with_tables}
 use Rattle.table_store.proofs.Places.{columns_now, field_shows, field-there, rows_now}
 use Rattle.table_store.proofs.tables.Tables.field.Goals as goal
 
@@ -15,7 +17,7 @@ get-requires c =
     let there : c.args.column < length s.names.items = omega (arith, c.requires.column, columns_now stored c.args.table s inside at c.args.self.now c.self.view_is) in
     let width : c.len-width.result ≡ length s.names.items = omega (arith, c.len-width.ensures, s.names.ok.0) in
     subst (λ w. (c.args.row - 1) * w + c.args.column < length s.rows.fields) (sym width)
-    (field-there stored c.args.table s inside at c.self.inside.texts c.self.invariant.whole (c.args.row - 1) c.args.column below there)
+    (field-there stored c.args.table s inside at (with_tables [] (stored_views stored)) c.self.invariant.whole (c.args.row - 1) c.args.column below there)
 
 pub returns : goal.returns
 returns c =
@@ -26,6 +28,6 @@ returns c =
     let below : c.args.row - 1 < s.rows.count = omega (arith, c.requires.first, c.requires.row, rows_now stored c.args.table s inside at c.args.self.now c.self.view_is) in
     let there : c.args.column < length s.names.items = omega (arith, c.requires.column, columns_now stored c.args.table s inside at c.args.self.now c.self.view_is) in
     let width : c.len-width.result ≡ length s.names.items = omega (arith, c.len-width.ensures, s.names.ok.0) in
-    let shows = field_shows stored c.args.table s inside at c.self.inside.texts c.self.invariant.whole (c.args.row - 1) c.args.column below there in
+    let shows = field_shows stored c.args.table s inside at (with_tables [] (stored_views stored)) c.self.invariant.whole (c.args.row - 1) c.args.column below there in
     c.get.ensures ∙ ap (λ w. get_or s.rows.fields ((c.args.row - 1) * w + c.args.column) []) width ∙ sym shows
     ∙ ap (λ (ts : List Table). field_at (table_at ts c.args.table) (c.args.row - 1) c.args.column) c.self.view_is

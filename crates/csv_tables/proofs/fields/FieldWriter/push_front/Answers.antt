@@ -1,0 +1,35 @@
+use Rattle.std.proofs.Common.{◌≡◌, ◌+◌, ◌++◌, ◌∙◌, ℕ, List, take, length, ap, arith}
+use Rattle.std.proofs.Math.Seq.{take-append-add}
+use Rattle.std.specs.List.{concat}
+use Rattle.csv.specs.Records.{fields_of}
+use Rattle.csv_tables.specs.Fields.{ends_from}
+use Rattle.csv_tables.proofs.Copied.{Shows, shows_more}
+use Rattle.csv_tables.proofs.fields.FieldWriter.push_front.Goals as goal
+use Rattle.csv_tables.proofs.fields.FieldWriter.push_front.Goals.{After-truncate}
+
+abbrev shown : (c : After-truncate)
+    → Shows c.push_ends-count.new.ends.items c.truncate.new.self.items (c.args.self.now ++ take c.push_ends-count.result.0 (fields_of c.args.row.now))
+shown c =
+    let ends = c.self.inside.ends.items in
+    let bytes = c.self.inside.bytes.items in
+    let front = take c.push_ends-count.result.0 (fields_of c.args.row.now) in
+    let put = c.push_ends-count.ensures in
+    let start : c.len-start.result ≡ length bytes = omega (arith, c.len-start.ensures, c.self.inside.bytes.ok.0) in
+    let grown : c.push_ends-count.new.ends.items ≡ ends ++ ends_from (length bytes) front =
+    put.ends ∙ (λ i. c.in_ok-reserve.ensures.items i ++ ends_from (start i) front) in
+    let end : c.push_ends-count.result.1 ≡ length bytes + length (concat front) = omega (arith, put.end, start) in
+    let kept : c.truncate.new.self.items ≡ bytes ++ concat front =
+    c.truncate.ensures.items ∙ (λ i. take (end i) (c.in_ok-extend_from_slice.ensures.items i))
+    ∙ take-append-add bytes c.as_slice-text.result.now (length (concat front))
+    ∙ (λ i. bytes ++ take (length (concat front)) (c.as_slice-text.ensures i)) ∙ ap (λ (l : List ℕ). bytes ++ l) put.text in
+    rw (grown, kept) (shows_more front ends bytes c.args.self.now (record {
+      rising = c.self.invariant.rising;
+      whole = c.self.invariant.whole;
+      cut = c.self.view_is;
+    }))
+
+pub invariant_of-self-2 : goal.invariant_of-self-2
+invariant_of-self-2 c = let s = shown c in record { rising = s.rising; whole = s.whole }
+
+pub returns-clause-added : goal.returns-clause-added
+returns-clause-added c = (shown c).cut

@@ -1,0 +1,26 @@
+use Rattle.std.proofs.Common.{◌≡◌, ◌+◌, ◌∙◌, Vec, Global, ℕ, suc, length, ap, arith}
+use Rattle.std.proofs.lemmas.List.{length-map}
+use Rattle.csv.specs.Records.{fields_of}
+use Rattle.anyk_model.specs.Table.{Table}
+use Rattle.csv_tables.specs.PlainTables.{with_row}
+use Rattle.table_store.specs.StoredTables.{cut_rows}
+use Rattle.table_store.specs.Values.{lists_of}
+use Rattle.table_store.proofs.Cuts.{cut_rows_length, cut_rows_push}
+use Rattle.csv_tables.proofs.plain_table.PlainTable.push_row.Goals as goal
+
+pub overflow_add-self : goal.overflow_add-self
+overflow_add-self c =
+    let inside = c.self.inside in
+    let rows = cut_rows_length (length inside.names.items) inside.count inside.fields in
+    omega (arith, c.requires.few, rows, ap (λ (t : Table). length t.rows) c.self.view_is)
+
+pub returns-clause-added : goal.returns-clause-added
+returns-clause-added c =
+    let inside = c.self.inside in
+    let row = fields_of c.args.row.now in
+    let width = length inside.names.items in
+    let wide : length row ≡ width =
+    omega (arith, c.requires.width, ap (λ (t : Table). length t.names) c.self.view_is, length-map inside.names.items (λ (v : Vec ℕ Global). v.items)) in
+    let next : inside.count + 1 ≡ suc inside.count = omega arith in
+    let rows = (λ i. cut_rows width (next i) (c.in_ok-push_record.ensures.added i)) ∙ cut_rows_push width inside.count inside.fields row c.self.invariant.size wide in
+    (λ i. record { names = lists_of inside.names.items; rows = rows i }) ∙ ap (λ (t : Table). with_row t row) c.self.view_is

@@ -1,0 +1,31 @@
+use Rattle.std.proofs.Common.{◌≡◌, ◌∙◌, [], List, ℕ, ap, sym, take, subst}
+use Rattle.table_store.specs.StoredTables.{IsStored, stored_view}
+use Rattle.table_store.specs.Values.{with_tables}
+use Rattle.table_store.proofs.Stands.{with_rows_extends}
+use Rattle.csv_tables.proofs.Known.{texts_after, texts_back}
+use Rattle.csv_tables.proofs.reading.TableReader.add.Goals as goal
+
+pub add-requires-clause-stored : goal.add-requires-clause-stored
+add-requires-clause-stored c =
+    let inside = c.self.inside in
+    let s = c.in-Ok.stored in
+    subst (λ t. IsStored t s)
+    (texts_after inside.texts c.store.new.texts inside.tables c.args.table (stored_view s) c.self.invariant.known c.in-Ok.ensures.texts c.in-Ok.ensures.shown)
+    c.in-Ok.ensures.stored
+
+pub invariant_of-self-in-Ok-add : goal.invariant_of-self-in-Ok-add
+invariant_of-self-in-Ok-add c =
+    let inside = c.self.inside in
+    let s = c.in-Ok.stored in
+    record {
+      known = texts_after inside.texts c.store.new.texts inside.tables c.args.table (stored_view s) c.self.invariant.known c.in-Ok.ensures.texts c.in-Ok.ensures.shown
+          ∙ ap (with_tables []) (sym c.in-Ok-add.ensures.added);
+    }
+
+pub invariant_of-self-in_default : goal.invariant_of-self-in_default
+invariant_of-self-in_default c =
+    let old = c.self.inside.texts in
+    let more = with_rows_extends old c.args.table.rows in
+    let cut = c.truncate-in_default.ensures ∙ ap (λ (k : ℕ). take k c.store.new.texts) c.len-known.ensures in
+    let back = texts_back old c.store.new.texts c.truncate-in_default.new.self (more.0, c.in-Ok.ensures.texts ∙ more.1) cut in
+    record { known = back ∙ c.self.invariant.known ∙ ap (with_tables []) (sym c.in_default.ensures.err) }
