@@ -105,6 +105,13 @@ impl TableReader {
         Ok(number)
     }
 
+    /// The tables that were read so far.
+    pub fn tables(&self) -> &Tables
+        ensures { result.now ≡ self.now }
+    {
+        &self.tables
+    }
+
     /// The tables that were read, in their order. The set of texts is dropped.
     pub fn into_tables(self) -> Tables
         ensures { result ≡ self }

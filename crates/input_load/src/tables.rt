@@ -63,11 +63,7 @@ fn read_table<'a, F: Shelf>(
 }
 
 /// Adds the table of these bytes. The error is the refusal for its first flaw.
-fn add_table<'a>(
-    name: &'a [u8],
-    bytes: &[u8],
-    reader: &mut TableReader,
-) -> Result<(), Refusal<'a>>
+fn add_table<'a>(name: &'a [u8], bytes: &[u8], reader: &mut TableReader) -> Result<(), Refusal<'a>>
     requires few { length reader.old < 16 }
     requires size { length bytes.now ≤ 67108864 }
     ensures longer { OnOk result (length reader.new ≡ length reader.old + 1) }

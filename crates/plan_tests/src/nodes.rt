@@ -6,6 +6,7 @@ ghost use Rattle.node_build.specs.Nodes.{IsJoinTreeOf};
 
 use crate::fixtures::{TWO, query_of, read_two};
 use bound_query::Query;
+use csv_tables::TableReader;
 use join_tree::JoinTree;
 use node_build::{BuildFault, Built, build};
 use query_shape::tree_shape;
@@ -98,11 +99,11 @@ fn built<R: Rank, L: Ledger>(
     requires some_part { 0 < blank.parts }
 {
     let mut steps = Steps::<L>::new(blank);
-    let mut tables = Tables::new(alloc);
-    if read_two(&mut tables, TWO).is_err() {
+    let mut reader = TableReader::new(alloc);
+    if read_two(&mut reader, TWO).is_err() {
         return Ok(None);
     }
-    counts_of_text::<R, L>(alloc, &tables, text, budget, &mut steps)
+    counts_of_text::<R, L>(alloc, reader.tables(), text, budget, &mut steps)
 }
 
 #[test]

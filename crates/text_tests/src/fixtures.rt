@@ -4,7 +4,7 @@ ghost use Rattle.std.specs.List.{AllByRecursion};
 ghost use Rattle.bound_query.specs.WeighedQuery.{Fits};
 
 use bound_query::Query;
-use csv_tables::TableFault;
+use csv_tables::{TableFault, TableReader};
 use query_bind::bind;
 use query_grammar::parse;
 use query_select::Select;
@@ -16,15 +16,19 @@ pub(crate) const R: &str = "a,b,w\n1,x,3\n2,y,1\n3,x,1\n";
 pub(crate) const S: &str = "b,c,w\nx,p,5\ny,q,2\nx,q,4\n";
 
 /// Reads the tables of two small files.
-pub(crate) fn read_two(tables: &mut Tables, first: &str, second: &str) -> Result<(), TableFault>
-    requires { tables.old ≡ [] }
-    ensures { OnOk result (length tables.new ≡ 2) }
+pub(crate) fn read_two(
+    reader: &mut TableReader,
+    first: &str,
+    second: &str,
+) -> Result<(), TableFault>
+    requires { reader.old ≡ [] }
+    ensures { OnOk result (length reader.new ≡ 2) }
 {
     if first.len() > 1000 || second.len() > 1000 {
         return Err(TableFault::NoMemory);
     }
-    csv_tables::read_table(tables, first.as_bytes())?;
-    csv_tables::read_table(tables, second.as_bytes())?;
+    reader.read(first.as_bytes())?;
+    reader.read(second.as_bytes())?;
     Ok(())
 }
 

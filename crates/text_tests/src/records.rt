@@ -6,6 +6,7 @@ ghost use Rattle.bound_query.specs.WeighedQuery.{Fits};
 use crate::fixtures::{R, S, query_of, read_two};
 use answer_print::{AnswerWriter, Style, header, line, write_line};
 use bound_query::Query;
+use csv_tables::TableReader;
 use std::alloc::Global;
 use table_store::Tables;
 
@@ -107,8 +108,9 @@ fn prints_over(alloc: Global, tables: &Tables, case: &Case) -> bool
 
 /// The same for the tables of the case's texts.
 fn prints(alloc: Global, case: &Case) -> bool {
-    let mut tables = Tables::new(alloc);
-    read_two(&mut tables, case.first, case.second).is_ok() && prints_over(alloc, &tables, case)
+    let mut reader = TableReader::new(alloc);
+    read_two(&mut reader, case.first, case.second).is_ok()
+        && prints_over(alloc, reader.tables(), case)
 }
 
 /// The place of the first case that is printed in another way.

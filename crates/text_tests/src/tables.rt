@@ -1,5 +1,5 @@
 //! Tables: worked files, and that each call succeeds with ample memory, which no clause says.
-use csv_tables::{RecordWriter, TableFault, line};
+use csv_tables::{RecordWriter, TableFault, TableReader, line};
 use std::alloc::Global;
 use table_store::Tables;
 
@@ -20,9 +20,9 @@ enum Call {
 }
 
 /// Reads one more table; a test reads few and small ones.
-fn read(tables: &mut Tables, bytes: &[u8]) -> Result<u32, TableFault> {
-    if tables.count() < 16 && bytes.len() <= 67_108_864 {
-        csv_tables::read_table(tables, bytes)
+fn read(reader: &mut TableReader, bytes: &[u8]) -> Result<u32, TableFault> {
+    if reader.tables().count() < 16 && bytes.len() <= 67_108_864 {
+        reader.read(bytes)
     } else {
         Err(TableFault::NoMemory)
     }
@@ -74,9 +74,17 @@ fn are_same(tables: &Tables, first: Place, second: Place, same: bool) -> bool {
     }
 }
 
-fn returns(tables: &mut Tables, call: Call) -> bool {
+fn returns(reader: &mut TableReader, call: Call) -> bool {
     match call {
-        Call::Read(text, outcome) => read(tables, text.as_bytes()) == outcome,
+        Call::Read(text, outcome) => read(reader, text.as_bytes()) == outcome,
+        call => shows(reader.tables(), call),
+    }
+}
+
+/// Whether the tables that were read so far show what the call says.
+fn shows(tables: &Tables, call: Call) -> bool {
+    match call {
+        Call::Read(..) => false,
         Call::Count(count) => tables.count() == count,
         Call::Name(table, column, text) => has_name(tables, table, column, text),
         Call::Field(place, text) => has_field(tables, place, text),
@@ -87,9 +95,9 @@ fn returns(tables: &mut Tables, call: Call) -> bool {
 }
 
 /// The place of the first call, made on tables one after another, that returns something else.
-fn first_failing_on(tables: &mut Tables, calls: &[Call]) -> Option<usize> {
+fn first_failing_on(reader: &mut TableReader, calls: &[Call]) -> Option<usize> {
     for (i, call) in calls.iter().enumerate() {
-        if !returns(tables, *call) {
+        if !returns(reader, *call) {
             return Some(i);
         }
     }
@@ -98,7 +106,7 @@ fn first_failing_on(tables: &mut Tables, calls: &[Call]) -> Option<usize> {
 
 /// The same, starting without a table.
 fn first_failing(alloc: Global, calls: &[Call]) -> Option<usize> {
-    first_failing_on(&mut Tables::new(alloc), calls)
+    first_failing_on(&mut TableReader::new(alloc), calls)
 }
 
 const OF_TWO_TABLES: &[Call] = &[
