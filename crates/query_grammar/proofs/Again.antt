@@ -12,7 +12,7 @@ use Rattle.query_select.specs.declared.select.Term.{Term}
 use Rattle.query_select.specs.declared.select.Select.{Select}
 use Rattle.query_tokens.specs.Lexeme.{Lexeme}
 use Rattle.query_tokens.specs.Kinds.{same}
-use Rattle.query_grammar.specs.Reading.{Next, Joined, Clauses, Branches, expect_at, optional_at, many_at, column_at, next_column_at, columns_at, list_at, side_at, condition_at, next_condition_at, conditions_at, item_at, plain_item_at, joined_item_at, inner_item_at, next_item_at, items_at, where_at, sign_at, term_at, next_term_at, direction_at, terms_at, key_at, next_key_at, keys_at, order_at, limit_at, finish_at, branch_at, query_at, next_branch_at, branches_at, queries_at}
+use Rattle.query_grammar.specs.Reading.{Next, Joined, Clauses, Branches, expect_at, optional_at, many_at, column_at, next_column_at, columns_at, list_at, side_at, condition_at, next_condition_at, conditions_at, item_at, plain_item_at, joined_item_at, inner_item_at, next_item_at, items_at, where_at, sign_at, term_at, next_term_at, direction_at, terms_at, key_at, next_key_at, keys_at, order_at, limit_at, finish_at, selection_at, sources_at, branch_at, query_at, next_branch_at, branches_at, queries_at}
 use Rattle.query_grammar.specs.Grammar.{One, one, Many, none, more, Behind, after_sign, IsColumn, bare, qualified, IsColumns, columns, IsList, star, listed, IsConstant, text, digits, negative, IsCondition, two_columns, constant_left, constant_right, IsConditions, conditions, IsItem, named, aliased, aliased_as, IsJoined, joined, IsNextItem, comma, join, inner_join, IsItems, items, IsWhere, no_where, some_where, IsSigned, plus, minus, IsFirstTerm, unsigned, signed, IsDirection, unsaid, ascending, descending, IsKey, key, IsOrder, no_order, some_order, IsLimit, no_limit, some_limit, IsEnd, no_sign, semicolon, IsBranch, branch, IsQuery, query, IsNextBranch, next_branch, IsQueries, queries}
 use Rattle.query_tokens.proofs.SameKind.{same_self}
 use Rattle.query_grammar.proofs.Outcomes.{Shortens}
@@ -266,7 +266,7 @@ record EndsBranch (rest : List Lexeme) : Type 0 where
   no_desc : Lacks kind.Desc rest
 
 branch_again : {ts rest : List Lexeme} {s : Select} → IsBranch ts rest s → EndsBranch rest → branch_at ts ≡ Ok (s, rest)
-unfolding branch_at
+unfolding branch_at selection_at sources_at
 branch_again {rest = rest} (branch {d = d} {e = e} s list f found_items found_where found_order) ends =
     let ends_key : EndsKey rest = record { no_dot = ends.no_dot; no_plus = ends.no_plus; no_minus = ends.no_minus; no_asc = ends.no_asc; no_desc = ends.no_desc } in
     let behind_where = λ (j : Kind) (u : same kind.Order j ≡ false) (r : Lacks j rest). order_lacks j u found_order r in

@@ -1,14 +1,18 @@
 -- Each reading function gives a thing of its rule, or stops where the walk stops.
-use Rattle.std.proofs.Common.{◌≡◌, ◌&&◌, cond, ℕ, List, [], ◌∷◌, Option, Some, None, Result, Ok, Err, Bool, true, false, refl, sym, ◌∙◌, subst, unwrap_or}
+use Rattle.std.proofs.Common.{◌≡◌, ◌++◌, ◌&&◌, cond, ℕ, List, [], ◌∷◌, Option, Some, None, Result, Ok, Err, Bool, true, false, refl, sym, ◌∙◌, subst, unwrap_or}
 use Rattle.query_tokens.specs.declared.token.Kind.{Kind}
 use Rattle.query_tokens.specs.declared.token.Kind.TheVariants as kind
 use Rattle.query_select.specs.declared.select.ColumnRef.{ColumnRef}
+use Rattle.query_select.specs.declared.select.Equality.{Equality}
+use Rattle.query_select.specs.declared.select.ItemRef.{ItemRef}
+use Rattle.query_select.specs.declared.select.KeyRef.{KeyRef}
+use Rattle.query_select.specs.declared.select.SelectList.{SelectList}
 use Rattle.query_select.specs.declared.select.Side.{Side}
 use Rattle.query_select.specs.declared.select.Side.TheVariants.{Column, Constant}
 use Rattle.query_select.specs.declared.select.Term.{Term}
 use Rattle.query_select.specs.declared.select.Select.{Select}
 use Rattle.query_tokens.specs.Lexeme.{Lexeme}
-use Rattle.query_grammar.specs.Reading.{Read, Branches, ◌>>=◌, expect_at, behind, with_column, column_at, next_column_at, columns_at, with_star, list_at, with_digits, with_minus, with_text, side_at, with_left, condition_at, next_condition_at, conditions_at, with_alias, with_as, alias_at, item_at, plain_item_at, joined_item_at, inner_item_at, with_inner, with_comma, next_item_at, items_at, with_where, where_at, with_plus, with_sign, sign_at, term_at, with_next_sign, next_term_at, with_desc, direction_at, with_direction, terms_at, key_at, next_key_at, keys_at, with_order, order_at, with_limit, limit_at, nothing_left, finish_at, branch_at, all_branch_at, with_union, next_branch_at, branches_at, queries_at}
+use Rattle.query_grammar.specs.Reading.{Read, Branches, ◌>>=◌, expect_at, behind, with_column, column_at, next_column_at, columns_at, with_star, list_at, with_digits, with_minus, with_text, side_at, with_left, condition_at, next_condition_at, conditions_at, with_alias, with_as, alias_at, item_at, plain_item_at, joined_item_at, inner_item_at, with_inner, with_comma, next_item_at, items_at, with_where, where_at, with_plus, with_sign, sign_at, term_at, with_next_sign, next_term_at, with_desc, direction_at, with_direction, terms_at, key_at, next_key_at, keys_at, with_order, order_at, with_limit, limit_at, nothing_left, finish_at, selection_at, sources_at, branch_at, all_branch_at, with_union, next_branch_at, branches_at, queries_at}
 use Rattle.query_tokens.specs.Kinds.{same}
 use Rattle.query_grammar.specs.Grammar.{One, Many, Behind, IsColumn, bare, qualified, IsColumns, columns, IsList, star, listed, IsConstant, text, digits, negative, IsCondition, two_columns, constant_left, constant_right, IsConditions, conditions, IsItem, named, aliased, aliased_as, IsJoined, joined, IsNextItem, comma, join, inner_join, IsItems, items, IsWhere, no_where, some_where, IsSigned, plus, minus, IsFirstTerm, unsigned, signed, IsDirection, unsaid, ascending, descending, IsKey, key, IsOrder, no_order, some_order, IsLimit, no_limit, some_limit, IsEnd, no_sign, semicolon, IsBranch, branch, IsNextBranch, next_branch, IsQueries, queries}
 use Rattle.query_grammar.specs.Places as place
@@ -267,16 +271,40 @@ module _ (many : Bool) where
 
   -- ---- branches
 
+  -- a selection with its two words
+  data IsSelection : List Lexeme → List Lexeme → SelectList → Type 0 where
+    selection : {ts a b rest : List Lexeme} {s f : Lexeme} {list : SelectList} → One kind.Select ts a s → IsList a b list → One kind.From b rest f → IsSelection ts rest list
+
+  selection_out : (ts : List Lexeme) → Out many IsSelection (choice_of many place.start) (λ _. choice_of many (place.item place.plain)) ts (selection_at ts)
+  unfolding selection_at
+  selection_out ts =
+      then_out many _ refl (expected many kind.Select place.list ts) (λ s a select_word h.
+      then_out many _ h (list_out a) (λ l b list g.
+      then_out many _ g (expected many kind.From (place.item place.plain) b) (λ f rest from_word e.
+      good (selection select_word list from_word) e)))
+
+  -- items, with the conditions of a WHERE behind those of their joins
+  data AreSources : List Lexeme → List Lexeme → List ItemRef × List Equality → Type 0 where
+    sources : {ts a rest : List Lexeme} {i : List ItemRef × List Equality} {es : List Equality} → IsItems ts a i → IsWhere a rest es → AreSources ts rest (i.0, i.1 ++ es)
+
+  sources_out : (ts : List Lexeme) → Out many AreSources (choice_of many (place.item place.plain)) (λ _. after_where many) ts (sources_at ts)
+  unfolding sources_at
+  sources_out ts =
+      then_out many _ refl (items_out ts) (λ i a items_found h.
+      then_out many _ h (where_out a) (λ es rest where_found g.
+      good (sources items_found where_found) g))
+
+  whole_branch : {ts a b rest : List Lexeme} {list : SelectList} {x : List ItemRef × List Equality} {ks : List KeyRef} → IsSelection ts a list → AreSources a b x → IsOrder b rest ks
+      → IsBranch ts rest (record { list = list; items = x.0; equalities = x.1; keys = ks; limit = None })
+  whole_branch (selection s list f) (sources is es) ks = branch s list f is es ks
+
   pub branch_out : (ts : List Lexeme) → Out many IsBranch (choice_of many place.start) (λ _. after_order many) ts (branch_at ts)
   unfolding branch_at
   branch_out ts =
-      then_out many _ refl (expected many kind.Select place.list ts) (λ s a select_word ha.
-      then_out many _ ha (list_out a) (λ l b list hb.
-      then_out many _ hb (expected many kind.From (place.item place.plain) b) (λ f c from_word hc.
-      then_out many _ hc (items_out c) (λ i d items_found hd.
-      then_out many _ hd (where_out d) (λ es e where_found he.
-      then_out many _ he (order_out e) (λ ks g order_found hg.
-      good (branch select_word list from_word items_found where_found order_found) hg))))))
+      then_out many _ refl (selection_out ts) (λ l a list h.
+      then_out many _ h (sources_out a) (λ x b found g.
+      then_out many _ g (order_out b) (λ ks rest order_found e.
+      good (whole_branch list found order_found) e)))
 
   pub limit_out : (ts : List Lexeme) → Out many IsLimit (after_branches many) (λ _. after_limit many) ts (limit_at ts)
   unfolding limit_at

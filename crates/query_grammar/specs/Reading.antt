@@ -328,32 +328,49 @@ finish_at tokens = nothing_left (optional_at kind.Semicolon tokens).1
 abbrev pub Clauses : Type 0
 Clauses = Select × Option Lexeme
 
--- a query up to its order keys
-unfoldable pub branch_at : List Lexeme → Read Select
-branch_at tokens = do
+-- `select`, what is selected, and `from`
+unfoldable pub selection_at : List Lexeme → Read SelectList
+selection_at tokens = do
   select_word ← expect_at kind.Select tokens
   list ← list_at select_word.1
   from_word ← expect_at kind.From list.1
-  items ← items_at from_word.1
+  Ok (list.0, from_word.1)
+
+-- items, and all equalities of the query
+unfoldable pub sources_at : List Lexeme → Read (List ItemRef × List Equality)
+sources_at tokens = do
+  items ← items_at tokens
   condition ← where_at items.1
-  keys ← order_at condition.1
+  Ok ((items.0.0, items.0.1 ++ condition.0), condition.1)
+
+-- a query up to its order keys
+unfoldable pub branch_at : List Lexeme → Read Select
+branch_at tokens = do
+  list ← selection_at tokens
+  sources ← sources_at list.1
+  keys ← order_at sources.1
   Ok (
     record {
       list = list.0;
-      items = items.0.0;
-      equalities = items.0.1 ++ condition.0;
+      items = sources.0.0;
+      equalities = sources.0.1;
       keys = keys.0;
       limit = None;
     },
     keys.1,
   )
 
+-- what was read, and the digits of the limit behind it
+abbrev pub ended_at : {A : Type 0} → A → List Lexeme → Result (A × Option Lexeme) (List Lexeme)
+ended_at read tokens = do
+  digits ← limit_at tokens
+  done ← finish_at digits.1
+  Ok (read, digits.0)
+
 unfoldable pub query_at : List Lexeme → Result Clauses (List Lexeme)
 query_at tokens = do
   branch ← branch_at tokens
-  digits ← limit_at branch.1
-  done ← finish_at digits.1
-  Ok (branch.0, digits.0)
+  ended_at branch.0 branch.1
 
 -- ---- several queries
 
@@ -384,6 +401,4 @@ branches_at many tokens = do
 unfoldable pub queries_at : Bool → List Lexeme → Result Branches (List Lexeme)
 queries_at many tokens = do
   branches ← branches_at many tokens
-  digits ← limit_at branches.1
-  done ← finish_at digits.1
-  Ok (branches.0, digits.0)
+  ended_at branches.0 branches.1

@@ -3,7 +3,7 @@
 ghost use Rattle.std.specs.Prelude.{◌≡◌, length, ◌≤◌, ◌++◌, ◌∷◌, [], MatchOption, Some, None, true, IfOk, OnOk, option_copied, Option, Bool, List, ℕ};
 ghost use Rattle.std.specs.Option.{option_map};
 ghost use Rattle.query_tokens.specs.Lexeme.{Lexeme, lexeme, lexemes};
-ghost use Rattle.query_grammar.specs.Reading.{Gives, expect_at, optional_at, place_of, column_at, next_column_at, columns_at, list_at, undoubled, undoubled_from, side_at, condition_at, next_condition_at, conditions_at, alias_at, item_at, plain_item_at, joined_item_at, inner_item_at, next_item_at, items_at, where_at, sign_at, term_at, next_term_at, direction_at, terms_at, key_at, next_key_at, keys_at, order_at, limit_at, finish_at, branch_at, query_at, next_branch_at, branches_at, queries_at, some_lexeme, with_left};
+ghost use Rattle.query_grammar.specs.Reading.{Gives, expect_at, optional_at, place_of, column_at, next_column_at, columns_at, list_at, undoubled, undoubled_from, side_at, condition_at, next_condition_at, conditions_at, alias_at, item_at, plain_item_at, joined_item_at, inner_item_at, next_item_at, items_at, where_at, sign_at, term_at, next_term_at, direction_at, terms_at, key_at, next_key_at, keys_at, order_at, limit_at, finish_at, selection_at, sources_at, branch_at, ended_at, query_at, next_branch_at, branches_at, queries_at, some_lexeme, with_left};
 ghost use Rattle.query_tokens.specs.Kinds.{same};
 
 use crate::fault::ParseFault;
@@ -77,6 +77,15 @@ fn column<'a, 't>(
     Ok((column, rest))
 }
 
+/// A list of one thing, to which more may be added.
+fn one<T: Drop>(alloc: Global, first: T) -> Result<Vec<T>, AllocError>
+    ensures { IfOk result (λ v. v.items ≡ first ∷ []) }
+{
+    let mut list = Vec::new(alloc);
+    list.push(first)?;
+    Ok(list)
+}
+
 /// A column that is named without an alias.
 fn bare_column(alloc: Global, name: Token<'_>) -> Result<ColumnRef, AllocError>
     ensures { IfOk result
@@ -137,8 +146,7 @@ fn columns<'a, 't>(
     ensures { Gives end (λ x. (x.0, lexemes x.1.now)) result (columns_at (lexemes tokens.now)) }
 {
     let (first, mut rest) = column(alloc, tokens, end)?;
-    let mut columns = Vec::new(alloc);
-    columns.push(first)?;
+    let mut columns = one(alloc, first)?;
     while let Some((column, after)) = next_column(alloc, rest, end)? {
         columns.push(column)?;
         rest = after;
@@ -295,8 +303,7 @@ fn conditions<'a, 't>(
         (conditions_at (lexemes tokens.now)) }
 {
     let (first, mut rest) = condition(alloc, tokens, end)?;
-    let mut equalities = Vec::new(alloc);
-    equalities.push(first)?;
+    let mut equalities = one(alloc, first)?;
     while let Some((equality, after)) = next_condition(alloc, rest, end)? {
         equalities.push(equality)?;
         rest = after;
@@ -435,6 +442,16 @@ impl FromItems {
         self.on.append(&mut on)?;
         Ok(())
     }
+
+    /// Puts further conditions after the others.
+    fn filter(&mut self, conditions: Vec<Equality>) -> Result<(), AllocError>
+        ensures items { self.new.items.items ≡ self.old.items.items }
+        ensures on { OnOk result (self.new.on.items ≡ self.old.on.items ++ conditions.items) }
+    {
+        let mut conditions = conditions;
+        self.on.append(&mut conditions)?;
+        Ok(())
+    }
 }
 
 /// Reads the items of a query, with the conditions of their joins.
@@ -448,11 +465,9 @@ fn items<'a, 't>(
         (items_at (lexemes tokens.now)) }
 {
     let (first, mut rest) = item(alloc, tokens, end)?;
-    let mut found = FromItems {
-        items: Vec::new(alloc),
-        on: Vec::new(alloc),
-    };
-    found.items.push(first)?;
+    let items = one(alloc, first)?;
+    let on = Vec::new(alloc);
+    let mut found = FromItems { items, on };
     while let Some((joined, after)) = next_item(alloc, rest, end)? {
         found.push(joined)?;
         rest = after;
@@ -544,8 +559,7 @@ fn terms<'a, 't>(
 {
     let (minus, rest) = sign(tokens);
     let (first, mut rest) = term(alloc, minus.unwrap_or(false), rest, end)?;
-    let mut terms = Vec::new(alloc);
-    terms.push(first)?;
+    let mut terms = one(alloc, first)?;
     while let Some((term, after)) = next_term(alloc, rest, end)? {
         terms.push(term)?;
         rest = after;
@@ -596,8 +610,7 @@ fn keys<'a, 't>(
 {
     let (_, rest) = expect(tokens, end, Kind::By)?;
     let (first, mut rest) = key(alloc, rest, end)?;
-    let mut keys = Vec::new(alloc);
-    keys.push(first)?;
+    let mut keys = one(alloc, first)?;
     while let Some((key, after)) = next_key(alloc, rest, end)? {
         keys.push(key)?;
         rest = after;
@@ -651,6 +664,37 @@ fn finish(tokens: &[Token<'_>], end: u32) -> Result<(), ParseFault>
     }
 }
 
+/// Reads `select`, what is selected, and `from`.
+#[tactic(auto, unfolding(crate::specs::Reading::selection_at))]
+fn selection<'a, 't>(
+    alloc: Global,
+    tokens: &'t [Token<'a>],
+    end: u32,
+) -> Result<(SelectList, &'t [Token<'a>]), ParseFault>
+    ensures { Gives end (λ x. (x.0, lexemes x.1.now)) result (selection_at (lexemes tokens.now)) }
+{
+    let (_, rest) = expect(tokens, end, Kind::Select)?;
+    let (list, rest) = list(alloc, rest, end)?;
+    let (_, rest) = expect(rest, end, Kind::From)?;
+    Ok((list, rest))
+}
+
+/// Reads items, and puts the conditions of the `where` behind those of their joins.
+#[tactic(auto, unfolding(crate::specs::Reading::sources_at))]
+fn sources<'a, 't>(
+    alloc: Global,
+    tokens: &'t [Token<'a>],
+    end: u32,
+) -> Result<(FromItems, &'t [Token<'a>]), ParseFault>
+    ensures { Gives end (λ x. ((x.0.items.items, x.0.on.items), lexemes x.1.now)) result
+        (sources_at (lexemes tokens.now)) }
+{
+    let (mut found, rest) = items(alloc, tokens, end)?;
+    let (conditions, rest) = where_clause(alloc, rest, end)?;
+    found.filter(conditions)?;
+    Ok((found, rest))
+}
+
 /// A query up to its order keys, without its limit.
 #[tactic(auto, unfolding(crate::specs::Reading::branch_at))]
 fn branch<'a, 't>(
@@ -660,14 +704,24 @@ fn branch<'a, 't>(
 ) -> Result<(Select, &'t [Token<'a>]), ParseFault>
     ensures { Gives end (λ x. (x.0, lexemes x.1.now)) result (branch_at (lexemes tokens.now)) }
 {
-    let (_, rest) = expect(tokens, end, Kind::Select)?;
-    let (list, rest) = list(alloc, rest, end)?;
-    let (_, rest) = expect(rest, end, Kind::From)?;
-    let (found, rest) = items(alloc, rest, end)?;
-    let (conditions, rest) = where_clause(alloc, rest, end)?;
+    let (list, rest) = selection(alloc, tokens, end)?;
+    let (found, rest) = sources(alloc, rest, end)?;
     let (keys, rest) = order_clause(alloc, rest, end)?;
-    let select = selected(list, found, conditions, keys)?;
-    Ok((select, rest))
+    Ok((selected(list, found, keys), rest))
+}
+
+/// What was read, with the limit's digits behind it. Nothing but a `;` may be left after them.
+fn ended<'a, T: Drop>(
+    read: T,
+    tokens: &[Token<'a>],
+    end: u32,
+) -> Result<(T, Option<Token<'a>>), ParseFault>
+    ensures { Gives end (λ x. (x.0, some_lexeme x.1)) result
+        (ended_at read (lexemes tokens.now)) }
+{
+    let (digits, rest) = limit_clause(tokens, end)?;
+    finish(rest, end)?;
+    Ok((read, digits))
 }
 
 /// A query without its limit, and the limit's digits.
@@ -680,9 +734,7 @@ pub(crate) fn query<'a>(
     ensures { Gives end (λ x. (x.0, some_lexeme x.1)) result (query_at (lexemes tokens.now)) }
 {
     let (select, rest) = branch(alloc, tokens, end)?;
-    let (digits, rest) = limit_clause(rest, end)?;
-    finish(rest, end)?;
-    Ok((select, digits))
+    ended(select, rest, end)
 }
 
 /// UNION ALL and the branch after it.
@@ -715,8 +767,7 @@ fn branches<'a, 't>(
         (branches_at true (lexemes tokens.now)) }
 {
     let (first, mut rest) = branch(alloc, tokens, end)?;
-    let mut branches = Vec::new(alloc);
-    branches.push(first)?;
+    let mut branches = one(alloc, first)?;
     while let Some((branch, after)) = next_branch(alloc, rest, end)? {
         branches.push(branch)?;
         rest = after;
@@ -735,37 +786,25 @@ pub(crate) fn queries<'a>(
         (queries_at true (lexemes tokens.now)) }
 {
     let (branches, rest) = branches(alloc, tokens, end)?;
-    let (digits, rest) = limit_clause(rest, end)?;
-    finish(rest, end)?;
-    Ok((branches, digits))
+    ended(branches, rest, end)
 }
 
 /// The select of the clauses that were read, without a limit.
-fn selected(
-    list: SelectList,
-    found: FromItems,
-    conditions: Vec<Equality>,
-    keys: Vec<KeyRef>,
-) -> Result<Select, AllocError>
-    ensures { IfOk result
-        (λ s. s ≡ record {
-          list = list;
-          items = found.items.items;
-          equalities = found.on.items
-              ++ conditions.items;
-          keys = keys.items;
-          limit = None;
-        }) }
+fn selected(list: SelectList, found: FromItems, keys: Vec<KeyRef>) -> Select
+    ensures { result ≡ record {
+      list = list;
+      items = found.items.items;
+      equalities = found.on.items;
+      keys = keys.items;
+      limit = None;
+    } }
 {
     let FromItems { items, on } = found;
-    let mut equalities = on;
-    let mut conditions = conditions;
-    equalities.append(&mut conditions)?;
-    Ok(Select {
+    Select {
         list,
         items: Sequence::from_vec(items),
-        equalities: Sequence::from_vec(equalities),
+        equalities: Sequence::from_vec(on),
         keys: Sequence::from_vec(keys),
         limit: None,
-    })
+    }
 }

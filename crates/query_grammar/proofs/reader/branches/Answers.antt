@@ -16,7 +16,7 @@ loop-branches-smaller c = fewer branch_steps c.loop-branches.rest.now c.in-Some.
 
 pub loop-branches-preserved : goal.loop-branches-preserved
 loop-branches-preserved c =
-    rw c.in_ok-push-2.ensures.items (goes_on branch_steps c.loop-branches.branches.items c.in-Some.branch (lexemes c.loop-branches.rest.now) (lexemes c.in-Some.after.now) (branches_at true (lexemes c.args.tokens.now)) (rw c.in-Some.is at c.in_ok-branch.ensures) c.loop-branches.invariant)
+    rw c.in_ok-push.ensures.items (goes_on branch_steps c.loop-branches.branches.items c.in-Some.branch (lexemes c.loop-branches.rest.now) (lexemes c.in-Some.after.now) (branches_at true (lexemes c.args.tokens.now)) (rw c.in-Some.is at c.in_ok-branch.ensures) c.loop-branches.invariant)
 
 pub returns : goal.returns
 returns c = rw c.from_vec.ensures (is_done branch_steps c.loop-branches.branches.items (lexemes c.loop-branches.rest.now) (branches_at true (lexemes c.args.tokens.now)) (rw c.in_default.is at c.in_ok-branch.ensures) c.loop-branches.invariant)

@@ -15,7 +15,7 @@ loop-columns-smaller c = fewer column_steps c.loop-columns.rest.now c.in-Some.af
 
 pub loop-columns-preserved : goal.loop-columns-preserved
 loop-columns-preserved c =
-    rw c.in_ok-push-2.ensures.items (goes_on column_steps c.loop-columns.columns.items c.in-Some.column (lexemes c.loop-columns.rest.now) (lexemes c.in-Some.after.now) (columns_at (lexemes c.args.tokens.now)) (rw c.in-Some.is at c.in_ok-column.ensures) c.loop-columns.invariant)
+    rw c.in_ok-push.ensures.items (goes_on column_steps c.loop-columns.columns.items c.in-Some.column (lexemes c.loop-columns.rest.now) (lexemes c.in-Some.after.now) (columns_at (lexemes c.args.tokens.now)) (rw c.in-Some.is at c.in_ok-column.ensures) c.loop-columns.invariant)
 
 pub returns : goal.returns
 returns c = rw c.from_vec.ensures (is_done column_steps c.loop-columns.columns.items (lexemes c.loop-columns.rest.now) (columns_at (lexemes c.args.tokens.now)) (rw c.in_default.is at c.in_ok-column.ensures) c.loop-columns.invariant)

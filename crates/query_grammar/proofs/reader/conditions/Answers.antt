@@ -15,7 +15,7 @@ loop-equalities-smaller c = fewer condition_steps c.loop-equalities.rest.now c.i
 
 pub loop-equalities-preserved : goal.loop-equalities-preserved
 loop-equalities-preserved c =
-    rw c.in_ok-push-2.ensures.items (goes_on condition_steps c.loop-equalities.equalities.items c.in-Some.equality (lexemes c.loop-equalities.rest.now) (lexemes c.in-Some.after.now) (conditions_at (lexemes c.args.tokens.now)) (rw c.in-Some.is at c.in_ok-equality.ensures) c.loop-equalities.invariant)
+    rw c.in_ok-push.ensures.items (goes_on condition_steps c.loop-equalities.equalities.items c.in-Some.equality (lexemes c.loop-equalities.rest.now) (lexemes c.in-Some.after.now) (conditions_at (lexemes c.args.tokens.now)) (rw c.in-Some.is at c.in_ok-equality.ensures) c.loop-equalities.invariant)
 
 pub returns : goal.returns
 returns c = (is_done condition_steps c.loop-equalities.equalities.items (lexemes c.loop-equalities.rest.now) (conditions_at (lexemes c.args.tokens.now)) (rw c.in_default.is at c.in_ok-equality.ensures) c.loop-equalities.invariant)

@@ -15,7 +15,7 @@ loop-keys-smaller c = fewer key_steps c.loop-keys.rest.now c.in-Some.after.now c
 
 pub loop-keys-preserved : goal.loop-keys-preserved
 loop-keys-preserved c =
-    rw c.in_ok-push-2.ensures.items (goes_on key_steps c.loop-keys.keys.items c.in-Some.key (lexemes c.loop-keys.rest.now) (lexemes c.in-Some.after.now) (keys_at (lexemes c.args.tokens.now)) (rw c.in-Some.is at c.in_ok-key.ensures) c.loop-keys.invariant)
+    rw c.in_ok-push.ensures.items (goes_on key_steps c.loop-keys.keys.items c.in-Some.key (lexemes c.loop-keys.rest.now) (lexemes c.in-Some.after.now) (keys_at (lexemes c.args.tokens.now)) (rw c.in-Some.is at c.in_ok-key.ensures) c.loop-keys.invariant)
 
 pub returns : goal.returns
 returns c = (is_done key_steps c.loop-keys.keys.items (lexemes c.loop-keys.rest.now) (keys_at (lexemes c.args.tokens.now)) (rw c.in_default.is at c.in_ok-key.ensures) c.loop-keys.invariant)

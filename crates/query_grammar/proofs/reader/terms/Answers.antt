@@ -15,7 +15,7 @@ loop-terms-smaller c = fewer term_steps c.loop-terms.rest.now c.in-Some.after.no
 
 pub loop-terms-preserved : goal.loop-terms-preserved
 loop-terms-preserved c =
-    rw c.in_ok-push-2.ensures.items (goes_on term_steps c.loop-terms.terms.items c.in-Some.term (lexemes c.loop-terms.rest.now) (lexemes c.in-Some.after.now) (terms_at (lexemes c.args.tokens.now)) (rw c.in-Some.is at c.in_ok-term.ensures) c.loop-terms.invariant)
+    rw c.in_ok-push.ensures.items (goes_on term_steps c.loop-terms.terms.items c.in-Some.term (lexemes c.loop-terms.rest.now) (lexemes c.in-Some.after.now) (terms_at (lexemes c.args.tokens.now)) (rw c.in-Some.is at c.in_ok-term.ensures) c.loop-terms.invariant)
 
 pub returns : goal.returns
 returns c = rw c.from_vec.ensures (is_done term_steps c.loop-terms.terms.items (lexemes c.loop-terms.rest.now) (terms_at (lexemes c.args.tokens.now)) (rw c.in_default.is at c.in_ok-term.ensures) c.loop-terms.invariant)
