@@ -79,7 +79,7 @@ many_at next (suc fuel) tokens = next tokens >>= one_more (many_at next fuel) to
 abbrev pub all_at : {A : Type 0} → (List Lexeme → Next A) → List Lexeme → Read (List A)
 all_at next tokens = many_at next (length tokens) tokens
 
-abbrev pub found : {A : Type 0} → Read A → Next A
+abbrev pub found : {A E : Type 0} → Result A E → Result (Option A) E
 found (Ok x) = Ok (Some x)
 found (Err left) = Err left
 

@@ -3,7 +3,7 @@
 ghost use Rattle.std.specs.Prelude.{◌≡◌, length, ◌≤◌, ◌++◌, ◌∷◌, [], MatchOption, Some, None, true, IfOk, OnOk, option_copied, Option, Bool, List, ℕ};
 ghost use Rattle.std.specs.Option.{option_map};
 ghost use Rattle.query_tokens.specs.Lexeme.{Lexeme, lexeme, lexemes};
-ghost use Rattle.query_grammar.specs.Reading.{Gives, expect_at, optional_at, place_of, column_at, next_column_at, columns_at, list_at, undoubled, undoubled_from, side_at, condition_at, next_condition_at, conditions_at, alias_at, item_at, plain_item_at, joined_item_at, inner_item_at, next_item_at, items_at, where_at, sign_at, term_at, next_term_at, direction_at, terms_at, key_at, next_key_at, keys_at, order_at, limit_at, finish_at, selection_at, sources_at, branch_at, ended_at, query_at, next_branch_at, branches_at, queries_at, some_lexeme, with_left};
+ghost use Rattle.query_grammar.specs.Reading.{Gives, found, expect_at, optional_at, place_of, column_at, next_column_at, columns_at, list_at, undoubled, undoubled_from, side_at, condition_at, next_condition_at, conditions_at, alias_at, item_at, plain_item_at, joined_item_at, inner_item_at, next_item_at, items_at, where_at, sign_at, term_at, next_term_at, direction_at, terms_at, key_at, next_key_at, keys_at, order_at, limit_at, finish_at, selection_at, sources_at, branch_at, ended_at, query_at, next_branch_at, branches_at, queries_at, some_lexeme, with_left};
 ghost use Rattle.query_tokens.specs.Kinds.{same};
 
 use crate::fault::ParseFault;
@@ -118,8 +118,16 @@ fn qualified_column(
     Ok(ColumnRef { alias, column, at })
 }
 
+/// What was read, as something that was found.
+fn found<T>(read: Result<T, ParseFault>) -> Result<Option<T>, ParseFault>
+    ensures { result ≡ found read }
+{
+    let thing = read?;
+    Ok(Some(thing))
+}
+
 /// Reads a comma and a column reference, if there is a comma.
-#[tactic(auto, unfolding(crate::specs::Reading::next_column_at))]
+#[tactic(auto, using(crate::proofs::Handed::found_gives), unfolding(crate::specs::Reading::next_column_at))]
 fn next_column<'a, 't>(
     alloc: Global,
     tokens: &'t [Token<'a>],
@@ -132,8 +140,7 @@ fn next_column<'a, 't>(
     if comma.is_none() {
         return Ok(None);
     }
-    let found = column(alloc, rest, end)?;
-    Ok(Some(found))
+    found(column(alloc, rest, end))
 }
 
 /// Reads column references with commas between them.
@@ -275,7 +282,7 @@ fn with_left<'a, 't>(
 }
 
 /// Reads `and` and a condition, if there is an `and`.
-#[tactic(auto, unfolding(crate::specs::Reading::next_condition_at))]
+#[tactic(auto, using(crate::proofs::Handed::found_gives), unfolding(crate::specs::Reading::next_condition_at))]
 fn next_condition<'a, 't>(
     alloc: Global,
     tokens: &'t [Token<'a>],
@@ -288,8 +295,7 @@ fn next_condition<'a, 't>(
     if and.is_none() {
         return Ok(None);
     }
-    let found = condition(alloc, rest, end)?;
-    Ok(Some(found))
+    found(condition(alloc, rest, end))
 }
 
 /// Reads conditions with `and` between them.
@@ -399,7 +405,7 @@ fn inner_item<'a, 't>(
 }
 
 /// Reads a further item, if a comma or a `join` comes before it.
-#[tactic(auto, unfolding(crate::specs::Reading::next_item_at))]
+#[tactic(auto, using(crate::proofs::Handed::found_gives), unfolding(crate::specs::Reading::next_item_at))]
 fn next_item<'a, 't>(
     alloc: Global,
     tokens: &'t [Token<'a>],
@@ -409,16 +415,13 @@ fn next_item<'a, 't>(
         (next_item_at (lexemes tokens.now)) }
 {
     if let (Some(_), rest) = optional(tokens, Kind::Comma) {
-        let found = plain_item(alloc, rest, end)?;
-        return Ok(Some(found));
+        return found(plain_item(alloc, rest, end));
     }
     if let (Some(_), rest) = optional(tokens, Kind::Inner) {
-        let found = inner_item(alloc, rest, end)?;
-        return Ok(Some(found));
+        return found(inner_item(alloc, rest, end));
     }
     if let (Some(_), rest) = optional(tokens, Kind::Join) {
-        let found = joined_item(alloc, rest, end)?;
-        return Ok(Some(found));
+        return found(joined_item(alloc, rest, end));
     }
     Ok(None)
 }
@@ -520,7 +523,7 @@ fn term<'a, 't>(
 }
 
 /// Reads a sign and a column, if there is a sign.
-#[tactic(auto, unfolding(crate::specs::Reading::next_term_at))]
+#[tactic(auto, using(crate::proofs::Handed::found_gives), unfolding(crate::specs::Reading::next_term_at))]
 fn next_term<'a, 't>(
     alloc: Global,
     tokens: &'t [Token<'a>],
@@ -530,8 +533,7 @@ fn next_term<'a, 't>(
         (next_term_at (lexemes tokens.now)) }
 {
     if let (Some(minus), rest) = sign(tokens) {
-        let found = term(alloc, minus, rest, end)?;
-        return Ok(Some(found));
+        return found(term(alloc, minus, rest, end));
     }
     Ok(None)
 }
@@ -582,7 +584,7 @@ fn key<'a, 't>(
 }
 
 /// Reads a comma and an order key, if there is a comma.
-#[tactic(auto, unfolding(crate::specs::Reading::next_key_at))]
+#[tactic(auto, using(crate::proofs::Handed::found_gives), unfolding(crate::specs::Reading::next_key_at))]
 fn next_key<'a, 't>(
     alloc: Global,
     tokens: &'t [Token<'a>],
@@ -595,8 +597,7 @@ fn next_key<'a, 't>(
     if comma.is_none() {
         return Ok(None);
     }
-    let found = key(alloc, rest, end)?;
-    Ok(Some(found))
+    found(key(alloc, rest, end))
 }
 
 /// Reads `by` and order keys with commas between them.
@@ -738,7 +739,7 @@ pub(crate) fn query<'a>(
 }
 
 /// UNION ALL and the branch after it.
-#[tactic(auto, unfolding(crate::specs::Reading::next_branch_at))]
+#[tactic(auto, using(crate::proofs::Handed::found_gives), unfolding(crate::specs::Reading::next_branch_at))]
 fn next_branch<'a, 't>(
     alloc: Global,
     tokens: &'t [Token<'a>],
@@ -752,8 +753,7 @@ fn next_branch<'a, 't>(
         return Ok(None);
     }
     let (_, rest) = expect(rest, end, Kind::All)?;
-    let found = branch(alloc, rest, end)?;
-    Ok(Some(found))
+    found(branch(alloc, rest, end))
 }
 
 /// Reads queries with `union all` between them.
