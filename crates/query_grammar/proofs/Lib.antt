@@ -7,6 +7,7 @@ pub mod OneQuery
 pub mod Loops
 pub mod Stepping
 pub mod Handed
+pub mod Adding
 pub mod Examples
 pub mod Decimal
 pub mod Limited

@@ -1,5 +1,5 @@
 -- Reading from left to right. An error is what is left when the next token is not allowed.
-use Rattle.std.specs.Prelude.{◌≡◌, ℕ, zero, suc, List, [], ◌∷◌, ◌++◌, length, map, Option, Some, None, Result, Ok, Err, Bool, true, false, if◌then◌else◌, ◌==◌, unwrap_or}
+use Rattle.std.specs.Prelude.{◌≡◌, ◌≢◌, ℕ, zero, suc, List, [], ◌∷◌, ◌++◌, length, map, Option, Some, None, Result, Ok, Err, Bool, true, false, if◌then◌else◌, ◌==◌, unwrap_or}
 use Rattle.std.specs.List.{flat_map}
 use Rattle.query_tokens.specs.declared.token.Kind.{Kind}
 use Rattle.query_tokens.specs.declared.token.Kind.TheVariants as kind
@@ -82,6 +82,14 @@ all_at next tokens = many_at next (length tokens) tokens
 abbrev pub found : {A E : Type 0} → Result A E → Result (Option A) E
 found (Ok x) = Ok (Some x)
 found (Err left) = Err left
+
+-- what was found is the last of a list now, and `result` says what is left
+abbrev pub Added : {A B : Type 0} → List A → List A → Result (Option (A × B)) ParseFault
+    → Result (Option B) ParseFault → Type 0
+Added {A} old new next (Ok (Some rest)) = (x : A) × (next ≡ Ok (Some (x, rest)))
+    × (new ≡ old ++ x ∷ [])
+Added old new next (Ok None) = (next ≡ Ok None) × (new ≡ old)
+Added old new next (Err e) = fault.NoMemory ≢ e → next ≡ Err e
 
 -- one more after a separator
 abbrev pub behind : {A : Type 0} → (List Lexeme → Read A) → Option Lexeme × List Lexeme → Next A

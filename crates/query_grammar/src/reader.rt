@@ -3,7 +3,7 @@
 ghost use Rattle.std.specs.Prelude.{◌≡◌, length, ◌≤◌, ◌++◌, ◌∷◌, [], MatchOption, Some, None, true, IfOk, OnOk, option_copied, Option, Bool, List, ℕ};
 ghost use Rattle.std.specs.Option.{option_map};
 ghost use Rattle.query_tokens.specs.Lexeme.{Lexeme, lexeme, lexemes};
-ghost use Rattle.query_grammar.specs.Reading.{Gives, found, expect_at, optional_at, place_of, column_at, next_column_at, columns_at, list_at, undoubled, undoubled_from, side_at, condition_at, next_condition_at, conditions_at, alias_at, item_at, plain_item_at, joined_item_at, inner_item_at, next_item_at, items_at, where_at, sign_at, term_at, next_term_at, direction_at, terms_at, key_at, next_key_at, keys_at, order_at, limit_at, finish_at, selection_at, sources_at, branch_at, ended_at, query_at, next_branch_at, branches_at, queries_at, some_lexeme, with_left};
+ghost use Rattle.query_grammar.specs.Reading.{Gives, Added, found, expect_at, optional_at, place_of, column_at, next_column_at, columns_at, list_at, undoubled, undoubled_from, side_at, condition_at, next_condition_at, conditions_at, alias_at, item_at, plain_item_at, joined_item_at, inner_item_at, next_item_at, items_at, where_at, sign_at, term_at, next_term_at, direction_at, terms_at, key_at, next_key_at, keys_at, order_at, limit_at, finish_at, selection_at, sources_at, branch_at, ended_at, query_at, next_branch_at, branches_at, queries_at, some_lexeme, with_left};
 ghost use Rattle.query_tokens.specs.Kinds.{same};
 
 use crate::fault::ParseFault;
@@ -86,6 +86,22 @@ fn one<T: Drop>(alloc: Global, first: T) -> Result<Vec<T>, AllocError>
     Ok(list)
 }
 
+/// Puts what was found behind the others of a list, and returns the tokens after it.
+fn add<'a, 't, T: Drop>(
+    list: &mut Vec<T>,
+    next: Result<Option<(T, &'t [Token<'a>])>, ParseFault>,
+) -> Result<Option<&'t [Token<'a>]>, ParseFault>
+    ensures { Added list.old.items list.new.items next.entry result }
+{
+    match next? {
+        None => Ok(None),
+        Some((thing, rest)) => {
+            list.push(thing)?;
+            Ok(Some(rest))
+        }
+    }
+}
+
 /// A column that is named without an alias.
 fn bare_column(alloc: Global, name: Token<'_>) -> Result<ColumnRef, AllocError>
     ensures { IfOk result
@@ -154,8 +170,7 @@ fn columns<'a, 't>(
 {
     let (first, mut rest) = column(alloc, tokens, end)?;
     let mut columns = one(alloc, first)?;
-    while let Some((column, after)) = next_column(alloc, rest, end)? {
-        columns.push(column)?;
+    while let Some(after) = add(&mut columns, next_column(alloc, rest, end))? {
         rest = after;
     }
     Ok((Sequence::from_vec(columns), rest))
@@ -310,8 +325,7 @@ fn conditions<'a, 't>(
 {
     let (first, mut rest) = condition(alloc, tokens, end)?;
     let mut equalities = one(alloc, first)?;
-    while let Some((equality, after)) = next_condition(alloc, rest, end)? {
-        equalities.push(equality)?;
+    while let Some(after) = add(&mut equalities, next_condition(alloc, rest, end))? {
         rest = after;
     }
     Ok((equalities, rest))
@@ -562,8 +576,7 @@ fn terms<'a, 't>(
     let (minus, rest) = sign(tokens);
     let (first, mut rest) = term(alloc, minus.unwrap_or(false), rest, end)?;
     let mut terms = one(alloc, first)?;
-    while let Some((term, after)) = next_term(alloc, rest, end)? {
-        terms.push(term)?;
+    while let Some(after) = add(&mut terms, next_term(alloc, rest, end))? {
         rest = after;
     }
     Ok((Sequence::from_vec(terms), rest))
@@ -612,8 +625,7 @@ fn keys<'a, 't>(
     let (_, rest) = expect(tokens, end, Kind::By)?;
     let (first, mut rest) = key(alloc, rest, end)?;
     let mut keys = one(alloc, first)?;
-    while let Some((key, after)) = next_key(alloc, rest, end)? {
-        keys.push(key)?;
+    while let Some(after) = add(&mut keys, next_key(alloc, rest, end))? {
         rest = after;
     }
     Ok((keys, rest))
@@ -768,8 +780,7 @@ fn branches<'a, 't>(
 {
     let (first, mut rest) = branch(alloc, tokens, end)?;
     let mut branches = one(alloc, first)?;
-    while let Some((branch, after)) = next_branch(alloc, rest, end)? {
-        branches.push(branch)?;
+    while let Some(after) = add(&mut branches, next_branch(alloc, rest, end))? {
         rest = after;
     }
     Ok((Sequence::from_vec(branches), rest))
