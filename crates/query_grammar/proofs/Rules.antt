@@ -271,32 +271,31 @@ module _ (many : Bool) where
 
   -- ---- branches
 
-  -- a selection with its two words
+  -- what is selected, with the word before it
   data IsSelection : List Lexeme → List Lexeme → SelectList → Type 0 where
-    selection : {ts a b rest : List Lexeme} {s f : Lexeme} {list : SelectList} → One kind.Select ts a s → IsList a b list → One kind.From b rest f → IsSelection ts rest list
+    selection : {ts a rest : List Lexeme} {s : Lexeme} {list : SelectList} → One kind.Select ts a s → IsList a rest list → IsSelection ts rest list
 
-  selection_out : (ts : List Lexeme) → Out many IsSelection (choice_of many place.start) (λ _. choice_of many (place.item place.plain)) ts (selection_at ts)
+  selection_out : (ts : List Lexeme) → Out many IsSelection (choice_of many place.start) (λ _. after_list many) ts (selection_at ts)
   unfolding selection_at
   selection_out ts =
       then_out many _ refl (expected many kind.Select place.list ts) (λ s a select_word h.
-      then_out many _ h (list_out a) (λ l b list g.
-      then_out many _ g (expected many kind.From (place.item place.plain) b) (λ f rest from_word e.
-      good (selection select_word list from_word) e)))
+      last_out many h (list_out a) (λ l rest list g. good (selection select_word list) g))
 
-  -- items, with the conditions of a WHERE behind those of their joins
+  -- items behind their word, with the conditions of a WHERE behind those of their joins
   data AreSources : List Lexeme → List Lexeme → List ItemRef × List Equality → Type 0 where
-    sources : {ts a rest : List Lexeme} {i : List ItemRef × List Equality} {es : List Equality} → IsItems ts a i → IsWhere a rest es → AreSources ts rest (i.0, i.1 ++ es)
+    sources : {ts a b rest : List Lexeme} {f : Lexeme} {i : List ItemRef × List Equality} {es : List Equality} → One kind.From ts a f → IsItems a b i → IsWhere b rest es → AreSources ts rest (i.0, i.1 ++ es)
 
-  sources_out : (ts : List Lexeme) → Out many AreSources (choice_of many (place.item place.plain)) (λ _. after_where many) ts (sources_at ts)
+  sources_out : (ts : List Lexeme) → Out many AreSources (after_list many) (λ _. after_where many) ts (sources_at ts)
   unfolding sources_at
   sources_out ts =
-      then_out many _ refl (items_out ts) (λ i a items_found h.
-      then_out many _ h (where_out a) (λ es rest where_found g.
-      good (sources items_found where_found) g))
+      then_out many _ refl (expected many kind.From (place.item place.plain) ts) (λ f a from_word h.
+      then_out many _ h (items_out a) (λ i b items_found g.
+      then_out many _ g (where_out b) (λ es rest where_found e.
+      good (sources from_word items_found where_found) e)))
 
   whole_branch : {ts a b rest : List Lexeme} {list : SelectList} {x : List ItemRef × List Equality} {ks : List KeyRef} → IsSelection ts a list → AreSources a b x → IsOrder b rest ks
       → IsBranch ts rest (record { list = list; items = x.0; equalities = x.1; keys = ks; limit = None })
-  whole_branch (selection s list f) (sources is es) ks = branch s list f is es ks
+  whole_branch (selection s list) (sources f is es) ks = branch s list f is es ks
 
   pub branch_out : (ts : List Lexeme) → Out many IsBranch (choice_of many place.start) (λ _. after_order many) ts (branch_at ts)
   unfolding branch_at

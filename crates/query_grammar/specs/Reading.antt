@@ -336,18 +336,17 @@ finish_at tokens = nothing_left (optional_at kind.Semicolon tokens).1
 abbrev pub Clauses : Type 0
 Clauses = Select × Option Lexeme
 
--- `select`, what is selected, and `from`
+-- `select`, and what is selected
 unfoldable pub selection_at : List Lexeme → Read SelectList
 selection_at tokens = do
   select_word ← expect_at kind.Select tokens
-  list ← list_at select_word.1
-  from_word ← expect_at kind.From list.1
-  Ok (list.0, from_word.1)
+  list_at select_word.1
 
--- items, and all equalities of the query
+-- `from`, the items, and all equalities of the query
 unfoldable pub sources_at : List Lexeme → Read (List ItemRef × List Equality)
 sources_at tokens = do
-  items ← items_at tokens
+  from_word ← expect_at kind.From tokens
+  items ← items_at from_word.1
   condition ← where_at items.1
   Ok ((items.0.0, items.0.1 ++ condition.0), condition.1)
 

@@ -677,7 +677,7 @@ fn finish(tokens: &[Token<'_>], end: u32) -> Result<(), ParseFault>
     }
 }
 
-/// Reads `select`, what is selected, and `from`.
+/// Reads `select`, and what is selected.
 #[tactic(auto, unfolding(crate::specs::Reading::selection_at))]
 fn selection<'a, 't>(
     alloc: Global,
@@ -687,12 +687,10 @@ fn selection<'a, 't>(
     ensures { Gives end (λ x. (x.0, lexemes x.1.now)) result (selection_at (lexemes tokens.now)) }
 {
     let (_, rest) = expect(tokens, end, Kind::Select)?;
-    let (list, rest) = list(alloc, rest, end)?;
-    let (_, rest) = expect(rest, end, Kind::From)?;
-    Ok((list, rest))
+    list(alloc, rest, end)
 }
 
-/// Reads items, and puts the conditions of the `where` behind those of their joins.
+/// Reads `from` and items, and puts the conditions of the `where` behind those of their joins.
 #[tactic(auto, unfolding(crate::specs::Reading::sources_at))]
 fn sources<'a, 't>(
     alloc: Global,
@@ -702,7 +700,8 @@ fn sources<'a, 't>(
     ensures { Gives end (λ x. ((x.0.items.items, x.0.on.items), lexemes x.1.now)) result
         (sources_at (lexemes tokens.now)) }
 {
-    let (mut found, rest) = items(alloc, tokens, end)?;
+    let (_, rest) = expect(tokens, end, Kind::From)?;
+    let (mut found, rest) = items(alloc, rest, end)?;
     let (conditions, rest) = where_clause(alloc, rest, end)?;
     found.filter(conditions)?;
     Ok((found, rest))
