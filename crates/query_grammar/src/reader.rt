@@ -86,7 +86,7 @@ fn one<T: Drop>(alloc: Global, first: T) -> Result<Vec<T>, AllocError>
     Ok(list)
 }
 
-/// Puts what was found behind the others of a list, and returns the tokens after it.
+/// Puts what was found after the others of a list, and returns the tokens after it.
 fn add<'a, 't, T: Drop>(
     list: &mut Vec<T>,
     next: Result<Option<(T, &'t [Token<'a>])>, ParseFault>,
@@ -690,7 +690,7 @@ fn selection<'a, 't>(
     list(alloc, rest, end)
 }
 
-/// Reads `from` and items, and puts the conditions of the `where` behind those of their joins.
+/// Reads `from` and items, and puts the conditions of the `where` after those of their joins.
 #[tactic(auto, unfolding(crate::specs::Reading::sources_at))]
 fn sources<'a, 't>(
     alloc: Global,
@@ -722,7 +722,7 @@ fn branch<'a, 't>(
     Ok((selected(list, found, keys), rest))
 }
 
-/// What was read, with the limit's digits behind it. Nothing but a `;` may be left after them.
+/// What was read, with the limit's digits after it. Nothing but a `;` may be left after them.
 fn ended<'a, T: Drop>(
     read: T,
     tokens: &[Token<'a>],
