@@ -1,4 +1,4 @@
--- A node in which one queue or one product changes.
+-- A node in which one queue, one product or a row's products change.
 use Rattle.std.proofs.Common.{◌≡◌, ℕ, ◌<◌, List, [], length, get_or, slice_set, refl, sym, ap, ◌∙◌, subst}
 use Rattle.std.proofs.lemmas.List.{get_or-set_same}
 use Rattle.suffix_streams.specs.ProductView.{ProductView}
@@ -43,3 +43,14 @@ product_changed {R} children streams products n r c p e l =
         let none : ProductView R = record { found = []; ranks = []; frontier = []; room = 0; frontier_room = 0 } in
         let here = get_or-set_same products r (slice_set (get_or products r []) c p) [] (row_inside products r c l) in
         (ap (λ (ps : List (ProductView R)). get_or ps c none) here ∙ get_or-set_same (get_or products r []) c p none l, refl)
+
+-- a node whose lists of products become `new`
+module _ {R : Type 0} (children : List ℕ) (streams : List (StreamView R)) (products new : List (List (ProductView R))) (n : NodeStreamsView R) (is : record { children = children; streams = streams; products = products } ≡ n) where
+  pub products_set : (r : ℕ) (ps : List (ProductView R)) → new ≡ slice_set products r ps
+      → record { children = children; streams = streams; products = new } ≡ record n { products = slice_set n.products r ps }
+  products_set r ps e =
+      subst (λ (z : NodeStreamsView R). record { children = children; streams = streams; products = new } ≡ record z { products = slice_set z.products r ps }) is
+      (ap (λ (z : List (List (ProductView R))). (let m : NodeStreamsView R = record { children = children; streams = streams; products = z } in m)) e)
+
+  pub products_kept : new ≡ products → record { children = children; streams = streams; products = new } ≡ n
+  products_kept e = ap (λ (z : List (List (ProductView R))). (let m : NodeStreamsView R = record { children = children; streams = streams; products = z } in m)) e ∙ is

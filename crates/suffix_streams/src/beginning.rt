@@ -2,7 +2,7 @@
 ghost use Rattle.std.specs.Prelude.{◌≡◌, ◌≢◌, ℕ, ◌+◌, ◌*◌, ◌<◌, ◌≤◌, [], ◌∷◌, ◌++◌, None, length, slice_index, slice_index_or, IfOk, OnOk};
 ghost use Rattle.stream_store.specs.declared.entry.Linked.{Linked};
 ghost use Rattle.take2_heap.specs.declared.entry.Entry.{Entry};
-ghost use Rattle.tdp_core.specs.TreeView.{rows, group_count, child_count, members};
+ghost use Rattle.tdp_core.specs.TreeView.{rows, row_count, group_count, child_count, members};
 ghost use Rattle.tdp_core.specs.WellFormed.{IsFormed};
 ghost use Rattle.tdp_model.specs.KeyTuple.{key_none};
 ghost use Rattle.suffix_streams.specs.Rankings.{group_list};
@@ -48,6 +48,18 @@ fn rows_to_open(children: usize, rows: u32) -> u32
     if children == 0 { 0 } else { rows }
 }
 
+/// Room for the streams of a number of groups. `NoMemory` if memory is refused.
+fn empty_streams<R: Rank, A: Allocator + Clone>(
+    alloc: &A,
+    groups: u32,
+) -> Result<Vec<Stream<R, A>, A>, NoMemory>
+    ensures { IfOk result (λ streams. streams.items ≡ []) }
+{
+    let own = alloc.clone()?;
+    let streams = Vec::with_capacity(own, groups as usize)?;
+    Ok(streams)
+}
+
 /// A node without streams.
 fn empty_node<R: Rank, A: Allocator + Clone>(
     alloc: &A,
@@ -59,7 +71,7 @@ fn empty_node<R: Rank, A: Allocator + Clone>(
 {
     let children = children_of(alloc, tree, node)?;
     let products = RowProducts::with_rows(alloc, rows_to_open(children.len(), tree.len(node)))?;
-    let streams = Vec::with_capacity(alloc.clone()?, tree.groups(node) as usize)?;
+    let streams = empty_streams(alloc, tree.groups(node))?;
     Ok(NodeStreams {
         children,
         streams,
@@ -78,7 +90,8 @@ pub(crate) fn empty_nodes<R: Rank, A: Allocator + Clone>(
 {
     let mut nodes = Vec::new(alloc.clone()?);
     for node in 0..tree.nodes() {
-        nodes.push(empty_node(alloc, tree, node)?)?;
+        let empty = empty_node(alloc, tree, node)?;
+        nodes.push(empty)?;
     }
     Ok(nodes)
 }
@@ -158,4 +171,24 @@ pub(crate) fn begin_node<R: Rank, A: Allocator + Clone, L: Ledger>(
         nodes[node as usize].add_stream(stream)?;
     }
     Ok(())
+}
+
+/// All nodes of a tree, each of whose streams has its head. `NoMemory` if memory is refused.
+pub(crate) fn begun_nodes<R: Rank, A: Allocator + Clone, L: Ledger>(
+    alloc: &A,
+    tree: &Tree<R>,
+    entries: &mut Store<Found<R>, A>,
+    steps: &mut Steps<L>,
+) -> Result<Vec<NodeStreams<R, A>, A>, NoMemory>
+    requires { entries.old.entries ≡ [] }
+    ensures formed { OnOk result (IsFormed R.KEYS R.key tree.now) }
+    ensures begun { IfOk result
+        (λ nodes. IsBegunFrom R.KEYS R.key tree.now entries.new.entries nodes.items 0) }
+    ensures cost { steps.new ≤ steps.old + 16 * length tree.now * (1 + row_count tree.now) }
+{
+    let mut nodes = empty_nodes(alloc, tree)?;
+    for node in (0..tree.nodes()).rev() {
+        begin_node(tree, &mut nodes, entries, node, steps)?;
+    }
+    Ok(nodes)
 }

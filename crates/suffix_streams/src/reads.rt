@@ -1,5 +1,5 @@
 //! Reading entries and products, which changes nothing.
-ghost use Rattle.std.specs.Prelude.{◌≡◌, ℕ, ◌+◌, ◌*◌, ◌<◌, ◌≤◌, length, slice_index_or, IfOk, IfSome, IfNone};
+ghost use Rattle.std.specs.Prelude.{◌≡◌, ℕ, ◌+◌, ◌*◌, ◌<◌, ◌≤◌, length, slice_index_or, IfOk, OnOk, IfSome, IfNone};
 ghost use Rattle.tdp_core.specs.TreeView.{child_count, group_named, rows};
 ghost use Rattle.tdp_core.specs.WellFormed.{IsFormed, IsTieFreeTree};
 ghost use Rattle.tdp_model.specs.KeyTuple.{key_add, key_none};
@@ -96,14 +96,44 @@ pub(crate) fn made_products<R: Rank, A: Allocator + Clone, L: Ledger>(
     ensures cost { steps.new ≤ steps.old + 1 + 3 * child_count tree.now node }
 {
     let children = nodes[node as usize].child_count();
-    let mut products = Vec::with_capacity(alloc.clone()?, children)?;
+    let own = alloc.clone()?;
+    let mut products = Vec::with_capacity(own, children)?;
+    add_products(alloc, tree, nodes, entries, node, row, &mut products, steps)?;
+    Ok(products)
+}
+
+/// Adds the products of a row, each with its first solution, to an empty list. `NoMemory` if memory
+/// is refused.
+fn add_products<R: Rank, A: Allocator + Clone, L: Ledger>(
+    alloc: &A,
+    tree: &Tree<R>,
+    nodes: &[NodeStreams<R, A>],
+    entries: &Store<Found<R>, A>,
+    node: u32,
+    row: u32,
+    products: &mut Vec<Product<R, A>, A>,
+    steps: &mut Steps<L>,
+) -> Result<(), NoMemory>
+    requires formed { IsFormed R.KEYS R.key tree.now }
+    requires tie_free { IsTieFreeTree tree.now }
+    requires node { node < length tree.now }
+    requires row { row < rows tree.now node }
+    requires headed { IsHeaded R.KEYS R.key tree.now entries.now.entries nodes.now node row }
+    requires none { length products.old.items ≡ 0 }
+    ensures fresh { OnOk result
+        (AreFreshTo R.KEYS R.key tree.now nodes.now node row
+        (child_count tree.now node) products.new.items) }
+    ensures cost { steps.new ≤ steps.old + 1 + 3 * child_count tree.now node }
+{
+    let children = nodes[node as usize].child_count();
     let mut rank = tree.row_at(node, row, steps).rank;
     for child in 0..children {
         let head = child_head(tree, nodes, entries, node, row, child, steps);
         rank = R::join(rank, entries.get(head, steps).solution.rank, steps);
-        products.push(Product::new(alloc, rank, head, child + 1 < children)?)?;
+        let product = Product::new(alloc, rank, head, child + 1 < children)?;
+        products.push(product)?;
     }
-    Ok(products)
+    Ok(())
 }
 
 /// The rank of a solution of a row with its first `count` children, at a known place.

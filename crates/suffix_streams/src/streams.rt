@@ -7,7 +7,7 @@ ghost use Rattle.tdp_core.specs.AnswerView.{rows_of_key, counted};
 ghost use Rattle.suffix_streams.specs.StreamsView.{IsStreamsView, entry_node, entry_group, entry_place, entry_key, size_of_node, ArePrefixes, AreKept, IsEntry, Follows};
 ghost use Rattle.suffix_streams.specs.TreeStreams.{next_of};
 
-use crate::beginning::{begin_node, empty_nodes};
+use crate::beginning::begun_nodes;
 use crate::solutions::Solutions;
 use rank_key::Rank;
 use std::alloc::Allocator;
@@ -61,10 +61,7 @@ impl<'t, R: Rank, A: Allocator + Clone> Streams<'t, R, A> {
         ensures cost { steps.new ≤ steps.old + 16 * length tree.now * (1 + row_count tree.now) }
     {
         let mut entries = Store::new(alloc.clone()?);
-        let mut nodes = empty_nodes(&alloc, tree)?;
-        for node in (0..tree.nodes()).rev() {
-            begin_node(tree, &mut nodes, &mut entries, node, steps)?;
-        }
+        let nodes = begun_nodes(&alloc, tree, &mut entries, steps)?;
         let solutions = Solutions {
             tree,
             alloc,

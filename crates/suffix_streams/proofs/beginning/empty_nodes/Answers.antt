@@ -11,7 +11,7 @@ loop-node-preserved g c =
     let t = c.args.tree.now in
     let same = c.in_ok-push.ensures.items in
     record {
-      count = ap length same ∙ length_behind c.loop-node.nodes.items c.in_ok-empty_node.field-0 ∙ ap (λ z. z + 1) c.loop-node.invariant.count;
+      count = ap length same ∙ length_behind c.loop-node.nodes.items c.in_ok-empty.empty ∙ ap (λ z. z + 1) c.loop-node.invariant.count;
       empty = λ v l. subst (λ (ns : List (NodeStreamsView g.row.R.Denot)). IsEmptyNode t v (lists_of ns v)) (sym same)
-          (empties_more g.R.Rank.KEYS g.R.Rank.key t c.loop-node.nodes.items c.in_ok-empty_node.field-0 c.loop-node.node c.loop-node.invariant.count c.loop-node.invariant.empty c.in_ok-empty_node.ensures v l);
+          (empties_more g.R.Rank.KEYS g.R.Rank.key t c.loop-node.nodes.items c.in_ok-empty.empty c.loop-node.node c.loop-node.invariant.count c.loop-node.invariant.empty c.in_ok-empty.ensures v l);
     }

@@ -1,55 +1,17 @@
 use Rattle.suffix_streams.proofs.Errors.{none_given}
-use Rattle.std.proofs.Common.{◌-◌, List, [], sym, subst, arith}
-use Rattle.stream_store.specs.declared.entry.Linked.{Linked}
-use Rattle.suffix_streams.specs.declared.stream.Found.{Found}
-use Rattle.suffix_streams.specs.Beginnings.{IsBegunFrom}
-use Rattle.suffix_streams.proofs.BeginNodes.{from_none, rows_more}
+use Rattle.std.proofs.Common.{refl}
 use Rattle.suffix_streams.proofs.ViewPrefixes.{all_prefixes}
-use Rattle.suffix_streams.proofs.ViewStart.{start_view, start_steps}
+use Rattle.suffix_streams.proofs.ViewStart.{start_view}
 use Rattle.suffix_streams.proofs.streams.Streams.new.Goals as goal
-
-pub loop-node-init : goal.loop-node-init
-loop-node-init g c =
-    let t = c.args.tree.now in
-    record {
-      begun = subst (λ (es : List (Linked (Found g.row.R.Denot))). IsBegunFrom g.R.Rank.KEYS g.R.Rank.key t es c.in_ok-nodes.nodes.items c.nodes-node.result) (sym c.new-entries.ensures.entries)
-          (subst (IsBegunFrom g.R.Rank.KEYS g.R.Rank.key t [] c.in_ok-nodes.nodes.items) (sym c.nodes-node.ensures.count)
-          (from_none g.R.Rank.KEYS g.R.Rank.key t c.in_ok-nodes.nodes.items c.in_ok-nodes.ensures.count c.in_ok-nodes.ensures.empty));
-      cost = omega arith;
-      within = omega (arith, c.nodes-node.ensures.count);
-    }
-
-pub loop-node-preserved : goal.loop-node-preserved
-loop-node-preserved g c =
-    let t = c.args.tree.now in
-    record {
-      begun = c.in_ok-begin_node.ensures.begun;
-      cost = omega (arith, c.begin_node.ensures.cost, c.loop-node.invariant.cost, rows_more g.R.Rank.KEYS g.R.Rank.key t (c.loop-node.node - 1) c.loop-node.node (omega (arith, c.loop-node-test.true, c.loop-node.invariant.within)) (omega (arith, c.loop-node-test.true)));
-      within = omega (arith, c.loop-node.invariant.within);
-    }
-
-pub returns-in_err-begin_node-clause-cost : goal.returns-in_err-begin_node-clause-cost
-returns-in_err-begin_node-clause-cost g c =
-    let t = c.args.tree.now in
-    omega (
-      arith,
-      c.begin_node.ensures.cost,
-      c.loop-node.invariant.cost,
-      rows_more g.R.Rank.KEYS g.R.Rank.key t (c.loop-node.node - 1) c.loop-node.node (omega (arith, c.loop-node-test.true, c.loop-node.invariant.within)) (omega (arith, c.loop-node-test.true)),
-      start_steps g.R.Rank.KEYS g.R.Rank.key t c.nodes-node.ensures.formed (c.loop-node.node - 1) (omega (arith, c.loop-node.invariant.within)),
-    )
 
 pub invariant_of-result : goal.invariant_of-result
 invariant_of-result g c =
-    start_view g.R.Rank.KEYS g.R.Rank.key c.args.tree.now c.nodes-node.ensures.formed c.requires c.loop-node.entries.entries c.loop-node.nodes.items c.loop-node.node (omega (arith, c.loop-node-test.false)) c.loop-node.invariant.begun
+    start_view g.R.Rank.KEYS g.R.Rank.key c.args.tree.now c.in_ok-nodes.ensures.formed c.requires c.begun_nodes.new.entries.entries c.in_ok-nodes.nodes.items 0 refl c.in_ok-nodes.ensures.begun
 
 pub returns-clause-prefixes : goal.returns-clause-prefixes
 returns-clause-prefixes g c =
-    let view = start_view g.R.Rank.KEYS g.R.Rank.key c.args.tree.now c.nodes-node.ensures.formed c.requires c.loop-node.entries.entries c.loop-node.nodes.items c.loop-node.node (omega (arith, c.loop-node-test.false)) c.loop-node.invariant.begun in
-    all_prefixes g.R.Rank.KEYS g.R.Rank.key c.args.tree.now c.loop-node.entries.entries c.loop-node.nodes.items view.streams
-
-pub returns-clause-cost : goal.returns-clause-cost
-returns-clause-cost g c = omega (arith, c.loop-node.invariant.cost, start_steps g.R.Rank.KEYS g.R.Rank.key c.args.tree.now c.nodes-node.ensures.formed c.loop-node.node (omega (arith, c.loop-node.invariant.within)))
+    let view = start_view g.R.Rank.KEYS g.R.Rank.key c.args.tree.now c.in_ok-nodes.ensures.formed c.requires c.begun_nodes.new.entries.entries c.in_ok-nodes.nodes.items 0 refl c.in_ok-nodes.ensures.begun in
+    all_prefixes g.R.Rank.KEYS g.R.Rank.key c.args.tree.now c.begun_nodes.new.entries.entries c.in_ok-nodes.nodes.items view.streams
 
 pub returns-in_err-nodes-clause-tree : goal.returns-in_err-nodes-clause-tree
 returns-in_err-nodes-clause-tree g c = none_given _ c.from_residual-in_err-nodes.result c.from_residual-in_err-nodes.ensures.0
@@ -68,12 +30,3 @@ returns-in_err-clone-clause-prefixes g c = none_given _ c.from_residual.result c
 
 pub returns-in_err-clone-clause-calls : goal.returns-in_err-clone-clause-calls
 returns-in_err-clone-clause-calls g c = none_given _ c.from_residual.result c.from_residual.ensures.0
-
-pub returns-in_err-begin_node-clause-tree : goal.returns-in_err-begin_node-clause-tree
-returns-in_err-begin_node-clause-tree g c = none_given _ c.from_residual-in_err-begin_node.result c.from_residual-in_err-begin_node.ensures.0
-
-pub returns-in_err-begin_node-clause-prefixes : goal.returns-in_err-begin_node-clause-prefixes
-returns-in_err-begin_node-clause-prefixes g c = none_given _ c.from_residual-in_err-begin_node.result c.from_residual-in_err-begin_node.ensures.0
-
-pub returns-in_err-begin_node-clause-calls : goal.returns-in_err-begin_node-clause-calls
-returns-in_err-begin_node-clause-calls g c = none_given _ c.from_residual-in_err-begin_node.result c.from_residual-in_err-begin_node.ensures.0

@@ -1,0 +1,98 @@
+use Rattle.std.proofs.Common.{◌≡◌, ◌+◌, ◌<◌, length, sym, ap, ◌∙◌, subst, arith}
+use Rattle.std.proofs.lemmas.Bool.{cond-true, lt-ltb}
+use Rattle.tdp_core.specs.TreeView.{child_count, group_named}
+use Rattle.suffix_streams.specs.Rankings.{child}
+use Rattle.suffix_streams.specs.TreeStreams.{stream_of, AreFreshTo}
+use Rattle.suffix_streams.proofs.Rankings.{own_first}
+use Rattle.suffix_streams.proofs.Firsts.{first_longer, firsts_fit}
+use Rattle.suffix_streams.proofs.Heads.{children_count, head_key, product_made}
+use Rattle.suffix_streams.proofs.reads.add_products.Goals as goal
+
+pub loop-child-init : goal.loop-child-init
+loop-child-init g c = record {
+  key = c.row_at-rank.ensures.rank ∙ sym (own_first g.R.Rank.KEYS g.R.Rank.key c.args.tree.now c.requires.formed c.args.node c.args.row c.requires.node);
+  fresh = record { count = c.requires.none; first = λ i p l. absurd (omega arith) };
+  steps = omega (arith, c.row_at-rank.ensures.counted);
+}
+
+pub join-rank-requires : goal.join-rank-requires
+join-rank-requires g c =
+    let kids : length c.index-nodes-node.result.children ≡ child_count c.args.tree.now c.args.node = children_count g.R.Rank.KEYS g.R.Rank.key c.args.tree.now c.args.entries.now.entries c.args.nodes.now c.args.node c.args.row c.index-nodes-node.result c.requires.headed c.requires.node c.index-nodes-node.is in
+    let kid_in : c.loop-child.child < child_count c.args.tree.now c.args.node = omega (arith, kids, c.child_count-children.ensures) in
+    let k = head_key g.R.Rank.KEYS g.R.Rank.key c.args.entries.now.entries (stream_of c.args.nodes.now (child c.args.tree.now c.args.node c.loop-child.child) (group_named c.args.tree.now c.args.node c.args.row c.loop-child.child)).head c.child_head-head.result c.get.result.now _ c.child_head-head.ensures.head c.get.ensures.value (c.requires.headed.keys c.loop-child.child kid_in) in
+    firsts_fit g.R.Rank.KEYS g.R.Rank.key c.args.tree.now c.requires.formed c.requires.tie_free c.args.node c.args.row c.loop-child.child _ _ c.requires.node c.requires.row kid_in c.loop-child.invariant.key k
+
+pub loop-child-preserved : goal.loop-child-preserved
+loop-child-preserved g c =
+    let kids : length c.index-nodes-node.result.children ≡ child_count c.args.tree.now c.args.node = children_count g.R.Rank.KEYS g.R.Rank.key c.args.tree.now c.args.entries.now.entries c.args.nodes.now c.args.node c.args.row c.index-nodes-node.result c.requires.headed c.requires.node c.index-nodes-node.is in
+    let kid_in : c.loop-child.child < child_count c.args.tree.now c.args.node = omega (arith, kids, c.child_count-children.ensures) in
+    let k = head_key g.R.Rank.KEYS g.R.Rank.key c.args.entries.now.entries (stream_of c.args.nodes.now (child c.args.tree.now c.args.node c.loop-child.child) (group_named c.args.tree.now c.args.node c.args.row c.loop-child.child)).head c.child_head-head.result c.get.result.now _ c.child_head-head.ensures.head c.get.ensures.value (c.requires.headed.keys c.loop-child.child kid_in) in
+    let longer = first_longer g.R.Rank.KEYS g.R.Rank.key c.args.tree.now c.requires.formed c.requires.tie_free c.args.node c.args.row c.loop-child.child _ _ (g.R.Rank.key c.join-rank.result) c.requires.node c.requires.row kid_in c.loop-child.invariant.key k c.join-rank.ensures.sum in
+    record {
+      key = longer;
+      fresh = product_made g.R.Rank.KEYS g.R.Rank.key c.args.tree.now c.args.nodes.now c.args.node c.args.row c.loop-child.child c.child_head-head.result c.loop-child.products.items _ c.in_ok-product.product c.join-rank.result c.loop-child.invariant.fresh c.in_ok-push.ensures.items c.in_ok-product.ensures.found c.in_ok-product.ensures.frontier c.child_head-head.ensures.head longer (λ few. c.in_ok-product.ensures.ranks ∙ cond-true _ _ _ (lt-ltb (c.loop-child.child + 1) c.child_count-children.result (omega (arith, few, kids, c.child_count-children.ensures))));
+      steps = omega (arith, c.loop-child.invariant.steps, c.child_head-head.ensures.cost, c.get.ensures.cost, c.join-rank.ensures.counted);
+    }
+
+pub returns-clause-fresh : goal.returns-clause-fresh
+returns-clause-fresh g c =
+    let kids : length c.index-nodes-node.result.children ≡ child_count c.args.tree.now c.args.node = children_count g.R.Rank.KEYS g.R.Rank.key c.args.tree.now c.args.entries.now.entries c.args.nodes.now c.args.node c.args.row c.index-nodes-node.result c.requires.headed c.requires.node c.index-nodes-node.is in
+    let end : c.loop-child.child ≡ child_count c.args.tree.now c.args.node = omega (arith, kids, c.child_count-children.ensures, c.loop-child.auto.child-end) in
+    subst (λ n. AreFreshTo g.R.Rank.KEYS g.R.Rank.key c.args.tree.now c.args.nodes.now c.args.node c.args.row n c.loop-child.products.items) end c.loop-child.invariant.fresh
+
+pub get-requires : goal.get-requires
+get-requires g c =
+    let kids : length c.index-nodes-node.result.children ≡ child_count c.args.tree.now c.args.node = children_count g.R.Rank.KEYS g.R.Rank.key c.args.tree.now c.args.entries.now.entries c.args.nodes.now c.args.node c.args.row c.index-nodes-node.result c.requires.headed c.requires.node c.index-nodes-node.is in
+    let kid_in : c.loop-child.child < child_count c.args.tree.now c.args.node = omega (arith, kids, c.child_count-children.ensures) in
+    omega (arith, c.child_head-head.ensures.head, c.requires.headed.heads c.loop-child.child kid_in)
+
+pub bounds-nodes-node : goal.bounds-nodes-node
+bounds-nodes-node g c =
+    omega (arith, c.requires.node, c.requires.headed.all_nodes)
+
+pub row_at-rank-requires-clause-node : goal.row_at-rank-requires-clause-node
+row_at-rank-requires-clause-node g c =
+    c.requires.node
+
+pub row_at-rank-requires-clause-row : goal.row_at-rank-requires-clause-row
+row_at-rank-requires-clause-row g c =
+    c.requires.row
+
+pub child_head-head-requires-clause-formed : goal.child_head-head-requires-clause-formed
+child_head-head-requires-clause-formed g c =
+    c.requires.formed
+
+pub child_head-head-requires-clause-node : goal.child_head-head-requires-clause-node
+child_head-head-requires-clause-node g c =
+    c.requires.node
+
+pub child_head-head-requires-clause-row : goal.child_head-head-requires-clause-row
+child_head-head-requires-clause-row g c =
+    c.requires.row
+
+pub child_head-head-requires-clause-child : goal.child_head-head-requires-clause-child
+child_head-head-requires-clause-child g c =
+    let kids : length c.index-nodes-node.result.children ≡ child_count c.args.tree.now c.args.node = children_count g.R.Rank.KEYS g.R.Rank.key c.args.tree.now c.args.entries.now.entries c.args.nodes.now c.args.node c.args.row c.index-nodes-node.result c.requires.headed c.requires.node c.index-nodes-node.is in
+    omega (arith, kids, c.child_count-children.ensures)
+
+pub child_head-head-requires-clause-headed : goal.child_head-head-requires-clause-headed
+child_head-head-requires-clause-headed g c =
+    c.requires.headed
+
+pub returns-in_err-product-clause-cost : goal.returns-in_err-product-clause-cost
+returns-in_err-product-clause-cost g c =
+    let kids : length c.index-nodes-node.result.children ≡ child_count c.args.tree.now c.args.node = children_count g.R.Rank.KEYS g.R.Rank.key c.args.tree.now c.args.entries.now.entries c.args.nodes.now c.args.node c.args.row c.index-nodes-node.result c.requires.headed c.requires.node c.index-nodes-node.is in
+    let kid_in : c.loop-child.child < child_count c.args.tree.now c.args.node = omega (arith, kids, c.child_count-children.ensures) in
+    omega (arith, kid_in, c.loop-child.invariant.steps, c.child_head-head.ensures.cost, c.get.ensures.cost, c.join-rank.ensures.counted)
+
+pub returns-in_err-push-clause-cost : goal.returns-in_err-push-clause-cost
+returns-in_err-push-clause-cost g c =
+    let kids : length c.index-nodes-node.result.children ≡ child_count c.args.tree.now c.args.node = children_count g.R.Rank.KEYS g.R.Rank.key c.args.tree.now c.args.entries.now.entries c.args.nodes.now c.args.node c.args.row c.index-nodes-node.result c.requires.headed c.requires.node c.index-nodes-node.is in
+    let kid_in : c.loop-child.child < child_count c.args.tree.now c.args.node = omega (arith, kids, c.child_count-children.ensures) in
+    omega (arith, kid_in, c.loop-child.invariant.steps, c.child_head-head.ensures.cost, c.get.ensures.cost, c.join-rank.ensures.counted)
+
+pub returns-clause-cost : goal.returns-clause-cost
+returns-clause-cost g c =
+    let kids : length c.index-nodes-node.result.children ≡ child_count c.args.tree.now c.args.node = children_count g.R.Rank.KEYS g.R.Rank.key c.args.tree.now c.args.entries.now.entries c.args.nodes.now c.args.node c.args.row c.index-nodes-node.result c.requires.headed c.requires.node c.index-nodes-node.is in
+    let end : c.loop-child.child ≡ child_count c.args.tree.now c.args.node = omega (arith, kids, c.child_count-children.ensures, c.loop-child.auto.child-end) in
+    omega (arith, end, c.loop-child.invariant.steps)
