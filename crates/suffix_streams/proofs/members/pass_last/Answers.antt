@@ -1,5 +1,10 @@
-use Rattle.std.proofs.Common.{◌≡◌, ℕ, ◌+◌, ◌*◌, ◌<◌, inl, Option, None, List, ◌∷◌, length, get_or, slice_set, sym, ap, ◌∙◌, subst, arith}
+use Rattle.std.proofs.Common.{◌≡◌, ℕ, ◌+◌, ◌*◌, ◌<◌, ◌≤◌, min, inl, Option, Some, None, IsSome, List, ◌∷◌, length, get_or, slice_set, sym, ap, ◌∙◌, subst, arith}
+use Rattle.std.proofs.lemmas.Bool.{false≢true}
 use Rattle.std.specs.List.Sorted.{IsPermutation}
+use Rattle.stream_store.specs.declared.entry.Linked.{Linked}
+use Rattle.tdp_core.specs.TreeView.{NodeView, members}
+use Rattle.tdp_model.specs.KeyTuple.{KeyOf}
+use Rattle.suffix_streams.specs.declared.stream.Found.{Found}
 use Rattle.take2_heap.specs.declared.entry.Entry.{Entry}
 use Rattle.take2_heap.specs.Order.{IsLeast}
 use Rattle.stream_model.specs.Offers.{offers}
@@ -7,7 +12,7 @@ use Rattle.stream_cells.specs.declared.source.Source.{Source}
 use Rattle.rank_key.specs.Bits.{bit_length}
 use Rattle.suffix_streams.specs.NodeStreamsView.{NodeStreamsView, stream_at, with_queue}
 use Rattle.suffix_streams.specs.TreeStreams.{IsStreams, lists_of, stream_of}
-use Rattle.suffix_streams.specs.Firsts.{IsFirstBelow}
+use Rattle.suffix_streams.specs.Firsts.{IsFirstBelow, can_enter}
 use Rattle.suffix_streams.proofs.Changes.{lists_same}
 use Rattle.suffix_streams.proofs.Heads.{lists_at}
 use Rattle.suffix_streams.proofs.members.pass_last.Goals as goal
@@ -137,3 +142,32 @@ returns-else-place-eq1-clause-moved g c =
           subst (λ (z : NodeStreamsView g.row.R.Denot). IsPermutation (offers None None (offers c.args.next None (stream_of n v k).queue)) (get_or (stream_of n v k).queue 0 e ∷ (stream_at z k).queue)) (sym (lists_same n v new inside))
           (subst (λ (z : NodeStreamsView g.row.R.Denot). IsPermutation (offers None None (offers c.args.next None (stream_at z k).queue)) (get_or (stream_at z k).queue 0 e ∷ (stream_at new k).queue)) (sym (lists_at n v old.result.now old.ensures.value inside)) (c.pass-else-place-eq1.ensures.moved e)),
     )
+
+-- where the first solution of member j enters, there is room for two, or for j if that is fewer
+room_below : {R : Type 0} (d : ℕ) (key : R → KeyOf d 16) (t : List (NodeView R)) (es : List (Linked (Found R))) (v k j room : ℕ) (first : Option (Entry R Source)) → IsFirstBelow d key t es v k 1 j first → IsSome first → can_enter (length (members t v k)) ≤ room → min 2 j ≤ room
+room_below d key t es v k j room (Some e) below some few = omega (arith, below.1, few)
+room_below d key t es v k j room None below some few = absurd (false≢true some)
+
+pub pass-requires-clause-left_room : goal.pass-requires-clause-left_room
+pass-requires-clause-left_room g c some =
+    let n = c.args.nodes.now.items in
+    let inside : c.args.node < length n = omega (arith, c.requires.formed.all_nodes, c.requires.node) in
+    let same = lists_at n c.args.node c.index_mut.result.now c.index_mut.ensures.value inside in
+    let room = c.requires.room (omega (arith, c.if-place-eq1.true)) in
+    let enters = room_below g.R.Rank.KEYS g.R.Rank.key c.args.tree.now c.args.entries.now.entries c.args.node c.args.group (2 * c.args.member + 1) (stream_of n c.args.node c.args.group).room c.firsts_below-left.result.0 c.firsts_below-left.ensures.left some room in
+    omega (arith, enters, ap (λ (z : NodeStreamsView g.row.R.Denot). (stream_at z c.args.group).room) same)
+
+pub pass-requires-clause-right_room : goal.pass-requires-clause-right_room
+pass-requires-clause-right_room g c some =
+    let n = c.args.nodes.now.items in
+    let inside : c.args.node < length n = omega (arith, c.requires.formed.all_nodes, c.requires.node) in
+    let same = lists_at n c.args.node c.index_mut.result.now c.index_mut.ensures.value inside in
+    let room = c.requires.room (omega (arith, c.if-place-eq1.true)) in
+    let enters = room_below g.R.Rank.KEYS g.R.Rank.key c.args.tree.now c.args.entries.now.entries c.args.node c.args.group (2 * c.args.member + 2) (stream_of n c.args.node c.args.group).room c.firsts_below-left.result.1 c.firsts_below-left.ensures.right some room in
+    omega (arith, enters, ap (λ (z : NodeStreamsView g.row.R.Denot). (stream_at z c.args.group).room) same)
+
+pub pass-requires-else-place-eq1-clause-left_room : goal.pass-requires-else-place-eq1-clause-left_room
+pass-requires-else-place-eq1-clause-left_room g c some = absurd (false≢true some)
+
+pub pass-requires-else-place-eq1-clause-right_room : goal.pass-requires-else-place-eq1-clause-right_room
+pass-requires-else-place-eq1-clause-right_room g c some = absurd (false≢true some)

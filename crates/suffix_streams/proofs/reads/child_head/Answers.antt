@@ -1,7 +1,7 @@
 use Rattle.std.proofs.Common.{length, arith}
 use Rattle.tdp_core.specs.TreeView.{parent}
 use Rattle.tdp_core.proofs.Children.{kids_below_most}
-use Rattle.suffix_streams.proofs.Heads.{kid_within, stream_within, head_is}
+use Rattle.suffix_streams.proofs.Heads.{children_count, kid_within, stream_within, head_is}
 use Rattle.suffix_streams.proofs.reads.child_head.Goals as goal
 
 pub overflow_cast-child : goal.overflow_cast-child
@@ -29,3 +29,20 @@ pub offset_bounds-nodes-child_node : goal.offset_bounds-nodes-child_node
 offset_bounds-nodes-child_node g c =
     let within = kid_within g.R.Rank.KEYS g.R.Rank.key c.args.tree.now c.requires.formed c.args.entries.now.entries c.args.nodes.now c.args.node c.args.row c.args.child c.requires.headed c.requires.node c.requires.child c.index-nodes-node.result c.index-nodes-node.is c.child-child_node.result c.child-child_node.ensures in
     omega (arith, within)
+
+pub bounds-nodes-node : goal.bounds-nodes-node
+bounds-nodes-node g c = omega (arith, c.requires.node, c.requires.headed.all_nodes)
+
+pub group_of-group-requires-clause-node : goal.group_of-group-requires-clause-node
+group_of-group-requires-clause-node g c = c.requires.node
+
+pub group_of-group-requires-clause-row : goal.group_of-group-requires-clause-row
+group_of-group-requires-clause-row g c = c.requires.row
+
+pub group_of-group-requires-clause-child : goal.group_of-group-requires-clause-child
+group_of-group-requires-clause-child g c = c.requires.child
+
+pub child-child_node-requires : goal.child-child_node-requires
+child-child_node-requires g c =
+    let all = children_count g.R.Rank.KEYS g.R.Rank.key c.args.tree.now c.args.entries.now.entries c.args.nodes.now c.args.node c.args.row c.index-nodes-node.result c.requires.headed c.requires.node c.index-nodes-node.is in
+    omega (arith, all, c.requires.child)

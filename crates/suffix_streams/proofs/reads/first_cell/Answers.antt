@@ -26,3 +26,23 @@ returns-clause-parts g c i kids =
       group = (h.owners (c.child_count-children.result - 1) in_kids).1;
       place = h.places (c.child_count-children.result - 1) in_kids;
     }))
+
+pub bounds-nodes-node : goal.bounds-nodes-node
+bounds-nodes-node g c = omega (arith, c.requires.node, c.requires.headed.all_nodes)
+
+pub child_head-right-requires-clause-formed : goal.child_head-right-requires-clause-formed
+child_head-right-requires-clause-formed g c = c.requires.formed
+
+pub child_head-right-requires-clause-node : goal.child_head-right-requires-clause-node
+child_head-right-requires-clause-node g c = c.requires.node
+
+pub child_head-right-requires-clause-row : goal.child_head-right-requires-clause-row
+child_head-right-requires-clause-row g c = c.requires.row
+
+pub child_head-right-requires-clause-headed : goal.child_head-right-requires-clause-headed
+child_head-right-requires-clause-headed g c = c.requires.headed
+
+pub child_head-right-requires-clause-child : goal.child_head-right-requires-clause-child
+child_head-right-requires-clause-child g c =
+    let all : length c.index-nodes-node.result.children ≡ child_count c.args.tree.now c.args.node = children_count g.R.Rank.KEYS g.R.Rank.key c.args.tree.now c.args.entries.now.entries c.args.nodes.now c.args.node c.args.row c.index-nodes-node.result c.requires.headed c.requires.node c.index-nodes-node.is in
+    omega (arith, all, c.child_count-children.ensures, c.if-children-eq0.false)

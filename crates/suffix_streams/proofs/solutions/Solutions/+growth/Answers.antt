@@ -67,6 +67,16 @@ pub after-returns-in-Some-clause-answer : goal.after-returns-in-Some-clause-answ
 after-returns-in-Some-clause-answer g t c =
     next_is c.args.self.now.entries.entries c.args.entry (Some c.in-Some.next) c.requires.entry (λ x. c.next_of.ensures.next x ∙ c.in-Some.is)
 
+pub after-next_of-requires : goal.after-next_of-requires
+after-next_of-requires g t c = c.requires.entry
+
+pub after-get-found-requires : goal.after-get-found-requires
+after-get-found-requires g t c = c.requires.entry
+
+pub after-returns-in-Some-clause-known : goal.after-returns-in-Some-clause-known
+after-returns-in-Some-clause-known g t c =
+    λ some. (refl, refl, omega (arith, c.next_of.ensures.cost))
+
 pub after-returns-in-Some-clause-cost : goal.after-returns-in-Some-clause-cost
 after-returns-in-Some-clause-cost g t c =
     λ k b one bits few queues. omega (arith, c.next_of.ensures.cost)
