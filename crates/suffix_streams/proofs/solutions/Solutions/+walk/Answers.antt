@@ -14,7 +14,7 @@ use Rattle.suffix_streams.specs.RowNumbers.{AreAddable, AreAdded}
 use Rattle.suffix_streams.proofs.Rows.{left_addable, right_addable, both_added}
 use Rattle.suffix_streams.proofs.PartRows.{IsSourceAt, known_own, source_at}
 use Rattle.suffix_streams.proofs.solutions.Solutions.+walk.Given.{Over}
-use Rattle.suffix_streams.proofs.solutions.Solutions.+walk.Goals.{add_entry_rows-After-child_count-count, add_entry_rows-After-get-found, add_sum_rows-After-add_part_rows}
+use Rattle.suffix_streams.proofs.solutions.Solutions.+walk.Goals.{add_entry_rows-After-child_count-count, add_entry_rows-After-get-found, add_part_rows-After-part_cell-cell, add_sum_rows-After-add_part_rows}
 use Rattle.suffix_streams.proofs.solutions.Solutions.+walk.Goals as goal
 
 -- # What the proofs share about an entry
@@ -70,6 +70,15 @@ module _ (g : Over) (t : ℕ) where
       let more : k + 1 ≡ child_count c.args.self.now.tree.now c.get-found.result.now.node = omega (arith, kids) in
       sym (own_parts c s k kids).sum
       ∙ ap (λ z. get_or (part_list g.R.Rank.KEYS g.R.Rank.key c.args.self.now.tree.now c.get-found.result.now.node c.get-found.result.now.solution.tag.row z) c.get-found.result.now.solution.tag.place (key_none g.R.Rank.KEYS 16)) more ∙ key_of c s
+
+  -- the key of a solution is the sum of its parts
+  part_is : (c : add_part_rows-After-part_cell-cell g t) → c.args.count - 1 + 1 ≡ c.args.count
+      → pair_key (key_add g.R.Rank.KEYS 16) (key_none g.R.Rank.KEYS 16) (part_list g.R.Rank.KEYS g.R.Rank.key c.args.self.now.tree.now c.args.node c.args.row (c.args.count - 1))
+      (group_list g.R.Rank.KEYS g.R.Rank.key c.args.self.now.tree.now (child c.args.self.now.tree.now c.args.node (c.args.count - 1)) (group_named c.args.self.now.tree.now c.args.node c.args.row (c.args.count - 1))) (pair_of c.args.self.now.entries.entries c.part_cell-cell.result)
+      ≡ get_or (part_list g.R.Rank.KEYS g.R.Rank.key c.args.self.now.tree.now c.args.node c.args.row c.args.count) c.args.place (key_none g.R.Rank.KEYS 16)
+  part_is c more =
+      sym c.part_cell-cell.ensures.sum.sum
+      ∙ ap (λ z. get_or (part_list g.R.Rank.KEYS g.R.Rank.key c.args.self.now.tree.now c.args.node c.args.row z) c.args.place (key_none g.R.Rank.KEYS 16)) more
 
 pub add_entry_rows-index-requires : goal.add_entry_rows-index-requires
 add_entry_rows-index-requires g t c =
@@ -189,6 +198,19 @@ add_part_rows-returns-then-count-eq0-clause-added g t c =
     subst (λ k. AreAdded g.R.Rank.KEYS c.args.numbers.now k c.add_own_row.new.numbers)
     (own_at g.R.Rank.KEYS g.R.Rank.key c.args.self.now.tree.now c.requires.formed.tree c.args.self.now.nodes.items c.args.node c.args.row c.args.count c.args.place (rank c.args.self.now.tree.now g.R.Rank.KEYS g.R.Rank.key c.args.node c.args.row) c.requires.node (omega arith) known refl)
     c.add_own_row.ensures.added
+
+pub add_part_rows-add_sum_rows-requires : goal.add_part_rows-add_sum_rows-requires
+add_part_rows-add_sum_rows-requires g t c κs within =
+    let at = goal.at.add_part_rows-add_sum_rows-requires g t c in
+    let more : c.args.count - 1 + 1 ≡ c.args.count = omega (arith, c.if-count-eq0.false) in
+    let fits = subst (AreAddable g.R.Rank.KEYS c.args.numbers.now) (sym (part_is g t at.After-part_cell-cell more)) c.requires.fits in
+    (omega (arith, c.decreases, c.if-count-eq0.false), (within.0, (within.1.0, (within.1.1, (c.requires.formed, (c.requires.tie_free, (c.requires.node, (c.requires.row, (omega (arith, c.requires.count, c.if-count-eq0.false), ((c.args.place, c.part_cell-cell.ensures.sum), fits))))))))))
+
+pub add_part_rows-returns-else-count-eq0-clause-added : goal.add_part_rows-returns-else-count-eq0-clause-added
+add_part_rows-returns-else-count-eq0-clause-added g t c =
+    let at = goal.at.add_part_rows-returns-else-count-eq0-clause-added g t c in
+    let more : c.args.count - 1 + 1 ≡ c.args.count = omega (arith, c.if-count-eq0.false) in
+    subst (λ k. AreAdded g.R.Rank.KEYS c.args.numbers.now k c.add_sum_rows.new.numbers) (part_is g t at.After-part_cell-cell more) c.add_sum_rows.ensures.added
 
 -- # The rows of a sum
 

@@ -1,4 +1,4 @@
-use Rattle.std.proofs.Common.{◌≡◌, ◌+◌, ◌*◌, ◌<◌, ◌≤◌, Result, Ok, Err, IfOk, length, sym, ap, subst, arith}
+use Rattle.std.proofs.Common.{◌≡◌, ◌+◌, ◌*◌, ◌<◌, ◌≤◌, Result, Ok, Err, IfOk, length, sym, ap, ◌∙◌, subst, arith}
 use Rattle.rank_key.specs.Bits.{bit_length}
 use Rattle.tdp_core.specs.TreeView.{parent, row_count}
 use Rattle.tdp_core.specs.WellFormed.{IsFormed, IsTieFreeTree}
@@ -58,3 +58,15 @@ returns-clause-cost g c =
     (call_steps d g.R.Rank.key s.tree.now c.self.invariant.formed s.entries.entries c.after.new.self.entries.entries s.nodes.items c.after.new.self.nodes.items c.self.inside.calls c.args.entry c.args.steps.now c.after.new.steps
     some c.self.invariant.few
     (subtree_within_steps d g.R.Rank.key s.tree.now c.self.invariant.formed s.nodes.items (is_below (parent s.tree.now) (node_of s.entries.entries c.args.entry)) (node_of s.entries.entries c.args.entry) c.args.steps.now c.after.new.steps owner.0 c.after.ensures.cost))
+
+pub returns-clause-tree : goal.returns-clause-tree
+returns-clause-tree g c = c.after.ensures.tree ∙ ap (λ (v : StreamsView g.row.R.Denot). v.tree) c.self.view_is
+
+pub after-requires-clause-formed : goal.after-requires-clause-formed
+after-requires-clause-formed g c = c.self.invariant.streams
+
+pub after-requires-clause-tie_free : goal.after-requires-clause-tie_free
+after-requires-clause-tie_free g c = c.self.invariant.tie_free
+
+pub after-requires-clause-entry : goal.after-requires-clause-entry
+after-requires-clause-entry g c = subst (λ (v : StreamsView g.row.R.Denot). c.args.entry < length v.entries) (sym c.self.view_is) c.requires
