@@ -2,6 +2,7 @@
 use Rattle.std.proofs.Common.{◌≡◌, ℕ, ◌+◌, ◌-◌, ◌*◌, ◌/◌, ◌^◌, ◌<◌, ◌≤◌, nat_lt, min, List, [], ◌∷◌, length, take, get_or, refl, sym, ap, ◌∙◌, subst, inl, inr, arith}
 use Rattle.std.specs.List.{All}
 use Rattle.std.proofs.lemmas.Bool.{cases_lt, cond-true, lt-ltb}
+use Rattle.std.proofs.lemmas.List.{get_or-take}
 use Rattle.stream_store.specs.declared.entry.Linked.{Linked}
 use Rattle.take2_heap.specs.declared.entry.Entry.{Entry}
 use Rattle.take2_heap.specs.Order as heaps
@@ -12,12 +13,12 @@ use Rattle.tdp_model.specs.KeyTuple.{KeyOf}
 use Rattle.tdp_model.specs.KeyNumbers.{numbers}
 use Rattle.tdp_model.specs.Regions.{in_regions, divided, best_of}
 use Rattle.tdp_core.specs.AnswerView.{rows_of_key, answers_of}
-use Rattle.tdp_core.specs.TreeView.{NodeView}
+use Rattle.tdp_core.specs.TreeView.{NodeView, rows}
 use Rattle.anyk_part.specs.declared.candidate.Link.{Link}
 use Rattle.anyk_part.specs.declared.candidate.Candidate.{Candidate}
 use Rattle.tdp_core.specs.Shares.{most_steps}
 use Rattle.anyk_part.specs.Candidates.{key_of_rows}
-use Rattle.anyk_part.specs.Regions.{followers, region_of, regions_of, candidates_of, held_by, rest_keys, rest_of, IsEntry, IsPart}
+use Rattle.anyk_part.specs.Regions.{followers, Reached, region_of, regions_of, candidates_of, held_by, rest_keys, rest_of, IsEntry, IsPart}
 use Rattle.anyk_part.specs.RemainingSolutions.{held_solutions}
 use Rattle.anyk_part.proofs.Queues.{part_next, one_open, regions_seen}
 use Rattle.anyk_part.proofs.WholeSolutions.{best_key}
@@ -44,6 +45,12 @@ module _ {R : Type 0} (d : ℕ) (key : R → KeyOf d 16) (t : List (NodeView R))
   pub top_entry : IsEntry d key t links1 (record { rank = r; tag = tag })
   top_entry = subst (λ ls. IsEntry d key t ls first) (sym same_links) (subst (λ e. IsEntry d key t links e) (top first) (part.each 0 first some))
 
+  pub top_each : All (IsEntry d key t links1) entries1
+  top_each = subst (λ es. All (IsEntry d key t links1) es) (sym same_entries) (subst (λ ls. All (IsEntry d key t ls) entries) (sym same_links) part.each)
+
+  pub top_some : 0 < length entries1
+  top_some = subst (λ es. 0 < length es) (sym same_entries) some
+
   pub top_next : (links' : List (Linked Link)) (entries' : List (Entry R Candidate)) (calls' : ℕ) → heaps.IsLeast d key (record { rank = r; tag = tag }) entries
       → ((s : List ℕ) → in_regions (followers t) (divided (followers t) (region_of links1 (length t) tag)) s + held_by t links1 entries1 s ≡ held_by t links1 (take 1 entries1) s + held_by t links' entries' s)
       → All (IsEntry d key t links') entries' → length entries < 2 ^ 64 → length entries' ≤ length entries1 + 2 * length t → calls' ≡ min (calls + 1) (2 ^ 64 - 1)
@@ -61,6 +68,27 @@ module _ {R : Type 0} (d : ℕ) (key : R → KeyOf d 16) (t : List (NodeView R))
       ap (λ s. key_of_rows d key t s) e
       ∙ best_key d key t part.formed (part.live some) (region_of links1 (length t) tag) (one_open d key t links1 first top_entry)
       ∙ sym top_entry.ranked
+
+-- # A call that divides no region
+
+module _ {R : Type 0} (d : ℕ) (key : R → KeyOf d 16) (t : List (NodeView R)) (links links1 : List (Linked Link)) (entries entries1 : List (Entry R Candidate)) (same_links : links1 ≡ links) (same_entries : entries1 ≡ entries) where
+  called : (calls calls' : ℕ) → IsPart d key t links entries calls → length entries ≤ 1 + 2 * (length t * calls') → IsPart d key t links1 entries1 calls'
+  called calls calls' h few =
+      subst (λ es. IsPart d key t links1 es calls') (sym same_entries)
+      (subst (λ ls. IsPart d key t ls entries calls') (sym same_links) (record { formed = h.formed; tie_free = h.tie_free; live = h.live; each = h.each; remains = h.remains; few = few }))
+
+  -- where memory is refused,
+  pub part_refused : (calls calls' : ℕ) → IsPart d key t links entries calls → length entries < 2 ^ 64 → calls' ≡ min (calls + 1) (2 ^ 64 - 1) → IsPart d key t links1 entries1 calls'
+  part_refused calls calls' h limit is = called calls calls' h
+      (few_next (length entries) (length entries) (length t) calls calls' h.formed.shaped.some_node h.formed.shaped.few_nodes h.few limit (omega arith) is)
+
+  -- or the queue is empty
+  pub part_empty : (calls calls' : ℕ) → IsPart d key t links entries calls → length entries ≤ 0 → IsPart d key t links1 entries1 calls'
+  part_empty calls calls' h none = called calls calls' h (omega (arith, none))
+
+-- the rows of a whole solution are rows of their nodes
+pub rows_in : {R : Type 0} (t : List (NodeView R)) (chosen : List ℕ) → Reached t 0 (take (length t) chosen) → (q : ℕ) → q < length t → get_or chosen q 0 < rows t q
+rows_in t chosen h q l = subst (λ r. r < rows t q) (get_or-take (length t) chosen q 0 l) (h.1 q (omega (arith, h.0, l)))
 
 -- the answers that are seen before and after
 pub answer_found : {R : Type 0} (d : ℕ) (key : R → KeyOf d 16) (t : List (NodeView R)) (links links' : List (Linked Link)) (entries entries' : List (Entry R Candidate)) (r : R) (rows : List ℕ)

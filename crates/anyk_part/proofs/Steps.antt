@@ -3,8 +3,8 @@ use Rattle.std.proofs.Common.{◌≡◌, ℕ, suc, ◌+◌, ◌-◌, ◌*◌, �
 use Rattle.std.specs.List.{All}
 use Rattle.std.proofs.Math.ListN.{set, length-set}
 use Rattle.std.proofs.Math.Seq.{take-suc-set}
-use Rattle.std.proofs.lemmas.List.{get_or-take}
-use Rattle.std.proofs.lemmas.Bool.{cases_eq, eq-eqb, cond-true}
+use Rattle.std.proofs.lemmas.List.{get_or-take, get_or_past}
+use Rattle.std.proofs.lemmas.Bool.{cases_eq, cases_lt, eq-eqb, cond-true}
 use Rattle.std.proofs.lemmas.List.Sums.{sum_by-cons}
 use Rattle.std.proofs.lemmas.List.Elements.{All-head, All-tail, All-cons, All-nil}
 use Rattle.stream_store.specs.declared.entry.Linked.{Linked}
@@ -12,7 +12,7 @@ use Rattle.take2_heap.specs.declared.entry.Entry.{Entry}
 use Rattle.tdp_model.specs.KeyTuple.{KeyOf, key_below}
 use Rattle.tdp_model.specs.StagedProblem.{IsStaged}
 use Rattle.tdp_model.specs.Regions.{in_region, opening}
-use Rattle.tdp_core.specs.TreeView.{NodeView, parent, rows, members, group_number, group_named, child_place, group, best}
+use Rattle.tdp_core.specs.TreeView.{NodeView, node_at, parent, rows, members, group_count, group_number, group_named, child_place, group, best}
 use Rattle.tdp_core.proofs.TreeFacts.{member_is_row, rows_within, group_rows_within}
 use Rattle.anyk_part.specs.declared.candidate.Link.{Link}
 use Rattle.anyk_part.specs.declared.candidate.Candidate.{Candidate}
@@ -107,6 +107,24 @@ module _ {R : Type 0} (d : ℕ) (key : R → KeyOf d 16) (t : List (NodeView R))
   row_fits g r e f =
       subst (λ z. z < rows t w.node) (sym f) (member_is_row d key t h.formed w.node g w.place l (subst (λ ms. w.place < length ms) (sym (group_is g e)) (h.place l)))
 
+  -- the rows chosen before are rows of their nodes
+  pub rows_before : (q : ℕ) → q < w.node → get_or chosen q 0 < rows t q
+  rows_before q m = subst (λ r. r < rows t q) (sym (chosen_is q m)) (h.reached.1 q (omega (arith, long, m)))
+
+  -- the walk's place is one of the group
+  pub place_in : (g : ℕ) → g ≡ group_number t w.node (get_or chosen (parent t w.node) 0) → w.place < length (members t w.node g)
+  place_in g e = subst (λ ms. w.place < length ms) (sym (group_is g e)) (h.place l)
+
+  -- so it is one of the node's groups
+  pub group_in : (g : ℕ) → g ≡ group_number t w.node (get_or chosen (parent t w.node) 0) → g < group_count t w.node
+  group_in g e = elim (cases_lt g (group_count t w.node)) [
+    | inl m ↦ m
+    | inr past ↦ absurd (omega (arith, place_in g e, ap (λ ms. length ms) (get_or_past (node_at t w.node).groups g [] (omega (arith, past)))))
+  ]
+
+  pub node_small : w.node < 16
+  node_small = omega (arith, l, h.formed.shaped.few_nodes)
+
   -- no solution has its row at a place past the group's end
   pub none_at : (g place : ℕ) → g ≡ group_number t w.node (get_or chosen (parent t w.node) 0) → length (members t w.node g) ≤ place → (u : List ℕ) → in_region (followers t) (region_at t so_far place) u ≡ 0
   none_at g place e far u = none_past (followers t) (region_at t so_far place) u (subst (λ ms. length ms ≤ place) (group_is g e) far)
@@ -115,7 +133,7 @@ module _ {R : Type 0} (d : ℕ) (key : R → KeyOf d 16) (t : List (NodeView R))
   place_small g e =
       omega (
         arith,
-        subst (λ ms. w.place < length ms) (sym (group_is g e)) (h.place l),
+        place_in g e,
         group_rows_within d key t h.formed w.node g l,
         rows_within d key t h.formed w.node l,
       )

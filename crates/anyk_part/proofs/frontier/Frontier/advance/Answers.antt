@@ -1,4 +1,4 @@
-use Rattle.std.proofs.Common.{◌≡◌, List, [], ◌∷◌, ◌++◌, length, None, ap, ◌∙◌}
+use Rattle.std.proofs.Common.{◌≡◌, List, [], ◌∷◌, ◌++◌, length, None, ap, ◌∙◌, arith}
 use Rattle.stream_store.specs.declared.entry.Linked.{Linked}
 use Rattle.stream_store.specs.Entries.{Entries}
 use Rattle.anyk_part.specs.declared.candidate.Link.{Link}
@@ -50,3 +50,14 @@ returns-clause-top g c =
     let grown : c.push_reserved-last.new.self.entries ≡ links ++ (made ∷ []) = c.push_reserved-last.ensures.entries ∙ ap (λ (l : Entries Link). l.entries ++ (made ∷ [])) c.choose-choice.ensures.links in
     top_after g.R.Rank.KEYS g.R.Rank.key c.args.tree.now c.args.walk links (made ∷ []) c.push_reserved-last.new.self.entries c.args.chosen.now c.args.self.now.queue.entries c.choose-choice.result
     c.choose-choice.new.chosen c.choose-choice.new.self.queue.entries c.choose-choice.ensures.choice grown c.requires.entries
+
+pub returns-clause-stands : goal.returns-clause-stands
+returns-clause-stands g c = c.choose-choice.ensures.choice.stands
+
+pub returns-clause-length : goal.returns-clause-length
+returns-clause-length g c = c.choose-choice.ensures.choice.few
+
+pub returns-clause-link_room : goal.returns-clause-link_room
+returns-clause-link_room g c =
+    let same = ap (λ (l : Entries Link). l.spare) c.choose-choice.ensures.links in
+    omega (arith, same, c.push_reserved-last.ensures.spare)

@@ -1,4 +1,4 @@
-use Rattle.std.proofs.Common.{◌≡◌, ℕ, ◌+◌, ◌*◌, ◌≤◌, List, length, take, refl, sym, subst, arith}
+use Rattle.std.proofs.Common.{◌≡◌, ℕ, ◌+◌, ◌*◌, ◌≤◌, List, length, take, refl, sym, ◌∙◌, subst, arith}
 use Rattle.std.specs.List.{All}
 use Rattle.std.proofs.lemmas.Bool.{false≢true}
 use Rattle.rank_key.proofs.BitLemmas.{bit_length_rises}
@@ -11,8 +11,23 @@ use Rattle.anyk_part.specs.declared.candidate.Site.{Site}
 use Rattle.anyk_part.specs.Chains.{chain}
 use Rattle.anyk_part.specs.Regions.{followers, region_at, held_by, IsEntry}
 use Rattle.anyk_part.specs.Walks.{IsSite}
-use Rattle.anyk_part.proofs.Steps.{none_at, row_fits, place_small, site_of, row_is, put_none, put_once, put_twice}
+use Rattle.anyk_part.proofs.Steps.{rows_before, group_in, place_in, node_small, none_at, row_fits, place_small, site_of, row_is, put_none, put_once, put_twice}
 use Rattle.anyk_part.proofs.frontier.Frontier.choose.Goals as goal
+
+pub group_at-group-requires-clause-rows : goal.group_at-group-requires-clause-rows
+group_at-group-requires-clause-rows g c = rows_before g.R.Rank.KEYS g.R.Rank.key c.args.tree.now c.args.total.now c.args.walk.now c.args.chosen.now c.args.self.now.links.entries c.requires.at c.requires.node
+
+pub group_len-size-requires-clause-group : goal.group_len-size-requires-clause-group
+group_len-size-requires-clause-group g c = group_in g.R.Rank.KEYS g.R.Rank.key c.args.tree.now c.args.total.now c.args.walk.now c.args.chosen.now c.args.self.now.links.entries c.requires.at c.requires.node c.group_at-group.result c.group_at-group.ensures.group
+
+pub member-row-requires-clause-group : goal.member-row-requires-clause-group
+member-row-requires-clause-group g c = group_in g.R.Rank.KEYS g.R.Rank.key c.args.tree.now c.args.total.now c.args.walk.now c.args.chosen.now c.args.self.now.links.entries c.requires.at c.requires.node c.group_at-group.result c.group_at-group.ensures.group
+
+pub member-row-requires-clause-place : goal.member-row-requires-clause-place
+member-row-requires-clause-place g c = place_in g.R.Rank.KEYS g.R.Rank.key c.args.tree.now c.args.total.now c.args.walk.now c.args.chosen.now c.args.self.now.links.entries c.requires.at c.requires.node c.group_at-group.result c.group_at-group.ensures.group
+
+pub bounds-chosen-walk : goal.bounds-chosen-walk
+bounds-chosen-walk g c = omega (arith, node_small g.R.Rank.KEYS g.R.Rank.key c.args.tree.now c.args.total.now c.args.walk.now c.args.chosen.now c.args.self.now.links.entries c.requires.at c.requires.node, c.requires.at.long)
 
 pub overflow_mul-place : goal.overflow_mul-place
 overflow_mul-place g c =
@@ -55,6 +70,10 @@ offer-requires-then-place-size-2-clause-site g c =
     subst (λ (l : Entries Link). IsSite g.R.Rank.KEYS g.R.Rank.key c.args.tree.now l.entries s) (sym c.offer.ensures.links)
     (site_of g.R.Rank.KEYS g.R.Rank.key c.args.tree.now c.args.total.now c.args.walk.now c.args.chosen.now c.args.self.now.links.entries c.requires.at c.requires.node c.group_at-group.result c.member-row.result c.best-best.result c.group_at-group.ensures.group c.member-row.ensures.member c.best-best.ensures.best)
 
+pub offer-requires-then-place-size-2-clause-entries : goal.offer-requires-then-place-size-2-clause-entries
+offer-requires-then-place-size-2-clause-entries g c =
+    subst (λ (l : Entries Link). All (IsEntry g.R.Rank.KEYS g.R.Rank.key c.args.tree.now l.entries) c.offer.new.self.queue.entries) (sym c.offer.ensures.links) c.offer.ensures.entries
+
 pub returns-then-place-size-2-clause-choice : goal.returns-then-place-size-2-clause-choice
 returns-then-place-size-2-clause-choice g c =
     let t = c.args.tree.now in
@@ -75,6 +94,12 @@ returns-then-place-size-2-clause-choice g c =
       stands = λ e. absurd (false≢true e);
       few = omega (arith, c.offer.ensures.length, c.offer-then-place-size-2.ensures.length);
     }
+
+pub returns-then-place-size-2-clause-links : goal.returns-then-place-size-2-clause-links
+returns-then-place-size-2-clause-links g c = c.offer-then-place-size-2.ensures.links ∙ c.offer.ensures.links
+
+pub returns-then-place-size-2-clause-room : goal.returns-then-place-size-2-clause-room
+returns-then-place-size-2-clause-room g c = omega (arith, c.offer-then-place-size-2.ensures.room, c.offer.ensures.room)
 
 pub returns-then-place-size-2-clause-cost : goal.returns-then-place-size-2-clause-cost
 returns-then-place-size-2-clause-cost g c =

@@ -26,6 +26,12 @@ loop-walk-init g c =
       cost = omega arith;
     }
 
+pub advance-walk-requires-clause-top : goal.advance-walk-requires-clause-top
+advance-walk-requires-clause-top g c = λ e. subst (λ (es : List (Entry g.row.R.Denot Candidate)). 0 < length es) (sym (c.loop-walk.invariant.division.stands e).0) c.requires.some
+
+pub choose-choice-requires-clause-top : goal.choose-choice-requires-clause-top
+choose-choice-requires-clause-top g c = λ e. subst (λ (es : List (Entry g.row.R.Denot Candidate)). 0 < length es) (sym (c.loop-walk.invariant.division.stands e).0) c.requires.some
+
 pub loop-walk-preserved : goal.loop-walk-preserved
 loop-walk-preserved g c =
     let l = c.loop-walk.invariant in

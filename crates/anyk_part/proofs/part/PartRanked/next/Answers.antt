@@ -1,15 +1,20 @@
 use Rattle.std.proofs.Common.{rules, ◌≡◌, ◌+◌, ◌≤◌, List, [], length, refl, sym, ap, ◌∙◌, subst, arith}
 use Rattle.stream_store.specs.declared.entry.Linked.{Linked}
 use Rattle.take2_heap.specs.declared.entry.Entry.{Entry}
-use Rattle.tdp_core.specs.AnswerView.{rows_of_key}
+use Rattle.tdp_core.specs.AnswerView.{rows_of_key, counted}
 use Rattle.anyk_part.specs.declared.candidate.Link.{Link}
 use Rattle.anyk_part.specs.declared.candidate.Candidate.{Candidate}
 use Rattle.tdp_core.specs.TreeView.{group_count, row_count}
-use Rattle.tdp_core.specs.Shares.{most_steps}
+use Rattle.tdp_core.specs.Shares.{most_steps, size_of}
 use Rattle.anyk_part.specs.Regions.{PartView, rest_of, candidates_of}
-use Rattle.anyk_part.proofs.NextAnswers.{top_entry, top_next, top_key, answer_found, answers_end, steps_within}
+use Rattle.anyk_part.proofs.NextAnswers.{part_empty, part_refused, rows_in, top_each, top_some, top_entry, top_next, top_key, answer_found, answers_end, steps_within}
 use Rattle.anyk_part.proofs.Starts.{starts_at}
 use Rattle.anyk_part.proofs.part.PartRanked.next.Goals as goal
+
+pub invariant_of-self : goal.invariant_of-self
+invariant_of-self g c =
+    let empty : length c.self.inside.frontier.queue.entries ≤ 0 = search rules in
+    (part_empty g.R.Rank.KEYS g.R.Rank.key c.self.inside.tree.now c.self.inside.frontier.links.entries c.self.inside.frontier.links.entries c.self.inside.frontier.queue.entries c.self.inside.frontier.queue.entries refl refl c.self.inside.calls c.saturating_add-self-inside.result c.self.invariant.0 empty, c.self.invariant.1)
 
 pub returns-in_default-clause-end : goal.returns-in_default-clause-end
 returns-in_default-clause-end g c =
@@ -19,6 +24,22 @@ returns-in_default-clause-end g c =
     let empty : length entries ≤ 0 = search rules in
     let none : rest_of g.R.Rank.KEYS g.R.Rank.key t (candidates_of links (length t) entries) ≡ [] = answers_end g.R.Rank.KEYS g.R.Rank.key t links entries empty in
     (ap (λ (s : PartView g.row.R.Denot). rest_of g.R.Rank.KEYS g.R.Rank.key s.tree s.candidates) (sym c.self.view_is) ∙ none, none)
+
+pub returns-in_default-clause-counted : goal.returns-in_default-clause-counted
+returns-in_default-clause-counted g c = c.saturating_add-self-inside.ensures ∙ ap (λ (s : PartView g.row.R.Denot). counted s.calls) c.self.view_is
+
+pub returns-in_default-clause-size : goal.returns-in_default-clause-size
+returns-in_default-clause-size g c = ap (λ (s : PartView g.row.R.Denot). size_of s.tree) c.self.view_is
+
+pub invariant_of-self-in_err-make_room : goal.invariant_of-self-in_err-make_room
+invariant_of-self-in_err-make_room g c =
+    (part_refused g.R.Rank.KEYS g.R.Rank.key c.self.inside.tree.now c.self.inside.frontier.links.entries c.make_room.new.self.links.entries c.self.inside.frontier.queue.entries c.make_room.new.self.queue.entries c.make_room.ensures.links c.make_room.ensures.entries c.self.inside.calls c.saturating_add-self-inside.result c.self.invariant.0 c.in-Some.ensures.limit c.saturating_add-self-inside.ensures, c.self.invariant.1)
+
+pub returns-in_err-make_room-clause-counted : goal.returns-in_err-make_room-clause-counted
+returns-in_err-make_room-clause-counted g c = c.saturating_add-self-inside.ensures ∙ ap (λ (s : PartView g.row.R.Denot). counted s.calls) c.self.view_is
+
+pub returns-in_err-make_room-clause-size : goal.returns-in_err-make_room-clause-size
+returns-in_err-make_room-clause-size g c = ap (λ (s : PartView g.row.R.Denot). size_of s.tree) c.self.view_is
 
 pub prefix-chosen-requires-clause-count : goal.prefix-chosen-requires-clause-count
 prefix-chosen-requires-clause-count g c =
@@ -42,6 +63,23 @@ pub divide-requires-clause-node : goal.divide-requires-clause-node
 divide-requires-clause-node g c = (top_entry g.R.Rank.KEYS g.R.Rank.key c.self.inside.tree.now c.self.inside.frontier.links.entries c.make_room.new.self.links.entries c.self.inside.frontier.queue.entries c.make_room.new.self.queue.entries c.self.inside.calls _ _
     c.make_room.ensures.links c.make_room.ensures.entries c.self.invariant.0 (c.in-Some.ensures.variant.0 refl) c.in-Some.ensures.top).position
 
+pub divide-requires-clause-entries : goal.divide-requires-clause-entries
+divide-requires-clause-entries g c = top_each g.R.Rank.KEYS g.R.Rank.key c.self.inside.tree.now c.self.inside.frontier.links.entries c.make_room.new.self.links.entries c.self.inside.frontier.queue.entries c.make_room.new.self.queue.entries c.self.inside.calls _ _
+    c.make_room.ensures.links c.make_room.ensures.entries c.self.invariant.0 (c.in-Some.ensures.variant.0 refl) c.in-Some.ensures.top
+
+pub divide-requires-clause-some : goal.divide-requires-clause-some
+divide-requires-clause-some g c = top_some g.R.Rank.KEYS g.R.Rank.key c.self.inside.tree.now c.self.inside.frontier.links.entries c.make_room.new.self.links.entries c.self.inside.frontier.queue.entries c.make_room.new.self.queue.entries c.self.inside.calls _ _
+    c.make_room.ensures.links c.make_room.ensures.entries c.self.invariant.0 (c.in-Some.ensures.variant.0 refl) c.in-Some.ensures.top
+
+pub divide-requires-clause-room : goal.divide-requires-clause-room
+divide-requires-clause-room g c = let count = c.nodes.ensures.count in omega (arith, count, c.in_ok-make_room.ensures.room)
+
+pub divide-requires-clause-link_room : goal.divide-requires-clause-link_room
+divide-requires-clause-link_room g c = let count = c.nodes.ensures.count in omega (arith, count, c.in_ok-make_room.ensures.link_room)
+
+pub row_numbers-rows-requires-clause-rows : goal.row_numbers-rows-requires-clause-rows
+row_numbers-rows-requires-clause-rows g c = rows_in c.self.inside.tree.now c.divide.new.chosen c.divide.ensures.reached
+
 pub invariant_of-self-2 : goal.invariant_of-self-2
 invariant_of-self-2 g c = (
   (top_next g.R.Rank.KEYS g.R.Rank.key c.self.inside.tree.now c.self.inside.frontier.links.entries c.make_room.new.self.links.entries c.self.inside.frontier.queue.entries c.make_room.new.self.queue.entries c.self.inside.calls _ _
@@ -63,6 +101,12 @@ returns-clause-found g c =
     (c.row_numbers-rows.ensures.numbers ∙ ap (λ k. rows_of_key g.R.Rank.KEYS 16 k)
     (top_key g.R.Rank.KEYS g.R.Rank.key t links c.make_room.new.self.links.entries entries c.make_room.new.self.queue.entries c.self.inside.calls _ _
     c.make_room.ensures.links c.make_room.ensures.entries c.self.invariant.0 (c.in-Some.ensures.variant.0 refl) c.in-Some.ensures.top c.divide.new.chosen c.divide.ensures.best))
+
+pub returns-clause-counted : goal.returns-clause-counted
+returns-clause-counted g c = c.saturating_add-self-inside.ensures ∙ ap (λ (s : PartView g.row.R.Denot). counted s.calls) c.self.view_is
+
+pub returns-clause-size : goal.returns-clause-size
+returns-clause-size g c = ap (λ (s : PartView g.row.R.Denot). size_of s.tree) c.self.view_is
 
 pub returns-clause-cost : goal.returns-clause-cost
 returns-clause-cost g c =
