@@ -1,10 +1,10 @@
 -- The division of a region, from its start to its end.
-use Rattle.std.proofs.Common.{◌≡◌, ℕ, zero, suc, ◌+◌, ◌-◌, ◌*◌, ◌<◌, ◌≤◌, Bool, true, false, cond, Option, Some, None, IsSome, List, [], ◌∷◌, ◌++◌, length, take, get_or, refl, sym, ap, ◌∙◌, subst, arith}
+use Rattle.std.proofs.Common.{◌≡◌, ℕ, zero, suc, ◌+◌, ◌-◌, ◌*◌, ◌<◌, ◌≤◌, Bool, true, false, cond, Option, Some, None, IsSome, IfSome, ◌↔◌, List, [], ◌∷◌, ◌++◌, length, take, get_or, refl, sym, ap, ◌∙◌, subst, arith}
 use Rattle.std.specs.List.{All}
 use Rattle.std.specs.List.Sorted.{IsPermutation}
 use Rattle.std.proofs.lemmas.Bool.{false≢true}
 use Rattle.std.proofs.lemmas.List.Sums.{sum_by-cons}
-use Rattle.std.proofs.lemmas.List.Sorted.{sum_by-IsPermutation, All-permutation}
+use Rattle.std.proofs.lemmas.List.Sorted.{sum_by-IsPermutation, All-permutation, length_permutation}
 use Rattle.std.proofs.lemmas.List.Elements.{All-tail}
 use Rattle.stream_store.specs.declared.entry.Linked.{Linked}
 use Rattle.take2_heap.specs.declared.entry.Entry.{Entry}
@@ -175,6 +175,14 @@ module _ {R : Type 0} (d : ℕ) (key : R → KeyOf d 16) (t : List (NodeView R))
           (h.stands e).1 s,
         )
 
+  -- what a division leaves: the rows are those of the region's best solution, and the entries hold what else was held
+  pub record IsDivided (start : Walk) (old_links : List (Linked Link)) (before : List (Entry R Candidate)) (rows : List ℕ) (links : List (Linked Link)) (entries : List (Entry R Candidate)) : Type 0 where
+    pub best : take (length t) rows ≡ best_of (followers t) (start_region d key t old_links start)
+    pub reached : Reached t 0 (take (length t) rows)
+    pub held : (s : List ℕ) → in_regions (followers t) (divided (followers t) (start_region d key t old_links start)) s + held_by t old_links before s ≡ held_by t old_links (take 1 before) s + held_by t links entries s
+    pub each : All (IsEntry d key t links) entries
+    pub few : length entries ≤ length before + 2 * length t
+
   -- # The choice at the last node, as one more step over the links that its own link would join
 
   module _ (whole : R) (start : Walk) (old_links : List (Linked Link)) (before : List (Entry R Candidate)) (w : Walk) (links : List (Linked Link)) (chosen : List ℕ)
@@ -199,36 +207,52 @@ module _ {R : Type 0} (d : ℕ) (key : R → KeyOf d 16) (t : List (NodeView R))
         (top_after d key t w links made (links ++ made) chosen entries c rows new k refl h.each)
         k.few
 
-    pub choice_best : take (length t) rows ≡ best_of (followers t) (start_region d key t old_links start)
+    choice_best : take (length t) rows ≡ best_of (followers t) (start_region d key t old_links start)
     choice_best = division_best whole start old_links before end (links ++ made) rows new at_end division_end done
 
-    pub choice_reached : Reached t 0 (take (length t) rows)
+    choice_reached : Reached t 0 (take (length t) rows)
     choice_reached = division_reached whole start old_links before end (links ++ made) rows new at_end division_end done
 
     pub choice_few : length new ≤ length before + 2 * length t
     choice_few = omega (arith, division_end.few, below)
 
-    pub choice_gone : c.top_stands ≡ false → (s : List ℕ) → in_regions (followers t) (divided (followers t) (start_region d key t old_links start)) s + held_by t old_links before s
+    choice_gone : c.top_stands ≡ false → (s : List ℕ) → in_regions (followers t) (divided (followers t) (start_region d key t old_links start)) s + held_by t old_links before s
         ≡ held_by t old_links (take 1 before) s + held_by t links new s
     choice_gone e s =
         held_gone whole start old_links before end (links ++ made) rows new at_end division_end done e s
         ∙ ap (λ n. held_by t old_links (take 1 before) s + n) (held_kept d key t links made new k.each s)
 
-    pub choice_full : c.top_stands ≡ true → 0 < length before → 0 < length new
+    choice_full : c.top_stands ≡ true → 0 < length before → 0 < length new
     choice_full e some = subst (λ es. 0 < length es) (sym (division_end.stands e).0) some
 
-    pub choice_entries : (top : Entry R Candidate) (rest : List (Entry R Candidate)) → IsPermutation new (top ∷ rest) → All (IsEntry d key t links) rest
+    choice_entries : (top : Entry R Candidate) (rest : List (Entry R Candidate)) → IsPermutation new (top ∷ rest) → All (IsEntry d key t links) rest
     choice_entries top rest p = All-tail (IsEntry d key t links) top rest (All-permutation (IsEntry d key t links) new (top ∷ rest) p k.each)
 
-    pub choice_popped : c.top_stands ≡ true → (top : Entry R Candidate) (rest : List (Entry R Candidate)) → 0 < length before → top ≡ get_or new 0 top → IsPermutation new (top ∷ rest) → (s : List ℕ)
+    choice_popped : c.top_stands ≡ true → (top : Entry R Candidate) (rest : List (Entry R Candidate)) → 0 < length before → top ≡ get_or new 0 top → IsPermutation new (top ∷ rest) → (s : List ℕ)
         → in_regions (followers t) (divided (followers t) (start_region d key t old_links start)) s + held_by t old_links before s ≡ held_by t old_links (take 1 before) s + held_by t links rest s
     choice_popped e top rest some first p s =
         held_popped whole start old_links before end (links ++ made) rows new at_end division_end done e top rest (choice_full e some) first p s
         ∙ ap (λ n. held_by t old_links (take 1 before) s + n) (held_kept d key t links made rest (choice_entries top rest p) s)
 
-pub some_is : {X : Type 0} (o : Option X) → IsSome o → (x : X) × (o ≡ Some x)
-some_is None h = absurd (false≢true h)
-some_is (Some x) h = (x, refl)
+    -- where the region is no longer at the queue's top,
+    pub choice_stays : c.top_stands ≡ false → (grown : List (Linked Link)) → grown ≡ links → IsDivided start old_links before rows grown new
+    choice_stays e grown same =
+        subst (λ ls. IsDivided start old_links before rows ls new) (sym same)
+        (record { best = choice_best; reached = choice_reached; held = choice_gone e; each = k.each; few = choice_few })
+
+    -- and where it is taken from there
+    pub choice_taken : c.top_stands ≡ true → 0 < length before → (grown : List (Linked Link)) → grown ≡ links → (top : Option (Entry R Candidate)) (rest : List (Entry R Candidate))
+        → IsSome top ↔ (0 < length new) → IfSome top (λ e. e ≡ get_or new 0 e) → IfSome top (λ e. IsPermutation new (e ∷ rest)) → IsDivided start old_links before rows grown rest
+    choice_taken e some grown same None rest any first p = absurd (false≢true (any.1 (choice_full e some)))
+    choice_taken e some grown same (Some x) rest any first p =
+        subst (λ ls. IsDivided start old_links before rows ls rest) (sym same)
+        (record {
+          best = choice_best;
+          reached = choice_reached;
+          held = choice_popped e x rest some first p;
+          each = choice_entries x rest p;
+          few = omega (arith, choice_few, length_permutation new (x ∷ rest) p);
+        })
 
 pub times_next : (a b k x y z : ℕ) → a ≡ b + 1 → y ≤ x + b * k → z ≤ y + k → z ≤ x + a * k
 times_next a b k x y z e h i = let p : a * k ≡ b * k + k = ap (λ n. n * k) e ∙ omega arith in omega (arith, p, h, i)

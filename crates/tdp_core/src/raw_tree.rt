@@ -169,7 +169,7 @@ fn empty_rows<R: Rank>(alloc: Global, count: usize) -> Result<Vec<RawRows<R>>, N
 {
     let mut rows = Vec::with_capacity(alloc, count)?;
     while rows.len() < count {
-        rows.push(RawRows::new(alloc))?;
+        rows.push_reserved(RawRows::new(alloc));
     }
     Ok(rows)
 }

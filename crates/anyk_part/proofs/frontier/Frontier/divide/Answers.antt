@@ -9,7 +9,9 @@ use Rattle.take2_heap.specs.declared.entry.Entry.{Entry}
 use Rattle.anyk_part.specs.declared.candidate.Candidate.{Candidate}
 use Rattle.anyk_part.specs.declared.candidate.Link.{Link}
 use Rattle.anyk_part.specs.Regions.{held_by, IsEntry}
-use Rattle.anyk_part.proofs.Divisions.{division_init, division_next, choice_best, choice_reached, choice_few, choice_gone, choice_full, choice_entries, choice_popped, some_is, times_next, times_within}
+use Rattle.anyk_part.proofs.Divisions.{IsDivided, division_init, division_next, choice_few, choice_stays, choice_taken, times_next, times_within}
+use Rattle.anyk_part.proofs.frontier.Frontier.divide.Given.{Over}
+use Rattle.anyk_part.proofs.frontier.Frontier.divide.Goals.{After-pop, Else-choice}
 use Rattle.anyk_part.proofs.frontier.Frontier.divide.Goals as goal
 
 pub loop-walk-init : goal.loop-walk-init
@@ -52,61 +54,37 @@ loop-walk-preserved g c =
           (omega (arith, e.node, l.division.from)) l.cost (omega (arith, e.cost, digits));
     }
 
+module _ (g : Over) where
+  -- the division where the region is taken from the queue's top,
+  taken : (c : After-pop g) → IsDivided g.R.Rank.KEYS g.R.Rank.key c.args.tree.now c.args.start c.args.self.now.links.entries c.args.self.now.queue.entries c.choose-choice.new.chosen c.choose-choice.new.self.links.entries c.pop.new.self.entries
+  taken c =
+      let l = c.loop-walk.invariant in
+      choice_taken g.R.Rank.KEYS g.R.Rank.key c.args.tree.now c.args.total.now c.args.start c.args.self.now.links.entries c.args.self.now.queue.entries c.loop-walk.walk c.loop-walk.self.links.entries c.loop-walk.chosen c.loop-walk.self.queue.entries
+      l.at l.division l.below (omega (arith, c.loop-walk-test.false, l.count)) c.choose-choice.result c.choose-choice.new.chosen c.choose-choice.new.self.queue.entries c.choose-choice.ensures.choice c.if-choice.true c.requires.some
+      c.choose-choice.new.self.links.entries (ap (λ (k : Entries Link). k.entries) c.choose-choice.ensures.links) c.pop.result c.pop.new.self.entries c.pop.ensures.variant c.pop.ensures.top c.pop.ensures.permutation
+
+  -- and where it is no longer there
+  stays : (c : Else-choice g) → IsDivided g.R.Rank.KEYS g.R.Rank.key c.args.tree.now c.args.start c.args.self.now.links.entries c.args.self.now.queue.entries c.choose-choice.new.chosen c.choose-choice.new.self.links.entries c.choose-choice.new.self.queue.entries
+  stays c =
+      let l = c.loop-walk.invariant in
+      choice_stays g.R.Rank.KEYS g.R.Rank.key c.args.tree.now c.args.total.now c.args.start c.args.self.now.links.entries c.args.self.now.queue.entries c.loop-walk.walk c.loop-walk.self.links.entries c.loop-walk.chosen c.loop-walk.self.queue.entries
+      l.at l.division l.below (omega (arith, c.loop-walk-test.false, l.count)) c.choose-choice.result c.choose-choice.new.chosen c.choose-choice.new.self.queue.entries c.choose-choice.ensures.choice c.if-choice.false
+      c.choose-choice.new.self.links.entries (ap (λ (k : Entries Link). k.entries) c.choose-choice.ensures.links)
+
 pub returns-then-choice-clause-best : goal.returns-then-choice-clause-best
-returns-then-choice-clause-best g c =
-    let l = c.loop-walk.invariant in
-    choice_best g.R.Rank.KEYS g.R.Rank.key c.args.tree.now c.args.total.now c.args.start c.args.self.now.links.entries c.args.self.now.queue.entries c.loop-walk.walk c.loop-walk.self.links.entries c.loop-walk.chosen c.loop-walk.self.queue.entries
-    l.at l.division l.below (omega (arith, c.loop-walk-test.false, l.count)) c.choose-choice.result c.choose-choice.new.chosen c.choose-choice.new.self.queue.entries c.choose-choice.ensures.choice
+returns-then-choice-clause-best g c = (taken g c).best
 
 pub returns-then-choice-clause-reached : goal.returns-then-choice-clause-reached
-returns-then-choice-clause-reached g c =
-    let l = c.loop-walk.invariant in
-    choice_reached g.R.Rank.KEYS g.R.Rank.key c.args.tree.now c.args.total.now c.args.start c.args.self.now.links.entries c.args.self.now.queue.entries c.loop-walk.walk c.loop-walk.self.links.entries c.loop-walk.chosen c.loop-walk.self.queue.entries
-    l.at l.division l.below (omega (arith, c.loop-walk-test.false, l.count)) c.choose-choice.result c.choose-choice.new.chosen c.choose-choice.new.self.queue.entries c.choose-choice.ensures.choice
+returns-then-choice-clause-reached g c = (taken g c).reached
 
 pub returns-then-choice-clause-held : goal.returns-then-choice-clause-held
-returns-then-choice-clause-held g c =
-    let l = c.loop-walk.invariant in
-    let before : List (Entry g.row.R.Denot Candidate) = c.args.self.now.queue.entries in
-    let full : 0 < length c.choose-choice.new.self.queue.entries =
-    choice_full g.R.Rank.KEYS g.R.Rank.key c.args.tree.now c.args.total.now c.args.start c.args.self.now.links.entries c.args.self.now.queue.entries c.loop-walk.walk c.loop-walk.self.links.entries c.loop-walk.chosen c.loop-walk.self.queue.entries
-    l.at l.division l.below (omega (arith, c.loop-walk-test.false, l.count)) c.choose-choice.result c.choose-choice.new.chosen c.choose-choice.new.self.queue.entries c.choose-choice.ensures.choice c.if-choice.true c.requires.some in
-    let some : IsSome c.pop.result = search rules in
-    let top : (x : Entry g.row.R.Denot Candidate) × (c.pop.result ≡ Some x) = some_is c.pop.result some in
-    let p : IsPermutation c.choose-choice.new.self.queue.entries (top.0 ∷ c.pop.new.self.entries) =
-    subst (λ (o : Option (Entry g.row.R.Denot Candidate)). IfSome o (λ e. IsPermutation c.choose-choice.new.self.queue.entries (e ∷ c.pop.new.self.entries))) top.1 c.pop.ensures.permutation in
-    λ s. choice_popped g.R.Rank.KEYS g.R.Rank.key c.args.tree.now c.args.total.now c.args.start c.args.self.now.links.entries c.args.self.now.queue.entries c.loop-walk.walk c.loop-walk.self.links.entries c.loop-walk.chosen c.loop-walk.self.queue.entries
-    l.at l.division l.below (omega (arith, c.loop-walk-test.false, l.count)) c.choose-choice.result c.choose-choice.new.chosen c.choose-choice.new.self.queue.entries c.choose-choice.ensures.choice c.if-choice.true top.0 c.pop.new.self.entries c.requires.some
-    (subst (λ (o : Option (Entry g.row.R.Denot Candidate)). IfSome o (λ e. e ≡ get_or c.choose-choice.new.self.queue.entries 0 e)) top.1 c.pop.ensures.top) p s
-    ∙ ap (λ (k : Entries Link). held_by c.args.tree.now c.args.self.now.links.entries (take 1 before) s + held_by c.args.tree.now k.entries c.pop.new.self.entries s) (sym c.choose-choice.ensures.links)
+returns-then-choice-clause-held g c = (taken g c).held
 
 pub returns-then-choice-clause-entries : goal.returns-then-choice-clause-entries
-returns-then-choice-clause-entries g c =
-    let l = c.loop-walk.invariant in
-    let full : 0 < length c.choose-choice.new.self.queue.entries =
-    choice_full g.R.Rank.KEYS g.R.Rank.key c.args.tree.now c.args.total.now c.args.start c.args.self.now.links.entries c.args.self.now.queue.entries c.loop-walk.walk c.loop-walk.self.links.entries c.loop-walk.chosen c.loop-walk.self.queue.entries
-    l.at l.division l.below (omega (arith, c.loop-walk-test.false, l.count)) c.choose-choice.result c.choose-choice.new.chosen c.choose-choice.new.self.queue.entries c.choose-choice.ensures.choice c.if-choice.true c.requires.some in
-    let some : IsSome c.pop.result = search rules in
-    let top : (x : Entry g.row.R.Denot Candidate) × (c.pop.result ≡ Some x) = some_is c.pop.result some in
-    let p : IsPermutation c.choose-choice.new.self.queue.entries (top.0 ∷ c.pop.new.self.entries) =
-    subst (λ (o : Option (Entry g.row.R.Denot Candidate)). IfSome o (λ e. IsPermutation c.choose-choice.new.self.queue.entries (e ∷ c.pop.new.self.entries))) top.1 c.pop.ensures.permutation in
-    subst (λ (k : Entries Link). All (IsEntry g.R.Rank.KEYS g.R.Rank.key c.args.tree.now k.entries) c.pop.new.self.entries) (sym c.choose-choice.ensures.links)
-    (choice_entries g.R.Rank.KEYS g.R.Rank.key c.args.tree.now c.args.total.now c.args.start c.args.self.now.links.entries c.args.self.now.queue.entries c.loop-walk.walk c.loop-walk.self.links.entries c.loop-walk.chosen c.loop-walk.self.queue.entries
-    l.at l.division l.below (omega (arith, c.loop-walk-test.false, l.count)) c.choose-choice.result c.choose-choice.new.chosen c.choose-choice.new.self.queue.entries c.choose-choice.ensures.choice top.0 c.pop.new.self.entries p)
+returns-then-choice-clause-entries g c = (taken g c).each
 
 pub returns-then-choice-clause-length : goal.returns-then-choice-clause-length
-returns-then-choice-clause-length g c =
-    let l = c.loop-walk.invariant in
-    let full : 0 < length c.choose-choice.new.self.queue.entries =
-    choice_full g.R.Rank.KEYS g.R.Rank.key c.args.tree.now c.args.total.now c.args.start c.args.self.now.links.entries c.args.self.now.queue.entries c.loop-walk.walk c.loop-walk.self.links.entries c.loop-walk.chosen c.loop-walk.self.queue.entries
-    l.at l.division l.below (omega (arith, c.loop-walk-test.false, l.count)) c.choose-choice.result c.choose-choice.new.chosen c.choose-choice.new.self.queue.entries c.choose-choice.ensures.choice c.if-choice.true c.requires.some in
-    let some : IsSome c.pop.result = search rules in
-    let top : (x : Entry g.row.R.Denot Candidate) × (c.pop.result ≡ Some x) = some_is c.pop.result some in
-    let p : IsPermutation c.choose-choice.new.self.queue.entries (top.0 ∷ c.pop.new.self.entries) =
-    subst (λ (o : Option (Entry g.row.R.Denot Candidate)). IfSome o (λ e. IsPermutation c.choose-choice.new.self.queue.entries (e ∷ c.pop.new.self.entries))) top.1 c.pop.ensures.permutation in
-    let few = choice_few g.R.Rank.KEYS g.R.Rank.key c.args.tree.now c.args.total.now c.args.start c.args.self.now.links.entries c.args.self.now.queue.entries c.loop-walk.walk c.loop-walk.self.links.entries c.loop-walk.chosen c.loop-walk.self.queue.entries
-    l.at l.division l.below (omega (arith, c.loop-walk-test.false, l.count)) c.choose-choice.result c.choose-choice.new.chosen c.choose-choice.new.self.queue.entries c.choose-choice.ensures.choice in
-    omega (arith, few, length_permutation c.choose-choice.new.self.queue.entries (top.0 ∷ c.pop.new.self.entries) p)
+returns-then-choice-clause-length g c = (taken g c).few
 
 pub returns-then-choice-clause-cost : goal.returns-then-choice-clause-cost
 returns-then-choice-clause-cost g c =
@@ -124,37 +102,19 @@ returns-then-choice-clause-cost g c =
     (omega (arith, l.below)) end (omega (arith, c.pop.ensures.cost, popped))
 
 pub returns-else-choice-clause-best : goal.returns-else-choice-clause-best
-returns-else-choice-clause-best g c =
-    let l = c.loop-walk.invariant in
-    choice_best g.R.Rank.KEYS g.R.Rank.key c.args.tree.now c.args.total.now c.args.start c.args.self.now.links.entries c.args.self.now.queue.entries c.loop-walk.walk c.loop-walk.self.links.entries c.loop-walk.chosen c.loop-walk.self.queue.entries
-    l.at l.division l.below (omega (arith, c.loop-walk-test.false, l.count)) c.choose-choice.result c.choose-choice.new.chosen c.choose-choice.new.self.queue.entries c.choose-choice.ensures.choice
+returns-else-choice-clause-best g c = (stays g c).best
 
 pub returns-else-choice-clause-reached : goal.returns-else-choice-clause-reached
-returns-else-choice-clause-reached g c =
-    let l = c.loop-walk.invariant in
-    choice_reached g.R.Rank.KEYS g.R.Rank.key c.args.tree.now c.args.total.now c.args.start c.args.self.now.links.entries c.args.self.now.queue.entries c.loop-walk.walk c.loop-walk.self.links.entries c.loop-walk.chosen c.loop-walk.self.queue.entries
-    l.at l.division l.below (omega (arith, c.loop-walk-test.false, l.count)) c.choose-choice.result c.choose-choice.new.chosen c.choose-choice.new.self.queue.entries c.choose-choice.ensures.choice
+returns-else-choice-clause-reached g c = (stays g c).reached
 
 pub returns-else-choice-clause-held : goal.returns-else-choice-clause-held
-returns-else-choice-clause-held g c =
-    let l = c.loop-walk.invariant in
-    let before : List (Entry g.row.R.Denot Candidate) = c.args.self.now.queue.entries in
-    λ s. choice_gone g.R.Rank.KEYS g.R.Rank.key c.args.tree.now c.args.total.now c.args.start c.args.self.now.links.entries c.args.self.now.queue.entries c.loop-walk.walk c.loop-walk.self.links.entries c.loop-walk.chosen c.loop-walk.self.queue.entries
-    l.at l.division l.below (omega (arith, c.loop-walk-test.false, l.count)) c.choose-choice.result c.choose-choice.new.chosen c.choose-choice.new.self.queue.entries c.choose-choice.ensures.choice c.if-choice.false s
-    ∙ ap (λ (k : Entries Link). held_by c.args.tree.now c.args.self.now.links.entries (take 1 before) s + held_by c.args.tree.now k.entries c.choose-choice.new.self.queue.entries s) (sym c.choose-choice.ensures.links)
+returns-else-choice-clause-held g c = (stays g c).held
 
 pub returns-else-choice-clause-entries : goal.returns-else-choice-clause-entries
-returns-else-choice-clause-entries g c =
-    let l = c.loop-walk.invariant in
-    subst (λ (k : Entries Link). All (IsEntry g.R.Rank.KEYS g.R.Rank.key c.args.tree.now k.entries) c.choose-choice.new.self.queue.entries) (sym c.choose-choice.ensures.links)
-    (c.choose-choice.ensures.choice.each)
+returns-else-choice-clause-entries g c = (stays g c).each
 
 pub returns-else-choice-clause-length : goal.returns-else-choice-clause-length
-returns-else-choice-clause-length g c =
-    let l = c.loop-walk.invariant in
-    let few = choice_few g.R.Rank.KEYS g.R.Rank.key c.args.tree.now c.args.total.now c.args.start c.args.self.now.links.entries c.args.self.now.queue.entries c.loop-walk.walk c.loop-walk.self.links.entries c.loop-walk.chosen c.loop-walk.self.queue.entries
-    l.at l.division l.below (omega (arith, c.loop-walk-test.false, l.count)) c.choose-choice.result c.choose-choice.new.chosen c.choose-choice.new.self.queue.entries c.choose-choice.ensures.choice in
-    omega (arith, few)
+returns-else-choice-clause-length g c = (stays g c).few
 
 pub returns-else-choice-clause-cost : goal.returns-else-choice-clause-cost
 returns-else-choice-clause-cost g c =
