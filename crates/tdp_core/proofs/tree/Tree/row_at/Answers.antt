@@ -4,6 +4,17 @@ use Rattle.tdp_core.specs.TreeView.{node_view, tree_view, node_at, rows}
 use Rattle.tdp_core.proofs.NodeViews.{node_is, row_read, rank_read, number_read}
 use Rattle.tdp_core.proofs.tree.Tree.row_at.Goals as goal
 
+pub index-requires-2 : goal.index-requires-2
+index-requires-2 g c =
+    let parts = c.self.inside.nodes.items in
+    let t = tree_view parts in
+    let v = c.args.node in
+    let node = c.index.result.now in
+    let in_tree : v < length t = rw c.self.view_is c.requires.node in
+    let at : node_at t v ≡ node_view node = node_is parts v node (omega (arith, length-map parts node_view)) c.index.ensures in
+    let is_row : c.args.row < rows t v = rw c.self.view_is c.requires.row in
+    omega (arith, is_row, ap (λ n. length n.rows) at, node.rows.ok.0)
+
 pub returns-clause-row : goal.returns-clause-row
 returns-clause-row g c =
     let parts = c.self.inside.nodes.items in
