@@ -90,9 +90,10 @@ fn all_leave_after<R: Rank, L: Ledger>(
 {
     let mut prefixes = Prefixes::before_first(alloc, places)?;
     for node in 0..tree.raw.nodes() {
-        let good = node_leaves_after(alloc, &join, tree, node, places, last, &mut prefixes, steps)?;
-        if !good {
-            return Ok(false);
+        match node_leaves_after(alloc, &join, tree, node, places, last, &mut prefixes, steps) {
+            Ok(true) => {}
+            Ok(false) => return Ok(false),
+            Err(error) => return Err(error),
         }
     }
     Ok(true)

@@ -1,7 +1,7 @@
 //! The ways to leave the answers at one node.
 ghost use Rattle.std.specs.Prelude.{◌≡◌, ◌≢◌, ◌⊎◌, ◌≤◌, ◌<◌, ◌+◌, ℕ, List, [], Option, None, Some, true, false};
 ghost use Rattle.tdp_model.specs.NodeRows.{most_node_rows};
-ghost use Rattle.std.specs.Prelude.{IfOk, OnOk, length, map, option_map};
+ghost use Rattle.std.specs.Prelude.{IfOk, OnOk, length, map, option_map, unwrap_or};
 ghost use Rattle.std.specs.Prelude.{slice_index, slice_index_or, slice_set, vec_len};
 ghost use Rattle.join_tree.specs.Rerooting.{IsTree};
 ghost use Rattle.rank_key.specs.Keys.{KeyFits};
@@ -94,13 +94,55 @@ fn numbers_leave_after<R: Rank, L: Ledger>(
         (option_map R.key last.now) b)) }
 {
     let mut lists = no_lists(alloc, least.len())?;
+    each_leaves_after(
+        alloc, join, tree, node, branches, taken, last, groups, least, &mut lists, steps,
+    )
+}
+
+/// The same of each beginning in turn, given the offers that are made so far.
+fn each_leaves_after<R: Rank, L: Ledger>(
+    alloc: Global,
+    join: &JoinTree,
+    tree: &BoundedTree<R>,
+    node: u32,
+    branches: &[Option<Branch<R>>],
+    taken: &TakenRows,
+    last: &Option<R>,
+    groups: &Groups,
+    least: &[Option<R>],
+    lists: &mut Vec<Vec<Offer<R>>>,
+    steps: &mut Steps<L>,
+) -> Result<bool, NoMemory>
+    requires ordered { IsTree join.now.count join.now.atom join.now.parent }
+    requires bounded { IsBoundedTree join.now R.KEYS R.key tree.now }
+    requires node { node < join.now.count }
+    requires long { length join.now.atom ≡ 16 }
+    requires groups { AreGroups (own_bounds tree.now node) (length least.now) groups.now }
+    requires branches { (n : ℕ) (b : Branch R) → n < length branches.now
+        → slice_index_or branches.now n None ≡ Some b
+        → IsTestable join.now tree.now R.KEYS R.key node least.now b }
+    requires lists { AreLists join.now tree.now R.KEYS R.key node
+        (option_map R.key last.now) groups.now least.now
+        (map (λ l. l.items) lists.old.items) }
+    ensures passed { IfOk result
+        (λ good. good ≡ true → (n : ℕ) (b : Branch R) → n < length branches.now
+        → slice_index_or branches.now n None ≡ Some b
+        → IsLeftAfter join.now tree.now R.KEYS R.key node taken.now n
+        (option_map R.key last.now) b) }
+    ensures missed { IfOk result
+        (λ good. good ≡ false → (n : ℕ) × ((b : Branch R) × (n < length branches.now)
+        × (slice_index_or branches.now n None ≡ Some b)
+        × IsLeftBefore join.now tree.now R.KEYS R.key node taken.now n
+        (option_map R.key last.now) b)) }
+{
     for number in 0..branches.len() {
         let branch = branches[number];
-        let good = number_leaves_after(
-            alloc, join, tree, node, number, branch, taken, last, groups, least, &mut lists, steps,
-        )?;
-        if !good {
-            return Ok(false);
+        match number_leaves_after(
+            alloc, join, tree, node, number, branch, taken, last, groups, least, lists, steps,
+        ) {
+            Ok(true) => {}
+            Ok(false) => return Ok(false),
+            Err(error) => return Err(error),
         }
     }
     Ok(true)
@@ -143,12 +185,9 @@ fn number_leaves_after<R: Rank, L: Ledger>(
 {
     match branch {
         None => Ok(true),
-        Some(branch) => {
-            let good = branch_leaves_after(
-                alloc, join, tree, node, number, branch, taken, last, groups, least, lists, steps,
-            )?;
-            Ok(good)
-        }
+        Some(branch) => branch_leaves_after(
+            alloc, join, tree, node, number, branch, taken, last, groups, least, lists, steps,
+        ),
     }
 }
 
@@ -242,16 +281,9 @@ fn fill<R: Rank, L: Ledger>(
         (slice_index_or (map (λ l. l.items) lists.new.items) group [])) }
 {
     if lists[group].is_empty() {
-        lists[group] = offers_of(
-            alloc,
-            join,
-            tree,
-            node,
-            groups.group(group),
-            known,
-            last,
-            steps,
-        )?;
+        let rows = groups.group(group);
+        let offers = offers_of(alloc, join, tree, node, rows, known, last, steps)?;
+        lists[group] = offers;
     }
     Ok(())
 }
@@ -271,6 +303,17 @@ fn rows_by_bound(alloc: Global, own: &[Option<u32>], count: usize) -> Result<Gro
         → b < count }
     ensures { IfOk result (AreGroups own.now count) }
 {
+    let numbers = numbers_of(alloc, own, count)?;
+    Groups::of_numbers(alloc, &numbers, count + 1)
+}
+
+/// The rows' numbers, with `count` in place of those that are missing.
+fn numbers_of(alloc: Global, own: &[Option<u32>], count: usize) -> Result<Vec<u32>, NoMemory>
+    ensures few { OnOk result (count ≤ 4294967295) }
+    ensures count { IfOk result (λ numbers. length numbers.items ≡ length own.now) }
+    ensures each { IfOk result (λ numbers. (i : ℕ) → i < length own.now
+        → slice_index numbers.items i ≡ unwrap_or (slice_index_or own.now i None) count) }
+{
     let Ok(none) = u32::try_from(count) else {
         return Err(NoMemory);
     };
@@ -278,7 +321,7 @@ fn rows_by_bound(alloc: Global, own: &[Option<u32>], count: usize) -> Result<Gro
     for i in 0..own.len() {
         numbers.push(own[i].unwrap_or(none))?;
     }
-    Groups::of_numbers(alloc, &numbers, count + 1)
+    Ok(numbers)
 }
 
 /// For each beginning whether it may be left at a node, and how.
@@ -302,7 +345,8 @@ fn branches_of<R: Rank, L: Ledger>(
 {
     let mut branches = Vec::new(alloc);
     for n in 0..starts.len() {
-        branches.push(branch_of(join, tree, node, &starts[n], steps))?;
+        let branch = branch_of(join, tree, node, &starts[n], steps);
+        branches.push(branch)?;
     }
     Ok(branches)
 }
@@ -378,7 +422,8 @@ fn no_lists<R: Rank>(alloc: Global, count: usize) -> Result<Vec<Vec<Offer<R>>>, 
 {
     let mut lists = Vec::new(alloc);
     for _group in 0..count {
-        lists.push(Vec::new(alloc))?;
+        let list = Vec::new(alloc);
+        lists.push(list)?;
     }
     Ok(lists)
 }

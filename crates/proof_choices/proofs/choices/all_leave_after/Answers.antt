@@ -47,13 +47,13 @@ loop-node-preserved g c =
     let key = g.R.Rank.key in
     let last = option_map key c.args.last.now in
     record {
-      prefixes = c.in_ok-good.ensures.prefixes;
+      prefixes = c.in-Ok-true.ensures.prefixes;
       passed = λ p l. elim (cases_lt p c.loop-node.node) [
         | inl less ↦ c.loop-node.invariant.passed p less
         | inr far ↦
             let at : p ≡ c.loop-node.node = omega (arith, l, far) in
             subst (IsPassedAt c.args.join c.args.tree.now g.R.Rank.KEYS key c.args.places.now last) (sym at)
-            (c.in_ok-good.ensures.passed c.if-not-good.false)
+            (c.in-Ok-true.ensures.passed c.in-Ok-true.field-0-test)
       ];
     }
 
@@ -78,15 +78,6 @@ returns-clause-passed g c _ p l =
 pub returns-clause-missed : goal.returns-clause-missed
 returns-clause-missed g c bad = absurd (false≢true (sym bad))
 
-pub returns-then-not-good-clause-room : goal.returns-then-not-good-clause-room
-returns-then-not-good-clause-room g c = omega arith
-
-pub returns-then-not-good-clause-passed : goal.returns-then-not-good-clause-passed
-returns-then-not-good-clause-passed g c good = absurd (false≢true good)
-
-pub returns-then-not-good-clause-missed : goal.returns-then-not-good-clause-missed
-returns-then-not-good-clause-missed g c _ = c.in_ok-good.ensures.missed c.if-not-good.true
-
 pub returns-in_err-prefixes-clause-room : goal.returns-in_err-prefixes-clause-room
 returns-in_err-prefixes-clause-room g c = omega arith
 
@@ -96,11 +87,20 @@ returns-in_err-prefixes-clause-passed g c = IfOk-from_err c.from_residual.result
 pub returns-in_err-prefixes-clause-missed : goal.returns-in_err-prefixes-clause-missed
 returns-in_err-prefixes-clause-missed g c = IfOk-from_err c.from_residual.result _ c.from_residual.ensures.0
 
-pub returns-in_err-good-clause-room : goal.returns-in_err-good-clause-room
-returns-in_err-good-clause-room g c = omega arith
+pub returns-in-Ok-false-clause-room : goal.returns-in-Ok-false-clause-room
+returns-in-Ok-false-clause-room g c = omega arith
 
-pub returns-in_err-good-clause-passed : goal.returns-in_err-good-clause-passed
-returns-in_err-good-clause-passed g c = IfOk-from_err c.from_residual-in_err-good.result _ c.from_residual-in_err-good.ensures.0
+pub returns-in-Ok-false-clause-passed : goal.returns-in-Ok-false-clause-passed
+returns-in-Ok-false-clause-passed g c good = absurd (false≢true good)
 
-pub returns-in_err-good-clause-missed : goal.returns-in_err-good-clause-missed
-returns-in_err-good-clause-missed g c = IfOk-from_err c.from_residual-in_err-good.result _ c.from_residual-in_err-good.ensures.0
+pub returns-in-Ok-false-clause-missed : goal.returns-in-Ok-false-clause-missed
+returns-in-Ok-false-clause-missed g c _ = c.in-Ok-false.ensures.missed c.in-Ok-false.field-0-test
+
+pub returns-in-Err-clause-room : goal.returns-in-Err-clause-room
+returns-in-Err-clause-room g c = omega arith
+
+pub returns-in-Err-clause-passed : goal.returns-in-Err-clause-passed
+returns-in-Err-clause-passed g c = tt
+
+pub returns-in-Err-clause-missed : goal.returns-in-Err-clause-missed
+returns-in-Err-clause-missed g c = tt

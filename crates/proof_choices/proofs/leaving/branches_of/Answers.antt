@@ -18,11 +18,11 @@ loop-n-preserved g c =
     let starts = c.args.starts.now in
     let n = c.loop-n.n in
     let old = c.loop-n.branches.items in
-    let x = c.branch_of.result in
+    let x = c.branch_of-branch.result in
     let size = c.loop-n.invariant.count in
     let Is : ℕ → Option (Branch g.row.R.Denot) → Type 0 =
     λ m o. MatchOption o (IsNoBranch join tree d key p (list_at starts m)) (IsBranch join tree d key p (list_at starts m)) in
-    let here : Is n x = c.branch_of.ensures in
+    let here : Is n x = c.branch_of-branch.ensures in
     let both : (m : ℕ) → m < length (old ++ x ∷ []) → Is m (get_or (old ++ x ∷ []) m None) = λ m l. elim (cases_lt m n) [
       | inl less ↦
           let h : m < length old = omega (arith, less, size) in
@@ -36,17 +36,17 @@ loop-n-preserved g c =
       each = subst (λ xs. (m : ℕ) → m < length xs → Is m (get_or xs m None)) (sym c.in_ok-push.ensures.items) both;
     }
 
-pub branch_of-requires-clause-ordered : goal.branch_of-requires-clause-ordered
-branch_of-requires-clause-ordered g c = c.requires.ordered
+pub branch_of-branch-requires-clause-ordered : goal.branch_of-branch-requires-clause-ordered
+branch_of-branch-requires-clause-ordered g c = c.requires.ordered
 
-pub branch_of-requires-clause-bounded : goal.branch_of-requires-clause-bounded
-branch_of-requires-clause-bounded g c = c.requires.bounded
+pub branch_of-branch-requires-clause-bounded : goal.branch_of-branch-requires-clause-bounded
+branch_of-branch-requires-clause-bounded g c = c.requires.bounded
 
-pub branch_of-requires-clause-node : goal.branch_of-requires-clause-node
-branch_of-requires-clause-node g c = c.requires.node
+pub branch_of-branch-requires-clause-node : goal.branch_of-branch-requires-clause-node
+branch_of-branch-requires-clause-node g c = c.requires.node
 
-pub branch_of-requires-clause-long : goal.branch_of-requires-clause-long
-branch_of-requires-clause-long g c = c.requires.long
+pub branch_of-branch-requires-clause-long : goal.branch_of-branch-requires-clause-long
+branch_of-branch-requires-clause-long g c = c.requires.long
 
 pub returns-in_err-push-clause-count : goal.returns-in_err-push-clause-count
 returns-in_err-push-clause-count g c = IfOk-from_err c.from_residual.result _ c.from_residual.ensures.0
@@ -62,8 +62,8 @@ loop-n-init g c =
     let none = c.new-branches.ensures.items in
     record { count = ap length none; each = λ n l. absurd (omega (arith, l, ap length none)) }
 
-pub branch_of-requires-clause-rows : goal.branch_of-requires-clause-rows
-branch_of-requires-clause-rows g c q h = c.requires.rows c.loop-n.n q c.loop-n-test.true h
+pub branch_of-branch-requires-clause-rows : goal.branch_of-branch-requires-clause-rows
+branch_of-branch-requires-clause-rows g c q h = c.requires.rows c.loop-n.n q c.loop-n-test.true h
 
 pub returns-clause-count : goal.returns-clause-count
 returns-clause-count g c =

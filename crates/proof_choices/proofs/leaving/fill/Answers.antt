@@ -8,23 +8,23 @@ use Rattle.proof_choices.proofs.leaving.fill.Goals as goal
 
 pub offers_of-requires-clause-fits : goal.offers_of-requires-clause-fits
 offers_of-requires-clause-fits g c m low l has =
-    let e = c.group.ensures in
+    let e = c.group-rows.ensures in
     c.requires.fits m low (subst (λ xs. m < length xs) e l)
     (subst (λ xs. HasLow c.args.join.now c.args.tree.now g.R.Rank.KEYS g.R.Rank.key c.args.node (slice_index xs m) (Some low)) e has)
 
-pub returns-in_ok-lists-clause-others : goal.returns-in_ok-lists-clause-others
-returns-in_ok-lists-clause-others g c h other =
+pub returns-in_ok-offers-clause-others : goal.returns-in_ok-offers-clause-others
+returns-in_ok-offers-clause-others g c h other =
     let lists = c.args.lists.now.items in
-    let new = c.in_ok-lists.field-0 in
+    let new = c.in_ok-offers.offers in
     ap (λ xs. get_or xs h []) (map-set (λ v. v.items) lists c.args.group new)
     ∙ get_or-set_other (map (λ v. v.items) lists) c.args.group h new.items [] other
 
-pub returns-in_ok-lists-clause-list : goal.returns-in_ok-lists-clause-list
-returns-in_ok-lists-clause-list g c =
+pub returns-in_ok-offers-clause-list : goal.returns-in_ok-offers-clause-list
+returns-in_ok-offers-clause-list g c =
     let d = g.R.Rank.KEYS in
     let key = g.R.Rank.key in
     let lists = c.args.lists.now.items in
-    let new = c.in_ok-lists.field-0 in
+    let new = c.in_ok-offers.offers in
     let within : c.args.group < length (map (λ v. v.items) lists) =
     let l = c.requires.group in let v = c.args.lists.now in omega (arith, l, length-map lists (λ v. v.items)) in
     let is : get_or (map (λ v. v.items) (set lists c.args.group new)) c.args.group [] ≡ new.items =
@@ -33,16 +33,16 @@ returns-in_ok-lists-clause-list g c =
     subst (AreOffers c.args.join.now c.args.tree.now d key c.args.node _ (key c.args.known) (option_map key c.args.last.now))
     (sym is)
     (subst (λ rows. AreOffers c.args.join.now c.args.tree.now d key c.args.node rows (key c.args.known)
-    (option_map key c.args.last.now) new.items) c.group.ensures c.in_ok-lists.ensures)
+    (option_map key c.args.last.now) new.items) c.group-rows.ensures c.in_ok-offers.ensures)
 
-pub returns-in_err-lists-clause-count : goal.returns-in_err-lists-clause-count
-returns-in_err-lists-clause-count g c = IfOk-from_err c.from_residual.result _ c.from_residual.ensures.0
+pub returns-in_err-offers-clause-count : goal.returns-in_err-offers-clause-count
+returns-in_err-offers-clause-count g c = IfOk-from_err c.from_residual.result _ c.from_residual.ensures.0
 
-pub returns-in_err-lists-clause-others : goal.returns-in_err-lists-clause-others
-returns-in_err-lists-clause-others g c = IfOk-from_err c.from_residual.result _ c.from_residual.ensures.0
+pub returns-in_err-offers-clause-others : goal.returns-in_err-offers-clause-others
+returns-in_err-offers-clause-others g c = IfOk-from_err c.from_residual.result _ c.from_residual.ensures.0
 
-pub returns-in_err-lists-clause-list : goal.returns-in_err-lists-clause-list
-returns-in_err-lists-clause-list g c = IfOk-from_err c.from_residual.result _ c.from_residual.ensures.0
+pub returns-in_err-offers-clause-list : goal.returns-in_err-offers-clause-list
+returns-in_err-offers-clause-list g c = IfOk-from_err c.from_residual.result _ c.from_residual.ensures.0
 
 pub offers_of-requires-clause-ordered : goal.offers_of-requires-clause-ordered
 offers_of-requires-clause-ordered g c = c.requires.ordered
@@ -59,17 +59,17 @@ index-requires g c = c.requires.group
 pub index_mut-requires : goal.index_mut-requires
 index_mut-requires g c = c.requires.group
 
-pub group-requires : goal.group-requires
-group-requires g c = c.requires.groups
+pub group-rows-requires : goal.group-rows-requires
+group-rows-requires g c = c.requires.groups
 
 pub offers_of-requires-clause-rows : goal.offers_of-requires-clause-rows
 offers_of-requires-clause-rows g c m l =
-    let e = c.group.ensures in
+    let e = c.group-rows.ensures in
     subst (λ xs. slice_index xs m < raw_len c.args.tree.now.raw c.args.node) (sym e)
     (c.requires.rows m (subst (λ xs. m < length xs) e l))
 
-pub returns-in_ok-lists-clause-count : goal.returns-in_ok-lists-clause-count
-returns-in_ok-lists-clause-count g c = refl
+pub returns-in_ok-offers-clause-count : goal.returns-in_ok-offers-clause-count
+returns-in_ok-offers-clause-count g c = refl
 
 pub returns-else-is_empty-clause-count : goal.returns-else-is_empty-clause-count
 returns-else-is_empty-clause-count g c = refl

@@ -19,12 +19,12 @@ returns-in_err-push-clause-empty g c = IfOk-from_err c.from_residual.result _ c.
 pub loop-group-preserved : goal.loop-group-preserved
 loop-group-preserved g c =
     let old = c.loop-group.lists.items in
-    let one = c.new.result in
+    let one = c.new-list.result in
     record {
       count = ap length c.in_ok-push.ensures.items ∙ length-append old (one ∷ []) ∙ ap (λ n. n + 1) c.loop-group.invariant.count;
       empty = λ k. ap (λ xs. get_or (map (λ v. v.items) xs) k []) c.in_ok-push.ensures.items
           ∙ ap (λ xs. get_or xs k []) (map-append (λ v. v.items) old (one ∷ []))
-          ∙ ap (λ xs. get_or (map (λ v. v.items) old ++ xs ∷ []) k []) c.new.ensures.items
+          ∙ ap (λ xs. get_or (map (λ v. v.items) old ++ xs ∷ []) k []) c.new-list.ensures.items
           ∙ nothing_more (map (λ v. v.items) old) [] c.loop-group.invariant.empty k;
     }
 

@@ -1,93 +1,40 @@
-use Rattle.std.proofs.Common.{◌≡◌, None, Some, option_map, slice_index_or, sym, ap, subst, ◌∙◌, inl, inr}
-use Rattle.std.proofs.Common.{arith}
-use Rattle.std.proofs.lemmas.Bool.{cases_lt, false≢true}
-use Rattle.std.proofs.lemmas.List.{get_or_default, length-map}
-use Rattle.proof_choices.specs.Levels.{IsLeftAfter}
+use Rattle.std.proofs.Common.{◌∙◌, inl}
+use Rattle.std.proofs.lemmas.List.{length-map}
 use Rattle.std.proofs.lemmas.Result.{IfOk-from_err}
 use Rattle.proof_choices.proofs.leaving.numbers_leave_after.Goals as goal
 
-pub loop-number-init : goal.loop-number-init
-loop-number-init g c = record {
-  lists = record {
-    count = length-map c.in_ok-lists.lists.items (λ x. x.items) ∙ c.in_ok-lists.ensures.count;
-    each = λ h l. inl (c.in_ok-lists.ensures.empty h);
-  };
-  passed = λ n b l e. absurd (omega (arith, l));
+pub each_leaves_after-requires-clause-lists : goal.each_leaves_after-requires-clause-lists
+each_leaves_after-requires-clause-lists g c = record {
+  count = length-map c.in_ok-lists.lists.items (λ x. x.items) ∙ c.in_ok-lists.ensures.count;
+  each = λ h l. inl (c.in_ok-lists.ensures.empty h);
 }
 
-pub number_leaves_after-requires-clause-branch : goal.number_leaves_after-requires-clause-branch
-number_leaves_after-requires-clause-branch g c b e =
-    c.requires.branches c.loop-number.number b c.loop-number-test.true
-    (get_or_default c.args.branches.now c.loop-number.number None c.index-branches-number.result c.loop-number-test.true
-    ∙ sym c.index-branches-number.is ∙ e)
+pub each_leaves_after-requires-clause-ordered : goal.each_leaves_after-requires-clause-ordered
+each_leaves_after-requires-clause-ordered g c = c.requires.ordered
 
-pub loop-number-preserved : goal.loop-number-preserved
-loop-number-preserved g c = record {
-  lists = c.in_ok-good.ensures.lists;
-  passed = λ n b l e. elim (cases_lt n c.loop-number.number) [
-    | inl less ↦ c.loop-number.invariant.passed n b less e
-    | inr far ↦
-        let at : n ≡ c.loop-number.number = omega (arith, l, far) in
-        let is : c.index-branches-number.result ≡ Some b =
-        c.index-branches-number.is
-        ∙ get_or_default c.args.branches.now c.loop-number.number c.index-branches-number.result None c.loop-number-test.true
-        ∙ ap (λ k. slice_index_or c.args.branches.now k None) (sym at) ∙ e in
-        subst (λ k. IsLeftAfter c.args.join.now c.args.tree.now g.R.Rank.KEYS g.R.Rank.key c.args.node
-        c.args.taken.now k (option_map g.R.Rank.key c.args.last.now) b) (sym at)
-        (c.in_ok-good.ensures.passed c.if-not-good.false b is)
-  ];
-}
+pub each_leaves_after-requires-clause-bounded : goal.each_leaves_after-requires-clause-bounded
+each_leaves_after-requires-clause-bounded g c = c.requires.bounded
 
-pub returns-then-not-good-clause-missed : goal.returns-then-not-good-clause-missed
-returns-then-not-good-clause-missed g c _ =
-    let m = c.in_ok-good.ensures.missed c.if-not-good.true in (
-      c.loop-number.number,
-      (
-        m.0,
-        c.loop-number-test.true,
-        get_or_default c.args.branches.now c.loop-number.number None c.index-branches-number.result c.loop-number-test.true
-            ∙ sym c.index-branches-number.is ∙ m.1,
-        m.2,
-      ),
-    )
+pub each_leaves_after-requires-clause-node : goal.each_leaves_after-requires-clause-node
+each_leaves_after-requires-clause-node g c = c.requires.node
+
+pub each_leaves_after-requires-clause-long : goal.each_leaves_after-requires-clause-long
+each_leaves_after-requires-clause-long g c = c.requires.long
+
+pub each_leaves_after-requires-clause-groups : goal.each_leaves_after-requires-clause-groups
+each_leaves_after-requires-clause-groups g c = c.requires.groups
+
+pub each_leaves_after-requires-clause-branches : goal.each_leaves_after-requires-clause-branches
+each_leaves_after-requires-clause-branches g c = c.requires.branches
 
 pub returns-clause-passed : goal.returns-clause-passed
-returns-clause-passed g c _ n b l e =
-    let end = c.loop-number-test.false in
-    c.loop-number.invariant.passed n b (omega (arith, l, end)) e
+returns-clause-passed g c = c.each_leaves_after.ensures.passed
+
+pub returns-clause-missed : goal.returns-clause-missed
+returns-clause-missed g c = c.each_leaves_after.ensures.missed
 
 pub returns-in_err-lists-clause-passed : goal.returns-in_err-lists-clause-passed
 returns-in_err-lists-clause-passed g c = IfOk-from_err c.from_residual.result _ c.from_residual.ensures.0
 
 pub returns-in_err-lists-clause-missed : goal.returns-in_err-lists-clause-missed
 returns-in_err-lists-clause-missed g c = IfOk-from_err c.from_residual.result _ c.from_residual.ensures.0
-
-pub returns-in_err-good-clause-passed : goal.returns-in_err-good-clause-passed
-returns-in_err-good-clause-passed g c = IfOk-from_err c.from_residual-in_err-good.result _ c.from_residual-in_err-good.ensures.0
-
-pub returns-in_err-good-clause-missed : goal.returns-in_err-good-clause-missed
-returns-in_err-good-clause-missed g c = IfOk-from_err c.from_residual-in_err-good.result _ c.from_residual-in_err-good.ensures.0
-
-pub number_leaves_after-requires-clause-ordered : goal.number_leaves_after-requires-clause-ordered
-number_leaves_after-requires-clause-ordered g c = c.requires.ordered
-
-pub number_leaves_after-requires-clause-bounded : goal.number_leaves_after-requires-clause-bounded
-number_leaves_after-requires-clause-bounded g c = c.requires.bounded
-
-pub number_leaves_after-requires-clause-node : goal.number_leaves_after-requires-clause-node
-number_leaves_after-requires-clause-node g c = c.requires.node
-
-pub number_leaves_after-requires-clause-long : goal.number_leaves_after-requires-clause-long
-number_leaves_after-requires-clause-long g c = c.requires.long
-
-pub number_leaves_after-requires-clause-groups : goal.number_leaves_after-requires-clause-groups
-number_leaves_after-requires-clause-groups g c = c.requires.groups
-
-pub number_leaves_after-requires-clause-lists : goal.number_leaves_after-requires-clause-lists
-number_leaves_after-requires-clause-lists g c = c.loop-number.invariant.lists
-
-pub returns-then-not-good-clause-passed : goal.returns-then-not-good-clause-passed
-returns-then-not-good-clause-passed g c good = absurd (false≢true good)
-
-pub returns-clause-missed : goal.returns-clause-missed
-returns-clause-missed g c bad = absurd (false≢true (sym bad))

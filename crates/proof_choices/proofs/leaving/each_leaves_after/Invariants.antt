@@ -1,7 +1,7 @@
 use Rattle.std.proofs.Common.{◌≡◌, ℕ, ◌<◌, None, Some, map, option_map, slice_index_or}
 use Rattle.proof_choices.specs.declared.branches.Branch.{Branch}
 use Rattle.proof_choices.specs.Levels.{AreLists, IsLeftAfter}
-use Rattle.proof_choices.proofs.leaving.numbers_leave_after.Given as goal
+use Rattle.proof_choices.proofs.leaving.each_leaves_after.Given as goal
 
 abbrev pub invariant-loop-number : goal.invariant-loop-number
 invariant-loop-number g l = record {

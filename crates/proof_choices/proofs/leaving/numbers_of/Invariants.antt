@@ -1,5 +1,5 @@
 use Rattle.std.proofs.Common.{◌≡◌, ℕ, ◌<◌, length, slice_index, slice_index_or, unwrap_or, None}
-use Rattle.proof_choices.proofs.leaving.rows_by_bound.Given as goal
+use Rattle.proof_choices.proofs.leaving.numbers_of.Given as goal
 
 abbrev pub invariant-loop-i : goal.invariant-loop-i
 invariant-loop-i l = record {
