@@ -126,7 +126,8 @@ fn node_leaves_after<R: Rank, L: Ledger>(
     ensures missed { IfOk result (λ good. good ≡ false
         → IsMissedAt join.now tree.now R.KEYS R.key places.now (option_map R.key last.now)) }
 {
-    let mut taken = TakenRows::new(alloc, tree.raw.keys());
+    let keys = tree.raw.keys();
+    let mut taken = TakenRows::new(alloc, keys);
     let next = prefixes.with_node(alloc, places, node as usize, &mut taken)?;
     let good = leaves_after(
         alloc,

@@ -53,7 +53,8 @@ pub(crate) fn leaves_after<R: Rank, L: Ledger>(
         × (IsPast R.KEYS (option_map R.key last.now) k → ⊥)))) }
 {
     let count = bound_count(tree, node);
-    let groups = rows_by_bound(alloc, own_numbers(tree, node), count)?;
+    let own = own_numbers(tree, node);
+    let groups = rows_by_bound(alloc, own, count)?;
     let branches = branches_of(alloc, join, tree, node, starts, steps)?;
     let least = least_of(alloc, &branches, count, steps)?;
     numbers_leave_after(
@@ -319,7 +320,8 @@ fn numbers_of(alloc: Global, own: &[Option<u32>], count: usize) -> Result<Vec<u3
     };
     let mut numbers = Vec::new(alloc);
     for i in 0..own.len() {
-        numbers.push(own[i].unwrap_or(none))?;
+        let number = own[i].unwrap_or(none);
+        numbers.push(number)?;
     }
     Ok(numbers)
 }
@@ -395,7 +397,8 @@ fn lower<R: Rank, L: Ledger>(least: &mut Vec<Option<R>>, group: u32, base: R, st
         × IsLesser R.KEYS R.key (slice_index_or least.old.items group None) base now }
 {
     let place = group as usize;
-    least[place] = Some(lesser(least[place], base, steps));
+    let now = lesser(least[place], base, steps);
+    least[place] = Some(now);
 }
 
 /// The lesser of what is known for a group, if anything is, and of what is known for a beginning.

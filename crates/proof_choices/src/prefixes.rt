@@ -70,7 +70,8 @@ impl Prefixes {
             self.old.numbers.items self.new.numbers.items self.old.starts.items
             self.new.starts.items) }
     {
-        let (number, is_new) = taken.insert(before, places[node])?;
+        let row = places[node];
+        let (number, is_new) = taken.insert(before, row)?;
         if is_new {
             self.starts.push(*places)?;
         }

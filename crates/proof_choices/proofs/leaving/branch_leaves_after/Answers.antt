@@ -176,3 +176,22 @@ pub returns-in_default-clause-passed : goal.returns-in_default-clause-passed
 returns-in_default-clause-passed g c =
     let known = get_or_default c.args.least.now c.args.branch.group None _ c.requires.branch.within in
     absurd (c.in_default.not-Some c.requires.branch.known (sym known ∙ c.requires.branch.is_known))
+
+pub fill-requires-clause-group : goal.fill-requires-clause-group
+fill-requires-clause-group g c =
+    let l = c.requires.lists.count in
+    let h = c.requires.branch.within in
+    let v = c.args.lists.now in
+    omega (arith, l, h, length-map c.args.lists.now.items (λ v. v.items))
+
+pub fill-requires-clause-groups : goal.fill-requires-clause-groups
+fill-requires-clause-groups g c = let n = c.requires.groups.count in let h = c.requires.branch.within in omega (arith, n, h)
+
+pub index-requires : goal.index-requires
+index-requires g c =
+    let e = c.in_ok-fill.ensures.count in
+    let l = c.requires.lists.count in
+    let h = c.requires.branch.within in
+    let v = c.fill.new.lists in
+    let u = c.args.lists.now in
+    omega (arith, e, l, h, length-map c.args.lists.now.items (λ v. v.items))

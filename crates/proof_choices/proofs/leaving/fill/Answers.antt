@@ -1,6 +1,7 @@
-use Rattle.std.proofs.Common.{◌≡◌, ◌<◌, Some, [], length, map, option_map, get_or, slice_index, sym, ap, subst, ◌∙◌, refl, arith}
+use Rattle.std.proofs.Common.{◌≡◌, ◌<◌, Some, [], length, map, option_map, get_or, slice_index, sym, ap, subst, ◌∙◌, refl, inl, inr, arith, vec_len, ◌==◌}
 use Rattle.std.proofs.Math.ListN.{set}
-use Rattle.std.proofs.lemmas.List.{get_or-set_other, get_or-set_same, length-map, map-set}
+use Rattle.std.proofs.lemmas.Bool.{false≢true}
+use Rattle.std.proofs.lemmas.List.{get_or-map, get_or-set_other, get_or-set_same, length-map, map-set}
 use Rattle.proof_choices.specs.Levels.{AreOffers, HasLow}
 use Rattle.tdp_core.specs.RawView.{raw_len}
 use Rattle.std.proofs.lemmas.Result.{IfOk-from_err}
@@ -76,3 +77,18 @@ returns-else-is_empty-clause-count g c = refl
 
 pub returns-else-is_empty-clause-others : goal.returns-else-is_empty-clause-others
 returns-else-is_empty-clause-others g c h other = refl
+
+pub returns-else-is_empty-clause-list : goal.returns-else-is_empty-clause-list
+returns-else-is_empty-clause-list g c =
+    let lists = c.args.lists.now.items in
+    let here = c.index.result.now in
+    let within : c.args.group < length lists =
+    let l = c.requires.group in let v = c.args.lists.now in omega (arith, l) in
+    let is : here.items ≡ get_or (map (λ v. v.items) lists) c.args.group [] =
+    ap (λ v. v.items) c.index.ensures ∙ sym (get_or-map (λ v. v.items) lists c.args.group here [] within) in
+    elim c.requires.list [
+      | inl empty ↦
+          let none : vec_len here ≡ 0 = let e = ap length (is ∙ empty) in omega (arith, e) in
+          absurd (false≢true (sym c.if-is_empty.false ∙ c.is_empty.ensures ∙ ap (λ n. n == 0) none))
+      | inr are ↦ are
+    ]

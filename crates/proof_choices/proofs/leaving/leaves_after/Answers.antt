@@ -10,15 +10,15 @@ pub rows_by_bound-requires-clause-few : goal.rows_by_bound-requires-clause-few
 rows_by_bound-requires-clause-few g c =
     let few = few_rows_lem c.args.join.now c.args.tree.now g.R.Rank.KEYS g.R.Rank.key c.requires.bounded c.requires.ordered
     c.requires.long c.args.node c.requires.node c.requires.formed in
-    let e = ap length c.own_numbers.ensures in
+    let e = ap length c.own_numbers-own.ensures in
     omega (arith, few, e)
 
 pub rows_by_bound-requires-clause-within : goal.rows_by_bound-requires-clause-within
 rows_by_bound-requires-clause-within g c i b l e =
     subst (λ n. b < n) (sym c.bound_count-count.ensures)
     (own_within c.args.join.now c.args.tree.now g.R.Rank.KEYS g.R.Rank.key c.requires.bounded c.requires.ordered c.requires.long
-    c.args.node c.requires.node i b (subst (λ xs. i < length xs) c.own_numbers.ensures l)
-    (subst (λ xs. slice_index_or xs i None ≡ Some b) c.own_numbers.ensures e))
+    c.args.node c.requires.node i b (subst (λ xs. i < length xs) c.own_numbers-own.ensures l)
+    (subst (λ xs. slice_index_or xs i None ≡ Some b) c.own_numbers-own.ensures e))
 
 pub least_of-requires : goal.least_of-requires
 least_of-requires g c = record {
@@ -35,7 +35,7 @@ numbers_leave_after-requires-clause-groups g c =
     let size : c.bound_count-count.result ≡ length c.deref-3.result.now =
     let a = c.in_ok-least.ensures.count in let b = c.deref-3.ensures.len in omega (arith, a, b) in
     subst (λ n. AreGroups (own_bounds c.args.tree.now c.args.node) n c.in_ok-groups.groups) size
-    (subst (λ xs. AreGroups xs c.bound_count-count.result c.in_ok-groups.groups) c.own_numbers.ensures c.in_ok-groups.ensures)
+    (subst (λ xs. AreGroups xs c.bound_count-count.result c.in_ok-groups.groups) c.own_numbers-own.ensures c.in_ok-groups.ensures)
 
 pub numbers_leave_after-requires-clause-branches : goal.numbers_leave_after-requires-clause-branches
 numbers_leave_after-requires-clause-branches g c n b l e =

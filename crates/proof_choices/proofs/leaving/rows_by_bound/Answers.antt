@@ -30,3 +30,6 @@ returns c =
 
 pub returns-in_err-numbers : goal.returns-in_err-numbers
 returns-in_err-numbers c = IfOk-from_err c.from_residual.result _ c.from_residual.ensures.0
+
+pub overflow_add-count : goal.overflow_add-count
+overflow_add-count c = let few = c.in_ok-numbers.ensures.few in omega (arith, few)
