@@ -39,4 +39,4 @@ returns-clause-staged g c = λ named known.
     let xs = c.args.entries.now in
     let same = length-map xs (λ e. named_pair e.now) in
     let end : length (map (λ e. named_pair e.now) xs) ≤ c.loop-entry.entry-index = omega (arith, c.loop-entry-test.false, same) in
-    reached_end named (map (λ e. named_pair e.now) xs) c.loop-entry.entry-index c.loop-entry.reader _ _ end (c.loop-entry.invariant.1 named known)
+    rw c.into_tables.ensures (reached_end named (map (λ e. named_pair e.now) xs) c.loop-entry.entry-index c.loop-entry.reader _ _ end (c.loop-entry.invariant.1 named known))
