@@ -27,6 +27,20 @@ nothing_beside T s steps proof empty none = record {
     by None = tt
     by (Some files) = λ i. Ok (record { steps = empty i; proof = none i })
 
+-- what a part says, and what is known then
+module _ {A : Type 0} (with : A → Beside) where
+  pub said_refused : (x : Result A Reason) (e : Reason) → Pure (Is x) (Err e) → Pure (Is (then_by x (λ a. Ok (with a)))) (Err e)
+  said_refused x reason.NoMemory h = tt
+  said_refused x (reason.NoFile file) h = h
+  said_refused x (reason.ReadFault file) h = h
+  said_refused x (reason.TooLarge file) h = h
+  said_refused x reason.WriteFault h = h
+  said_refused x reason.Usage h = h
+  said_refused x e h = ap (λ (r : Result A Reason). then_by r (λ a. Ok (with a))) h
+
+  pub said_found : (x : Result A Reason) (a : A) → Is x (Ok a) → Is (then_by x (λ a. Ok (with a))) (Ok (with a))
+  said_found x a h = ap (λ (r : Result A Reason). then_by r (λ a. Ok (with a))) h
+
 -- the file of this name, what its bytes say, and what is known then
 module _ {A : Type 0} (said : List ℕ → Result A Reason) (with : A → Beside) (name : List ℕ) where
   abbrev read : Files → Result Beside Reason
@@ -42,17 +56,8 @@ module _ {A : Type 0} (said : List ℕ → Result A Reason) (with : A → Beside
       refusal_within (λ files. Is (file_in files name)) (λ files file. file ≡ name) (λ files. Is (read files)) IsName old new e
       (λ files h. ap (λ (r : Result (List ℕ) Reason). then_by (then_by r said) (λ a. Ok (with a))) h) (λ files file is. ap Some (sym is)) s
 
-  after_refused : (x : Result A Reason) (e : Reason) → Pure (Is x) (Err e) → Pure (Is (then_by x (λ a. Ok (with a)))) (Err e)
-  after_refused x reason.NoMemory h = tt
-  after_refused x (reason.NoFile file) h = h
-  after_refused x (reason.ReadFault file) h = h
-  after_refused x (reason.TooLarge file) h = h
-  after_refused x reason.WriteFault h = h
-  after_refused x reason.Usage h = h
-  after_refused x e h = ap (λ (r : Result A Reason). then_by r (λ a. Ok (with a))) h
-
   -- its file was read
-  aside_read : (bytes : List ℕ) (old new : Shelved) (r : Result Beside Reason)
+  pub aside_read : (bytes : List ℕ) (old new : Shelved) (r : Result Beside Reason)
       → Staged (λ files. Is (file_in files name)) (λ files file. file ≡ name) old new (Ok bytes)
       → Pure (Is (then_by (said bytes) (λ a. Ok (with a)))) r → Staged (λ files. Is (read files)) IsName old new r
   aside_read bytes old new r s is =
@@ -61,16 +66,3 @@ module _ {A : Type 0} (said : List ℕ → Result A Reason) (with : A → Beside
       (λ files given is. is ∙ ap (λ (x : Result (List ℕ) Reason). then_by (then_by x said) (λ a. Ok (with a))) given)
       (λ files file given no_turn. absurd no_turn) s
       (pure_staged (Is (then_by (said bytes) (λ a. Ok (with a)))) new r is)
-
-  -- its bytes were refused
-  pub aside_refused : (bytes : List ℕ) (old new : Shelved) (e : Reason)
-      → Staged (λ files. Is (file_in files name)) (λ files file. file ≡ name) old new (Ok bytes)
-      → Pure (Is (said bytes)) (Err e) → Staged (λ files. Is (read files)) IsName old new (Err e)
-  aside_refused bytes old new e s h = aside_read bytes old new (Err e) s (after_refused (said bytes) e h)
-
-  -- its bytes say this
-  pub aside_found : (bytes : List ℕ) (old new : Shelved) (a : A)
-      → Staged (λ files. Is (file_in files name)) (λ files file. file ≡ name) old new (Ok bytes)
-      → Pure (Is (said bytes)) (Ok a) → Staged (λ files. Is (read files)) IsName old new (Ok (with a))
-  aside_found bytes old new a s h =
-      aside_read bytes old new (Ok (with a)) s (ap (λ (r : Result A Reason). then_by r (λ a. Ok (with a))) h)

@@ -282,3 +282,33 @@ mapped_at f xs i x inside is = ap f is ∙ sym (get_or-map f xs i x (f x) inside
 pub mapped_all : {A B : Type 0} (P : B → Type 0) (f : A → B) (xs : List A) (i : ℕ) (x : A) → i < length xs → x ≡ get_or xs i x → AllByRecursion P (map f xs) → P (f x)
 mapped_all P f xs i x inside is all =
     subst P (sym (mapped_at f xs i x inside is)) (all_at P (map f xs) i (f x) (mapped_inside f xs i inside) all)
+
+-- ---- the entries of items, the first of each table, and the numbers of the tables
+
+module _ {A : Type 0} (g : A → List ℕ × List ℕ) (entries firsts : List A) (items : List ItemRef) (named : tables_of (map g entries) ≡ table_names items) where
+  pub few_firsts : length firsts ≤ length entries → length items ≤ 16 → length firsts ≤ 16
+  few_firsts few limit =
+      let words = length-map (map g entries) (λ (x : List ℕ × List ℕ). x.0) in
+      let entries_are = length-map entries g in
+      let names = length-map items (λ (x : ItemRef). x.table) in
+      let same = ap length named in
+      omega (arith, few, limit, words, entries_are, names, same)
+
+  module _ (first : tables_of (map g firsts) ≡ first_uses_after [] (tables_of (map g entries))) where
+    pub firsts_used : tables_of (map g firsts) ≡ first_uses items
+    firsts_used = first ∙ ap (first_uses_after []) named
+
+    pub numbers_used : (which : List ℕ) → which ≡ map (λ name. position_or_len (λ other. bytes_eq other name) (tables_of (map g firsts))) (tables_of (map g entries))
+        → which ≡ table_numbers (first_uses items) items
+    numbers_used which numbers =
+        numbers ∙ ap (λ (l : List (List ℕ)). map (λ name. position_or_len (λ other. bytes_eq other name) l) (tables_of (map g entries))) firsts_used
+        ∙ ap (map (λ name. position_or_len (λ other. bytes_eq other name) (first_uses items))) named
+
+    pub numbers_known : (which : List ℕ) (count : ℕ) → which ≡ map (λ name. position_or_len (λ other. bytes_eq other name) (tables_of (map g firsts))) (tables_of (map g entries))
+        → count ≡ length firsts → AllByRecursion (λ t. t < count) which
+    numbers_known which count numbers as_many =
+        let P : List ℕ → Type 0 = AllByRecursion (λ t. t < count) in
+        let Q : ℕ → Type 0 = λ n. AllByRecursion (λ t. t < n) (table_numbers (first_uses items) items) in
+        let all : length (first_uses items) ≡ count =
+        sym (ap length firsts_used) ∙ length-map (map g firsts) (λ (x : List ℕ × List ℕ). x.0) ∙ length-map firsts g ∙ sym as_many in
+        subst P (sym (numbers_used which numbers)) (subst Q all (numbers_within items))

@@ -7,8 +7,6 @@ use Rattle.outer_io.specs.declared.reading.FileFault.{FileFault}
 use Rattle.outer_io.specs.declared.reading.FileFault.TheVariants as file
 use Rattle.anyk_model.specs.Table.{Table}
 use Rattle.anyk_model.specs.Query.{Query}
-use Rattle.proof_text.specs.declared.proof.Proof.{Proof}
-use Rattle.proof_text.specs.Certificate.{Certificate}
 use Rattle.proof_text.specs.ProofView.{proof_view}
 use Rattle.bound_query.specs.WeighedQuery.{BoundQuery}
 use Rattle.query_select.specs.declared.select.Select.{Select}
@@ -16,7 +14,6 @@ use Rattle.refusal_lines.specs.declared.refusal.Refusal.{Refusal}
 use Rattle.refusal_lines.specs.Reason as reason
 use Rattle.refusal_lines.specs.Reason.{Reason}
 use Rattle.refusal_lines.specs.RefusalReasons.{reason_of}
-use Rattle.session_script.specs.declared.step.Step.{Step}
 use Rattle.verdict.specs.AcceptedInput.{queries_in}
 use Rattle.verdict.specs.Loading.{Beside, Loaded}
 use Rattle.input_load.specs.declared.aside.Beside.{Beside as BesideRead}
@@ -48,14 +45,6 @@ table_reason name table.NoMemory = reason.NoMemory
 abbrev pub bytes_result_view : Result (Vec ℕ Global) Refusal → Result (List ℕ) Reason
 bytes_result_view (Ok bytes) = Ok bytes.items
 bytes_result_view (Err refusal) = Err (reason_of refusal)
-
-abbrev pub steps_result_view : Result (Vec Step Global) Refusal → Result (List Step) Reason
-steps_result_view (Ok steps) = Ok steps.items
-steps_result_view (Err refusal) = Err (reason_of refusal)
-
-abbrev pub proof_result_view : Result Proof Refusal → Result Certificate Reason
-proof_result_view (Ok proof) = Ok (proof_view proof)
-proof_result_view (Err refusal) = Err (reason_of refusal)
 
 -- what was read beside the query and the tables
 abbrev pub beside_view : BesideRead → Beside

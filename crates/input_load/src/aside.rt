@@ -1,14 +1,14 @@
 //! The script or the certificate, if there is one.
-ghost use Rattle.std.specs.Prelude.{◌≡◌, [], IfOk, Some};
+ghost use Rattle.std.specs.Prelude.{◌≡◌, [], IfOk, Ok, Some};
 ghost use Rattle.refusal_lines.specs.RefusalReasons.{reason_of};
 ghost use Rattle.proof_text.specs.ProofView.{proof_view};
 ghost use Rattle.session_script.specs.Script.{KeepsRules};
 ghost use Rattle.verdict.specs.Faults.{of_proof, of_script};
-ghost use Rattle.verdict.specs.Loading.{beside_in, no_certificate, proof_said, steps_said};
-ghost use Rattle.verdict.specs.Stages.{Is};
+ghost use Rattle.verdict.specs.Loading.{beside_in, no_certificate, proof_said, steps_said, with_proof, with_steps};
+ghost use Rattle.verdict.specs.Stages.{Is, then_by};
 ghost use Rattle.verdict.specs.StageResults.{Pure, Staged, shelved};
 ghost use Rattle.verdict.specs.Words.{aside_name, certificate, script};
-ghost use Rattle.input_load.specs.StageViews.{beside_result_view, proof_result_view, steps_result_view};
+ghost use Rattle.input_load.specs.StageViews.{beside_result_view};
 ghost use Rattle.input_load.specs.Sought.{aside_view};
 
 use crate::file::load;
@@ -62,11 +62,7 @@ fn load_script<'a, F: Shelf>(
     ensures rules { IfOk result (λ beside. KeepsRules [] beside.script.items) }
 {
     let bytes = load(alloc, shelf, name)?;
-    let script = script_steps(alloc, &bytes)?;
-    Ok(Beside {
-        script,
-        proof: no_proof(alloc),
-    })
+    script_of(alloc, &bytes)
 }
 
 /// The certificate in the file of this name.
@@ -81,11 +77,7 @@ fn load_proof<'a, F: Shelf>(
     ensures rules { IfOk result (λ beside. KeepsRules [] beside.script.items) }
 {
     let bytes = load(alloc, shelf, name)?;
-    let proof = proof_of(alloc, &bytes)?;
-    Ok(Beside {
-        script: Vec::new(alloc),
-        proof,
-    })
+    proof_of(alloc, &bytes)
 }
 
 /// The empty certificate.
@@ -100,12 +92,16 @@ fn no_proof(alloc: Global) -> Proof
 }
 
 /// The steps that these bytes write, or the refusal for the script's fault.
-fn script_steps<'a>(alloc: Global, bytes: &[u8]) -> Result<Vec<Step>, Refusal<'a>>
-    ensures said { Pure (Is (steps_said bytes.now)) (steps_result_view result) }
-    ensures rules { IfOk result (λ steps. KeepsRules [] steps.items) }
+fn script_of<'a>(alloc: Global, bytes: &[u8]) -> Result<Beside, Refusal<'a>>
+    ensures said { Pure (Is (then_by (steps_said bytes.now) (λ steps. Ok (with_steps steps))))
+        (beside_result_view result) }
+    ensures rules { IfOk result (λ beside. KeepsRules [] beside.script.items) }
 {
     match read_script(alloc, bytes) {
-        Ok(steps) => Ok(steps),
+        Ok(script) => Ok(Beside {
+            script,
+            proof: no_proof(alloc),
+        }),
         Err(fault) => Err(script_refusal(fault)),
     }
 }
@@ -125,11 +121,16 @@ fn script_refusal<'a>(fault: ScriptFault) -> Refusal<'a>
 }
 
 /// The certificate that these bytes are, or the refusal for the first line that is not of its form.
-fn proof_of<'a>(alloc: Global, bytes: &[u8]) -> Result<Proof, Refusal<'a>>
-    ensures { Pure (Is (proof_said bytes.now)) (proof_result_view result) }
+fn proof_of<'a>(alloc: Global, bytes: &[u8]) -> Result<Beside, Refusal<'a>>
+    ensures said { Pure (Is (then_by (proof_said bytes.now) (λ proof. Ok (with_proof proof))))
+        (beside_result_view result) }
+    ensures rules { IfOk result (λ beside. KeepsRules [] beside.script.items) }
 {
     match read_proof(alloc, bytes) {
-        Ok(proof) => Ok(proof),
+        Ok(proof) => Ok(Beside {
+            script: Vec::new(alloc),
+            proof,
+        }),
         Err(fault) => Err(proof_refusal(fault)),
     }
 }

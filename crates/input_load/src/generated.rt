@@ -65,5 +65,6 @@ fn push_named(
 {
     let table = String::from_str(alloc, table)?;
     let file = String::from_str(alloc, file)?;
-    Ok(named.push(Named { table, file })?)
+    named.push(Named { table, file })?;
+    Ok(())
 }

@@ -5,12 +5,12 @@ ghost use Rattle.cmd_words.specs.NamedPairs.{named_pair};
 ghost use Rattle.session_script.specs.Script.{KeepsRules};
 ghost use Rattle.verdict.specs.Loading.{all_items, table_names};
 ghost use Rattle.verdict.specs.StageResults.{Staged, shelved};
-ghost use Rattle.verdict.specs.Verdict.{IsAccompanied, IsLoadedOn, IsRead, IsSelected, IsTabled};
+ghost use Rattle.verdict.specs.Verdict.{IsAccompanied, IsLoadedOn, IsTabled};
 ghost use Rattle.input_load.specs.Entries.{IsEntryOf, tables_of};
 ghost use Rattle.input_load.specs.Limits.{AreWithinLimits};
 ghost use Rattle.input_load.specs.StageViews.{beside_view, input_result_view};
 ghost use Rattle.input_load.specs.Sought.{sought_view};
-ghost use Rattle.input_load.specs.Turns.{IsAccompaniedTurn, IsReadTurn, IsSelectedTurn, IsTabledTurn, IsTurn};
+ghost use Rattle.input_load.specs.Turns.{IsAccompaniedTurn, IsTabledTurn, IsTurn};
 
 use crate::aside::{Beside, load_beside};
 use crate::binding::{Input, bound_input};
@@ -43,30 +43,12 @@ pub fn load_input<'a, F: Shelf>(
     ensures unnamed { sought.now.best_of ≡ None → IfOk result (λ input. input.best ≡ None) }
 {
     let bytes = load(alloc, shelf, sought.query)?;
-    read_input(alloc, sought, &bytes, shelf, keys)
-}
-
-/// The stages after the query file was read.
-fn read_input<'a, F: Shelf>(
-    alloc: Global,
-    sought: &Sought<'a>,
-    bytes: &[u8],
-    shelf: &mut F,
-    keys: Keys,
-) -> Result<Input, Refusal<'a>>
-    ensures staged { let asked = sought_view sought.now in
-        Staged (λ files. IsRead asked files bytes.now)
-        (λ files. IsReadTurn asked files bytes.now)
-        (shelved F.Shelf shelf.old) (shelved F.Shelf shelf.new) (input_result_view result) }
-    ensures alone { sought.now.several ≡ false → IfOk result (λ input. length input.queries ≡ 1) }
-    ensures unnamed { sought.now.best_of ≡ None → IfOk result (λ input. input.best ≡ None) }
-{
-    let selects = read_selects(alloc, sought.several, bytes)?;
-    aside_input(alloc, sought, &selects, shelf, keys)
+    let selects = read_selects(alloc, sought.several, &bytes)?;
+    select_input(alloc, sought, &selects, shelf, keys)
 }
 
 /// The stages after the query, or each of its branches, was parsed.
-fn aside_input<'a, F: Shelf>(
+fn select_input<'a, F: Shelf>(
     alloc: Global,
     sought: &Sought<'a>,
     selects: &[Select],
@@ -82,27 +64,6 @@ fn aside_input<'a, F: Shelf>(
     ensures unnamed { sought.now.best_of ≡ None → IfOk result (λ input. input.best ≡ None) }
 {
     let beside = load_beside(alloc, sought.aside, shelf)?;
-    select_input(alloc, sought, selects, beside, shelf, keys)
-}
-
-/// The stages after the script or the certificate was read.
-fn select_input<'a, F: Shelf>(
-    alloc: Global,
-    sought: &Sought<'a>,
-    selects: &[Select],
-    beside: Beside,
-    shelf: &mut F,
-    keys: Keys,
-) -> Result<Input, Refusal<'a>>
-    requires limits { AreWithinLimits selects.now }
-    requires rules { KeepsRules [] beside.script.items }
-    ensures staged { let asked = sought_view sought.now in
-        Staged (λ files. IsSelected asked files selects.now (beside_view beside))
-        (λ files. IsSelectedTurn asked files selects.now)
-        (shelved F.Shelf shelf.old) (shelved F.Shelf shelf.new) (input_result_view result) }
-    ensures branches { IfOk result (λ input. length input.queries ≡ length selects.now) }
-    ensures unnamed { sought.now.best_of ≡ None → IfOk result (λ input. input.best ≡ None) }
-{
     let entries = entries_of(alloc, sought.named, selects)?;
     table_input(alloc, sought, selects, beside, &entries, shelf, keys)
 }

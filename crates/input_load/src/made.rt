@@ -26,7 +26,8 @@ pub fn load_made<'a>(alloc: Global, made: &'a MadeTables) -> Result<Input, Refus
         (input_result_view result) }
     ensures alone { IfOk result (λ input. length input.queries ≡ 1) }
 {
-    let mut shelf = PureShelf::new(made_shelf(alloc, made)?);
+    let files = made_shelf(alloc, made)?;
+    let mut shelf = PureShelf::new(files);
     let sought = Sought {
         query: "load.sql",
         several: false,

@@ -1,9 +1,10 @@
 use Rattle.std.proofs.Common.{◌≡◌, Err, rules}
-use Rattle.verdict.specs.Loading.{file_in}
+use Rattle.verdict.specs.Loading.{IsReading, file_in}
+use Rattle.verdict.specs.StageResults.{NoTurn}
 use Rattle.verdict.specs.Stages.{Is}
-use Rattle.verdict.specs.Verdict.{IsRead}
-use Rattle.verdict.proofs.Staging.{found_then, refusal_then}
-use Rattle.input_load.specs.Turns.{IsReadTurn}
+use Rattle.verdict.specs.Verdict.{IsAccompanied, IsRead}
+use Rattle.verdict.proofs.Staging.{found_then, pure_staged, refusal_then}
+use Rattle.input_load.specs.Turns.{IsAccompaniedTurn, IsReadTurn}
 use Rattle.input_load.specs.Sought.{sought_view}
 use Rattle.input_load.proofs.input.load_input.Goals as goal
 
@@ -14,8 +15,22 @@ returns-in_err-bytes-clause-staged g c =
     rw e (refusal_then (λ files. Is (file_in files sought.query)) (λ files file. file ≡ sought.query) (λ bytes files. IsRead sought files bytes) (λ bytes files. IsReadTurn sought files bytes)
     _ _ _ c.in_err-bytes.ensures.staged)
 
+pub returns-in_err-selects-clause-staged : goal.returns-in_err-selects-clause-staged
+returns-in_err-selects-clause-staged g c =
+    let sought = sought_view c.args.sought.now in
+    let bytes = c.in_ok-bytes.bytes.items in
+    let e : c.from_residual-in_err-selects.result ≡ Err c.in_err-selects.field-0.0 = search rules in
+    rw e (found_then (λ files. Is (file_in files sought.query)) (λ files file. file ≡ sought.query) (λ bytes files. IsRead sought files bytes) (λ bytes files. IsReadTurn sought files bytes)
+    _ _ _ bytes _ c.in_ok-bytes.ensures.staged
+    (refusal_then (λ files. IsReading sought.several bytes) NoTurn (λ selects files. IsAccompanied sought files selects) (λ selects files. IsAccompaniedTurn sought files selects)
+    _ _ _ (pure_staged (IsReading sought.several bytes) _ _ (rw c.deref.ensures.value at c.in_err-selects.ensures.parsed))))
+
 pub returns-clause-staged : goal.returns-clause-staged
 returns-clause-staged g c =
     let sought = sought_view c.args.sought.now in
+    let bytes = c.in_ok-bytes.bytes.items in
     found_then (λ files. Is (file_in files sought.query)) (λ files file. file ≡ sought.query) (λ bytes files. IsRead sought files bytes) (λ bytes files. IsReadTurn sought files bytes)
-    _ _ _ c.in_ok-bytes.bytes.items _ c.in_ok-bytes.ensures.staged (rw c.deref.ensures.value at c.read_input.ensures.staged)
+    _ _ _ bytes _ c.in_ok-bytes.ensures.staged
+    (found_then (λ files. IsReading sought.several bytes) NoTurn (λ selects files. IsAccompanied sought files selects) (λ selects files. IsAccompaniedTurn sought files selects)
+    _ _ _ c.in_ok-selects.selects.items _ (pure_staged (IsReading sought.several bytes) _ _ (rw c.deref.ensures.value at c.in_ok-selects.ensures.parsed))
+    (rw c.deref-2.ensures.value at c.select_input.ensures.staged))

@@ -14,7 +14,7 @@ use Rattle.input_load.proofs.NoneRefused.{made_none, pure_told}
 use Rattle.input_load.proofs.made.load_made.Goals as goal
 
 pub new-shelf-requires : goal.new-shelf-requires
-new-shelf-requires c = distinct_files _ c.args.made.now.number c.args.made.now.rows c.in_ok-made_shelf.ensures
+new-shelf-requires c = distinct_files _ c.args.made.now.number c.args.made.now.rows c.in_ok-files.ensures
 
 pub returns-clause-made : goal.returns-clause-made
 returns-clause-made c =
@@ -22,7 +22,7 @@ returns-clause-made c =
     let rows = c.args.made.now.rows in
     let asked : Sought = sought_by (load number rows) in
     let names : map named_pair c.as_slice.result.now ≡ table_files = ap (map named_pair) c.as_slice.ensures.value ∙ c.args.made.now.names in
-    let held : c.new-shelf.result.files ≡ made_files number rows = ap (λ (s : Holding). s.files) c.new-shelf.ensures ∙ c.in_ok-made_shelf.ensures in
+    let held : c.new-shelf.result.files ≡ made_files number rows = ap (λ (s : Holding). s.files) c.new-shelf.ensures ∙ c.in_ok-files.ensures in
     let of : Named → Sought = λ named. record { query = query_file; several = false; aside = nothing; named = named; best_of = None } in
     let P : Named → Type 0 = λ named. Fits (IsLoadedOn (of named)) (IsTurn (of named)) (Some c.new-shelf.result.files) (input_result_view c.load_input.result) in
     let Q : Files → Type 0 = λ files. Fits (IsLoadedOn asked) (IsTurn asked) (Some files) (input_result_view c.load_input.result) in
