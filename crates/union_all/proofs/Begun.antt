@@ -9,7 +9,7 @@ use Rattle.anyk_model.specs.Query.{Query}
 use Rattle.bound_query.specs.WeighedQuery.{BoundQuery, Fits}
 use Rattle.tdp_core.specs.AnswerView.{AnswerView}
 use Rattle.witness_key.specs.WitnessKey.{combinations_in}
-use Rattle.union_all.specs.Merge.{AreBegun, AreBranches, AreLeft, BranchView, EngineView, HasCalled, rests_of}
+use Rattle.union_all.specs.Merge.{AreBegun, AreBranches, AreLeft, BranchView, EngineView, HasCalled, HasGrown, HaveBegun, engines_of, rests_of}
 
 abbrev pub queries_bound : List BoundQuery → List Query
 queries_bound bounds = map (λ (q : BoundQuery). q.query) bounds
@@ -32,38 +32,41 @@ module _ {E : Type 0} (rest : E → List AnswerView) (seen : E → EngineView) (
   -- the branches of the engines so far, of all queries
   pub record HasBegun (bounds : List BoundQuery) (engines : List E) (branches : List BranchView) (before now : ℕ) : Type 0 where
     pub within : length engines ≤ length bounds
-    pub bound : map (λ (b : BranchView). b.bound) branches ≡ take (length engines) bounds
-    pub left : map (λ (b : BranchView). b.left) branches ≡ rests_of rest (queries_bound (take (length engines) bounds)) engines
-    pub called : AreBegun (map seen engines) (map (λ (b : BranchView). b.engine) branches)
+    pub begun : HaveBegun rest seen (take (length engines) bounds) engines branches
     pub cost : now ≤ before + sum_by due engines
 
   pub none_begun : (bounds : List BoundQuery) (before : ℕ) → HasBegun bounds [] [] before before
-  none_begun bounds before = record { within = omega arith; bound = refl; left = refl; called = tt; cost = omega arith }
+  none_begun bounds before = record { within = omega arith; begun = record { bounds = refl; lists = refl; called = tt }; cost = omega arith }
 
-  pub begun_more : (bounds : List BoundQuery) (engines : List E) (branches : List BranchView) (before now new : ℕ) (q : BoundQuery) (engine : E) (branch : BranchView)
+  begun_one : (bounds : List BoundQuery) (engines : List E) (branches : List BranchView) (q : BoundQuery) (engine : E) (branch : BranchView)
+      → length bounds ≡ length engines → HaveBegun rest seen bounds engines branches → branch.bound ≡ q → branch.left ≡ combinations_in q.query (rest engine)
+      → HasCalled (seen engine) branch.engine → HaveBegun rest seen (bounds ++ q ∷ []) (engines ++ engine ∷ []) (branches ++ branch ∷ [])
+  begun_one bounds engines branches q engine branch same was bound left called = record {
+    bounds = map-append (λ (b : BranchView). b.bound) branches (branch ∷ []) ∙ (λ i. was.bounds i ++ bound i ∷ []);
+    lists = map-append (λ (b : BranchView). b.left) branches (branch ∷ [])
+        ∙ (λ i. was.lists i ++ left i ∷ [])
+        ∙ sym (rests_more (queries_bound bounds) engines q.query engine (length-map bounds (λ (x : BoundQuery). x.query) ∙ same))
+        ∙ ap (λ (l : List Query). rests_of rest l (engines ++ engine ∷ [])) (sym (map-append (λ (x : BoundQuery). x.query) bounds (q ∷ [])));
+    called = subst (λ (l : List EngineView). AreBegun l (engines_of (branches ++ branch ∷ []))) (sym (map-append seen engines (engine ∷ [])))
+        (subst (λ (l : List EngineView). AreBegun (map seen engines ++ seen engine ∷ []) l) (sym (map-append (λ (b : BranchView). b.engine) branches (branch ∷ [])))
+        (called_more (map seen engines) (engines_of branches) (seen engine) branch.engine was.called called));
+  }
+
+  pub begun_more : (bounds : List BoundQuery) (engines : List E) (branches after : List BranchView) (before now new : ℕ) (q : BoundQuery) (engine : E)
       → HasBegun bounds engines branches before now → length engines < length bounds → get_or bounds (length engines) q ≡ q
-      → branch.bound ≡ q → branch.left ≡ combinations_in q.query (rest engine) → HasCalled (seen engine) branch.engine → new ≤ now + due engine
-      → HasBegun bounds (engines ++ engine ∷ []) (branches ++ branch ∷ []) before new
-  begun_more bounds engines branches before now new q engine branch was inside at bound left called cost =
+      → HasGrown rest seen q engine branches after → new ≤ now + due engine → HasBegun bounds (engines ++ engine ∷ []) after before new
+  begun_more bounds engines branches after before now new q engine was inside at grown cost =
       let n = length engines in
       let more : length (engines ++ engine ∷ []) ≡ n + 1 = let h = length-append engines (engine ∷ []) in omega (arith, h) in
       let taken : take (length (engines ++ engine ∷ [])) bounds ≡ take n bounds ++ q ∷ [] =
       ap (λ (k : ℕ). take k bounds) more ∙ take_more bounds n q inside ∙ ap (λ (x : BoundQuery). take n bounds ++ x ∷ []) at in
-      let same : length (queries_bound (take n bounds)) ≡ n =
-      length-map (take n bounds) (λ (x : BoundQuery). x.query) ∙ length-take-le n bounds (omega (arith, inside)) in
       let sums = sum_by_push due engines engine in
       let spent = was.cost in
+      let one = begun_one (take n bounds) engines branches q engine grown.branch (length-take-le n bounds (omega (arith, inside))) was.begun grown.bound grown.left grown.called in
       record {
         within = omega (arith, more, inside);
-        bound = map-append (λ (b : BranchView). b.bound) branches (branch ∷ [])
-            ∙ (λ i. was.bound i ++ bound i ∷ []) ∙ sym taken;
-        left = map-append (λ (b : BranchView). b.left) branches (branch ∷ [])
-            ∙ (λ i. was.left i ++ left i ∷ [])
-            ∙ sym (rests_more (queries_bound (take n bounds)) engines q.query engine same)
-            ∙ ap (λ (l : List Query). rests_of rest l (engines ++ engine ∷ [])) (sym (ap queries_bound taken ∙ map-append (λ (x : BoundQuery). x.query) (take n bounds) (q ∷ [])));
-        called = subst (λ (l : List EngineView). AreBegun l (map (λ (b : BranchView). b.engine) (branches ++ branch ∷ []))) (sym (map-append seen engines (engine ∷ [])))
-            (subst (λ (l : List EngineView). AreBegun (map seen engines ++ seen engine ∷ []) l) (sym (map-append (λ (b : BranchView). b.engine) branches (branch ∷ [])))
-            (called_more (map seen engines) (map (λ (b : BranchView). b.engine) branches) (seen engine) branch.engine was.called called));
+        begun = subst (λ (l : List BoundQuery). HaveBegun rest seen l (engines ++ engine ∷ []) after) (sym taken)
+            (subst (λ (l : List BranchView). HaveBegun rest seen (take n bounds ++ q ∷ []) (engines ++ engine ∷ []) l) (sym grown.grown) one);
         cost = omega (arith, sums, spent, cost);
       }
 
@@ -81,7 +84,7 @@ module _ {E : Type 0} (rest : E → List AnswerView) (seen : E → EngineView) (
       let inside : length yielded < length bounds = omega (arith, sizes, parts, one, each) in
       record {
         inside = inside;
-        count = sym (length-map branches (λ (b : BranchView). b.bound)) ∙ ap length was.bound ∙ length-take-le (length yielded) bounds (omega (arith, inside));
+        count = sym (length-map branches (λ (b : BranchView). b.bound)) ∙ ap length was.begun.bounds ∙ length-take-le (length yielded) bounds (omega (arith, inside));
       }
 
   -- the next engine's call is paid for
@@ -93,24 +96,16 @@ module _ {E : Type 0} (rest : E → List AnswerView) (seen : E → EngineView) (
       omega (arith, all, spent, cost, sum_by-append due yielded (engine ∷ later), sum_by-cons due engine later)
 
   -- the branches of all engines
-  pub record AllBegun (bounds : List BoundQuery) (engines : List E) (branches : List BranchView) (before now : ℕ) : Type 0 where
-    pub bounds_are : map (λ (b : BranchView). b.bound) branches ≡ bounds
-    pub lists_are : map (λ (b : BranchView). b.left) branches ≡ rests_of rest (queries_bound bounds) engines
-    pub called : AreBegun (map seen engines) (map (λ (b : BranchView). b.engine) branches)
-    pub cost : now ≤ before + sum_by due engines
-
   pub all_begun : (bounds : List BoundQuery) (engines yielded left : List E) (branches : List BranchView) (before now : ℕ) → length engines ≡ length bounds
-      → yielded ++ left ≡ engines → left ≡ [] → HasBegun bounds yielded branches before now → AllBegun bounds engines branches before now
+      → yielded ++ left ≡ engines → left ≡ [] → HasBegun bounds yielded branches before now
+      → HaveBegun rest seen bounds engines branches × (now ≤ before + sum_by due engines)
   all_begun bounds engines yielded left branches before now each whole none was =
       let same : yielded ≡ engines = sym (append-nil yielded) ∙ ap (λ (l : List E). yielded ++ l) (sym none) ∙ whole in
       let size = ap length same in
-      let all : take (length yielded) bounds ≡ bounds = take_all (length yielded) bounds (omega (arith, size, each)) in
-      subst (λ (l : List E). AllBegun bounds l branches before now) same (record {
-        bounds_are = was.bound ∙ all;
-        lists_are = was.left ∙ ap (λ (l : List BoundQuery). rests_of rest (queries_bound l) yielded) all;
-        called = was.called;
-        cost = was.cost;
-      })
+      let all : take (length yielded) bounds ≡ bounds = take_all (length yielded) bounds (omega (arith, size, each)) in (
+        subst (λ (l : List E). HaveBegun rest seen bounds l branches) same (subst (λ (l : List BoundQuery). HaveBegun rest seen l yielded branches) all was.begun),
+        subst (λ (l : List E). now ≤ before + sum_by due l) same was.cost,
+      )
 
 -- # Branches of all queries
 

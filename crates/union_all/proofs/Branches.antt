@@ -1,7 +1,7 @@
 -- The branches of a merge, one by one.
 use Rattle.std.proofs.Common.{◌≡◌, ◌<◌, ◌∙◌, ℕ, ℤ, Bool, None, List, [], ◌∷◌, map, length, take, get_or, sym, ap, subst}
 use Rattle.std.specs.List.{AllByRecursion}
-use Rattle.std.proofs.lemmas.List.{get_or-map, get_or_read}
+use Rattle.std.proofs.lemmas.List.{get_or-map}
 use Rattle.std.proofs.lemmas.List.Elements.{All-get_or}
 use Rattle.anyk_model.specs.Table.{Table}
 use Rattle.anyk_model.specs.Query.{IsCombination, Query, rank_of, row_counts}
@@ -32,10 +32,6 @@ module _ (branches : List BranchView) (b : ℕ) (inside : b < length branches) (
       get_or-map (λ (s : BranchView). s.bound.query) branches b x (record { items = []; equalities = []; order = []; list = []; limit = None }) inside
       ∙ ap (λ (s : BranchView). s.bound.query) (sym at)
 
-  -- the same branch, read again
-  pub same_branch : (y : BranchView) → y ≡ get_or branches b y → x ≡ y
-  same_branch y again = get_or_read branches b x inside at y ∙ sym again
-
   -- its first combination
   pub head_at : (rows : List ℕ) (later : List (List ℕ)) → x.left ≡ take (length x.bound.query.items) rows ∷ later
       → get_or (lists_of branches) b [] ≡ take (length (branch_at (queries_of branches) b).items) rows ∷ later
@@ -43,10 +39,10 @@ module _ (branches : List BranchView) (b : ℕ) (inside : b < length branches) (
 
   -- is one of its rows
   pub head_fits : (tables : List Table) → AreBranches tables branches → (rows : List ℕ) (later : List (List ℕ)) → x.left ≡ take (length x.bound.query.items) rows ∷ later
-      → (y : BranchView) → y ≡ get_or branches b y → (q : BoundQuery) → q ≡ y.bound → IsCombination (row_counts q.query.items tables) (take (length q.query.items) rows)
-  head_fits tables all rows later is y again q bound =
+      → (q : BoundQuery) → q ≡ x.bound → IsCombination (row_counts q.query.items tables) (take (length q.query.items) rows)
+  head_fits tables all rows later is q bound =
       let one = subst (λ (l : List (List ℕ)). AllByRecursion (IsCombination (row_counts (branch_at (queries_of branches) b).items tables)) l) (head_at rows later is) (all.left.combinations b) in
-      let own : branch_at (queries_of branches) b ≡ q.query = query_at ∙ ap (λ (s : BranchView). s.bound.query) (same_branch y again) ∙ ap (λ (s : BoundQuery). s.query) (sym bound) in
+      let own : branch_at (queries_of branches) b ≡ q.query = query_at ∙ ap (λ (s : BoundQuery). s.query) (sym bound) in
       subst (λ (k : Query). IsCombination (row_counts k.items tables) (take (length k.items) rows)) own one.0
 
   -- its query fits the tables

@@ -57,16 +57,13 @@ module _ {X : Type 0} where
       ap (λ (l : List X). os ++ (vs ++ l)) (append_assoc ss (d ∷ ms) es) ∙ sym (append_assoc os vs (ss ++ (d ∷ (ms ++ es)))) ∙ joined os vs ss (d ∷ (ms ++ es))
   line_joined false os vs ss ms es d = ap (λ (l : List X). os ++ (vs ++ l)) (append-nil (ss ++ [])) ∙ sym (append-nil (os ++ (vs ++ (ss ++ []))))
 
-  -- the fields of a branch after none, and then the empty ones
-  pub gathered : (f0 f1 f2 os vs ns es : List X) → f0 ≡ [] → f1 ≡ f0 ++ (os ++ (vs ++ ns)) → f2 ≡ f1 ++ es → f2 ≡ os ++ (vs ++ (ns ++ es))
-  gathered f0 f1 f2 os vs ns es e0 e1 e2 =
-      e2 ∙ ap (λ (l : List X). l ++ es) (e1 ∙ ap (λ (l : List X). l ++ (os ++ (vs ++ ns))) e0)
-      ∙ append_assoc os (vs ++ ns) es ∙ ap (λ (l : List X). os ++ l) (append_assoc vs ns es)
+  -- the first fields are all
+  pub all_first : (before after fields : List X) → before ≡ [] → after ≡ before ++ fields → after ≡ fields
+  all_first before after fields none is = is ∙ ap (λ (l : List X). l ++ fields) none
 
-  pub header_told : (f0 f1 f2 f3 os ns ts cs rs bs : List X) → f0 ≡ [] → f1 ≡ f0 ++ os → f2 ≡ f1 ++ ns → f3 ≡ f2 ++ ts → os ≡ cs → ts ≡ rs ++ bs
-      → f3 ≡ (cs ++ (ns ++ (rs ++ []))) ++ bs
-  header_told f0 f1 f2 f3 os ns ts cs rs bs e0 e1 e2 e3 title shown =
-      e3 ∙ ap (λ (l : List X). l ++ ts) (e2 ∙ ap (λ (l : List X). l ++ ns) (e1 ∙ (λ i. e0 i ++ title i))) ∙ ap (λ (l : List X). (cs ++ ns) ++ l) shown ∙ joined cs ns rs bs
+  -- the titles of the branch's own numbers, and then those of the union
+  pub header_told : (cs ns ts rs bs : List X) → ts ≡ rs ++ bs → cs ++ (ns ++ ts) ≡ (cs ++ (ns ++ (rs ++ []))) ++ bs
+  header_told cs ns ts rs bs shown = ap (λ (l : List X). cs ++ (ns ++ l)) shown ∙ sym (append_assoc cs ns (rs ++ bs)) ∙ joined cs ns rs bs
 
 -- # The fields of a line
 

@@ -1,5 +1,5 @@
 -- What contracts see of a merge and of its branches.
-use Rattle.std.specs.Prelude.{◌≡◌, ◌≢◌, ◌≤◌, ◌+◌, ℕ, Option, None, Some, List, [], ◌∷◌, map, length, get_or, take}
+use Rattle.std.specs.Prelude.{◌≡◌, ◌≢◌, ◌≤◌, ◌+◌, ℕ, Option, None, Some, List, [], ◌∷◌, ◌++◌, map, length, get_or, take}
 use Rattle.std.specs.List.{All, AllByRecursion}
 use Rattle.anyk_model.specs.Table.{Table}
 use Rattle.anyk_model.specs.Query.{IsCombination, Query, row_counts}
@@ -81,6 +81,23 @@ AreBegun [] [] = Unit {0}
 AreBegun [] (new ∷ news) = ⊥
 AreBegun (old ∷ olds) [] = ⊥
 AreBegun (old ∷ olds) (new ∷ news) = HasCalled old new × AreBegun olds news
+
+module _ {E : Type 0} (rest : E → List AnswerView) (seen : E → EngineView) where
+  -- there is a branch for each query, over the engine at its place, which was called once
+  pub record HaveBegun (queries : List BoundQuery) (engines : List E)
+      (branches : List BranchView) : Type 0 where
+    pub bounds : map (λ (b : BranchView). b.bound) branches ≡ queries
+    pub lists : lists_of branches
+        ≡ rests_of rest (map (λ (q : BoundQuery). q.query) queries) engines
+    pub called : AreBegun (map seen engines) (engines_of branches)
+
+  -- one branch more: that of this query, over this engine, which was called once
+  pub record HasGrown (query : BoundQuery) (engine : E) (old new : List BranchView) : Type 0 where
+    pub branch : BranchView
+    pub grown : new ≡ old ++ branch ∷ []
+    pub bound : branch.bound ≡ query
+    pub left : branch.left ≡ combinations_in query.query (rest engine)
+    pub called : HasCalled (seen engine) branch.engine
 
 -- The engine of branch b was called once, and no other. The steps that it took are within what it
 -- had due, and within the most that its size and calls allow.

@@ -22,22 +22,18 @@ fn is_sooner<E: Ranked + Drop>(
     ensures { IsFirst (queries_of branches.now) tables.now (lists_of branches.now) (b + 1)
         (if result then Some b else first) }
 {
-    let Some(rows) = branches[b].head() else {
+    let branch = &branches[b];
+    let Some(rows) = branch.head() else {
         return false;
     };
     let Some(first) = first else {
         return true;
     };
-    let Some(first_rows) = branches[first].head() else {
+    let other = &branches[first];
+    let Some(other_rows) = other.head() else {
         return true;
     };
-    has_less_sums(
-        branches[b].query(),
-        &rows,
-        branches[first].query(),
-        &first_rows,
-        tables,
-    )
+    has_less_sums(branch.query(), &rows, other.query(), &other_rows, tables)
 }
 
 /// The branch that has the first answer of all that are left: the one with the least sums, and of

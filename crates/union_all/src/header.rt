@@ -1,7 +1,7 @@
 //! The record above the members of a union.
-ghost use Rattle.std.specs.Prelude.{◌≡◌, ◌≤◌, ◌++◌, ◌∷◌, [], codes, if◌then◌else◌, length, map, string_bytes, IfOk};
+ghost use Rattle.std.specs.Prelude.{◌≡◌, ◌≤◌, ◌++◌, ◌∷◌, [], codes, if◌then◌else◌, length, map, string_bytes, IfOk, OnOk};
 ghost use Rattle.std.specs.List.{All};
-ghost use Rattle.anyk_model.specs.Output.{numbered};
+ghost use Rattle.anyk_model.specs.Output.{column_name, cursor_title, numbered};
 ghost use Rattle.bound_query.specs.WeighedQuery.{Fits};
 ghost use Rattle.answer_print.specs.StyleView.{style_view};
 ghost use Rattle.union_list.specs.UnionOutput as output;
@@ -31,11 +31,11 @@ pub fn header_of(
         (style_view style.now)) }
 {
     let first = &queries[0];
-    let titles = number_titles(alloc, first, most_items(queries), style)?;
+    let most = most_items(queries);
+    let mut titles = Vec::new(alloc);
+    push_number_titles(alloc, &mut titles, first, most, style)?;
     let mut fields = Fields::new(alloc);
-    push_optional(&mut fields, title_of_cursor(style))?;
-    push_names(&mut fields, first, tables)?;
-    push_texts(&mut fields, titles.as_slice())?;
+    push_titles(&mut fields, first, tables, style, titles.as_slice())?;
     csv_tables::line(alloc, fields.as_slice())
 }
 
@@ -51,23 +51,45 @@ pub(crate) fn most_items(queries: &[Query]) -> u32
     most
 }
 
-/// The titles above the numbers that the style shows.
-fn number_titles(
+/// Appends the titles above the numbers that the style shows.
+fn push_number_titles(
     alloc: Global,
+    titles: &mut Vec<String>,
     query: &Query,
     most: u32,
     style: &Style<'_>,
-) -> Result<Vec<String>, NoMemory>
-    ensures { IfOk result (λ titles. map string_bytes titles.items
-        ≡ (if style.now.ranks then numbered (codes "rank") (length query.now.query.order) else [])
-        ++ (if style.now.rows then codes "branch" ∷ numbered (codes "row") most else [])) }
+) -> Result<(), NoMemory>
+    ensures { OnOk result (map string_bytes titles.new.items ≡ map string_bytes titles.old.items
+        ++ ((if style.now.ranks then numbered (codes "rank") (length query.now.query.order) else [])
+        ++ (if style.now.rows then codes "branch" ∷ numbered (codes "row") most else []))) }
 {
-    let ranks = if style.ranks { query.keys() } else { 0 };
-    let mut titles = Vec::new(alloc);
-    push_numbered(alloc, &mut titles, "rank", ranks)?;
-    if style.rows {
-        titles.push(format!(in alloc; "branch")?)?;
-        push_numbered(alloc, &mut titles, "row", most)?;
+    if style.ranks {
+        push_numbered(alloc, titles, "rank", query.keys())?;
     }
-    Ok(titles)
+    if style.rows {
+        let branch = format!(in alloc; "branch")?;
+        titles.push(branch)?;
+        push_numbered(alloc, titles, "row", most)?;
+    }
+    Ok(())
+}
+
+/// Appends the titles of the record: the cursors' one if a cursor is named, the names of the
+/// query's columns, and the titles above the numbers.
+fn push_titles<'a>(
+    fields: &mut Fields<'a>,
+    query: &Query,
+    tables: &'a Tables,
+    style: &Style<'_>,
+    titles: &'a [String],
+) -> Result<(), NoMemory>
+    requires { Fits query.now tables.now }
+    ensures { OnOk result (map (λ f. f.now) fields.new.items ≡ map (λ f. f.now) fields.old.items
+        ++ (cursor_title (style_view style.now)
+        ++ (map (column_name query.now.query tables.now) query.now.query.list
+        ++ map string_bytes titles.now))) }
+{
+    push_optional(fields, title_of_cursor(style))?;
+    push_names(fields, query, tables)?;
+    push_texts(fields, titles)
 }

@@ -43,22 +43,10 @@ pub fn line_of(
         ≡ output.union_line_text all tables.now (style_view style.now)
         (tagged_view all tagged.now)) }
 {
-    let query = &queries[tagged.branch as usize];
-    let mut numbers = Numbers::new(alloc);
-    push_shown(&mut numbers, tagged, query, tables, style)?;
-    let numbers = numbers.as_slice();
-    let lacking = lacking_items(queries, query, style);
-    let mut fields = Fields::new(alloc);
-    push_fields(
-        &mut fields,
-        query,
-        tables,
-        &tagged.rows,
-        style.cursor,
-        numbers,
-    )?;
-    push_empty(&mut fields, lacking)?;
-    csv_tables::line(alloc, fields.as_slice())
+    let mut writer = AnswerWriter::new(alloc);
+    write_line_of(alloc, &mut writer, tagged, queries, tables, style)?;
+    let text = Vec::from_slice(alloc, writer.text())?;
+    Ok(text)
 }
 
 /// Writes the record of a member, as `line_of` gives it, by a writer that is kept for many records.
@@ -84,8 +72,8 @@ pub fn write_line_of(
     let query = &queries[tagged.branch as usize];
     writer.numbers.clear();
     push_shown(&mut writer.numbers, tagged, query, tables, style)?;
-    let numbers = writer.numbers.as_slice();
     let lacking = lacking_items(queries, query, style);
+    let numbers = writer.numbers.as_slice();
     let mut fields = Fields::new(alloc);
     push_fields(
         &mut fields,
@@ -94,8 +82,8 @@ pub fn write_line_of(
         &tagged.rows,
         style.cursor,
         numbers,
+        lacking,
     )?;
-    push_empty(&mut fields, lacking)?;
     writer.records.write(fields.as_slice())
 }
 
@@ -113,8 +101,8 @@ fn lacking_items(queries: &[Query], query: &Query, style: &Style<'_>) -> u32
     }
 }
 
-/// Appends the fields of the record but the empty ones: the cursor's name if there is one, the
-/// selected columns of the rows, and these numbers.
+/// Appends the fields of the record: the cursor's name if there is one, the selected columns of the
+/// rows, these numbers, and as many empty fields as are lacking.
 fn push_fields<'a>(
     fields: &mut Fields<'a>,
     query: &Query,
@@ -122,17 +110,20 @@ fn push_fields<'a>(
     rows: &[u32; 16],
     cursor: Option<&'a [u8]>,
     numbers: &'a [Number],
+    lacking: u32,
 ) -> Result<(), NoMemory>
     requires fits { Fits query.now tables.now }
     requires rows { HasRows query.now tables.now rows.now }
     ensures { OnOk result (map (λ f. f.now) fields.new.items ≡ map (λ f. f.now) fields.old.items
         ++ (optional_field (option_map (λ name. name.now) cursor.entry)
         ++ (map (value_of query.now.query tables.now
-        (rows_of query.now rows.now)) query.now.query.list ++ numbers.now))) }
+        (rows_of query.now rows.now)) query.now.query.list
+        ++ (numbers.now ++ replicate lacking [])))) }
 {
     push_optional(fields, cursor)?;
     push_values(fields, query, tables, rows)?;
-    push_numbers(fields, numbers)
+    push_numbers(fields, numbers)?;
+    push_empty(fields, lacking)
 }
 
 /// Appends the numbers that the style shows, in decimal.

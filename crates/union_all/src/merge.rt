@@ -1,11 +1,11 @@
 //! The members of a union, one by one.
-ghost use Rattle.std.specs.Prelude.{◌≡◌, ◌+◌, ◌≤◌, [], ◌∷◌, List, length, map, IfOk, IfSome, IfNone, OnErr};
+ghost use Rattle.std.specs.Prelude.{◌≡◌, ◌+◌, ◌≤◌, [], ◌∷◌, List, length, map, IfOk, IfSome, IfNone, OnErr, OnOk};
 ghost use Rattle.std.specs.List.{All, sum_by};
 ghost use Rattle.bound_query.specs.WeighedQuery.{Fits};
 ghost use Rattle.union_list.specs.TaggedRows as union;
 ghost use Rattle.union_list.specs.Union.{left_of};
 ghost use Rattle.union_all.specs.Firsts.{tagged_view};
-ghost use Rattle.union_all.specs.Merge.{AreBegun, AreLeft, IsCalled, rests_of};
+ghost use Rattle.union_all.specs.Merge.{AreBegun, AreLeft, HasGrown, HaveBegun, IsCalled, rests_of};
 
 use crate::branch::Branch;
 use crate::firsts::first_branch;
@@ -65,7 +65,8 @@ impl<'q, E: Ranked + Drop> Merge<'q, E> {
             m.engines) }
         ensures cost { steps.new ≤ steps.old + sum_by (λ e. E.due e) engines.items }
     {
-        let branches = begin(alloc, queries, engines, steps)?;
+        let mut branches = Vec::with_capacity(alloc, engines.len())?;
+        begin(&mut branches, queries, engines, steps)?;
         Ok(Merge { tables, branches })
     }
 
@@ -97,28 +98,40 @@ impl<'q, E: Ranked + Drop> Merge<'q, E> {
     }
 }
 
-/// A branch for each query, over the engine at its place.
+/// Appends to no branches a branch for each query, over the engine at its place.
 fn begin<'q, E: Ranked + Drop, L: Ledger>(
-    alloc: Global,
+    branches: &mut Vec<Branch<'q, E>>,
     queries: &'q [Query],
     engines: Vec<E>,
     steps: &mut Steps<L>,
-) -> Result<Vec<Branch<'q, E>>, NoMemory>
+) -> Result<(), NoMemory>
+    requires none { branches.old.items ≡ [] }
     requires each { length engines.items ≡ length queries.now }
-    ensures bounds { IfOk result (λ v. map (λ b. b.bound) v.items ≡ queries.now) }
-    ensures lists { IfOk result
-        (λ v. map (λ b. b.left) v.items
-        ≡ rests_of E.rest (map (λ q. q.query) queries.now) engines.items) }
-    ensures engines { IfOk result (λ v. AreBegun
-        (map (λ e. record { calls = E.calls e; due = E.due e; size = E.size e }) engines.items)
-        (map (λ b. b.engine) v.items)) }
+    ensures begun { OnOk result (HaveBegun E.rest
+        (λ e. record { calls = E.calls e; due = E.due e; size = E.size e })
+        queries.now engines.items branches.new.items) }
     ensures cost { steps.new ≤ steps.old + sum_by (λ e. E.due e) engines.items }
 {
-    let mut branches = Vec::with_capacity(alloc, engines.len())?;
     for engine in engines {
         let query = &queries[branches.len()];
-        let branch = Branch::new(query, engine, steps)?;
-        branches.push(branch)?;
+        push_begun(branches, query, engine, steps)?;
     }
-    Ok(branches)
+    Ok(())
+}
+
+/// Appends the branch of a query over this engine.
+fn push_begun<'q, E: Ranked + Drop, L: Ledger>(
+    branches: &mut Vec<Branch<'q, E>>,
+    query: &'q Query,
+    engine: E,
+    steps: &mut Steps<L>,
+) -> Result<(), NoMemory>
+    ensures grown { OnOk result (HasGrown E.rest
+        (λ e. record { calls = E.calls e; due = E.due e; size = E.size e })
+        query.now engine branches.old.items branches.new.items) }
+    ensures cost { steps.new ≤ steps.old + E.due engine }
+{
+    let branch = Branch::new(query, engine, steps)?;
+    branches.push(branch)?;
+    Ok(())
 }

@@ -38,25 +38,15 @@ returns-in_default-head g c =
     let none = list_at branches f (omega (arith, was.inside, c.requires.inside)) c.index-branches-first.result c.index-branches-first.is ∙ (rw c.in_default-head.is at c.head-2.ensures) in
     absurd (not_empty _ _ _ was.is_first none)
 
-pub offset_bounds-branches-first-2 : goal.offset_bounds-branches-first-2
-offset_bounds-branches-first-2 g c =
-    let was = subst (λ (o : Option ℕ). IsFirst (queries_of c.args.branches.now) c.args.tables.now (lists_of c.args.branches.now) c.args.b o) c.in-Some-first.is c.requires.first in
-    omega (arith, was.inside, c.requires.inside)
-
-pub bounds-branches-first-2 : goal.bounds-branches-first-2
-bounds-branches-first-2 g c =
-    let was = subst (λ (o : Option ℕ). IsFirst (queries_of c.args.branches.now) c.args.tables.now (lists_of c.args.branches.now) c.args.b o) c.in-Some-first.is c.requires.first in
-    omega (arith, was.inside, c.requires.inside)
-
 pub has_less_sums-requires-clause-fits : goal.has_less_sums-requires-clause-fits
 has_less_sums-requires-clause-fits g c =
-    query_fits c.args.branches.now c.args.b c.requires.inside c.index-branches-b-2.result c.index-branches-b-2.is c.args.tables.now c.requires.branches c.query.result.now c.query.ensures
+    query_fits c.args.branches.now c.args.b c.requires.inside c.index-branches-b.result c.index-branches-b.is c.args.tables.now c.requires.branches c.query.result.now c.query.ensures
 
 pub has_less_sums-requires-clause-other_fits : goal.has_less_sums-requires-clause-other_fits
 has_less_sums-requires-clause-other_fits g c =
     let branches = c.args.branches.now in
     let was = subst (λ (o : Option ℕ). IsFirst (queries_of branches) c.args.tables.now (lists_of branches) c.args.b o) c.in-Some-first.is c.requires.first in
-    query_fits branches c.in-Some-first.first (omega (arith, was.inside, c.requires.inside)) c.index-branches-first-2.result c.index-branches-first-2.is
+    query_fits branches c.in-Some-first.first (omega (arith, was.inside, c.requires.inside)) c.index-branches-first.result c.index-branches-first.is
     c.args.tables.now c.requires.branches c.query-2.result.now c.query-2.ensures
 
 pub has_less_sums-requires-clause-other_rows : goal.has_less_sums-requires-clause-other_rows
@@ -65,13 +55,13 @@ has_less_sums-requires-clause-other_rows g c =
     let was = subst (λ (o : Option ℕ). IsFirst (queries_of branches) c.args.tables.now (lists_of branches) c.args.b o) c.in-Some-first.is c.requires.first in
     let there = rw c.in-Some-head.is at c.head-2.ensures in
     head_fits branches c.in-Some-first.first (omega (arith, was.inside, c.requires.inside)) c.index-branches-first.result c.index-branches-first.is c.args.tables.now c.requires.branches
-    c.in-Some-head.first_rows there.0 there.1 c.index-branches-first-2.result c.index-branches-first-2.is c.query-2.result.now c.query-2.ensures
+    c.in-Some-head.other_rows there.0 there.1 c.query-2.result.now c.query-2.ensures
 
 pub has_less_sums-requires-clause-rows : goal.has_less_sums-requires-clause-rows
 has_less_sums-requires-clause-rows g c =
     let here = rw c.in-Some.is at c.head.ensures in
     head_fits c.args.branches.now c.args.b c.requires.inside c.index-branches-b.result c.index-branches-b.is c.args.tables.now c.requires.branches c.in-Some.rows here.0 here.1
-    c.index-branches-b-2.result c.index-branches-b-2.is c.query.result.now c.query.ensures
+    c.query.result.now c.query.ensures
 
 pub returns : goal.returns
 returns g c =
@@ -85,11 +75,11 @@ returns g c =
     let here = rw c.in-Some.is at c.head.ensures in
     let there = rw c.in-Some-head.is at c.head-2.ensures in
     let own = head_at branches c.args.b c.requires.inside c.index-branches-b.result c.index-branches-b.is c.in-Some.rows here.0 here.1 in
-    let other = head_at branches f inside c.index-branches-first.result c.index-branches-first.is c.in-Some-head.first_rows there.0 there.1 in
+    let other = head_at branches f inside c.index-branches-first.result c.index-branches-first.is c.in-Some-head.other_rows there.0 there.1 in
     let one : c.query.result.now.query ≡ branch_at queries c.args.b =
-    ap (λ (q : BoundQuery). q.query) c.query.ensures ∙ sym (query_at branches c.args.b c.requires.inside c.index-branches-b-2.result c.index-branches-b-2.is) in
+    ap (λ (q : BoundQuery). q.query) c.query.ensures ∙ sym (query_at branches c.args.b c.requires.inside c.index-branches-b.result c.index-branches-b.is) in
     let two : c.query-2.result.now.query ≡ branch_at queries f =
-    ap (λ (q : BoundQuery). q.query) c.query-2.ensures ∙ sym (query_at branches f inside c.index-branches-first-2.result c.index-branches-first-2.is) in
-    let less = less_told tables c.in-Some.rows c.in-Some-head.first_rows _ _ (branch_at queries c.args.b) (branch_at queries f) c.has_less_sums.result c.has_less_sums.ensures one two in
+    ap (λ (q : BoundQuery). q.query) c.query-2.ensures ∙ sym (query_at branches f inside c.index-branches-first.result c.index-branches-first.is) in
+    let less = less_told tables c.in-Some.rows c.in-Some-head.other_rows _ _ (branch_at queries c.args.b) (branch_at queries f) c.has_less_sums.result c.has_less_sums.ensures one two in
     subst (λ (o : Option ℕ). IsFirst queries tables lists (c.args.b + 1) (if c.has_less_sums.result then Some c.args.b else o)) (sym c.in-Some-first.is)
     (compared_first queries tables lists c.args.b _ here.0 own f was c.has_less_sums.result _ (first_of _ _ _ _ _ was.is_first other) less)

@@ -1,11 +1,10 @@
-use Rattle.std.proofs.Common.{◌≡◌, [], ℕ, List, ap, length, map, replicate, rules, subst, take, OnOk}
-use Rattle.anyk_model.specs.Output.{optional_field, record_text}
-use Rattle.anyk_model.specs.Query.{value_of}
+use Rattle.std.proofs.Common.{◌≡◌, ℕ, List, ap, map, rules, subst, OnOk}
+use Rattle.anyk_model.specs.Output.{record_text}
 use Rattle.answer_print.specs.StyleView.{style_view}
 use Rattle.union_list.specs.UnionOutput.{union_line_fields}
 use Rattle.union_all.specs.Firsts.{tagged_view}
-use Rattle.union_all.proofs.Texts.{gathered, line_is, queries_in, rows_of}
-use Rattle.union_all.proofs.line.write_line_of.Goals.{in-Heap-3, in-Inline-3}
+use Rattle.union_all.proofs.Texts.{all_first, line_is, queries_in, rows_of}
+use Rattle.union_all.proofs.line.write_line_of.Goals.{in-Heap-2, in-Inline-2}
 use Rattle.union_all.proofs.line.write_line_of.Goals as goal
 
 pub returns : goal.returns
@@ -19,11 +18,10 @@ returns c =
     let are = rows_of bounds t.branch c.requires.branch q at tables t.rows c.requires.rows in
     let numbers = c.push_shown.new.numbers.items in
     let shown = rw c.clear.ensures.items at c.in_ok-push_shown.ensures in
-    let told = gathered _ _ _ (optional_field style.cursor) (map (value_of q.query tables (take (length q.query.items) t.rows)) q.query.list) numbers (replicate c.lacking_items-lacking.result [])
-    (ap (map (λ f. f.now)) c.new-fields.ensures.items) (rw c.as_slice-numbers.ensures at c.in_ok-push_fields.ensures) c.in_ok-push_empty.ensures in
-    let all : map (λ f. f.now) c.push_empty.new.fields.items ≡ union_line_fields (queries_in bounds) tables style (tagged_view (queries_in bounds) t) =
+    let told = all_first _ _ _ (ap (map (λ f. f.now)) c.new-fields.ensures.items) (rw c.as_slice-numbers.ensures at c.in_ok-push_fields.ensures) in
+    let all : map (λ f. f.now) c.push_fields.new.fields.items ≡ union_line_fields (queries_in bounds) tables style (tagged_view (queries_in bounds) t) =
     line_is bounds tables style t.branch t.rows c.requires.branch q at are numbers _ c.lacking_items-lacking.result shown c.lacking_items-lacking.ensures told in
     let line = rw c.as_slice.ensures at c.write.ensures in
-    let kept : c.match-fields-3.writer-inside.records ≡ c.write.new.self =
-    elim c.match-fields-3.branch [ in-Heap-3 w ↦ search rules | in-Inline-3 w ↦ search rules ] in
-    subst (λ (fs : List (List ℕ)). OnOk c.write.result (c.match-fields-3.writer-inside.records ≡ record_text fs)) all (rw kept line)
+    let kept : c.match-fields-2.writer-inside.records ≡ c.write.new.self =
+    elim c.match-fields-2.branch [ in-Heap-2 w ↦ search rules | in-Inline-2 w ↦ search rules ] in
+    subst (λ (fs : List (List ℕ)). OnOk c.write.result (c.match-fields-2.writer-inside.records ≡ record_text fs)) all (rw kept line)

@@ -8,26 +8,14 @@ use Rattle.union_all.proofs.merge.begin.Goals as goal
 pub loop-engine-init : goal.loop-engine-init
 loop-engine-init g c =
     let whole : into_iter_items c.into_iter-engine-iterator.result ≡ c.args.engines.items = search rules in
-    (tt, tt, whole, rw c.in_ok-branches.ensures.items (none_begun _ _ _ c.args.queries.now c.args.steps.now))
+    (tt, tt, whole, rw c.requires.none (none_begun _ _ _ c.args.queries.now c.args.steps.now))
 
 pub bounds-queries-len : goal.bounds-queries-len
 bounds-queries-len g c =
     let at = c.loop-engine in
     let next = has_next _ _ _ c.args.queries.now c.args.engines.items at.yielded (into_iter_items at.engine-iterator) (into_iter_items c.next.new.self) c.in-Some.engine at.branches.items _ _
     c.requires.each at.invariant.2 c.in-Some.ensures.steps.0 at.invariant.3 in
-    omega (arith, next.inside, next.count, c.len-in-loop-engine.ensures)
-
-pub returns-in_err-branch-clause-cost : goal.returns-in_err-branch-clause-cost
-returns-in_err-branch-clause-cost g c =
-    let at = c.loop-engine in
-    cost_within _ _ _ c.args.queries.now c.args.engines.items at.yielded (into_iter_items at.engine-iterator) (into_iter_items c.next.new.self) c.in-Some.engine at.branches.items _ _ _
-    at.invariant.2 c.in-Some.ensures.steps.0 at.invariant.3 c.new.ensures.cost
-
-pub returns-in_err-push-clause-cost : goal.returns-in_err-push-clause-cost
-returns-in_err-push-clause-cost g c =
-    let at = c.loop-engine in
-    cost_within _ _ _ c.args.queries.now c.args.engines.items at.yielded (into_iter_items at.engine-iterator) (into_iter_items c.next.new.self) c.in-Some.engine at.branches.items _ _ _
-    at.invariant.2 c.in-Some.ensures.steps.0 at.invariant.3 c.new.ensures.cost
+    omega (arith, next.inside, next.count, c.len.ensures)
 
 pub loop-engine-preserved : goal.loop-engine-preserved
 loop-engine-preserved g c =
@@ -37,13 +25,13 @@ loop-engine-preserved g c =
     let steps : into_iter_items at.engine-iterator ≡ x ∷ into_iter_items c.next.new.self = c.in-Some.ensures.steps.0 in
     let next = has_next _ _ _ c.args.queries.now c.args.engines.items at.yielded (into_iter_items at.engine-iterator) (into_iter_items c.next.new.self) x at.branches.items _ _
     c.requires.each at.invariant.2 steps at.invariant.3 in
-    let count : c.len-in-loop-engine.result ≡ length at.branches.items = search rules in
+    let count : c.len.result ≡ length at.branches.items = search rules in
     let index = sym (c.index-queries-len.is ∙ ap (λ k. get_or c.args.queries.now k q) (count ∙ next.count)) in (
       tt,
       tt,
       append_assoc at.yielded (x ∷ []) (into_iter_items c.next.new.self) ∙ rw (← steps) at.invariant.2,
-      rw c.in_ok-push.ensures.items (begun_more _ _ _ c.args.queries.now at.yielded at.branches.items _ _ _ q x c.in_ok-branch.branch at.invariant.3 next.inside index
-          c.in_ok-branch.ensures.bound c.in_ok-branch.ensures.left c.in_ok-branch.ensures.called c.new.ensures.cost),
+      begun_more _ _ _ c.args.queries.now at.yielded at.branches.items c.push_begun.new.branches.items c.args.steps.now at.steps c.push_begun.new.steps q x at.invariant.3 next.inside index
+          c.in_ok-push_begun.ensures.grown c.push_begun.ensures.cost,
     )
 
 pub returns : goal.returns
@@ -52,34 +40,13 @@ returns g c =
     let none : into_iter_items at.engine-iterator ≡ [] = search (rules, nil_from_length) in
     let all = all_begun _ _ _ c.args.queries.now c.args.engines.items at.yielded (into_iter_items at.engine-iterator) at.branches.items _ _
     c.requires.each at.invariant.2 none at.invariant.3 in
-    record { bounds = all.bounds_are; lists = all.lists_are; engines = all.called; cost = all.cost }
+    record { begun = all.0; cost = all.1 }
 
-pub returns-in_err-branches-clause-bounds : goal.returns-in_err-branches-clause-bounds
-returns-in_err-branches-clause-bounds g c = IfOk-from_err c.from_residual.result _ c.from_residual.ensures.0
+pub returns-in_err-push_begun-clause-cost : goal.returns-in_err-push_begun-clause-cost
+returns-in_err-push_begun-clause-cost g c =
+    let at = c.loop-engine in
+    cost_within _ _ _ c.args.queries.now c.args.engines.items at.yielded (into_iter_items at.engine-iterator) (into_iter_items c.next.new.self) c.in-Some.engine at.branches.items c.args.steps.now at.steps c.push_begun.new.steps
+    at.invariant.2 c.in-Some.ensures.steps.0 at.invariant.3 c.push_begun.ensures.cost
 
-pub returns-in_err-branches-clause-lists : goal.returns-in_err-branches-clause-lists
-returns-in_err-branches-clause-lists g c = IfOk-from_err c.from_residual.result _ c.from_residual.ensures.0
-
-pub returns-in_err-branches-clause-engines : goal.returns-in_err-branches-clause-engines
-returns-in_err-branches-clause-engines g c = IfOk-from_err c.from_residual.result _ c.from_residual.ensures.0
-
-pub returns-in_err-branch-clause-bounds : goal.returns-in_err-branch-clause-bounds
-returns-in_err-branch-clause-bounds g c = IfOk-from_err c.from_residual-in_err-branch.result _ c.from_residual-in_err-branch.ensures.0
-
-pub returns-in_err-branch-clause-lists : goal.returns-in_err-branch-clause-lists
-returns-in_err-branch-clause-lists g c = IfOk-from_err c.from_residual-in_err-branch.result _ c.from_residual-in_err-branch.ensures.0
-
-pub returns-in_err-branch-clause-engines : goal.returns-in_err-branch-clause-engines
-returns-in_err-branch-clause-engines g c = IfOk-from_err c.from_residual-in_err-branch.result _ c.from_residual-in_err-branch.ensures.0
-
-pub returns-in_err-push-clause-bounds : goal.returns-in_err-push-clause-bounds
-returns-in_err-push-clause-bounds g c = IfOk-from_err c.from_residual-in_err-push.result _ c.from_residual-in_err-push.ensures.0
-
-pub returns-in_err-push-clause-lists : goal.returns-in_err-push-clause-lists
-returns-in_err-push-clause-lists g c = IfOk-from_err c.from_residual-in_err-push.result _ c.from_residual-in_err-push.ensures.0
-
-pub returns-in_err-push-clause-engines : goal.returns-in_err-push-clause-engines
-returns-in_err-push-clause-engines g c = IfOk-from_err c.from_residual-in_err-push.result _ c.from_residual-in_err-push.ensures.0
-
-pub returns-in_err-branches-clause-cost : goal.returns-in_err-branches-clause-cost
-returns-in_err-branches-clause-cost g c = omega arith
+pub returns-in_err-push_begun-clause-begun : goal.returns-in_err-push_begun-clause-begun
+returns-in_err-push_begun-clause-begun g c = IfOk-from_err c.from_residual.result _ c.from_residual.ensures.0

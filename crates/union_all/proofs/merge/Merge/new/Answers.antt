@@ -7,13 +7,18 @@ use Rattle.union_all.proofs.merge.Merge.new.Goals as goal
 
 pub invariant_of-result : goal.invariant_of-result
 invariant_of-result g c =
-    all_branches c.args.tables.now c.args.queries.now c.in_ok-branches.branches.items _ c.in_ok-branches.ensures.bounds c.in_ok-branches.ensures.lists c.requires.few c.requires.fits c.requires.left
+    let begun = c.in_ok-begin.ensures.begun in
+    all_branches c.args.tables.now c.args.queries.now c.begin.new.branches.items _ begun.bounds begun.lists c.requires.few c.requires.fits c.requires.left
 
 pub returns-clause-queries : goal.returns-clause-queries
-returns-clause-queries g c = same_queries c.args.queries.now c.in_ok-branches.branches.items c.in_ok-branches.ensures.bounds
+returns-clause-queries g c = same_queries c.args.queries.now c.begin.new.branches.items c.in_ok-begin.ensures.begun.bounds
 
 pub returns-clause-rest : goal.returns-clause-rest
 returns-clause-rest g c =
-    let branches = c.in_ok-branches.branches.items in
+    let branches = c.begin.new.branches.items in
+    let begun = c.in_ok-begin.ensures.begun in
     ap (left_of (map (λ (b : BranchView). b.bound.query) branches) c.args.tables.now)
-    (c.in_ok-branches.ensures.lists ∙ ap (λ (q : List Query). rests_of g.E.Ranked.rest q c.args.engines.items) (sym (same_queries c.args.queries.now branches c.in_ok-branches.ensures.bounds)))
+    (begun.lists ∙ ap (λ (q : List Query). rests_of g.E.Ranked.rest q c.args.engines.items) (sym (same_queries c.args.queries.now branches begun.bounds)))
+
+pub returns-clause-engines : goal.returns-clause-engines
+returns-clause-engines g c = c.in_ok-begin.ensures.begun.called

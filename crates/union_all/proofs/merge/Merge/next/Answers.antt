@@ -1,4 +1,4 @@
-use Rattle.std.proofs.Common.{◌≡◌, ◌∙◌, ◌∷◌, [], None, List, length, slice_set, take, refl, sym, ap, subst, arith}
+use Rattle.std.proofs.Common.{◌≡◌, ◌∙◌, ◌∷◌, [], None, List, get_or, length, slice_set, take, refl, sym, ap, subst, arith}
 use Rattle.std.proofs.lemmas.List.{length-map}
 use Rattle.anyk_model.specs.Query.{Query}
 use Rattle.union_list.specs.TaggedRows as union
@@ -60,7 +60,7 @@ invariant_of-self-in_default-2 g c =
     let first = c.in-Some.first in
     let h = subst (λ (l : List BranchView). HasFirst (queries_of l) tables (lists_of l) (length l) first) c.as_slice.ensures.value (rw c.in-Some.is at c.first_branch.ensures) in
     let none = (rw c.in_default-2.is at c.in_ok-rows.ensures.end).0 in
-    absurd (not_empty _ _ _ h.is_first (list_at branches first h.inside c.index_mut.result.now c.index_mut.ensures.value ∙ none))
+    absurd (not_empty (get_or (lists_of branches) first []) h.rows h.later h.is_first (list_at branches first h.inside c.index_mut.result.now c.index_mut.ensures.value ∙ none))
 
 pub returns-in_default-2-clause-end : goal.returns-in_default-2-clause-end
 returns-in_default-2-clause-end g c =
@@ -69,7 +69,7 @@ returns-in_default-2-clause-end g c =
     let first = c.in-Some.first in
     let h = subst (λ (l : List BranchView). HasFirst (queries_of l) tables (lists_of l) (length l) first) c.as_slice.ensures.value (rw c.in-Some.is at c.first_branch.ensures) in
     let none = (rw c.in_default-2.is at c.in_ok-rows.ensures.end).0 in
-    absurd (not_empty _ _ _ h.is_first (list_at branches first h.inside c.index_mut.result.now c.index_mut.ensures.value ∙ none))
+    absurd (not_empty (get_or (lists_of branches) first []) h.rows h.later h.is_first (list_at branches first h.inside c.index_mut.result.now c.index_mut.ensures.value ∙ none))
 
 pub overflow_cast-result : goal.overflow_cast-result
 overflow_cast-result g c =
