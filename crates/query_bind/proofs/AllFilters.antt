@@ -1,5 +1,5 @@
 -- The tests of the rows of all items.
-use Rattle.std.proofs.Common.{◌≡◌, ◌⊎◌, ◌<◌, ◌+◌, ℕ, List, [], ◌∷◌, ◌++◌, map, length, get_or, sym, ap, subst, ◌∙◌, inl, inr, arith}
+use Rattle.std.proofs.Common.{◌≡◌, ◌⊎◌, ◌<◌, ◌+◌, ℕ, List, [], ◌∷◌, ◌++◌, map, length, get_or, refl, sym, ap, subst, ◌∙◌, inl, inr, arith}
 use Rattle.std.proofs.lemmas.Bool.{cases_eq}
 use Rattle.std.proofs.lemmas.List.{get_or-map, map-append}
 use Rattle.anyk_model.specs.Table.{Table, table_at}
@@ -19,6 +19,13 @@ use Rattle.bound_query.specs.declared.filters.Filter.{Filter}
 use Rattle.bound_query.proofs.Lists.{at_last, at_left, length_last}
 use Rattle.bound_query.proofs.Inside.{linked_inside}
 use Rattle.query_bind.proofs.Filtering.{filter_of}
+
+pub filters_none : (label : Column → Column) (es : List Equality) (tables : List Table) (items : List Item) → HaveFilters label es tables items 0 []
+filters_none label es tables items = record {
+  count = refl;
+  pairs = λ i h. absurd (omega (arith, h));
+  constants = λ i h. absurd (omega (arith, h));
+}
 
 pub filters_more : (label : Column → Column) (es : List Equality) (tables : List Table) (items : List BoundItem) (n width : ℕ) (d : BoundItem) (filters : List Filter) (f : Filter)
     → n < length items → width ≡ length (table_at tables (get_or items n d).table).names

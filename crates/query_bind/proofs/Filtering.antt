@@ -74,6 +74,9 @@ module _ (label : Column → Column) (item : ℕ) where
 
 -- ---- constants
 
+one_constant : {a b : List ℕ} → of_constant a ≡ of_constant b → a ≡ b
+one_constant h = cc
+
 module _ (label : Column → Column) (item width : ℕ) where
   pub constants_none : HaveConstants label item width [] []
   constants_none = record { sound = λ v m. absurd m; found = λ e bytes m is. absurd m }
@@ -92,7 +95,7 @@ module _ (label : Column → Column) (item width : ℕ) where
       | inl old ↦ elim (known.found q b old at) [ inl none ↦ inl none | inr k ↦ inr (k.0, member_left (k.0, b) list ((p, bytes) ∷ []) k.1, k.2) ]
       | inr new ↦
           let sides : of_constant b ≡ of_constant bytes = sym at ∙ ap (λ (z : Equality). z.right) new ∙ is in
-          let same : b ≡ bytes = cc in
+          let same : b ≡ bytes = one_constant sides in
           inr (
             p,
             subst (λ (z : List ℕ). IsMember (p, z) (list ++ (p, bytes) ∷ [])) (sym same) (member_last (p, bytes) list),
@@ -111,7 +114,7 @@ module _ (label : Column → Column) (item width : ℕ) where
       | inl old ↦ known.found q b old at
       | inr new ↦
           let sides : of_constant b ≡ of_constant bytes = sym at ∙ ap (λ (z : Equality). z.right) new ∙ is in
-          let same : b ≡ bytes = cc in
+          let same : b ≡ bytes = one_constant sides in
           inr (
             p,
             subst (λ (z : List ℕ). IsMember (p, z) list) (sym same) there,

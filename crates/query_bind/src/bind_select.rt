@@ -135,6 +135,24 @@ fn find_filters(
     filters_of(alloc, classes, equalities, items, tables)
 }
 
+/// The variables of a query, and the tests of the rows of each item.
+fn find_parts(
+    alloc: Global,
+    selection: &Selection,
+    tables: &Tables,
+) -> Result<(Variables, Vec<Filter>), AllocError>
+    requires { IsWithin selection.now tables.now }
+    ensures variables { IfOk result
+        (λ p. HasVariables selection.now (map column_view p.0.least.items)
+        (lists_view p.0.of_items.items)) }
+    ensures filters { IfOk result (λ p. HasFilters selection.now (map filter_view p.1.items)) }
+{
+    let classes = find_classes(alloc, selection)?;
+    let variables = find_structure(alloc, selection, tables, classes.as_slice())?;
+    let filters = find_filters(alloc, selection, tables, classes.as_slice())?;
+    Ok((variables, filters))
+}
+
 /// The query, or the first fault, in the order of the select's parts.
 fn bind_by_parts(
     alloc: Global,
@@ -154,9 +172,7 @@ fn bind_by_parts(
 {
     let selection = bind_names(alloc, select, tables, which)?;
     let weighed = weigh_selection(alloc, &selection, tables)?;
-    let classes = find_classes(alloc, &selection)?;
-    let variables = find_structure(alloc, &selection, tables, classes.as_slice())?;
-    let filters = find_filters(alloc, &selection, tables, classes.as_slice())?;
+    let (variables, filters) = find_parts(alloc, &selection, tables)?;
     Ok(Query::new(alloc, selection, weighed, variables, filters))
 }
 

@@ -40,9 +40,12 @@ fn is_listed(constants: &[Constant], place: u32, bytes: &[u8]) -> bool
     ensures { result ≡ list_any
         (λ (c : Constant). (c.place == place) && bytes_eq c.bytes bytes.now) constants.now }
 {
-    constants
-        .iter()
-        .any(|c| c.place == place && c.bytes.bytes() == bytes)
+    for constant in constants {
+        if constant.place == place && constant.bytes.bytes() == bytes {
+            return true;
+        }
+    }
+    false
 }
 
 /// The constants that equalities give to the columns of an item, each once.
@@ -69,7 +72,8 @@ fn constants_of(
         if is_listed(constants.as_slice(), place, bytes.bytes()) {
             continue;
         }
-        let bytes = Bytes::from_vec(Vec::from_slice(alloc, bytes.bytes())?);
+        let copy = Vec::from_slice(alloc, bytes.bytes())?;
+        let bytes = Bytes::from_vec(copy);
         constants.push(Constant { place, bytes })?;
     }
     Ok(constants)
@@ -111,7 +115,8 @@ pub(crate) fn filters_of(
     let mut filters = Vec::new(alloc);
     for i in 0..items.len() {
         let width = tables.width(items[i].table);
-        filters.push(filter_of(alloc, classes, equalities, i as u32, width)?)?;
+        let filter = filter_of(alloc, classes, equalities, i as u32, width)?;
+        filters.push(filter)?;
     }
     Ok(filters)
 }

@@ -26,7 +26,12 @@ fn fixes(classes: &[Member], least: (u32, u32), equality: &BoundEquality) -> boo
 fn has_constant(classes: &[Member], equalities: &[BoundEquality], least: (u32, u32)) -> bool
     ensures { result ≡ is_fixed classes.now equalities.now (column_view least) }
 {
-    equalities.iter().any(|e| fixes(classes, least, e))
+    for equality in equalities {
+        if fixes(classes, least, equality) {
+            return true;
+        }
+    }
+    false
 }
 
 /// Whether a column is in the class with this least column, and in another item.
@@ -40,9 +45,12 @@ fn is_in_other(classes: &[Member], least: (u32, u32), column: (u32, u32)) -> boo
 fn has_other(classes: &[Member], least: (u32, u32)) -> bool
     ensures { result ≡ is_elsewhere classes.now (column_view least) }
 {
-    classes
-        .iter()
-        .any(|m| is_in_other(classes, least, m.column))
+    for member in classes {
+        if is_in_other(classes, least, member.column) {
+            return true;
+        }
+    }
+    false
 }
 
 /// Whether a column is the least of a variable.
@@ -65,11 +73,14 @@ pub(crate) fn find_variables(
         (λ v. v.items ≡ filter
         (λ c. is_variable classes.now equalities.now (column_view c)) columns.now) }
 {
-    columns
-        .iter()
-        .copied()
-        .filter(|c| starts_variable(classes, equalities, *c))
-        .collect(alloc)
+    let mut variables = Vec::new(alloc);
+    for column in columns {
+        if !starts_variable(classes, equalities, *column) {
+            continue;
+        }
+        variables.push(*column)?;
+    }
+    Ok(variables)
 }
 
 /// The variables of an item by number, each with the place of its first column there.
@@ -113,7 +124,8 @@ pub(crate) fn places_of_all(
     let mut of_items = Vec::new(alloc);
     for i in 0..items.len() {
         let width = tables.width(items[i].table);
-        of_items.push(places_of(alloc, classes, variables, i as u32, width)?)?;
+        let places = places_of(alloc, classes, variables, i as u32, width)?;
+        of_items.push(places)?;
     }
     Ok(of_items)
 }

@@ -1,7 +1,11 @@
-use Rattle.std.proofs.Common.{◌∙◌, sym, ap, subst}
+use Rattle.std.proofs.Common.{◌∙◌, Option, sym, ap, subst}
+use Rattle.std.specs.Option.{option_or}
 use Rattle.std.proofs.lemmas.Result.{IfOk-from_err}
 use Rattle.anyk_model.specs.Query.{Query}
 use Rattle.bound_query.specs.WeighedQuery.{BoundQuery, Fits}
+use Rattle.query_bind.specs.Binding.{bound_query}
+use Rattle.query_bind.specs.WeightFaults.{range_fault, weights_fault}
+use Rattle.query_bind.specs.declared.fault.BindFault.{BindFault}
 use Rattle.query_bind.proofs.SoundWeights.{keys_in_range, keys_weigh}
 use Rattle.query_bind.proofs.bind_select.bind_by_parts.Goals as goal
 
@@ -14,8 +18,8 @@ returns-clause-fits c =
     let query : Query = c.in_ok-selection.selection in
     let names = c.in_ok-selection.ensures in
     let weights = c.in_ok-weighed.ensures in
-    let structure = c.in_ok-variables.ensures in
-    let filters = c.in_ok-filters.ensures in
+    let structure = c.in_ok-variables.ensures.variables in
+    let filters = c.in_ok-variables.ensures.filters in
     subst (λ (b : BoundQuery). Fits b tables) (sym c.new.ensures) (record {
       some = names.some;
       within = names.within;
@@ -48,14 +52,8 @@ returns-in_err-weighed-clause-fits c = IfOk-from_err c.from_residual-in_err-weig
 pub returns-in_err-weighed-clause-sound : goal.returns-in_err-weighed-clause-sound
 returns-in_err-weighed-clause-sound c = IfOk-from_err c.from_residual-in_err-weighed.result _ c.from_residual-in_err-weighed.ensures.0
 
-pub returns-in_err-classes-clause-query : goal.returns-in_err-classes-clause-query
-returns-in_err-classes-clause-query c = IfOk-from_err c.from_residual-in_err-classes.result _ c.from_residual-in_err-classes.ensures.0
-
-pub returns-in_err-classes-clause-fits : goal.returns-in_err-classes-clause-fits
-returns-in_err-classes-clause-fits c = IfOk-from_err c.from_residual-in_err-classes.result _ c.from_residual-in_err-classes.ensures.0
-
-pub returns-in_err-classes-clause-sound : goal.returns-in_err-classes-clause-sound
-returns-in_err-classes-clause-sound c = IfOk-from_err c.from_residual-in_err-classes.result _ c.from_residual-in_err-classes.ensures.0
+pub returns-clause-fault : goal.returns-clause-fault
+returns-clause-fault c = tt
 
 pub returns-in_err-variables-clause-query : goal.returns-in_err-variables-clause-query
 returns-in_err-variables-clause-query c = IfOk-from_err c.from_residual-in_err-variables.result _ c.from_residual-in_err-variables.ensures.0
@@ -66,14 +64,12 @@ returns-in_err-variables-clause-fits c = IfOk-from_err c.from_residual-in_err-va
 pub returns-in_err-variables-clause-sound : goal.returns-in_err-variables-clause-sound
 returns-in_err-variables-clause-sound c = IfOk-from_err c.from_residual-in_err-variables.result _ c.from_residual-in_err-variables.ensures.0
 
-pub returns-in_err-filters-clause-query : goal.returns-in_err-filters-clause-query
-returns-in_err-filters-clause-query c = IfOk-from_err c.from_residual-in_err-filters.result _ c.from_residual-in_err-filters.ensures.0
-
-pub returns-in_err-filters-clause-fits : goal.returns-in_err-filters-clause-fits
-returns-in_err-filters-clause-fits c = IfOk-from_err c.from_residual-in_err-filters.result _ c.from_residual-in_err-filters.ensures.0
-
-pub returns-in_err-filters-clause-sound : goal.returns-in_err-filters-clause-sound
-returns-in_err-filters-clause-sound c = IfOk-from_err c.from_residual-in_err-filters.result _ c.from_residual-in_err-filters.ensures.0
-
-pub returns-clause-fault : goal.returns-clause-fault
-returns-clause-fault c = tt
+pub returns-clause-sound : goal.returns-clause-sound
+returns-clause-sound c =
+    let tables = c.args.tables.now in
+    let query : Query = c.in_ok-selection.selection in
+    let weights_faults = λ (q : Query). option_or (weights_fault tables q.items q.order) (range_fault tables q.items q.order) in
+    ap (λ (o : Option BindFault). option_or o (weights_faults (bound_query c.args.select.now tables c.args.which.now))) c.in_ok-selection.ensures.sound
+    ∙ ap weights_faults (sym c.in_ok-selection.ensures.query)
+    ∙ ap (λ (o : Option BindFault). option_or o (range_fault tables query.items query.order)) c.in_ok-weighed.ensures.weights
+    ∙ c.in_ok-weighed.ensures.range

@@ -63,7 +63,7 @@ loop-equality-preserved c =
     let list = map constant_view c.loop-equality.constants.items in
     let p = c.in-Some.place in
     let bytes = c.from_vec-bytes.result in
-    let copied : bytes ≡ c.in-Constant.bytes = c.from_vec-bytes.ensures ∙ c.in_ok-from_slice.ensures.items ∙ c.bytes-in-loop-equality.ensures in
+    let copied : bytes ≡ c.in-Constant.bytes = c.from_vec-bytes.ensures ∙ c.in_ok-copy.ensures.items ∙ c.bytes-in-loop-equality.ensures in
     let constant : side_view e.right ≡ of_constant bytes = ap side_view c.in-Constant.is ∙ ap of_constant (sym copied) in
     let here = subst (λ (z : Column). IsFirstPlace label c.args.item c.args.width z p) c.least_of-least.ensures c.in-Some.ensures in
     let pushed : map constant_view c.push.new.self.items ≡ list ++ (p, bytes) ∷ [] =
@@ -72,8 +72,8 @@ loop-equality-preserved c =
     (subst (λ (l : List Equality). HaveConstants label c.args.item c.args.width l (list ++ (p, bytes) ∷ [])) (equalities_more es i e c.loop-equality-test.true c.equality-item.is)
     (constants_more label c.args.item c.args.width (map equality_view (take i es)) (equality_view e) bytes p list c.loop-equality.invariant constant here))
 
-pub returns-in_err-from_slice : goal.returns-in_err-from_slice
-returns-in_err-from_slice c = IfOk-from_err c.from_residual.result _ c.from_residual.ensures.0
+pub returns-in_err-copy : goal.returns-in_err-copy
+returns-in_err-copy c = IfOk-from_err c.from_residual.result _ c.from_residual.ensures.0
 
 pub returns-in_err-push : goal.returns-in_err-push
 returns-in_err-push c = IfOk-from_err c.from_residual-in_err-push.result _ c.from_residual-in_err-push.ensures.0

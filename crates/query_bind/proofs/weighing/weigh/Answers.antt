@@ -102,3 +102,9 @@ returns-in-Some-clause-weights c = tt
 
 pub returns-in-Some-clause-range : goal.returns-in-Some-clause-range
 returns-in-Some-clause-range c = tt
+
+pub overflow_cast-i : goal.overflow_cast-i
+overflow_cast-i c = omega (arith, c.requires.few, c.loop-i-test.true)
+
+pub overflow_add-i : goal.overflow_add-i
+overflow_add-i c = omega (arith, c.requires.few, c.loop-i-test.true)
