@@ -112,7 +112,7 @@ has_name name names = list_any (λ other. bytes_eq other name) names
 pub record HasFirsts (all : List (List ℕ × List ℕ)) (i : ℕ) (firsts : List (List ℕ × List ℕ)) : Type 0 where
   pub tables : tables_of firsts ++ first_uses_after (tables_of firsts) (tables_of (drop i all)) ≡ first_uses_after [] (tables_of all)
   pub entries : (named : List (List ℕ × List ℕ)) → AllByRecursion (IsEntryOf named) all → AllByRecursion (IsEntryOf named) firsts
-  pub few : length firsts ≤ i
+  pub few : length firsts + length (drop i all) ≤ length all
 
 -- an earlier entry has the same table as the entry at i
 pub firsts_same : (all : List (List ℕ × List ℕ)) (i : ℕ) (e : List ℕ × List ℕ) (firsts : List (List ℕ × List ℕ)) → i < length all → e ≡ get_or all i e
@@ -125,10 +125,11 @@ firsts_same all i e firsts inside is has h =
     ap (λ (l : List (List ℕ × List ℕ)). first_uses_after names (tables_of l)) step
     ∙ ap (λ (b : Bool). if b then first_uses_after names later else e.0 ∷ first_uses_after (names ++ e.0 ∷ []) later) has in
     let few = h.few in
+    let shorter : length (drop i all) ≡ length (e ∷ drop (i + 1) all) = ap length step in
     record {
       tables = ap (λ (l : List (List ℕ)). names ++ l) (sym one) ∙ h.tables;
       entries = h.entries;
-      few = omega (arith, few);
+      few = omega (arith, few, shorter);
     }
 
 pub all_at : {A : Type 0} (P : A → Type 0) (xs : List A) (i : ℕ) (d : A) → i < length xs → AllByRecursion P xs → P (get_or xs i d)
@@ -148,6 +149,7 @@ firsts_more all i e firsts inside is has h =
     ∙ ap (λ (b : Bool). if b then first_uses_after names later else e.0 ∷ first_uses_after (names ++ e.0 ∷ []) later) has in
     let more : tables_of (firsts ++ e ∷ []) ≡ names ++ e.0 ∷ [] = map-append (λ (x : List ℕ × List ℕ). x.0) firsts (e ∷ []) in
     let few = h.few in
+    let shorter : length (drop i all) ≡ length (e ∷ drop (i + 1) all) = ap length step in
     let longer : length (firsts ++ e ∷ []) ≡ length firsts + 1 = length-append firsts (e ∷ []) in
     record {
       tables = ap (λ (l : List (List ℕ)). l ++ first_uses_after l later) more
@@ -155,7 +157,7 @@ firsts_more all i e firsts inside is has h =
           ∙ ap (λ (l : List (List ℕ)). names ++ l) (sym one) ∙ h.tables;
       entries = λ named known. all_append (IsEntryOf named) firsts e (h.entries named known)
           (let P : List ℕ × List ℕ → Type 0 = IsEntryOf named in subst P (sym is) (all_at P all i e inside known));
-      few = omega (arith, few, longer);
+      few = omega (arith, few, longer, shorter);
     }
 
 pub no_firsts : (all : List (List ℕ × List ℕ)) → HasFirsts all 0 []

@@ -129,9 +129,7 @@ fn bind_queries<'a>(
         let branch = told_branch(several, queries.len());
         let (own, later) = rest.split_at(select.items.as_slice().len());
         let query = bind_query(alloc, branch, select, tables, own)?;
-        let Ok(()) = queries.push(query) else {
-            return Err(Refusal::NoMemory);
-        };
+        queries.push(query)?;
         rest = later;
     }
     Ok(queries)

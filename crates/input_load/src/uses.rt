@@ -58,9 +58,7 @@ fn add_entries<'a>(
         let Some(entry) = entry_of(named, item.table.bytes()) else {
             return Err(Refusal::UnknownTable(item.at));
         };
-        let Ok(()) = entries.push(entry) else {
-            return Err(Refusal::NoMemory);
-        };
+        entries.push(entry)?;
     }
     Ok(())
 }

@@ -4,7 +4,7 @@ use Rattle.std.specs.List.{AllByRecursion}
 use Rattle.refusal_lines.specs.RefusalReasons.{reason_of}
 use Rattle.verdict.specs.Loading.{all_items, are_several, first_uses, told_branch}
 use Rattle.input_load.specs.Limits.{IsWithinLimits}
-use Rattle.input_load.proofs.BoundQueries.{HasQueries, all_take, no_queries, numbers_length, own_is_lem, queries_end, queries_more, queries_refused}
+use Rattle.input_load.proofs.BoundQueries.{HasQueries, all_take, enough, no_queries, numbers_length, own_is_lem, queries_end, queries_more, queries_refused}
 use Rattle.input_load.proofs.FirstUses.{all_at}
 use Rattle.input_load.proofs.binding.bind_queries.Goals as goal
 
@@ -28,7 +28,7 @@ loop-select-preserved c =
     let branch = c.told_branch-branch.ensures ∙ ap (λ n. told_branch (are_several selects) (n + 1)) number in
     queries_more selects c.args.tables.now i c.select-item.result c.loop-select.rest.now c.loop-select.queries.items c.loop-select-test.true c.select-item.is c.loop-select.invariant
     c.split_at.result.0.now c.split_at.result.1.now c.told_branch-branch.result c.in_ok-query.query _ (rw c.as_slice.ensures at c.split_at.ensures.front)
-    (rw c.as_slice.ensures at c.split_at.ensures.back) branch c.in_ok-query.ensures.bound c.in_ok-query.ensures.fits c.in-Ok.ensures.items
+    (rw c.as_slice.ensures at c.split_at.ensures.back) branch c.in_ok-query.ensures.bound c.in_ok-query.ensures.fits c.in_ok-push.ensures.items
 
 pub loop-select-init : goal.loop-select-init
 loop-select-init c =
@@ -67,3 +67,9 @@ returns-in_err-query-clause-count c = IfOk-from_err c.from_residual.result _ c.f
 
 pub returns-in_err-query-clause-fits : goal.returns-in_err-query-clause-fits
 returns-in_err-query-clause-fits c = IfOk-from_err c.from_residual.result _ c.from_residual.ensures.0
+
+pub split_at-requires : goal.split_at-requires
+split_at-requires c =
+    rw c.as_slice.ensures
+    (enough c.args.selects.now c.args.tables.now c.loop-select.select-index c.select-item.result c.loop-select.rest.now c.loop-select.queries.items c.loop-select-test.true
+    c.select-item.is c.loop-select.invariant)

@@ -24,7 +24,7 @@ loop-item-preserved c =
     let item = c.item-item.result in
     let entry = c.in-Some.entry.now in
     let some = rw c.bytes.ensures at (sym c.entry_of.ensures ∙ ap (option_map (λ e. e.now)) c.in-Some.is) in
-    let pushed = ap (map (λ e. named_pair e.now)) c.in-Ok.ensures.items ∙ map-append (λ e. named_pair e.now) c.loop-item.entries.items (c.in-Some.entry ∷ []) in
+    let pushed = ap (map (λ e. named_pair e.now)) c.in_ok-push.ensures.items ∙ map-append (λ e. named_pair e.now) c.loop-item.entries.items (c.in-Some.entry ∷ []) in
     rw pushed
     (entries_more (map named_pair named) c.args.items.now c.loop-item.item-index item _ _ (named_pair entry) c.loop-item-test.true c.item-item.is
     (found_table item.table named entry some) (found_entry item.table named entry some) c.loop-item.invariant)

@@ -43,3 +43,10 @@ returns-clause-tables c =
 
 pub returns-clause-entries : goal.returns-clause-entries
 returns-clause-entries c = c.loop-entry.invariant.entries
+
+pub returns-clause-few : goal.returns-clause-few
+returns-clause-few c =
+    let few = c.loop-entry.invariant.few in
+    let longer = length-map c.args.entries.now (λ e. named_pair e.now) in
+    let firsts = length-map c.loop-entry.firsts.items (λ e. named_pair e.now) in
+    omega (arith, few, longer, firsts)
