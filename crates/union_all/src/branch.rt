@@ -83,10 +83,9 @@ impl<'q, E: Ranked + Drop> Branch<'q, E> {
         &mut self,
         steps: &mut Steps<L>,
     ) -> Result<Option<[u32; 16]>, NoMemory>
-        ensures found { IfOk result (λ o. IfSome o (λ rows. self.old.left
-            ≡ take (length self.old.bound.query.items) rows ∷ self.new.left)) }
-        ensures called { IfOk result
-            (λ o. IfSome o (λ _. HasCalled self.old.engine self.new.engine)) }
+        ensures found { IfOk result (λ o. IfSome o (λ rows. (self.old.left
+            ≡ take (length self.old.bound.query.items) rows ∷ self.new.left)
+            × HasCalled self.old.engine self.new.engine)) }
         ensures end { IfOk result
             (λ o. IfNone o ((self.old.left ≡ []) × (self.new ≡ self.old)
             × (steps.new ≡ steps.old))) }

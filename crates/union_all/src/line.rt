@@ -70,8 +70,7 @@ pub fn write_line_of(
         (tagged_view all tagged.now)) }
 {
     let query = &queries[tagged.branch as usize];
-    writer.numbers.clear();
-    push_shown(&mut writer.numbers, tagged, query, tables, style)?;
+    fill_numbers(&mut writer.numbers, tagged, query, tables, style)?;
     let lacking = lacking_items(queries, query, style);
     let numbers = writer.numbers.as_slice();
     let mut fields = Fields::new(alloc);
@@ -126,8 +125,8 @@ fn push_fields<'a>(
     push_empty(fields, lacking)
 }
 
-/// Appends the numbers that the style shows, in decimal.
-fn push_shown(
+/// Puts the numbers that the style shows, in decimal, in place of these.
+fn fill_numbers(
     numbers: &mut Numbers,
     tagged: &Tagged,
     query: &Query,
@@ -137,13 +136,13 @@ fn push_shown(
     requires fits { Fits query.now tables.now }
     requires rows { HasRows query.now tables.now tagged.now.rows }
     ensures { let chosen = rows_of query.now tagged.now.rows in
-        OnOk result (numbers.new.items ≡ numbers.old.items
-        ++ ((if style.now.ranks then map
+        OnOk result (numbers.new.items ≡ (if style.now.ranks then map
         (λ k. signed_decimal
         (sum_of query.now.query tables.now chosen k)) query.now.query.order else [])
         ++ (if style.now.rows
-        then decimal (tagged.now.branch + 1) ∷ map decimal chosen else []))) }
+        then decimal (tagged.now.branch + 1) ∷ map decimal chosen else [])) }
 {
+    numbers.clear();
     if style.ranks {
         push_sums(numbers, query, tables, &tagged.rows)?;
     }

@@ -16,11 +16,10 @@ returns c =
     let q = c.index-queries-tagged.result in
     let at = c.index-queries-tagged.is in
     let are = rows_of bounds t.branch c.requires.branch q at tables t.rows c.requires.rows in
-    let numbers = c.push_shown.new.numbers.items in
-    let shown = rw c.clear.ensures.items at c.in_ok-push_shown.ensures in
+    let numbers = c.fill_numbers.new.numbers.items in
     let told = all_first _ _ _ (ap (map (λ f. f.now)) c.new-fields.ensures.items) (rw c.as_slice-numbers.ensures at c.in_ok-push_fields.ensures) in
     let all : map (λ f. f.now) c.push_fields.new.fields.items ≡ union_line_fields (queries_in bounds) tables style (tagged_view (queries_in bounds) t) =
-    line_is bounds tables style t.branch t.rows c.requires.branch q at are numbers _ c.lacking_items-lacking.result shown c.lacking_items-lacking.ensures told in
+    line_is bounds tables style t.branch t.rows c.requires.branch q at are numbers _ c.lacking_items-lacking.result c.in_ok-fill_numbers.ensures c.lacking_items-lacking.ensures told in
     let line = rw c.as_slice.ensures at c.write.ensures in
     let kept : c.match-fields-2.writer-inside.records ≡ c.write.new.self =
     elim c.match-fields-2.branch [ in-Heap-2 w ↦ search rules | in-Inline-2 w ↦ search rules ] in

@@ -83,7 +83,7 @@ invariant_of-self-2 g c =
     let tables = c.self.inside.tables.now in
     let h = subst (λ (l : List BranchView). HasFirst (queries_of l) tables (lists_of l) (length l) c.in-Some.first) c.as_slice.ensures.value (rw c.in-Some.is at c.first_branch.ensures) in
     branches_taken tables branches c.in-Some.first h.inside c.index_mut.result.now c.take.new.self c.index_mut.ensures.value c.take.ensures.bound c.self.invariant
-    _ (rw c.in-Some-2.is at c.in_ok-rows.ensures.found)
+    _ (rw c.in-Some-2.is at c.in_ok-rows.ensures.found).0
 
 pub returns-clause-found : goal.returns-clause-found
 returns-clause-found g c =
@@ -96,11 +96,10 @@ returns-clause-found g c =
     let after = slice_set branches first y in
     let rows = c.in-Some-2.rows in
     let found = rw c.in-Some-2.is at c.in_ok-rows.ensures.found in
-    let told = rw c.in-Some-2.is at c.in_ok-rows.ensures.called in
     let taken : x.left ≡ take (length (union.branch_at (queries_of branches) first).items) rows ∷ y.left =
-    found ∙ ap (λ (q : Query). take (length q.items) rows ∷ y.left) (sym (query_at branches first h.inside x c.index_mut.ensures.value)) in
+    found.0 ∙ ap (λ (q : Query). take (length q.items) rows ∷ y.left) (sym (query_at branches first h.inside x c.index_mut.ensures.value)) in
     let head = rest_taken tables branches first h.inside x y c.index_mut.ensures.value c.take.ensures.bound c.self.invariant _ taken h in
-    let called = is_called tables branches first h.inside x y c.index_mut.ensures.value c.take.ensures.bound g.E.Ranked.share c.args.steps.now c.take.new.steps told c.take.ensures.cost c.take.ensures.share in
+    let called = is_called tables branches first h.inside x y c.index_mut.ensures.value c.take.ensures.bound g.E.Ranked.share c.args.steps.now c.take.new.steps found.1 c.take.ensures.cost c.take.ensures.share in
     subst
     (λ (m : MergeView). (m.rest ≡ tagged_view m.queries (record { branch = first; rows = rows }) ∷ (merged tables after).rest) × IsCalled g.E.Ranked.share m (merged tables after) first c.args.steps.now c.take.new.steps)
     c.self.view_is (head, called)
