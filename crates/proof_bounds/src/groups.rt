@@ -35,7 +35,8 @@ fn no_groups(alloc: Global, nodes: u32, keys: Keys) -> Result<Vec<HashedIndex>, 
 {
     let mut groups = Vec::new(alloc);
     for _node in 0..nodes {
-        groups.push(HashedIndex::new(alloc, keys))?;
+        let none = HashedIndex::new(alloc, keys);
+        groups.push(none)?;
     }
     Ok(groups)
 }

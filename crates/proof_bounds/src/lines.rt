@@ -54,11 +54,12 @@ fn no_bounds<R: Rank>(alloc: Global, nodes: u32) -> Result<Vec<NodeBounds<R>>, A
 {
     let mut bounds = Vec::new(alloc);
     for _node in 0..nodes {
-        bounds.push(NodeBounds {
+        let of_node = NodeBounds {
             own: Vec::new(alloc),
             named: Vec::new(alloc),
             ranks: Vec::new(alloc),
-        })?;
+        };
+        bounds.push(of_node)?;
     }
     Ok(bounds)
 }

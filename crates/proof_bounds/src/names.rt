@@ -43,7 +43,9 @@ fn own_numbers<R: Rank, L: Ledger>(
     let count = raw.len(node);
     let mut own = Vec::with_capacity(alloc, count as usize)?;
     for place in 0..count {
-        own.push(group_number(groups, group_link(raw, node, place), steps))?;
+        let link = group_link(raw, node, place);
+        let number = group_number(groups, link, steps);
+        own.push(number)?;
     }
     Ok(own)
 }
@@ -72,7 +74,9 @@ fn named_numbers<R: Rank, L: Ledger>(
     let count = raw.len(parent);
     let mut named = Vec::with_capacity(alloc, count as usize)?;
     for row in 0..count {
-        named.push(group_number(groups, raw.link(parent, row, child), steps))?;
+        let link = raw.link(parent, row, child);
+        let number = group_number(groups, link, steps);
+        named.push(number)?;
     }
     Ok(named)
 }

@@ -10,5 +10,5 @@ pub loop-node-preserved : goal.loop-node-preserved
 loop-node-preserved c =
     let old = c.loop-node.groups.items in
     c.in_ok-push.ensures.items
-    ∙ ap (λ x. old ++ (x ∷ [])) c.new.ensures
+    ∙ ap (λ x. old ++ (x ∷ [])) c.new-none.ensures
     ∙ ap (λ xs. xs ++ ([] ∷ [])) c.loop-node.invariant ∙ replicate-append-replicate c.loop-node._node 1 []

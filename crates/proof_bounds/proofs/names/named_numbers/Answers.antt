@@ -8,18 +8,18 @@ use Rattle.proof_bounds.proofs.names.named_numbers.Goals as goal
 pub loop-row-preserved : goal.loop-row-preserved
 loop-row-preserved g c =
     let up = ap (λ s. s.parent) c.shape.ensures in
-    let link : c.link.result ≡ named_link c.args.raw.now c.args.node c.loop-row.row =
-    c.link.ensures ∙ ap (λ p. child_link c.args.raw.now p c.loop-row.row c.child_place-child.result) up
+    let link : c.link-link.result ≡ named_link c.args.raw.now c.args.node c.loop-row.row =
+    c.link-link.ensures ∙ ap (λ p. child_link c.args.raw.now p c.loop-row.row c.child_place-child.result) up
     ∙ ap (child_link c.args.raw.now (shape_parent c.args.raw.now.shapes c.args.node) c.loop-row.row) c.child_place-child.ensures.place in
     record {
-      count = ap length c.in_ok-push.ensures.items ∙ length-append c.loop-row.named.items (c.group_number.result ∷ [])
+      count = ap length c.in_ok-push.ensures.items ∙ length-append c.loop-row.named.items (c.group_number-number.result ∷ [])
           ∙ ap (λ n. n + 1) c.loop-row.invariant.count;
       numbers = λ r l.
           ap (λ xs. get_or xs r None) c.in_ok-push.ensures.items
-          ∙ pushed_more c.loop-row.named.items c.group_number.result None
+          ∙ pushed_more c.loop-row.named.items c.group_number-number.result None
           (λ r. position (nat_eq (named_link c.args.raw.now c.args.node r)) c.args.groups.now) c.loop-row.row c.loop-row.invariant.count
           c.loop-row.invariant.numbers
-          (c.group_number.ensures ∙ ap (λ x. position (nat_eq x) c.args.groups.now) link) r l;
+          (c.group_number-number.ensures ∙ ap (λ x. position (nat_eq x) c.args.groups.now) link) r l;
     }
 
 pub returns-in_err-named-clause-count : goal.returns-in_err-named-clause-count

@@ -18,12 +18,12 @@ returns-in_err-push-clause-numbers g c = IfOk-from_err c.from_residual-in_err-pu
 
 pub loop-place-preserved : goal.loop-place-preserved
 loop-place-preserved g c = record {
-  count = ap length c.in_ok-push.ensures.items ∙ length-append c.loop-place.own.items (c.group_number.result ∷ [])
+  count = ap length c.in_ok-push.ensures.items ∙ length-append c.loop-place.own.items (c.group_number-number.result ∷ [])
       ∙ ap (λ n. n + 1) c.loop-place.invariant.count;
   numbers = λ r l.
       ap (λ xs. get_or xs r None) c.in_ok-push.ensures.items
-      ∙ pushed_more c.loop-place.own.items c.group_number.result None
+      ∙ pushed_more c.loop-place.own.items c.group_number-number.result None
       (λ r. position (nat_eq (group_link c.args.raw.now c.args.node r)) c.args.groups.now) c.loop-place.place c.loop-place.invariant.count
       c.loop-place.invariant.numbers
-      (c.group_number.ensures ∙ ap (λ x. position (nat_eq x) c.args.groups.now) c.group_link.ensures) r l;
+      (c.group_number-number.ensures ∙ ap (λ x. position (nat_eq x) c.args.groups.now) c.group_link-link.ensures) r l;
 }
