@@ -19,7 +19,7 @@ mod sums;
 mod tagged;
 
 pub use header::header_of;
-pub use line::{line_of, write_line_of};
+pub use line::write_line_of;
 pub use merge::Merge;
 pub use tagged::Tagged;
 

@@ -1,5 +1,5 @@
 //! The record of a member of a union.
-ghost use Rattle.std.specs.Prelude.{◌≡◌, ◌+◌, ◌-◌, ◌<◌, ◌++◌, ◌∷◌, [], if◌then◌else◌, length, map, option_map, replicate, IfOk, OnOk};
+ghost use Rattle.std.specs.Prelude.{◌≡◌, ◌+◌, ◌-◌, ◌<◌, ◌++◌, ◌∷◌, [], if◌then◌else◌, length, map, option_map, replicate, OnOk};
 ghost use Rattle.std.specs.Fmt.{decimal, signed_decimal};
 ghost use Rattle.std.specs.List.{All};
 ghost use Rattle.anyk_model.specs.Output.{optional_field};
@@ -23,35 +23,11 @@ use std::alloc::Global;
 use step_counter::NoMemory;
 use table_store::Tables;
 
-/// The record of a member: the cursor's name if there is one, the selected columns of its branch,
-/// the sums of the order keys if they are shown, and if row numbers are shown the branch, from 1,
-/// its row numbers, and an empty field for each item that it has less than the longest branch.
-/// `NoMemory` if memory is refused.
-pub fn line_of(
-    alloc: Global,
-    tagged: &Tagged,
-    queries: &[Query],
-    tables: &Tables,
-    style: &Style<'_>,
-) -> Result<Vec<u8>, NoMemory>
-    requires branch { tagged.now.branch < length queries.now }
-    requires fits { All (λ q. Fits q tables.now) queries.now }
-    requires rows { let all = map (λ q. q.query) queries.now in
-        let shown = tagged_view all tagged.now in
-        IsCombination (row_counts (branch_at all shown.branch).items tables.now) shown.rows }
-    ensures { let all = map (λ q. q.query) queries.now in IfOk result (λ text. text.items
-        ≡ output.union_line_text all tables.now (style_view style.now)
-        (tagged_view all tagged.now)) }
-{
-    let mut writer = AnswerWriter::new(alloc);
-    write_line_of(alloc, &mut writer, tagged, queries, tables, style)?;
-    let text = Vec::from_slice(alloc, writer.text())?;
-    Ok(text)
-}
-
-/// Writes the record of a member, as `line_of` gives it, by a writer that is kept for many records.
-/// `NoMemory` if memory is refused; the writer's text is then unspecified, and further records can
-/// be written.
+/// Writes the record of a member: the cursor's name if there is one, the selected columns of its
+/// branch, the sums of the order keys if they are shown, and if row numbers are shown the branch,
+/// from 1, its row numbers, and an empty field for each item that it has less than the longest
+/// branch. `NoMemory` if memory is refused; the writer's text is then unspecified, and further
+/// records can be written.
 pub fn write_line_of(
     alloc: Global,
     writer: &mut AnswerWriter,
