@@ -1,14 +1,10 @@
-use Rattle.std.proofs.Common.{rules, ◌≡◌, ◌+◌, ◌-◌, ◌*◌, ◌<◌, List, ◌∷◌, length, take, get_or, Option, Some, IsSome, IfSome, sym, ap, ◌∙◌, subst, arith}
-use Rattle.std.specs.List.{All}
-use Rattle.std.specs.List.Sorted.{IsPermutation}
-use Rattle.std.proofs.lemmas.List.Sorted.{length_permutation}
+use Rattle.std.proofs.Common.{◌+◌, ◌-◌, ◌*◌, ◌<◌, List, length, sym, ap, subst, arith}
 use Rattle.rank_key.specs.Bits.{bit_length}
 use Rattle.rank_key.proofs.BitLemmas.{bit_length_rises}
 use Rattle.stream_store.specs.Entries.{Entries}
 use Rattle.take2_heap.specs.declared.entry.Entry.{Entry}
 use Rattle.anyk_part.specs.declared.candidate.Candidate.{Candidate}
 use Rattle.anyk_part.specs.declared.candidate.Link.{Link}
-use Rattle.anyk_part.specs.Regions.{held_by, IsEntry}
 use Rattle.anyk_part.proofs.Divisions.{IsDivided, division_init, division_next, choice_few, choice_stays, choice_taken, times_next, times_within}
 use Rattle.anyk_part.proofs.frontier.Frontier.divide.Given.{Over}
 use Rattle.anyk_part.proofs.frontier.Frontier.divide.Goals.{After-pop, Else-choice}
