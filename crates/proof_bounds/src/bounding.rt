@@ -40,7 +40,8 @@ pub fn with_bounds<R: Rank, L: Ledger>(
 {
     let _nodes = raw.nodes();
     let PlacedLines { tops, mut bounds } = placed_lines(alloc, &raw, proof, steps)?;
-    let groups = line_groups(alloc, &raw, tables.keys(), proof, tops.as_slice(), steps)?;
+    let keys = tables.keys();
+    let groups = line_groups(alloc, &raw, keys, proof, tops.as_slice(), steps)?;
     name_all(alloc, &raw, groups.as_slice(), bounds.as_mut_slice(), steps)?;
     Ok(BoundedTree { raw, bounds })
 }

@@ -93,7 +93,8 @@ pub(crate) fn placed_lines<R: Rank, L: Ledger>(
         };
         let node = bound.node - 1;
         let rank = rank_of_places(raw, node, &places, steps);
-        tops.push(places[node as usize])?;
+        let top = places[node as usize];
+        tops.push(top)?;
         let of_node = &mut bounds[node as usize];
         of_node.ranks.push(rank)?;
     }

@@ -97,9 +97,11 @@ pub(crate) fn name_groups<R: Rank, L: Ledger>(
         (AreNamed raw.now groups.now node bounds.new.own.items bounds.new.named.items) }
     ensures ranks { bounds.new.ranks ≡ bounds.old.ranks }
 {
-    bounds.own = own_numbers(alloc, raw, node, groups, steps)?;
+    let own = own_numbers(alloc, raw, node, groups, steps)?;
+    bounds.own = own;
     if node > 0 {
-        bounds.named = named_numbers(alloc, raw, node, groups, steps)?;
+        let named = named_numbers(alloc, raw, node, groups, steps)?;
+        bounds.named = named;
     }
     Ok(())
 }

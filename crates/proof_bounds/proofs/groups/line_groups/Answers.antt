@@ -1,6 +1,6 @@
 use Rattle.std.proofs.Common.{◌≡◌, ◌≢◌, ◌+◌, ◌-◌, ◌<◌, ◌++◌, ◌∷◌, [], ℕ, length, get_or, sym, ap, subst, ◌∙◌, inr, arith}
 use Rattle.std.proofs.Math.ListN.{set}
-use Rattle.std.proofs.lemmas.List.{length-map}
+use Rattle.std.proofs.lemmas.List.{get_or-replicate, length-map, length-replicate}
 use Rattle.tdp_core.proofs.RawReads.{list_read}
 use Rattle.proof_text.specs.Certificate.{BoundLine}
 use Rattle.proof_text.specs.ProofView.{bound_view, proof_view}
@@ -139,3 +139,13 @@ returns-clause-groups g c =
     omega (arith, c.loop-line-test.false, c.loop-line.auto.line-end, ap length c.deref-bound-items.ensures.value) in
     subst (λ n. AreLineGroups c.args.raw.now (proof_view c.args.proof.now) c.args.tops.now n c.loop-line.groups.items) all
     c.loop-line.invariant
+
+pub loop-line-init : goal.loop-line-init
+loop-line-init g c =
+    let none = c.in_ok-groups.ensures in
+    let count = c.nodes.ensures.count in
+    record {
+      each_node = ap length none ∙ length-replicate c.nodes.result [] ∙ count;
+      links = λ v l. ap (λ xs. get_or xs v []) none ∙ get_or-replicate c.nodes.result v [] [] (omega (arith, l, count));
+      apart = λ v i j l m. absurd (omega (arith, m));
+    }
