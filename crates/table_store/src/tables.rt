@@ -63,9 +63,7 @@ impl Tables {
         ensures err { OnErr result (self.new ≡ self.old) }
     {
         let number = self.tables.len() as u32;
-        let Ok(()) = self.tables.push(table) else {
-            return Err(NoMemory);
-        };
+        self.tables.push(table)?;
         Ok(number)
     }
 

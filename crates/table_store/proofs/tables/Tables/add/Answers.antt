@@ -13,9 +13,9 @@ invariant_of-self-2 c =
     let few : length old + 1 ≤ 16 = omega (arith, c.requires.few, ap length c.self.view_is, length-map old stored_view) in
     let whole =
     subst (λ (tables : List Table). IsStored (with_tables [] (tables ++ stored_view c.args.table ∷ [])) c.args.table) (sym c.self.view_is) c.requires.stored in
-    rw c.in-Ok.ensures.items (keeps_push old c.args.table c.self.invariant whole c.requires.sound few)
+    rw c.in_ok-push.ensures.items (keeps_push old c.args.table c.self.invariant whole c.requires.sound few)
 
 pub returns-clause-added : goal.returns-clause-added
 returns-clause-added c =
-    ap stored_views c.in-Ok.ensures.items ∙ shown_push c.self.inside.tables.items c.args.table
+    ap stored_views c.in_ok-push.ensures.items ∙ shown_push c.self.inside.tables.items c.args.table
     ∙ ap (λ (tables : List Table). tables ++ stored_view c.args.table ∷ []) c.self.view_is
