@@ -103,3 +103,9 @@ returns-in-Ok-clause-prompt g c =
     let accepts = judged_accepts (command_of c.args.task.now) before after found c.in-Ok.ensures.judged in
     prompt_found (command_of c.args.task.now) (known_to (built (command_of c.args.task.now)) (g.F.Shelf.files c.args.shelf.now)) found (g.S.Sink.written c.args.out.now) (g.S.Sink.written c.print_planned.new.out)
     c.args.steps.now c.print_planned.new.steps accepts (c.print_planned.ensures.paced c.args.steps.now c.in-Ok.ensures.cost)
+
+pub print_planned-requires-clause-plans : goal.print_planned-requires-clause-plans
+print_planned-requires-clause-plans g c = c.in-Ok.ensures.plans
+
+pub print_planned-requires-clause-alone : goal.print_planned-requires-clause-alone
+print_planned-requires-clause-alone g c = c.in-Ok.ensures.alone

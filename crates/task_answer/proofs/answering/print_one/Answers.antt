@@ -44,3 +44,33 @@ returns-in-SmallLex-clause-paced g c = rw c.in-SmallLex.is c.print_plan-in-Small
 
 pub returns-in-Lex-clause-paced : goal.returns-in-Lex-clause-paced
 returns-in-Lex-clause-paced g c = rw c.in-Lex.is c.print_plan-in-Lex.ensures.paced
+
+pub print_plan-requires-clause-plan : goal.print_plan-requires-clause-plan
+print_plan-requires-clause-plan g c = rw c.in-Packed.is at c.requires.plan
+
+pub print_plan-requires-clause-alone : goal.print_plan-requires-clause-alone
+print_plan-requires-clause-alone g c = c.requires.alone
+
+pub print_plan-requires-in-MiddleSum-clause-plan : goal.print_plan-requires-in-MiddleSum-clause-plan
+print_plan-requires-in-MiddleSum-clause-plan g c = rw c.in-MiddleSum.is at c.requires.plan
+
+pub print_plan-requires-in-MiddleSum-clause-alone : goal.print_plan-requires-in-MiddleSum-clause-alone
+print_plan-requires-in-MiddleSum-clause-alone g c = c.requires.alone
+
+pub print_plan-requires-in-Sum-clause-plan : goal.print_plan-requires-in-Sum-clause-plan
+print_plan-requires-in-Sum-clause-plan g c = rw c.in-Sum.is at c.requires.plan
+
+pub print_plan-requires-in-Sum-clause-alone : goal.print_plan-requires-in-Sum-clause-alone
+print_plan-requires-in-Sum-clause-alone g c = c.requires.alone
+
+pub print_plan-requires-in-SmallLex-clause-plan : goal.print_plan-requires-in-SmallLex-clause-plan
+print_plan-requires-in-SmallLex-clause-plan g c = rw c.in-SmallLex.is at c.requires.plan
+
+pub print_plan-requires-in-SmallLex-clause-alone : goal.print_plan-requires-in-SmallLex-clause-alone
+print_plan-requires-in-SmallLex-clause-alone g c = c.requires.alone
+
+pub print_plan-requires-in-Lex-clause-plan : goal.print_plan-requires-in-Lex-clause-plan
+print_plan-requires-in-Lex-clause-plan g c = rw c.in-Lex.is at c.requires.plan
+
+pub print_plan-requires-in-Lex-clause-alone : goal.print_plan-requires-in-Lex-clause-alone
+print_plan-requires-in-Lex-clause-alone g c = c.requires.alone

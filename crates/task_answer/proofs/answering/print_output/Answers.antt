@@ -85,3 +85,39 @@ returns-in-Prove-clause-printed g c =
     rw c.in-Prove.is
     (λ proof. c.print_certificate.ensures.printed c.args.tables.now c.requires.fits
     (subst (λ (best : Option ℕ). IsPlanOf g.R.Rank.KEYS g.R.Rank.key c.args.query.now c.args.tables.now best c.args.plan.now) none c.requires.plan))
+
+pub print_run-requires-clause-fits : goal.print_run-requires-clause-fits
+print_run-requires-clause-fits g c = c.requires.fits
+
+pub print_run-requires-clause-plan : goal.print_run-requires-clause-plan
+print_run-requires-clause-plan g c = c.requires.plan
+
+pub print_script-requires-clause-fits : goal.print_script-requires-clause-fits
+print_script-requires-clause-fits g c = c.requires.fits
+
+pub print_script-requires-clause-plan : goal.print_script-requires-clause-plan
+print_script-requires-clause-plan g c = c.requires.plan
+
+pub print_script-requires-clause-rules : goal.print_script-requires-clause-rules
+print_script-requires-clause-rules g c = c.requires.rules
+
+pub print_load-requires-clause-fits : goal.print_load-requires-clause-fits
+print_load-requires-clause-fits g c = c.requires.fits
+
+pub print_load-requires-clause-plan : goal.print_load-requires-clause-plan
+print_load-requires-clause-plan g c = c.requires.plan
+
+pub returns-in-Plan-clause-paced : goal.returns-in-Plan-clause-paced
+returns-in-Plan-clause-paced g c = rw c.in-Plan.is (λ proof before prepared. tt)
+
+pub returns-in-Session-clause-paced : goal.returns-in-Session-clause-paced
+returns-in-Session-clause-paced g c = rw c.in-Session.is (λ proof before prepared. tt)
+
+pub returns-in-Load-clause-paced : goal.returns-in-Load-clause-paced
+returns-in-Load-clause-paced g c = rw c.in-Load.is (λ proof before prepared. tt)
+
+pub returns-in-Prove-clause-paced : goal.returns-in-Prove-clause-paced
+returns-in-Prove-clause-paced g c = rw c.in-Prove.is (λ proof before prepared. tt)
+
+pub returns-in-Prove-clause-bounded : goal.returns-in-Prove-clause-bounded
+returns-in-Prove-clause-bounded g c = rw c.in-Prove.is (λ proof before prepared. tt)

@@ -16,3 +16,45 @@ returns-in-Sums-clause-paced g c = rw c.in-Sums.is (rw c.as_slice.ensures.value 
 pub returns-in-Lexes-clause-paced : goal.returns-in-Lexes-clause-paced
 returns-in-Lexes-clause-paced g c =
     rw c.in-Lexes.is (rw c.as_slice-in-Lexes.ensures.value at c.print_branches-in-Lexes.ensures.paced)
+
+pub print_one-requires-clause-plan : goal.print_one-requires-clause-plan
+print_one-requires-clause-plan g c = rw c.in-One.is at c.requires.plans
+
+pub print_one-requires-clause-alone : goal.print_one-requires-clause-alone
+print_one-requires-clause-alone g c = c.requires.alone
+
+pub print_branches-requires-clause-several : goal.print_branches-requires-clause-several
+print_branches-requires-clause-several g c =
+    let plans = rw c.in-Sums.is at c.requires.plans in
+    plans.0
+
+pub print_branches-requires-clause-alone : goal.print_branches-requires-clause-alone
+print_branches-requires-clause-alone g c = c.requires.alone
+
+pub print_branches-requires-clause-plans : goal.print_branches-requires-clause-plans
+print_branches-requires-clause-plans g c =
+    let plans = rw c.in-Sums.is at c.requires.plans in
+    rw c.as_slice.ensures.value plans.1
+
+pub print_branches-requires-in-Lexes-clause-several : goal.print_branches-requires-in-Lexes-clause-several
+print_branches-requires-in-Lexes-clause-several g c =
+    let plans = rw c.in-Lexes.is at c.requires.plans in
+    plans.0
+
+pub print_branches-requires-in-Lexes-clause-alone : goal.print_branches-requires-in-Lexes-clause-alone
+print_branches-requires-in-Lexes-clause-alone g c = c.requires.alone
+
+pub print_branches-requires-in-Lexes-clause-plans : goal.print_branches-requires-in-Lexes-clause-plans
+print_branches-requires-in-Lexes-clause-plans g c =
+    let plans = rw c.in-Lexes.is at c.requires.plans in
+    rw c.as_slice-in-Lexes.ensures.value plans.1
+
+pub returns-in-One-clause-printed : goal.returns-in-One-clause-printed
+returns-in-One-clause-printed g c = rw c.in-One.is c.print_one.ensures.printed
+
+pub returns-in-Sums-clause-printed : goal.returns-in-Sums-clause-printed
+returns-in-Sums-clause-printed g c = rw c.in-Sums.is (rw c.as_slice.ensures.value at c.print_branches.ensures.printed)
+
+pub returns-in-Lexes-clause-printed : goal.returns-in-Lexes-clause-printed
+returns-in-Lexes-clause-printed g c =
+    rw c.in-Lexes.is (rw c.as_slice-in-Lexes.ensures.value at c.print_branches-in-Lexes.ensures.printed)
