@@ -22,9 +22,9 @@ ghost use Rattle.task_plan.specs.Plans.{found_in, shape_in, shapes_of};
 ghost use Rattle.task_plan.specs.Tasks.{command_of};
 ghost use Rattle.verdict.specs.Sides.{seen_by};
 
-use crate::prove::print_certificate;
 use crate::style::style_in;
 use bound_query::Query;
+use command_prove::print_certificate;
 use hash_keys::Keys;
 use input_load::Input;
 use outer_io::{Shelf, Sink};

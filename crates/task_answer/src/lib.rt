@@ -3,7 +3,6 @@
 #![tactic(auto)]
 
 mod answering;
-mod prove;
 mod style;
 
 pub use answering::answer_task;

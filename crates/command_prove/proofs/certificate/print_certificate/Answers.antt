@@ -4,7 +4,7 @@ use Rattle.refusal_lines.specs.declared.refusal.Refusal.TheVariants as refusal
 use Rattle.refusal_lines.proofs.Prints.{none_printed}
 use Rattle.tdp_core.specs.Solutions.{IsTreeRanking}
 use Rattle.tdp_core.specs.TreeView.{NodeView}
-use Rattle.task_answer.proofs.prove.print_certificate.Goals as goal
+use Rattle.command_prove.proofs.certificate.print_certificate.Goals as goal
 
 pub engine_over-requires : goal.engine_over-requires
 engine_over-requires g c = record { tie_free = c.requires.plan.2.whole.tie_free }

@@ -1,4 +1,4 @@
-//! The command `prove`.
+//! The command `prove`, over a plan.
 ghost use Rattle.std.specs.Prelude.{None, List};
 ghost use Rattle.anyk_model.specs.Table.{Table};
 ghost use Rattle.plan_model.specs.Plan.{IsPlan};
@@ -7,10 +7,10 @@ ghost use Rattle.bound_query.specs.WeighedQuery.{Fits};
 ghost use Rattle.refusal_lines.specs.Printing.{PrintedSome};
 ghost use Rattle.refusal_lines.specs.SinkState.{state_of};
 
+use crate::printing::print_proof;
 use bound_query::Query;
 use bumpalo::Bump;
 use cmd_words::Engine;
-use command_prove::print_proof;
 use outer_io::Sink;
 use plan_build::Plan;
 use plan_engine::engine_over;
@@ -23,7 +23,7 @@ use step_counter::Steps;
 /// Prints the text of a certificate of the query's first answers, as many as the limit allows.
 /// `NoMemory` if memory is refused, before anything is written, and `WriteFault` if the write
 /// failed.
-pub(crate) fn print_certificate<'a, R: Rank, S: Sink, L: Ledger>(
+pub fn print_certificate<'a, R: Rank, S: Sink, L: Ledger>(
     alloc: Global,
     engine: Engine,
     plan: &Plan<R>,
