@@ -16,6 +16,7 @@ ghost use Rattle.verdict.specs.MadeFiles.{known_to};
 ghost use Rattle.verdict.specs.Outcome.{IsReason, IsCaused, IsComplete, IsCut};
 ghost use Rattle.verdict.specs.Output.{HasOutput};
 ghost use Rattle.verdict.specs.Words.{built};
+ghost use Rattle.task_answer.specs.Answered.{IsAnswered};
 ghost use Rattle.task_plan.specs.Judgement.{HasOne, IsUnnamed};
 ghost use Rattle.task_plan.specs.Plans.{ArePlans, IsOnePlan, IsOnePlanOf, found_by};
 ghost use Rattle.task_plan.specs.Plans.{found_in, shape_in, shapes_of};
@@ -86,17 +87,10 @@ fn print_planned<'a, S: Sink, L: Ledger>(
 ) -> Result<(), Refusal<'a>>
     requires plans { ArePlans planned.now.input planned.now.plans }
     requires alone { HasOne (command_of task.now) planned.now.input }
-    ensures printed { PrintedSome (HasOutput (command_of task.now) (found_in planned.now))
-        (state_of S.Sink out.old) (state_of S.Sink out.new) result }
-    ensures bounded { (before : ℕ)
-        → ArePrepared (queries_in planned.now.input.queries) planned.now.input.tables before
-        steps.old
-        → IsWithin (command_of task.now) (found_in planned.now) before steps.new }
-    ensures paced { (before : ℕ)
-        → ArePrepared (queries_in planned.now.input.queries) planned.now.input.tables before
-        steps.old
-        → IsPaced (command_of task.now) (found_in planned.now)
-        (S.written out.old) (S.written out.new) before steps.new }
+    ensures { IsAnswered (command_of task.now) (found_in planned.now)
+        (λ before. ArePrepared (queries_in planned.now.input.queries) planned.now.input.tables
+        before steps.old)
+        (state_of S.Sink out.old) (state_of S.Sink out.new) steps.new result }
 {
     let Planned { input, plans } = planned;
     match plans {
@@ -117,17 +111,10 @@ fn print_one<'a, S: Sink, L: Ledger>(
 ) -> Result<(), Refusal<'a>>
     requires plan { IsOnePlan input.now.queries input.now.tables input.now.best plan.now }
     requires alone { HasOne (command_of task.now) input.now }
-    ensures printed { PrintedSome
-        (HasOutput (command_of task.now) (found_of (loaded_of input.now) (shape_in plan.now ∷ [])))
-        (state_of S.Sink out.old) (state_of S.Sink out.new) result }
-    ensures bounded { (before : ℕ)
-        → ArePrepared (queries_in input.now.queries) input.now.tables before steps.old
-        → IsWithin (command_of task.now)
-        (found_of (loaded_of input.now) (shape_in plan.now ∷ [])) before steps.new }
-    ensures paced { (before : ℕ)
-        → ArePrepared (queries_in input.now.queries) input.now.tables before steps.old
-        → IsPaced (command_of task.now) (found_of (loaded_of input.now) (shape_in plan.now ∷ []))
-        (S.written out.old) (S.written out.new) before steps.new }
+    ensures { IsAnswered (command_of task.now)
+        (found_of (loaded_of input.now) (shape_in plan.now ∷ []))
+        (λ before. ArePrepared (queries_in input.now.queries) input.now.tables before steps.old)
+        (state_of S.Sink out.old) (state_of S.Sink out.new) steps.new result }
 {
     match plan {
         RankedPlan::Packed(plan) => print_plan(alloc, task, plan, input, out, steps),
@@ -150,17 +137,10 @@ fn print_plan<'a, R: Rank, S: Sink, L: Ledger>(
     requires plan { IsOnePlanOf R.KEYS R.key input.now.queries input.now.tables input.now.best
         plan.now }
     requires alone { HasOne (command_of task.now) input.now }
-    ensures printed { PrintedSome
-        (HasOutput (command_of task.now) (found_of (loaded_of input.now) (shape_of plan.now ∷ [])))
-        (state_of S.Sink out.old) (state_of S.Sink out.new) result }
-    ensures bounded { (before : ℕ)
-        → ArePrepared (queries_in input.now.queries) input.now.tables before steps.old
-        → IsWithin (command_of task.now)
-        (found_of (loaded_of input.now) (shape_of plan.now ∷ [])) before steps.new }
-    ensures paced { (before : ℕ)
-        → ArePrepared (queries_in input.now.queries) input.now.tables before steps.old
-        → IsPaced (command_of task.now) (found_of (loaded_of input.now) (shape_of plan.now ∷ []))
-        (S.written out.old) (S.written out.new) before steps.new }
+    ensures { IsAnswered (command_of task.now)
+        (found_of (loaded_of input.now) (shape_of plan.now ∷ []))
+        (λ before. ArePrepared (queries_in input.now.queries) input.now.tables before steps.old)
+        (state_of S.Sink out.old) (state_of S.Sink out.new) steps.new result }
 {
     let query = &input.queries[0];
     let tables = &input.tables;
@@ -182,17 +162,10 @@ fn print_branches<'a, R: Rank, S: Sink, L: Ledger>(
     requires several { 1 < length input.now.queries }
     requires alone { HasOne (command_of task.now) input.now }
     requires plans { HavePlans R.KEYS R.key input.now.tables input.now.queries plans.now }
-    ensures printed { PrintedSome
-        (HasOutput (command_of task.now) (found_of (loaded_of input.now) (shapes_of plans.now)))
-        (state_of S.Sink out.old) (state_of S.Sink out.new) result }
-    ensures bounded { (before : ℕ)
-        → ArePrepared (queries_in input.now.queries) input.now.tables before steps.old
-        → IsWithin (command_of task.now)
-        (found_of (loaded_of input.now) (shapes_of plans.now)) before steps.new }
-    ensures paced { (before : ℕ)
-        → ArePrepared (queries_in input.now.queries) input.now.tables before steps.old
-        → IsPaced (command_of task.now) (found_of (loaded_of input.now) (shapes_of plans.now))
-        (S.written out.old) (S.written out.new) before steps.new }
+    ensures { IsAnswered (command_of task.now)
+        (found_of (loaded_of input.now) (shapes_of plans.now))
+        (λ before. ArePrepared (queries_in input.now.queries) input.now.tables before steps.old)
+        (state_of S.Sink out.old) (state_of S.Sink out.new) steps.new result }
 {
     match task {
         Task::Run(words) => {
@@ -230,19 +203,10 @@ fn print_output<'a, R: Rank, S: Sink, L: Ledger>(
     requires rules { KeepsRules [] script.now }
     requires plan { IsPlanOf R.KEYS R.key query.now tables.now best plan.now }
     requires unnamed { IsUnnamed (command_of task.now) best }
-    ensures printed { (proof : Certificate)
-        → PrintedSome (HasOutput (command_of task.now)
-        (found_by query.now tables.now best script.now proof (shape_of plan.now)))
-        (state_of S.Sink out.old) (state_of S.Sink out.new) result }
-    ensures bounded { (proof : Certificate) (before : ℕ)
-        → IsPrepared query.now.query tables.now before steps.old
-        → IsWithin (command_of task.now)
-        (found_by query.now tables.now best script.now proof (shape_of plan.now)) before steps.new }
-    ensures paced { (proof : Certificate) (before : ℕ)
-        → IsPrepared query.now.query tables.now before steps.old
-        → IsPaced (command_of task.now)
+    ensures { (proof : Certificate) → IsAnswered (command_of task.now)
         (found_by query.now tables.now best script.now proof (shape_of plan.now))
-        (S.written out.old) (S.written out.new) before steps.new }
+        (λ before. IsPrepared query.now.query tables.now before steps.old)
+        (state_of S.Sink out.old) (state_of S.Sink out.new) steps.new result }
 {
     match task {
         Task::Run(words) => {

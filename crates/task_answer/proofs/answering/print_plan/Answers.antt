@@ -2,17 +2,15 @@ use Rattle.std.proofs.Common.{◌∷◌, [], ℕ, sym, subst}
 use Rattle.input_load.specs.Input.{InputView, loaded_of}
 use Rattle.plan_model.specs.Plan.{shape_of}
 use Rattle.plan_model.specs.Plans.{ArePrepared}
-use Rattle.refusal_lines.specs.Printing.{PrintedSome}
 use Rattle.refusal_lines.specs.SinkState.{state_of}
-use Rattle.verdict.specs.Bound.{IsPaced, IsWithin}
 use Rattle.verdict.specs.AcceptedInput.{Found, found_of, queries_in}
-use Rattle.verdict.specs.Output.{HasOutput}
 use Rattle.task_plan.specs.Judgement.{IsUnnamed}
 use Rattle.task_plan.specs.Plans.{IsOnePlanOf}
 use Rattle.task_plan.specs.Tasks.{command_of}
 use Rattle.task_plan.proofs.Inputs.{input_view}
 use Rattle.task_plan.proofs.Judging.{unnamed_of}
 use Rattle.task_plan.proofs.PlanList.{first_only, first_planned, one_cost, one_printed}
+use Rattle.task_answer.specs.Answered.{IsAnswered}
 use Rattle.task_answer.proofs.answering.print_plan.Goals as goal
 
 pub print_output-requires-clause-plan : goal.print_output-requires-clause-plan
@@ -27,8 +25,8 @@ print_output-requires-clause-unnamed g c =
     subst (λ (i : InputView). IsUnnamed (command_of c.args.task.now) i.best) (sym c.input.view_is)
     (unnamed_of (command_of c.args.task.now) c.args.input.now c.requires.alone)
 
-pub returns-clause-printed : goal.returns-clause-printed
-returns-clause-printed g c =
+pub returns : goal.returns
+returns g c =
     let input = input_view c.input.inside in
     let query = c.index-query.result.now in
     let made = c.args.plan.now in
@@ -37,42 +35,15 @@ returns-clause-printed g c =
     let only = first_only g.R.Rank.KEYS g.R.Rank.key input made query is c.index-query.ensures in
     let found = one_printed input query c.as_slice-script.result.now (shape_of made) only
     (sym c.as_slice-script.ensures.value) in
-    let P = λ (f : Found). PrintedSome (HasOutput (command_of c.args.task.now) f) (state_of g.S.Sink c.args.out.now)
-    (state_of g.S.Sink c.print_output.new.out) c.print_output.result in
-    subst (λ (i : InputView). P (found_of (loaded_of i) (shape_of made ∷ []))) c.input.view_is
-    (subst P (sym found) (c.print_output.ensures.printed input.proof))
-
-pub returns-clause-bounded : goal.returns-clause-bounded
-returns-clause-bounded g c =
-    let input = input_view c.input.inside in
-    let query = c.index-query.result.now in
-    let made = c.args.plan.now in
-    let is = subst (λ (i : InputView). IsOnePlanOf g.R.Rank.KEYS g.R.Rank.key i.queries i.tables i.best made)
-    (sym c.input.view_is) c.requires.plan in
-    let only = first_only g.R.Rank.KEYS g.R.Rank.key input made query is c.index-query.ensures in
-    let found = one_printed input query c.as_slice-script.result.now (shape_of made) only
-    (sym c.as_slice-script.ensures.value) in
-    let P = λ (before : ℕ) (f : Found). IsWithin (command_of c.args.task.now) f before c.print_output.new.steps in
-    subst (λ (i : InputView). (before : ℕ) → ArePrepared (queries_in i.queries) i.tables before c.args.steps.now
-    → P before (found_of (loaded_of i) (shape_of made ∷ []))) c.input.view_is
-    (λ before prepared. subst (P before) (sym found)
-    (c.print_output.ensures.bounded input.proof before
-    (one_cost input query only before c.args.steps.now prepared)))
-
-pub returns-clause-paced : goal.returns-clause-paced
-returns-clause-paced g c =
-    let input = input_view c.input.inside in
-    let query = c.index-query.result.now in
-    let made = c.args.plan.now in
-    let is = subst (λ (i : InputView). IsOnePlanOf g.R.Rank.KEYS g.R.Rank.key i.queries i.tables i.best made)
-    (sym c.input.view_is) c.requires.plan in
-    let only = first_only g.R.Rank.KEYS g.R.Rank.key input made query is c.index-query.ensures in
-    let found = one_printed input query c.as_slice-script.result.now (shape_of made) only
-    (sym c.as_slice-script.ensures.value) in
-    let P = λ (before : ℕ) (f : Found). IsPaced (command_of c.args.task.now) f (g.S.Sink.written c.args.out.now)
-    (g.S.Sink.written c.print_output.new.out) before c.print_output.new.steps in
-    subst (λ (i : InputView). (before : ℕ) → ArePrepared (queries_in i.queries) i.tables before c.args.steps.now
-    → P before (found_of (loaded_of i) (shape_of made ∷ []))) c.input.view_is
-    (λ before prepared. subst (P before) (sym found)
-    (c.print_output.ensures.paced input.proof before
-    (one_cost input query only before c.args.steps.now prepared)))
+    let ready = λ (i : InputView) (before : ℕ). ArePrepared (queries_in i.queries) i.tables before c.args.steps.now in
+    let P = λ (i : InputView) (f : Found). IsAnswered (command_of c.args.task.now) f (ready i)
+    (state_of g.S.Sink c.args.out.now) (state_of g.S.Sink c.print_output.new.out) c.print_output.new.steps
+    c.print_output.result in
+    let own = c.print_output.ensures input.proof in
+    let one = λ (before : ℕ) (prepared : ready input before). one_cost input query only before c.args.steps.now prepared in
+    subst (λ (i : InputView). P i (found_of (loaded_of i) (shape_of made ∷ []))) c.input.view_is
+    (subst (P input) (sym found) (record {
+      printed = own.printed;
+      bounded = λ before prepared. own.bounded before (one before prepared);
+      paced = λ before prepared. own.paced before (one before prepared);
+    }))

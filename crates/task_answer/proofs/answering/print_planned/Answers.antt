@@ -1,22 +1,5 @@
 use Rattle.task_answer.proofs.answering.print_planned.Goals as goal
 
-pub returns-in-One-clause-bounded : goal.returns-in-One-clause-bounded
-returns-in-One-clause-bounded g c = rw c.in-One.is c.print_one.ensures.bounded
-
-pub returns-in-Sums-clause-bounded : goal.returns-in-Sums-clause-bounded
-returns-in-Sums-clause-bounded g c = rw c.in-Sums.is (rw c.as_slice.ensures.value at c.print_branches.ensures.bounded)
-
-pub returns-in-Lexes-clause-bounded : goal.returns-in-Lexes-clause-bounded
-returns-in-Lexes-clause-bounded g c =
-    rw c.in-Lexes.is (rw c.as_slice-in-Lexes.ensures.value at c.print_branches-in-Lexes.ensures.bounded)
-
-pub returns-in-Sums-clause-paced : goal.returns-in-Sums-clause-paced
-returns-in-Sums-clause-paced g c = rw c.in-Sums.is (rw c.as_slice.ensures.value at c.print_branches.ensures.paced)
-
-pub returns-in-Lexes-clause-paced : goal.returns-in-Lexes-clause-paced
-returns-in-Lexes-clause-paced g c =
-    rw c.in-Lexes.is (rw c.as_slice-in-Lexes.ensures.value at c.print_branches-in-Lexes.ensures.paced)
-
 pub print_one-requires-clause-plan : goal.print_one-requires-clause-plan
 print_one-requires-clause-plan g c = rw c.in-One.is at c.requires.plans
 
@@ -49,12 +32,11 @@ print_branches-requires-in-Lexes-clause-plans g c =
     let plans = rw c.in-Lexes.is at c.requires.plans in
     rw c.as_slice-in-Lexes.ensures.value plans.1
 
-pub returns-in-One-clause-printed : goal.returns-in-One-clause-printed
-returns-in-One-clause-printed g c = rw c.in-One.is c.print_one.ensures.printed
+pub returns-in-One : goal.returns-in-One
+returns-in-One g c = rw c.in-One.is c.print_one.ensures
 
-pub returns-in-Sums-clause-printed : goal.returns-in-Sums-clause-printed
-returns-in-Sums-clause-printed g c = rw c.in-Sums.is (rw c.as_slice.ensures.value at c.print_branches.ensures.printed)
+pub returns-in-Sums : goal.returns-in-Sums
+returns-in-Sums g c = rw c.in-Sums.is (rw c.as_slice.ensures.value at c.print_branches.ensures)
 
-pub returns-in-Lexes-clause-printed : goal.returns-in-Lexes-clause-printed
-returns-in-Lexes-clause-printed g c =
-    rw c.in-Lexes.is (rw c.as_slice-in-Lexes.ensures.value at c.print_branches-in-Lexes.ensures.printed)
+pub returns-in-Lexes : goal.returns-in-Lexes
+returns-in-Lexes g c = rw c.in-Lexes.is (rw c.as_slice-in-Lexes.ensures.value at c.print_branches-in-Lexes.ensures)
