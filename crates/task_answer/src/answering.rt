@@ -1,20 +1,18 @@
 //! A command that plans its queries, from its input to its output.
-ghost use Rattle.std.specs.Prelude.{◌<◌, [], ◌∷◌, IfErr, OnOk, length, ℕ};
+ghost use Rattle.std.specs.Prelude.{◌<◌, [], ◌∷◌, IfErr, OnOk, length};
 ghost use Rattle.input_load.specs.Input.{loaded_of};
 ghost use Rattle.plan_model.specs.Plan.{IsPlanOf, shape_of};
 ghost use Rattle.plan_model.specs.Plans.{ArePrepared, HavePlans};
 ghost use Rattle.proof_text.specs.Certificate.{Certificate};
 ghost use Rattle.bound_query.specs.WeighedQuery.{Fits};
-ghost use Rattle.refusal_lines.specs.Printing.{PrintedSome};
 ghost use Rattle.refusal_lines.specs.RefusalReasons.{reason_of};
 ghost use Rattle.refusal_lines.specs.SinkState.{state_of};
 ghost use Rattle.session_script.specs.Script.{KeepsRules};
 ghost use Rattle.step_bounds.specs.RunBounds.{IsPrepared};
-ghost use Rattle.verdict.specs.Bound.{IsBounded, IsPaced, IsPrompt, IsWithin};
+ghost use Rattle.verdict.specs.Bound.{IsBounded, IsPrompt};
 ghost use Rattle.verdict.specs.AcceptedInput.{found_of, queries_in};
 ghost use Rattle.verdict.specs.MadeFiles.{known_to};
 ghost use Rattle.verdict.specs.Outcome.{IsReason, IsCaused, IsComplete, IsCut};
-ghost use Rattle.verdict.specs.Output.{HasOutput};
 ghost use Rattle.verdict.specs.Words.{built};
 ghost use Rattle.task_answer.specs.Answered.{IsAnswered};
 ghost use Rattle.task_plan.specs.Judgement.{HasOne, IsUnnamed};

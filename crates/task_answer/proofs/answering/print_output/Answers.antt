@@ -1,10 +1,12 @@
 use Rattle.std.proofs.Common.{◌≡◌, ℕ, None, Option, ap, arith, refl, subst}
 use Rattle.anyk_model.specs.Output.{Style, cut, output_of}
+use Rattle.answer_print.specs.StyleView.{style_view}
 use Rattle.best_list.specs.BestList.{list_of}
 use Rattle.plan_model.specs.Plan.{IsPlanOf, shape_of}
 use Rattle.refusal_lines.proofs.Prints.{printed_some}
 use Rattle.step_bounds.specs.RunBounds.{IsPrepared, KeepsPace}
 use Rattle.verdict.specs.Session.{session_text}
+use Rattle.verdict.specs.Summary.{summary_text}
 use Rattle.task_plan.specs.Judgement.{IsUnnamed}
 use Rattle.task_plan.specs.Tasks.{command_of}
 use Rattle.task_plan.specs.declared.task.Task.{Task}
@@ -20,13 +22,14 @@ returns-in-Run g c =
     let query = c.args.query.now.query in
     let tables = c.args.tables.now in
     let list = list_of query tables c.args.best in
-    let text = ap (λ (style : Style). output_of query tables style (cut query.limit list)) c.style_in-style.ensures in
+    let output = λ (style : Style). output_of query tables style (cut query.limit list) in
+    let text = ap output c.style_in-style.ensures in
     let P = λ (style : Style). (before : ℕ) → IsPrepared query tables before c.args.steps.now
     → KeepsPace query tables list style (g.S.Sink.written c.args.out.now)
     (g.S.Sink.written c.print_run.new.out) before c.print_run.new.steps in
     let paced = subst P c.style_in-style.ensures c.print_run.ensures.paced in
     rw c.in-Run.is (λ proof. record {
-      printed = printed_some _ _ _ _ _ text c.print_run.ensures.printed;
+      printed = printed_some _ _ _ (output (style_view c.style_in-style.result)) _ text c.print_run.ensures.printed;
       bounded = λ before prepared. c.print_run.ensures.bounded before prepared (shape_of c.args.plan.now) has;
       paced = λ before prepared. paced before prepared (shape_of c.args.plan.now) has;
     })
@@ -46,10 +49,11 @@ returns-in-Session g c =
     (whole_of g.R.Rank.KEYS g.R.Rank.key c.args.query.now c.args.tables.now c.args.best c.args.plan.now c.requires.plan) in
     let query = c.args.query.now.query in
     let tables = c.args.tables.now in
-    let text = ap (λ (style : Style). session_text query tables style
-    (cut query.limit (list_of query tables c.args.best)) c.args.script.now) c.style_in-style-in-Session.ensures in
+    let output = λ (style : Style).
+    session_text query tables style (cut query.limit (list_of query tables c.args.best)) c.args.script.now in
+    let text = ap output c.style_in-style-in-Session.ensures in
     rw c.in-Session.is (λ proof. record {
-      printed = printed_some _ _ _ _ _ text c.print_script.ensures.printed;
+      printed = printed_some _ _ _ (output (style_view c.style_in-style-in-Session.result)) _ text c.print_script.ensures.printed;
       bounded = λ before prepared.
           let least = c.print_script.ensures.bounded before prepared (shape_of c.args.plan.now) has in
           omega (arith, least);
@@ -60,8 +64,11 @@ pub returns-in-Load : goal.returns-in-Load
 returns-in-Load g c =
     let has = plan_shape g.R.Rank.KEYS g.R.Rank.key c.args.query.now c.args.tables.now c.args.plan.now
     (whole_of g.R.Rank.KEYS g.R.Rank.key c.args.query.now c.args.tables.now c.args.best c.args.plan.now c.requires.plan) in
+    let query = c.args.query.now.query in
+    let tables = c.args.tables.now in
+    let text = summary_text query tables (cut query.limit (list_of query tables c.args.best)) in
     rw c.in-Load.is (λ proof. record {
-      printed = printed_some _ _ _ _ _ refl c.print_load.ensures.printed;
+      printed = printed_some _ _ _ text _ refl c.print_load.ensures.printed;
       bounded = λ before prepared. c.print_load.ensures.bounded before prepared (shape_of c.args.plan.now) has;
       paced = λ before prepared. tt;
     })
