@@ -66,7 +66,11 @@ pub fn run_keyed<F: Shelf, S: Sink, E: Sink, L: Ledger>(
         (S.written out.old) (S.written out.new) steps.old steps.new }
 {
     match read_request(alloc, words) {
-        Ok(request) => finish(err, answer(alloc, &request, shelf, out, keys, steps)),
+        Ok(request) => {
+            let status = finish(err, answer(alloc, &request, shelf, out, keys, steps));
+            drop(request);
+            status
+        }
         Err(refusal) => finish(err, Err(refusal)),
     }
 }

@@ -19,11 +19,11 @@ returns-in-Ok-clause-outcome g c =
     let new : Outside = seen_by g.F.Shelf g.S.Sink c.answer.new.shelf c.answer.new.out in
     rw c.in-Ok.ensures.built
     (built_outcome (asked_by c.in-Ok.request) (known_to (built (asked_by c.in-Ok.request)) (g.F.Shelf.files c.args.shelf.now)) old new
-    (state_of g.E.Sink c.args.err.now) (state_of g.E.Sink c.finish.new.err)
-    c.answer.result c.finish.result c.answer.ensures.done c.answer.ensures.fits c.answer.ensures.caused c.answer.ensures.cut c.finish.ensures)
+    (state_of g.E.Sink c.args.err.now) (state_of g.E.Sink c.finish-status.new.err)
+    c.answer.result c.finish-status.result c.answer.ensures.done c.answer.ensures.fits c.answer.ensures.caused c.answer.ensures.cut c.finish-status.ensures)
 
 pub returns-in-Err-clause-outcome : goal.returns-in-Err-clause-outcome
-returns-in-Err-clause-outcome g c = early_outcome _ _ _ _ c.in-Err.refusal _ c.in-Err.ensures.early (appends_nothing _) c.finish-in-Err.ensures
+returns-in-Err-clause-outcome g c = early_outcome _ _ _ _ c.in-Err.refusal _ c.in-Err.ensures.early (appends_nothing _) c.finish.ensures
 
 pub returns-in-Ok-clause-bounded : goal.returns-in-Ok-clause-bounded
 returns-in-Ok-clause-bounded g c = rw c.in-Ok.ensures.built c.answer.ensures.bounded
